@@ -1,0 +1,1 @@
+// The crate holds theory alone: see specs/.
