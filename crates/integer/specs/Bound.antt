@@ -2,7 +2,8 @@
 --     Within n x      x is from -n to n
 -- `within-le`, `within-ge` read it as two orders, `within-of` makes it of them; `within-widen` takes a larger bound.
 -- Assumes nothing.
-use mathlib.Core.Path.{_≡_, refl, sym, ap}
+use mathlib.Core.Path.{_≡_, refl, sym, ap, subst}
+use mathlib.Core.Logic.{_⊎_, inl, inr}
 use mathlib.Core.List.{List, [], _∷_}
 use Prim.Native.Nat.{ℕ, zero, suc, _+_, _*_, _≤_, _<_}
 use native.Mathlib.Omega.{arith}
@@ -10,7 +11,7 @@ use native.Mathlib.Nat.{mul-le-mul, le-trans}
 use lib.Dec.{le→leb, leb→le}
 use lib.IntN.{ℤ, pos, negsuc, negℤ, natAbs, _+ℤ_, _-ℤ_, _*ℤ_}
 use lib.Signed.{_≤ℤ_, _<ℤ_, leZ}
-use Rattle.integer.specs.Parts.{above, below, le-parts, parts-le, differs-own, differs-add}
+use Rattle.integer.specs.Parts.{above, below, le-parts, parts-le, differs-own, differs-add, differs-neg}
 
 pub record Within (n : ℕ) (x : ℤ) : Type 0 where
   pub size : natAbs x ≤ n
@@ -18,6 +19,10 @@ pub record Within (n : ℕ) (x : ℤ) : Type 0 where
 size-parts : (x : ℤ) → natAbs x ≡ above x + below x
 size-parts (pos n) = omega arith
 size-parts (negsuc n) = omega arith
+
+neg-size : (k : ℕ) → natAbs (negℤ (pos k)) ≡ k
+neg-size zero = refl
+neg-size (suc k) = refl
 
 pub within-widen : {m n : ℕ} {x : ℤ} → m ≤ n → Within m x → Within n x
 within-widen h w = record { size = le-trans (w .size) h }
@@ -30,11 +35,39 @@ within-neg {n} {x} w = record { size = go x (w .size) }
     go (pos (suc m)) h = h
     go (negsuc m) h = h
 
+-- of a sum's two parts one is 0
+one-part : (x : ℤ) → (above x ≡ 0) ⊎ (below x ≡ 0)
+one-part (pos n) = inr refl
+one-part (negsuc n) = inl refl
+
 pub within-add : {m n : ℕ} {x y : ℤ} → Within m x → Within n y → Within (m + n) (x +ℤ y)
-within-add {m} {n} {x} {y} v w = record { size = omega (arith, size-parts x, size-parts y, size-parts (x +ℤ y), differs-add (differs-own x) (differs-own y) .same, v .size, w .size, one-side (x +ℤ y)) }
+within-add {m} {n} {x} {y} v w = record { size = go (one-part (x +ℤ y)) (one-part x) (one-part y) }
   where
-    one-side : (z : ℤ) → natAbs z + natAbs z ≡ natAbs z + natAbs z
-    one-side z = refl
+    same : above (x +ℤ y) + (below x + below y) ≡ below (x +ℤ y) + (above x + above y)
+    same = differs-add (differs-own x) (differs-own y) .same
+
+    go : (above (x +ℤ y) ≡ 0) ⊎ (below (x +ℤ y) ≡ 0) → (above x ≡ 0) ⊎ (below x ≡ 0) → (above y ≡ 0) ⊎ (below y ≡ 0) → natAbs (x +ℤ y) ≤ m + n
+    go (inl h) p q = omega (arith, size-parts x, size-parts y, size-parts (x +ℤ y), same, v .size, w .size)
+    go (inr h) p q = omega (arith, size-parts x, size-parts y, size-parts (x +ℤ y), same, v .size, w .size)
+
+natAbs-* : (x y : ℤ) → natAbs (x *ℤ y) ≡ natAbs x * natAbs y
+natAbs-* (pos a) (pos b) = refl
+natAbs-* (pos a) (negsuc b) = neg-size (a * suc b)
+natAbs-* (negsuc a) (pos b) = neg-size (suc a * b)
+natAbs-* (negsuc a) (negsuc b) = refl
 
 pub within-mul : {m n : ℕ} {x y : ℤ} → Within m x → Within n y → Within (m * n) (x *ℤ y)
 within-mul {m} {n} {x} {y} v w = record { size = subst (λ k. k ≤ m * n) (sym (natAbs-* x y)) (mul-le-mul (v .size) (w .size)) }
+
+pub within-le : {n : ℕ} {x : ℤ} → Within n x → x ≤ℤ pos n
+within-le {n} {x} w = parts-le (differs-own x) (differs-own (pos n)) (omega (arith, size-parts x, w .size))
+
+pub within-ge : {n : ℕ} {x : ℤ} → Within n x → negℤ (pos n) ≤ℤ x
+within-ge {n} {x} w = parts-le (differs-neg (differs-own (pos n))) (differs-own x) (omega (arith, size-parts x, w .size))
+
+pub within-of : {n : ℕ} {x : ℤ} → negℤ (pos n) ≤ℤ x → x ≤ℤ pos n → Within n x
+within-of {n} {x} h k = record { size = go (one-part x) }
+  where
+    go : (above x ≡ 0) ⊎ (below x ≡ 0) → natAbs x ≤ n
+    go (inl e) = omega (arith, size-parts x, le-parts (differs-neg (differs-own (pos n))) (differs-own x) h, le-parts (differs-own x) (differs-own (pos n)) k)
+    go (inr e) = omega (arith, size-parts x, le-parts (differs-neg (differs-own (pos n))) (differs-own x) h, le-parts (differs-own x) (differs-own (pos n)) k)

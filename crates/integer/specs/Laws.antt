@@ -7,8 +7,28 @@
 use mathlib.Core.Path.{_≡_, refl, sym, _∙_, ap, ap₂}
 use Prim.Native.Nat.{ℕ, zero, suc}
 use lib.IntN.{
-  ℤ, pos, negsuc, sucℤ, predℤ, negℤ, _+ℤ_, _-ℤ_, _*ℤ_, +ℤ-assoc, +ℤ-comm, +ℤ-idl, +ℤ-idr, +ℤ-invl, +ℤ-invr, sucℤ-+ℤ, predℤ-+ℤ,
-  sucℤ-*ℤ, predℤ-*ℤ, zero-*ℤ, *ℤ-comm, negℤ-+ℤ
+  ℤ,
+  pos,
+  negsuc,
+  sucℤ,
+  predℤ,
+  negℤ,
+  _+ℤ_,
+  _-ℤ_,
+  _*ℤ_,
+  +ℤ-assoc,
+  +ℤ-comm,
+  +ℤ-idl,
+  +ℤ-idr,
+  +ℤ-invl,
+  +ℤ-invr,
+  sucℤ-+ℤ,
+  predℤ-+ℤ,
+  sucℤ-*ℤ,
+  predℤ-*ℤ,
+  zero-*ℤ,
+  *ℤ-comm,
+  negℤ-+ℤ,
 }
 
 -- what holds of 0 and is kept by one more and one less holds of every integer
@@ -28,9 +48,9 @@ pub *ℤ-distrib-r : (a b c : ℤ) → (a +ℤ b) *ℤ c ≡ a *ℤ c +ℤ b *�
 *ℤ-distrib-r a b c = ℤ-step (λ z. (z +ℤ b) *ℤ c ≡ z *ℤ c +ℤ b *ℤ c)
     (ap (λ x. x *ℤ c) (+ℤ-idl b) ∙ sym (ap (λ x. x +ℤ b *ℤ c) (zero-*ℤ c) ∙ +ℤ-idl (b *ℤ c)))
     (λ z h. ap (λ x. x *ℤ c) (sucℤ-+ℤ z b) ∙ sucℤ-*ℤ (z +ℤ b) c ∙ ap (λ x. x +ℤ c) h
-      ∙ +ℤ-swap-r (z *ℤ c) (b *ℤ c) c ∙ ap (λ x. x +ℤ b *ℤ c) (sym (sucℤ-*ℤ z c)))
+    ∙ +ℤ-swap-r (z *ℤ c) (b *ℤ c) c ∙ ap (λ x. x +ℤ b *ℤ c) (sym (sucℤ-*ℤ z c)))
     (λ z h. ap (λ x. x *ℤ c) (predℤ-+ℤ z b) ∙ predℤ-*ℤ (z +ℤ b) c ∙ ap (λ x. x -ℤ c) h
-      ∙ +ℤ-swap-r (z *ℤ c) (b *ℤ c) (negℤ c) ∙ ap (λ x. x +ℤ b *ℤ c) (sym (predℤ-*ℤ z c))) a
+    ∙ +ℤ-swap-r (z *ℤ c) (b *ℤ c) (negℤ c) ∙ ap (λ x. x +ℤ b *ℤ c) (sym (predℤ-*ℤ z c))) a
 
 pub *ℤ-distrib-l : (a b c : ℤ) → a *ℤ (b +ℤ c) ≡ a *ℤ b +ℤ a *ℤ c
 *ℤ-distrib-l a b c = *ℤ-comm a (b +ℤ c) ∙ *ℤ-distrib-r b c a ∙ ap₂ (λ x y. x +ℤ y) (*ℤ-comm b a) (*ℤ-comm c a)
@@ -49,7 +69,7 @@ pub *ℤ-assoc : (a b c : ℤ) → a *ℤ b *ℤ c ≡ a *ℤ (b *ℤ c)
     (ap (λ x. x *ℤ c) (zero-*ℤ b) ∙ zero-*ℤ c ∙ sym (zero-*ℤ (b *ℤ c)))
     (λ z h. ap (λ x. x *ℤ c) (sucℤ-*ℤ z b) ∙ *ℤ-distrib-r (z *ℤ b) b c ∙ ap (λ x. x +ℤ b *ℤ c) h ∙ sym (sucℤ-*ℤ z (b *ℤ c)))
     (λ z h. ap (λ x. x *ℤ c) (predℤ-*ℤ z b) ∙ *ℤ-distrib-r (z *ℤ b) (negℤ b) c
-      ∙ ap₂ (λ x y. x +ℤ y) h (negℤ-*ℤ b c) ∙ sym (predℤ-*ℤ z (b *ℤ c))) a
+    ∙ ap₂ (λ x y. x +ℤ y) h (negℤ-*ℤ b c) ∙ sym (predℤ-*ℤ z (b *ℤ c))) a
 
 pub one-*ℤ : (a : ℤ) → pos 1 *ℤ a ≡ a
 one-*ℤ a = sucℤ-*ℤ (pos 0) a ∙ ap (λ x. x +ℤ a) (zero-*ℤ a) ∙ +ℤ-idl a

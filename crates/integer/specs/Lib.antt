@@ -5,3 +5,4 @@ pub mod Ring
 pub mod Parts
 pub mod Linear
 pub mod Order
+pub mod Bound

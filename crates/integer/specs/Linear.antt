@@ -14,12 +14,46 @@ use lib.IntN.{ℤ, pos, negsuc, negℤ, _+ℤ_, _-ℤ_, _*ℤ_}
 use lib.Signed.{_≤ℤ_, _<ℤ_}
 use Rattle.integer.specs.Polynomial.{Expr, add, neg, eval, Poly, none, term, value, product, norm, norm-sound}
 use Rattle.integer.specs.Ring.{
-  Is, minus, difference-zero, at0, at1, at2, at3, at4, at5, at6, at7, at8, at9, at10, at11, at12, at13, at14, at15, is-add,
-  is-mul, is-neg, is-pos, is-negsuc
+  Is,
+  minus,
+  difference-zero,
+  at0,
+  at1,
+  at2,
+  at3,
+  at4,
+  at5,
+  at6,
+  at7,
+  at8,
+  at9,
+  at10,
+  at11,
+  at12,
+  at13,
+  at14,
+  at15,
+  is-add,
+  is-mul,
+  is-neg,
+  is-pos,
+  is-negsuc,
 }
 use Rattle.integer.specs.Parts.{
-  above, below, Differs, differs-own, differs-add, differs-neg, differs-scale, differs-scale-neg, le-parts, parts-le, lt-parts,
-  parts-lt, eq-parts, parts-eq
+  above,
+  below,
+  Differs,
+  differs-own,
+  differs-add,
+  differs-neg,
+  differs-scale,
+  differs-scale-neg,
+  le-parts,
+  parts-le,
+  lt-parts,
+  parts-lt,
+  eq-parts,
+  parts-eq,
 }
 
 -- ---- a polynomial as a difference of two sums over ℕ
@@ -89,10 +123,11 @@ abbrev pub says-eq : {ρ : List ℤ} {x y : ℤ} → Is ρ x → Is ρ y → Say
 says-eq {ρ} p q = record { nat = lower ρ (gap ρ p q) ≡ upper ρ (gap ρ p q); to = eq-to ρ p q; from = eq-from ρ p q }
 
 abbrev pub says-both : {ρ : List ℤ} {A B : Type 0} → Says ρ A → Says ρ B → Says ρ (A × B)
-says-both p q = record
-  { nat = p .nat × q .nat
-  ; to = λ h. (p .to (h .0), q .to (h .1))
-  ; from = λ h. (p .from (h .0), q .from (h .1)) }
+says-both p q = record {
+  nat = p .nat × q .nat;
+  to = λ h. (p .to (h .0), q .to (h .1));
+  from = λ h. (p .from (h .0), q .from (h .1));
+}
 
 abbrev pub says-implies : {ρ : List ℤ} {A B : Type 0} → Says ρ A → Says ρ B → Says ρ (A → B)
 says-implies p q = record { nat = p .nat → q .nat; to = λ f h. q .to (f (p .from h)); from = λ f h. q .from (f (p .to h)) }
@@ -114,8 +149,37 @@ abbrev pub says-nat-eq : {ρ : List ℤ} {m n : ℕ} → Says ρ (m ≡ n)
 says-nat-eq {ρ} {m} {n} = says-same ρ (m ≡ n)
 
 pub ruleset linear = (
-  at0, at1, at2, at3, at4, at5, at6, at7, at8, at9, at10, at11, at12, at13, at14, at15, is-add, is-mul, is-neg, is-pos, is-negsuc,
-  says-le, says-lt, says-eq, says-both, says-implies, says-nothing, says-never, says-nat-le, says-nat-eq)
+  at0,
+  at1,
+  at2,
+  at3,
+  at4,
+  at5,
+  at6,
+  at7,
+  at8,
+  at9,
+  at10,
+  at11,
+  at12,
+  at13,
+  at14,
+  at15,
+  is-add,
+  is-mul,
+  is-neg,
+  is-pos,
+  is-negsuc,
+  says-le,
+  says-lt,
+  says-eq,
+  says-both,
+  says-implies,
+  says-nothing,
+  says-never,
+  says-nat-le,
+  says-nat-eq,
+)
 
 -- facts side by side
 infixr 4 _&_

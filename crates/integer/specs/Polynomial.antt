@@ -103,15 +103,15 @@ module _ (ρ : List ℤ) where
   put-product i (j ∷ m) = go (put-product i m) (leb i j)
     where
       go : product ρ (put i m) ≡ getD ρ i (pos 0) *ℤ product ρ m → (t : Bool)
-        → product ρ (elim t [ true ↦ i ∷ j ∷ m | false ↦ j ∷ put i m ]) ≡ getD ρ i (pos 0) *ℤ product ρ (j ∷ m)
+          → product ρ (elim t [ true ↦ i ∷ j ∷ m | false ↦ j ∷ put i m ]) ≡ getD ρ i (pos 0) *ℤ product ρ (j ∷ m)
       go h true = refl
       go h false = product-cons j (put i m) ∙ ap (λ x. getD ρ j (pos 0) *ℤ x) h
-        ∙ left-swap (getD ρ j (pos 0)) (getD ρ i (pos 0)) (product ρ m) ∙ ap (λ x. getD ρ i (pos 0) *ℤ x) (sym (product-cons j m))
+          ∙ left-swap (getD ρ j (pos 0)) (getD ρ i (pos 0)) (product ρ m) ∙ ap (λ x. getD ρ i (pos 0) *ℤ x) (sym (product-cons j m))
 
   join-product : (m k : List ℕ) → product ρ (join m k) ≡ product ρ m *ℤ product ρ k
   join-product [] k = sym (one-*ℤ (product ρ k))
   join-product (i ∷ m) k = put-product i (join m k) ∙ ap (λ x. getD ρ i (pos 0) *ℤ x) (join-product m k)
-    ∙ sym (*ℤ-assoc (getD ρ i (pos 0)) (product ρ m) (product ρ k)) ∙ ap (λ x. x *ℤ product ρ k) (sym (product-cons i m))
+      ∙ sym (*ℤ-assoc (getD ρ i (pos 0)) (product ρ m) (product ρ k)) ∙ ap (λ x. x *ℤ product ρ k) (sym (product-cons i m))
 
   front-value : (c : ℤ) (m : List ℕ) (p : Poly) → value ρ (front c m p) ≡ c *ℤ product ρ m +ℤ value ρ p
   front-value (pos zero) m p = sym (ap (λ x. x +ℤ value ρ p) (zero-*ℤ (product ρ m)) ∙ +ℤ-idl (value ρ p))
@@ -134,7 +134,7 @@ order-eq (i ∷ m) [] h = absurd (subst IsSame (sym h) tt)
 order-eq (i ∷ m) (j ∷ k) h = go (order-eq m k) (compare i j) refl h
   where
     go : (order m k ≡ Ordering·eq → m ≡ k) → (o : Ordering) → compare i j ≡ o
-      → elim o [ Ordering·lt ↦ Ordering·lt | Ordering·eq ↦ order m k | Ordering·gt ↦ Ordering·gt ] ≡ Ordering·eq → i ∷ m ≡ j ∷ k
+        → elim o [ Ordering·lt ↦ Ordering·lt | Ordering·eq ↦ order m k | Ordering·gt ↦ Ordering·gt ] ≡ Ordering·eq → i ∷ m ≡ j ∷ k
     go ih Ordering·lt e q = absurd (subst IsSame (sym q) tt)
     go ih Ordering·eq e q = ap₂ (λ x y. x ∷ y) (compare-eq i j e) (ih q)
     go ih Ordering·gt e q = absurd (subst IsSame (sym q) tt)
@@ -145,36 +145,36 @@ module _ (ρ : List ℤ) where
   insert-value c m (term d k p) = go (insert-value c m p) (order m k) refl
     where
       go : value ρ (insert c m p) ≡ c *ℤ product ρ m +ℤ value ρ p → (o : Ordering) → order m k ≡ o
-        → value ρ (elim o [ Ordering·lt ↦ front c m (term d k p) | Ordering·eq ↦ front (c +ℤ d) k p | Ordering·gt ↦ term d k (insert c m p) ])
+          → value ρ (elim o [ Ordering·lt ↦ front c m (term d k p) | Ordering·eq ↦ front (c +ℤ d) k p | Ordering·gt ↦ term d k (insert c m p) ])
           ≡ c *ℤ product ρ m +ℤ (d *ℤ product ρ k +ℤ value ρ p)
       go ih Ordering·lt e = front-value ρ c m (term d k p)
       go ih Ordering·eq e = front-value ρ (c +ℤ d) k p ∙ ap (λ x. x +ℤ value ρ p) (*ℤ-distrib-r c d (product ρ k))
-        ∙ +ℤ-assoc (c *ℤ product ρ k) (d *ℤ product ρ k) (value ρ p)
-        ∙ ap (λ (n : List ℕ). c *ℤ product ρ n +ℤ (d *ℤ product ρ k +ℤ value ρ p)) (sym (order-eq m k e))
+          ∙ +ℤ-assoc (c *ℤ product ρ k) (d *ℤ product ρ k) (value ρ p)
+          ∙ ap (λ (n : List ℕ). c *ℤ product ρ n +ℤ (d *ℤ product ρ k +ℤ value ρ p)) (sym (order-eq m k e))
       go ih Ordering·gt e = ap (λ x. d *ℤ product ρ k +ℤ x) ih ∙ sym (+ℤ-assoc (d *ℤ product ρ k) (c *ℤ product ρ m) (value ρ p))
-        ∙ ap (λ x. x +ℤ value ρ p) (+ℤ-comm (d *ℤ product ρ k) (c *ℤ product ρ m)) ∙ +ℤ-assoc (c *ℤ product ρ m) (d *ℤ product ρ k) (value ρ p)
+          ∙ ap (λ x. x +ℤ value ρ p) (+ℤ-comm (d *ℤ product ρ k) (c *ℤ product ρ m)) ∙ +ℤ-assoc (c *ℤ product ρ m) (d *ℤ product ρ k) (value ρ p)
 
   plus-value : (p q : Poly) → value ρ (plus p q) ≡ value ρ p +ℤ value ρ q
   plus-value none q = sym (+ℤ-idl (value ρ q))
   plus-value (term c m p) q = insert-value c m (plus p q) ∙ ap (λ x. c *ℤ product ρ m +ℤ x) (plus-value p q)
-    ∙ sym (+ℤ-assoc (c *ℤ product ρ m) (value ρ p) (value ρ q))
+      ∙ sym (+ℤ-assoc (c *ℤ product ρ m) (value ρ p) (value ρ q))
 
   inner-swap : (a b c d : ℤ) → a *ℤ b *ℤ (c *ℤ d) ≡ a *ℤ c *ℤ (b *ℤ d)
   inner-swap a b c d = *ℤ-assoc a b (c *ℤ d)
-    ∙ ap (λ x. a *ℤ x) (sym (*ℤ-assoc b c d) ∙ ap (λ x. x *ℤ d) (*ℤ-comm b c) ∙ *ℤ-assoc c b d) ∙ sym (*ℤ-assoc a c (b *ℤ d))
+      ∙ ap (λ x. a *ℤ x) (sym (*ℤ-assoc b c d) ∙ ap (λ x. x *ℤ d) (*ℤ-comm b c) ∙ *ℤ-assoc c b d) ∙ sym (*ℤ-assoc a c (b *ℤ d))
 
   scale-value : (c : ℤ) (m : List ℕ) (p : Poly) → value ρ (scale c m p) ≡ c *ℤ product ρ m *ℤ value ρ p
   scale-value c m none = sym (*ℤ-zero (c *ℤ product ρ m))
   scale-value c m (term d k p) = insert-value (c *ℤ d) (join m k) (scale c m p)
-    ∙ ap₂ (λ x y. x +ℤ y)
-        (ap (λ x. c *ℤ d *ℤ x) (join-product ρ m k) ∙ inner-swap c d (product ρ m) (product ρ k))
-        (scale-value c m p)
-    ∙ sym (*ℤ-distrib-l (c *ℤ product ρ m) (d *ℤ product ρ k) (value ρ p))
+      ∙ ap₂ (λ x y. x +ℤ y)
+      (ap (λ x. c *ℤ d *ℤ x) (join-product ρ m k) ∙ inner-swap c d (product ρ m) (product ρ k))
+      (scale-value c m p)
+      ∙ sym (*ℤ-distrib-l (c *ℤ product ρ m) (d *ℤ product ρ k) (value ρ p))
 
   times-value : (p q : Poly) → value ρ (times p q) ≡ value ρ p *ℤ value ρ q
   times-value none q = sym (zero-*ℤ (value ρ q))
   times-value (term c m p) q = plus-value (scale c m q) (times p q)
-    ∙ ap₂ (λ x y. x +ℤ y) (scale-value c m q) (times-value p q) ∙ sym (*ℤ-distrib-r (c *ℤ product ρ m) (value ρ p) (value ρ q))
+      ∙ ap₂ (λ x y. x +ℤ y) (scale-value c m q) (times-value p q) ∙ sym (*ℤ-distrib-r (c *ℤ product ρ m) (value ρ p) (value ρ q))
 
   pub norm-sound : (e : Expr) → value ρ (norm e) ≡ eval ρ e
   norm-sound (var i) = +ℤ-idr (pos 1 *ℤ getD ρ i (pos 0)) ∙ one-*ℤ (getD ρ i (pos 0))

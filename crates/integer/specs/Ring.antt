@@ -116,7 +116,7 @@ ring ρ q t =
     let l = q .left .expr in
     let r = q .right .expr in
     sym (q .left .ok) ∙ difference-zero (eval ρ l) (eval ρ r) (sym (norm-sound ρ (add l (neg r))) ∙ zero-value ρ (minus l r) t)
-      ∙ q .right .ok
+    ∙ q .right .ok
 
 -- ---- examples
 

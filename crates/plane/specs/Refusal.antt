@@ -1,0 +1,63 @@
+-- Refusals 1 to 5: what is wrong with one list (document 01, "When the map desk says no"). `which` is the shape that is blamed, 1 or 2.
+--     shapeRows which l    the five rows, in number order
+--     Valid l              l meets all that stands under "What makes a shape"
+-- What it means: `valid→accepted`, `accepted→valid`. Assumes nothing.
+use mathlib.Core.Bool.{Bool, true, false, not, _&&_, _||_}
+use mathlib.Core.List.{List, [], _∷_}
+use mathlib.Core.Path.{_≡_}
+use Prim.Native.Nat.{ℕ, _%_, _+_, _≤_, _<_}
+use lib.Dec.{eqb, ltb, leb}
+use lib.ListN.{length, getD}
+use lib.IntN.{ℤ, pos, natAbs}
+use Rattle.integer.specs.Bound.{Within}
+use Rattle.plane.specs.Limits.{maxCorners, maxCoordinate}
+use Rattle.plane.specs.Point.{Point, points, corner}
+use Rattle.plane.specs.Search.{first}
+use Rattle.plane.specs.Shape.{breaks, precedes, IsShape}
+use Rattle.plane.specs.Reply.{Row, row}
+
+-- 1: "the list is empty or holds an odd count of numbers"
+unfoldable pub badCount : List ℤ → Bool
+badCount l = eqb (length l) 0 || eqb (length l % 2) 1
+
+-- 2: "more than 512 corners"
+unfoldable pub tooMany : List Point → Bool
+tooMany ps = ltb maxCorners (length ps)
+
+-- 3: "some coordinate outside its range"
+unfoldable pub outside : ℤ → Bool
+outside z = ltb maxCoordinate (natAbs z)
+
+unfoldable pub someOutside : List ℤ → Bool
+someOutside l = ltb (first (λ i. outside (getD l i (pos 0))) (length l)) (length l)
+
+-- 4: "two equal corners in a list of two"
+unfoldable pub equalPair : List Point → Bool
+equalPair ps = eqb (length ps) 2 && (not (precedes (corner ps 0) (corner ps 1)) && not (precedes (corner ps 1) (corner ps 0)))
+
+-- 4: "or the left rule broken": "the first edge, then the first corner, that breaks the left rule"
+unfoldable pub brokenCorner : List Point → ℕ → ℕ
+brokenCorner ps e = first (breaks ps e) (length ps)
+
+unfoldable pub brokenEdge : List Point → ℕ
+brokenEdge ps = first (λ e. ltb (brokenCorner ps e) (length ps)) (length ps)
+
+-- 5: "the corners pass, but the first is not the standard one"
+unfoldable pub badStart : List Point → Bool
+badStart ps = ltb (first (λ c. precedes (corner ps c) (corner ps 0)) (length ps)) (length ps)
+
+abbrev pub shapeRows : ℕ → List ℤ → List Row
+shapeRows which l =
+    row 1 (badCount l) (which ∷ [])
+    ∷ row 2 (tooMany (points l)) (which ∷ [])
+    ∷ row 3 (someOutside l) (which ∷ [])
+    ∷ row 4 (equalPair (points l)) (which ∷ 0 ∷ 1 ∷ [])
+    ∷ row 4 (ltb (brokenEdge (points l)) (length (points l))) (which ∷ brokenEdge (points l) ∷ brokenCorner (points l) (brokenEdge (points l)) ∷ [])
+    ∷ row 5 (badStart (points l)) (which ∷ [])
+    ∷ []
+
+pub record Valid (l : List ℤ) : Type 0 where
+  pub paired : length l % 2 ≡ 0
+  pub few : length (points l) ≤ maxCorners
+  pub inRange : (i : ℕ) → i < length l → Within maxCoordinate (getD l i (pos 0))
+  pub shape : IsShape (points l)
