@@ -6,3 +6,4 @@ pub mod Parts
 pub mod Linear
 pub mod Order
 pub mod Bound
+pub mod Machine

@@ -2,7 +2,7 @@
 --     _<×<_ _<×≤_ _≤×<_ _≤×≤_     the product of two differences of known sign, as a hint to `lia`
 --     _≡×_                        an equation times a number, likewise
 --     contra< contra≤             a strict (weak) order, from the absurdity of the contrary
---     lt-or-le, compared          cases
+--     lt-or-le, compared          cases; `weaken`: a strict order is a weak one
 --     ltZ-true .. leZ-false       what a test that came out so says; `lt-ltZ` .. the other way
 -- Assumes nothing.
 use mathlib.Core.Path.{_≡_, refl, sym, _∙_, ap, subst}
@@ -72,7 +72,7 @@ nonneg-times (pos a) (pos b) h k = record { le = le→leb 0 (a * b) zero-le }
 nonneg-times (pos a) (negsuc b) h k = absurd (k .le)
 nonneg-times (negsuc a) y h k = absurd (h .le)
 
-weaken : {x y : ℤ} → x <ℤ y → x ≤ℤ y
+pub weaken : {x y : ℤ} → x <ℤ y → x ≤ℤ y
 weaken {x} {y} h = lia (x ∷ y ∷ []) h (search linear depth 40) (omega arith)
 
 gap-pos : {x y : ℤ} → x <ℤ y → pos 0 <ℤ (y -ℤ x)

@@ -1,5 +1,6 @@
 -- Refusals 1 to 5: what is wrong with one list (document 01, "When the map desk says no"). `which` is the shape that is blamed, 1 or 2.
 --     shapeRows which l    the five rows, in number order
+--     InRange l            "each coordinate from -1,000,000 to 1,000,000"
 --     Valid l              l meets all that stands under "What makes a shape"
 -- What it means: `valid→accepted`, `accepted→valid`. Assumes nothing.
 use mathlib.Core.Bool.{Bool, true, false, not, _&&_, _||_}
@@ -56,8 +57,12 @@ shapeRows which l =
     ∷ row 5 (badStart (points l)) (which ∷ [])
     ∷ []
 
+-- every coordinate is in its range
+pub record InRange (l : List ℤ) : Type 0 where
+  pub near : (i : ℕ) → i < length l → Within maxCoordinate (getD l i (pos 0))
+
 pub record Valid (l : List ℤ) : Type 0 where
   pub paired : length l % 2 ≡ 0
   pub few : length (points l) ≤ maxCorners
-  pub inRange : (i : ℕ) → i < length l → Within maxCoordinate (getD l i (pos 0))
+  pub inRange : InRange l
   pub shape : IsShape (points l)

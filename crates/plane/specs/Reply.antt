@@ -4,7 +4,7 @@
 --     firstRow rs r    the refusal of the first row that applies, in the order of the list; r where none does
 -- What it means: `firstRow-given` and `firstRow-none` of the theory: a refusal is given exactly when its row applies and none before it.
 -- Assumes nothing.
-use mathlib.Core.Bool.{Bool, true, false}
+use mathlib.Core.Bool.{Bool, cond}
 use mathlib.Core.List.{List, [], _∷_}
 use Prim.Native.Nat.{ℕ}
 use lib.IntN.{ℤ}
@@ -23,4 +23,4 @@ row n b c = record { number = n; applies = b; carries = c }
 
 abbrev pub firstRow : List Row → Reply → Reply
 firstRow [] r = r
-firstRow (w ∷ ws) r = let later = firstRow ws r in elim (w .applies) [ true ↦ refused (w .number) (w .carries) | false ↦ later ]
+firstRow (w ∷ ws) r = let later = firstRow ws r in cond (w .applies) (refused (w .number) (w .carries)) later

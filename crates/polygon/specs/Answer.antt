@@ -1,0 +1,34 @@
+-- Document 01's number and values for each case of the enums ("Where an answer is an enum ..").
+--     faultReply which f    refusals 1 to 5, blamed on a shape, and what each carries
+--     judgedReply j         the answer of `judge`
+--     broken ps             where the left rule is broken first, as the code carries it
+-- Assumes nothing.
+use mathlib.Core.Bool.{cond}
+use mathlib.Core.List.{List, [], _∷_}
+use Prim.Native.Nat.{ℕ}
+use lib.Dec.{ltb}
+use lib.IntN.{pos}
+use lib.ListN.{length}
+use Rattle.plane.specs.Point.{Point}
+use Rattle.plane.specs.Reply.{Reply, answered, refused}
+use Rattle.plane.specs.Refusal.{brokenEdge, brokenCorner}
+use Rattle.polygon.specs.declared.rules.Broken.{Broken}
+use Rattle.polygon.specs.declared.rules.Broken.the-variants.{At, Nowhere}
+use Rattle.polygon.specs.declared.Fault.{Fault}
+use Rattle.polygon.specs.declared.Fault.the-variants.{Count, Many, Range, Side, Start}
+use Rattle.polygon.specs.declared.Judged.{Judged}
+use Rattle.polygon.specs.declared.Judged.the-variants.{Shape, No}
+
+abbrev pub faultReply : ℕ → Fault → Reply
+faultReply which Count = refused 1 (which ∷ [])
+faultReply which Many = refused 2 (which ∷ [])
+faultReply which Range = refused 3 (which ∷ [])
+faultReply which (Side edge corner) = refused 4 (which ∷ edge ∷ corner ∷ [])
+faultReply which Start = refused 5 (which ∷ [])
+
+abbrev pub judgedReply : Judged → Reply
+judgedReply (Shape n) = answered (pos n ∷ [])
+judgedReply (No f) = faultReply 1 f
+
+abbrev pub broken : List Point → Broken
+broken ps = cond (ltb (brokenEdge ps) (length ps)) (At (brokenEdge ps) (brokenCorner ps (brokenEdge ps))) Nowhere

@@ -1,0 +1,127 @@
+// The rules that make a shape, a test for each row of the table: refusals 1 to 5.
+ghost use mathlib.Core.Path.{_≡_};
+ghost use Prim.Native.Nat.{_<_, _≤_};
+ghost use lib.ListN.{length};
+ghost use Rattle.plane.specs.Point.{points, corner};
+ghost use Rattle.plane.specs.Shape.{next as Shape·next, breaks};
+ghost use Rattle.plane.specs.Refusal.{InRange, badCount, tooMany, outside as Refusal·outside, someOutside, equalPair, badStart};
+ghost use Rattle.polygon.specs.Answer.{broken};
+use crate::corners;
+
+const MAX_CORNERS: usize = 512;
+
+const MAX_COORDINATE: i32 = 1_000_000;
+
+// Refusal 1: an empty list, or an odd count of numbers.
+pub fn bad_count(list: &[i32]) -> bool
+    ensures { λ r. ⌜ r ≡ badCount (now (list .entry)) ⌝ }
+{
+    list.len() == 0 || list.len() % 2 == 1
+}
+
+// Refusal 2: more corners than the limit.
+pub fn too_many(list: &[i32]) -> bool
+    ensures { λ r. ⌜ r ≡ tooMany (points (now (list .entry))) ⌝ }
+{
+    MAX_CORNERS < corners::count(list)
+}
+
+// Whether a coordinate is out of its range.
+fn outside(z: i32) -> bool
+    ensures { λ r. ⌜ r ≡ Refusal·outside z ⌝ }
+{
+    if z < -MAX_COORDINATE {
+        return true;
+    }
+    MAX_COORDINATE < z
+}
+
+// Refusal 3: some coordinate is out of range.
+pub fn some_outside(list: &[i32]) -> bool
+    ensures { λ r. ⌜ r ≡ someOutside (now (list .entry)) ⌝ }
+{
+    let mut i = 0;
+    while i < list.len() {
+        if outside(list[i]) {
+            return true;
+        }
+        i += 1;
+    }
+    false
+}
+
+// Refusal 4, for a list of two: the corners are equal.
+pub fn equal_pair(list: &[i32]) -> bool
+    ensures { λ r. ⌜ r ≡ equalPair (points (now (list .entry))) ⌝ }
+{
+    if corners::count(list) != 2 {
+        return false;
+    }
+    if corners::precedes_at(list, 0, 1) {
+        return false;
+    }
+    !corners::precedes_at(list, 1, 0)
+}
+
+// The position after e on the way round n corners.
+fn next(n: usize, e: usize) -> usize
+    requires { ⌜ e < n ⌝ }
+    ensures { λ r. ⌜ r ≡ Shape·next n e ⌝ }
+    ensures { λ r. ⌜ r < n ⌝ }
+{
+    if e + 1 == n { 0 } else { e + 1 }
+}
+
+// Whether a corner breaks the left rule at an edge: it is neither end of it, and not strictly to its left.
+fn breaks_at(list: &[i32], edge: usize, corner: usize) -> bool
+    requires { ⌜ (edge < length (points (now list))) × (corner < length (points (now list))) × InRange (now list) ⌝ }
+    ensures { λ r. ⌜ r ≡ breaks (points (now (list .entry))) edge corner ⌝ }
+{
+    let end = next(corners::count(list), edge);
+    if corner == edge {
+        return false;
+    }
+    if corner == end {
+        return false;
+    }
+    !(0 < corners::turn_at(list, edge, end, corner))
+}
+
+// Where the left rule is broken.
+pub enum Broken {
+    At { edge: usize, corner: usize },
+    Nowhere,
+}
+
+// Refusal 4: the first edge, then the first corner, that breaks the left rule.
+pub fn first_broken(list: &[i32]) -> Broken
+    requires { ⌜ InRange (now list) ⌝ }
+    ensures { λ r. ⌜ r ≡ broken (points (now (list .entry))) ⌝ }
+{
+    let n = corners::count(list);
+    let mut found = Broken::Nowhere;
+    'edges: for edge in 0..n {
+        for corner in 0..n {
+            if breaks_at(list, edge, corner) {
+                found = Broken::At { edge, corner };
+                break 'edges;
+            }
+        }
+    }
+    found
+}
+
+// Refusal 5: some corner precedes the first.
+pub fn bad_start(list: &[i32]) -> bool
+    ensures { λ r. ⌜ r ≡ badStart (points (now (list .entry))) ⌝ }
+{
+    let n = corners::count(list);
+    let mut c = 0;
+    while c < n {
+        if corners::precedes_at(list, c, 0) {
+            return true;
+        }
+        c += 1;
+    }
+    false
+}

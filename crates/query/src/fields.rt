@@ -1,0 +1,216 @@
+// The fields of a question. The numbers of all fields of a line stand in one buffer, field behind
+// field, and mark k counts the numbers before field k. The caller lends the buffer and the marks.
+ghost use mathlib.Core.Path.{_≡_};
+ghost use Prim.Native.Nat.{_+_, _*_, _≤_, _<_};
+ghost use Rattle.query.specs.Numeral.{signedOf};
+use crate::answers::Reason;
+use crate::lines::is_space;
+use crate::words::BAR;
+
+// The size of the least number of 32 bits; the greatest has one less.
+const LEAST: u64 = 2147483648;
+
+// Whether the fields of a line could be read.
+pub enum Fields {
+    Read,
+    No(Reason),
+}
+
+// What a number is, as far as it is read. The last two stay to the end of the line: a word was no
+// number of 32 bits, or a number found no room.
+enum Number {
+    Blank,
+    Minus,
+    Digits { negative: bool, size: u64 },
+    Wrong,
+    NoRoom,
+}
+
+// How far a line is read: the bars passed, the numbers held, and the number at hand.
+struct Progress {
+    bars: usize,
+    held: usize,
+    number: Number,
+}
+
+// What a sign and digits stand for: a number of 32 bits, or one that is too large for them.
+enum Value {
+    Fits(i32),
+    Wide,
+}
+
+// Reads the numbers of all fields, and sets a mark before each field and one behind the last.
+pub fn read(line: &[u8], values: &mut [i32], marks: &mut [usize]) -> Fields {
+    let mut progress = Progress {
+        bars: 0,
+        held: 0,
+        number: Number::Blank,
+    };
+    let mut i = 0;
+    while i < line.len() {
+        progress = step(progress, line[i], values, marks);
+        i += 1;
+    }
+    let end = pass_bar(finish(progress, values), marks);
+    let number = end.number;
+    outcome(number)
+}
+
+// The numbers of field k. It is empty if the line had no such field and the marks were 0 before.
+pub fn field<'a>(values: &'a [i32], marks: &[usize], k: usize) -> &'a [i32] {
+    let from = mark(marks, k);
+    let to = mark_behind(marks, k);
+    if from <= to {
+        if to <= values.len() {
+            return &values[from..to];
+        }
+    }
+    &values[..0]
+}
+
+// Mark k, or 0 where there is none.
+fn mark(marks: &[usize], k: usize) -> usize {
+    if k < marks.len() { marks[k] } else { 0 }
+}
+
+// The mark behind mark k, or 0 where there is none.
+fn mark_behind(marks: &[usize], k: usize) -> usize {
+    if k < marks.len() {
+        mark(marks, k + 1)
+    } else {
+        0
+    }
+}
+
+// Reads one character. What stands before the first bar belongs to no field.
+fn step(progress: Progress, byte: u8, values: &mut [i32], marks: &mut [usize]) -> Progress {
+    if byte == BAR {
+        pass_bar(finish(progress, values), marks)
+    } else if progress.bars == 0 {
+        progress
+    } else if is_space(byte) {
+        finish(progress, values)
+    } else {
+        let number = progress.number;
+        with_number(progress, extend(number, byte))
+    }
+}
+
+// Passes a bar, or the end of the line, and marks how many numbers stand before it.
+fn pass_bar(mut progress: Progress, marks: &mut [usize]) -> Progress {
+    let bars = progress.bars;
+    if bars < marks.len() {
+        marks[bars] = progress.held;
+        progress.bars = bars + 1;
+    }
+    progress
+}
+
+// Ends the number at hand, and holds it.
+fn finish(progress: Progress, values: &mut [i32]) -> Progress {
+    let number = progress.number;
+    match number {
+        Number::Blank => progress,
+        Number::Minus => with_number(progress, Number::Wrong),
+        Number::Digits { negative, size } => match signed(negative, size) {
+            Value::Fits(value) => hold(progress, value, values),
+            Value::Wide => with_number(progress, Number::Wrong),
+        },
+        Number::Wrong => progress,
+        Number::NoRoom => progress,
+    }
+}
+
+// Holds one number more, if there is room.
+fn hold(progress: Progress, value: i32, values: &mut [i32]) -> Progress {
+    let held = progress.held;
+    if held < values.len() {
+        values[held] = value;
+        Progress {
+            bars: progress.bars,
+            held: held + 1,
+            number: Number::Blank,
+        }
+    } else {
+        with_number(progress, Number::NoRoom)
+    }
+}
+
+// The same place with another number at hand.
+fn with_number(progress: Progress, number: Number) -> Progress {
+    Progress {
+        bars: progress.bars,
+        held: progress.held,
+        number,
+    }
+}
+
+// The number at hand with one character more.
+fn extend(number: Number, byte: u8) -> Number {
+    match number {
+        Number::Blank => {
+            if byte == b'-' {
+                Number::Minus
+            } else {
+                add_digit(false, 0, byte)
+            }
+        }
+        Number::Minus => add_digit(true, 0, byte),
+        Number::Digits { negative, size } => add_digit(negative, size, byte),
+        Number::Wrong => Number::Wrong,
+        Number::NoRoom => Number::NoRoom,
+    }
+}
+
+// A number of this sign and size with one character more, which has to be a digit.
+fn add_digit(negative: bool, size: u64, byte: u8) -> Number {
+    if b'0' <= byte {
+        if byte <= b'9' {
+            return Number::Digits {
+                negative,
+                size: grow(size, byte - b'0'),
+            };
+        }
+    }
+    Number::Wrong
+}
+
+// The size with one digit more. One that is too large already stays as it is.
+fn grow(size: u64, digit: u8) -> u64
+    ensures { λ r. ⌜ (size ≤ 2147483648 → r ≡ size * 10 + digit) ⌝ }
+    ensures { λ r. ⌜ (2147483648 < size → r ≡ size) ⌝ }
+{
+    if size <= LEAST {
+        size * 10 + digit as u64
+    } else {
+        size
+    }
+}
+
+// The number of this sign and size, if 32 bits hold it.
+fn signed(negative: bool, size: u64) -> Value
+    ensures { λ r. ⌜ r ≡ signedOf negative size ⌝ }
+{
+    if negative {
+        if size == 0 {
+            Value::Fits(0)
+        } else if size <= LEAST {
+            Value::Fits(-1 - (size - 1) as i32)
+        } else {
+            Value::Wide
+        }
+    } else if size < LEAST {
+        Value::Fits(size as i32)
+    } else {
+        Value::Wide
+    }
+}
+
+// What the end of a line finds.
+fn outcome(number: Number) -> Fields {
+    match number {
+        Number::Wrong => Fields::No(Reason::NotANumber),
+        Number::NoRoom => Fields::No(Reason::TooManyNumbers),
+        _ => Fields::Read,
+    }
+}

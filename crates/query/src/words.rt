@@ -1,0 +1,84 @@
+// The word that a question begins with, and the table of the words that are known.
+use crate::lines::is_space;
+
+// What a field stands behind.
+pub const BAR: u8 = b'|';
+
+// What can be asked.
+pub enum Question {
+    Judge,
+}
+
+// What a word asks for, with the fewest and the most fields that it takes.
+pub enum Entry {
+    Known {
+        question: Question,
+        fewest: usize,
+        most: usize,
+    },
+    Unknown,
+}
+
+// The table of words.
+pub fn look_up(word: &[u8]) -> Entry {
+    if check::same(word, b"judge") {
+        return known(Question::Judge, 1, 1);
+    }
+    Entry::Unknown
+}
+
+// The word of a line: what stands before the first bar, without the spaces around it.
+pub fn word_of(line: &[u8]) -> &[u8] {
+    let start = word_start(line);
+    let end = word_end(line);
+    if start <= end {
+        if end <= line.len() {
+            return &line[start..end];
+        }
+    }
+    &line[..0]
+}
+
+// How many bars a line has, and so how many fields.
+pub fn count_bars(line: &[u8]) -> usize {
+    let mut count = 0;
+    let mut i = 0;
+    while i < line.len() {
+        if line[i] == BAR {
+            count += 1;
+        }
+        i += 1;
+    }
+    count
+}
+
+// An entry of the table.
+fn known(question: Question, fewest: usize, most: usize) -> Entry {
+    Entry::Known {
+        question,
+        fewest,
+        most,
+    }
+}
+
+// The position of the first byte that is no space.
+fn word_start(line: &[u8]) -> usize {
+    let mut i = 0;
+    while i < line.len() && is_space(line[i]) {
+        i += 1;
+    }
+    i
+}
+
+// The position behind the last byte before the first bar that is no space; 0 where there is none.
+fn word_end(line: &[u8]) -> usize {
+    let mut end = 0;
+    let mut i = 0;
+    while i < line.len() && line[i] != BAR {
+        i += 1;
+        if !is_space(line[i - 1]) {
+            end = i;
+        }
+    }
+    end
+}
