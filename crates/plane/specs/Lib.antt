@@ -9,4 +9,8 @@ pub mod Refusal
 pub mod Judge
 pub mod Direction
 pub mod Corner
+pub mod Output
+pub mod Furthest
+pub mod Combine
+pub mod Cases
 pub mod theory
