@@ -1,9 +1,9 @@
 -- Bounds on the size of an integer.
 --     Within n x      x is from -n to n
--- `beyond-low`, `beyond-high`: the two tests of a bound in code. `within-le`, `within-ge` read it as two orders, `within-of` makes it of them; `within-widen` takes a larger bound.
+-- `beyond-size`: a bound as two tests. `within-le`, `within-ge` read it as two orders, `within-of` makes it of them; `within-widen` takes a larger bound.
 -- Assumes nothing.
 use mathlib.Core.Path.{_≡_, refl, sym, ap, subst}
-use mathlib.Core.Bool.{true, false}
+use mathlib.Core.Bool.{Bool, true, false, _||_}
 use mathlib.Core.Logic.{_⊎_, inl, inr}
 use mathlib.Core.List.{List, [], _∷_}
 use Prim.Native.Nat.{ℕ, zero, suc, _+_, _*_, _≤_, _<_}
@@ -13,6 +13,7 @@ use borrow.Author.Tests.{lt-ltb, le-ltb}
 use lib.Dec.{ltb}
 use lib.IntN.{ℤ, pos, negsuc, negℤ, natAbs, _+ℤ_, _-ℤ_, _*ℤ_}
 use lib.Signed.{_≤ℤ_, _<ℤ_, ltZ}
+use Rattle.integer.specs.Order.{ltZ-true, ltZ-false}
 use Rattle.integer.specs.Parts.{above, below, le-parts, parts-le, lt-parts, differs-own, differs-add, differs-neg}
 
 pub record Within (n : ℕ) (x : ℤ) : Type 0 where
@@ -76,10 +77,16 @@ within-of {n} {x} h k = record { size = go (one-part x) }
 
 -- ---- a bound as two tests, as code makes them
 
-pub beyond-low : (m : ℕ) (z : ℤ) → z <ℤ negℤ (pos m) → ltb m (natAbs z) ≡ true
-beyond-low m z h =
-    lt-ltb m (natAbs z) (omega (arith, size-parts z, lt-parts (differs-own z) (differs-neg (differs-own (pos m))) h))
+beyond-low : (m : ℕ) (z : ℤ) → z <ℤ negℤ (pos m) → ltb m (natAbs z) ≡ true
+beyond-low m z h = lt-ltb m (natAbs z) (omega (arith, size-parts z, lt-parts (differs-own z) (differs-neg (differs-own (pos m))) h))
 
-pub beyond-high : (m : ℕ) (z : ℤ) → negℤ (pos m) ≤ℤ z → ltZ (pos m) z ≡ ltb m (natAbs z)
+beyond-high : (m : ℕ) (z : ℤ) → negℤ (pos m) ≤ℤ z → ltZ (pos m) z ≡ ltb m (natAbs z)
 beyond-high m (pos n) h = refl
 beyond-high m (negsuc n) h = sym (le-ltb m (suc n) (omega (arith, le-parts (differs-neg (differs-own (pos m))) (differs-own (negsuc n)) h)))
+
+pub beyond-size : (m : ℕ) (z : ℤ) → (ltZ z (negℤ (pos m)) || ltZ (pos m) z) ≡ ltb m (natAbs z)
+beyond-size m z = go (ltZ z (negℤ (pos m))) refl
+  where
+    go : (b : Bool) → ltZ z (negℤ (pos m)) ≡ b → (b || ltZ (pos m) z) ≡ ltb m (natAbs z)
+    go true e = sym (beyond-low m z (ltZ-true e))
+    go false e = beyond-high m z (ltZ-false e)

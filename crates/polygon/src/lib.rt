@@ -1,5 +1,6 @@
 // Judging a shape: document 01, "What makes a shape" and refusals 1 to 5.
 pub mod corners;
+pub mod limits;
 mod rules;
 
 ghost use mathlib.Core.Path.{_≡_};

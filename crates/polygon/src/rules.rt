@@ -4,13 +4,10 @@ ghost use Prim.Native.Nat.{_<_, _≤_};
 ghost use lib.ListN.{length};
 ghost use Rattle.plane.specs.Point.{points, corner};
 ghost use Rattle.plane.specs.Shape.{next as Shape·next, breaks};
-ghost use Rattle.plane.specs.Refusal.{InRange, badCount, tooMany, outside as Refusal·outside, someOutside, equalPair, badStart};
+ghost use Rattle.plane.specs.Refusal.{InRange, badCount, tooMany, someOutside, equalPair, badStart};
 ghost use Rattle.polygon.specs.Answer.{broken};
 use crate::corners;
-
-const MAX_CORNERS: usize = 512;
-
-const MAX_COORDINATE: i32 = 1_000_000;
+use crate::limits;
 
 // Refusal 1: an empty list, or an odd count of numbers.
 pub fn bad_count(list: &[i32]) -> bool
@@ -23,17 +20,7 @@ pub fn bad_count(list: &[i32]) -> bool
 pub fn too_many(list: &[i32]) -> bool
     ensures { λ r. ⌜ r ≡ tooMany (points (now (list .entry))) ⌝ }
 {
-    MAX_CORNERS < corners::count(list)
-}
-
-// Whether a coordinate is out of its range.
-fn outside(z: i32) -> bool
-    ensures { λ r. ⌜ r ≡ Refusal·outside z ⌝ }
-{
-    if z < -MAX_COORDINATE {
-        return true;
-    }
-    MAX_COORDINATE < z
+    limits::exceeds_corners(corners::count(list))
 }
 
 // Refusal 3: some coordinate is out of range.
@@ -42,7 +29,7 @@ pub fn some_outside(list: &[i32]) -> bool
 {
     let mut i = 0;
     while i < list.len() {
-        if outside(list[i]) {
+        if limits::outside(list[i]) {
             return true;
         }
         i += 1;

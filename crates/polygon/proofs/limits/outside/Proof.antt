@@ -1,0 +1,27 @@
+-- `outside` meets its contract. The limit is opened here alone. Assumes nothing.
+use mathlib.Core.Path.{_∙_, ap}
+use mathlib.Core.Bool.{_||_}
+use lib.IntN.{ℤ, pos, negℤ}
+use lib.Signed.{ltZ}
+use mir.Facts.{toZ-ofZ}
+use borrow.Author.Needs.{needs}
+use Rattle.integer.specs.Bound.{beyond-size}
+use Rattle.plane.specs.Limits.{maxCoordinate}
+use Rattle.plane.specs.Refusal.{outside}
+use Rattle.polygon.proofs.limits.outside.Statement.{statement}
+use Rattle.polygon.proofs.limits.outside.Tie as tie
+
+sub-beyond : tie.Need-sub-beyond
+sub-beyond c = search needs
+
+beyond-requires : tie.Need-beyond-requires
+beyond-requires c κs = tt
+
+returns : tie.Need-returns
+unfolding outside maxCoordinate
+returns c =
+    c .beyond .ensures
+    ∙ ap (λ (z : ℤ). ltZ z (negℤ (pos maxCoordinate)) || ltZ (pos maxCoordinate) z) (toZ-ofZ (c .before .fits .z)) ∙ beyond-size maxCoordinate (c .before .args .z)
+
+pub outside-spec : {M : Type 1} → statement M
+outside-spec = tie.close (tie.spec sub-beyond beyond-requires returns)

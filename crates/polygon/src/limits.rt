@@ -1,0 +1,45 @@
+// Document 01's limits, and the tests against them. No other code knows the numbers.
+ghost use mathlib.Core.Bool.{_||_};
+ghost use mathlib.Core.Path.{_≡_};
+ghost use lib.Dec.{ltb};
+ghost use lib.IntN.{natAbs};
+ghost use lib.Signed.{ltZ};
+ghost use Rattle.plane.specs.Limits.{maxCorners, maxPart};
+ghost use Rattle.plane.specs.Refusal.{outside as Refusal·outside};
+
+const MAX_CORNERS: usize = 512;
+
+const MAX_COORDINATE: i32 = 1_000_000;
+
+const MAX_PART: i32 = 2_000_000;
+
+// Whether so many corners are more than a shape may have.
+pub fn exceeds_corners(n: usize) -> bool
+    ensures { λ r. ⌜ r ≡ ltb maxCorners n ⌝ }
+{
+    MAX_CORNERS < n
+}
+
+// Whether a coordinate is out of its range.
+pub fn outside(z: i32) -> bool
+    ensures { λ r. ⌜ r ≡ Refusal·outside z ⌝ }
+{
+    beyond(-MAX_COORDINATE, MAX_COORDINATE, z)
+}
+
+// Whether a part of a direction is out of its range.
+pub fn outside_part(z: i32) -> bool
+    ensures { λ r. ⌜ r ≡ ltb maxPart (natAbs z) ⌝ }
+{
+    beyond(-MAX_PART, MAX_PART, z)
+}
+
+// Whether z is less than low or more than high.
+fn beyond(low: i32, high: i32, z: i32) -> bool
+    ensures { λ r. ⌜ r ≡ (ltZ z low || ltZ high z) ⌝ }
+{
+    if z < low {
+        return true;
+    }
+    high < z
+}
