@@ -1,46 +1,116 @@
 -- Document 01's starred cases ("Cases to hold against"), as one table over the definitions and one fact about all its rows, by computing.
--- In 01's order; a row is a case's reply and the reply that 01 states. Assumes nothing.
+-- The rows are quoted in 01's order; a row is what the definition gives and what 01 states. Assumes nothing.
 use mathlib.Core.Path.{_≡_, refl}
-use mathlib.Core.Bool.{Bool, true, cond}
+use mathlib.Core.Bool.{cond}
 use mathlib.Core.List.{List, [], _∷_, map}
 use Prim.Native.Nat.{ℕ}
 use lib.IntN.{ℤ, pos, negsuc}
-use lib.ListN.{length}
+use lib.ListN.{length, replicate}
 use lib.Signed.{ltZ}
-use Rattle.plane.specs.Limits.{maxCorners, maxCoordinate}
+use Rattle.plane.specs.Limits.{maxCorners, maxCoordinate, maxPart}
 use Rattle.plane.specs.Point.{points, corner}
 use Rattle.plane.specs.Turn.{turn}
 use Rattle.plane.specs.Shape.{next, breaks, precedes}
 use Rattle.plane.specs.Reply.{Reply, answered, refused}
 use Rattle.plane.specs.Refusal.{badCount, tooMany, outside, someOutside, equalPair, brokenCorner, brokenEdge, badStart}
 use Rattle.plane.specs.Judge.{judged}
+use Rattle.plane.specs.Direction.{max}
+use Rattle.plane.specs.Corner.{shapeOf}
+use Rattle.plane.specs.Output.{Written, noRoom, overwritten}
+use Rattle.plane.specs.Combine.{sumWritten, mergeWritten}
+use Rattle.plane.specs.Measure.{
+  squared,
+  lengthSquared,
+  furthestPair,
+  lengthFrom,
+  lengthTo,
+  lengthReply,
+  edgeTurn,
+  reach,
+  edgeSquared,
+  noWider,
+  widthEdge,
+  widthCorner,
+  widthRounded,
+  widthReply,
+}
+use Rattle.plane.specs.Separation.{inside, apart, notLeft, onRim, touching, relationReply}
+
+pub record Case : Type 0 where
+  pub reply : Reply
+  pub output : List ℤ
+  pub stated : Reply
+  pub numbers : List ℤ
+
+-- an answer alone, and an answer with the whole output, of as many numbers as the answer has
+abbrev says : Reply → Reply → Case
+says r s = record { reply = r; output = []; stated = s; numbers = [] }
+
+abbrev writes : (List ℤ → Written) → ℕ → List ℤ → Case
+writes call n l =
+    let w = call (replicate (length l) (pos 0)) in
+    record { reply = w .reply; output = w .output; stated = answered (pos n ∷ []); numbers = l }
+
+-- 0 0 2 0 2 2 0 2
+abbrev S : List ℤ
+S = pos 0 ∷ pos 0 ∷ pos 2 ∷ pos 0 ∷ pos 2 ∷ pos 2 ∷ pos 0 ∷ pos 2 ∷ []
+
+-- 0 0 1 0 0 1
+abbrev T : List ℤ
+T = pos 0 ∷ pos 0 ∷ pos 1 ∷ pos 0 ∷ pos 0 ∷ pos 1 ∷ []
+
+-- 0 0 4 0 0 3
+abbrev triangle : List ℤ
+triangle = pos 0 ∷ pos 0 ∷ pos 4 ∷ pos 0 ∷ pos 0 ∷ pos 3 ∷ []
 
 -- 0 0 5 4 -1 4 4 0 2 6
-star : List ℤ
+abbrev star : List ℤ
 star = pos 0 ∷ pos 0 ∷ pos 5 ∷ pos 4 ∷ negsuc 0 ∷ pos 4 ∷ pos 4 ∷ pos 0 ∷ pos 2 ∷ pos 6 ∷ []
 
--- 1 where the corner after the edge that leaves e turns left of it
-turnsLeft : List ℤ → ℕ → ℤ
+abbrev pair : ℕ → ℕ → List ℤ
+pair x y = pos x ∷ pos y ∷ []
+
+abbrev segment : ℕ → ℕ → ℕ → ℕ → List ℤ
+segment x y u v = pos x ∷ pos y ∷ pos u ∷ pos v ∷ []
+
+-- 1 where the corner after the edge that leaves e is strictly left of it
+abbrev turnsLeft : List ℤ → ℕ → ℤ
 turnsLeft l e =
     let ps = points l in
     let f = next (length ps) e in
     cond (ltZ (pos 0) (turn (corner ps e) (corner ps f) (corner ps (next (length ps) f)))) (pos 1) (pos 0)
 
-pub record Case : Type 0 where
-  pub reply : Reply
-  pub stated : Reply
-
-abbrev case : Reply → Reply → Case
-case r s = record { reply = r; stated = s }
-
 pub rows : List Case
 rows =
-    -- "turns left at every corner"
-    case (answered (map (turnsLeft star) (0 ∷ 1 ∷ 2 ∷ 3 ∷ 4 ∷ []))) (answered (pos 1 ∷ pos 1 ∷ pos 1 ∷ pos 1 ∷ pos 1 ∷ []))
-    -- "yet is refused 4", at edge 0 and corner 3
-    ∷ case (judged star) (refused 4 (1 ∷ 0 ∷ 3 ∷ []))
+    -- S plus T, whole output: 5 corners
+    writes (λ out. sumWritten S T out) 5 (pos 0 ∷ pos 0 ∷ pos 3 ∷ pos 0 ∷ pos 3 ∷ pos 2 ∷ pos 2 ∷ pos 3 ∷ pos 0 ∷ pos 3 ∷ [])
+    -- Segment 0 0 2 0 plus segment 0 0 1 0
+    ∷ writes (λ out. sumWritten (segment 0 0 2 0) (segment 0 0 1 0) out) 2 (segment 0 0 3 0)
+    -- Segment 0 0 2 0 plus segment 0 0 0 1
+    ∷ writes (λ out. sumWritten (segment 0 0 2 0) (segment 0 0 0 1) out) 4 (pos 0 ∷ pos 0 ∷ pos 2 ∷ pos 0 ∷ pos 2 ∷ pos 1 ∷ pos 0 ∷ pos 1 ∷ [])
+    -- S merged with point 5 1, with point 4 0, with point 1 1
+    ∷ writes (λ out. mergeWritten S (pair 5 1) out) 5 (pos 0 ∷ pos 0 ∷ pos 2 ∷ pos 0 ∷ pos 5 ∷ pos 1 ∷ pos 2 ∷ pos 2 ∷ pos 0 ∷ pos 2 ∷ [])
+    ∷ writes (λ out. mergeWritten S (pair 4 0) out) 4 (pos 0 ∷ pos 0 ∷ pos 4 ∷ pos 0 ∷ pos 2 ∷ pos 2 ∷ pos 0 ∷ pos 2 ∷ [])
+    ∷ writes (λ out. mergeWritten S (pair 1 1) out) 4 S
+    -- Points 3 1 and 0 1 merged
+    ∷ writes (λ out. mergeWritten (pair 3 1) (pair 0 1) out) 2 (segment 0 1 3 1)
+    -- Length of S: 8 at 0, 2. Length of 0 0 4 0 0 3: 25 at 1, 2
+    ∷ says (lengthReply S) (answered (pos 8 ∷ pos 0 ∷ pos 2 ∷ []))
+    ∷ says (lengthReply triangle) (answered (pos 25 ∷ pos 1 ∷ pos 2 ∷ []))
+    -- Width of S: edge 0, corner 2, t 4, q 4, w 2
+    ∷ says (widthReply S) (answered (pos 0 ∷ pos 2 ∷ pos 4 ∷ pos 4 ∷ pos 2 ∷ []))
+    -- Width of 0 0 4 0 0 3: edge 1, corner 0, t 12, q 25, w 2
+    ∷ says (widthReply triangle) (answered (pos 1 ∷ pos 0 ∷ pos 12 ∷ pos 25 ∷ pos 2 ∷ []))
+    -- S against point 3 1 apart; 2 1 touching; 1 1 overlapping
+    ∷ says (relationReply S (pair 3 1)) (answered (pos 0 ∷ []))
+    ∷ says (relationReply S (pair 2 1)) (answered (pos 1 ∷ []))
+    ∷ says (relationReply S (pair 1 1)) (answered (pos 2 ∷ []))
+    -- 0 0 5 4 -1 4 4 0 2 6 turns left at every corner yet is refused 4
+    ∷ says (answered (map (turnsLeft star) (0 ∷ 1 ∷ 2 ∷ 3 ∷ 4 ∷ []))) (answered (pos 1 ∷ pos 1 ∷ pos 1 ∷ pos 1 ∷ pos 1 ∷ []))
+    ∷ says (judged star) (refused 4 (1 ∷ 0 ∷ 3 ∷ []))
     ∷ []
 
-pub rows-hold : map (λ (r : Case). r .reply) rows ≡ map (λ (r : Case). r .stated) rows
-unfolding rows star turnsLeft turn breaks precedes maxCorners maxCoordinate badCount tooMany outside someOutside equalPair brokenCorner brokenEdge badStart judged
-rows-hold = refl
+pub rows-hold : (map (λ (r : Case). r .reply) rows ≡ map (λ (r : Case). r .stated) rows)
+    × (map (λ (r : Case). r .output) rows ≡ map (λ (r : Case). r .numbers) rows)
+unfolding rows turn breaks precedes maxCorners maxCoordinate maxPart badCount tooMany outside someOutside equalPair brokenCorner brokenEdge badStart judged max shapeOf noRoom overwritten sumWritten mergeWritten squared lengthSquared furthestPair lengthFrom lengthTo lengthReply edgeTurn reach edgeSquared noWider widthEdge widthCorner widthRounded widthReply inside apart notLeft onRim touching relationReply
+rows-hold = (refl, refl)

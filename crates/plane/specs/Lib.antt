@@ -12,5 +12,7 @@ pub mod Corner
 pub mod Output
 pub mod Furthest
 pub mod Combine
+pub mod Measure
+pub mod Separation
 pub mod Cases
 pub mod theory

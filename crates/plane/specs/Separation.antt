@@ -1,0 +1,70 @@
+-- Relation, inside and clearance (document 01, "What each question asks", last three paragraphs), as tests that compute. That they are the
+-- paper's sentences about all whole-number directions is proved (`Meaning.antt`).
+--     inside A B        the shape of both together is that of B: "in every whole-number direction the first's greatest value is at most
+--                       the second's"
+--     differences A B   all points a - b: A and B are apart in a direction exactly if all of these have a value below 0 in it
+--     apart A B         the origin is not inside the differences
+--     touching A B      not apart, and the differences lie on one line, or the origin is on an edge of their shape
+--     clearance A B     0 if not apart, else the least squared distance between a corner of one and a corner of the other
+-- Assumes nothing.
+use mathlib.Core.Bool.{Bool, true, false, not, cond, _&&_, _||_}
+use mathlib.Core.List.{List, [], _∷_, _++_}
+use Prim.Native.Nat.{ℕ}
+use lib.Dec.{ltb}
+use lib.IntN.{ℤ, pos}
+use lib.ListN.{length}
+use lib.Signed.{leZ}
+use Rattle.plane.specs.Point.{Point, origin, points, corner}
+use Rattle.plane.specs.Turn.{turn}
+use Rattle.plane.specs.Search.{first}
+use Rattle.plane.specs.Shape.{next, precedes}
+use Rattle.plane.specs.Reply.{Reply, answered, firstRow}
+use Rattle.plane.specs.Refusal.{shapeRows}
+use Rattle.plane.specs.Corner.{shapeOf, sums, mirrored}
+use Rattle.plane.specs.Measure.{least, squared}
+
+-- two lists of corners are equal
+abbrev pub sameCorners : List Point → List Point → Bool
+sameCorners [] [] = true
+sameCorners [] (q ∷ qs) = false
+sameCorners (p ∷ ps) [] = false
+sameCorners (p ∷ ps) (q ∷ qs) = not (precedes p q) && (not (precedes q p) && sameCorners ps qs)
+
+unfoldable pub inside : List Point → List Point → Bool
+inside A B = sameCorners (shapeOf (A ++ B)) (shapeOf B)
+
+abbrev pub differences : List Point → List Point → List Point
+differences A B = sums A (mirrored B)
+
+unfoldable pub apart : List Point → List Point → Bool
+apart A B = not (inside (origin ∷ []) (differences A B))
+
+-- the origin is not strictly to the left of the edge that leaves e
+unfoldable pub notLeft : List Point → ℕ → Bool
+notLeft ps e = leZ (turn (corner ps e) (corner ps (next (length ps) e)) origin) (pos 0)
+
+-- a point or a segment, or a polygon with the origin on or outside an edge
+unfoldable pub onRim : List Point → Bool
+onRim ps = ltb (length ps) 3 || ltb (first (notLeft ps) (length ps)) (length ps)
+
+unfoldable pub touching : List Point → List Point → Bool
+touching A B = not (apart A B) && onRim (shapeOf (differences A B))
+
+-- 0 apart, 1 touching, 2 overlapping
+unfoldable pub relationReply : List ℤ → List ℤ → Reply
+relationReply a b =
+    let A = points a in
+    let B = points b in
+    firstRow (shapeRows 1 a ++ shapeRows 2 b) (answered (cond (apart A B) (pos 0) (cond (touching A B) (pos 1) (pos 2)) ∷ []))
+
+-- 1 yes, 0 no
+unfoldable pub insideReply : List ℤ → List ℤ → Reply
+insideReply a b = firstRow (shapeRows 1 a ++ shapeRows 2 b) (answered (cond (inside (points a) (points b)) (pos 1) (pos 0) ∷ []))
+
+-- request W3 replaces this rule: it stands here alone
+unfoldable pub clearance : List Point → List Point → ℤ
+clearance A B =
+    cond (apart A B) (least (λ i. least (λ j. squared (corner A i) (corner B j)) (length B)) (length A)) (pos 0)
+
+unfoldable pub clearanceReply : List ℤ → List ℤ → Reply
+clearanceReply a b = firstRow (shapeRows 1 a ++ shapeRows 2 b) (answered (clearance (points a) (points b) ∷ []))
