@@ -2,7 +2,8 @@
 --     _<×<_ _<×≤_ _≤×<_ _≤×≤_     the product of two differences of known sign, as a hint to `lia`
 --     _≡×_                        an equation times a number, likewise
 --     contra< contra≤             a strict (weak) order, from the absurdity of the contrary
---     lt-or-le, compared          cases; `weaken`: a strict order is a weak one
+--     lt-or-le, compared          cases
+--     weaken, le-of-eq, le-trans, le-antisym      weak orders by name, where no atom need be written
 --     ltZ-true .. leZ-false       what a test that came out so says; `lt-ltZ` .. the other way
 -- Assumes nothing.
 use mathlib.Core.Path.{_≡_, refl, sym, _∙_, ap, subst}
@@ -58,6 +59,20 @@ compared x y = go (lt-or-le x y) (lt-or-le y x)
     go (inr h) (inl k) = is-above k
     go (inr h) (inr k) = is-equal (lia (x ∷ y ∷ []) (h & k) (search linear depth 40) (omega arith))
 
+-- ---- weak orders by name
+
+pub weaken : {x y : ℤ} → x <ℤ y → x ≤ℤ y
+weaken {x} {y} h = lia (x ∷ y ∷ []) h (search linear depth 40) (omega arith)
+
+pub le-of-eq : {x y : ℤ} → x ≡ y → x ≤ℤ y
+le-of-eq {x} {y} e = lia (x ∷ y ∷ []) e (search linear depth 40) (omega arith)
+
+pub le-trans : {x y z : ℤ} → x ≤ℤ y → y ≤ℤ z → x ≤ℤ z
+le-trans {x} {y} {z} h k = lia (x ∷ y ∷ z ∷ []) (h & k) (search linear depth 40) (omega arith)
+
+pub le-antisym : {x y : ℤ} → x ≤ℤ y → y ≤ℤ x → x ≡ y
+le-antisym {x} {y} h k = lia (x ∷ y ∷ []) (h & k) (search linear depth 40) (omega arith)
+
 -- ---- products
 
 pos-times : (x y : ℤ) → pos 0 <ℤ x → pos 0 <ℤ y → pos 0 <ℤ (x *ℤ y)
@@ -71,9 +86,6 @@ nonneg-times : (x y : ℤ) → pos 0 ≤ℤ x → pos 0 ≤ℤ y → pos 0 ≤�
 nonneg-times (pos a) (pos b) h k = record { le = le→leb 0 (a * b) zero-le }
 nonneg-times (pos a) (negsuc b) h k = absurd (k .le)
 nonneg-times (negsuc a) y h k = absurd (h .le)
-
-pub weaken : {x y : ℤ} → x <ℤ y → x ≤ℤ y
-weaken {x} {y} h = lia (x ∷ y ∷ []) h (search linear depth 40) (omega arith)
 
 gap-pos : {x y : ℤ} → x <ℤ y → pos 0 <ℤ (y -ℤ x)
 gap-pos {x} {y} h = lia (x ∷ y ∷ []) h (search linear depth 40) (omega arith)

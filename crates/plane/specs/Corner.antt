@@ -2,8 +2,10 @@
 -- A set is the list of its points, in any order and with repeats.
 --     Corner S p       p is a point of S that is strictly furthest, among the different points, in some whole-number direction
 --     ascending S      the different points of S by y, then by x
---     chain ps         of ascending (or descending) points, those left of which no later one lies: last first
---     shapeOf S        the shape of the set: up the right-hand chain from the least point to the greatest, and down the left-hand one
+--     push, scan       one point of an ascending (or descending) list is read, or all: what is kept stands last first and turns left
+--     side ps          the points kept of such a list, without its last: the right-hand chain up, or the left-hand chain down
+--     around ps        up the right side of an ascending list, from the least point to the greatest, and down the left side
+--     shapeOf S        the shape of the set: around its ascending points
 --     sums A B         all corner-plus-corner points of two lists; `sumsOf` of a list of lists, one corner of each, chosen separately
 --     mirrored A       all (-x, -y)
 -- What it means: shapeOf S is a shape, p is in it exactly if Corner S p, and every list with these two properties equals it

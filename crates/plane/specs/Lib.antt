@@ -15,4 +15,5 @@ pub mod Combine
 pub mod Measure
 pub mod Separation
 pub mod Cases
+pub mod Meaning
 pub mod theory

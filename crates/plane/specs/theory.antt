@@ -1,8 +1,31 @@
--- The theory of the plane: proves, and defines nothing that a contract cites.
+-- The theory of the plane: proves, and defines nothing that a contract cites. In reading order: the forms of a shape; judging; points and
+-- vectors; that the forms agree; the support, by which corners are known; the shape of a set; sorted edges, the cut and the sum.
 pub mod Forms
-pub mod Flat
-pub mod Sought
+pub mod Members
 pub mod Precedes
-pub mod Tests
+pub mod Sought
 pub mod Rows
+pub mod Flat
+pub mod Tests
 pub mod Accept
+pub mod Vector
+pub mod HalfPlane
+pub mod Angle
+pub mod SameWay
+pub mod Fan
+pub mod Round
+pub mod Standard
+pub mod Max
+pub mod Support
+pub mod Corners
+pub mod Unique
+pub mod Halves
+pub mod Ascending
+pub mod Scan
+pub mod Hull
+pub mod ShapeOf
+pub mod Bounds
+pub mod Path
+pub mod Cut
+pub mod EdgeSum
+pub mod EdgeCount

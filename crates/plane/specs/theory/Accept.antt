@@ -1,26 +1,23 @@
 -- The rows of refusals 1 to 5 against "What makes a shape".
---     inside→inRange          row 3 does not apply: every coordinate is in range
+--     inside→inRange, inRange→inside      row 3 does not apply exactly if every coordinate is in range
 --     accepted→valid          no row applies: the list is valid
 --     valid→accepted          a valid list: no row applies
 -- Assumes nothing.
-use mathlib.Core.Path.{_≡_, refl, sym, _∙_, ap, ap₂, subst}
+use mathlib.Core.Path.{_≡_, refl, sym, _∙_, ap, ap₂}
 use mathlib.Core.Bool.{Bool, true, false, not, _&&_, _||_, true≢false}
-use mathlib.Core.List.{List, [], _∷_}
-use Prim.Native.Nat.{ℕ, zero, suc, _%_, _/_, _≤_, _<_}
+use mathlib.Core.List.{List}
+use Prim.Native.Nat.{ℕ, _%_, _≤_, _<_}
 use native.Mathlib.Omega.{arith}
 use native.Mathlib.Decide.{ℕ-discrete}
 use borrow.Author.Tests.{ltb-false, le-ltb, eqb-false, ne-eqb, not-false}
 use lib.Dec.{ltb, eqb}
 use lib.IntN.{ℤ, pos, natAbs}
 use lib.ListN.{length, getD}
-use lib.Signed.{ltZ}
 use Rattle.integer.specs.Bound.{Within}
 use Rattle.integer.specs.Order.{ltZ-true, lt-ltZ}
 use Rattle.plane.specs.Limits.{maxCorners, maxCoordinate}
 use Rattle.plane.specs.Point.{Point, points, corner}
-use Rattle.plane.specs.Turn.{turn, Left}
 use Rattle.plane.specs.Shape.{next, breaks, precedes, IsShape}
-use Rattle.plane.specs.Reply.{Row}
 use Rattle.plane.specs.Refusal.{
   badCount,
   tooMany,

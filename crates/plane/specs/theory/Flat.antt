@@ -1,19 +1,20 @@
 -- A list of numbers and the corners that it holds, by position.
 --     points-length           half as many corners as numbers
 --     points-x, points-y      the coordinates of corner i stand at 2·i and 2·i + 1
---     points-near             coordinates of a list in range are in range
+--     Near p, points-near     both coordinates are in range; those of a list in range are
+--     x-small, y-small, dx-small, dy-small      coordinates and their differences, bounded by powers of two
 --     points-numbers, numbers-points, numbers-length      there and back
 -- Assumes nothing.
 use mathlib.Core.Path.{_≡_, refl, sym, _∙_, ap, subst}
 use mathlib.Core.List.{List, [], _∷_}
-use Prim.Native.Nat.{ℕ, zero, suc, _+_, _*_, _/_, _%_, _^_, _≤_, _<_}
+use Prim.Native.Nat.{ℕ, zero, suc, _+_, _*_, _/_, _%_, _^_, _<_}
 use native.Mathlib.Omega.{arith}
 use native.Mathlib.Nat.{le-of-suc-le-suc}
 use lib.ListN.{length, getD}
-use lib.IntN.{ℤ, pos, negℤ, _-ℤ_}
+use lib.IntN.{ℤ, pos, _-ℤ_}
 use Rattle.integer.specs.Bound.{Within, within-widen, within-add, within-neg}
 use Rattle.plane.specs.Limits.{maxCoordinate, coordinate-small}
-use Rattle.plane.specs.Point.{Point, point, points, numbers, corner}
+use Rattle.plane.specs.Point.{Point, points, numbers, corner}
 use Rattle.plane.specs.Refusal.{InRange}
 
 pub points-length : (l : List ℤ) → length (points l) ≡ length l / 2

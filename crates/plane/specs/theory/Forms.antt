@@ -1,17 +1,19 @@
 -- Two more ways to say that a list of corners is a shape, beside document 01's (`IsShape`): the forms that proofs work with.
---     All P ps, Pairs R ps     P of every corner; R of every two, in list order
+--     All P ps, Pairs R ps     P of every corner; R of every two, in list order; Triples: every three turn left
 --     Ordered ps               the first corner precedes all others, and any three in list order turn left
---     up e, before e f         the vector e points up, or level to the right; e comes before f by angle, counted from there all the way round
+--     up e, before e f         the vector e points up, or level to the right; e comes before f by angle, from there all the way round
 --     edges ps                 from each corner to the next, the last to the first; none for a point
---     Sorted ps                the edges are not zero and each is before the next
+--     From e F, InOrder F      the vectors F follow e in order; they are not zero and each is before the next
+--     Sorted ps                the edges are in order
+--     Precedes, Before, NonZero      the tests as facts
 -- A segment has two opposite edges: the calipers pass it twice. That the three forms agree is in `Standard.antt`. Assumes nothing.
 use mathlib.Core.Path.{_≡_}
-use mathlib.Core.Bool.{Bool, true, false, not, _&&_, _||_}
+use mathlib.Core.Bool.{Bool, true, not, _&&_, _||_}
 use mathlib.Core.List.{List, [], _∷_}
-use lib.IntN.{ℤ, pos}
-use lib.Signed.{ltZ, leZ}
-use Rattle.plane.specs.Point.{Point, point, origin, _⊖_}
-use Rattle.plane.specs.Turn.{cross, turn, Left}
+use lib.IntN.{pos}
+use lib.Signed.{ltZ}
+use Rattle.plane.specs.Point.{Point, origin, _⊖_}
+use Rattle.plane.specs.Turn.{cross, Left}
 use Rattle.plane.specs.Shape.{precedes}
 
 abbrev pub All : (Point → Type 0) → List Point → Type 0

@@ -13,7 +13,21 @@ use mathlib.Core.List.{[], _∷_}
 use native.Mathlib.Omega.{arith}
 use lib.Signed.{_≤ℤ_, _<ℤ_, leZ, ltZ}
 use Rattle.integer.specs.Linear.{linear, lia, _&_}
-use Rattle.integer.specs.Order.{Compared, is-below, is-equal, is-above, compared, ltZ-true, ltZ-false, leZ-true, lt-ltZ, le-ltZ, le-leZ}
+use Rattle.integer.specs.Order.{
+  Compared,
+  is-below,
+  is-equal,
+  is-above,
+  compared,
+  le-of-eq,
+  le-antisym,
+  ltZ-true,
+  ltZ-false,
+  leZ-true,
+  lt-ltZ,
+  le-ltZ,
+  le-leZ,
+}
 use Rattle.plane.specs.Point.{Point, point, opposite}
 use Rattle.plane.specs.Shape.{precedes}
 use Rattle.plane.specs.theory.Forms.{Precedes}
@@ -34,18 +48,13 @@ precedes-lower {p} {q} r = go _ refl _ refl _ refl (r .precedes-true)
     go true a t b u c h = lower (ltZ-true a)
     go false a false b u c h = absurd (false≢true h)
     go false a true b false c h = absurd (false≢true h)
-    go false a true b true c h =
-        let above : q .y ≤ℤ p .y = ltZ-false a in
-        let below : p .y ≤ℤ q .y = leZ-true b in
-        level (lia (p .y ∷ q .y ∷ []) (above & below) (search linear depth 40) (omega arith)) (ltZ-true c)
+    go false a true b true c h = level (le-antisym (leZ-true b) (ltZ-false a)) (ltZ-true c)
 
 pub lower-precedes : {p q : Point} → Lower p q → Precedes p q
 unfolding precedes
 lower-precedes {p} {q} (lower h) = record { precedes-true = rw (lt-ltZ h) }
 lower-precedes {p} {q} (level e h) =
-    let a : q .y ≤ℤ p .y = lia (p .y ∷ q .y ∷ []) e (search linear depth 40) (omega arith) in
-    let b : p .y ≤ℤ q .y = lia (p .y ∷ q .y ∷ []) e (search linear depth 40) (omega arith) in
-    record { precedes-true = rw (le-ltZ a, le-leZ b, lt-ltZ h) }
+    record { precedes-true = rw (le-ltZ (le-of-eq (sym e)), le-leZ (le-of-eq e), lt-ltZ h) }
 
 -- ---- a strict order
 

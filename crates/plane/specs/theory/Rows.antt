@@ -1,7 +1,7 @@
 -- The table of refusals: what its first row that applies says.
 --     row-given, row-passed       one step along the table, as code takes it
 --     firstRow-append             one table after the other
---     First, firstRow-given, firstRow-none, firstRow-refused, firstRow-answered
+--     NoneApply, First, outcome, firstRow-given, firstRow-none, firstRow-refused, firstRow-answered
 --                                 a refusal is given exactly when its row applies and none before it does
 -- Assumes nothing.
 use mathlib.Core.Path.{_≡_, refl, sym, _∙_, ap}

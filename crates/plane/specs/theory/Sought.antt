@@ -6,7 +6,7 @@
 --     sought-yes, sought-no                  its ends, where only whether there is such a number is asked
 --     search-none, none-search               there is none exactly if the test fails at every number below n
 -- Assumes nothing.
-use mathlib.Core.Path.{_≡_, refl, sym, _∙_, ap, subst}
+use mathlib.Core.Path.{_≡_, refl, _∙_, ap}
 use mathlib.Core.Bool.{Bool, true, false}
 use Prim.Native.Nat.{ℕ, zero, suc, _+_, _≤_, _<_, zero-le}
 use native.Mathlib.Omega.{arith}

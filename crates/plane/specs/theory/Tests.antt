@@ -2,7 +2,7 @@
 --     breaks-own, breaks-end, breaks-other      a corner against the edge that leaves it, against the edge that ends in it, against any other
 --     equalPair-other, equalPair-two            a list of another length than two; a list of two
 -- Assumes nothing.
-use mathlib.Core.Path.{_≡_, refl, sym, _∙_, ap, ap₂}
+use mathlib.Core.Path.{_≡_, refl}
 use mathlib.Core.Bool.{Bool, true, false, not, _&&_}
 use mathlib.Core.List.{List}
 use Prim.Native.Nat.{ℕ}

@@ -1,0 +1,167 @@
+-- What the definitions mean, in document 01's words. Each theorem is proved in the theory; here it is only cited.
+--     judging        accepted and valid are the same; a refusal is given exactly when its row says; how large turns and values get
+--     corners        the shape of a set is the standard list of its corners, and the only one
+--     forms          three ways to say that a list is a shape
+--     directions     how far sums, lists taken together and mirrored lists reach; a shape is known by how far it reaches
+-- Assumes nothing.
+use mathlib.Core.Path.{_≡_, refl}
+use mathlib.Core.List.{List, [], _∷_, _++_}
+use Prim.Native.Nat.{ℕ, _<_}
+use lib.ListN.{length}
+use lib.IntN.{ℤ, pos, _+ℤ_}
+use Rattle.integer.specs.Bound.{Within}
+use Rattle.plane.specs.Limits.{maxPart}
+use Rattle.plane.specs.Point.{Point, points, corner, opposite}
+use Rattle.plane.specs.Turn.{turn}
+use Rattle.plane.specs.Shape.{IsShape}
+use Rattle.plane.specs.Reply.{answered, refused, Row}
+use Rattle.plane.specs.Refusal.{shapeRows, InRange, Valid}
+use Rattle.plane.specs.Judge.{judged}
+use Rattle.plane.specs.Direction.{value, support, max}
+use Rattle.plane.specs.Corner.{Corner, shapeOf, sums, mirrored}
+use Rattle.plane.specs.theory.Forms.{Ordered, Sorted, edges}
+use Rattle.plane.specs.theory.Members.{_∈_, _⊆_}
+use Rattle.plane.specs.theory.Rows.{First, firstRow-given, firstRow-none, firstRow-answered, firstRow-refused}
+use Rattle.plane.specs.theory.Flat.{points-near}
+use Rattle.plane.specs.theory.Accept.{accepted→valid, valid→accepted}
+use Rattle.plane.specs.theory.Standard.{shape→sorted, sorted→ordered, ordered→shape}
+use Rattle.plane.specs.theory.Support.{support-append, support-sums, support-mirrored}
+use Rattle.plane.specs.theory.ShapeOf.{
+  shapeOf-support,
+  shapeOf-shape,
+  shapeOf-corner,
+  corner-shapeOf,
+  shapeOf-unique,
+  shapeOf-same,
+  shape-extensional,
+  shape-known,
+  shape-own,
+}
+use Rattle.plane.specs.theory.Bounds.{turn-size, value-size, support-size}
+use Rattle.plane.specs.theory.Cut.{cutSum, cut-formula}
+use Rattle.plane.specs.theory.EdgeSum.{vectorSum, vectorSum-shape}
+
+-- ---- judging
+
+module _ (l : List ℤ) where
+  -- "A shape is valid exactly if its list meets all that stands under "What makes a shape"": what is accepted is valid
+  pub accepted-is-valid : (v : List ℤ) → judged l ≡ answered v → Valid l
+  unfolding judged
+  accepted-is-valid v h = accepted→valid l 1 (firstRow-answered (shapeRows 1 l) _ v h)
+
+  -- and what is valid is accepted, "and the answer says how many corners"
+  pub valid-is-accepted : Valid l → judged l ≡ answered (pos (length (points l)) ∷ [])
+  unfolding judged
+  valid-is-accepted v = firstRow-none (shapeRows 1 l) _ (valid→accepted l 1 v)
+
+  -- "A made-up corner count fails because it is the count of the defined list"
+  pub accepted-counts-corners : (v : List ℤ) → judged l ≡ answered v → v ≡ pos (length (points l)) ∷ []
+  accepted-counts-corners v h = cc (valid-is-accepted (accepted-is-valid v h))
+
+  -- "Given exactly when", in number order: a row that applies, and none before it, refuses the list
+  pub first-row-refuses : {w : Row} → First w (shapeRows 1 l) → judged l ≡ refused (w .number) (w .carries)
+  unfolding judged
+  first-row-refuses f = firstRow-given _ f
+
+  -- and nothing else does
+  pub refused-by-first-row : (n : ℕ) (carries : List ℕ) → judged l ≡ refused n carries
+      → (w : Row) × First w (shapeRows 1 l) × (w .number ≡ n) × (w .carries ≡ carries)
+  unfolding judged
+  refused-by-first-row n carries h = firstRow-refused (shapeRows 1 l) _ n carries h
+
+  module _ (r : InRange l) where
+    -- "No turn exceeds 8,000,000,000,000 in size"
+    pub turn-bounded : (a b c : ℕ) → a < length (points l) → b < length (points l) → c < length (points l)
+        → Within 8_000_000_000_000 (turn (corner (points l) a) (corner (points l) b) (corner (points l) c))
+    turn-bounded a b c p q s = turn-size (points-near l r a p) (points-near l r b q) (points-near l r c s)
+
+    module _ (d : Point) (u : Within maxPart (d .x)) (v : Within maxPart (d .y)) where
+      -- u·x + v·y of each corner is "at most 4,000,000,000,000 in size"
+      pub value-bounded : (i : ℕ) → i < length (points l) → Within 4_000_000_000_000 (value d (corner (points l) i))
+      value-bounded i h = value-size u v (points-near l r i h)
+
+      -- and so is the greatest, "that value (at most 4,000,000,000,000 in size)"
+      pub support-bounded : 0 < length (points l) → Within 4_000_000_000_000 (support d (points l))
+      support-bounded some = support-size l r u v some
+
+-- ---- corners
+
+module _ (S : List Point) (some : 0 < length S) where
+  -- "The shape of the set is the standard list of these corners": it is a shape
+  pub shape-of-set-is-shape : IsShape (shapeOf S)
+  shape-of-set-is-shape = shapeOf-shape S some
+
+  -- all it lists are corners
+  pub shape-of-set-lists-corners : (p : Point) → p ∈ shapeOf S → Corner S p
+  shape-of-set-lists-corners p m = shapeOf-corner S some m
+
+  -- and it lists them all
+  pub corners-are-in-shape-of-set : (p : Point) → Corner S p → p ∈ shapeOf S
+  corners-are-in-shape-of-set p c = corner-shapeOf c
+
+  -- "the standard list": no other shape lists exactly the corners
+  pub shape-of-set-is-only-one : (ps : List Point) → IsShape ps → ((p : Point) → p ∈ ps → Corner S p)
+      → ((p : Point) → Corner S p → p ∈ ps) → ps ≡ shapeOf S
+  shape-of-set-is-only-one ps s f g = shapeOf-unique S ps some s f g
+
+  -- in every direction it reaches as far as the set
+  pub shape-of-set-reaches : (d : Point) → support d (shapeOf S) ≡ support d S
+  shape-of-set-reaches d = shapeOf-support S some d
+
+-- "A one-point set has that point"
+pub one-point-set : (p : Point) → shapeOf (p ∷ []) ≡ p ∷ []
+unfolding shapeOf
+one-point-set p = refl
+
+-- "Corners of a finite set of points", "among the different points": order and repeats make no difference
+pub same-set-same-shape : (S T : List Point) → S ⊆ T → T ⊆ S → shapeOf S ≡ shapeOf T
+same-set-same-shape S T f g = shapeOf-same S T f g
+
+-- a shape is the shape of its own corners
+pub shape-is-its-own : (ps : List Point) → IsShape ps → shapeOf ps ≡ ps
+shape-is-its-own ps s = shape-own ps s
+
+-- ---- forms
+
+-- "for every edge .. every other corner lies strictly to the left", and the first is the standard one: the edges go round once, by angle
+pub shape-has-sorted-edges : (ps : List Point) → IsShape ps → Sorted ps
+shape-has-sorted-edges ps s = shape→sorted ps s
+
+-- then any three corners in list order turn left, and the first has "the smallest y, and the smallest x among those"
+pub sorted-edges-order-corners : (ps : List Point) → Sorted ps → Ordered ps
+sorted-edges-order-corners ps s = sorted→ordered ps s
+
+-- and that is the left rule again
+pub ordered-corners-are-shape : (ps : List Point) → Ordered ps → IsShape ps
+ordered-corners-are-shape ps o = ordered→shape ps o
+
+-- ---- directions
+
+module _ (d : Point) where
+  -- "the shape of all corner-plus-corner points": they reach as far as both lists together
+  pub sums-reach : (A B : List Point) → 0 < length A → 0 < length B → support d (sums A B) ≡ support d A +ℤ support d B
+  sums-reach A B h k = support-sums d A B h k
+
+  -- "both corner lists taken together": as far as the one that reaches further
+  pub together-reach : (A B : List Point) → 0 < length A → 0 < length B → support d (A ++ B) ≡ max (support d A) (support d B)
+  together-reach A B h k = support-append d A B h k
+
+  -- "the shape of all (-x, -y)": as far as the list in the opposite direction
+  pub mirrored-reach : (A : List Point) → support d (mirrored A) ≡ support (opposite d) A
+  mirrored-reach A = support-mirrored d A
+
+  -- "the corner with the greatest u·x + v·y": from the first corner along the edges before the direction, turned left by a quarter
+  pub furthest-at-cut : (p : Point) (ps : List Point) → Sorted (p ∷ ps) → support d (p ∷ ps) ≡ value d p +ℤ cutSum d (edges (p ∷ ps))
+  furthest-at-cut p ps s = cut-formula d p ps s
+
+-- "theorem 4.5 tells how neighbours follow, and that equal directions make one step": the sum is made by joining edges
+pub sum-joins-edges : (A B : List Point) → IsShape A → IsShape B → vectorSum A B ≡ shapeOf (sums A B)
+sum-joins-edges A B s t = vectorSum-shape A B s t
+
+-- "Two shapes are equal if they have as many corners and the same numbers in the same order": if they reach as far in every direction
+pub shapes-with-equal-reach : (A B : List Point) → IsShape A → IsShape B → ((d : Point) → support d A ≡ support d B) → A ≡ B
+shapes-with-equal-reach A B s t same = shape-extensional A B s t same
+
+-- a shape that reaches as far as a set in every direction is the shape of the set
+pub shape-with-reach-of-set : (ps S : List Point) → IsShape ps → 0 < length S → ((d : Point) → support d ps ≡ support d S) → ps ≡ shapeOf S
+shape-with-reach-of-set ps S s some same = shape-known ps S s some same
