@@ -1,0 +1,56 @@
+// Numbers of many words, and what width asks of them (document 01, "Width").
+pub mod arithmetic;
+
+ghost use mathlib.Core.Path.{_≡_};
+ghost use Prim.Native.Nat.{_*_, _<_, _≤_};
+ghost use lib.Dec.{ltb};
+ghost use lib.ListN.{length};
+ghost use Rattle.words.specs.Value.{value};
+ghost use Rattle.words.specs.Root.{RoundedRoot};
+
+// Whether t1·t1/q1 is less than t2·t2/q2 as exact fractions, multiplied out, for numbers of any
+// size. Equal fractions are not less.
+// Ruled out: a carry dropped; the lowest word not compared.
+pub fn fraction_less(t1: u64, q1: u64, t2: u64, q2: u64) -> bool
+    ensures { λ r. ⌜ r ≡ ltb (t1 * t1 * q2) (t2 * t2 * q1) ⌝ }
+{
+    let mut left = [0u32; 6];
+    square_times(t1, q2, &mut left);
+    let mut right = [0u32; 6];
+    square_times(t2, q1, &mut right);
+    arithmetic::is_less(&left, &right)
+}
+
+// The square root of t·t/q, rounded down; 0 where t·t is below q. The root lies between 0 and t,
+// and each turn halves what is left.
+// Ruled out: a root one too large.
+pub fn root_of_fraction(t: u64, q: u64) -> u64
+    requires positive { ⌜ 0 < q ⌝ }
+    ensures { λ w. ⌜ RoundedRoot t q w ⌝ }
+{
+    let mut low: u64 = 0;
+    let mut high = t;
+    while low < high {
+        let middle = high - (high - low) / 2;
+        if fraction_less(t, q, middle, 1) {
+            high = middle - 1;
+        } else {
+            low = middle;
+        }
+    }
+    low
+}
+
+// t·t·q, which six words hold.
+fn square_times(t: u64, q: u64, out: &mut [u32])
+    requires room { ⌜ 6 ≤ length (now out) ⌝ }
+    ensures { λ r. ⌜ value (now (out .exit)) ≡ t * t * q ⌝ }
+{
+    let mut side = [0u32; 2];
+    arithmetic::from_u64(t, &mut side);
+    let mut square = [0u32; 4];
+    arithmetic::product(&side, &side, &mut square);
+    let mut factor = [0u32; 2];
+    arithmetic::from_u64(q, &mut factor);
+    arithmetic::product(&square, &factor, out);
+}
