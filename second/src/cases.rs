@@ -1,0 +1,168 @@
+//! Document 01's "Cases to hold against", in its order, as questions with their stated answers.
+//! S and T stand for their numbers; positions that 01 leaves out with a 4 follow from its words.
+
+use crate::answer::answer;
+use crate::make::dice::Dice;
+use crate::make::{line, long, numbers};
+use crate::question::Kind;
+use std::io::{self, Write};
+
+/// Words of 01, and the questions with their stated answers.
+type Stated = (&'static str, &'static [(&'static str, &'static str)]);
+
+#[rustfmt::skip]
+const STARRED: &[Stated] = &[
+    ("* S plus T, whole output", &[
+        ("sum | S | T", "ok 5 | 0 0 3 0 3 2 2 3 0 3"),
+    ]),
+    ("* Segment plus segment, one direction and two", &[
+        ("sum | 0 0 2 0 | 0 0 1 0", "ok 2 | 0 0 3 0"),
+        ("sum | 0 0 2 0 | 0 0 0 1", "ok 4 | 0 0 2 0 2 1 0 1"),
+    ]),
+    ("* S merged with points", &[
+        ("merge | S | 5 1", "ok 5 | 0 0 2 0 5 1 2 2 0 2"),
+        ("merge | S | 4 0", "ok 4 | 0 0 4 0 2 2 0 2"),
+        ("merge | S | 1 1", "ok 4 | 0 0 2 0 2 2 0 2"),
+    ]),
+    ("* Points 3 1 and 0 1 merged", &[
+        ("merge | 3 1 | 0 1", "ok 2 | 0 1 3 1"),
+    ]),
+    ("* Length", &[
+        ("length | S", "ok 8 0 2"),
+        ("length | 0 0 4 0 0 3", "ok 25 1 2"),
+    ]),
+    ("* Width", &[
+        ("width | S", "ok 0 2 4 4 2"),
+        ("width | 0 0 4 0 0 3", "ok 1 0 12 25 2"),
+    ]),
+    ("* S against points", &[
+        ("relation | S | 3 1", "ok apart"),
+        ("relation | S | 2 1", "ok touching"),
+        ("relation | S | 1 1", "ok overlapping"),
+    ]),
+    ("* The star turns left at every corner", &[
+        ("judge | 0 0 5 4 -1 4 4 0 2 6", "no 4 shape 1 edge 0 corner 3"),
+    ]),
+];
+
+#[rustfmt::skip]
+const SEGMENTS_AND_RANGE: &[Stated] = &[
+    ("Segments against segments, a point against itself", &[
+        ("relation | 0 0 2 0 | 1 0 3 0", "ok touching"),
+        ("relation | 0 0 2 2 | 2 0 0 2", "ok overlapping"),
+        ("relation | 0 0 1 0 | 2 0 3 0", "ok apart"),
+        ("relation | 1 1 | 1 1", "ok touching"),
+    ]),
+    ("Coordinate 1,000,000 passes, 1,000,001 and -2,147,483,648 get 3", &[
+        ("judge | 1000000 0", "ok 1"),
+        ("judge | 0 1000000", "ok 1"),
+        ("judge | 1000001 0", "no 3 shape 1"),
+        ("judge | 0 1000001", "no 3 shape 1"),
+        ("judge | -2147483648 0", "no 3 shape 1"),
+        ("judge | 0 -2147483648", "no 3 shape 1"),
+    ]),
+];
+
+#[rustfmt::skip]
+const INSIDE_AND_SUMS: &[Stated] = &[
+    ("Inside", &[
+        ("inside | T | S", "ok yes"),
+        ("inside | S | T", "ok no"),
+        ("inside | S | S", "ok yes"),
+    ]),
+    ("Point plus point, in range and out of it", &[
+        ("sum | 500000 0 | 500000 0", "ok 1 | 1000000 0"),
+        ("sum | 600000 0 | 500000 0", "no 7"),
+    ]),
+];
+
+#[rustfmt::skip]
+const LEFT_RULE: &[Stated] = &[
+    ("Three corners in line: 4. T begun at 1 0: 5. T clockwise: 4", &[
+        ("judge | 0 0 1 0 2 0", "no 4 shape 1 edge 0 corner 2"),
+        ("judge | 1 0 0 1 0 0", "no 5 shape 1"),
+        ("judge | 0 0 0 1 1 0", "no 4 shape 1 edge 0 corner 2"),
+    ]),
+];
+
+pub struct Group {
+    pub words: String,
+    pub cases: Vec<(String, String)>,
+}
+
+/// All cases, in the order of 01.
+pub fn groups() -> Vec<Group> {
+    let mut groups = spelled(STARRED);
+    groups.extend(spelled(SEGMENTS_AND_RANGE));
+    groups.push(corner_limit());
+    groups.extend(spelled(INSIDE_AND_SUMS));
+    groups.push(sum_too_long());
+    groups.extend(spelled(LEFT_RULE));
+    groups
+}
+
+pub fn write_all(mut to: impl Write) -> io::Result<()> {
+    for group in groups() {
+        writeln!(to, "# {}", group.words)?;
+        for (question, _) in group.cases {
+            writeln!(to, "{question}")?;
+        }
+    }
+    to.flush()
+}
+
+/// How many cases there are, and a report on each whose answer is not the stated one.
+pub fn check() -> (usize, Vec<String>) {
+    let cases: Vec<_> = groups().into_iter().flat_map(|group| group.cases).collect();
+    let report = |(question, stated): &(String, String)| {
+        let found = answer(question, &Kind::ALL);
+        let told = format!("{question}\n  stated {stated}\n  found  {found}");
+        (found != *stated).then_some(told)
+    };
+    (cases.len(), cases.iter().filter_map(report).collect())
+}
+
+fn spelled(stated: &[Stated]) -> Vec<Group> {
+    let numbers_for = |question: &str| {
+        let with_s = question.replace(" S", " 0 0 2 0 2 2 0 2");
+        with_s.replace(" T", " 0 0 1 0 0 1")
+    };
+    let group = |&(words, cases): &Stated| Group {
+        words: words.to_string(),
+        cases: cases
+            .iter()
+            .map(|&(q, a)| (numbers_for(q), a.to_string()))
+            .collect(),
+    };
+    stated.iter().map(group).collect()
+}
+
+fn corner_limit() -> Group {
+    let mut dice = Dice::new(1);
+    let mut judged = |count| line(Kind::Judge, &[numbers(&long::of_corners(&mut dice, count))]);
+    Group {
+        words: "512 corners pass, 513 get 2".to_string(),
+        cases: vec![
+            (judged(512), "ok 512".to_string()),
+            (judged(513), "no 2 shape 1".to_string()),
+        ],
+    }
+}
+
+fn sum_too_long() -> Group {
+    let (a, b) = long::sharing(&mut Dice::new(2), (300, 300), 0);
+    let question = line(Kind::Sum, &[numbers(&a), numbers(&b)]);
+    Group {
+        words: "Two shapes of 300 corners, no shared edge direction: 6".to_string(),
+        cases: vec![(question, "no 6".to_string())],
+    }
+}
+
+#[cfg(test)]
+mod tests {
+    #[test]
+    fn every_case_of_01_has_its_stated_answer() {
+        let (count, reports) = super::check();
+        assert!(count >= 30 && reports.is_empty(), "{reports:#?}");
+    }
+}

@@ -1,0 +1,41 @@
+//! Sum, merge and mirror of document 01, straight from their sets of points, with refusals 6, 7, 8.
+
+use crate::corners::shape_of;
+use crate::judge::in_range;
+use crate::plane::{Point, Shape};
+use crate::refusal::{MOST_CORNERS, Refusal};
+
+/// The shape of all corner-plus-corner points.
+pub fn sum(a: &[Point], b: &[Point]) -> Result<Shape, Refusal> {
+    let pairs = a.iter().flat_map(|&p| b.iter().map(move |&q| p.plus(q)));
+    let answer = not_too_many(shape_of(pairs.collect()))?;
+    if !answer.iter().all(in_range) {
+        return Err(Refusal::plain(7));
+    }
+    Ok(answer)
+}
+
+/// The shape of both corner lists taken together.
+pub fn merge(a: &[Point], b: &[Point]) -> Result<Shape, Refusal> {
+    not_too_many(shape_of([a, b].concat()))
+}
+
+/// The shape of all (-x, -y).
+pub fn mirror(shape: &[Point]) -> Shape {
+    shape_of(shape.iter().map(|c| c.negated()).collect())
+}
+
+/// The answer itself if the lent output, counted in numbers, holds it; no room named holds all.
+pub fn held_by(room: Option<usize>, answer: Shape) -> Result<Shape, Refusal> {
+    match room {
+        Some(room) if room < 2 * answer.len() => Err(Refusal::plain(8)),
+        _ => Ok(answer),
+    }
+}
+
+fn not_too_many(answer: Shape) -> Result<Shape, Refusal> {
+    if answer.len() > MOST_CORNERS {
+        return Err(Refusal::plain(6));
+    }
+    Ok(answer)
+}

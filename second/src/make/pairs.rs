@@ -1,0 +1,231 @@
+//! Pairs of good shapes that stand in a special way to each other: equal, flush, touching, nested.
+
+use super::dice::Dice;
+use super::edges::{edges_of, shape_from_edges};
+use super::long;
+use super::shapes::{self, moved, scaled, vector};
+use crate::corners::shape_of;
+use crate::plane::{Point, Shape, point};
+use crate::refusal::REACH;
+
+/// Any two shapes, in either order; moved together to some place.
+pub fn any(dice: &mut Dice) -> (Shape, Shape) {
+    let (a, b) = match dice.below(100) {
+        0..15 => return (shapes::any(dice), shapes::any(dice)),
+        15..35 => neighbours(dice),
+        35..38 => equal(dice),
+        38..50 => moved_copy(dice),
+        50..64 => flush(dice),
+        64..74 => nested(dice),
+        74..84 => with_spot(dice),
+        84..90 => on_one_line(dice),
+        90..98 => sharing_directions(dice),
+        _ => across_the_range(dice),
+    };
+    let (a, b) = if dice.one_in(2) { (a, b) } else { (b, a) };
+    together(dice, a, b)
+}
+
+/// Sums that just reach the range, just pass it, or have about 512 corners.
+pub fn for_sum(dice: &mut Dice) -> (Shape, Shape) {
+    match dice.below(100) {
+        0..15 => reaching(dice),
+        15..17 => {
+            let total = dice.pick(&[510, 511, 512, 513, 514]);
+            long::summing_to(dice, total)
+        }
+        17 => {
+            let shared = dice.pick(&[0, 0, 20, 100]);
+            let (a, b) = long::sharing(dice, (300, 300), shared);
+            (shapes::settled(dice, &a), shapes::settled(dice, &b))
+        }
+        18 => longest_with_few(dice),
+        _ => any(dice),
+    }
+}
+
+/// Merges that use every corner of both, with about 512 in the worst case.
+pub fn for_merge(dice: &mut Dice) -> (Shape, Shape) {
+    match dice.below(100) {
+        0..8 => {
+            let count = dice.between(3, 14) as usize;
+            long::dealt(dice, count)
+        }
+        8..10 => {
+            let count = dice.pick(&[511, 512, 513, 514, 700, 1000, 1024]);
+            long::dealt(dice, count)
+        }
+        10 => longest_with_few(dice),
+        _ => any(dice),
+    }
+}
+
+/// Both moved by the same vector, if they stay in range.
+fn together(dice: &mut Dice, a: Shape, b: Shape) -> (Shape, Shape) {
+    let by = shapes::settled(dice, &[point(0, 0)])[0];
+    let (moved_a, moved_b) = (moved(&a, by), moved(&b, by));
+    let stay = moved_a.iter().chain(&moved_b).all(crate::judge::in_range);
+    if stay { (moved_a, moved_b) } else { (a, b) }
+}
+
+fn neighbours(dice: &mut Dice) -> (Shape, Shape) {
+    let (a, b) = (shapes::small(dice), shapes::small(dice));
+    let reach = dice.between(0, 9);
+    let by = vector(dice, reach);
+    (a, moved(&b, by))
+}
+
+fn equal(dice: &mut Dice) -> (Shape, Shape) {
+    let a = shapes::any(dice);
+    (a.clone(), a)
+}
+
+/// A shape and itself, moved by a little or by the difference of two corners.
+fn moved_copy(dice: &mut Dice) -> (Shape, Shape) {
+    let a = shapes::small(dice);
+    let by = match dice.below(3) {
+        0 => vector(dice, 2),
+        1 => dice.pick(&a).minus(dice.pick(&a)),
+        _ => dice.pick(&a).minus(dice.pick(&a)).plus(vector(dice, 1)),
+    };
+    let b = moved(&a, by);
+    (a, b)
+}
+
+/// A shape and its mirror image at a corner or along an edge, sometimes one step off.
+fn flush(dice: &mut Dice) -> (Shape, Shape) {
+    let a = if dice.one_in(3) {
+        shapes::any(dice)
+    } else {
+        shapes::small(dice)
+    };
+    let at = dice.below(a.len());
+    let other = (at + dice.below(2)) % a.len();
+    let mut by = a[at].plus(a[other]);
+    if dice.one_in(3) {
+        by = by.plus(vector(dice, 1));
+    }
+    let b = moved(&shape_of(a.iter().map(|c| c.negated()).collect()), by);
+    (a, b)
+}
+
+/// A shape with one inside it: some of its corners, itself made smaller, sometimes one step off.
+fn nested(dice: &mut Dice) -> (Shape, Shape) {
+    let b = shapes::small(dice);
+    let outer = scaled(&b, 3);
+    let mut inner = match dice.below(3) {
+        0 => {
+            let count = dice.between(1, b.len() as i64) as usize;
+            shape_of(dice.draw(&outer, count))
+        }
+        1 => moved(&b, dice.pick(&b).times(2)),
+        _ => moved(&b, dice.pick(&b).plus(dice.pick(&b))),
+    };
+    if dice.one_in(4) {
+        inner = moved(&inner, vector(dice, 1));
+    }
+    (inner, outer)
+}
+
+/// A shape with a point or segment at a corner, on an edge, on an edge's line, or near.
+fn with_spot(dice: &mut Dice) -> (Shape, Shape) {
+    let size = dice.pick(&[2, 3, 50, 40_000]);
+    let a = scaled(&shapes::small(dice), size);
+    let mut spots = vec![spot(dice, &a)];
+    if dice.one_in(2) {
+        spots.push(spot(dice, &a));
+    }
+    (a, shape_of(spots))
+}
+
+fn spot(dice: &mut Dice, shape: &[Point]) -> Point {
+    let at = dice.below(shape.len());
+    let (a, b) = crate::plane::edge_ends(shape, at);
+    let between = b.minus(a);
+    let half = point(between.x / 2, between.y / 2);
+    match dice.below(6) {
+        0 => a,
+        1 => a.plus(half),
+        2 => b.plus(half),
+        3 => a.plus(half).plus(vector(dice, 1)),
+        4 => b.plus(vector(dice, 1)),
+        _ => a.plus(b.minus(dice.pick(shape))),
+    }
+}
+
+/// Segments and points along one line: disjoint, end to end, overlapping, nested.
+fn on_one_line(dice: &mut Dice) -> (Shape, Shape) {
+    let step = vector(dice, 3);
+    let mut part = || {
+        let (from, to) = (dice.between(-3, 3), dice.between(-3, 3));
+        shape_of(vec![step.times(from), step.times(to)])
+    };
+    let (a, mut b) = (part(), part());
+    if dice.one_in(5) {
+        b = moved(&b, vector(dice, 1));
+    }
+    (a, b)
+}
+
+/// The second has some of the first's edges, longer or shorter, or turned round.
+fn sharing_directions(dice: &mut Dice) -> (Shape, Shape) {
+    let a = if dice.one_in(3) {
+        shapes::any(dice)
+    } else {
+        shapes::small(dice)
+    };
+    let edges = edges_of(&a);
+    let count = dice.between(1, edges.len().min(12) as i64) as usize;
+    let mut chosen = dice.draw(&edges, count);
+    if dice.one_in(3) {
+        chosen = chosen.iter().map(|e| e.negated()).collect();
+    }
+    if dice.one_in(2) {
+        chosen.push(vector(dice, 3));
+    }
+    let b = shape_from_edges(&chosen);
+    (a, shapes::settled(dice, &b))
+}
+
+/// Small shapes at opposite ends of the range.
+fn across_the_range(dice: &mut Dice) -> (Shape, Shape) {
+    let far = point(dice.pick(&[-REACH, 0, REACH - 90]), REACH - 90);
+    let a = moved(&shapes::small(dice), far.negated().minus(point(90, 90)));
+    let b = moved(&shapes::small(dice), far.plus(point(60, 60)));
+    (a, b)
+}
+
+/// Two shapes whose sum ends at the range's end, one before it or one behind.
+fn reaching(dice: &mut Dice) -> (Shape, Shape) {
+    let a = shapes::any(dice);
+    let b = if dice.one_in(2) {
+        shapes::small(dice)
+    } else {
+        shapes::any(dice)
+    };
+    let top = |parts: &[i64]| parts.iter().copied().max().unwrap_or(0);
+    let bottom = |parts: &[i64]| parts.iter().copied().min().unwrap_or(0);
+    let xs = |s: &[Point]| s.iter().map(|c| c.x).collect::<Vec<i64>>();
+    let ys = |s: &[Point]| s.iter().map(|c| c.y).collect::<Vec<i64>>();
+    let end = REACH + dice.between(-1, 1);
+    let by = match dice.below(4) {
+        0 => point(end - top(&xs(&a)) - top(&xs(&b)), 0),
+        1 => point(-end - bottom(&xs(&a)) - bottom(&xs(&b)), 0),
+        2 => point(0, end - top(&ys(&a)) - top(&ys(&b))),
+        _ => point(0, -end - bottom(&ys(&a)) - bottom(&ys(&b))),
+    };
+    (a, moved(&b, by))
+}
+
+/// 511 or 512 corners with a point, a segment or a small shape.
+fn longest_with_few(dice: &mut Dice) -> (Shape, Shape) {
+    let count = dice.pick(&[509, 510, 511, 512]);
+    let a = long::of_corners(dice, count);
+    let b = match dice.below(4) {
+        0 => vec![dice.pick(&a)],
+        1 => shape_of(vec![point(0, 0), dice.pick(&edges_of(&a))]),
+        2 => vec![a[0].plus(vector(dice, 400))],
+        _ => shapes::small(dice),
+    };
+    if dice.one_in(2) { (a, b) } else { (b, a) }
+}

@@ -1,0 +1,131 @@
+//! Furthest corner, length and width of one shape (document 01): every corner, pair and edge tried.
+
+use crate::plane::{Point, edge_ends, squared_distance, turn, value};
+use crate::refusal::{DIRECTION_REACH, Refusal};
+
+/// The smallest position of the corner with the greatest value, and that value.
+pub fn furthest(shape: &[Point], direction: Point) -> Result<(usize, i128), Refusal> {
+    let within = |part: i64| (-DIRECTION_REACH..=DIRECTION_REACH).contains(&part);
+    let nowhere = direction.x == 0 && direction.y == 0;
+    if nowhere || !within(direction.x) || !within(direction.y) {
+        return Err(Refusal::plain(11));
+    }
+    Ok(first_greatest(shape.iter().map(|&c| value(direction, c))))
+}
+
+/// The greatest squared distance with its positions i ≤ j, smallest i and then smallest j.
+pub fn length(shape: &[Point]) -> (i128, usize, usize) {
+    let mut best = (0, 0, 0);
+    for i in 0..shape.len() {
+        for j in i..shape.len() {
+            let distance = squared_distance(shape[i], shape[j]);
+            if distance > best.0 {
+                best = (distance, i, j);
+            }
+        }
+    }
+    best
+}
+
+#[derive(Clone, Copy, Debug, PartialEq, Eq)]
+pub struct Width {
+    pub edge: usize,
+    pub corner: usize,
+    pub t: i128,
+    pub q: i128,
+    pub w: i128,
+}
+
+/// The edge with the least t·t/q, smallest position on a tie; 10 for a point or a segment.
+pub fn width(shape: &[Point]) -> Result<Width, Refusal> {
+    if shape.len() < 3 {
+        return Err(Refusal::plain(10));
+    }
+    let mut best = width_at(shape, 0);
+    for edge in 1..shape.len() {
+        let next = width_at(shape, edge);
+        if narrower(&next, &best) {
+            best = next;
+        }
+    }
+    best.w = rounded_down(best.t, best.q);
+    Ok(best)
+}
+
+/// One edge's greatest turn and squared length; w stays open.
+fn width_at(shape: &[Point], edge: usize) -> Width {
+    let (a, b) = edge_ends(shape, edge);
+    let (corner, t) = first_greatest(shape.iter().map(|&c| turn(a, b, c)));
+    let q = squared_distance(a, b);
+    Width {
+        edge,
+        corner,
+        t,
+        q,
+        w: 0,
+    }
+}
+
+/// t·t/q as exact fractions. Three points in range turn at most 4·10^12 and q is at most 8·10^12,
+/// so the products stay below 1.3·10^38, and i128 ends at 1.7·10^38.
+fn narrower(a: &Width, b: &Width) -> bool {
+    a.t * a.t * b.q < b.t * b.t * a.q
+}
+
+/// The w with w·w·q ≤ t·t < (w+1)·(w+1)·q, between 0 and the range's diagonal.
+fn rounded_down(t: i128, q: i128) -> i128 {
+    let (mut low, mut high) = (0, 3_000_000);
+    while high - low > 1 {
+        let middle = (low + high) / 2;
+        if middle * middle * q <= t * t {
+            low = middle;
+        } else {
+            high = middle;
+        }
+    }
+    low
+}
+
+/// The greatest of the numbers and the first position that has it.
+fn first_greatest(numbers: impl Iterator<Item = i128>) -> (usize, i128) {
+    let mut best = (0, i128::MIN);
+    for (position, number) in numbers.enumerate() {
+        if number > best.1 {
+            best = (position, number);
+        }
+    }
+    best
+}
+
+#[cfg(test)]
+mod tests {
+    use super::*;
+    use crate::plane::point;
+
+    #[test]
+    fn width_of_the_whole_range() {
+        let r = 1_000_000;
+        let square = [point(-r, -r), point(r, -r), point(r, r), point(-r, r)];
+        let found = width(&square).expect("four corners");
+        assert_eq!((found.edge, found.corner, found.w), (0, 2, 2_000_000));
+    }
+
+    #[test]
+    fn widest_turn_over_the_longest_edge_stays_exact() {
+        let r = 1_000_000;
+        let half = [point(-r, -r), point(r, -r), point(r, r)];
+        let found = width(&half).expect("three corners");
+        assert_eq!(
+            (found.edge, found.corner, found.t),
+            (2, 1, 4_000_000_000_000)
+        );
+        assert_eq!((found.q, found.w), (8_000_000_000_000, 1_414_213));
+    }
+
+    #[test]
+    fn length_search_does_not_follow_growing_distance() {
+        let list = [(0, 0), (1, 0), (60, 1), (29, 51), (17, 40), (4, 23)];
+        let shape: Vec<Point> = list.iter().map(|&(x, y)| point(x, y)).collect();
+        assert_eq!(length(&shape), (56 * 56 + 22 * 22, 2, 5));
+    }
+}

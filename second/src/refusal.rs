@@ -1,0 +1,57 @@
+//! The table "When the map desk says no" of document 01: limits, and a refusal with its places.
+
+use std::fmt;
+
+pub const MOST_CORNERS: usize = 512;
+pub const REACH: i64 = 1_000_000;
+pub const DIRECTION_REACH: i64 = 2_000_000;
+
+/// A number of the table. 1 to 5 say which shape; 4 also gives edge and corner.
+#[derive(Clone, Copy, Debug, PartialEq, Eq)]
+pub struct Refusal {
+    pub number: u8,
+    pub shape: Option<usize>,
+    pub place: Option<(usize, usize)>,
+}
+
+impl Refusal {
+    /// 6 to 11: carries nothing.
+    pub fn plain(number: u8) -> Refusal {
+        Refusal {
+            number,
+            shape: None,
+            place: None,
+        }
+    }
+
+    /// 1, 2, 3 or 5 of the shape that stands first or second.
+    pub fn of_shape(number: u8, shape: usize) -> Refusal {
+        Refusal {
+            number,
+            shape: Some(shape),
+            place: None,
+        }
+    }
+
+    /// 4 with the first edge, then the first corner, that breaks the left rule.
+    pub fn left_rule(shape: usize, place: (usize, usize)) -> Refusal {
+        Refusal {
+            number: 4,
+            shape: Some(shape),
+            place: Some(place),
+        }
+    }
+}
+
+impl fmt::Display for Refusal {
+    fn fmt(&self, f: &mut fmt::Formatter<'_>) -> fmt::Result {
+        write!(f, "no {}", self.number)?;
+        if let Some(shape) = self.shape {
+            write!(f, " shape {shape}")?;
+        }
+        if let Some((edge, corner)) = self.place {
+            write!(f, " edge {edge} corner {corner}")?;
+        }
+        Ok(())
+    }
+}
