@@ -1,0 +1,5 @@
+-- Demand 3 of document 01: its definitions; its laws; the builds that they shut out; then the theory behind them.
+pub mod Grouping
+pub mod Laws
+pub mod Useless
+pub mod theory

@@ -1,0 +1,8 @@
+-- The theory of the laws: what an answered call says, and when it is answered; when a grouping has a result; how far that reaches; that it
+-- is the shape of the whole list; the laws of two and three shapes.
+pub mod Answer
+pub mod Acceptance
+pub mod Refused
+pub mod Fold
+pub mod Whole
+pub mod Pair
