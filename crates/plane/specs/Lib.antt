@@ -16,4 +16,5 @@ pub mod Measure
 pub mod Separation
 pub mod Cases
 pub mod Meaning
+pub mod MeaningSeparation
 pub mod theory

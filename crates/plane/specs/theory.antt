@@ -1,5 +1,6 @@
 -- The theory of the plane: proves, and defines nothing that a contract cites. In reading order: the forms of a shape; judging; points and
--- vectors; that the forms agree; the support, by which corners are known; the shape of a set; sorted edges, the cut and the sum.
+-- vectors; that the forms agree; the support, by which corners are known; the shape of a set; sorted edges, the cut and the sum; inside,
+-- apart, touching and clearance.
 pub mod Forms
 pub mod Members
 pub mod Precedes
@@ -29,3 +30,10 @@ pub mod Path
 pub mod Cut
 pub mod EdgeSum
 pub mod EdgeCount
+pub mod Inside
+pub mod Apart
+pub mod Next
+pub mod Sector
+pub mod InsideShape
+pub mod Rim
+pub mod Clearance
