@@ -37,3 +37,12 @@ pub mod Sector
 pub mod InsideShape
 pub mod Rim
 pub mod Clearance
+pub mod Far
+pub mod Filled
+pub mod Write
+pub mod FilledCorners
+pub mod Written
+pub mod Furthest
+pub mod Turned
+pub mod Mirror
+pub mod MirrorWritten

@@ -1,2 +1,4 @@
 -- Lemmas that function proofs share.
 pub mod LeftRule
+pub mod Judging
+pub mod Faults

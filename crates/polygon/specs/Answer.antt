@@ -1,6 +1,8 @@
 -- Document 01's number and values for each case of the enums ("Where an answer is an enum ..").
 --     faultReply which f    refusals 1 to 5, blamed on a shape, and what each carries
 --     judgedReply j         the answer of `judge`
+--     furthestAnswerReply r         the answer of `furthest`
+--     refusalReply r, answerReply a     the answers of the questions that write a shape
 --     broken ps             where the left rule is broken first, as the code carries it
 -- Assumes nothing.
 use mathlib.Core.Bool.{cond}
@@ -18,6 +20,12 @@ use Rattle.polygon.specs.declared.Fault.{Fault}
 use Rattle.polygon.specs.declared.Fault.the-variants.{Count, Many, Range, Side, Start}
 use Rattle.polygon.specs.declared.Judged.{Judged}
 use Rattle.polygon.specs.declared.Judged.the-variants.{Shape, No}
+use Rattle.polygon.specs.declared.answer.Furthest.{Furthest}
+use Rattle.polygon.specs.declared.answer.Furthest.the-variants as Furthest
+use Rattle.polygon.specs.declared.answer.Refusal.{Refusal}
+use Rattle.polygon.specs.declared.answer.Refusal.the-variants as Refusal
+use Rattle.polygon.specs.declared.answer.Answer.{Answer}
+use Rattle.polygon.specs.declared.answer.Answer.the-variants as Answer
 
 abbrev pub faultReply : ℕ → Fault → Reply
 faultReply which Count = refused 1 (which ∷ [])
@@ -29,6 +37,22 @@ faultReply which Start = refused 5 (which ∷ [])
 abbrev pub judgedReply : Judged → Reply
 judgedReply (Shape n) = answered (pos n ∷ [])
 judgedReply (No f) = faultReply 1 f
+
+abbrev pub furthestAnswerReply : Furthest → Reply
+furthestAnswerReply (Furthest.At position value) = answered (pos position ∷ value ∷ [])
+furthestAnswerReply (Furthest.Shape f) = faultReply 1 f
+furthestAnswerReply Furthest.Direction = refused 11 []
+
+abbrev pub refusalReply : Refusal → Reply
+refusalReply (Refusal.First f) = faultReply 1 f
+refusalReply (Refusal.Second f) = faultReply 2 f
+refusalReply Refusal.Many = refused 6 []
+refusalReply Refusal.Far = refused 7 []
+refusalReply Refusal.Room = refused 8 []
+
+abbrev pub answerReply : Answer → Reply
+answerReply (Answer.Corners n) = answered (pos n ∷ [])
+answerReply (Answer.No r) = refusalReply r
 
 abbrev pub broken : List Point → Broken
 broken ps = cond (ltb (brokenEdge ps) (length ps)) (At (brokenEdge ps) (brokenCorner ps (brokenEdge ps))) Nowhere

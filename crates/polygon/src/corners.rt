@@ -1,7 +1,7 @@
 // Corners of a list by position, and what one corner is to others.
 ghost use mathlib.Core.Path.{_≡_};
-ghost use Prim.Native.Nat.{_<_};
-ghost use lib.ListN.{length};
+ghost use Prim.Native.Nat.{_+_, _*_, _<_};
+ghost use lib.ListN.{length, set};
 ghost use lib.IntN.{_-ℤ_};
 ghost use Rattle.plane.specs.Point.{points, corner};
 ghost use Rattle.plane.specs.Refusal.{InRange};
@@ -70,4 +70,13 @@ pub fn precedes_at(list: &[i32], a: usize, b: usize) -> bool
         return false;
     }
     x_at(list, a) < x_at(list, b)
+}
+
+// Writes a corner at position k of an output.
+pub fn put(out: &mut [i32], k: usize, x: i32, y: i32)
+    requires { ⌜ 2 * k + 1 < length (now out) ⌝ }
+    ensures { λ r. ⌜ now (out .exit) ≡ set (set (now (out .entry)) (2 * k) x) (2 * k + 1) y ⌝ }
+{
+    out[2 * k] = x;
+    out[2 * k + 1] = y;
 }

@@ -7,7 +7,7 @@ ghost use lib.Signed.{ltZ};
 ghost use Rattle.plane.specs.Limits.{maxCorners, maxPart};
 ghost use Rattle.plane.specs.Refusal.{outside as Refusal·outside};
 
-const MAX_CORNERS: usize = 512;
+pub const MAX_CORNERS: usize = 512;
 
 const MAX_COORDINATE: i32 = 1_000_000;
 

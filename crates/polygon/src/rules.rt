@@ -51,7 +51,7 @@ pub fn equal_pair(list: &[i32]) -> bool
 }
 
 // The position after e on the way round n corners.
-fn next(n: usize, e: usize) -> usize
+pub fn next(n: usize, e: usize) -> usize
     requires { ⌜ e < n ⌝ }
     ensures { λ r. ⌜ r ≡ Shape·next n e ⌝ }
     ensures { λ r. ⌜ r < n ⌝ }

@@ -78,7 +78,7 @@ few-corners : (ps : List Point) → tooMany ps ≡ false → length ps ≤ maxCo
 unfolding tooMany
 few-corners ps h = ltb-false maxCorners (length ps) h
 
-corners-few : (ps : List Point) → length ps ≤ maxCorners → tooMany ps ≡ false
+pub corners-few : (ps : List Point) → length ps ≤ maxCorners → tooMany ps ≡ false
 unfolding tooMany
 corners-few ps h = le-ltb maxCorners (length ps) h
 

@@ -3,11 +3,12 @@
 --     points-x, points-y      the coordinates of corner i stand at 2·i and 2·i + 1
 --     Near p, points-near     both coordinates are in range; those of a list in range are
 --     x-small, y-small, dx-small, dy-small      coordinates and their differences, bounded by powers of two
---     points-numbers, numbers-points, numbers-length      there and back
+--     points-numbers, numbers-points, numbers-length      there and back; `numbers-x`, `numbers-y`: the coordinates of corner i
+--     numbers-inRange         corners in range make numbers in range
 -- Assumes nothing.
 use mathlib.Core.Path.{_≡_, refl, sym, _∙_, ap, subst}
 use mathlib.Core.List.{List, [], _∷_}
-use Prim.Native.Nat.{ℕ, zero, suc, _+_, _*_, _/_, _%_, _^_, _<_}
+use Prim.Native.Nat.{ℕ, zero, suc, _+_, _*_, _/_, _%_, _^_, _<_, suc-le-suc}
 use native.Mathlib.Omega.{arith}
 use native.Mathlib.Nat.{le-of-suc-le-suc}
 use lib.ListN.{length, getD}
@@ -58,10 +59,29 @@ pub numbers-length : (ps : List Point) → length (numbers ps) ≡ 2 * length ps
 numbers-length [] = refl
 numbers-length (p ∷ ps) = let h = numbers-length ps in omega arith
 
+pub numbers-x : (ps : List Point) (i : ℕ) → i < length ps → getD (numbers ps) (2 * i) (pos 0) ≡ corner ps i .x
+numbers-x ps i h =
+    sym (points-x (numbers ps) i (subst (λ qs. i < length qs) (sym (points-numbers ps)) h)) ∙ ap (λ qs. corner qs i .x) (points-numbers ps)
+
+pub numbers-y : (ps : List Point) (i : ℕ) → i < length ps → getD (numbers ps) (2 * i + 1) (pos 0) ≡ corner ps i .y
+numbers-y ps i h =
+    sym (points-y (numbers ps) i (subst (λ qs. i < length qs) (sym (points-numbers ps)) h)) ∙ ap (λ qs. corner qs i .y) (points-numbers ps)
+
 pub numbers-points : (l : List ℤ) → length l % 2 ≡ 0 → numbers (points l) ≡ l
 numbers-points [] e = refl
 numbers-points (a ∷ []) e = let f : ⊥ = omega arith in absurd f
 numbers-points (a ∷ (b ∷ l)) e = ap (λ m. a ∷ b ∷ m) (numbers-points l (omega arith))
+
+-- corners in range make numbers in range
+pub numbers-inRange : (ps : List Point) → ((k : ℕ) → k < length ps → Near (corner ps k)) → InRange (numbers ps)
+numbers-inRange ps f = record { near = go ps f }
+  where
+    go : (ps : List Point) → ((k : ℕ) → k < length ps → Near (corner ps k)) → (i : ℕ) → i < length (numbers ps)
+        → Within maxCoordinate (getD (numbers ps) i (pos 0))
+    go [] f i h = absurd (omega arith)
+    go (p ∷ ps) f zero h = f 0 (omega arith) .near-x
+    go (p ∷ ps) f (suc zero) h = f 0 (omega arith) .near-y
+    go (p ∷ ps) f (suc (suc i)) h = go ps (λ k b. f (suc k) (suc-le-suc b)) i (omega arith)
 
 -- ---- bounds as powers of two, in which machine arithmetic is proved
 

@@ -1,0 +1,4 @@
+-- Lemmas that function proofs share.
+pub mod Progress
+pub mod Tally
+pub mod Summed

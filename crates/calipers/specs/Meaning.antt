@@ -1,0 +1,45 @@
+-- What the walk means, in document 01's words. Each theorem is proved in the theory; here it is only cited.
+-- That an answered sum is valid, its laws in either order, and the origin point's, are in the crate `laws`. Assumes nothing.
+use mathlib.Core.Path.{_≡_}
+use mathlib.Core.List.{List, [], _∷_}
+use Prim.Native.Nat.{ℕ, _+_, _<_}
+use lib.IntN.{ℤ}
+use lib.ListN.{length}
+use Rattle.plane.specs.Point.{Point, points, corner, _⊕_}
+use Rattle.plane.specs.Refusal.{Valid}
+use Rattle.plane.specs.Corner.{Corner, shapeOf, sums}
+use Rattle.plane.specs.theory.Forms.{edges}
+use Rattle.plane.specs.theory.EdgeCount.{shared}
+use Rattle.calipers.specs.Walk.{here, begun, stepped, todo}
+use Rattle.calipers.specs.theory.Directions.{sum-directions, sum-points}
+use Rattle.calipers.specs.theory.Decompose.{positions-once, sum-visited, visited-corner, Visited, corner-visited}
+
+module _ (a b : List ℤ) (v : Valid a) (w : Valid b) where
+  -- "the shape of all corner-plus-corner points": from the beginning the walk visits its corners, in its order, and no others
+  pub walk-visits-sum : todo (points a) (points b) begun ≡ shapeOf (sums (points a) (points b))
+  walk-visits-sum = sum-visited a b v w
+
+  -- wherever it stands before it is over, the two corners there make a corner of the set
+  pub walk-stands-at-corner : (n : ℕ) → n < length (todo (points a) (points b) begun)
+      → Corner (sums (points a) (points b)) (here (points a) (points b) (stepped (points a) (points b) n begun))
+  walk-stands-at-corner n h = visited-corner a b v w n h
+
+  -- "equal directions make one step": a corner for each direction that an edge of one of the shapes has
+  pub sum-counts-directions : 0 < length (edges (points a)) + length (edges (points b))
+      → length (shapeOf (sums (points a) (points b))) + shared (edges (points a)) (edges (points b)) ≡ length (edges (points a)) + length (edges (points b))
+  sum-counts-directions h = sum-directions (points a) (points b) (v .shape) (w .shape) h
+
+  module _ (i j : ℕ) (i-in : i < length (points a)) (j-in : j < length (points b))
+      (c : Corner (sums (points a) (points b)) (corner (points a) i ⊕ corner (points b) j)) where
+    -- two corners that make a corner of the set are visited together
+    pub walk-visits-pair : Visited a b i j
+    walk-visits-pair = corner-visited a b v w i j i-in j-in c
+
+    -- and no other two make the same
+    pub pair-is-only-one : (k l : ℕ) → k < length (points a) → l < length (points b)
+        → corner (points a) i ⊕ corner (points b) j ≡ corner (points a) k ⊕ corner (points b) l → (k ≡ i) × (l ≡ j)
+    pair-is-only-one k l k-in l-in e = positions-once (points a) (points b) (v .shape) (w .shape) i j k l i-in j-in k-in l-in c e
+
+-- two points make a point
+pub sum-of-points : (p q : Point) → shapeOf (sums (p ∷ []) (q ∷ [])) ≡ (p ⊕ q) ∷ []
+sum-of-points p q = sum-points p q

@@ -1,0 +1,67 @@
+// The mirror image, corner by corner: the opposites of all corners, begun at the one that becomes
+// the least.
+ghost use mathlib.Core.Bool.{false};
+ghost use mathlib.Core.List.{_++_};
+ghost use mathlib.Core.Path.{_≡_};
+ghost use Prim.Native.Nat.{ℕ, _+_, _*_, _<_, _≤_};
+ghost use lib.IntN.{negℤ};
+ghost use lib.ListN.{length, take, drop, set};
+ghost use Rattle.plane.specs.Point.{points, numbers, corner};
+ghost use Rattle.plane.specs.Refusal.{InRange};
+ghost use Rattle.plane.specs.Shape.{precedes};
+ghost use Rattle.plane.specs.Corner.{mirrored};
+ghost use Rattle.plane.specs.Output.{overwritten};
+use crate::corners;
+use crate::rules;
+
+// The position of the last corner by y, then by x.
+pub fn top(list: &[i32]) -> usize
+    requires { ⌜ 0 < length (points (now list)) ⌝ }
+    ensures { λ r. ⌜ r < length (points (now (list .entry))) ⌝ }
+    ensures { λ r. ⌜ ((k : ℕ) → k < length (points (now (list .entry)))
+        → precedes (corner (points (now (list .entry))) r) (corner (points (now (list .entry))) k) ≡ false) ⌝ }
+{
+    let n = corners::count(list);
+    let mut top = 0;
+    let mut i = 1;
+    while i < n {
+        if corners::precedes_at(list, top, i) {
+            top = i;
+        }
+        i += 1;
+    }
+    top
+}
+
+// Writes the opposites of all corners, begun at a position of the list.
+pub fn write_from(list: &[i32], start: usize, out: &mut [i32])
+    requires { ⌜ (start < length (points (now list))) × InRange (now list)
+        × (2 * length (points (now list)) ≤ length (now out)) ⌝ }
+    ensures { λ r. ⌜ now (out .exit) ≡ overwritten (numbers (mirrored
+        (drop start (points (now (list .entry))) ++ take start (points (now (list .entry)))))) (now (out .entry)) ⌝ }
+{
+    let n = corners::count(list);
+    let mut from = start;
+    let mut k = 0;
+    while k < n {
+        write_opposite(list, from, out, k);
+        from = rules::next(n, from);
+        k += 1;
+    }
+}
+
+// Writes the opposite of a corner of the list as corner k of the output.
+fn write_opposite(list: &[i32], from: usize, out: &mut [i32], k: usize)
+    requires { ⌜ (from < length (points (now list))) × InRange (now list)
+        × (2 * k + 1 < length (now out)) ⌝ }
+    ensures { λ r. ⌜ now (out .exit) ≡ set
+        (set (now (out .entry)) (2 * k) (negℤ (corner (points (now (list .entry))) from .x)))
+        (2 * k + 1) (negℤ (corner (points (now (list .entry))) from .y)) ⌝ }
+{
+    corners::put(
+        out,
+        k,
+        -corners::x_at(list, from),
+        -corners::y_at(list, from),
+    );
+}
