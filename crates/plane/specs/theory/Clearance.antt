@@ -1,5 +1,5 @@
 -- Clearance: the least squared distance between corners of lists that are apart.
---     greatest-attained, greatest-above, least-attained, least-below     of f 0, .., f (n-1)
+--     least-attained, least-below        of f 0, .., f (n-1)
 --     Nearest A B, clearance-nearest     apart: some two corners are at the clearance
 --     clearance-least                    apart: no two corners are nearer
 --     clearance-zero, zero-clearance     the clearance is 0 exactly if the lists are not apart
@@ -14,7 +14,6 @@ use native.Mathlib.Omega.{arith}
 use lib.IntN.{ℤ, pos, negℤ, negℤ-negℤ}
 use lib.ListN.{length}
 use lib.Signed.{_≤ℤ_, _<ℤ_, ≤ℤ-refl}
-use Rattle.integer.specs.Ring.{ring, reify}
 use Rattle.integer.specs.Linear.{linear, lia, _&_}
 use Rattle.integer.specs.Order.{le-trans, le-antisym}
 use Rattle.plane.specs.Point.{Point, corner, _⊖_}
@@ -22,33 +21,11 @@ use Rattle.plane.specs.Direction.{value, max}
 use Rattle.plane.specs.Measure.{greatest, least, squared}
 use Rattle.plane.specs.Separation.{apart, clearance}
 use Rattle.plane.specs.theory.Members.{_∈_, position-member, member-position}
-use Rattle.plane.specs.theory.Vector.{⊖-zero}
-use Rattle.plane.specs.theory.Max.{left-le-max, right-le-max, max-either}
+use Rattle.plane.specs.theory.Greatest.{greatest-above, greatest-attained}
+use Rattle.plane.specs.theory.Longest.{squared-sym, squared-positive}
 use Rattle.plane.specs.theory.Apart.{apart-sym, apart→different}
-use Rattle.plane.specs.theory.Sector.{square-positive}
 
--- ---- the greatest and the least of some numbers
-
-pub greatest-attained : (f : ℕ → ℤ) (n : ℕ) → 0 < n → (i : ℕ) × (i < n) × (greatest f n ≡ f i)
-greatest-attained f zero h = absurd (omega arith)
-greatest-attained f (suc zero) h = (0, omega arith, refl)
-greatest-attained f (suc (suc n)) h = go (greatest-attained (λ i. f (suc i)) (suc n) (omega arith)) (max-either (f 0) later)
-  where
-    later : ℤ
-    later = greatest (λ i. f (suc i)) (suc n)
-
-    go : (i : ℕ) × (i < suc n) × (later ≡ f (suc i)) → (max (f 0) later ≡ f 0) ⊎ (max (f 0) later ≡ later)
-        → (i : ℕ) × (i < suc (suc n)) × (max (f 0) later ≡ f i)
-    go r (inl e) = (0, omega arith, e)
-    go r (inr e) = (suc (r .0), omega (arith, r .1), e ∙ r .2)
-
-pub greatest-above : (f : ℕ → ℤ) (n i : ℕ) → i < n → f i ≤ℤ greatest f n
-greatest-above f zero i h = absurd (omega arith)
-greatest-above f (suc zero) zero h = ≤ℤ-refl (f 0)
-greatest-above f (suc zero) (suc i) h = absurd (omega arith)
-greatest-above f (suc (suc n)) zero h = left-le-max (f 0) (greatest (λ i. f (suc i)) (suc n))
-greatest-above f (suc (suc n)) (suc i) h =
-    le-trans (greatest-above (λ i. f (suc i)) (suc n) i (omega arith)) (right-le-max (f 0) (greatest (λ i. f (suc i)) (suc n)))
+-- ---- the least of some numbers
 
 pub least-attained : (f : ℕ → ℤ) (n : ℕ) → 0 < n → (i : ℕ) × (i < n) × (least f n ≡ f i)
 least-attained f n h = let r = greatest-attained (λ i. negℤ (f i)) n h in (r .0, r .1, ap negℤ (r .2) ∙ negℤ-negℤ (f (r .0)))
@@ -56,16 +33,6 @@ least-attained f n h = let r = greatest-attained (λ i. negℤ (f i)) n h in (r 
 pub least-below : (f : ℕ → ℤ) (n i : ℕ) → i < n → least f n ≤ℤ f i
 least-below f n i h = lia (f i ∷ greatest (λ i. negℤ (f i)) n ∷ []) (greatest-above (λ i. negℤ (f i)) n i h)
     (search linear depth 40) (omega arith)
-
--- ---- squared distances
-
-squared-positive : (p q : Point) → (p ≡ q → ⊥) → pos 0 <ℤ squared p q
-unfolding squared value
-squared-positive p q n = square-positive (p ⊖ q) (record { non-zero = λ e. n (sym (⊖-zero q p e)) })
-
-squared-sym : (p q : Point) → squared p q ≡ squared q p
-unfolding squared
-squared-sym p q = ring (p .x ∷ p .y ∷ q .x ∷ q .y ∷ []) (search reify depth 40) tt
 
 -- ---- clearance
 

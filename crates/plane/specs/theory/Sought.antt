@@ -1,6 +1,7 @@
 -- What a search says, and the invariant of a loop that makes it.
 --     first-le, first-true, first-least      `first p n` is at most n; below n the test passes there; before it nowhere
 --     first-unique                           these three say which number it is
+--     first-at-most                          it is at most any number at which the test passes
 --     Sought p n i                           the search has come to i and found nothing
 --     sought-start, -more, -found, -none     the moves of the loop  while i < n { if p(i) { found } i += 1 }
 --     sought-yes, sought-no                  its ends, where only whether there is such a number is asked
@@ -12,7 +13,7 @@ use Prim.Native.Nat.{ℕ, zero, suc, _+_, _≤_, _<_, zero-le}
 use native.Mathlib.Omega.{arith}
 use native.Mathlib.Nat.{le-of-suc-le-suc, le-refl}
 use borrow.Author.Count.{below-more}
-use borrow.Author.Tests.{lt-ltb, le-ltb, ltb-false}
+use borrow.Author.Tests.{lt-ltb, le-ltb, ltb-true, ltb-false}
 use lib.Dec.{ltb}
 use Rattle.plane.specs.Search.{first}
 
@@ -53,6 +54,13 @@ first-unique p (suc n) zero h t f =
 first-unique p (suc n) (suc i) h t f =
     first-suc p n (λ j. j ≡ suc i) (λ e. true-not-false e (f 0 (omega arith)))
     (λ e. ap suc (first-unique (λ j. p (suc j)) n i (le-of-suc-le-suc h) (λ q. t (omega arith)) (λ k q. f (suc k) (omega arith))))
+
+pub first-at-most : (p : ℕ → Bool) (n i : ℕ) → p i ≡ true → first p n ≤ i
+first-at-most p n i h = go (ltb i (first p n)) refl
+  where
+    go : (b : Bool) → ltb i (first p n) ≡ b → first p n ≤ i
+    go true e = true-not-false h (first-least p n i (ltb-true i (first p n) e))
+    go false e = ltb-false i (first p n) e
 
 -- ---- a loop that searches
 
