@@ -1,5 +1,7 @@
 // Answers for standard output. They are gathered in a buffer that the caller lends, of which the
 // first `filled` bytes wait to be written. Each function answers how many wait after it.
+ghost use mathlib.Core.Path.{_≡_};
+ghost use lib.IntN.{natAbs};
 use libc::STDOUT_FILENO;
 
 // Why a line is no question.
@@ -10,6 +12,8 @@ pub enum Reason {
     TooManyFields,
     NotANumber,
     TooManyNumbers,
+    WrongCount,
+    NotACount,
 }
 
 // Adds a line that says why a line is no question.
@@ -22,6 +26,8 @@ pub fn unreadable(out: &mut [u8], filled: usize, reason: Reason) -> usize {
         Reason::TooManyFields => word(out, now, b"too many fields\n"),
         Reason::NotANumber => word(out, now, b"not a number of 32 bits\n"),
         Reason::TooManyNumbers => word(out, now, b"too many numbers\n"),
+        Reason::WrongCount => word(out, now, b"wrong count of numbers\n"),
+        Reason::NotACount => word(out, now, b"room is no count\n"),
     }
 }
 
@@ -41,6 +47,46 @@ pub fn unsigned(out: &mut [u8], filled: usize, number: u64) -> usize {
     let mut digits = [0u8; 20];
     let count = io::decimal(number, &mut digits);
     word(out, filled, &digits[..count])
+}
+
+// Adds a signed number in decimal digits.
+pub fn signed(out: &mut [u8], filled: usize, number: i64) -> usize {
+    if number < 0 {
+        let now = word(out, filled, b"-");
+        unsigned(out, now, size(number))
+    } else {
+        unsigned(out, filled, size(number))
+    }
+}
+
+// Adds numbers, with a space before each.
+pub fn numbers(out: &mut [u8], filled: usize, list: &[i32]) -> usize {
+    let mut now = filled;
+    let mut i = 0;
+    while i < list.len() {
+        now = word(out, now, b" ");
+        now = signed(out, now, wide(list[i]));
+        i += 1;
+    }
+    now
+}
+
+// The number without its sign.
+pub fn size(number: i64) -> u64
+    ensures { λ r. ⌜ r ≡ natAbs number ⌝ }
+{
+    if number < 0 {
+        (-1 - number) as u64 + 1
+    } else {
+        number as u64
+    }
+}
+
+// The same number, of 64 bits.
+pub fn wide(number: i32) -> i64
+    ensures { λ r. ⌜ r ≡ number ⌝ }
+{
+    number as i64
 }
 
 // Writes all that waits.

@@ -6,6 +6,8 @@ ghost use Rattle.query.specs.Numeral.{signedOf};
 use crate::answers::Reason;
 use crate::lines::is_space;
 use crate::words::BAR;
+use crate::words::Form;
+use crate::words::Tail;
 
 // The size of the least number of 32 bits; the greatest has one less.
 const LEAST: u64 = 2147483648;
@@ -66,6 +68,70 @@ pub fn field<'a>(values: &'a [i32], marks: &[usize], k: usize) -> &'a [i32] {
         }
     }
     &values[..0]
+}
+
+// Whether so many fields are what the question takes. A direction has to be there, and a room may.
+pub fn enough(form: Form, bars: usize) -> Fields {
+    let tail = form.tail;
+    let shapes = form.shapes;
+    if bars < shapes {
+        return Fields::No(Reason::MissingField);
+    }
+    match tail {
+        Tail::Nothing => at_most(bars, shapes, 0),
+        Tail::Direction => {
+            if bars == shapes {
+                Fields::No(Reason::MissingField)
+            } else {
+                at_most(bars, shapes, 1)
+            }
+        }
+        Tail::Room => at_most(bars, shapes, 1),
+    }
+}
+
+// Whether the field behind the shapes, where there is one, holds what the question asks for: a
+// direction two numbers, a room one that counts.
+pub fn fit(form: Form, bars: usize, field: &[i32]) -> Fields {
+    let tail = form.tail;
+    if bars == form.shapes {
+        return Fields::Read;
+    }
+    match tail {
+        Tail::Nothing => Fields::Read,
+        Tail::Direction => of_count(field, 2),
+        Tail::Room => room(field),
+    }
+}
+
+// Whether there are at most so many fields behind the shapes.
+fn at_most(bars: usize, shapes: usize, more: usize) -> Fields {
+    if shapes <= bars {
+        if bars - shapes <= more {
+            return Fields::Read;
+        }
+    }
+    Fields::No(Reason::TooManyFields)
+}
+
+// Whether a field holds so many numbers.
+fn of_count(field: &[i32], count: usize) -> Fields {
+    if field.len() == count {
+        Fields::Read
+    } else {
+        Fields::No(Reason::WrongCount)
+    }
+}
+
+// Whether a field holds one number, which counts numbers.
+fn room(field: &[i32]) -> Fields {
+    if field.len() != 1 {
+        return Fields::No(Reason::WrongCount);
+    }
+    if field[0] < 0 {
+        return Fields::No(Reason::NotACount);
+    }
+    Fields::Read
 }
 
 // Mark k, or 0 where there is none.

@@ -12,6 +12,7 @@ use answers::Reason;
 use fields::Fields;
 use lines::Reading;
 use words::Entry;
+use words::Form;
 use words::Question;
 
 // How many numbers the fields of a line can hold together.
@@ -77,19 +78,10 @@ fn answer(out: &mut [u8], filled: usize, line: &[u8], values: &mut [i32]) -> usi
     }
     match words::look_up(word) {
         Entry::Unknown => answers::unreadable(out, filled, Reason::UnknownWord),
-        Entry::Known {
-            question,
-            fewest,
-            most,
-        } => {
-            if bars < fewest {
-                answers::unreadable(out, filled, Reason::MissingField)
-            } else if most < bars {
-                answers::unreadable(out, filled, Reason::TooManyFields)
-            } else {
-                answer_known(out, filled, question, line, values)
-            }
-        }
+        Entry::Known(form) => match fields::enough(form, bars) {
+            Fields::Read => answer_known(out, filled, form, line, values),
+            Fields::No(reason) => answers::unreadable(out, filled, reason),
+        },
     }
 }
 
@@ -97,14 +89,34 @@ fn answer(out: &mut [u8], filled: usize, line: &[u8], values: &mut [i32]) -> usi
 fn answer_known(
     out: &mut [u8],
     filled: usize,
-    question: Question,
+    form: Form,
     line: &[u8],
     values: &mut [i32],
 ) -> usize {
     let mut marks = [0usize; MARKS];
     match fields::read(line, values, &mut marks) {
         Fields::Read => {
-            let now = ask(out, filled, question, values, &marks);
+            let bars = words::count_bars(line);
+            answer_fields(out, filled, form, bars, values, &marks)
+        }
+        Fields::No(reason) => answers::unreadable(out, filled, reason),
+    }
+}
+
+// Answers a question whose fields are read, of which there are as many as bars.
+fn answer_fields(
+    out: &mut [u8],
+    filled: usize,
+    form: Form,
+    bars: usize,
+    values: &[i32],
+    marks: &[usize],
+) -> usize {
+    let question = form.question;
+    let shapes = form.shapes;
+    match fields::fit(form, bars, fields::field(values, marks, shapes)) {
+        Fields::Read => {
+            let now = ask(out, filled, question, values, marks);
             answers::word(out, now, b"\n")
         }
         Fields::No(reason) => answers::unreadable(out, filled, reason),
@@ -119,7 +131,13 @@ fn ask(
     values: &[i32],
     marks: &[usize],
 ) -> usize {
+    let first = fields::field(values, marks, 0);
+    let second = fields::field(values, marks, 1);
+    let third = fields::field(values, marks, 2);
     match question {
-        Question::Judge => questions::judge(out, filled, fields::field(values, marks, 0)),
+        Question::Judge => questions::judge(out, filled, first),
+        Question::Furthest => questions::furthest(out, filled, first, second),
+        Question::Mirror => questions::mirror(out, filled, first, second),
+        Question::Sum => questions::sum(out, filled, first, second, third),
     }
 }

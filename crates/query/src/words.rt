@@ -7,22 +7,45 @@ pub const BAR: u8 = b'|';
 // What can be asked.
 pub enum Question {
     Judge,
+    Furthest,
+    Mirror,
+    Sum,
 }
 
-// What a word asks for, with the fewest and the most fields that it takes.
+// What stands behind the shapes of a question: nothing, a direction, or a room, which may be left
+// out with its bar.
+pub enum Tail {
+    Nothing,
+    Direction,
+    Room,
+}
+
+// What a question asks for, how many shapes it takes, and what stands behind them.
+pub struct Form {
+    pub question: Question,
+    pub shapes: usize,
+    pub tail: Tail,
+}
+
+// What a word stands for.
 pub enum Entry {
-    Known {
-        question: Question,
-        fewest: usize,
-        most: usize,
-    },
+    Known(Form),
     Unknown,
 }
 
 // The table of words.
 pub fn look_up(word: &[u8]) -> Entry {
     if check::same(word, b"judge") {
-        return known(Question::Judge, 1, 1);
+        return known(Question::Judge, 1, Tail::Nothing);
+    }
+    if check::same(word, b"furthest") {
+        return known(Question::Furthest, 1, Tail::Direction);
+    }
+    if check::same(word, b"mirror") {
+        return known(Question::Mirror, 1, Tail::Room);
+    }
+    if check::same(word, b"sum") {
+        return known(Question::Sum, 2, Tail::Room);
     }
     Entry::Unknown
 }
@@ -53,12 +76,12 @@ pub fn count_bars(line: &[u8]) -> usize {
 }
 
 // An entry of the table.
-fn known(question: Question, fewest: usize, most: usize) -> Entry {
-    Entry::Known {
+fn known(question: Question, shapes: usize, tail: Tail) -> Entry {
+    Entry::Known(Form {
         question,
-        fewest,
-        most,
-    }
+        shapes,
+        tail,
+    })
 }
 
 // The position of the first byte that is no space.
