@@ -3,19 +3,21 @@
 --     corners        the shape of a set is the standard list of its corners, and the only one
 --     forms          three ways to say that a list is a shape
 --     directions     how far sums, lists taken together and mirrored lists reach; a shape is known by how far it reaches
+--     mirror         refusals 6 and 7 cannot come of it
 -- Assumes nothing.
 use mathlib.Core.Path.{_≡_, refl}
+use mathlib.Core.Bool.{false}
 use mathlib.Core.List.{List, [], _∷_, _++_}
 use Prim.Native.Nat.{ℕ, _<_}
 use lib.ListN.{length}
 use lib.IntN.{ℤ, pos, _+ℤ_}
 use Rattle.integer.specs.Bound.{Within}
 use Rattle.plane.specs.Limits.{maxPart}
-use Rattle.plane.specs.Point.{Point, points, corner, opposite}
+use Rattle.plane.specs.Point.{Point, points, numbers, corner, opposite}
 use Rattle.plane.specs.Turn.{turn}
 use Rattle.plane.specs.Shape.{IsShape}
 use Rattle.plane.specs.Reply.{answered, refused, Row}
-use Rattle.plane.specs.Refusal.{shapeRows, InRange, Valid}
+use Rattle.plane.specs.Refusal.{tooMany, someOutside, shapeRows, InRange, Valid}
 use Rattle.plane.specs.Judge.{judged}
 use Rattle.plane.specs.Direction.{value, support, max}
 use Rattle.plane.specs.Corner.{Corner, shapeOf, sums, mirrored}
@@ -40,6 +42,8 @@ use Rattle.plane.specs.theory.ShapeOf.{
 use Rattle.plane.specs.theory.Bounds.{turn-size, value-size, support-size}
 use Rattle.plane.specs.theory.Cut.{cutSum, cut-formula}
 use Rattle.plane.specs.theory.EdgeSum.{vectorSum, vectorSum-shape}
+use Rattle.plane.specs.theory.Mirror.{mirror-count}
+use Rattle.plane.specs.theory.MirrorWritten.{mirror-few, mirror-inside}
 
 -- ---- judging
 
@@ -165,3 +169,18 @@ shapes-with-equal-reach A B s t same = shape-extensional A B s t same
 -- a shape that reaches as far as a set in every direction is the shape of the set
 pub shape-with-reach-of-set : (ps S : List Point) → IsShape ps → 0 < length S → ((d : Point) → support d ps ≡ support d S) → ps ≡ shapeOf S
 shape-with-reach-of-set ps S s some same = shape-known ps S s some same
+
+-- ---- mirror
+
+module _ (l : List ℤ) (v : Valid l) where
+  -- "Mirror: the shape of all (-x, -y)": it has as many corners
+  pub mirror-keeps-count : length (shapeOf (mirrored (points l))) ≡ length (points l)
+  mirror-keeps-count = mirror-count (points l) (v .shape)
+
+  -- so 6, "the answer has more than 512 corners", cannot come of it
+  pub mirror-is-never-too-many : tooMany (shapeOf (mirrored (points l))) ≡ false
+  mirror-is-never-too-many = mirror-few l v
+
+  -- nor 7, "a corner of the answer is out of range"
+  pub mirror-is-never-out-of-range : someOutside (numbers (shapeOf (mirrored (points l)))) ≡ false
+  mirror-is-never-out-of-range = mirror-inside l v

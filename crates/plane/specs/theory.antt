@@ -1,6 +1,6 @@
 -- The theory of the plane: proves, and defines nothing that a contract cites. In reading order: the forms of a shape; judging; points and
 -- vectors; that the forms agree; the support, by which corners are known; the shape of a set; sorted edges, the cut and the sum; inside,
--- apart, touching and clearance.
+-- apart, touching and clearance; length and width; a shape's corners in ascending order.
 pub mod Forms
 pub mod Members
 pub mod Precedes
@@ -40,8 +40,6 @@ pub mod Clearance
 pub mod Far
 pub mod Filled
 pub mod Write
-pub mod FilledCorners
-pub mod Written
 pub mod Furthest
 pub mod Turned
 pub mod Mirror
@@ -61,3 +59,6 @@ pub mod Visited
 pub mod MirrorWalk
 pub mod LengthScan
 pub mod WidthScan
+pub mod Least
+pub mod Run
+pub mod RunEnds

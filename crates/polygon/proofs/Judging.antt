@@ -2,6 +2,8 @@
 --     judged-shape      an accepted list is valid, and so many corners it has
 --     judged-no         a fault is a row of the table, whichever shape is blamed: a question that writes gives it, and writes nothing
 --     valid-passed      a valid list: its rows may be left out
+--     judged-refused    likewise of a question that writes nothing
+--     furthest-faulty, mirror-faulty      what a fault says of the questions on one list
 -- Assumes nothing.
 use mathlib.Core.Path.{_≡_, refl, sym, _∙_, ap, ap₂}
 use mathlib.Core.Bool.{Bool, true, false, cond}
@@ -15,7 +17,12 @@ use Rattle.plane.specs.Point.{Point, points}
 use Rattle.plane.specs.Reply.{Reply, answered, refused, Row, row, firstRow}
 use Rattle.plane.specs.Refusal.{shapeRows, Valid}
 use Rattle.plane.specs.Judge.{judged}
-use Rattle.plane.specs.theory.Rows.{First, Outcome, given, passed, outcome, firstRow-given, firstRow-none, firstRow-answered}
+use Rattle.plane.specs.Direction.{support, furthest}
+use Rattle.plane.specs.Corner.{shapeOf, mirrored}
+use Rattle.plane.specs.Output.{answerRows}
+use Rattle.plane.specs.Furthest.{badDirection, furthestReply}
+use Rattle.plane.specs.Combine.{mirrorWritten}
+use Rattle.plane.specs.theory.Rows.{First, Outcome, given, passed, outcome, firstRow-append, firstRow-given, firstRow-none, firstRow-answered}
 use Rattle.plane.specs.theory.Write.{Wrote, wrote-given, wrote-passed}
 use Rattle.plane.specs.theory.Accept.{accepted→valid, valid→accepted}
 use Rattle.polygon.specs.Answer.{faultReply, judgedReply}
@@ -83,3 +90,33 @@ judged-no l f h which ws shape old = go (outcome (shapeRows which l))
     go : Outcome (shapeRows which l) → Wrote (shapeRows which l ++ ws) shape old (faultReply which f) old
     go (given w e) = rw (given-so ∙ firstRow-given (answered values) e) (wrote-given ws e)
     go (passed n) = absurd (fault-refused which f values (given-so ∙ firstRow-none (shapeRows which l) (answered values) n))
+
+-- a question that writes nothing: whatever rows and answer come behind those of the list
+pub judged-refused : (l : List ℤ) (f : Fault) → judgedReply (No f) ≡ judged l → (which : ℕ) (ws : List Row) (r : Reply)
+    → faultReply which f ≡ firstRow (shapeRows which l ++ ws) r
+unfolding judged
+judged-refused l f h which ws r = go (outcome (shapeRows which l))
+  where
+    values : List ℤ
+    values = pos (length (points l)) ∷ []
+
+    given-so : faultReply which f ≡ firstRow (shapeRows which l) (answered values)
+    given-so = blame-fault which f ∙ ap (blame which) h ∙ sym (blamed which l .same values)
+
+    go : Outcome (shapeRows which l) → faultReply which f ≡ firstRow (shapeRows which l ++ ws) r
+    go (given w e) = given-so ∙ firstRow-given _ e ∙ sym (firstRow-append (shapeRows which l) ws r ∙ firstRow-given (firstRow ws r) e)
+    go (passed n) = absurd (fault-refused which f values (given-so ∙ firstRow-none (shapeRows which l) (answered values) n))
+
+-- ---- the questions on one list
+
+pub furthest-faulty : (l : List ℤ) (f : Fault) (d : Point) → judgedReply (No f) ≡ judged l → faultReply 1 f ≡ furthestReply l d
+unfolding furthestReply
+furthest-faulty l f d h =
+    judged-refused l f h 1 (row 11 (badDirection d) [] ∷ []) (answered (pos (furthest d (points l)) ∷ support d (points l) ∷ []))
+
+pub mirror-faulty : (l : List ℤ) (f : Fault) (out : List ℤ) → judgedReply (No f) ≡ judged l
+    → (faultReply 1 f ≡ mirrorWritten l out .reply) × (out ≡ mirrorWritten l out .output)
+unfolding mirrorWritten
+mirror-faulty l f out h =
+    let shape = shapeOf (mirrored (points l)) in
+    let wrote = judged-no l f h 1 (answerRows shape out) shape out in (wrote .reply-is, wrote .output-is)

@@ -1,4 +1,3 @@
 -- Lemmas that function proofs share.
 pub mod LeftRule
 pub mod Judging
-pub mod Faults

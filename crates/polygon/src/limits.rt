@@ -13,6 +13,9 @@ const MAX_COORDINATE: i32 = 1_000_000;
 
 const MAX_PART: i32 = 2_000_000;
 
+// So many numbers hold the corners of any two shapes.
+pub const PAIR_NUMBERS: usize = 4 * MAX_CORNERS;
+
 // Whether so many corners are more than a shape may have.
 pub fn exceeds_corners(n: usize) -> bool
     ensures { λ r. ⌜ r ≡ ltb maxCorners n ⌝ }

@@ -139,5 +139,6 @@ fn ask(
         Question::Furthest => questions::furthest(out, filled, first, second),
         Question::Mirror => questions::mirror(out, filled, first, second),
         Question::Sum => questions::sum(out, filled, first, second, third),
+        Question::Merge => questions::merge(out, filled, first, second, third),
     }
 }

@@ -55,6 +55,17 @@ pub fn sum(out: &mut [u8], filled: usize, a: &[i32], b: &[i32], room: &[i32]) ->
     }
 }
 
+// The shape of both together, in an output of as many numbers as the room says.
+pub fn merge(out: &mut [u8], filled: usize, a: &[i32], b: &[i32], room: &[i32]) -> usize {
+    let mut answer = [0i32; ROOM];
+    let lent: &mut [i32] = &mut answer;
+    let end = room_of(room, lent);
+    match hull::merge(a, b, &mut lent[0..end]) {
+        Answer::Corners(corners) => shape(out, filled, corners, lent),
+        Answer::No(refusal) => refuse_answer(out, filled, refusal),
+    }
+}
+
 // Adds a shape: how many corners it has, and their numbers.
 fn shape(out: &mut [u8], filled: usize, corners: usize, answer: &[i32]) -> usize {
     let now = labelled(out, filled, b"ok ", corners as u64);

@@ -10,6 +10,7 @@ pub enum Question {
     Furthest,
     Mirror,
     Sum,
+    Merge,
 }
 
 // What stands behind the shapes of a question: nothing, a direction, or a room, which may be left
@@ -46,6 +47,9 @@ pub fn look_up(word: &[u8]) -> Entry {
     }
     if check::same(word, b"sum") {
         return known(Question::Sum, 2, Tail::Room);
+    }
+    if check::same(word, b"merge") {
+        return known(Question::Merge, 2, Tail::Room);
     }
     Entry::Unknown
 }

@@ -25,9 +25,8 @@ use Rattle.plane.specs.Direction.{value, support, furthest}
 use Rattle.plane.specs.Reply.{Reply, answered, refused, Row, row, firstRow}
 use Rattle.plane.specs.Refusal.{shapeRows, Valid}
 use Rattle.plane.specs.Furthest.{badDirection, furthestReply}
-use Rattle.plane.specs.theory.Rows.{row-given, firstRow-none}
+use Rattle.plane.specs.theory.Rows.{row-given, firstRow-append, firstRow-none}
 use Rattle.plane.specs.theory.Accept.{valid→accepted}
-use Rattle.plane.specs.theory.Written.{passed-reply}
 use Rattle.plane.specs.theory.Members.{position-member, member-position}
 use Rattle.plane.specs.theory.Sought.{first-unique}
 use Rattle.plane.specs.theory.Support.{support-unique}
@@ -111,7 +110,7 @@ module _ (l : List ℤ) (v : Valid l) (d : Point) where
 
   reply-is : furthestReply l d ≡ firstRow rows answer
   unfolding furthestReply rows answer
-  reply-is = passed-reply (shapeRows 1 l) rows answer (valid→accepted l 1 v)
+  reply-is = firstRow-append (shapeRows 1 l) rows answer ∙ firstRow-none (shapeRows 1 l) (firstRow rows answer) (valid→accepted l 1 v)
 
   pub furthest-refused : badDirection d ≡ true → refused 11 [] ≡ furthestReply l d
   unfolding rows answer

@@ -1,7 +1,8 @@
 -- The mirror image of a shape: the opposite corners in the same order, begun at the opposite of the last one by y, then by x.
 --     Top ps i t                     of the first i corners none comes after corner t
 --     top-start, top-keep, top-rise  the moves of a walk that looks for it; `topmost`: there is one
---     mirroredFrom ps t              the opposites of all corners, begun at corner t; `mirroredFrom-at`: corner by corner
+--     mirroredFrom ps t              the opposites of all corners, begun at corner t; `mirroredFrom-at`: corner by corner;
+--                                    `mirroredFrom-length`, `mirroredFrom-numbers`: how many corners and numbers
 --     mirror-known                   begun at the top of a shape they are the shape of the mirrored set
 --     mirror-count                   that shape has as many corners
 -- Assumes nothing.
@@ -9,7 +10,7 @@ use mathlib.Core.Path.{_≡_, refl, sym, _∙_, ap, subst}
 use mathlib.Core.Bool.{Bool, true, false, true≢false}
 use mathlib.Core.Logic.{_⊎_, inl, inr}
 use mathlib.Core.List.{List, [], _∷_, _++_, Memᴰ·append-left, Memᴰ·append-right, List·Memᴰ·append-cases}
-use Prim.Native.Nat.{ℕ, zero, suc, _+_, _-_, _<_}
+use Prim.Native.Nat.{ℕ, zero, suc, _+_, _*_, _-_, _<_}
 use native.Mathlib.Numerals.{add-one}
 use native.Mathlib.Omega.{arith}
 use borrow.Author.Count.{below-more}
@@ -17,7 +18,7 @@ use lib.IntN.{negℤ-negℤ}
 use lib.ListN.{length, take, drop, length-append, length-drop, length-map, take-append-drop, List·getD-append, List·getD-map}
 use lib.Seq.{getD-append-add, getD-drop, getD-take, length-take-le}
 use Rattle.integer.specs.Ring.{ring, reify}
-use Rattle.plane.specs.Point.{Point, corner, origin, opposite}
+use Rattle.plane.specs.Point.{Point, numbers, corner, origin, opposite}
 use Rattle.plane.specs.Turn.{turn, Left}
 use Rattle.plane.specs.Shape.{next, precedes, IsShape}
 use Rattle.plane.specs.Direction.{support}
@@ -25,7 +26,9 @@ use Rattle.plane.specs.Corner.{shapeOf, mirrored}
 use Rattle.plane.specs.theory.Forms.{Precedes}
 use Rattle.plane.specs.theory.Members.{_∈_, point-path, mirrored-member, member-mirrored, mirrored-some}
 use Rattle.plane.specs.theory.Precedes.{precedes-irrefl, precedes-trans, precedes-opposite, not-precedes}
-use Rattle.plane.specs.theory.Turned.{turned, Turned, ahead, round, turned-cases, turned-below, turned-injective, turned-start, turned-next, next-below}
+use Rattle.plane.specs.theory.Flat.{numbers-length}
+use Rattle.plane.specs.theory.Turned.{turned, Turned, ahead, round, turned-cases, turned-below, turned-injective, turned-start, turned-next}
+use Rattle.plane.specs.theory.Next.{next-below}
 use Rattle.plane.specs.theory.Support.{support-same}
 use Rattle.plane.specs.theory.ShapeOf.{shape-known}
 
@@ -78,6 +81,9 @@ module _ (ps : List Point) (t : ℕ) (h : t < length ps) where
 
   pub mirroredFrom-length : length (mirroredFrom ps t) ≡ length ps
   mirroredFrom-length = length-map (rotated ps t) opposite ∙ rotated-length
+
+  pub mirroredFrom-numbers : length (numbers (mirroredFrom ps t)) ≡ 2 * length ps
+  mirroredFrom-numbers = numbers-length (mirroredFrom ps t) ∙ ap (λ n. 2 * n) mirroredFrom-length
 
   rotated-at : (k : ℕ) → k < length ps → corner (rotated ps t) k ≡ corner ps (turned (length ps) t k)
   rotated-at k b = go (turned-cases (length ps) t k)

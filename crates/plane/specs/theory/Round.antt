@@ -1,5 +1,6 @@
 -- Going round the corners: sorted edges and the local form (`Local`, in `Fan.antt`) say the same.
 --     local→sorted     the edges of a list in local form are sorted
+--     turn-bottom      no corner but the first is below two others, one on either side of it
 --     sorted→local     a list of two or more corners with sorted edges is in local form
 -- Assumes nothing.
 use mathlib.Core.Path.{_≡_, refl, sym, _∙_}
@@ -74,7 +75,7 @@ module _ {p a q r : Point} where
       lia (coordinates p a q r) t (search linear depth 40) (omega arith)
 
   -- a corner below both its neighbours would be a second least one
-  turn-bottom : Precedes p q → Precedes q a → Precedes q r → Left p a q → Left p q r → Left a q r → ⊥
+  pub turn-bottom : Precedes p q → Precedes q a → Precedes q r → Left p a q → Left p q r → Left a q r → ⊥
   unfolding turn cross
   turn-bottom u v w h k l =
       let t : pos 0 <ℤ cross (a ⊖ q) (r ⊖ q) = cross-trans (precedes→up v) (precedes→up u) (precedes→up w)

@@ -2,8 +2,7 @@
 --     turned n t k        the position k places after t; `Turned`, `turned-cases`: what it is, by cases
 --     turned-below, turned-injective, turned-start      it is a position, another one for each k below n, and t for k = 0
 --     turned-step, turned-next      one place further; the position after the last is t again
---     next-below          the next position is one
--- Assumes nothing.
+-- The position after one is in `Next.antt`. Assumes nothing.
 use mathlib.Core.Path.{_≡_, refl, _∙_, ap}
 use mathlib.Core.Bool.{Bool, true, false, cond}
 use Prim.Native.Nat.{ℕ, _+_, _-_, _≤_, _<_}
@@ -34,13 +33,6 @@ module _ (n : ℕ) where
 
   next-on : (e : ℕ) → (e + 1 ≡ n → ⊥) → next n e ≡ e + 1
   next-on e h = ap (λ b. cond b 0 (e + 1)) (ne-eqb (e + 1) n h)
-
-  pub next-below : (e : ℕ) → e < n → next n e < n
-  next-below e h = go (ℕ-discrete (e + 1) n)
-    where
-      go : Dec (e + 1 ≡ n) → next n e < n
-      go (yes q) = omega (arith, next-end e q)
-      go (no q) = omega (arith, next-on e q)
 
 module _ (n t : ℕ) (h : t < n) where
   pub turned-below : (k : ℕ) → k < n → turned n t k < n

@@ -1,4 +1,5 @@
 -- An ordered list is known by its points, and so by its support.
+--     pairs-same          two lists in an asymmetric order with the same points are equal
 --     ordered-same        two ordered lists with the same points are equal
 --     ordered-some        an ordered list has a point
 --     extensionality      two ordered lists with the same support in every direction are equal
@@ -37,7 +38,7 @@ module _ (R : Point → Point → Type 0) (asym : (p q : Point) → R p q → R 
       go (inl i) = let r = rw (i, ← e) at (all-member (λ q. R a q) h m) in absurd (asym a a r r)
       go (inr i) = i
 
-  pairs-same : (A B : List Point) → Pairs R A → Pairs R B → A ⊆ B → B ⊆ A → A ≡ B
+  pub pairs-same : (A B : List Point) → Pairs R A → Pairs R B → A ⊆ B → B ⊆ A → A ≡ B
   pairs-same [] [] h k f g = refl
   pairs-same [] (b ∷ B) h k f g = absurd (List·Memᴰ·not-nil (g b (List·Memᴰ·head refl)))
   pairs-same (a ∷ A) [] h k f g = absurd (List·Memᴰ·not-nil (f a (List·Memᴰ·head refl)))

@@ -17,7 +17,7 @@ use Rattle.plane.specs.Furthest.{badDirection}
 use Rattle.plane.specs.theory.Bounds.{support-size}
 use Rattle.plane.specs.theory.Furthest.{direction-near, furthest-refused, furthest-answered}
 use Rattle.polygon.specs.Answer.{judgedReply}
-use Rattle.polygon.proofs.Faults.{judged-shape, furthest-faulty}
+use Rattle.polygon.proofs.Judging.{judged-shape, furthest-faulty}
 use Rattle.polygon.proofs.furthest.Statement.{statement}
 use Rattle.polygon.proofs.furthest.Tie as tie
 

@@ -14,7 +14,7 @@ use Rattle.plane.specs.theory.Flat.{points-length}
 use Rattle.plane.specs.theory.Mirror.{Top}
 use Rattle.plane.specs.theory.MirrorWritten.{mirror-room, mirror-written}
 use Rattle.polygon.specs.Answer.{judgedReply}
-use Rattle.polygon.proofs.Faults.{judged-shape, mirror-faulty}
+use Rattle.polygon.proofs.Judging.{judged-shape, mirror-faulty}
 use Rattle.polygon.proofs.mirror.Statement.{statement}
 use Rattle.polygon.proofs.mirror.Tie as tie
 
