@@ -4,21 +4,20 @@
 --     progress-room                               before a corner is written, there is room for it
 -- Assumes nothing.
 use mathlib.Core.Path.{_≡_, refl, sym, _∙_, ap, subst}
-use mathlib.Core.Bool.{Bool, true, false}
+use mathlib.Core.Bool.{true, false}
 use mathlib.Core.List.{List}
-use Prim.Native.Nat.{ℕ, suc, _+_, _*_, _≤_, _<_, zero-le}
+use Prim.Native.Nat.{ℕ, _+_, _*_, _≤_, _<_, zero-le}
 use native.Mathlib.Numerals.{add-one}
 use native.Mathlib.Omega.{arith}
 use lib.IntN.{ℤ}
-use lib.ListN.{length, take, drop, set, length-take, length-drop}
+use lib.ListN.{length, drop, set, length-take, length-drop}
 use lib.Seq.{getD-take}
 use Rattle.plane.specs.Point.{Point, points, numbers, corner, origin}
 use Rattle.plane.specs.theory.Flat.{numbers-length}
 use Rattle.plane.specs.theory.Filled.{Filled, filled-start, filled-corner, filled-length, filled-done}
 use Rattle.calipers.specs.declared.walk.Walk.{Walk}
-use Rattle.calipers.specs.declared.helping.Helping.{Helping}
-use Rattle.calipers.specs.Walk.{here, advanced, stepped, todo, At}
-use Rattle.calipers.specs.Helping.{helping, Helped}
+use Rattle.calipers.specs.Walk.{here, advanced, stepped, At}
+use Rattle.calipers.specs.Helping.{coming, helping, Helped}
 use Rattle.calipers.specs.theory.Steps.{todo-here, todo-over, at-stepped, todo-stepped, here-stepped}
 
 pub record Progress (a b : List ℤ) (from : Walk) (k : ℕ) (old : List ℤ) (count : ℕ) (walk : Walk) (out : List ℤ) : Type 0 where
@@ -36,12 +35,12 @@ module _ {a b : List ℤ} {from : Walk} {k : ℕ} {old : List ℤ} where
     pub progress-at : At a b walk
     progress-at = subst (At a b) (sym (p .moved)) (at-stepped a b from (p .at) count)
 
-    count-le : count ≤ length (todo (points a) (points b) from)
-    count-le = omega (arith, p .within, length-take k (todo (points a) (points b) from))
+    count-le : count ≤ length (coming a b from)
+    count-le = omega (arith, p .within, length-take k (coming a b from))
 
     -- what is to come is what the corners written so far leave
-    left : todo (points a) (points b) walk ≡ drop count (todo (points a) (points b) from)
-    left = ap (todo (points a) (points b)) (p .moved) ∙ todo-stepped a b from (p .at) count count-le
+    left : coming a b walk ≡ drop count (coming a b from)
+    left = ap (coming a b) (p .moved) ∙ todo-stepped a b from (p .at) count count-le
 
     pub progress-length : length out ≡ length old
     progress-length = filled-length (p .front) (omega (arith, p .within, numbers-length (helping a b from k)))
@@ -52,17 +51,19 @@ module _ {a b : List ℤ} {from : Walk} {k : ℕ} {old : List ℤ} where
     progress-stop e = record { counted = e; moved = p .moved; filled = filled-done (p .front) (omega (arith, numbers-length (helping a b from k))) }
 
     pub progress-over : walk .over ≡ true → count ≡ length (helping a b from k)
-    progress-over o = omega (arith, p .within, length-take k (todo (points a) (points b) from), ap length (sym left ∙ todo-over (points a) (points b) walk o), length-drop count (todo (points a) (points b) from))
+    progress-over o =
+        let none = ap length (sym left ∙ todo-over (points a) (points b) walk o) in
+        omega (arith, p .within, length-take k (coming a b from), none, length-drop count (coming a b from))
 
     pub progress-all : k ≤ count → count ≡ length (helping a b from k)
-    progress-all h = omega (arith, p .within, length-take k (todo (points a) (points b) from))
+    progress-all h = omega (arith, p .within, length-take k (coming a b from))
 
     module _ (more : count < k) (on : walk .over ≡ false) where
-      some-left : count < length (todo (points a) (points b) from)
-      some-left = omega (arith, ap length (sym left ∙ todo-here a b walk progress-at on), length-drop count (todo (points a) (points b) from))
+      some-left : count < length (coming a b from)
+      some-left = omega (arith, ap length (sym left ∙ todo-here a b walk progress-at on), length-drop count (coming a b from))
 
       below : count < length (helping a b from k)
-      below = omega (arith, some-left, length-take k (todo (points a) (points b) from))
+      below = omega (arith, some-left, length-take k (coming a b from))
 
       pub progress-room : 2 * count + 1 < length out
       progress-room = omega (arith, progress-length, below, p .room, numbers-length (helping a b from k))
@@ -75,9 +76,10 @@ module _ {a b : List ℤ} {from : Walk} {k : ℕ} {old : List ℤ} where
         room = p .room;
         within = omega (arith, below);
         moved = hw ∙ ap (advanced (points a) (points b)) (p .moved) ∙ ap (λ (n : ℕ). stepped (points a) (points b) n from) (sym (add-one count));
-        front = subst (Filled old _ _) (sym ho) (filled-corner (helping a b from k) count (p .front) below (p .room) (hx ∙ ap (λ (q : Point). q .x) present)
-            (hy ∙ ap (λ (q : Point). q .y) present));
+        front = subst (Filled old _ _) (sym ho) (filled-corner (helping a b from k) count (p .front) below (p .room)
+            (hx ∙ ap (λ (q : Point). q .x) present) (hy ∙ ap (λ (q : Point). q .y) present));
       }
         where
           present : here (points a) (points b) walk ≡ corner (helping a b from k) count
-          present = ap (here (points a) (points b)) (p .moved) ∙ here-stepped a b from (p .at) count some-left ∙ sym (getD-take k (todo (points a) (points b) from) count origin more)
+          present = ap (here (points a) (points b)) (p .moved) ∙ here-stepped a b from (p .at) count some-left
+              ∙ sym (getD-take k (coming a b from) count origin more)

@@ -9,7 +9,7 @@
 use mathlib.Core.Path.{_≡_, refl, sym, _∙_, ap, subst}
 use mathlib.Core.Bool.{Bool, true, false, cond}
 use mathlib.Core.List.{List, [], _∷_, _++_}
-use Prim.Native.Nat.{ℕ, _+_, _*_, _/_, _≤_, _<_}
+use Prim.Native.Nat.{ℕ, _+_, _/_, _≤_, _<_}
 use native.Mathlib.Omega.{arith}
 use borrow.Author.Tests.{lt-ltb, le-ltb}
 use lib.IntN.{ℤ, pos}
@@ -20,7 +20,7 @@ use Rattle.plane.specs.Reply.{Reply, answered, refused}
 use Rattle.plane.specs.Refusal.{tooMany, someOutside, shapeRows, Valid}
 use Rattle.plane.specs.Judge.{judged}
 use Rattle.plane.specs.Corner.{shapeOf, sums}
-use Rattle.plane.specs.Output.{noRoom, answerRows, overwritten}
+use Rattle.plane.specs.Output.{noRoom, answerRows}
 use Rattle.plane.specs.Combine.{sumWritten}
 use Rattle.plane.specs.theory.EdgeSum.{vectorSum, vectorSum-shape}
 use Rattle.plane.specs.theory.Flat.{numbers-length}
@@ -35,8 +35,9 @@ use Rattle.polygon.specs.declared.answer.Refusal.the-variants.{Many, Far}
 use Rattle.polygon.proofs.Judging.{judged-no, valid-passed}
 use Rattle.calipers.specs.declared.walk.Walk.{Walk}
 use Rattle.calipers.specs.declared.helping.Helping.{Helping}
-use Rattle.calipers.specs.Walk.{begun, todo, At}
-use Rattle.calipers.specs.Helping.{helping, Helped, surveyed}
+use Rattle.calipers.specs.Walk.{begun, At}
+use Rattle.calipers.specs.Helping.{helping, Helped}
+use Rattle.calipers.specs.Survey.{surveyed}
 use Rattle.calipers.specs.theory.Steps.{todo-begin, at-begin}
 
 -- ---- what a survey says
@@ -51,7 +52,8 @@ surveyed-corners : (ps : List Point) (n : ℕ) → Corners n ≡ surveyed ps →
 unfolding surveyed
 surveyed-corners ps n h = go (tooMany ps) refl (someOutside (numbers ps)) refl h
   where
-    go : (b : Bool) → tooMany ps ≡ b → (c : Bool) → someOutside (numbers ps) ≡ c → Corners n ≡ cond b (No Many) (cond c (No Far) (Corners (length ps))) → Fine ps n
+    go : (b : Bool) → tooMany ps ≡ b → (c : Bool) → someOutside (numbers ps) ≡ c → Corners n ≡ cond b (No Many) (cond c (No Far) (Corners (length ps)))
+        → Fine ps n
     go true e c f k = absurd (let z : _≡_ {A = ℕ} 0 1 = cc in let y : ⊥ = omega arith in y)
     go false e true f k = absurd (let z : _≡_ {A = ℕ} 0 1 = cc in let y : ⊥ = omega arith in y)
     go false e false f k = record { few = e; near = f; number = cc }
@@ -91,7 +93,8 @@ module _ (a b old : List ℤ) where
       corners = vectorSum (points a) (points b)
 
       passed : {r : Reply} {out : List ℤ} → Wrote (answerRows corners old) corners old r out → Summed a b old r out
-      passed s = summed a b old corners (vectorSum-shape (points a) (points b) (v .shape) (w .shape)) (valid-passed a v 1 _ _ old (valid-passed b w 2 _ _ old s))
+      passed s = summed a b old corners (vectorSum-shape (points a) (points b) (v .shape) (w .shape))
+          (valid-passed a v 1 _ _ old (valid-passed b w 2 _ _ old s))
 
       pub summed-refused : (f : Refusal) → No f ≡ surveyed corners → Summed a b old (answerReply (No f)) old
       summed-refused f h = passed (surveyed-refused corners old f h)

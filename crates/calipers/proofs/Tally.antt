@@ -4,7 +4,7 @@
 --     tally-many, -far, -all              its three ends
 -- Assumes nothing.
 use mathlib.Core.Path.{_≡_, refl, sym, _∙_, ap, ap₂, subst}
-use mathlib.Core.Bool.{Bool, true, false, cond, _||_, or-assoc}
+use mathlib.Core.Bool.{Bool, true, false, _||_, or-assoc}
 use mathlib.Core.List.{List, []}
 use Prim.Native.Nat.{ℕ, suc, _+_, _≤_, _<_, zero-le}
 use native.Mathlib.Omega.{arith}
@@ -13,17 +13,21 @@ use lib.Dec.{ltb}
 use lib.IntN.{ℤ}
 use lib.ListN.{length}
 use Rattle.plane.specs.Limits.{maxCorners}
-use Rattle.plane.specs.Point.{Point, points, numbers}
-use Rattle.plane.specs.Refusal.{tooMany, someOutside}
+use Rattle.plane.specs.Point.{Point, points}
+use Rattle.plane.specs.Refusal.{tooMany}
 use Rattle.plane.specs.theory.Far.{far, anyFar, someOutside-far}
 use Rattle.plane.specs.theory.EdgeSum.{vectorSum}
-use Rattle.polygon.specs.declared.answer.Answer.{Answer}
 use Rattle.polygon.specs.declared.answer.Answer.the-variants.{Corners, No}
 use Rattle.polygon.specs.declared.answer.Refusal.the-variants.{Many, Far}
 use Rattle.calipers.specs.declared.walk.Walk.{Walk}
-use Rattle.calipers.specs.Walk.{here, begun, advanced, todo, At}
-use Rattle.calipers.specs.Helping.{surveyed}
+use Rattle.calipers.specs.Walk.{here, begun, advanced, At}
+use Rattle.calipers.specs.Survey.{surveyed}
+use Rattle.calipers.specs.Helping.{coming}
 use Rattle.calipers.specs.theory.Steps.{todo-begin, todo-here, todo-over, at-advanced}
+
+or-none : (b : Bool) → (b || false) ≡ b
+or-none true = refl
+or-none false = refl
 
 -- ---- what a survey says
 
@@ -43,11 +47,15 @@ module _ (ps : List Point) where
 
 -- ---- the loop
 
+-- all corners of the sum
+abbrev pub whole : List ℤ → List ℤ → List Point
+whole a b = vectorSum (points a) (points b)
+
 pub record Tally (a b : List ℤ) (walk : Walk) (count : ℕ) (some : Bool) : Type 0 where
   pub at : At a b walk
   pub few : count ≤ maxCorners
-  pub number : count + length (todo (points a) (points b) walk) ≡ length (vectorSum (points a) (points b))
-  pub farther : (some || anyFar (todo (points a) (points b) walk)) ≡ anyFar (vectorSum (points a) (points b))
+  pub number : count + length (coming a b walk) ≡ length (whole a b)
+  pub farther : (some || anyFar (coming a b walk)) ≡ anyFar (whole a b)
 
 module _ {a b : List ℤ} where
   pub tally-start : At a b begun → Tally a b begun 0 false
@@ -57,48 +65,45 @@ module _ {a b : List ℤ} where
 
   module _ {walk : Walk} {count : ℕ} {some : Bool} (t : Tally a b walk count some) where
     module _ (on : walk .over ≡ false) where
-      next-length : length (todo (points a) (points b) walk) ≡ suc (length (todo (points a) (points b) (advanced (points a) (points b) walk)))
+      next-length : length (coming a b walk) ≡ suc (length (coming a b (advanced (points a) (points b) walk)))
       next-length = ap length (todo-here a b walk (t .at) on)
 
-      pub tally-many : ltb maxCorners (count + 1) ≡ true → No Many ≡ surveyed (vectorSum (points a) (points b))
+      pub tally-many : ltb maxCorners (count + 1) ≡ true → No Many ≡ surveyed (whole a b)
       unfolding tooMany
-      tally-many h = surveyed-many (vectorSum (points a) (points b))
-          (lt-ltb maxCorners (length (vectorSum (points a) (points b))) (omega (arith, ltb-true maxCorners (count + 1) h, t .number, next-length)))
+      tally-many h =
+          let more = ltb-true maxCorners (count + 1) h in
+          surveyed-many (whole a b) (lt-ltb maxCorners (length (whole a b)) (omega (arith, more, t .number, next-length)))
 
-      pub tally-less : {next : Walk} → next ≡ advanced (points a) (points b) walk → length (todo (points a) (points b) next) < length (todo (points a) (points b) walk)
-      tally-less e = omega (arith, next-length, ap (λ (w : Walk). length (todo (points a) (points b) w)) e)
+      pub tally-less : {next : Walk} → next ≡ advanced (points a) (points b) walk → length (coming a b next) < length (coming a b walk)
+      tally-less e = omega (arith, next-length, ap (λ (w : Walk). length (coming a b w)) e)
 
-      pub tally-more : {next : Walk} {now : Bool} → ltb maxCorners (count + 1) ≡ false → next ≡ advanced (points a) (points b) walk → now ≡ (some || far (here (points a) (points b) walk))
-          → Tally a b next (count + 1) now
+      pub tally-more : {next : Walk} {now : Bool} → ltb maxCorners (count + 1) ≡ false → next ≡ advanced (points a) (points b) walk
+          → now ≡ (some || far (here (points a) (points b) walk)) → Tally a b next (count + 1) now
       tally-more {next} {now} h e f = record {
         at = subst (At a b) (sym e) (at-advanced a b walk (t .at));
         few = ltb-false maxCorners (count + 1) h;
-        number = omega (arith, t .number, next-length, ap (λ (w : Walk). length (todo (points a) (points b) w)) e);
+        number = omega (arith, t .number, next-length, ap (λ (w : Walk). length (coming a b w)) e);
         farther =
-            ap₂ (λ (x : Bool) (w : Walk). x || anyFar (todo (points a) (points b) w)) f e ∙ or-assoc some (far (here (points a) (points b) walk)) (anyFar (todo (points a) (points b) (advanced (points a) (points b) walk)))
+            ap₂ (λ (x : Bool) (w : Walk). x || anyFar (coming a b w)) f e ∙ or-assoc some (far (here (points a) (points b) walk)) _
             ∙ ap (λ (ps : List Point). some || anyFar ps) (sym (todo-here a b walk (t .at) on)) ∙ t .farther;
       }
 
     module _ (over : walk .over ≡ true) where
-      none : todo (points a) (points b) walk ≡ []
+      none : coming a b walk ≡ []
       none = todo-over (points a) (points b) walk over
 
-      count-is : count ≡ length (vectorSum (points a) (points b))
+      count-is : count ≡ length (whole a b)
       count-is = omega (arith, t .number, ap length none)
 
-      few-corners : tooMany (vectorSum (points a) (points b)) ≡ false
+      few-corners : tooMany (whole a b) ≡ false
       unfolding tooMany
-      few-corners = le-ltb maxCorners (length (vectorSum (points a) (points b))) (omega (arith, t .few, count-is))
+      few-corners = le-ltb maxCorners (length (whole a b)) (omega (arith, t .few, count-is))
 
-      or-none : (b : Bool) → (b || false) ≡ b
-      or-none true = refl
-      or-none false = refl
-
-      far-is : some ≡ anyFar (vectorSum (points a) (points b))
+      far-is : some ≡ anyFar (whole a b)
       far-is = sym (or-none some) ∙ ap (λ (ps : List Point). some || anyFar ps) (sym none) ∙ t .farther
 
-      pub tally-far : some ≡ true → No Far ≡ surveyed (vectorSum (points a) (points b))
-      tally-far h = surveyed-far (vectorSum (points a) (points b)) few-corners (sym far-is ∙ h)
+      pub tally-far : some ≡ true → No Far ≡ surveyed (whole a b)
+      tally-far h = surveyed-far (whole a b) few-corners (sym far-is ∙ h)
 
-      pub tally-all : some ≡ false → Corners count ≡ surveyed (vectorSum (points a) (points b))
-      tally-all h = ap (λ (n : ℕ). Corners n) count-is ∙ surveyed-all (vectorSum (points a) (points b)) few-corners (sym far-is ∙ h)
+      pub tally-all : some ≡ false → Corners count ≡ surveyed (whole a b)
+      tally-all h = ap (λ (n : ℕ). Corners n) count-is ∙ surveyed-all (whole a b) few-corners (sym far-is ∙ h)

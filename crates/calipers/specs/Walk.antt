@@ -1,34 +1,31 @@
 -- The caliper walk round two shapes (document 01, "Sum"; its language form names the walk by value).
 -- The edges of both are passed in the order of their directions; two that point the same way are passed in one step.
 --     edge A i          the edge that leaves corner i
---     round n i         position i on the way round n corners: after the last comes the first again
---     here A B w        the corner of the sum at which the walk stands
+--     here A B w        the corner of the sum at which the walk stands; after the last corner of a shape comes its first again
 --     begun             where it begins
---     advanced A B w    one step further: `takes` says for either shape whether its next edge is passed
---     todo A B w        the corners of the sum that are still to come, the present one first
+--     takes, passed     whether the next step passes edge i of A, and how many are passed after it; finished: all edges of both are
+--     advanced A B w    one step further; stepped A B n w: n steps
+--     ahead A B w       the places still to come, the present one first
+--     todo A B w        the corners of the sum that are still to come
 --     At a b w          the walk stands at edges of these two lists, whose coordinates are in range
--- What it means: `todo-begin`, `todo-here` and `todo-over` of the theory. Assumes nothing.
-use mathlib.Core.Bool.{Bool, true, false, not, cond, _&&_}
+-- What it means: `Meaning.antt`; `Steps` of the theory. Assumes nothing.
+use mathlib.Core.Bool.{Bool, false, cond}
 use mathlib.Core.List.{List, []}
-use Prim.Native.Nat.{ℕ, zero, suc, _+_, _≤_, _<_}
-use lib.Dec.{eqb, ltb}
+use Prim.Native.Nat.{ℕ, zero, suc, _≤_, _<_}
 use lib.IntN.{ℤ}
-use lib.ListN.{length, getD, drop}
-use Rattle.plane.specs.Point.{Point, points, corner, origin, _⊕_}
+use lib.ListN.{length, drop}
+use Rattle.plane.specs.Point.{Point, points, corner, _⊕_}
 use Rattle.plane.specs.Refusal.{InRange}
-use Rattle.plane.specs.theory.Forms.{before, edges}
+use Rattle.plane.specs.theory.Forms.{edges}
 use Rattle.plane.specs.theory.Path.{path}
 use Rattle.plane.specs.theory.EdgeSum.{joinEdges}
+use Rattle.plane.specs.theory.Positions.{cornerRound}
+use Rattle.plane.specs.theory.Standing.{takes as Standing·takes, passed as Standing·passed}
+use Rattle.plane.specs.theory.Places.{Place, placesFrom, finished as Places·finished}
 use Rattle.calipers.specs.declared.walk.Walk.{Walk}
 
 abbrev pub edge : List Point → ℕ → Point
-edge A i = getD (edges A) i origin
-
-abbrev pub round : ℕ → ℕ → ℕ
-round n i = cond (eqb i n) 0 i
-
-abbrev pub cornerRound : List Point → ℕ → Point
-cornerRound A i = corner A (round (length A) i)
+edge A i = corner (edges A) i
 
 unfoldable pub here : List Point → List Point → Walk → Point
 here A B w = cornerRound A (w .i) ⊕ cornerRound B (w .j)
@@ -36,16 +33,15 @@ here A B w = cornerRound A (w .i) ⊕ cornerRound B (w .j)
 abbrev pub begun : Walk
 begun = record { i = 0; j = 0; over = false }
 
--- edge i of A is passed next: there is one, and edge j of B is not before it
+-- there is an edge i of A, and edge j of B, if there is one, is not before it
 unfoldable pub takes : List Point → ℕ → List Point → ℕ → Bool
-takes A i B j = ltb i (length (edges A)) && not (ltb j (length (edges B)) && before (edge B j) (edge A i))
+takes A i B j = Standing·takes (edges A) i (edges B) j
 
--- how many edges of A are passed after the step
 unfoldable pub passed : List Point → ℕ → List Point → ℕ → ℕ
-passed A i B j = cond (takes A i B j) (i + 1) i
+passed A i B j = Standing·passed (edges A) i (edges B) j
 
 unfoldable pub finished : List Point → ℕ → List Point → ℕ → Bool
-finished A i B j = eqb i (length (edges A)) && eqb j (length (edges B))
+finished A i B j = Places·finished (edges A) i (edges B) j
 
 unfoldable pub advanced : List Point → List Point → Walk → Walk
 advanced A B w =
@@ -53,10 +49,12 @@ advanced A B w =
     let j = passed B (w .j) A (w .i) in
     record { i = i; j = j; over = finished A i B j }
 
--- n steps further
 abbrev pub stepped : List Point → List Point → ℕ → Walk → Walk
 stepped A B zero w = w
 stepped A B (suc n) w = advanced A B (stepped A B n w)
+
+unfoldable pub ahead : List Point → List Point → Walk → List Place
+ahead A B w = cond (w .over) [] (placesFrom (w .i) (w .j) (drop (w .i) (edges A)) (drop (w .j) (edges B)))
 
 unfoldable pub todo : List Point → List Point → Walk → List Point
 todo A B w = cond (w .over) [] (path (here A B w) (joinEdges (drop (w .i) (edges A)) (drop (w .j) (edges B))))

@@ -3,4 +3,4 @@ pub mod EdgeAt
 pub mod Pass
 pub mod Steps
 pub mod Directions
-pub mod Decompose
+pub mod Visits

@@ -6,7 +6,8 @@ ghost use Rattle.plane.specs.Point.{points};
 ghost use Rattle.plane.specs.Refusal.{InRange};
 ghost use Rattle.plane.specs.Turn.{cross as Turn·cross};
 ghost use Rattle.plane.specs.theory.Forms.{up, before, edges};
-ghost use Rattle.calipers.specs.Walk.{edge, round as Walk·round};
+ghost use Rattle.plane.specs.theory.Positions.{round as Positions·round};
+ghost use Rattle.calipers.specs.Walk.{edge};
 use polygon::corners;
 
 // The number of edges: a point has none, a segment two.
@@ -20,7 +21,7 @@ pub fn sides(list: &[i32]) -> usize
 // The position i on the way round: after the last corner comes the first again.
 pub fn round(list: &[i32], i: usize) -> usize
     requires { ⌜ (i ≤ length (points (now list))) × (0 < length (points (now list))) ⌝ }
-    ensures { λ r. ⌜ r ≡ Walk·round (length (points (now (list .entry)))) i ⌝ }
+    ensures { λ r. ⌜ r ≡ Positions·round (length (points (now (list .entry)))) i ⌝ }
     ensures { λ r. ⌜ r < length (points (now (list .entry))) ⌝ }
 {
     if i == corners::count(list) { 0 } else { i }

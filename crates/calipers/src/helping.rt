@@ -14,6 +14,7 @@ pub struct Helping {
 }
 
 // Writes k corners from the walk's place on, or what remains of them, at the front of the output; all behind them is kept.
+// Ruled out: coordinates swapped; the tail of the output touched; the origin for every corner.
 pub fn write(a: &[i32], b: &[i32], from: Walk, k: usize, out: &mut [i32]) -> Helping
     requires { ⌜ At (now a) (now b) from × (length (numbers (helping (now a) (now b) from k)) ≤ length (now out)) ⌝ }
     ensures { λ r. ⌜ Helped (now (a .entry)) (now (b .entry)) from k (now (out .entry)) r (now (out .exit)) ⌝ }

@@ -1,6 +1,6 @@
 // The vector sum of two shapes by the caliper walk: document 01, "Sum".
 pub mod edges;
-pub mod helping;
+mod helping;
 mod survey;
 pub mod walk;
 

@@ -5,13 +5,14 @@ ghost use Rattle.plane.specs.Point.{points};
 ghost use Rattle.plane.specs.theory.EdgeSum.{vectorSum};
 ghost use Rattle.plane.specs.theory.Far.{far};
 ghost use Rattle.calipers.specs.Walk.{At, here, begun};
-ghost use Rattle.calipers.specs.Helping.{surveyed};
+ghost use Rattle.calipers.specs.Survey.{surveyed};
 use crate::walk::Walk;
 use polygon::answer::Answer;
 use polygon::answer::Refusal;
 use polygon::limits;
 
 // The count of corners of the sum, or refusal 6 or 7. It stops at the first corner too many, so 6 comes before 7.
+// Ruled out: the range refused before the count; a made-up count.
 pub fn survey(a: &[i32], b: &[i32]) -> Answer
     requires { ⌜ At (now a) (now b) begun ⌝ }
     ensures { λ r. ⌜ r ≡ surveyed (vectorSum (points (now (a .entry))) (points (now (b .entry)))) ⌝ }
@@ -42,6 +43,7 @@ fn is_far(a: &[i32], b: &[i32], walk: Walk) -> bool
     either(limits::outside(walk.x(a, b)), limits::outside(walk.y(a, b)))
 }
 
+// Whether one of the two holds.
 fn either(x: bool, y: bool) -> bool
     ensures { λ r. ⌜ r ≡ (x || y) ⌝ }
 {

@@ -1,12 +1,9 @@
 -- `sum` meets its contract: both shapes are judged, the corners of the sum counted, and then written.
 -- Assumes nothing.
-use mathlib.Core.Path.{_≡_, sym, _∙_, ap}
-use mathlib.Core.List.{List}
-use native.Mathlib.Omega.{arith}
+use mathlib.Core.Path.{sym, _∙_, ap}
 use borrow.Author.Needs.{needs}
-use lib.IntN.{ℤ}
 use Rattle.plane.specs.Refusal.{Valid}
-use Rattle.polygon.specs.Answer.{judgedReply, answerReply}
+use Rattle.polygon.specs.Answer.{judgedReply}
 use Rattle.polygon.proofs.Judging.{judged-shape}
 use Rattle.calipers.specs.theory.Steps.{at-begin}
 use Rattle.calipers.proofs.Summed.{summed-first, summed-second, summed-refused, summed-room, written-place, summed-all}
@@ -20,6 +17,16 @@ first c = judged-shape _ _ (sym (ap judgedReply (c .enum-told .given .1)) ∙ c 
 
 second : (c : tie.After-enum-told2) → Valid (c .before .before .before .before .before .before .args .b .now)
 second c = judged-shape _ _ (sym (ap judgedReply (c .enum-told2 .given .1)) ∙ c .before .before .judge2 .ensures) .0
+
+-- the same once the corners are counted
+abbrev start-of : tie.After-survey → tie.Start
+start-of c = c .before .before .before .before .before .before .before
+
+first-of : (c : tie.After-survey) → Valid (start-of c .args .a .now)
+first-of c = first (c .before .before .before .before)
+
+second-of : (c : tie.After-survey) → Valid (start-of c .args .b .now)
+second-of c = second (c .before)
 
 -- ---- the needs
 
@@ -67,15 +74,16 @@ enum-told-3 c = search needs
 returns-3 : tie.Need-returns-3
 returns-3 c =
     let at-survey = c .before .before in
-    let start = at-survey .before .before .before .before .before .before .before in
-    rw (c .enum-told3 .given .1) (summed-refused (start .args .a .now) (start .args .b .now) (start .args .out .now) (first (at-survey .before .before .before .before)) (second (at-survey .before)) _
+    let start = start-of at-survey in
+    rw (c .enum-told3 .given .1)
+    (summed-refused (start .args .a .now) (start .args .b .now) (start .args .out .now) (first-of at-survey) (second-of at-survey) _
     (sym (c .enum-told3 .given .1) ∙ at-survey .survey .ensures))
 
 returns-4 : tie.Need-returns-4
 returns-4 c =
     let at-survey = c .before .before .before .before in
-    let start = at-survey .before .before .before .before .before .before .before in
-    summed-room (start .args .a .now) (start .args .b .now) (start .args .out .now) (first (at-survey .before .before .before .before)) (second (at-survey .before)) _
+    let start = start-of at-survey in
+    summed-room (start .args .a .now) (start .args .b .now) (start .args .out .now) (first-of at-survey) (second-of at-survey) _
     (sym (c .before .before .answer .given .1) ∙ at-survey .survey .ensures) (c .if1 .taken)
 
 begin-requires : tie.Need-begin-requires
@@ -85,8 +93,8 @@ write-requires : tie.Need-write-requires
 write-requires c κs =
     let at-answer = c .before .before .before .before in
     let at-survey = at-answer .before .before in
-    let start = at-survey .before .before .before .before .before .before .before in
-    written-place (start .args .a .now) (start .args .b .now) (start .args .out .now) (first (at-survey .before .before .before .before)) (second (at-survey .before)) _
+    let start = start-of at-survey in
+    written-place (start .args .a .now) (start .args .b .now) (start .args .out .now) (first-of at-survey) (second-of at-survey) _
     (sym (at-answer .answer .given .1) ∙ at-survey .survey .ensures) (c .before .before .if1 .left) _ (c .before .begin .ensures)
 
 same-length : tie.Need-same-length
@@ -97,8 +105,8 @@ returns-5 c =
     let at-begin = c .before .before .before in
     let at-answer = at-begin .before .before .before in
     let at-survey = at-answer .before .before in
-    let start = at-survey .before .before .before .before .before .before .before in
-    summed-all (start .args .a .now) (start .args .b .now) (start .args .out .now) (first (at-survey .before .before .before .before)) (second (at-survey .before)) _
+    let start = start-of at-survey in
+    summed-all (start .args .a .now) (start .args .b .now) (start .args .out .now) (first-of at-survey) (second-of at-survey) _
     (sym (at-answer .answer .given .1) ∙ at-survey .survey .ensures) (at-begin .before .if1 .left) _ (at-begin .begin .ensures) _ _ (c .before .write .ensures)
 
 pub sum-spec : {M : Type 1} → statement M

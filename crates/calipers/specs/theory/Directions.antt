@@ -4,18 +4,34 @@
 -- Assumes nothing.
 use mathlib.Core.Path.{_≡_, refl, sym, _∙_, ap}
 use mathlib.Core.List.{List, [], _∷_}
-use Prim.Native.Nat.{_+_, _<_}
+use Prim.Native.Nat.{_+_, _≤_, _<_}
 use native.Mathlib.Omega.{arith}
 use lib.ListN.{length}
 use Rattle.plane.specs.Point.{Point, _⊕_}
 use Rattle.plane.specs.Shape.{IsShape}
 use Rattle.plane.specs.Corner.{shapeOf, sums}
 use Rattle.plane.specs.theory.Forms.{edges, Sorted}
-use Rattle.plane.specs.theory.Path.{along-length}
+use Rattle.plane.specs.theory.Path.{along, path, along-length}
 use Rattle.plane.specs.theory.Standard.{shape→sorted}
-use Rattle.plane.specs.theory.EdgeSum.{joinEdges, vectorSum, vectorSum-shape}
+use Rattle.plane.specs.theory.EdgeSum.{joinEdges, joinEdges-comm, Joined, no-left, no-right, take-left, take-right, take-both, joined}
+use Rattle.plane.specs.theory.EdgeSum.{vectorSum, vectorSum-shape}
 use Rattle.plane.specs.theory.EdgeCount.{shared, joinEdges-count}
-use Rattle.calipers.specs.theory.Steps.{rest-some, path-some}
+
+-- joined, there are at least as many edges as in either list
+left-le : {E F G : List Point} → Joined E F G → length E ≤ length G
+left-le no-left = omega arith
+left-le no-right = omega arith
+left-le (take-left h r) = let ih = left-le r in omega arith
+left-le (take-right k r) = let ih = left-le r in omega arith
+left-le (take-both h k r) = let ih = left-le r in omega arith
+
+joined-some : (E F : List Point) → 0 < length E + length F → 0 < length (joinEdges E F)
+joined-some E F h = omega (arith, left-le (joined E F), left-le (joined F E), ap length (joinEdges-comm E F))
+
+-- a path along some edges has a corner for each
+path-some : (p : Point) (E : List Point) → 0 < length E → path p E ≡ along p E
+path-some p [] h = absurd (omega arith)
+path-some p (e ∷ E) h = refl
 
 joined-directions : (A B : List Point) → Sorted A → Sorted B → 0 < length (edges A) + length (edges B)
     → length (vectorSum A B) + shared (edges A) (edges B) ≡ length (edges A) + length (edges B)
@@ -24,7 +40,7 @@ joined-directions (a ∷ A) [] s t h = absurd t
 joined-directions (a ∷ A) (b ∷ B) s t h =
     let E = edges (a ∷ A) in
     let F = edges (b ∷ B) in
-    let corners = ap length (path-some (a ⊕ b) (joinEdges E F) (rest-some E F h)) ∙ along-length (a ⊕ b) (joinEdges E F) in
+    let corners = ap length (path-some (a ⊕ b) (joinEdges E F) (joined-some E F h)) ∙ along-length (a ⊕ b) (joinEdges E F) in
     omega (arith, corners, joinEdges-count E F s t)
 
 pub sum-directions : (A B : List Point) → IsShape A → IsShape B → 0 < length (edges A) + length (edges B)

@@ -5,15 +5,15 @@
 --     filled-done                all is written: the output is the one that contracts speak of
 --     filled-length              the output is as long as it was
 -- Assumes nothing.
-use mathlib.Core.Path.{_≡_, refl, sym, _∙_, ap, ap₂}
-use mathlib.Core.List.{List, [], _∷_, _++_}
+use mathlib.Core.Path.{_≡_, refl, sym, _∙_, ap}
+use mathlib.Core.List.{List, _∷_, _++_}
 use Prim.Native.Nat.{ℕ, suc, _+_, _*_, _≤_, _<_}
 use native.Mathlib.Numerals.{add-one}
 use native.Mathlib.Omega.{arith}
 use lib.IntN.{ℤ, pos}
-use lib.ListN.{length, take, drop, set, getD, length-append, length-take, length-drop, length-set}
+use lib.ListN.{length, take, drop, set, getD, length-append, length-drop}
 use lib.Seq.{length-take-le, take-length, take-suc, drop-cons, append-snoc, set-at}
-use Rattle.plane.specs.Point.{Point, points, numbers, corner}
+use Rattle.plane.specs.Point.{Point, numbers, corner}
 use Rattle.plane.specs.Output.{overwritten}
 use Rattle.plane.specs.theory.Flat.{points-numbers, numbers-length, points-x, points-y}
 

@@ -5,15 +5,16 @@ use native.Mathlib.Omega.{arith}
 use Rattle.plane.specs.Point.{points, corner}
 use Rattle.plane.specs.Shape.{precedes}
 use Rattle.plane.specs.theory.Flat.{points-length}
-use Rattle.calipers.specs.theory.EdgeAt.{edges-le, edge-up, edge-start}
+use Rattle.plane.specs.theory.Positions.{edges-at-most}
+use Rattle.calipers.specs.theory.EdgeAt.{edge-up, edge-start}
 use Rattle.calipers.proofs.edges.is_up.Statement.{statement}
 use Rattle.calipers.proofs.edges.is_up.Tie as tie
 
 add-round : tie.Need-add-round
-add-round c = let l = c .args .list .now in omega (arith, edges-le (points l), points-length l)
+add-round c = let l = c .args .list .now in omega (arith, edges-at-most (points l), points-length l)
 
 round-requires : tie.Need-round-requires
-round-requires c κs = let ps = points (c .args .list .now) in (omega (arith, edges-le ps), omega (arith, edges-le ps))
+round-requires c κs = let ps = points (c .args .list .now) in (omega (arith, edges-at-most ps), omega (arith, edges-at-most ps))
 
 precedes-at-requires : tie.Need-precedes-at-requires
 precedes-at-requires c κs = (edge-start (points (c .before .args .list .now)) _ (c .before .pre), c .round .ensures .1)

@@ -7,15 +7,16 @@ use mir.Syntax.{w32}
 use Rattle.integer.specs.Machine.{result-is}
 use Rattle.plane.specs.Point.{points, corner}
 use Rattle.plane.specs.theory.Flat.{points-length}
-use Rattle.calipers.specs.theory.EdgeAt.{edges-le, edge-x, edge-start}
+use Rattle.plane.specs.theory.Positions.{edges-at-most}
+use Rattle.calipers.specs.theory.EdgeAt.{edge-x, edge-start}
 use Rattle.calipers.proofs.edges.run.Statement.{statement}
 use Rattle.calipers.proofs.edges.run.Tie as tie
 
 add-round : tie.Need-add-round
-add-round c = let l = c .args .list .now in omega (arith, edges-le (points l), points-length l)
+add-round c = let l = c .args .list .now in omega (arith, edges-at-most (points l), points-length l)
 
 round-requires : tie.Need-round-requires
-round-requires c κs = let ps = points (c .args .list .now) in (omega (arith, edges-le ps), omega (arith, edges-le ps))
+round-requires c κs = let ps = points (c .args .list .now) in (omega (arith, edges-at-most ps), omega (arith, edges-at-most ps))
 
 dx-requires : tie.Need-dx-requires
 dx-requires c κs = (edge-start (points (c .before .args .list .now)) _ (c .before .pre .0), c .round .ensures .1, c .before .pre .1)

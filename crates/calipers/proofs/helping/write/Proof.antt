@@ -1,12 +1,10 @@
 -- `write` meets its contract. The invariant: so many corners stand at the front of the output, and the walk is as far; the measure is what is
 -- left of k.
 -- Assumes nothing.
-use mathlib.Core.Path.{_≡_, sym, _∙_}
 use Prim.Native.Nat.{_-_}
 use native.Mathlib.Omega.{arith}
 use mir.Syntax.{w32}
 use Rattle.integer.specs.Machine.{result-is}
-use Rattle.calipers.specs.Walk.{At}
 use Rattle.calipers.proofs.Progress.{
   Progress,
   progress-start,

@@ -1,5 +1,5 @@
 -- `is_far` meets its contract. Assumes nothing.
-use mathlib.Core.Path.{_≡_, _∙_, ap, ap₂}
+use mathlib.Core.Path.{_∙_, ap, ap₂}
 use mathlib.Core.Bool.{_||_}
 use mir.Syntax.{w32}
 use Rattle.integer.specs.Machine.{result-is}

@@ -6,10 +6,9 @@ use mathlib.Core.Bool.{false, _||_}
 use native.Mathlib.Omega.{arith}
 use borrow.Author.Tests.{not-true, not-false}
 use lib.ListN.{length}
-use Rattle.plane.specs.Point.{points}
 use Rattle.plane.specs.Limits.{corners-small}
 use Rattle.calipers.specs.declared.walk.Walk.{Walk}
-use Rattle.calipers.specs.Walk.{todo}
+use Rattle.calipers.specs.Helping.{coming}
 use Rattle.calipers.proofs.Tally.{Tally, tally-start, tally-more, tally-less, tally-many, tally-far, tally-all}
 use Rattle.calipers.proofs.survey.survey.Statement.{statement}
 use Rattle.calipers.proofs.survey.survey.Tie as tie
@@ -18,13 +17,15 @@ abbrev Inv-loop : tie.InvT-loop
 Inv-loop a b walk₀ count₀ some-far₀ walk count some-far = Tally a b walk count some-far
 
 abbrev μ-loop : tie.MeasureT-loop
-μ-loop a b walk₀ count₀ some-far₀ walk count some-far = length (todo (points a) (points b) walk)
+μ-loop a b walk₀ count₀ some-far₀ walk count some-far = length (coming a b walk)
 
 begin-requires : tie.Need-begin-requires Inv-loop μ-loop
 begin-requires c κs = tt
 
 loop-holds : tie.Need-loop-holds Inv-loop μ-loop
-loop-holds c = let start = c .before in subst (λ (w : Walk). Tally (start .args .a .now) (start .args .b .now) w 0 false) (sym (c .begin .ensures)) (tally-start (c .before .pre))
+loop-holds c =
+    let start = c .before in
+    subst (λ (w : Walk). Tally (start .args .a .now) (start .args .b .now) w 0 false) (sym (c .begin .ensures)) (tally-start (c .before .pre))
 
 -- the loop's test, at its start
 on : (c : tie.Then1 Inv-loop μ-loop) → c .before .before .loop .walk .over ≡ false
@@ -54,13 +55,16 @@ add-count : tie.Need-add-count Inv-loop μ-loop
 add-count c = omega (arith, c .before .before .before .before .before .before .before .loop .inv .few, corners-small)
 
 loop-less : tie.Need-loop-less Inv-loop μ-loop
-loop-less c = let at-then = c .before .before .before .before .before in tally-less (at-then .before .before .loop .inv) (on at-then) (c .advance .ensures)
+loop-less c =
+    let at-then = c .before .before .before .before .before in
+    tally-less (at-then .before .before .loop .inv) (on at-then) (c .advance .ensures)
 
 loop-again : tie.Need-loop-again Inv-loop μ-loop
 loop-again c =
     let at-else = c .before .before .before in
     let at-then = at-else .before .before in
-    tally-more (at-then .before .before .loop .inv) (on at-then) (sym (at-else .before .exceeds-corners .ensures) ∙ at-else .if2 .left) (c .advance .ensures)
+    tally-more (at-then .before .before .loop .inv) (on at-then) (sym (at-else .before .exceeds-corners .ensures) ∙ at-else .if2 .left)
+    (c .advance .ensures)
     (c .before .either .ensures ∙ ap (λ t. at-then .before .before .loop .some-far || t) (c .before .before .is-far .ensures))
 
 returns-2 : tie.Need-returns-2 Inv-loop μ-loop

@@ -1,9 +1,6 @@
 -- `finished` meets its contract. Assumes nothing.
-use mathlib.Core.Path.{_≡_, sym, _∙_, ap, ap₂}
-use mathlib.Core.Bool.{Bool, _&&_}
-use Prim.Native.Nat.{ℕ}
+use mathlib.Core.Path.{sym, _∙_}
 use borrow.Author.Tests.{eq-eqb, ne-eqb}
-use lib.Dec.{eqb}
 use Rattle.calipers.specs.Walk.{finished}
 use Rattle.calipers.proofs.walk.finished.Statement.{statement}
 use Rattle.calipers.proofs.walk.finished.Tie as tie

@@ -2,6 +2,7 @@
 use mathlib.Core.Path.{sym, _∙_, ap}
 use mathlib.Core.Bool.{not}
 use native.Mathlib.Omega.{arith}
+use Rattle.plane.specs.theory.Forms.{before}
 use Rattle.calipers.specs.theory.Pass.{takes-none, takes-alone, takes-asked}
 use Rattle.calipers.proofs.walk.takes.Statement.{statement}
 use Rattle.calipers.proofs.walk.takes.Tie as tie

@@ -1,5 +1,4 @@
 -- `advance` meets its contract: either shape's edges by the same function. Assumes nothing.
-use mathlib.Core.Path.{_≡_, sym, _∙_, ap, ap₂}
 use Rattle.calipers.specs.Walk.{advanced}
 use Rattle.calipers.proofs.walk.Walk.advance.Statement.{statement}
 use Rattle.calipers.proofs.walk.Walk.advance.Tie as tie

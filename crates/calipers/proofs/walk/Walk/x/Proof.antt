@@ -1,43 +1,46 @@
 -- `x` meets its contract: coordinates in range add up to what 32 bits hold. Assumes nothing.
-use mathlib.Core.Path.{_≡_, sym, _∙_, ap}
+use mathlib.Core.Path.{_∙_, ap}
 use Prim.Native.Nat.{ℕ}
 use native.Mathlib.Omega.{arith}
 use lib.ListN.{length}
 use Rattle.integer.specs.Machine.{Machine, machine, known, machine-fits, machine-is}
 use Rattle.plane.specs.Point.{points, corner}
 use Rattle.plane.specs.theory.Flat.{x-small}
+use Rattle.plane.specs.theory.Positions.{edges-at-most, round-within}
 use Rattle.calipers.specs.Walk.{here}
-use Rattle.calipers.specs.theory.EdgeAt.{edges-le, round-in}
 use Rattle.calipers.proofs.walk.Walk.x.Statement.{statement}
 use Rattle.calipers.proofs.walk.Walk.x.Tie as tie
 
 round-requires : tie.Need-round-requires
-round-requires c κs = (omega (arith, edges-le (points (c .args .a .now)), c .pre .i-in), c .pre .first-some)
+round-requires c κs = (omega (arith, edges-at-most (points (c .args .a .now)), c .pre .i-in), c .pre .first-some)
 
 x-at-requires : tie.Need-x-at-requires
 x-at-requires c κs = c .round .ensures .1
 
 round-requires-2 : tie.Need-round-requires-2
-round-requires-2 c κs = let start = c .before .before in (omega (arith, edges-le (points (start .args .b .now)), start .pre .j-in), start .pre .second-some)
+round-requires-2 c κs =
+    let start = c .before .before in
+    (omega (arith, edges-at-most (points (start .args .b .now)), start .pre .j-in), start .pre .second-some)
 
 x-at-requires-2 : tie.Need-x-at-requires-2
 x-at-requires-2 c κs = c .round2 .ensures .1
 
--- ---- the two coordinates, each where it is known
-
+-- the two coordinates, each where it is known
 abbrev first : (c : tie.After-x-at) → Machine (c .x-at .result)
 first c =
     let start = c .before .before in
     let ps = points (start .args .a .now) in
     known (c .x-at .ensures ∙ ap (λ (k : ℕ). corner ps k .x) (c .before .round .ensures .0))
-    (x-small _ (start .pre .first-near) _ (round-in (length ps) (start .args .self .i) (omega (arith, edges-le ps, start .pre .i-in)) (start .pre .first-some)))
+    (x-small _ (start .pre .first-near) _
+    (round-within (length ps) (start .args .self .i) (start .pre .first-some) (omega (arith, edges-at-most ps, start .pre .i-in))))
 
 abbrev second : (c : tie.After-x-at2) → Machine (c .x-at2 .result)
 second c =
     let start = c .before .before .before .before in
     let ps = points (start .args .b .now) in
     known (c .x-at2 .ensures ∙ ap (λ (k : ℕ). corner ps k .x) (c .before .round2 .ensures .0))
-    (x-small _ (start .pre .second-near) _ (round-in (length ps) (start .args .self .j) (omega (arith, edges-le ps, start .pre .j-in)) (start .pre .second-some)))
+    (x-small _ (start .pre .second-near) _
+    (round-within (length ps) (start .args .self .j) (start .pre .second-some) (omega (arith, edges-at-most ps, start .pre .j-in))))
 
 add-result : tie.Need-add-result
 add-result c = let p = first (c .before .before) in let q = second c in machine-fits (search machine depth 40) tt

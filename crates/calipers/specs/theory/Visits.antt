@@ -1,0 +1,33 @@
+-- What the walk visits: the shape of all corner-plus-corner points.
+--     sum-visited           the corners visited are those of the shape, in its order
+--     visited-corner        wherever the walk stands, there is a corner of the set
+-- That every corner of the set stands at a place of the walk, the place of its two parts, is in `Visited` of the plane. Assumes nothing.
+use mathlib.Core.Path.{_≡_, _∙_, subst}
+use mathlib.Core.List.{List}
+use Prim.Native.Nat.{ℕ, _<_}
+use lib.IntN.{ℤ}
+use lib.ListN.{length}
+use Rattle.plane.specs.Point.{Point, points}
+use Rattle.plane.specs.Refusal.{Valid}
+use Rattle.plane.specs.Corner.{Corner, shapeOf, sums}
+use Rattle.plane.specs.theory.Members.{_∈_, sums-some, position-member}
+use Rattle.plane.specs.theory.ShapeOf.{shapeOf-corner}
+use Rattle.plane.specs.theory.EdgeSum.{vectorSum-shape}
+use Rattle.calipers.specs.Walk.{here, begun, stepped, todo}
+use Rattle.calipers.specs.theory.Steps.{todo-begin, at-begin, here-stepped}
+
+module _ (a b : List ℤ) (v : Valid a) (w : Valid b) where
+  abbrev A : List Point
+  A = points a
+
+  abbrev B : List Point
+  B = points b
+
+  pub sum-visited : todo A B begun ≡ shapeOf (sums A B)
+  sum-visited = todo-begin A B (v .shape .some) (w .shape .some) ∙ vectorSum-shape A B (v .shape) (w .shape)
+
+  pub visited-corner : (n : ℕ) → n < length (todo A B begun) → Corner (sums A B) (here A B (stepped A B n begun))
+  visited-corner n h =
+      let there = here-stepped a b begun (at-begin a b v w) n h in
+      shapeOf-corner (sums A B) (sums-some A B (v .shape .some) (w .shape .some))
+      (subst (λ (ps : List Point). here A B (stepped A B n begun) ∈ ps) sum-visited (rw there (position-member (todo A B begun) n h)))
