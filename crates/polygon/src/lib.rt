@@ -4,7 +4,7 @@ pub mod answer;
 pub mod corners;
 mod direction;
 pub mod limits;
-mod opposite;
+pub mod opposite;
 mod rules;
 
 ghost use mathlib.Core.Path.{_≡_};

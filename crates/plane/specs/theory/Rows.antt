@@ -1,6 +1,6 @@
 -- The table of refusals: what its first row that applies says.
 --     row-given, row-passed       one step along the table, as code takes it
---     firstRow-append             one table after the other
+--     firstRow-append, firstRow-passed     one table after the other
 --     NoneApply, First, outcome, firstRow-given, firstRow-none, firstRow-refused, firstRow-answered
 --                                 a refusal is given exactly when its row applies and none before it does
 -- Assumes nothing.
@@ -41,6 +41,10 @@ firstRow-given r (later {v = v} {ws = ws} e f) = sym (row-passed v ws r e (sym (
 pub firstRow-none : (ws : List Row) (r : Reply) → NoneApply ws → firstRow ws r ≡ r
 firstRow-none [] r n = refl
 firstRow-none (w ∷ ws) r n = sym (row-passed w ws r (n .0) (sym (firstRow-none ws r (n .1))))
+
+-- a table of which no row applies can be left out
+pub firstRow-passed : (vs ws : List Row) (r : Reply) → NoneApply vs → firstRow (vs ++ ws) r ≡ firstRow ws r
+firstRow-passed vs ws r n = firstRow-append vs ws r ∙ firstRow-none vs (firstRow ws r) n
 
 -- a table either has a first row that applies or none
 pub data Outcome (ws : List Row) : Type 0 where
