@@ -5,6 +5,7 @@
 mod answers;
 mod fields;
 mod lines;
+mod measures;
 mod questions;
 mod words;
 
@@ -140,5 +141,10 @@ fn ask(
         Question::Mirror => questions::mirror(out, filled, first, second),
         Question::Sum => questions::sum(out, filled, first, second, third),
         Question::Merge => questions::merge(out, filled, first, second, third),
+        Question::Length => measures::length(out, filled, first),
+        Question::Width => measures::width(out, filled, first),
+        Question::Relation => measures::relation(out, filled, first, second),
+        Question::Inside => measures::inside(out, filled, first, second),
+        Question::Clearance => measures::clearance(out, filled, first, second),
     }
 }

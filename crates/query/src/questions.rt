@@ -111,7 +111,7 @@ fn refuse_answer(out: &mut [u8], filled: usize, refusal: Refusal) -> usize {
 
 // Adds why a list is no shape: document 01's number, which shape of the question it is, and with
 // number 4 where the left rule is broken.
-fn refuse_shape(out: &mut [u8], filled: usize, fault: Fault, shape: u64) -> usize {
+pub fn refuse_shape(out: &mut [u8], filled: usize, fault: Fault, shape: u64) -> usize {
     match fault {
         Fault::Count => refuse(out, filled, 1, shape),
         Fault::Many => refuse(out, filled, 2, shape),
@@ -132,7 +132,7 @@ fn refuse(out: &mut [u8], filled: usize, number: u64, shape: u64) -> usize {
 }
 
 // Adds a text and a number behind it.
-fn labelled(out: &mut [u8], filled: usize, label: &[u8], number: u64) -> usize {
+pub fn labelled(out: &mut [u8], filled: usize, label: &[u8], number: u64) -> usize {
     let now = answers::word(out, filled, label);
     answers::unsigned(out, now, number)
 }

@@ -11,6 +11,11 @@ pub enum Question {
     Mirror,
     Sum,
     Merge,
+    Length,
+    Width,
+    Relation,
+    Inside,
+    Clearance,
 }
 
 // What stands behind the shapes of a question: nothing, a direction, or a room, which may be left
@@ -50,6 +55,26 @@ pub fn look_up(word: &[u8]) -> Entry {
     }
     if check::same(word, b"merge") {
         return known(Question::Merge, 2, Tail::Room);
+    }
+    look_up_measure(word)
+}
+
+// The table of words, its second half.
+fn look_up_measure(word: &[u8]) -> Entry {
+    if check::same(word, b"length") {
+        return known(Question::Length, 1, Tail::Nothing);
+    }
+    if check::same(word, b"width") {
+        return known(Question::Width, 1, Tail::Nothing);
+    }
+    if check::same(word, b"relation") {
+        return known(Question::Relation, 2, Tail::Nothing);
+    }
+    if check::same(word, b"inside") {
+        return known(Question::Inside, 2, Tail::Nothing);
+    }
+    if check::same(word, b"clearance") {
+        return known(Question::Clearance, 2, Tail::Nothing);
     }
     Entry::Unknown
 }

@@ -4,18 +4,19 @@
 --     greatest-le          a number that none of them is above is at least the greatest
 --     greatest-unique      one that none is above is it
 --     greatest-same        equal numbers have an equal greatest
+--     greatest-more, least-more       one number more
 -- The support of a list of points is in `Support.antt`. Assumes nothing.
-use mathlib.Core.Path.{_≡_, refl, _∙_, ap₂}
+use mathlib.Core.Path.{_≡_, refl, sym, _∙_, ap, ap₂}
 use mathlib.Core.Logic.{_⊎_, inl, inr}
 use Prim.Native.Nat.{ℕ, zero, suc, _<_}
 use native.Mathlib.Nat.{not-suc-le-zero}
 use native.Mathlib.Omega.{arith}
-use lib.IntN.{ℤ}
+use lib.IntN.{ℤ, negℤ, negℤ-negℤ}
 use lib.Signed.{_≤ℤ_, ≤ℤ-refl}
 use Rattle.integer.specs.Order.{le-trans, le-antisym}
 use Rattle.plane.specs.Direction.{max}
-use Rattle.plane.specs.Measure.{greatest}
-use Rattle.plane.specs.theory.Max.{left-le-max, right-le-max, max-either}
+use Rattle.plane.specs.Measure.{greatest, least}
+use Rattle.plane.specs.theory.Max.{left-le-max, right-le-max, max-either, max-assoc}
 
 pub greatest-above : (f : ℕ → ℤ) (n i : ℕ) → i < n → f i ≤ℤ greatest f n
 greatest-above f zero i h = absurd (not-suc-le-zero h)
@@ -50,3 +51,15 @@ greatest-same f g zero h = refl
 greatest-same f g (suc zero) h = h 0 (omega arith)
 greatest-same f g (suc (suc n)) h =
     ap₂ max (h 0 (omega arith)) (greatest-same (λ k. f (suc k)) (λ k. g (suc k)) (suc n) (λ i l. h (suc i) (omega arith)))
+
+-- ---- one number more
+
+pub greatest-more : (f : ℕ → ℤ) (n : ℕ) → greatest f (suc (suc n)) ≡ max (greatest f (suc n)) (f (suc n))
+greatest-more f zero = refl
+greatest-more f (suc n) = ap (max (f 0)) (greatest-more (λ i. f (suc i)) n)
+    ∙ sym (max-assoc (f 0) (greatest (λ i. f (suc i)) (suc n)) (f (suc (suc n))))
+
+pub least-more : (f : ℕ → ℤ) (n : ℕ) → 0 < n → least f (suc n) ≡ negℤ (max (negℤ (least f n)) (negℤ (f n)))
+least-more f zero h = absurd (not-suc-le-zero h)
+least-more f (suc n) h = ap negℤ (greatest-more (λ i. negℤ (f i)) n
+    ∙ ap (λ z. max z (negℤ (f (suc n)))) (sym (negℤ-negℤ (greatest (λ i. negℤ (f i)) (suc n)))))

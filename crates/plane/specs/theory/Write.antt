@@ -3,6 +3,7 @@
 --     wrote-given                          a row applies, and none before it: its refusal, and the output untouched
 --     wrote-passed                         rows that do not apply may be left out
 --     wrote-many, -far, -room, -all        refusals 6, 7 and 8, and none
+--     passed-output, none-output           the output alone: a table of which no row applies can be left out, and leaves what is new
 -- Assumes nothing.
 use mathlib.Core.Path.{_≡_, refl, sym, _∙_, ap}
 use mathlib.Core.Bool.{Bool, true, false, cond}
@@ -60,3 +61,14 @@ module _ {shape : List Point} {old : List ℤ} where
       pub wrote-all : noRoom shape old ≡ false
           → Wrote (answerRows shape old) shape old (answered (pos (length shape) ∷ [])) (overwritten (numbers shape) old)
       wrote-all e = row-passes few (row-passes near (row-passes e (record { reply-is = refl; output-is = refl })))
+
+-- ---- the output alone
+
+pub passed-output : (vs ws : List Row) (kept new : List ℤ) → NoneApply vs → unlessRefused (vs ++ ws) kept new ≡ unlessRefused ws kept new
+passed-output [] ws kept new n = refl
+passed-output (v ∷ vs) ws kept new n =
+    ap (λ (b : Bool). cond b kept (unlessRefused (vs ++ ws) kept new)) (n .0) ∙ passed-output vs ws kept new (n .1)
+
+pub none-output : (ws : List Row) (kept new : List ℤ) → NoneApply ws → unlessRefused ws kept new ≡ new
+none-output [] kept new n = refl
+none-output (w ∷ ws) kept new n = ap (λ (b : Bool). cond b kept (unlessRefused ws kept new)) (n .0) ∙ none-output ws kept new (n .1)

@@ -1,0 +1,64 @@
+-- `around` meets its contract: what the pass saw decides, but for a point or a segment.
+-- Assumes nothing.
+use mathlib.Core.Path.{_≡_, sym, _∙_, ap}
+use mathlib.Core.Bool.{true, false}
+use Prim.Native.Nat.{ℕ}
+use borrow.Author.Tests.{lt-ltb, le-ltb}
+use lib.Dec.{ltb}
+use lib.ListN.{length}
+use Rattle.plane.specs.Point.{points}
+use Rattle.plane.specs.Separation.{notLeft}
+use Rattle.plane.specs.theory.EdgeSum.{vectorSum}
+use Rattle.separation.specs.Around.{some, rightOf, placed}
+use Rattle.separation.proofs.around.around.Statement.{statement}
+use Rattle.separation.proofs.around.around.Tie as tie
+
+-- ---- what is known where a test fails or passes
+
+inner : (c : tie.Else1) → let D = vectorSum (points (c .before .before .args .a .now)) (points (c .before .before .args .b .now)) in
+    some (rightOf D) (length D) ≡ false
+inner c = sym (c .before .pass .ensures .outside-is) ∙ c .if1 .left
+
+few : (c : tie.Then2) → let D = vectorSum (points (c .before .before .before .before .args .a .now)) (points (c .before .before .before .before .args .b .now)) in
+    ltb (length D) 3 ≡ true
+few c =
+    let at-pass = c .before .before .before in
+    ap (λ (n : ℕ). ltb n 3) (sym (at-pass .pass .ensures .count-is)) ∙ lt-ltb (at-pass .pass .result .count) 3 (c .if2 .taken)
+
+many : (c : tie.Else2) → let D = vectorSum (points (c .before .before .before .before .args .a .now)) (points (c .before .before .before .before .args .b .now)) in
+    ltb (length D) 3 ≡ false
+many c =
+    let at-pass = c .before .before .before in
+    ap (λ (n : ℕ). ltb n 3) (sym (at-pass .pass .ensures .count-is)) ∙ le-ltb (at-pass .pass .result .count) 3 (c .if2 .left)
+
+-- ---- the needs
+
+pass-requires : tie.Need-pass-requires
+pass-requires c κs = c .pre
+
+returns : tie.Need-returns
+unfolding placed
+returns c = rw (sym (c .before .pass .ensures .outside-is) ∙ c .if1 .taken)
+
+around-few-requires : tie.Need-around-few-requires
+around-few-requires c κs = c .before .before .before .before .pre
+
+returns-2 : tie.Need-returns-2
+unfolding placed
+returns-2 c = rw (inner (c .before .before .before), few (c .before)) (c .around-few .ensures)
+
+returns-3 : tie.Need-returns-3
+unfolding placed
+returns-3 c =
+    let at-else = c .before in
+    rw (inner (at-else .before .before), many at-else, sym (at-else .before .before .before .pass .ensures .rim-is) ∙ c .if3 .taken)
+
+returns-4 : tie.Need-returns-4
+unfolding placed
+returns-4 c =
+    let at-else = c .before in
+    rw (inner (at-else .before .before), many at-else, sym (at-else .before .before .before .pass .ensures .rim-is) ∙ c .if3 .left)
+
+pub around-spec : {M : Type 1} → statement M
+around-spec =
+    tie.close (tie.spec pass-requires returns around-few-requires returns-2 returns-3 returns-4)

@@ -1,0 +1,74 @@
+-- `place` meets its contract: the mirror image stands at the front of the buffer, and the walk goes round its sum with the first shape.
+-- Assumes nothing.
+use mathlib.Core.Path.{_≡_, refl, sym, _∙_, ap, subst}
+use mathlib.Core.List.{List}
+use Prim.Native.Nat.{_*_, _≤_}
+use native.Mathlib.Omega.{arith}
+use borrow.Author.Needs.{needs}
+use lib.IntN.{ℤ}
+use lib.ListN.{length, take, length-replicate}
+use lib.Seq.{length-take-le}
+use Rattle.plane.specs.Limits.{maxCorners}
+use Rattle.plane.specs.Point.{points, numbers}
+use Rattle.plane.specs.theory.EdgeSum.{vectorSum}
+use Rattle.plane.specs.theory.Flat.{points-length}
+use Rattle.calipers.specs.Walk.{At, begun}
+use Rattle.separation.specs.Around.{placed}
+use Rattle.separation.specs.theory.Image.{image, image-front, image-fits, image-begun, image-related}
+use Rattle.separation.proofs.place.Statement.{statement}
+use Rattle.separation.proofs.place.Tie as tie
+
+-- ---- the image, where it is known
+
+front : (c : tie.After-count) → take (2 * c .count .result) (c .before .before .mirror .last .1 .0) ≡ numbers (image (c .before .before .before .before .args .b .now))
+unfolding maxCorners
+front c = image-front _ (c .before .before .before .before .pre .1) _ _ refl (c .before .before .mirror .ensures .1) _ (c .count .ensures)
+
+fits : (c : tie.After-count) → 2 * c .count .result ≤ length (c .before .before .mirror .last .1 .0)
+unfolding maxCorners
+fits c = image-fits _ (c .before .before .before .before .pre .1) _ _ refl (c .before .before .mirror .ensures .1) _ (c .count .ensures)
+
+-- ---- the needs
+
+slice-aggregate-mirror : tie.Need-slice-aggregate-mirror
+slice-aggregate-mirror c = search needs
+
+mirror-requires : tie.Need-mirror-requires
+mirror-requires c κs = tt
+
+count-requires : tie.Need-count-requires
+count-requires c κs = tt
+
+mul-image : tie.Need-mul-image
+mul-image c = omega (arith, c .count .ensures, points-length (c .before .before .before .before .args .b .now))
+
+array-share-prefix-image : tie.Need-array-share-prefix-image
+array-share-prefix-image c = fits c
+
+slice-aggregate-around : tie.Need-slice-aggregate-around
+slice-aggregate-around c = sym (length-take-le _ _ (fits (c .before)))
+
+around-requires : tie.Need-around-requires
+around-requires c κs =
+    let start = c .before .before .before .before .before in
+    subst (λ (m : List ℤ). At (start .args .a .now) m begun) (sym (front (c .before))) (image-begun _ (start .pre .1) _ (start .pre .0))
+
+returns : tie.Need-returns
+returns c =
+    let at-count = c .before .before in
+    let start = at-count .before .before .before .before in
+    c .around .ensures ∙ ap (λ (m : List ℤ). placed (vectorSum (points (start .args .a .now)) (points m))) (front at-count)
+    ∙ image-related _ (start .pre .1) _ (start .pre .0)
+
+pub place-spec : {M : Type 1} → statement M
+place-spec =
+    tie.close
+    (tie.spec
+    slice-aggregate-mirror
+    mirror-requires
+    count-requires
+    mul-image
+    array-share-prefix-image
+    slice-aggregate-around
+    around-requires
+    returns)

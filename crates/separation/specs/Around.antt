@@ -1,0 +1,47 @@
+-- How two shapes stand, as a walk round the corners of their differences finds it: the origin against each edge.
+--     some p n          the test p passes at some number below n
+--     crossAt D e       the cross product of the two corners of edge e: positive if the origin is to the left of it
+--     rightOf D e       the origin is to the right of edge e
+--     placed D          0 outside, 1 on the rim, 2 inside; `placedFew D` for a point or a segment on a line through the origin
+--     related A B       the number of document 01's relation
+--     Passed D s        a walk saw s of D
+-- What it means: `placed-related` of the theory. Assumes nothing.
+use mathlib.Core.Path.{_≡_}
+use mathlib.Core.Bool.{Bool, false, cond, _||_}
+use mathlib.Core.List.{List}
+use Prim.Native.Nat.{ℕ, zero, suc}
+use lib.Dec.{ltb}
+use lib.IntN.{ℤ, pos}
+use lib.ListN.{length}
+use lib.Signed.{ltZ, leZ}
+use Rattle.plane.specs.Point.{Point, corner}
+use Rattle.plane.specs.Turn.{cross}
+use Rattle.plane.specs.Shape.{next}
+use Rattle.plane.specs.Direction.{value}
+use Rattle.plane.specs.Separation.{notLeft, apart, touching}
+use Rattle.separation.specs.declared.around.Sides.{Sides}
+
+abbrev pub some : (ℕ → Bool) → ℕ → Bool
+some p zero = false
+some p (suc n) = some p n || p n
+
+unfoldable pub crossAt : List Point → ℕ → ℤ
+crossAt D e = cross (corner D e) (corner D (next (length D) e))
+
+unfoldable pub rightOf : List Point → ℕ → Bool
+rightOf D e = ltZ (crossAt D e) (pos 0)
+
+unfoldable pub placedFew : List Point → ℤ
+placedFew D = cond (leZ (value (corner D 0) (corner D (next (length D) 0))) (pos 0)) (pos 1) (pos 0)
+
+unfoldable pub placed : List Point → ℤ
+placed D = cond (some (rightOf D) (length D)) (pos 0)
+    (cond (ltb (length D) 3) (placedFew D) (cond (some (notLeft D) (length D)) (pos 1) (pos 2)))
+
+unfoldable pub related : List Point → List Point → ℤ
+related A B = cond (apart A B) (pos 0) (cond (touching A B) (pos 1) (pos 2))
+
+pub record Passed (D : List Point) (s : Sides) : Type 0 where
+  pub count-is : s .count ≡ length D
+  pub outside-is : s .outside ≡ some (rightOf D) (length D)
+  pub rim-is : s .rim ≡ some (notLeft D) (length D)

@@ -1,0 +1,163 @@
+-- How two shapes stand, by the origin against the edges of their differences.
+--     some-first            a test that passes at some number is found by a search
+--     placed-origin         the numbers of `placed` say whether the origin is outside a shape, on its rim or inside
+--     placed-related        of the differences of two lists: the relation
+-- Assumes nothing.
+use mathlib.Core.Path.{_≡_, refl, sym, _∙_, ap}
+use mathlib.Core.Bool.{Bool, true, false, not, cond, _||_, _&&_, true≢false, false≢true}
+use mathlib.Core.List.{List, [], _∷_}
+use Prim.Native.Nat.{ℕ, zero, suc, _<_}
+use native.Mathlib.Omega.{arith}
+use native.Mathlib.Decide.{ℕ-discrete}
+use borrow.Author.Tests.{ltb-true, ltb-false, lt-ltb}
+use lib.Dec.{ltb}
+use lib.IntN.{ℤ, pos, natAbs}
+use lib.ListN.{length}
+use lib.Signed.{_≤ℤ_, _<ℤ_, leZ, clashℤ}
+use Rattle.integer.specs.Linear.{linear, lia, _&_}
+use Rattle.integer.specs.Order.{ltZ-true, ltZ-false, leZ-true, leZ-false, le-of-eq}
+use Rattle.plane.specs.Point.{Point, origin, corner}
+use Rattle.plane.specs.Turn.{cross}
+use Rattle.plane.specs.Search.{first}
+use Rattle.plane.specs.Shape.{next, IsShape}
+use Rattle.plane.specs.Direction.{value}
+use Rattle.plane.specs.Corner.{shapeOf}
+use Rattle.plane.specs.Separation.{inside, differences, apart, notLeft, onRim, touching}
+use Rattle.plane.specs.theory.Members.{point-discrete}
+use Rattle.plane.specs.theory.Sought.{first-at-most, none-search}
+use Rattle.plane.specs.theory.Vector.{cross-swap, value-origin}
+use Rattle.plane.specs.theory.ShapeOf.{shapeOf-shape}
+use Rattle.plane.specs.theory.Apart.{differences-some, apart-shapeOf}
+use Rattle.plane.specs.theory.InsideShape.{
+  polygon-origin→crosses,
+  polygon-crosses→origin,
+  segment-origin→opposed,
+  segment-opposed→origin,
+  point-inside→equal,
+  point-equal→inside,
+}
+use Rattle.plane.specs.theory.Sector.{square-positive}
+use Rattle.separation.specs.Around.{some, crossAt, rightOf, placedFew, placed, related}
+
+-- ---- some number passes
+
+pub some-witness : (p : ℕ → Bool) (n : ℕ) → some p n ≡ true → (i : ℕ) × (i < n) × (p i ≡ true)
+some-witness p zero h = absurd (false≢true h)
+some-witness p (suc n) h = go (some p n) refl h (some-witness p n)
+  where
+    go : (t : Bool) → some p n ≡ t → (t || p n) ≡ true → (some p n ≡ true → (i : ℕ) × (i < n) × (p i ≡ true))
+        → (i : ℕ) × (i < suc n) × (p i ≡ true)
+    go true e k earlier = let r = earlier e in (r .0, omega (arith, r .1), r .2)
+    go false e k earlier = (n, omega arith, k)
+
+pub some-none : (p : ℕ → Bool) (n : ℕ) → some p n ≡ false → (i : ℕ) → i < n → p i ≡ false
+some-none p zero h i l = absurd (omega arith)
+some-none p (suc n) h i l = go (some p n) refl (p n) refl h (some-none p n) (ℕ-discrete i n)
+  where
+    go : (t : Bool) → some p n ≡ t → (u : Bool) → p n ≡ u → (t || u) ≡ false → (some p n ≡ false → (i : ℕ) → i < n → p i ≡ false)
+        → Dec (i ≡ n) → p i ≡ false
+    go true e u f k earlier d = absurd (true≢false k)
+    go false e true f k earlier d = absurd (true≢false k)
+    go false e false f k earlier (yes q) = rw q f
+    go false e false f k earlier (no q) = earlier e i (omega arith)
+
+pub some-first : (p : ℕ → Bool) (n : ℕ) → some p n ≡ ltb (first p n) n
+some-first p n = go (some p n) refl
+  where
+    go : (t : Bool) → some p n ≡ t → t ≡ ltb (first p n) n
+    go true e = let r = some-witness p n e in
+        sym (lt-ltb (first p n) n (omega (arith, first-at-most p n (r .0) (r .2), r .1)))
+    go false e = sym (none-search p n (some-none p n e))
+
+-- ---- the origin against a shape
+
+refuted : (t : Bool) → (t ≡ true → ⊥) → t ≡ false
+refuted true f = absurd (f refl)
+refuted false f = refl
+
+-- the answer for a point or a segment, by the test of its value
+few-number : (t : Bool) {v : ℤ} → (v ≤ℤ pos 0 → t ≡ true) → (t ≡ true → v ≤ℤ pos 0)
+    → cond (leZ v (pos 0)) (pos 1) (pos 0) ≡ cond (not t) (pos 0) (pos 1)
+few-number t {v} f g = go (leZ v (pos 0)) refl
+  where
+    go : (u : Bool) → leZ v (pos 0) ≡ u → cond u (pos 1) (pos 0) ≡ cond (not t) (pos 0) (pos 1)
+    go true e = rw (f (leZ-true e))
+    go false e = rw (refuted t (λ h. clashℤ (leZ-false e) (g h)))
+
+point-origin : (p : Point) → value p p ≤ℤ pos 0 → p ≡ origin
+point-origin p h = go (point-discrete p origin)
+  where
+    go : Dec (p ≡ origin) → p ≡ origin
+    go (yes e) = e
+    go (no n) = clashℤ (square-positive p (record { non-zero = n })) h
+
+origin-point : (p : Point) → p ≡ origin → value p p ≤ℤ pos 0
+origin-point p e = le-of-eq (ap (value p) e ∙ value-origin p)
+
+module _ (D : List Point) (s : IsShape D) where
+  right→outside : some (rightOf D) (length D) ≡ true → inside (origin ∷ []) D ≡ false
+  unfolding rightOf crossAt
+  right→outside h =
+      let r = some-witness (rightOf D) (length D) h in
+      refuted (inside (origin ∷ []) D) (λ k. clashℤ (ltZ-true (r .2)) (polygon-origin→crosses D s k (r .0) (r .1)))
+
+  no-right : some (rightOf D) (length D) ≡ false → (e : ℕ) → e < length D → pos 0 ≤ℤ cross (corner D e) (corner D (next (length D) e))
+  unfolding rightOf crossAt
+  no-right h e l = ltZ-false (some-none (rightOf D) (length D) h e l)
+
+few-origin : (D : List Point) → IsShape D → ((e : ℕ) → e < length D → pos 0 ≤ℤ cross (corner D e) (corner D (next (length D) e)))
+    → length D < 3 → placedFew D ≡ cond (not (inside (origin ∷ []) D)) (pos 0) (pos 1)
+unfolding placedFew
+few-origin [] s f h = absurd (omega (arith, s .some))
+few-origin (p ∷ []) s f h = few-number (inside (origin ∷ []) (p ∷ []))
+    (λ v. point-equal→inside p origin (point-origin p v)) (λ k. origin-point p (point-inside→equal p origin k))
+few-origin (p ∷ (q ∷ [])) s f h =
+    let level : cross p q ≡ pos 0 = lia (cross p q ∷ cross q p ∷ []) (f 0 (omega arith) & f 1 (omega arith) & cross-swap p q)
+    (search linear depth 40) (omega arith) in
+    few-number (inside (origin ∷ []) (p ∷ q ∷ [])) (segment-opposed→origin p q level) (λ k. segment-origin→opposed p q k .1)
+few-origin (p ∷ (q ∷ (r ∷ D))) s f h = absurd (omega arith)
+
+pub placed-origin : (D : List Point) → IsShape D
+    → placed D ≡ cond (not (inside (origin ∷ []) D)) (pos 0) (cond (onRim D) (pos 1) (pos 2))
+unfolding placed onRim
+placed-origin D s = go (some (rightOf D) (length D)) refl (ltb (length D) 3) refl
+  where
+    go : (t : Bool) → some (rightOf D) (length D) ≡ t → (u : Bool) → ltb (length D) 3 ≡ u
+        → cond t (pos 0) (cond u (placedFew D) (cond (some (notLeft D) (length D)) (pos 1) (pos 2)))
+        ≡ cond (not (inside (origin ∷ []) D)) (pos 0) (cond (u || ltb (first (notLeft D) (length D)) (length D)) (pos 1) (pos 2))
+    go true e u f = rw (right→outside D s e)
+    go false e true f = few-origin D s (no-right D s e) (ltb-true (length D) 3 f)
+    go false e false f =
+        rw (polygon-crosses→origin D s (ltb-false (length D) 3 f) (no-right D s e), some-first (notLeft D) (length D))
+
+-- ---- the relation
+
+pub placed-related : (A B : List Point) → 0 < length A → 0 < length B → placed (shapeOf (differences A B)) ≡ related A B
+unfolding related touching
+placed-related A B a b = placed-origin D (shapeOf-shape (differences A B) (differences-some A B a b))
+    ∙ rw (apart-shapeOf A B a b) (go (inside (origin ∷ []) D) (onRim D))
+  where
+    D : List Point
+    D = shapeOf (differences A B)
+
+    go : (t r : Bool) → cond (not t) (pos 0) (cond r (pos 1) (pos 2)) ≡ cond (not t) (pos 0) (cond (not (not t) && r) (pos 1) (pos 2))
+    go true r = refl
+    go false r = refl
+
+-- apart is the number 0
+pub related-apart : (A B : List Point) → pos 0 ≡ related A B → apart A B ≡ true
+unfolding related
+related-apart A B h = go (apart A B) (touching A B) h
+  where
+    go : (t r : Bool) → pos 0 ≡ cond t (pos 0) (cond r (pos 1) (pos 2)) → t ≡ true
+    go true r k = refl
+    go false true k = absurd (lia [] k (search linear depth 40) (omega arith))
+    go false false k = absurd (lia [] k (search linear depth 40) (omega arith))
+
+pub related-not-apart : (A B : List Point) {n : ℕ} → 0 < n → pos n ≡ related A B → apart A B ≡ false
+unfolding related
+related-not-apart A B {n} l h = go (apart A B) (touching A B) h
+  where
+    go : (t r : Bool) → pos n ≡ cond t (pos 0) (cond r (pos 1) (pos 2)) → t ≡ false
+    go false r k = refl
+    go true r k = absurd (let e : n ≡ 0 = ap natAbs k in omega arith)
