@@ -13,8 +13,8 @@ pub enum Length {
 }
 
 // The edge that the shape is narrowest across, the corner furthest from it, the turn of that corner
-// against the edge, the edge's squared length, and the width rounded down; or what is wrong with the
-// shape (1 to 5), or that it has fewer than three corners (10).
+// against the edge, the edge's squared length, and the width rounded down; or what is wrong with
+// the shape (1 to 5), or that it has fewer than three corners (10).
 pub enum Width {
     Across {
         edge: usize,

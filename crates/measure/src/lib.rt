@@ -16,9 +16,8 @@ use polygon::opposite;
 
 // The greatest squared distance between two corners, and the positions of two corners that are so
 // far apart. Of several such pairs: the smallest first position, then the smallest second. A point
-// answers 0 at 0, 0, and a segment its own two corners. Parallel edges are passed in one step, with
-// no loss: the corners that face each other there are met before or after it. Refused: what `judge`
-// refuses.
+// answers 0 at 0, 0, and a segment its own two corners. Parallel edges are passed in one step, and
+// the corners at the greatest distance are met all the same. Refused: what `judge` refuses.
 // Ruled out: ties to the larger position.
 pub fn length(list: &[i32]) -> Length
     ensures { λ r. ⌜ lengthAnswer r ≡ lengthReply (now (list .entry)) ⌝ }
@@ -38,11 +37,11 @@ pub fn length(list: &[i32]) -> Length
     }
 }
 
-// The edge across which the shape is narrowest, the corner furthest from it, that corner's turn, the
-// edge's squared length, and the width rounded down. Edges compare by turn·turn/squared as exact
-// fractions. Of several such edges the smallest position; of two corners equally far from it, as
-// where the opposite edge is parallel, the smallest position. Refused: what `judge` refuses, then a
-// point and a segment.
+// The edge across which the shape is narrowest, the corner furthest from it, that corner's turn,
+// the edge's squared length, and the width rounded down. Edges compare by turn·turn/squared as
+// exact fractions. Of several such edges the smallest position; of two corners equally far from it,
+// as where the opposite edge is parallel, the smallest position. Refused: what `judge` refuses,
+// then a point and a segment.
 // Ruled out: later edge on a tie; corner after the tie; rounded width one too large.
 pub fn width(list: &[i32]) -> Width
     ensures { λ r. ⌜ widthAnswer r ≡ widthReply (now (list .entry)) ⌝ }

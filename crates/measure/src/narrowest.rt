@@ -52,11 +52,8 @@ fn narrower(list: &[i32], image: &[i32], top: usize, walk: Walk, next: Walk, bes
         return best;
     }
     let found = measured(list, image, top, walk, next);
-    if words::fraction_less(found.turn, found.squared, best.turn, best.squared) {
-        found
-    } else {
-        best
-    }
+    let less = words::fraction_less(found.turn, found.squared, best.turn, best.squared);
+    if less { found } else { best }
 }
 
 // The edge of the shape that the step passes, measured.
@@ -78,8 +75,8 @@ fn measured(list: &[i32], image: &[i32], top: usize, walk: Walk, next: Walk) -> 
     }
 }
 
-// The first corner that is furthest from the edge that the step passes. Where a parallel edge of the
-// image is passed with it, two are: the corner before and the corner after that edge.
+// The first corner that is furthest from the edge that the step passes. Where a parallel edge of
+// the image is passed with it, two are: the corner before and the corner after that edge.
 fn furthest_corner(list: &[i32], image: &[i32], top: usize, walk: Walk, next: Walk) -> usize
     requires { ⌜ Moving (now list) (now image) top walk next × (walk .i < next .i) ⌝ }
     ensures { λ r. ⌜ Facing (points (now (list .entry))) (walk .i) r ⌝ }

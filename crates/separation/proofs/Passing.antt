@@ -1,97 +1,30 @@
 -- The pass round all edges of a sum: the invariant of the loop, and its moves.
 --     Passing a b walk count outside rim         so many edges are passed; whether one had the origin to its right, or not to its left
---     passing-start, -more, -less, -end          its moves, that what is to come gets less, and its end
---     passing-at, passing-to, passing-count      the walk stands at edges of the lists; so does the end of an edge; the count fits
+--     passing-start, -more, -end                 its moves, and its end
+--     passing-at, passing-to                     the walk stands at edges of the lists; so does the end of an edge
+--     passing-below, passing-count               there is an edge to pass; the count fits
 --     passing-corners                            the corners that the edge joins
 -- Assumes nothing.
 use mathlib.Core.Path.{_≡_, refl, sym, _∙_, ap, ap₂, subst}
 use mathlib.Core.Bool.{Bool, true, false, cond, _||_}
-use mathlib.Core.List.{List, [], _∷_}
-use Prim.Native.Nat.{ℕ, zero, suc, _+_, _-_, _≤_, _<_, zero-le}
+use mathlib.Core.List.{List}
+use Prim.Native.Nat.{ℕ, suc, _+_, _≤_, _<_, zero-le}
 use native.Mathlib.Numerals.{add-one}
 use native.Mathlib.Omega.{arith}
 use lib.IntN.{ℤ, pos}
-use lib.ListN.{length, drop, length-drop}
+use lib.ListN.{length}
 use lib.Signed.{ltZ, leZ}
-use Rattle.plane.specs.Point.{Point, points, corner, _⊕_}
+use Rattle.plane.specs.Point.{Point, points, corner}
 use Rattle.plane.specs.Turn.{cross}
 use Rattle.plane.specs.Shape.{next}
 use Rattle.plane.specs.Separation.{notLeft}
-use Rattle.plane.specs.theory.Forms.{edges}
-use Rattle.plane.specs.theory.Path.{path, along-length}
-use Rattle.plane.specs.theory.EdgeSum.{vectorSum, joinEdges, joinEdges-length}
-use Rattle.plane.specs.theory.Next.{Following, onward, around, following}
+use Rattle.plane.specs.theory.EdgeSum.{vectorSum}
 use Rattle.plane.specs.theory.Rim.{notLeft-cross}
 use Rattle.calipers.specs.declared.walk.Walk.{Walk}
-use Rattle.calipers.specs.Walk.{here, begun, advanced, stepped, todo, At}
-use Rattle.plane.specs.theory.Positions.{edges-at-most}
-use Rattle.calipers.specs.theory.Steps.{todo-begin, todo-here, todo-over, at-stepped, todo-stepped, here-stepped}
-use Rattle.separation.specs.declared.around.Sides.{Sides}
+use Rattle.calipers.specs.Walk.{here, begun, advanced, stepped, At}
+use Rattle.calipers.specs.theory.Steps.{at-stepped}
 use Rattle.separation.specs.Around.{some, crossAt, rightOf, Passed}
-
--- ---- how many corners a sum has
-
-path-length : (p : Point) (E : List Point) (n : ℕ) → 0 < n → length E ≤ n → length (path p E) ≤ n
-path-length p [] n h k = h
-path-length p (e ∷ E) n h k = omega (arith, along-length p (e ∷ E))
-
-sum-length : (A B : List Point) → length (vectorSum A B) ≤ length A + length B
-sum-length [] B = zero-le
-sum-length (a ∷ A) [] = zero-le
-sum-length (a ∷ A) (b ∷ B) = path-length (a ⊕ b) (joinEdges (edges (a ∷ A)) (edges (b ∷ B))) (length (a ∷ A) + length (b ∷ B)) (omega arith)
-    (omega (arith, joinEdges-length (edges (a ∷ A)) (edges (b ∷ B)), edges-at-most (a ∷ A), edges-at-most (b ∷ B)))
-
--- ---- a place of the walk, and the corner there
-
-module _ (a b : List ℤ) (start : At a b begun) where
-  abbrev corners : List Point
-  corners = vectorSum (points a) (points b)
-
-  all : todo (points a) (points b) begun ≡ corners
-  all = todo-begin (points a) (points b) (start .first-some) (start .second-some)
-
-  rest : (n : ℕ) → n ≤ length corners → todo (points a) (points b) (stepped (points a) (points b) n begun) ≡ drop n corners
-  rest n h = todo-stepped a b begun start n (omega (arith, ap length all)) ∙ ap (drop n) all
-
-  on-below : (n : ℕ) → n ≤ length corners → stepped (points a) (points b) n begun .over ≡ false → n < length corners
-  on-below n h o = omega (
-    arith,
-    ap length (rest n h),
-    length-drop n corners,
-    ap length (todo-here a b (stepped (points a) (points b) n begun) (at-stepped a b begun start n) o),
-  )
-
-  over-end : (n : ℕ) → n ≤ length corners → stepped (points a) (points b) n begun .over ≡ true → length corners ≤ n
-  over-end n h o = omega (
-    arith,
-    ap length (rest n h),
-    length-drop n corners,
-    ap length (todo-over (points a) (points b) (stepped (points a) (points b) n begun) o),
-  )
-
-  corner-here : (n : ℕ) → n < length corners → here (points a) (points b) (stepped (points a) (points b) n begun) ≡ corner corners n
-  corner-here n h = here-stepped a b begun start n (omega (arith, ap length all)) ∙ ap (λ (ps : List Point). corner ps n) all
-
-  -- the place where the edge that leaves corner n ends
-  abbrev end : ℕ → Walk
-  end n = cond (stepped (points a) (points b) (suc n) begun .over) begun (stepped (points a) (points b) (suc n) begun)
-
-  pub end-at : (n : ℕ) → At a b (end n)
-  end-at n = go (stepped (points a) (points b) (suc n) begun .over)
-    where
-      go : (o : Bool) → At a b (cond o begun (stepped (points a) (points b) (suc n) begun))
-      go true = start
-      go false = at-stepped a b begun start (suc n)
-
-  pub end-here : (n : ℕ) → n < length corners → here (points a) (points b) (end n) ≡ corner corners (next (length corners) n)
-  end-here n h = go (stepped (points a) (points b) (suc n) begun .over) refl (following (length corners) n h)
-    where
-      go : (o : Bool) → stepped (points a) (points b) (suc n) begun .over ≡ o → Following (length corners) n
-          → here (points a) (points b) (cond o begun (stepped (points a) (points b) (suc n) begun)) ≡ corner corners (next (length corners) n)
-      go true e (onward k q) = absurd (omega (arith, over-end (suc n) (omega arith) e))
-      go true e (around k q) = corner-here 0 (omega arith) ∙ ap (corner corners) (sym q)
-      go false e (onward k q) = corner-here (suc n) k ∙ ap (corner corners) (sym q)
-      go false e (around k q) = absurd (omega (arith, on-below (suc n) (omega arith) e))
+use Rattle.separation.proofs.Stops.{sum-length, on-below, over-end, corner-here, end, end-at, end-here}
 
 -- ---- the loop
 
@@ -154,6 +87,7 @@ module _ {a b : List ℤ} where
           outside-is = g ∙ ap₂ (λ (x : Bool) (z : ℤ). x || ltZ z (pos 0)) (p .outside-is) (t ∙ passing-corners cross)
               ∙ ap (some (rightOf (vectorSum (points a) (points b)))) (sym (add-one count));
           rim-is = h ∙ ap₂ (λ (x : Bool) (z : ℤ). x || leZ z (pos 0)) (p .rim-is) (t ∙ passing-corners cross)
-              ∙ ap (λ (x : Bool). some (notLeft (vectorSum (points a) (points b))) count || x) (sym (notLeft-cross (vectorSum (points a) (points b)) count))
+              ∙ ap (λ (x : Bool). some (notLeft (vectorSum (points a) (points b))) count || x)
+              (sym (notLeft-cross (vectorSum (points a) (points b)) count))
               ∙ ap (some (notLeft (vectorSum (points a) (points b)))) (sym (add-one count));
         }

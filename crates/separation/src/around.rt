@@ -83,7 +83,8 @@ fn around_to(next: Walk) -> Walk
 // The cross product of the corners at two places of the walk: positive if the origin is to the left of the edge that joins them.
 fn across(a: &[i32], b: &[i32], from: Walk, to: Walk) -> i64
     requires { ⌜ At (now a) (now b) from × At (now a) (now b) to ⌝ }
-    ensures { λ r. ⌜ r ≡ cross (here (points (now (a .entry))) (points (now (b .entry))) from) (here (points (now (a .entry))) (points (now (b .entry))) to) ⌝ }
+    ensures { λ r. ⌜ r ≡ cross (here (points (now (a .entry))) (points (now (b .entry))) from)
+        (here (points (now (a .entry))) (points (now (b .entry))) to) ⌝ }
 {
     (from.x(a, b) as i64) * (to.y(a, b) as i64) - (from.y(a, b) as i64) * (to.x(a, b) as i64)
 }
@@ -91,7 +92,8 @@ fn across(a: &[i32], b: &[i32], from: Walk, to: Walk) -> i64
 // The value of one corner in the direction of the other: positive if they lie the same way from the origin.
 fn along(a: &[i32], b: &[i32], from: Walk, to: Walk) -> i64
     requires { ⌜ At (now a) (now b) from × At (now a) (now b) to ⌝ }
-    ensures { λ r. ⌜ r ≡ value (here (points (now (a .entry))) (points (now (b .entry))) from) (here (points (now (a .entry))) (points (now (b .entry))) to) ⌝ }
+    ensures { λ r. ⌜ r ≡ value (here (points (now (a .entry))) (points (now (b .entry))) from)
+        (here (points (now (a .entry))) (points (now (b .entry))) to) ⌝ }
 {
     (from.x(a, b) as i64) * (to.x(a, b) as i64) + (from.y(a, b) as i64) * (to.y(a, b) as i64)
 }

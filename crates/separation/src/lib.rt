@@ -36,7 +36,7 @@ pub fn relation(a: &[i32], b: &[i32]) -> Relation
 // Whether the first shape is inside the second: in no direction does it reach further. A shape is inside itself, and so is one that only
 // reaches the other's rim; inside a point is that point alone, inside a segment what lies on it. Refused: 1 to 5 of the first shape, then
 // of the second.
-// Ruled out: contact with the rim taken for outside.
+// Ruled out: a shape not inside itself; the second shape asked to be inside the first.
 pub fn inside(a: &[i32], b: &[i32]) -> Inside
     ensures { λ r. ⌜ insideAnswer r ≡ insideReply (now (a .entry)) (now (b .entry)) ⌝ }
 {

@@ -3,7 +3,7 @@ ghost use mathlib.Core.Path.{_≡_};
 ghost use Prim.Native.Nat.{_<_};
 ghost use lib.ListN.{length};
 ghost use Rattle.plane.specs.Point.{points, corner};
-ghost use Rattle.plane.specs.Measure.{least as Measure·least, squared as Measure·squared};
+ghost use Rattle.plane.specs.Measure.{squared as Measure·squared};
 ghost use Rattle.plane.specs.Refusal.{Valid, InRange};
 ghost use Rattle.separation.specs.Nearest.{min, nearestTo, nearest as Nearest·nearest};
 use polygon::corners;

@@ -1,6 +1,6 @@
 -- `admit` meets its contract: a fault is the first row of the table that applies, whichever shape is blamed.
 -- Assumes nothing.
-use mathlib.Core.Path.{_≡_, sym, _∙_, ap}
+use mathlib.Core.Path.{sym, _∙_, ap}
 use mathlib.Core.List.{[]}
 use borrow.Author.Needs.{needs}
 use Rattle.plane.specs.Reply.{answered}
@@ -29,9 +29,11 @@ enum-known-fault : tie.Need-enum-known-fault
 enum-known-fault c = search needs
 
 returns : tie.Need-returns
-returns c = λ values. judged-refused _ (c .before .fault .given .0 .0)
-    (sym (ap judgedReply (c .before .fault .given .1)) ∙ c .before .before .before .judge .ensures) 1
-    (shapeRows 2 (c .before .before .before .before .args .b .now)) (answered values)
+returns c =
+    let at-judge = c .before .before .before in
+    let known = c .before .fault .given in
+    λ values. judged-refused _ (known .0 .0) (sym (ap judgedReply (known .1)) ∙ at-judge .judge .ensures) 1
+    (shapeRows 2 (at-judge .before .args .b .now)) (answered values)
 
 enum-told : tie.Need-enum-told
 enum-told c = search needs
@@ -46,9 +48,10 @@ returns-2 : tie.Need-returns-2
 returns-2 c =
     let at-judge = c .before .before .before in
     let start = at-judge .before .before .before .before in
-    λ values. judged-refused _ (c .before .fault2 .given .0 .0)
-    (sym (ap judgedReply (c .before .fault2 .given .1)) ∙ at-judge .judge2 .ensures) 2 [] (answered values)
-    ∙ sym (firstRow-passed (shapeRows 1 (start .args .a .now)) (shapeRows 2 (start .args .b .now)) (answered values) (valid→accepted _ 1 (first (at-judge .before))))
+    let known = c .before .fault2 .given in
+    λ values. judged-refused _ (known .0 .0) (sym (ap judgedReply (known .1)) ∙ at-judge .judge2 .ensures) 2 [] (answered values)
+    ∙ sym (firstRow-passed (shapeRows 1 (start .args .a .now)) (shapeRows 2 (start .args .b .now)) (answered values)
+    (valid→accepted _ 1 (first (at-judge .before))))
 
 enum-told-2 : tie.Need-enum-told-2
 enum-told-2 c = search needs

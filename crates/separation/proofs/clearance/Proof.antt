@@ -1,9 +1,9 @@
 -- `clearance` meets its contract: both lists are judged, the shapes placed, and the nearest corners sought if they are apart.
 -- Assumes nothing.
 use mathlib.Core.Path.{_≡_, sym, _∙_, ap, subst}
-use mathlib.Core.Bool.{true, false}
+use mathlib.Core.Bool.{false}
 use mathlib.Core.List.{List, [], _∷_}
-use mathlib.Core.Logic.{_⊎_, inl, inr}
+use mathlib.Core.Logic.{inl, inr}
 use native.Mathlib.Omega.{arith}
 use borrow.Author.Needs.{needs}
 use types.Run.{OneOf}
@@ -66,7 +66,8 @@ returns-2 c =
     let at-place = c .before in
     let start = at-place .before .before .before .before in
     ap (λ (z : ℤ). answered (z ∷ [])) (sym (zero-clearance (points (start .args .a .now)) (points (start .args .b .now))
-    (not-apart _ _ (at-place .place .result) (c .match2 .keys2) (at-place .place .ensures)))) ∙ sym (admitted-answer (shapes (at-place .before)) (answered _))
+    (not-apart _ _ (at-place .place .result) (c .match2 .keys2) (at-place .place .ensures))))
+    ∙ sym (admitted-answer (shapes (at-place .before)) (answered _))
 
 nearest-requires : tie.Need-nearest-requires
 nearest-requires c κs = shapes (c .before .before .before)
@@ -78,7 +79,8 @@ returns-3 c =
     let start = at-place .before .before .before .before in
     let far = related-apart _ _ (ap placeNumber (sym (c .before .enum-told2 .given .1)) ∙ at-place .place .ensures) in
     ap (λ (z : ℤ). answered (z ∷ [])) (result-is w64 (c .nearest .ok) (c .nearest .ensures)
-    ∙ sym (clearance-nearest-apart (points (start .args .a .now)) (points (start .args .b .now)) far)) ∙ sym (admitted-answer (shapes (at-place .before)) (answered _))
+    ∙ sym (clearance-nearest-apart (points (start .args .a .now)) (points (start .args .b .now)) far))
+    ∙ sym (admitted-answer (shapes (at-place .before)) (answered _))
 
 pub clearance-spec : {M : Type 1} → statement M
 clearance-spec =

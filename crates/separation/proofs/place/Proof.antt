@@ -6,7 +6,7 @@ use Prim.Native.Nat.{_*_, _≤_}
 use native.Mathlib.Omega.{arith}
 use borrow.Author.Needs.{needs}
 use lib.IntN.{ℤ}
-use lib.ListN.{length, take, length-replicate}
+use lib.ListN.{length, take}
 use lib.Seq.{length-take-le}
 use Rattle.plane.specs.Limits.{maxCorners}
 use Rattle.plane.specs.Point.{points, numbers}
@@ -20,7 +20,8 @@ use Rattle.separation.proofs.place.Tie as tie
 
 -- ---- the image, where it is known
 
-front : (c : tie.After-count) → take (2 * c .count .result) (c .before .before .mirror .last .1 .0) ≡ numbers (image (c .before .before .before .before .args .b .now))
+front : (c : tie.After-count) → take (2 * c .count .result) (c .before .before .mirror .last .1 .0)
+    ≡ numbers (image (c .before .before .before .before .args .b .now))
 unfolding maxCorners
 front c = image-front _ (c .before .before .before .before .pre .1) _ _ refl (c .before .before .mirror .ensures .1) _ (c .count .ensures)
 

@@ -10,4 +10,5 @@ use Rattle.plane.specs.theory.Accept.{valid→accepted}
 use Rattle.plane.specs.theory.Rows.{firstRow-none, firstRow-passed}
 
 pub admitted-answer : {a b : List ℤ} → Valid a × Valid b → (r : Reply) → firstRow (shapeRows 1 a ++ shapeRows 2 b) r ≡ r
-admitted-answer {a} {b} v r = firstRow-passed (shapeRows 1 a) (shapeRows 2 b) r (valid→accepted a 1 (v .0)) ∙ firstRow-none (shapeRows 2 b) r (valid→accepted b 2 (v .1))
+admitted-answer {a} {b} v r = firstRow-passed (shapeRows 1 a) (shapeRows 2 b) r (valid→accepted a 1 (v .0))
+    ∙ firstRow-none (shapeRows 2 b) r (valid→accepted b 2 (v .1))

@@ -13,7 +13,7 @@ use borrow.Author.Tests.{ltb-true, ltb-false, lt-ltb}
 use lib.Dec.{ltb}
 use lib.IntN.{ℤ, pos, natAbs}
 use lib.ListN.{length}
-use lib.Signed.{_≤ℤ_, _<ℤ_, leZ, clashℤ}
+use lib.Signed.{_≤ℤ_, leZ, clashℤ}
 use Rattle.integer.specs.Linear.{linear, lia, _&_}
 use Rattle.integer.specs.Order.{ltZ-true, ltZ-false, leZ-true, leZ-false, le-of-eq}
 use Rattle.plane.specs.Point.{Point, origin, corner}

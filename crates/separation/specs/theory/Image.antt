@@ -5,7 +5,7 @@
 -- Assumes nothing.
 use mathlib.Core.Path.{_≡_, sym, _∙_, ap}
 use mathlib.Core.List.{List}
-use Prim.Native.Nat.{ℕ, _*_, _≤_, _<_}
+use Prim.Native.Nat.{ℕ, _*_, _≤_}
 use native.Mathlib.Omega.{arith}
 use lib.IntN.{ℤ}
 use lib.ListN.{length, take, drop, length-append}
@@ -50,7 +50,9 @@ module _ (b : List ℤ) (v : Valid b) where
 
       pub image-fits : 2 * n ≤ length out
       unfolding overwritten
-      image-fits = omega (arith, ap length image-output, length-append (numbers (image b)) (drop (length (numbers (image b))) old), numbers-count, count)
+      image-fits =
+          let lengths = length-append (numbers (image b)) (drop (length (numbers (image b))) old) in
+          omega (arith, ap length image-output, numbers-count, count)
 
   module _ (a : List ℤ) (u : Valid a) where
     pub image-begun : At a (numbers (image b)) begun

@@ -72,7 +72,8 @@ module _ (a b : List ℤ) (u : Valid a) (v : Valid b) where
     merge-reply =
         let rows = answerRows (merged a b) old in
         let count = answered (pos (length (merged a b)) ∷ []) in
-        firstRow-passed (shapeRows 1 a) (shapeRows 2 b ++ rows) count (valid→accepted a 1 u) ∙ firstRow-passed (shapeRows 2 b) rows count (valid→accepted b 2 v)
+        firstRow-passed (shapeRows 1 a) (shapeRows 2 b ++ rows) count (valid→accepted a 1 u)
+        ∙ firstRow-passed (shapeRows 2 b) rows count (valid→accepted b 2 v)
 
     module _ (n : ℕ) (h : answered (pos n ∷ []) ≡ mergeWritten a b old .reply) where
       none : NoneApply (answerRows (merged a b) old)
@@ -97,7 +98,8 @@ module _ (a b : List ℤ) (u : Valid a) (v : Valid b) where
         pub merged-front : take (2 * n) out ≡ numbers (merged a b)
         unfolding overwritten
         merged-front = ap (take (2 * n)) merge-output
-            ∙ take-at (numbers (merged a b)) (drop (length (numbers (merged a b))) old) (2 * n) (omega (arith, numbers-length (merged a b), count-is))
+            ∙ take-at (numbers (merged a b)) (drop (length (numbers (merged a b))) old) (2 * n)
+            (omega (arith, numbers-length (merged a b), count-is))
 
         pub merged-fits : 2 * n ≤ length out
         unfolding overwritten
@@ -132,7 +134,8 @@ module _ (a b : List ℤ) (u : Valid a) (v : Valid b) where
       go : (t : Bool) → inside (points a) (points b) ≡ t → false ≡ t
       go false k = refl
       go true k = absurd (refusal-no-answer r (h ∙ merge-reply old
-          ∙ firstRow-none (answerRows (merged a b) old) (answered (pos (length (merged a b)) ∷ [])) (accepted (inside→merge (points a) (points b) (v .shape) k))))
+          ∙ firstRow-none (answerRows (merged a b) old) (answered (pos (length (merged a b)) ∷ []))
+          (accepted (inside→merge (points a) (points b) (v .shape) k))))
 
   pub merged-same : (t : Bool) {front : List ℤ} → front ≡ numbers (merged a b) → Same b front t → t ≡ inside (points a) (points b)
   merged-same true e s =

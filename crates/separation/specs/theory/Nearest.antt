@@ -31,7 +31,8 @@ pub min-right : (x y : ℤ) → y <ℤ x → y ≡ min x y
 min-right x y h = sym (ap negℤ (max-right (lia (x ∷ y ∷ []) h (search linear depth 40) (omega arith))) ∙ negℤ-negℤ y)
 
 pub min-left : (x y : ℤ) → x ≤ℤ y → x ≡ min x y
-min-left x y h = sym (ap negℤ (max-comm (negℤ x) (negℤ y) ∙ max-right (lia (x ∷ y ∷ []) h (search linear depth 40) (omega arith))) ∙ negℤ-negℤ x)
+min-left x y h = sym (ap negℤ (max-comm (negℤ x) (negℤ y)
+    ∙ max-right (lia (x ∷ y ∷ []) h (search linear depth 40) (omega arith))) ∙ negℤ-negℤ x)
 
 -- ---- the loop
 

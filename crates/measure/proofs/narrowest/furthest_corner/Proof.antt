@@ -14,12 +14,14 @@ use Rattle.measure.proofs.narrowest.furthest_corner.Tie as tie
 -- ---- the two corners, each where it is known
 
 here-is : (c : tie.After-opposite-of) → let args = c .before .before .args in
-    c .opposite-of .result ≡ turned (length (points (args .list .now))) (args .top) (round (length (points (args .image .now))) (args .walk .j))
+    c .opposite-of .result
+    ≡ turned (length (points (args .list .now))) (args .top) (round (length (points (args .image .now))) (args .walk .j))
 here-is c = let args = c .before .before .args in
     c .opposite-of .ensures ∙ ap (turned (length (points (args .list .now))) (args .top)) (c .before .round .ensures .0)
 
 after-is : (c : tie.After-opposite-of2) → let args = c .before .before .before .before .before .before .before .args in
-    c .opposite-of2 .result ≡ turned (length (points (args .list .now))) (args .top) (round (length (points (args .image .now))) (args .next .j))
+    c .opposite-of2 .result
+    ≡ turned (length (points (args .list .now))) (args .top) (round (length (points (args .image .now))) (args .next .j))
 after-is c = let args = c .before .before .before .before .before .before .before .args in
     c .opposite-of2 .ensures ∙ ap (turned (length (points (args .list .now))) (args .top)) (c .before .round2 .ensures .0)
 
@@ -39,8 +41,10 @@ returns c =
 
 round-requires-2 : tie.Need-round-requires-2
 round-requires-2 c κs =
-    let start = c .before .before .before .before .before in
-    (omega (arith, edges-at-most (points (start .args .image .now)), other-within (start .pre .0)), start .pre .0 .imaged .mirrors .image .some)
+    let start = c .before .before .before .before .before in (
+      omega (arith, edges-at-most (points (start .args .image .now)), other-within (start .pre .0)),
+      start .pre .0 .imaged .mirrors .image .some,
+    )
 
 opposite-of-requires-2 : tie.Need-opposite-of-requires-2
 opposite-of-requires-2 c κs = search needs
@@ -50,14 +54,16 @@ returns-2 c =
     let at-else = c .before .before .before in
     let at-here = at-else .before .before .before in
     let pre = at-here .before .before .pre in
-    across-second (pre .0) (pre .1) (omega (arith, at-else .if1 .left)) (here-is at-here) (after-is (c .before)) (omega (arith, c .if2 .taken))
+    across-second (pre .0) (pre .1) (omega (arith, at-else .if1 .left))
+    (here-is at-here) (after-is (c .before)) (omega (arith, c .if2 .taken))
 
 returns-3 : tie.Need-returns-3
 returns-3 c =
     let at-else = c .before .before .before in
     let at-here = at-else .before .before .before in
     let pre = at-here .before .before .pre in
-    across-first (pre .0) (pre .1) (omega (arith, at-else .if1 .left)) (here-is at-here) (after-is (c .before)) (omega (arith, c .if2 .left))
+    across-first (pre .0) (pre .1) (omega (arith, at-else .if1 .left))
+    (here-is at-here) (after-is (c .before)) (omega (arith, c .if2 .left))
 
 pub furthest-corner-spec : {M : Type 1} → statement M
 furthest-corner-spec =

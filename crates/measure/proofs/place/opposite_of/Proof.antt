@@ -36,7 +36,8 @@ returns-2 c =
     let start = c .before .before in
     rw (
       c .before .count .ensures,
-      le-ltb (start .args .top + start .args .k) (length (points (start .args .list .now))) (omega (arith, c .before .count .ensures, c .if1 .left)),
+      le-ltb (start .args .top + start .args .k) (length (points (start .args .list .now)))
+          (omega (arith, c .before .count .ensures, c .if1 .left)),
     )
 
 pub opposite-of-spec : {M : Type 1} → statement M

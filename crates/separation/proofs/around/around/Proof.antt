@@ -7,7 +7,6 @@ use borrow.Author.Tests.{lt-ltb, le-ltb}
 use lib.Dec.{ltb}
 use lib.ListN.{length}
 use Rattle.plane.specs.Point.{points}
-use Rattle.plane.specs.Separation.{notLeft}
 use Rattle.plane.specs.theory.EdgeSum.{vectorSum}
 use Rattle.separation.specs.Around.{some, rightOf, placed}
 use Rattle.separation.proofs.around.around.Statement.{statement}
@@ -19,14 +18,14 @@ inner : (c : tie.Else1) → let D = vectorSum (points (c .before .before .args .
     some (rightOf D) (length D) ≡ false
 inner c = sym (c .before .pass .ensures .outside-is) ∙ c .if1 .left
 
-few : (c : tie.Then2) → let D = vectorSum (points (c .before .before .before .before .args .a .now)) (points (c .before .before .before .before .args .b .now)) in
-    ltb (length D) 3 ≡ true
+few : (c : tie.Then2) → let start = c .before .before .before .before in
+    ltb (length (vectorSum (points (start .args .a .now)) (points (start .args .b .now)))) 3 ≡ true
 few c =
     let at-pass = c .before .before .before in
     ap (λ (n : ℕ). ltb n 3) (sym (at-pass .pass .ensures .count-is)) ∙ lt-ltb (at-pass .pass .result .count) 3 (c .if2 .taken)
 
-many : (c : tie.Else2) → let D = vectorSum (points (c .before .before .before .before .args .a .now)) (points (c .before .before .before .before .args .b .now)) in
-    ltb (length D) 3 ≡ false
+many : (c : tie.Else2) → let start = c .before .before .before .before in
+    ltb (length (vectorSum (points (start .args .a .now)) (points (start .args .b .now)))) 3 ≡ false
 many c =
     let at-pass = c .before .before .before in
     ap (λ (n : ℕ). ltb n 3) (sym (at-pass .pass .ensures .count-is)) ∙ le-ltb (at-pass .pass .result .count) 3 (c .if2 .left)

@@ -40,19 +40,23 @@ along-requires c κs =
     (passing-at (started at-begin), passing-to (started at-begin) (on at-begin) (c .before .advance .ensures) (c .around-to .ensures))
 
 -- what is tested, by the corners of the sum
-tested : (c : tie.After-along) → let D = vectorSum (points (c .before .before .before .before .args .a .now)) (points (c .before .before .before .before .args .b .now)) in
+tested : (c : tie.After-along) → let start = c .before .before .before .before in
+    let D = vectorSum (points (start .args .a .now)) (points (start .args .b .now)) in
     toZ w64 (ofZ w64 (c .along .result)) ≡ value (corner D 0) (corner D (next (length D) 0))
 tested c =
     let at-begin = c .before .before .before in
-    result-is w64 (c .along .ok) (c .along .ensures ∙ passing-corners (started at-begin) (on at-begin) (c .before .before .advance .ensures) (c .before .around-to .ensures) value)
+    result-is w64 (c .along .ok) (c .along .ensures
+    ∙ passing-corners (started at-begin) (on at-begin) (c .before .before .advance .ensures) (c .before .around-to .ensures) value)
 
 returns : tie.Need-returns
 unfolding placedFew
-returns c = ap (λ (t : Bool). cond t (pos 1) (pos 0)) (sym (c .if1 .taken)) ∙ ap (λ (z : ℤ). cond (leZ z (pos 0)) (pos 1) (pos 0)) (tested (c .before))
+returns c = ap (λ (t : Bool). cond t (pos 1) (pos 0)) (sym (c .if1 .taken))
+    ∙ ap (λ (z : ℤ). cond (leZ z (pos 0)) (pos 1) (pos 0)) (tested (c .before))
 
 returns-2 : tie.Need-returns-2
 unfolding placedFew
-returns-2 c = ap (λ (t : Bool). cond t (pos 1) (pos 0)) (sym (c .if1 .left)) ∙ ap (λ (z : ℤ). cond (leZ z (pos 0)) (pos 1) (pos 0)) (tested (c .before))
+returns-2 c = ap (λ (t : Bool). cond t (pos 1) (pos 0)) (sym (c .if1 .left))
+    ∙ ap (λ (z : ℤ). cond (leZ z (pos 0)) (pos 1) (pos 0)) (tested (c .before))
 
 pub around-few-spec : {M : Type 1} → statement M
 around-few-spec =

@@ -1,19 +1,26 @@
--- `pass` meets its contract. The invariant: so many edges are passed, and on which sides of them the origin was; the measure is what is left.
+-- `pass` meets its contract. The invariant: so many edges are passed, and on which sides of them the origin was; the measure: what is left.
 -- Assumes nothing.
-use mathlib.Core.Path.{_≡_, sym, _∙_, ap}
-use mathlib.Core.Bool.{false, _||_}
+use mathlib.Core.Path.{_≡_}
+use mathlib.Core.Bool.{false}
 use Prim.Native.Nat.{_-_}
 use native.Mathlib.Omega.{arith}
 use borrow.Author.Tests.{not-true, not-false}
-use lib.IntN.{pos}
 use lib.ListN.{length}
-use lib.Signed.{ltZ, leZ}
 use mir.Syntax.{w64}
 use Rattle.integer.specs.Machine.{result-is}
 use Rattle.plane.specs.Point.{points}
 use Rattle.plane.specs.theory.Flat.{points-length}
 use Rattle.plane.specs.theory.EdgeSum.{vectorSum}
-use Rattle.separation.proofs.Passing.{Passing, passing-start, passing-at, passing-below, passing-count, passing-to, passing-more, passing-end}
+use Rattle.separation.proofs.Passing.{
+  Passing,
+  passing-start,
+  passing-at,
+  passing-below,
+  passing-count,
+  passing-to,
+  passing-more,
+  passing-end,
+}
 use Rattle.separation.proofs.around.pass.Statement.{statement}
 use Rattle.separation.proofs.around.pass.Tie as tie
 
@@ -55,10 +62,13 @@ add-count : tie.Need-add-count Inv-loop μ-loop
 add-count c =
     let at-then = c .before .before .before .before .before in
     let start = at-then .before .before .before .before in
-    omega (arith, passing-count (at-then .before .before .loop .inv) (on at-then), points-length (start .args .a .now), points-length (start .args .b .now))
+    let fewer = passing-count (at-then .before .before .loop .inv) (on at-then) in
+    omega (arith, points-length (start .args .a .now), points-length (start .args .b .now))
 
 loop-less : tie.Need-loop-less Inv-loop μ-loop
-loop-less c = let at-then = c .before .before .before .before .before in omega (arith, passing-below (at-then .before .before .loop .inv) (on at-then))
+loop-less c =
+    let at-then = c .before .before .before .before .before in
+    omega (arith, passing-below (at-then .before .before .loop .inv) (on at-then))
 
 loop-again : tie.Need-loop-again Inv-loop μ-loop
 loop-again c =

@@ -11,7 +11,6 @@ use lib.Seq.{length-take-le}
 use Rattle.plane.specs.Limits.{maxCorners, corners-small}
 use Rattle.plane.specs.Point.{numbers}
 use Rattle.plane.specs.Reply.{answered}
-use Rattle.plane.specs.Combine.{mergeWritten}
 use Rattle.polygon.specs.Answer.{answerReply}
 use Rattle.separation.specs.theory.Merged.{merged, merged-few, merged-front, merged-fits, merged-refused, merged-same}
 use Rattle.separation.proofs.merged.adds_nothing.Statement.{statement}
@@ -19,24 +18,29 @@ use Rattle.separation.proofs.merged.adds_nothing.Tie as tie
 
 -- ---- the merge, where it is answered
 
+answer : (c : tie.After-known-told) → let at-merge = c .before .before .before .before in
+    answered (pos (c .before .n .given .0 .0) ∷ []) ≡ answerReply (at-merge .merge .result)
+answer c = sym (ap answerReply (c .before .n .given .1))
+
 front : (c : tie.After-known-told) → let start = c .before .before .before .before .before .before in
-    take (2 * c .before .n .given .0 .0) (c .before .before .before .before .merge .last .1 .1 .0) ≡ numbers (merged (start .args .a .now) (start .args .b .now))
+    take (2 * c .before .n .given .0 .0) (c .before .before .before .before .merge .last .1 .1 .0)
+    ≡ numbers (merged (start .args .a .now) (start .args .b .now))
 front c =
     let at-merge = c .before .before .before .before in
     let start = at-merge .before .before in
-    merged-front _ _ (start .pre .0) (start .pre .1) _ _ (sym (ap answerReply (c .before .n .given .1)) ∙ at-merge .merge .ensures .0) _ (at-merge .merge .ensures .1)
+    merged-front _ _ (start .pre .0) (start .pre .1) _ _ (answer c ∙ at-merge .merge .ensures .0) _ (at-merge .merge .ensures .1)
 
 fits : (c : tie.After-known-told) → 2 * c .before .n .given .0 .0 ≤ length (c .before .before .before .before .merge .last .1 .1 .0)
 fits c =
     let at-merge = c .before .before .before .before in
     let start = at-merge .before .before in
-    merged-fits _ _ (start .pre .0) (start .pre .1) _ _ (sym (ap answerReply (c .before .n .given .1)) ∙ at-merge .merge .ensures .0) _ (at-merge .merge .ensures .1)
+    merged-fits _ _ (start .pre .0) (start .pre .1) _ _ (answer c ∙ at-merge .merge .ensures .0) _ (at-merge .merge .ensures .1)
 
 few : (c : tie.After-known-told) → c .before .n .given .0 .0 ≤ maxCorners
 few c =
     let at-merge = c .before .before .before .before in
     let start = at-merge .before .before in
-    merged-few _ _ (start .pre .0) (start .pre .1) _ _ (sym (ap answerReply (c .before .n .given .1)) ∙ at-merge .merge .ensures .0)
+    merged-few _ _ (start .pre .0) (start .pre .1) _ _ (answer c ∙ at-merge .merge .ensures .0)
 
 -- ---- the needs
 
@@ -57,7 +61,8 @@ unfolding maxCorners
 returns c =
     let at-merge = c .before .before .before in
     let start = at-merge .before .before in
-    merged-refused _ _ (start .pre .0) (start .pre .1) _ (c .enum-told .given .0 .0) refl (sym (ap answerReply (c .enum-told .given .1)) ∙ at-merge .merge .ensures .0)
+    merged-refused _ _ (start .pre .0) (start .pre .1) _ (c .enum-told .given .0 .0) refl
+    (sym (ap answerReply (c .enum-told .given .1)) ∙ at-merge .merge .ensures .0)
 
 mul-both : tie.Need-mul-both
 mul-both c = omega (arith, few c, corners-small)

@@ -54,7 +54,8 @@ loop-again : tie.Need-loop-again Inv-loop μ-loop
 loop-again c =
     let at-both = c .before in
     let at-loop = at-both .before .before .before in
-    let same = sym (toZ-ofZ (record { sfits = at-both .before .if22 .given })) ∙ ap (toZ w32) (c .if2 .left) ∙ toZ-ofZ (record { sfits = at-both .if23 .given }) in
+    let same = sym (toZ-ofZ (record { sfits = at-both .before .if22 .given })) ∙ ap (toZ w32) (c .if2 .left)
+    ∙ toZ-ofZ (record { sfits = at-both .if23 .given }) in
     (omega (arith, at-both .before .before .loop-test .taken), below-more _ _ (at-loop .loop .inv .1) same)
 
 returns-3 : tie.Need-returns-3 Inv-loop μ-loop

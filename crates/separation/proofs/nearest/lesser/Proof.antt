@@ -15,10 +15,12 @@ test : (c : tie.Start) → ltZ (c .args .y) (c .args .x) ≡ ltZ (toZ w64 (ofZ w
 test c = sym (ap₂ ltZ (toZ-ofZ (c .fits .y)) (toZ-ofZ (c .fits .x)))
 
 returns : tie.Need-returns
-returns c = toZ-ofZ (c .before .fits .y) ∙ min-right (c .before .args .x) (c .before .args .y) (ltZ-true (test (c .before) ∙ c .if1 .taken))
+returns c = toZ-ofZ (c .before .fits .y)
+    ∙ min-right (c .before .args .x) (c .before .args .y) (ltZ-true (test (c .before) ∙ c .if1 .taken))
 
 returns-2 : tie.Need-returns-2
-returns-2 c = toZ-ofZ (c .before .fits .x) ∙ min-left (c .before .args .x) (c .before .args .y) (ltZ-false (test (c .before) ∙ c .if1 .left))
+returns-2 c = toZ-ofZ (c .before .fits .x)
+    ∙ min-left (c .before .args .x) (c .before .args .y) (ltZ-false (test (c .before) ∙ c .if1 .left))
 
 pub lesser-spec : {M : Type 1} → statement M
 lesser-spec = tie.close (tie.spec returns returns-2)

@@ -1,6 +1,6 @@
 -- `nearest_to` meets its contract. The invariant: the least so far; the measure is what is left.
 -- Assumes nothing.
-use mathlib.Core.Path.{_≡_, _∙_, ap}
+use mathlib.Core.Path.{_∙_, ap}
 use Prim.Native.Nat.{_-_}
 use native.Mathlib.Omega.{arith}
 use mir.Syntax.{w64}
@@ -26,12 +26,15 @@ squared-requires : tie.Need-squared-requires Inv-loop μ-loop
 squared-requires c κs = let pre = c .before .pre in (pre .0, pre .2 .shape .some, pre .1 .inRange, pre .2 .inRange)
 
 loop-holds : tie.Need-loop-holds Inv-loop μ-loop
-loop-holds c = running-start _ _ (omega (arith, c .before .count .ensures, c .before .before .pre .2 .shape .some)) (result-is w64 (c .squared .ok) (c .squared .ensures))
+loop-holds c =
+    running-start _ _ (omega (arith, c .before .count .ensures, c .before .before .pre .2 .shape .some))
+    (result-is w64 (c .squared .ok) (c .squared .ensures))
 
 squared-requires-2 : tie.Need-squared-requires-2 Inv-loop μ-loop
 squared-requires-2 c κs =
     let at-count = c .before .before .before in
-    let pre = at-count .before .pre in (pre .0, omega (arith, at-count .count .ensures, c .loop-test .taken), pre .1 .inRange, pre .2 .inRange)
+    let pre = at-count .before .pre in
+    (pre .0, omega (arith, at-count .count .ensures, c .loop-test .taken), pre .1 .inRange, pre .2 .inRange)
 
 lesser-requires : tie.Need-lesser-requires Inv-loop μ-loop
 lesser-requires c κs = tt
@@ -46,7 +49,8 @@ loop-again : tie.Need-loop-again Inv-loop μ-loop
 loop-again c =
     let at-test = c .before .before in
     running-more _ _ (at-test .before .loop .inv) (at-test .loop-test .taken)
-    (result-is w64 (c .lesser .ok) (c .lesser .ensures ∙ ap (min (toZ w64 (at-test .before .loop .least))) (result-is w64 (c .before .squared2 .ok) (c .before .squared2 .ensures))))
+    (result-is w64 (c .lesser .ok) (c .lesser .ensures
+    ∙ ap (min (toZ w64 (at-test .before .loop .least))) (result-is w64 (c .before .squared2 .ok) (c .before .squared2 .ensures))))
 
 returns : tie.Need-returns Inv-loop μ-loop
 unfolding nearestTo
@@ -55,4 +59,5 @@ returns c = running-end _ _ (c .before .loop .inv) (c .loop-test .left) (c .befo
 pub nearest-to-spec : {M : Type 1} → statement M
 nearest-to-spec =
     tie.close
-    (tie.spec Inv-loop μ-loop count-requires squared-requires loop-holds squared-requires-2 lesser-requires add-j loop-less loop-again returns)
+    (tie.spec Inv-loop μ-loop count-requires squared-requires loop-holds squared-requires-2
+    lesser-requires add-j loop-less loop-again returns)

@@ -1,0 +1,87 @@
+-- Places of the walk by their number, and the edges of the sum that leave them.
+--     sum-length                a sum has no more corners than both lists together
+--     on-below, over-end        whether the walk is over tells whether all corners are passed
+--     corner-here               the corner at which it stands
+--     end, end-at, end-here     the place where the edge that leaves a corner ends: the next corner, after the last the first
+-- Assumes nothing.
+use mathlib.Core.Path.{_≡_, refl, sym, _∙_, ap}
+use mathlib.Core.Bool.{Bool, true, false, cond}
+use mathlib.Core.List.{List, [], _∷_}
+use Prim.Native.Nat.{ℕ, suc, _+_, _≤_, _<_, zero-le}
+use native.Mathlib.Omega.{arith}
+use lib.IntN.{ℤ}
+use lib.ListN.{length, drop, length-drop}
+use Rattle.plane.specs.Point.{Point, points, corner, _⊕_}
+use Rattle.plane.specs.Shape.{next}
+use Rattle.plane.specs.theory.Forms.{edges}
+use Rattle.plane.specs.theory.Path.{path, along-length}
+use Rattle.plane.specs.theory.EdgeSum.{vectorSum, joinEdges, joinEdges-length}
+use Rattle.plane.specs.theory.Next.{Following, onward, around, following}
+use Rattle.calipers.specs.declared.walk.Walk.{Walk}
+use Rattle.calipers.specs.Walk.{here, begun, stepped, todo, At}
+use Rattle.plane.specs.theory.Positions.{edges-at-most}
+use Rattle.calipers.specs.theory.Steps.{todo-begin, todo-here, todo-over, at-stepped, todo-stepped, here-stepped}
+
+-- ---- how many corners a sum has
+
+path-length : (p : Point) (E : List Point) (n : ℕ) → 0 < n → length E ≤ n → length (path p E) ≤ n
+path-length p [] n h k = h
+path-length p (e ∷ E) n h k = omega (arith, along-length p (e ∷ E))
+
+pub sum-length : (A B : List Point) → length (vectorSum A B) ≤ length A + length B
+sum-length [] B = zero-le
+sum-length (a ∷ A) [] = zero-le
+sum-length (a ∷ A) (b ∷ B) = path-length (a ⊕ b) (joinEdges (edges (a ∷ A)) (edges (b ∷ B))) (length (a ∷ A) + length (b ∷ B)) (omega arith)
+    (omega (arith, joinEdges-length (edges (a ∷ A)) (edges (b ∷ B)), edges-at-most (a ∷ A), edges-at-most (b ∷ B)))
+
+-- ---- a place of the walk, and the corner there
+
+module _ (a b : List ℤ) (start : At a b begun) where
+  abbrev corners : List Point
+  corners = vectorSum (points a) (points b)
+
+  all : todo (points a) (points b) begun ≡ corners
+  all = todo-begin (points a) (points b) (start .first-some) (start .second-some)
+
+  rest : (n : ℕ) → n ≤ length corners → todo (points a) (points b) (stepped (points a) (points b) n begun) ≡ drop n corners
+  rest n h = todo-stepped a b begun start n (omega (arith, ap length all)) ∙ ap (drop n) all
+
+  pub on-below : (n : ℕ) → n ≤ length corners → stepped (points a) (points b) n begun .over ≡ false → n < length corners
+  on-below n h o = omega (
+    arith,
+    ap length (rest n h),
+    length-drop n corners,
+    ap length (todo-here a b (stepped (points a) (points b) n begun) (at-stepped a b begun start n) o),
+  )
+
+  pub over-end : (n : ℕ) → n ≤ length corners → stepped (points a) (points b) n begun .over ≡ true → length corners ≤ n
+  over-end n h o = omega (
+    arith,
+    ap length (rest n h),
+    length-drop n corners,
+    ap length (todo-over (points a) (points b) (stepped (points a) (points b) n begun) o),
+  )
+
+  pub corner-here : (n : ℕ) → n < length corners → here (points a) (points b) (stepped (points a) (points b) n begun) ≡ corner corners n
+  corner-here n h = here-stepped a b begun start n (omega (arith, ap length all)) ∙ ap (λ (ps : List Point). corner ps n) all
+
+  -- the place where the edge that leaves corner n ends
+  abbrev pub end : ℕ → Walk
+  end n = cond (stepped (points a) (points b) (suc n) begun .over) begun (stepped (points a) (points b) (suc n) begun)
+
+  pub end-at : (n : ℕ) → At a b (end n)
+  end-at n = go (stepped (points a) (points b) (suc n) begun .over)
+    where
+      go : (o : Bool) → At a b (cond o begun (stepped (points a) (points b) (suc n) begun))
+      go true = start
+      go false = at-stepped a b begun start (suc n)
+
+  pub end-here : (n : ℕ) → n < length corners → here (points a) (points b) (end n) ≡ corner corners (next (length corners) n)
+  end-here n h = go (stepped (points a) (points b) (suc n) begun .over) refl (following (length corners) n h)
+    where
+      go : (o : Bool) → stepped (points a) (points b) (suc n) begun .over ≡ o → Following (length corners) n
+          → here (points a) (points b) (cond o begun (stepped (points a) (points b) (suc n) begun)) ≡ corner corners (next (length corners) n)
+      go true e (onward k q) = absurd (omega (arith, over-end (suc n) (omega arith) e))
+      go true e (around k q) = corner-here 0 (omega arith) ∙ ap (corner corners) (sym q)
+      go false e (onward k q) = corner-here (suc n) k ∙ ap (corner corners) (sym q)
+      go false e (around k q) = absurd (omega (arith, on-below (suc n) (omega arith) e))
