@@ -70,7 +70,13 @@ pub fn field<'a>(values: &'a [i32], marks: &[usize], k: usize) -> &'a [i32] {
     &values[..0]
 }
 
-// Whether so many fields are what the question takes. A direction has to be there, and a room may.
+// Whether the line had field k, where a number stands in it or before it and the marks were 0.
+pub fn given(marks: &[usize], k: usize) -> bool {
+    mark_behind(marks, k) != 0
+}
+
+// Whether so many fields are what the question takes. A direction has to be there; a room,
+// or one shape more, may.
 pub fn enough(form: Form, bars: usize) -> Fields {
     let tail = form.tail;
     let shapes = form.shapes;
@@ -87,6 +93,7 @@ pub fn enough(form: Form, bars: usize) -> Fields {
             }
         }
         Tail::Room => at_most(bars, shapes, 1),
+        Tail::Shape => at_most(bars, shapes, 1),
     }
 }
 
@@ -101,6 +108,7 @@ pub fn fit(form: Form, bars: usize, field: &[i32]) -> Fields {
         Tail::Nothing => Fields::Read,
         Tail::Direction => of_count(field, 2),
         Tail::Room => room(field),
+        Tail::Shape => Fields::Read,
     }
 }
 

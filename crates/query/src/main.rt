@@ -3,9 +3,12 @@
 // is no question is answered with the reason. Empty lines and lines that begin with # are passed
 // over. No function here asks anything of its caller: past the end of a buffer there is nothing.
 mod answers;
+mod drawing;
 mod fields;
+mod frames;
 mod lines;
 mod measures;
+mod pictures;
 mod questions;
 mod words;
 
@@ -146,5 +149,15 @@ fn ask(
         Question::Relation => measures::relation(out, filled, first, second),
         Question::Inside => measures::inside(out, filled, first, second),
         Question::Clearance => measures::clearance(out, filled, first, second),
+        Question::Draw => draw(out, filled, first, second, fields::given(marks, 1)),
+    }
+}
+
+// Draws one shape, or two if a second is given.
+fn draw(out: &mut [u8], filled: usize, first: &[i32], second: &[i32], both: bool) -> usize {
+    if both {
+        pictures::pair(out, filled, first, second)
+    } else {
+        pictures::one(out, filled, first)
     }
 }

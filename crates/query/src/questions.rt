@@ -10,7 +10,7 @@ use polygon::answer::Refusal;
 use polygon::limits;
 
 // The most numbers that an answer has.
-const ROOM: usize = 2 * limits::MAX_CORNERS;
+pub const ROOM: usize = 2 * limits::MAX_CORNERS;
 
 // Whether a list is a shape, and how many corners it has.
 pub fn judge(out: &mut [u8], filled: usize, list: &[i32]) -> usize {
@@ -99,7 +99,7 @@ fn number(list: &[i32], i: usize) -> i32 {
 }
 
 // Adds why a shape is not written.
-fn refuse_answer(out: &mut [u8], filled: usize, refusal: Refusal) -> usize {
+pub fn refuse_answer(out: &mut [u8], filled: usize, refusal: Refusal) -> usize {
     match refusal {
         Refusal::First(fault) => refuse_shape(out, filled, fault, 1),
         Refusal::Second(fault) => refuse_shape(out, filled, fault, 2),

@@ -16,14 +16,16 @@ pub enum Question {
     Relation,
     Inside,
     Clearance,
+    Draw,
 }
 
-// What stands behind the shapes of a question: nothing, a direction, or a room, which may be left
-// out with its bar.
+// What stands behind the shapes of a question: nothing, a direction, or a room or one shape more,
+// which may be left out with its bar.
 pub enum Tail {
     Nothing,
     Direction,
     Room,
+    Shape,
 }
 
 // What a question asks for, how many shapes it takes, and what stands behind them.
@@ -75,6 +77,9 @@ fn look_up_measure(word: &[u8]) -> Entry {
     }
     if check::same(word, b"clearance") {
         return known(Question::Clearance, 2, Tail::Nothing);
+    }
+    if check::same(word, b"draw") {
+        return known(Question::Draw, 1, Tail::Shape);
     }
     Entry::Unknown
 }

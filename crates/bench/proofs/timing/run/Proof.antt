@@ -1,0 +1,46 @@
+-- `run` is safe and ends. The invariant says nothing. The measure: the passes left.
+-- Assumes nothing.
+use borrow.Author.Needs.{needs}
+use Rattle.bench.proofs.timing.run.Statement.{statement}
+use Rattle.bench.proofs.timing.run.Tie as tie
+
+abbrev Inv-loop : tie.InvT-loop
+Inv-loop question judging rounds asked₀ judged₀ seen₀ left₀ asked judged seen left = Unit
+
+abbrev μ-loop : tie.MeasureT-loop
+μ-loop question judging rounds asked₀ judged₀ seen₀ left₀ asked judged seen left = left
+
+loop-holds : tie.Need-loop-holds Inv-loop μ-loop
+loop-holds c = tt
+
+pass-requires : tie.Need-pass-requires Inv-loop μ-loop
+pass-requires c κs = search needs
+
+wrapping-add-u64-requires : tie.Need-wrapping-add-u64-requires Inv-loop μ-loop
+wrapping-add-u64-requires c κs = search needs
+
+sub-left : tie.Need-sub-left Inv-loop μ-loop
+sub-left c = search needs
+
+loop-less : tie.Need-loop-less Inv-loop μ-loop
+loop-less c = search needs
+
+loop-again : tie.Need-loop-again Inv-loop μ-loop
+loop-again c = tt
+
+returns : tie.Need-returns Inv-loop μ-loop
+returns c = search needs
+
+pub run-spec : {M : Type 1} → statement M
+run-spec =
+    tie.close
+    (tie.spec
+    Inv-loop
+    μ-loop
+    loop-holds
+    pass-requires
+    wrapping-add-u64-requires
+    sub-left
+    loop-less
+    loop-again
+    returns)

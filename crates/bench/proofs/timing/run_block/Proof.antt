@@ -1,0 +1,68 @@
+-- `run_block` is safe and ends. The invariant: the output keeps its length. The measure: the calls left.
+-- Assumes nothing.
+use mathlib.Core.Path.{_≡_}
+use lib.ListN.{length}
+use borrow.Author.Needs.{needs}
+use Rattle.bench.proofs.timing.run_block.Statement.{statement}
+use Rattle.bench.proofs.timing.run_block.Tie as tie
+
+abbrev Inv-loop : tie.InvT-loop
+Inv-loop question a b out₀ calls start seen₀ left₀ out seen left = length out ≡ length out₀
+
+abbrev μ-loop : tie.MeasureT-loop
+μ-loop question a b out₀ calls start seen₀ left₀ out seen left = left
+
+now-requires : tie.Need-now-requires Inv-loop μ-loop
+now-requires c κs = search needs
+
+loop-holds : tie.Need-loop-holds Inv-loop μ-loop
+loop-holds c = search needs
+
+lent-requires : tie.Need-lent-requires Inv-loop μ-loop
+lent-requires c κs = search needs
+
+lent-requires-2 : tie.Need-lent-requires-2 Inv-loop μ-loop
+lent-requires-2 c κs = search needs
+
+ask-requires : tie.Need-ask-requires Inv-loop μ-loop
+ask-requires c κs = search needs
+
+wrapping-add-u64-requires : tie.Need-wrapping-add-u64-requires Inv-loop μ-loop
+wrapping-add-u64-requires c κs = search needs
+
+sub-left : tie.Need-sub-left Inv-loop μ-loop
+sub-left c = search needs
+
+loop-less : tie.Need-loop-less Inv-loop μ-loop
+loop-less c = search needs
+
+loop-again : tie.Need-loop-again Inv-loop μ-loop
+loop-again c = search needs
+
+since-requires : tie.Need-since-requires Inv-loop μ-loop
+since-requires c κs = search needs
+
+same-length : tie.Need-same-length Inv-loop μ-loop
+same-length c = search needs
+
+returns : tie.Need-returns Inv-loop μ-loop
+returns c = search needs
+
+pub run-block-spec : {M : Type 1} → statement M
+run-block-spec =
+    tie.close
+    (tie.spec
+    Inv-loop
+    μ-loop
+    now-requires
+    loop-holds
+    lent-requires
+    lent-requires-2
+    ask-requires
+    wrapping-add-u64-requires
+    sub-left
+    loop-less
+    loop-again
+    since-requires
+    same-length
+    returns)
