@@ -18,7 +18,7 @@ use Rattle.plane.specs.theory.Filled.{Filled, filled-start, filled-corner, fill
 use Rattle.calipers.specs.declared.walk.Walk.{Walk}
 use Rattle.calipers.specs.Walk.{here, advanced, stepped, At}
 use Rattle.calipers.specs.Helping.{coming, helping, Helped}
-use Rattle.calipers.specs.theory.Steps.{todo-here, todo-over, at-stepped, todo-stepped, here-stepped}
+use Rattle.calipers.specs.theory.Steps.{remaining-here, remaining-over, at-stepped, remaining-stepped, here-stepped}
 
 pub record Progress (a b : List ℤ) (from : Walk) (k : ℕ) (old : List ℤ) (count : ℕ) (walk : Walk) (out : List ℤ) : Type 0 where
   pub at : At a b from
@@ -40,7 +40,7 @@ module _ {a b : List ℤ} {from : Walk} {k : ℕ} {old : List ℤ} where
 
     -- what is to come is what the corners written so far leave
     left : coming a b walk ≡ drop count (coming a b from)
-    left = ap (coming a b) (p .moved) ∙ todo-stepped a b from (p .at) count count-le
+    left = ap (coming a b) (p .moved) ∙ remaining-stepped a b from (p .at) count count-le
 
     pub progress-length : length out ≡ length old
     progress-length = filled-length (p .front) (omega (arith, p .within, numbers-length (helping a b from k)))
@@ -52,7 +52,7 @@ module _ {a b : List ℤ} {from : Walk} {k : ℕ} {old : List ℤ} where
 
     pub progress-over : walk .over ≡ true → count ≡ length (helping a b from k)
     progress-over o =
-        let none = ap length (sym left ∙ todo-over (points a) (points b) walk o) in
+        let none = ap length (sym left ∙ remaining-over (points a) (points b) walk o) in
         omega (arith, p .within, length-take k (coming a b from), none, length-drop count (coming a b from))
 
     pub progress-all : k ≤ count → count ≡ length (helping a b from k)
@@ -60,7 +60,7 @@ module _ {a b : List ℤ} {from : Walk} {k : ℕ} {old : List ℤ} where
 
     module _ (more : count < k) (on : walk .over ≡ false) where
       some-left : count < length (coming a b from)
-      some-left = omega (arith, ap length (sym left ∙ todo-here a b walk progress-at on), length-drop count (coming a b from))
+      some-left = omega (arith, ap length (sym left ∙ remaining-here a b walk progress-at on), length-drop count (coming a b from))
 
       below : count < length (helping a b from k)
       below = omega (arith, some-left, length-take k (coming a b from))

@@ -38,7 +38,7 @@ use Rattle.calipers.specs.declared.helping.Helping.{Helping}
 use Rattle.calipers.specs.Walk.{begun, At}
 use Rattle.calipers.specs.Helping.{helping, Helped}
 use Rattle.calipers.specs.Survey.{surveyed}
-use Rattle.calipers.specs.theory.Steps.{todo-begin, at-begin}
+use Rattle.calipers.specs.theory.Steps.{remaining-begin, at-begin}
 
 -- ---- what a survey says
 
@@ -111,7 +111,7 @@ module _ (a b old : List ℤ) where
         module _ (room : n ≤ length old / 2) (start : Walk) (begins : start ≡ begun) where
           -- the helping is all of the sum
           all : helping a b start n ≡ corners
-          all = ap (λ (u : Walk). helping a b u n) begins ∙ ap (take n) (todo-begin (points a) (points b) (v .shape .some) (w .shape .some))
+          all = ap (λ (u : Walk). helping a b u n) begins ∙ ap (take n) (remaining-begin (points a) (points b) (v .shape .some) (w .shape .some))
               ∙ ap (λ (k : ℕ). take k corners) (fine .number) ∙ take-length corners
 
           pub written-place : At a b start × (length (numbers (helping a b start n)) ≤ length old)

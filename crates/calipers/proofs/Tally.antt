@@ -23,7 +23,7 @@ use Rattle.calipers.specs.declared.walk.Walk.{Walk}
 use Rattle.calipers.specs.Walk.{here, begun, advanced, At}
 use Rattle.calipers.specs.Survey.{surveyed}
 use Rattle.calipers.specs.Helping.{coming}
-use Rattle.calipers.specs.theory.Steps.{todo-begin, todo-here, todo-over, at-advanced}
+use Rattle.calipers.specs.theory.Steps.{remaining-begin, remaining-here, remaining-over, at-advanced}
 
 or-none : (b : Bool) → (b || false) ≡ b
 or-none true = refl
@@ -60,13 +60,13 @@ pub record Tally (a b : List ℤ) (walk : Walk) (count : ℕ) (some : Bool) : Ty
 module _ {a b : List ℤ} where
   pub tally-start : At a b begun → Tally a b begun 0 false
   tally-start t =
-      let all = todo-begin (points a) (points b) (t .first-some) (t .second-some) in
+      let all = remaining-begin (points a) (points b) (t .first-some) (t .second-some) in
       record { at = t; few = zero-le; number = omega (arith, ap length all); farther = ap anyFar all }
 
   module _ {walk : Walk} {count : ℕ} {some : Bool} (t : Tally a b walk count some) where
     module _ (on : walk .over ≡ false) where
       next-length : length (coming a b walk) ≡ suc (length (coming a b (advanced (points a) (points b) walk)))
-      next-length = ap length (todo-here a b walk (t .at) on)
+      next-length = ap length (remaining-here a b walk (t .at) on)
 
       pub tally-many : ltb maxCorners (count + 1) ≡ true → No Many ≡ surveyed (whole a b)
       unfolding tooMany
@@ -85,12 +85,12 @@ module _ {a b : List ℤ} where
         number = omega (arith, t .number, next-length, ap (λ (w : Walk). length (coming a b w)) e);
         farther =
             ap₂ (λ (x : Bool) (w : Walk). x || anyFar (coming a b w)) f e ∙ or-assoc some (far (here (points a) (points b) walk)) _
-            ∙ ap (λ (ps : List Point). some || anyFar ps) (sym (todo-here a b walk (t .at) on)) ∙ t .farther;
+            ∙ ap (λ (ps : List Point). some || anyFar ps) (sym (remaining-here a b walk (t .at) on)) ∙ t .farther;
       }
 
     module _ (over : walk .over ≡ true) where
       none : coming a b walk ≡ []
-      none = todo-over (points a) (points b) walk over
+      none = remaining-over (points a) (points b) walk over
 
       count-is : count ≡ length (whole a b)
       count-is = omega (arith, t .number, ap length none)

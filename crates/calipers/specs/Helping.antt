@@ -12,10 +12,10 @@ use Rattle.plane.specs.Point.{Point, points, numbers}
 use Rattle.plane.specs.Output.{overwritten}
 use Rattle.calipers.specs.declared.walk.Walk.{Walk}
 use Rattle.calipers.specs.declared.helping.Helping.{Helping}
-use Rattle.calipers.specs.Walk.{stepped, todo}
+use Rattle.calipers.specs.Walk.{stepped, remaining}
 
 abbrev pub coming : List ℤ → List ℤ → Walk → List Point
-coming a b w = todo (points a) (points b) w
+coming a b w = remaining (points a) (points b) w
 
 abbrev pub helping : List ℤ → List ℤ → Walk → ℕ → List Point
 helping a b w k = take k (coming a b w)

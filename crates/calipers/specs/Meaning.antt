@@ -13,18 +13,18 @@ use Rattle.plane.specs.theory.EdgeCount.{shared}
 use Rattle.plane.specs.theory.Places.{places}
 use Rattle.plane.specs.theory.Visited.{Visited, place-of-corner, corner-parts}
 use Rattle.plane.specs.theory.Members.{position-member}
-use Rattle.calipers.specs.Walk.{here, begun, stepped, ahead, todo}
+use Rattle.calipers.specs.Walk.{here, begun, stepped, ahead, remaining}
 use Rattle.calipers.specs.theory.Steps.{ahead-begin}
 use Rattle.calipers.specs.theory.Directions.{sum-directions, sum-points}
 use Rattle.calipers.specs.theory.Visits.{sum-visited, visited-corner}
 
 module _ (a b : List ℤ) (v : Valid a) (w : Valid b) where
   -- "the shape of all corner-plus-corner points": from the beginning the walk visits its corners, in its order, and no others
-  pub walk-visits-sum : todo (points a) (points b) begun ≡ shapeOf (sums (points a) (points b))
+  pub walk-visits-sum : remaining (points a) (points b) begun ≡ shapeOf (sums (points a) (points b))
   walk-visits-sum = sum-visited a b v w
 
   -- wherever it stands before it is over, the two corners there make a corner of the set
-  pub walk-stands-at-corner : (n : ℕ) → n < length (todo (points a) (points b) begun)
+  pub walk-stands-at-corner : (n : ℕ) → n < length (remaining (points a) (points b) begun)
       → Corner (sums (points a) (points b)) (here (points a) (points b) (stepped (points a) (points b) n begun))
   walk-stands-at-corner n h = visited-corner a b v w n h
 

@@ -6,7 +6,7 @@
 --     takes, passed     whether the next step passes edge i of A, and how many are passed after it; finished: all edges of both are
 --     advanced A B w    one step further; stepped A B n w: n steps
 --     ahead A B w       the places still to come, the present one first
---     todo A B w        the corners of the sum that are still to come
+--     remaining A B w   the corners of the sum that are still to come
 --     At a b w          the walk stands at edges of these two lists, whose coordinates are in range
 -- What it means: `Meaning.antt`; `Steps` of the theory. Assumes nothing.
 use mathlib.Core.Bool.{Bool, false, cond}
@@ -56,8 +56,8 @@ stepped A B (suc n) w = advanced A B (stepped A B n w)
 unfoldable pub ahead : List Point → List Point → Walk → List Place
 ahead A B w = cond (w .over) [] (placesFrom (w .i) (w .j) (drop (w .i) (edges A)) (drop (w .j) (edges B)))
 
-unfoldable pub todo : List Point → List Point → Walk → List Point
-todo A B w = cond (w .over) [] (path (here A B w) (joinEdges (drop (w .i) (edges A)) (drop (w .j) (edges B))))
+unfoldable pub remaining : List Point → List Point → Walk → List Point
+remaining A B w = cond (w .over) [] (path (here A B w) (joinEdges (drop (w .i) (edges A)) (drop (w .j) (edges B))))
 
 pub record At (a b : List ℤ) (w : Walk) : Type 0 where
   pub first-near : InRange a

@@ -18,9 +18,9 @@ use Rattle.plane.specs.theory.Path.{path, along-length}
 use Rattle.plane.specs.theory.EdgeSum.{vectorSum, joinEdges, joinEdges-length}
 use Rattle.plane.specs.theory.Next.{Following, onward, around, following}
 use Rattle.calipers.specs.declared.walk.Walk.{Walk}
-use Rattle.calipers.specs.Walk.{here, begun, stepped, todo, At}
+use Rattle.calipers.specs.Walk.{here, begun, stepped, remaining, At}
 use Rattle.plane.specs.theory.Positions.{edges-at-most}
-use Rattle.calipers.specs.theory.Steps.{todo-begin, todo-here, todo-over, at-stepped, todo-stepped, here-stepped}
+use Rattle.calipers.specs.theory.Steps.{remaining-begin, remaining-here, remaining-over, at-stepped, remaining-stepped, here-stepped}
 
 -- ---- how many corners a sum has
 
@@ -40,18 +40,18 @@ module _ (a b : List ℤ) (start : At a b begun) where
   abbrev corners : List Point
   corners = vectorSum (points a) (points b)
 
-  all : todo (points a) (points b) begun ≡ corners
-  all = todo-begin (points a) (points b) (start .first-some) (start .second-some)
+  all : remaining (points a) (points b) begun ≡ corners
+  all = remaining-begin (points a) (points b) (start .first-some) (start .second-some)
 
-  rest : (n : ℕ) → n ≤ length corners → todo (points a) (points b) (stepped (points a) (points b) n begun) ≡ drop n corners
-  rest n h = todo-stepped a b begun start n (omega (arith, ap length all)) ∙ ap (drop n) all
+  rest : (n : ℕ) → n ≤ length corners → remaining (points a) (points b) (stepped (points a) (points b) n begun) ≡ drop n corners
+  rest n h = remaining-stepped a b begun start n (omega (arith, ap length all)) ∙ ap (drop n) all
 
   pub on-below : (n : ℕ) → n ≤ length corners → stepped (points a) (points b) n begun .over ≡ false → n < length corners
   on-below n h o = omega (
     arith,
     ap length (rest n h),
     length-drop n corners,
-    ap length (todo-here a b (stepped (points a) (points b) n begun) (at-stepped a b begun start n) o),
+    ap length (remaining-here a b (stepped (points a) (points b) n begun) (at-stepped a b begun start n) o),
   )
 
   pub over-end : (n : ℕ) → n ≤ length corners → stepped (points a) (points b) n begun .over ≡ true → length corners ≤ n
@@ -59,7 +59,7 @@ module _ (a b : List ℤ) (start : At a b begun) where
     arith,
     ap length (rest n h),
     length-drop n corners,
-    ap length (todo-over (points a) (points b) (stepped (points a) (points b) n begun) o),
+    ap length (remaining-over (points a) (points b) (stepped (points a) (points b) n begun) o),
   )
 
   pub corner-here : (n : ℕ) → n < length corners → here (points a) (points b) (stepped (points a) (points b) n begun) ≡ corner corners n

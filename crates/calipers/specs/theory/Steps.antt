@@ -1,10 +1,10 @@
 -- The walk step by step: what is still to come is the present corner and what is to come after the step. That is its whole interface.
---     todo-begin, ahead-begin       from the beginning, the vector sum is to come, and all places of the walk
---     todo-here, ahead-here         unless the walk is over, the present corner, or place, comes next
---     todo-over, ahead-over         after that, nothing
---     todo-ahead                    the corners to come are those at the places to come
+--     remaining-begin, ahead-begin       from the beginning, the vector sum is to come, and all places of the walk
+--     remaining-here, ahead-here         unless the walk is over, the present corner, or place, comes next
+--     remaining-over, ahead-over         after that, nothing
+--     remaining-ahead                    the corners to come are those at the places to come
 --     at-begin, at-advanced, at-stepped        the walk stays at edges of the two lists
---     todo-stepped, here-stepped    after n steps: all but the first n corners, and the corner at position n
+--     remaining-stepped, here-stepped    after n steps: all but the first n corners, and the corner at position n
 -- Assumes nothing.
 use mathlib.Core.Path.{_≡_, refl, sym, _∙_, ap}
 use mathlib.Core.Bool.{Bool, true, false, cond}
@@ -25,12 +25,12 @@ use Rattle.plane.specs.theory.Places.{place, placesFrom, places, places-here}
 use Rattle.plane.specs.theory.PlaceCorners.{cornerAt, placesFrom-corners}
 use Rattle.calipers.specs.declared.walk.Walk.{Walk}
 use Rattle.calipers.specs.theory.Pass.{passed-le}
-use Rattle.calipers.specs.Walk.{here, begun, passed, finished, advanced, stepped, ahead, todo, At}
+use Rattle.calipers.specs.Walk.{here, begun, passed, finished, advanced, stepped, ahead, remaining, At}
 
 module _ (A B : List Point) where
-  pub todo-over : (w : Walk) → w .over ≡ true → todo A B w ≡ []
-  unfolding todo
-  todo-over w o = rw o
+  pub remaining-over : (w : Walk) → w .over ≡ true → remaining A B w ≡ []
+  unfolding remaining
+  remaining-over w o = rw o
 
   pub ahead-over : (w : Walk) → w .over ≡ true → ahead A B w ≡ []
   unfolding ahead
@@ -40,20 +40,20 @@ module _ (A B : List Point) where
   unfolding ahead
   ahead-begin = refl
 
-  pub todo-ahead : (w : Walk) → todo A B w ≡ map (cornerAt A B) (ahead A B w)
-  unfolding todo ahead here
-  todo-ahead w = go (w .over)
+  pub remaining-ahead : (w : Walk) → remaining A B w ≡ map (cornerAt A B) (ahead A B w)
+  unfolding remaining ahead here
+  remaining-ahead w = go (w .over)
     where
       go : (o : Bool) → cond o [] (path (cornerRound A (w .i) ⊕ cornerRound B (w .j)) (joinEdges (drop (w .i) (edges A)) (drop (w .j) (edges B))))
           ≡ map (cornerAt A B) (cond o [] (placesFrom (w .i) (w .j) (drop (w .i) (edges A)) (drop (w .j) (edges B))))
       go true = refl
       go false = sym (placesFrom-corners A B (w .i) (w .j))
 
-pub todo-begin : (A B : List Point) → 0 < length A → 0 < length B → todo A B begun ≡ vectorSum A B
-unfolding todo here
-todo-begin [] B h k = absurd (omega arith)
-todo-begin (a ∷ A) [] h k = absurd (omega arith)
-todo-begin (a ∷ A) (b ∷ B) h k = rw (eqb·zero-suc (length A), eqb·zero-suc (length B))
+pub remaining-begin : (A B : List Point) → 0 < length A → 0 < length B → remaining A B begun ≡ vectorSum A B
+unfolding remaining here
+remaining-begin [] B h k = absurd (omega arith)
+remaining-begin (a ∷ A) [] h k = absurd (omega arith)
+remaining-begin (a ∷ A) (b ∷ B) h k = rw (eqb·zero-suc (length A), eqb·zero-suc (length B))
 
 -- ---- for two lists of numbers, at a place of the walk
 
@@ -68,11 +68,11 @@ module _ (a b : List ℤ) where
   unfolding ahead advanced passed finished
   ahead-here w t o = rw o (places-here (edges A) (edges B) (w .i) (w .j) (t .i-in) (t .j-in))
 
-  pub todo-here : (w : Walk) → At a b w → w .over ≡ false → todo A B w ≡ here A B w ∷ todo A B (advanced A B w)
+  pub remaining-here : (w : Walk) → At a b w → w .over ≡ false → remaining A B w ≡ here A B w ∷ remaining A B (advanced A B w)
   unfolding here
-  todo-here w t o =
-      todo-ahead A B w ∙ ap (map (cornerAt A B)) (ahead-here w t o)
-      ∙ ap (λ (ps : List Point). (cornerRound A (w .i) ⊕ cornerRound B (w .j)) ∷ ps) (sym (todo-ahead A B (advanced A B w)))
+  remaining-here w t o =
+      remaining-ahead A B w ∙ ap (map (cornerAt A B)) (ahead-here w t o)
+      ∙ ap (λ (ps : List Point). (cornerRound A (w .i) ⊕ cornerRound B (w .j)) ∷ ps) (sym (remaining-ahead A B (advanced A B w)))
 
   pub at-begin : Valid a → Valid b → At a b begun
   at-begin v w = record {
@@ -96,11 +96,11 @@ module _ (a b : List ℤ) where
   }
 
   -- a walk with a corner to come is not over
-  some-to-come : (w : Walk) → 0 < length (todo A B w) → w .over ≡ false
+  some-to-come : (w : Walk) → 0 < length (remaining A B w) → w .over ≡ false
   some-to-come w h = go (w .over) refl
     where
       go : (o : Bool) → w .over ≡ o → o ≡ false
-      go true e = absurd (omega (arith, ap length (todo-over A B w e)))
+      go true e = absurd (omega (arith, ap length (remaining-over A B w e)))
       go false e = refl
 
   module _ (w : Walk) (t : At a b w) where
@@ -109,15 +109,15 @@ module _ (a b : List ℤ) where
     at-stepped (suc n) = at-advanced (stepped A B n w) (at-stepped n)
 
     -- one step more: the present corner, and what is to come after it, by position
-    next-corner : (n : ℕ) → n < length (todo A B w) → todo A B (stepped A B n w) ≡ drop n (todo A B w)
-        → here A B (stepped A B n w) ∷ todo A B (stepped A B (suc n) w) ≡ corner (todo A B w) n ∷ drop (suc n) (todo A B w)
+    next-corner : (n : ℕ) → n < length (remaining A B w) → remaining A B (stepped A B n w) ≡ drop n (remaining A B w)
+        → here A B (stepped A B n w) ∷ remaining A B (stepped A B (suc n) w) ≡ corner (remaining A B w) n ∷ drop (suc n) (remaining A B w)
     next-corner n h e =
-        let some : 0 < length (todo A B (stepped A B n w)) = omega (arith, ap length e, length-drop n (todo A B w)) in
-        sym (todo-here (stepped A B n w) (at-stepped n) (some-to-come (stepped A B n w) some)) ∙ e ∙ drop-cons (todo A B w) n origin h
+        let some : 0 < length (remaining A B (stepped A B n w)) = omega (arith, ap length e, length-drop n (remaining A B w)) in
+        sym (remaining-here (stepped A B n w) (at-stepped n) (some-to-come (stepped A B n w) some)) ∙ e ∙ drop-cons (remaining A B w) n origin h
 
-    pub todo-stepped : (n : ℕ) → n ≤ length (todo A B w) → todo A B (stepped A B n w) ≡ drop n (todo A B w)
-    todo-stepped zero h = refl
-    todo-stepped (suc n) h = cc (next-corner n h (todo-stepped n (omega arith)))
+    pub remaining-stepped : (n : ℕ) → n ≤ length (remaining A B w) → remaining A B (stepped A B n w) ≡ drop n (remaining A B w)
+    remaining-stepped zero h = refl
+    remaining-stepped (suc n) h = cc (next-corner n h (remaining-stepped n (omega arith)))
 
-    pub here-stepped : (n : ℕ) → n < length (todo A B w) → here A B (stepped A B n w) ≡ corner (todo A B w) n
-    here-stepped n h = cc (next-corner n h (todo-stepped n (omega arith)))
+    pub here-stepped : (n : ℕ) → n < length (remaining A B w) → here A B (stepped A B n w) ≡ corner (remaining A B w) n
+    here-stepped n h = cc (next-corner n h (remaining-stepped n (omega arith)))

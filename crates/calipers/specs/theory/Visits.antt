@@ -13,8 +13,8 @@ use Rattle.plane.specs.Corner.{Corner, shapeOf, sums}
 use Rattle.plane.specs.theory.Members.{_∈_, sums-some, position-member}
 use Rattle.plane.specs.theory.ShapeOf.{shapeOf-corner}
 use Rattle.plane.specs.theory.EdgeSum.{vectorSum-shape}
-use Rattle.calipers.specs.Walk.{here, begun, stepped, todo}
-use Rattle.calipers.specs.theory.Steps.{todo-begin, at-begin, here-stepped}
+use Rattle.calipers.specs.Walk.{here, begun, stepped, remaining}
+use Rattle.calipers.specs.theory.Steps.{remaining-begin, at-begin, here-stepped}
 
 module _ (a b : List ℤ) (v : Valid a) (w : Valid b) where
   abbrev A : List Point
@@ -23,11 +23,11 @@ module _ (a b : List ℤ) (v : Valid a) (w : Valid b) where
   abbrev B : List Point
   B = points b
 
-  pub sum-visited : todo A B begun ≡ shapeOf (sums A B)
-  sum-visited = todo-begin A B (v .shape .some) (w .shape .some) ∙ vectorSum-shape A B (v .shape) (w .shape)
+  pub sum-visited : remaining A B begun ≡ shapeOf (sums A B)
+  sum-visited = remaining-begin A B (v .shape .some) (w .shape .some) ∙ vectorSum-shape A B (v .shape) (w .shape)
 
-  pub visited-corner : (n : ℕ) → n < length (todo A B begun) → Corner (sums A B) (here A B (stepped A B n begun))
+  pub visited-corner : (n : ℕ) → n < length (remaining A B begun) → Corner (sums A B) (here A B (stepped A B n begun))
   visited-corner n h =
       let there = here-stepped a b begun (at-begin a b v w) n h in
       shapeOf-corner (sums A B) (sums-some A B (v .shape .some) (w .shape .some))
-      (subst (λ (ps : List Point). here A B (stepped A B n begun) ∈ ps) sum-visited (rw there (position-member (todo A B begun) n h)))
+      (subst (λ (ps : List Point). here A B (stepped A B n begun) ∈ ps) sum-visited (rw there (position-member (remaining A B begun) n h)))
