@@ -10,9 +10,9 @@ use mathlib.Core.Bool.{Bool, true, false, _&&_}
 use Prim.Native.Nat.{ℕ, zero, suc, _+_, _*_, _^_, _≤_, _<_}
 use native.Mathlib.Nat.{le-refl, le-trans, le-suc, lt-of-le-of-lt}
 use lib.Dec.{T, ltb, ltb→lt}
-use lib.IntN.{ℤ, pos, negsuc, negℤ, natAbs, _+ℤ_, _*ℤ_}
+use lib.IntN.{ℤ, pos, negsuc, negℤ, natAbs, _+ℤ_, _-ℤ_, _*ℤ_}
 use lib.Signed.{mag}
-use mir.Syntax.{Width}
+use mir.Syntax.{Width, w32}
 use mir.Val.{SFits, hbits, toZ, ofZ}
 use mir.Facts.{toZ-ofZ}
 use Rattle.integer.specs.Bound.{Within, within-add, within-mul, within-neg}
@@ -108,3 +108,12 @@ machine-fits {w} m t =
 -- a call's result x, of which the call says that it is v, read back: `result-is w32 (c .f .ok) (c .f .ensures)`
 pub result-is : (w : Width) {x v : ℤ} → mag x < 2 ^ hbits w → x ≡ v → toZ w (ofZ w x) ≡ v
 result-is w p e = toZ-ofZ (record { sfits = p }) ∙ e
+
+-- ---- examples
+
+-- a difference of two small numbers of 32 bits fits, and is their difference
+small-fits : (x y : ℤ) → Within 1000 x → Within 1000 y → SFits w32 (toZ w32 (ofZ w32 x) -ℤ toZ w32 (ofZ w32 y))
+small-fits x y h k = let p = bounded h in let q = bounded k in machine-fits (search machine depth 40) tt
+
+small-is : (x y : ℤ) → Within 1000 x → Within 1000 y → toZ w32 (ofZ w32 (toZ w32 (ofZ w32 x) -ℤ toZ w32 (ofZ w32 y))) ≡ x -ℤ y
+small-is x y h k = let p = bounded h in let q = bounded k in machine-is (search machine depth 40) tt

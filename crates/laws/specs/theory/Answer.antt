@@ -9,11 +9,9 @@
 --     valid-same                       valid shapes that reach as far in every direction are equal
 -- Assumes nothing.
 use mathlib.Core.Path.{_≡_, refl, sym, _∙_, ap, subst}
-use mathlib.Core.Bool.{false, cond}
 use mathlib.Core.List.{List, [], _∷_, _++_}
 use Prim.Native.Nat.{_*_, _≤_, _<_}
 use native.Mathlib.Omega.{arith}
-use borrow.Author.Tests.{ltb-false}
 use lib.IntN.{ℤ, pos, _+ℤ_, +ℤ-comm, +ℤ-assoc, +ℤ-idr}
 use lib.ListN.{length, take, length-append}
 use lib.Seq.{take-at}
@@ -22,13 +20,14 @@ use Rattle.plane.specs.Limits.{maxCorners}
 use Rattle.plane.specs.Point.{Point, points, numbers}
 use Rattle.plane.specs.Shape.{IsShape}
 use Rattle.plane.specs.Reply.{Row, answered}
-use Rattle.plane.specs.Refusal.{Valid, InRange, shapeRows, tooMany}
+use Rattle.plane.specs.Refusal.{Valid, InRange, shapeRows}
 use Rattle.plane.specs.Direction.{support, max}
 use Rattle.plane.specs.Corner.{shapeOf, sums}
-use Rattle.plane.specs.Output.{Written, written, answerRows, overwritten, unlessRefused}
+use Rattle.plane.specs.Output.{Written, written, answerRows, overwritten}
 use Rattle.plane.specs.Combine.{pairWritten, sumWritten, mergeWritten}
 use Rattle.plane.specs.theory.Rows.{NoneApply, firstRow-none, firstRow-answered}
-use Rattle.plane.specs.theory.Accept.{accepted→valid, inside→inRange}
+use Rattle.plane.specs.theory.Write.{none-output}
+use Rattle.plane.specs.theory.Accept.{few-corners, accepted→valid, inside→inRange}
 use Rattle.plane.specs.theory.Flat.{points-numbers, numbers-points, numbers-length}
 use Rattle.plane.specs.theory.Members.{sums-some}
 use Rattle.plane.specs.theory.Max.{left-le-max, max-comm, max-assoc, max-idem}
@@ -46,20 +45,12 @@ none-append : (vs ws : List Row) → NoneApply (vs ++ ws) → NoneApply vs × No
 none-append [] ws n = (tt, n)
 none-append (v ∷ vs) ws n = let r = none-append vs ws (n .1) in ((n .0, r .0), r .1)
 
-unlessRefused-none : (ws : List Row) (kept new : List ℤ) → NoneApply ws → unlessRefused ws kept new ≡ new
-unlessRefused-none [] kept new n = refl
-unlessRefused-none (w ∷ ws) kept new n = ap (λ b. cond b kept (unlessRefused ws kept new)) (n .0) ∙ unlessRefused-none ws kept new (n .1)
-
-few-corners : (ps : List Point) → tooMany ps ≡ false → length ps ≤ maxCorners
-unfolding tooMany
-few-corners ps h = ltb-false maxCorners (length ps) h
-
 -- then the shape's numbers stand at the front of the output
 written-front : (rows : List Row) (shape : List Point) (out : List ℤ) → NoneApply rows
     → take (2 * length shape) (written rows shape out .output) ≡ numbers shape
 unfolding overwritten
 written-front rows shape out none =
-    ap (take (2 * length shape)) (unlessRefused-none rows out _ none) ∙ take-at (numbers shape) _ (2 * length shape) (numbers-length shape)
+    ap (take (2 * length shape)) (none-output rows out _ none) ∙ take-at (numbers shape) _ (2 * length shape) (numbers-length shape)
 
 pub written-answered : (rows : List Row) (shape : List Point) (out v : List ℤ) → written rows shape out .reply ≡ answered v
     → NoneApply rows × (v ≡ pos (length shape) ∷ []) × Gives (written rows shape out) (numbers shape)

@@ -1,5 +1,6 @@
 -- The rows of refusals 1 to 5 against "What makes a shape".
 --     inside→inRange, inRange→inside      row 3 does not apply exactly if every coordinate is in range
+--     few-corners, corners-few            row 2 does not apply exactly if there are few enough corners
 --     accepted→valid          no row applies: the list is valid
 --     valid→accepted          a valid list: no row applies
 -- Assumes nothing.
@@ -74,7 +75,7 @@ unfolding badCount
 count-good l h e =
     ap₂ (λ a b. a || b) (ne-eqb (length l) 0 (λ z. omega (arith, points-length l))) (ne-eqb (length l % 2) 1 (λ z. omega arith))
 
-few-corners : (ps : List Point) → tooMany ps ≡ false → length ps ≤ maxCorners
+pub few-corners : (ps : List Point) → tooMany ps ≡ false → length ps ≤ maxCorners
 unfolding tooMany
 few-corners ps h = ltb-false maxCorners (length ps) h
 
