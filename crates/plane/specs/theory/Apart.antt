@@ -23,13 +23,13 @@ use Rattle.plane.specs.Shape.{IsShape}
 use Rattle.plane.specs.Direction.{value, support}
 use Rattle.plane.specs.Corner.{shapeOf, sums, mirrored}
 use Rattle.plane.specs.Separation.{inside, differences, apart}
+use Rattle.plane.specs.theory.Sought.{tests-agree}
 use Rattle.plane.specs.theory.Members.{_∈_, sums-member, member-sums, mirrored-member, member-mirrored, sums-some, mirrored-some}
 use Rattle.plane.specs.theory.Vector.{value-⊕, value-opposite, value-turned, value-origin}
 use Rattle.plane.specs.theory.Support.{support-attained, support-sums}
 use Rattle.plane.specs.theory.ShapeOf.{shapeOf-support, shapeOf-shape, shape-known}
 use Rattle.plane.specs.theory.EdgeSum.{vectorSum, vectorSum-shape}
 use Rattle.plane.specs.theory.Inside.{
-  tests-agree,
   inside→reach,
   Beyond,
   outside→direction,

@@ -22,7 +22,7 @@ use Rattle.plane.specs.Direction.{value, support}
 use Rattle.plane.specs.Corner.{Corner}
 use Rattle.plane.specs.theory.Forms.{Pairs, Triples, Ordered, Precedes}
 use Rattle.plane.specs.theory.Members.{_∈_, _⊆_, point-path, point-discrete, all-member, member-all, pairs-append-last}
-use Rattle.plane.specs.theory.Vector.{turn-level}
+use Rattle.plane.specs.theory.Vector.{outward, turn-level}
 use Rattle.plane.specs.theory.Support.{value-le-support, support-attained, support-unique}
 use Rattle.plane.specs.theory.Precedes.{Lower, lower, level, precedes-lower}
 
@@ -161,27 +161,23 @@ pairs-last R p (q ∷ ps) h =
     go r z (inl e) = inr (rw e (all-member (λ t. R p t) (h .0) (z .last-in)))
     go r z (inr m) = z .last-after r m
 
--- the outer normal of the line from the corner before b to the corner after it
-normal : Point → Point → Point
-normal a c = point (c .y -ℤ a .y) (a .x -ℤ c .x)
-
-normal-turns : (a b c x : Point) → value (normal a c) b -ℤ value (normal a c) x ≡ turn b c x +ℤ turn b x a
-unfolding value turn normal
+normal-turns : (a b c x : Point) → value (outward a c) b -ℤ value (outward a c) x ≡ turn b c x +ℤ turn b x a
+unfolding value turn
 normal-turns a b c x = ring (a .x ∷ a .y ∷ b .x ∷ b .y ∷ c .x ∷ c .y ∷ x .x ∷ x .y ∷ []) (search reify depth 40) tt
 
--- b is furthest along the normal past its two neighbours: what another point x falls short by is a sum of two turns, neither of them
+-- b is furthest along the outer normal past its two neighbours: what another point x falls short by is a sum of two turns, neither of them
 -- negative and not both 0
 first-corner : (b c q : Point) (ps : List Point) → Pairs (λ r s. Left b r s) (c ∷ q ∷ ps) → Corner (b ∷ c ∷ q ∷ ps) b
 first-corner b c q ps h =
     let z = pairs-last (λ r s. Left b r s) q ps (h .1) in
     record {
       member = List·Memᴰ·head refl;
-      direction = normal (z .last) c;
+      direction = outward (z .last) c;
       strictly = λ x m other. further (z .last) x (go z x (List·Memᴰ·cases-cons m) other);
     }
   where
-    further : (a x : Point) → pos 0 <ℤ (turn b c x +ℤ turn b x a) → value (normal a c) x <ℤ value (normal a c) b
-    further a x k = lia (value (normal a c) b ∷ value (normal a c) x ∷ turn b c x ∷ turn b x a ∷ []) (k & normal-turns a b c x)
+    further : (a x : Point) → pos 0 <ℤ (turn b c x +ℤ turn b x a) → value (outward a c) x <ℤ value (outward a c) b
+    further a x k = lia (value (outward a c) b ∷ value (outward a c) x ∷ turn b c x ∷ turn b x a ∷ []) (k & normal-turns a b c x)
         (search linear depth 40) (omega arith)
 
     -- c is on the line from b to c and the last is left of it

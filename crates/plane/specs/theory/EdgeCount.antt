@@ -39,7 +39,7 @@ all-trans e f b [] h = tt
 all-trans e f b (g ∷ E) h =
     (before-trans b (h .0), all-trans e f b E (h .1))
 
-from-all : (e : Point) (E : List Point) → From e E → All (Before e) E
+pub from-all : (e : Point) (E : List Point) → From e E → All (Before e) E
 from-all e [] r = tt
 from-all e (f ∷ E) r = (r .0, all-trans e f (r .0) E (from-all f E (r .2)))
 

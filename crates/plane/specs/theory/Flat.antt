@@ -3,7 +3,7 @@
 --     points-x, points-y      the coordinates of corner i stand at 2·i and 2·i + 1
 --     Near p, points-near     both coordinates are in range; those of a list in range are
 --     x-small, y-small, dx-small, dy-small      coordinates and their differences, bounded by powers of two
---     points-numbers, numbers-points, numbers-length      there and back; `numbers-x`, `numbers-y`: the coordinates of corner i
+--     points-numbers, numbers-points, numbers-length      there and back
 --     numbers-inRange         corners in range make numbers in range
 -- Assumes nothing.
 use mathlib.Core.Path.{_≡_, refl, sym, _∙_, ap, subst}
@@ -58,14 +58,6 @@ points-numbers (p ∷ ps) = ap (λ qs. p ∷ qs) (points-numbers ps)
 pub numbers-length : (ps : List Point) → length (numbers ps) ≡ 2 * length ps
 numbers-length [] = refl
 numbers-length (p ∷ ps) = let h = numbers-length ps in omega arith
-
-pub numbers-x : (ps : List Point) (i : ℕ) → i < length ps → getD (numbers ps) (2 * i) (pos 0) ≡ corner ps i .x
-numbers-x ps i h =
-    sym (points-x (numbers ps) i (subst (λ qs. i < length qs) (sym (points-numbers ps)) h)) ∙ ap (λ qs. corner qs i .x) (points-numbers ps)
-
-pub numbers-y : (ps : List Point) (i : ℕ) → i < length ps → getD (numbers ps) (2 * i + 1) (pos 0) ≡ corner ps i .y
-numbers-y ps i h =
-    sym (points-y (numbers ps) i (subst (λ qs. i < length qs) (sym (points-numbers ps)) h)) ∙ ap (λ qs. corner qs i .y) (points-numbers ps)
 
 pub numbers-points : (l : List ℤ) → length l % 2 ≡ 0 → numbers (points l) ≡ l
 numbers-points [] e = refl

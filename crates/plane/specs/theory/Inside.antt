@@ -6,7 +6,6 @@
 --     inside-refl, inside-trans, inside-antisym      a partial order of shapes
 --     inside→merge, merge→inside               A is inside the shape B exactly if both together have the shape B
 --     inside-shapeOf                           to be inside a set is to be inside its shape
---     tests-agree                              two tests that pass together are equal
 -- Lists have a point: 0 < length. The origin inside a point, a segment, a polygon is in `InsideShape.antt`. Assumes nothing.
 use mathlib.Core.Path.{_≡_, refl, sym, _∙_, ap₂}
 use mathlib.Core.Bool.{Bool, true, false, not, _&&_, true≢false, false≢true}
@@ -23,6 +22,7 @@ use Rattle.plane.specs.Shape.{precedes, IsShape}
 use Rattle.plane.specs.Direction.{value, support}
 use Rattle.plane.specs.Corner.{Corner, shapeOf}
 use Rattle.plane.specs.Separation.{sameCorners, inside}
+use Rattle.plane.specs.theory.Sought.{tests-agree}
 use Rattle.plane.specs.theory.Members.{_∈_, _⊆_, point-discrete}
 use Rattle.plane.specs.theory.Precedes.{precedes-irrefl, not-precedes, precedes-total}
 use Rattle.plane.specs.theory.Support.{value-le-support, support-attained, support-le, support-subset}
@@ -30,11 +30,6 @@ use Rattle.plane.specs.theory.Hull.{shapeOf-nonempty}
 use Rattle.plane.specs.theory.ShapeOf.{shapeOf-support, shapeOf-shape, shapeOf-corner, shape-known, shape-own, shape-extensional}
 
 -- ---- tests
-
-pub tests-agree : (s t : Bool) → (s ≡ true → t ≡ true) → (t ≡ true → s ≡ true) → s ≡ t
-tests-agree true t f g = sym (f refl)
-tests-agree false true f g = g refl
-tests-agree false false f g = refl
 
 pub equal→sameCorners : (A B : List Point) → A ≡ B → sameCorners A B ≡ true
 equal→sameCorners A B e = rw (← e) (itself A)

@@ -25,10 +25,10 @@ use Rattle.plane.specs.Direction.{value, support}
 use Rattle.plane.specs.Separation.{inside}
 use Rattle.plane.specs.theory.Forms.{NonZero}
 use Rattle.plane.specs.theory.Members.{_∈_, point-discrete, member-some}
-use Rattle.plane.specs.theory.Vector.{⊖-zero, turn-level}
+use Rattle.plane.specs.theory.Vector.{outward, ⊖-zero, turn-level}
 use Rattle.plane.specs.theory.Support.{value-le-support, support-le}
 use Rattle.plane.specs.theory.Inside.{inside→reach, reach→inside, direction→outside, inside-refl}
-use Rattle.plane.specs.theory.Sector.{square-positive, outward, value-outward, edge-outermost, left→reached}
+use Rattle.plane.specs.theory.Sector.{square-positive, value-outward, edge-outermost, left→reached}
 
 -- ---- one point
 

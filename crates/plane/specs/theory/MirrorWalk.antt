@@ -31,7 +31,7 @@ use Rattle.plane.specs.theory.Support.{support-sums}
 use Rattle.plane.specs.theory.Corners.{corner-transfer, ordered→corners}
 use Rattle.plane.specs.theory.ShapeOf.{shapeOf-support, shapeOf-shape}
 use Rattle.plane.specs.theory.Longest.{longest-corner, squared-le-length}
-use Rattle.plane.specs.theory.Reach.{outward, quarter-outward, edgeOf, furthest-reach, reach-furthest}
+use Rattle.plane.specs.theory.Reach.{quarterBack, quarter-quarterBack, edgeOf, furthest-reach, reach-furthest}
 use Rattle.plane.specs.theory.Reach.{Facing, facing-only, facing-either}
 use Rattle.plane.specs.theory.Positions.{round, cornerRound, round-within, edge-at, edges-at-most, corner-injective}
 use Rattle.plane.specs.theory.Standing.{Taken, Standing}
@@ -133,10 +133,10 @@ module _ {A M : List Point} {back : ℕ → ℕ} (w : Mirrors A M back) where
   module _ {i j : ℕ} (s : Standing (edges A) (edges M) i j) (t : Taken (edges A) i (edges M) j) where
     -- the direction out of the passed edge
     abbrev out : Point
-    out = outward (edgeOf A i)
+    out = quarterBack (edgeOf A i)
 
     across : quarter out ≡ corner (edges A) i
-    across = quarter-outward (edgeOf A i) ∙ sym (edge-at A i (t .there))
+    across = quarter-quarterBack (edgeOf A i) ∙ sym (edge-at A i (t .there))
 
     -- corner k of M is furthest out: then its opposite has the greatest turn
     image-has : (k : ℕ) → k < length M → value out (corner M k) ≡ support out M → edgeTurn A i (back k) ≡ reach A i

@@ -19,7 +19,7 @@ use Rattle.plane.specs.Refusal.{tooMany, someOutside, InRange, Valid, sh
 use Rattle.plane.specs.Corner.{shapeOf, mirrored}
 use Rattle.plane.specs.Output.{noRoom, overwritten}
 use Rattle.plane.specs.Combine.{mirrorWritten}
-use Rattle.plane.specs.theory.Flat.{Near, points-near, numbers-length}
+use Rattle.plane.specs.theory.Flat.{numbers-inRange, Near, points-near, numbers-length}
 use Rattle.plane.specs.theory.Accept.{inRange→inside, valid→accepted}
 use Rattle.plane.specs.theory.Write.{wrote-passed, wrote-room, wrote-all}
 use Rattle.plane.specs.theory.Turned.{turned-below}
@@ -31,16 +31,6 @@ near-opposite : (p : Point) → Near p → Near (opposite p)
 near-opposite p n = record { near-x = within-neg (n .near-x); near-y = within-neg (n .near-y) }
 
 -- corners in range make numbers in range
-numbers-inRange : (ps : List Point) → ((k : ℕ) → k < length ps → Near (corner ps k)) → InRange (numbers ps)
-numbers-inRange ps f = record { near = go ps f }
-  where
-    go : (ps : List Point) → ((k : ℕ) → k < length ps → Near (corner ps k)) → (i : ℕ) → i < length (numbers ps)
-        → Within maxCoordinate (getD (numbers ps) i (pos 0))
-    go [] f i h = absurd (omega arith)
-    go (p ∷ ps) f zero h = f 0 (omega arith) .near-x
-    go (p ∷ ps) f (suc zero) h = f 0 (omega arith) .near-y
-    go (p ∷ ps) f (suc (suc i)) h = go ps (λ k b. f (suc k) (suc-le-suc b)) i (omega arith)
-
 module _ (l : List ℤ) (v : Valid l) where
   abbrev image : List Point
   image = shapeOf (mirrored (points l))

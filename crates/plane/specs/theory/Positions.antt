@@ -24,6 +24,7 @@ use Rattle.integer.specs.Linear.{lia, linear, _&_}
 use Rattle.plane.specs.Point.{Point, corner, origin, _⊕_, _⊖_}
 use Rattle.plane.specs.Turn.{turn, Left}
 use Rattle.plane.specs.Shape.{IsShape}
+use Rattle.plane.specs.theory.EdgeCount.{from-all}
 use Rattle.plane.specs.theory.Forms.{Pairs, All, Ordered, Precedes, Before, NonZero, From, InOrder, edgesTo, edges}
 use Rattle.plane.specs.theory.Precedes.{precedes-different}
 use Rattle.plane.specs.theory.Vector.{total, turn-level, step-to, ⊕-assoc, ⊕-comm, ⊕-zero}
@@ -127,10 +128,6 @@ round-total ps (suc i) some h =
 all-later : {e f : Point} → Before e f → (E : List Point) → All (Before f) E → All (Before e) E
 all-later b [] h = tt
 all-later b (g ∷ E) h = (before-trans b (h .0), all-later b E (h .1))
-
-from-all : (e : Point) (E : List Point) → From e E → All (Before e) E
-from-all e [] r = tt
-from-all e (f ∷ E) r = (r .0, all-later (r .0) E (from-all f E (r .2)))
 
 in-order-pairs : (E : List Point) → InOrder E → Pairs Before E
 in-order-pairs [] o = tt

@@ -1,6 +1,6 @@
 -- The greatest turn against an edge, as a support: with d the direction out of the edge, the turn of a corner is the value of d at its
 -- opposite, up to a number that the edge alone fixes.
---     outward e, quarter-outward      the direction out of the edge e; turned left by a quarter it is e
+--     quarterBack e, quarter-quarterBack      the direction out of the edge e; turned left by a quarter it is e
 --     edgeOf ps e                     the edge that leaves corner e
 --     edgeTurn-value, reach-support   the turn, and the greatest turn, by values of the direction out of the edge
 --     reach-above, reach-had          no turn is above it; some corner has it
@@ -37,24 +37,24 @@ use Rattle.plane.specs.theory.Greatest.{greatest-above, greatest-attaine
 use Rattle.plane.specs.theory.Longest.{squared-positive}
 
 -- the edge turned right by a quarter
-abbrev pub outward : Point → Point
-outward e = point (e .y) (negℤ (e .x))
+abbrev pub quarterBack : Point → Point
+quarterBack e = point (e .y) (negℤ (e .x))
 
-pub quarter-outward : (e : Point) → quarter (outward e) ≡ e
-quarter-outward e = point-path (ring (e .x ∷ []) (search reify depth 40) tt) refl
+pub quarter-quarterBack : (e : Point) → quarter (quarterBack e) ≡ e
+quarter-quarterBack e = point-path (ring (e .x ∷ []) (search reify depth 40) tt) refl
 
 -- from corner e to the next, the last to the first
 abbrev pub edgeOf : List Point → ℕ → Point
 edgeOf ps e = corner ps (next (length ps) e) ⊖ corner ps e
 
 -- cross (b - a) (c - a), taken apart
-turn-value : (a b c : Point) → turn a b c ≡ value (outward (b ⊖ a)) (opposite c) +ℤ value (outward (b ⊖ a)) a
+turn-value : (a b c : Point) → turn a b c ≡ value (quarterBack (b ⊖ a)) (opposite c) +ℤ value (quarterBack (b ⊖ a)) a
 unfolding turn value
 turn-value a b c = ring (a .x ∷ a .y ∷ b .x ∷ b .y ∷ c .x ∷ c .y ∷ []) (search reify depth 40) tt
 
 module _ (ps : List Point) (e : ℕ) where
   pub edgeTurn-value : (c : ℕ)
-      → edgeTurn ps e c ≡ value (outward (edgeOf ps e)) (opposite (corner ps c)) +ℤ value (outward (edgeOf ps e)) (corner ps e)
+      → edgeTurn ps e c ≡ value (quarterBack (edgeOf ps e)) (opposite (corner ps c)) +ℤ value (quarterBack (edgeOf ps e)) (corner ps e)
   unfolding edgeTurn
   edgeTurn-value c = turn-value (corner ps e) (corner ps (next (length ps) e)) (corner ps c)
 
@@ -67,12 +67,12 @@ module _ (ps : List Point) (e : ℕ) where
   reach-had h = greatest-attained (edgeTurn ps e) (length ps) h
 
   pub reach-support : 0 < length ps
-      → reach ps e ≡ support (outward (edgeOf ps e)) (mirrored ps) +ℤ value (outward (edgeOf ps e)) (corner ps e)
+      → reach ps e ≡ support (quarterBack (edgeOf ps e)) (mirrored ps) +ℤ value (quarterBack (edgeOf ps e)) (corner ps e)
   unfolding reach
   reach-support some = le-antisym (greatest-le (edgeTurn ps e) (length ps) some below) above
     where
       d : Point
-      d = outward (edgeOf ps e)
+      d = quarterBack (edgeOf ps e)
 
       below : (c : ℕ) → c < length ps → edgeTurn ps e c ≤ℤ (support d (mirrored ps) +ℤ value d (corner ps e))
       below c h = lia (edgeTurn ps e c ∷ value d (opposite (corner ps c)) ∷ support d (mirrored ps) ∷ value d (corner ps e) ∷ [])
@@ -94,15 +94,15 @@ module _ (ps : List Point) (e : ℕ) where
   module _ (some : 0 < length ps) (c : ℕ) where
     -- what the two facts speak of
     abbrev numbers : List ℤ
-    numbers = edgeTurn ps e c ∷ reach ps e ∷ value (outward (edgeOf ps e)) (opposite (corner ps c))
-        ∷ support (outward (edgeOf ps e)) (mirrored ps) ∷ value (outward (edgeOf ps e)) (corner ps e) ∷ []
+    numbers = edgeTurn ps e c ∷ reach ps e ∷ value (quarterBack (edgeOf ps e)) (opposite (corner ps c))
+        ∷ support (quarterBack (edgeOf ps e)) (mirrored ps) ∷ value (quarterBack (edgeOf ps e)) (corner ps e) ∷ []
 
-    pub furthest-reach : value (outward (edgeOf ps e)) (opposite (corner ps c)) ≡ support (outward (edgeOf ps e)) (mirrored ps)
+    pub furthest-reach : value (quarterBack (edgeOf ps e)) (opposite (corner ps c)) ≡ support (quarterBack (edgeOf ps e)) (mirrored ps)
         → edgeTurn ps e c ≡ reach ps e
     furthest-reach h = lia numbers (h & edgeTurn-value c & reach-support some) (search linear depth 40) (omega arith)
 
     pub reach-furthest : edgeTurn ps e c ≡ reach ps e
-        → value (outward (edgeOf ps e)) (opposite (corner ps c)) ≡ support (outward (edgeOf ps e)) (mirrored ps)
+        → value (quarterBack (edgeOf ps e)) (opposite (corner ps c)) ≡ support (quarterBack (edgeOf ps e)) (mirrored ps)
     reach-furthest h = lia numbers (h & edgeTurn-value c & reach-support some) (search linear depth 40) (omega arith)
 
 -- ---- a shape with three corners or more

@@ -29,10 +29,10 @@ use Rattle.plane.specs.Separation.{differences, apart, notLeft, onRim, t
 use Rattle.plane.specs.theory.Forms.{NonZero}
 use Rattle.plane.specs.theory.Members.{_∈_, point-path}
 use Rattle.plane.specs.theory.Sought.{first-true, search-none}
-use Rattle.plane.specs.theory.Vector.{value-origin, value-turned, turn-level}
+use Rattle.plane.specs.theory.Vector.{outward, value-origin, value-turned, turn-level}
 use Rattle.plane.specs.theory.Support.{value-le-support, support-attained, support-le}
 use Rattle.plane.specs.theory.ShapeOf.{shapeOf-support, shapeOf-shape}
-use Rattle.plane.specs.theory.Inside.{tests-agree}
+use Rattle.plane.specs.theory.Sought.{tests-agree}
 use Rattle.plane.specs.theory.Apart.{
   value-difference,
   differences-some,
@@ -42,7 +42,7 @@ use Rattle.plane.specs.theory.Apart.{
   apart-sym,
 }
 use Rattle.plane.specs.theory.InsideShape.{turn-origin}
-use Rattle.plane.specs.theory.Sector.{outward, value-outward, edge-outermost, edge-nonzero, left→passed}
+use Rattle.plane.specs.theory.Sector.{value-outward, edge-outermost, edge-nonzero, left→passed}
 
 pub notLeft-cross : (ps : List Point) (e : ℕ) → notLeft ps e ≡ leZ (cross (corner ps e) (corner ps (next (length ps) e))) (pos 0)
 unfolding notLeft

@@ -18,6 +18,7 @@ use Rattle.integer.specs.Order.{_<×<_, _<×≤_, _≤×<_, _≡×_, le-antisym
 use Rattle.plane.specs.Point.{Point, origin, _⊕_, opposite}
 use Rattle.plane.specs.Turn.{cross}
 use Rattle.plane.specs.Shape.{precedes}
+use Rattle.plane.specs.theory.Sought.{tests-agree}
 use Rattle.plane.specs.theory.Forms.{up, before, NonZero, From}
 use Rattle.plane.specs.theory.Members.{point-path}
 use Rattle.plane.specs.theory.Precedes.{Lower, lower, level, precedes-lower}
@@ -40,11 +41,6 @@ same-sym s =
 
 -- ---- the order by angle cannot tell them apart
 
-both-true : (a b : Bool) → (a ≡ true → b ≡ true) → (b ≡ true → a ≡ true) → a ≡ b
-both-true true b h k = sym (h refl)
-both-true false true h k = k refl
-both-true false false h k = refl
-
 -- numbers whose multiples by the two numbers are equal have the same sign
 module _ {e f : Point} (s : SameWay e f) (a b : ℤ) (q : s .m *ℤ a ≡ s .n *ℤ b) where
   scaled-lt : pos 0 <ℤ a → pos 0 <ℤ b
@@ -57,11 +53,11 @@ module _ {e f : Point} (s : SameWay e f) (a b : ℤ) (q : s .m *ℤ a ≡ s .n *
 
 module _ {e f : Point} (s : SameWay e f) (a b : ℤ) (q : s .m *ℤ a ≡ s .n *ℤ b) where
   same-lt : ltZ (pos 0) a ≡ ltZ (pos 0) b
-  same-lt = both-true _ _ (λ h. lt-ltZ (scaled-lt s a b q (ltZ-true {x = pos 0} {y = a} h)))
+  same-lt = tests-agree _ _ (λ h. lt-ltZ (scaled-lt s a b q (ltZ-true {x = pos 0} {y = a} h)))
       (λ h. lt-ltZ (scaled-lt (same-sym s) b a (sym q) (ltZ-true {x = pos 0} {y = b} h)))
 
   same-le : leZ (pos 0) a ≡ leZ (pos 0) b
-  same-le = both-true _ _ (λ h. le-leZ (scaled-le s a b q (leZ-true {x = pos 0} {y = a} h)))
+  same-le = tests-agree _ _ (λ h. le-leZ (scaled-le s a b q (leZ-true {x = pos 0} {y = a} h)))
       (λ h. le-leZ (scaled-le (same-sym s) b a (sym q) (leZ-true {x = pos 0} {y = b} h)))
 
 pub same-up : {e f : Point} → SameWay e f → up e ≡ up f

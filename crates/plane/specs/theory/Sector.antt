@@ -1,6 +1,6 @@
 -- Round a shape: the outer normal of an edge, and the sector between the two edges at a corner.
 --     square-positive                  the value of a vector, not zero, in its own direction
---     outward a b, value-outward       the direction that an edge faces outwards; a point's value in it falls by its turn
+--     value-outward                    in the direction that an edge faces outwards a point's value falls by its turn
 --     edge-outermost, edge-nonzero     in it no corner is further than the edge; in a polygon it is not zero
 --     left→reached                     a point that is right of no edge of a polygon is in every direction no further than the polygon
 --     left→passed                      left of all edges: the polygon is further in every direction other than (0,0)
@@ -40,7 +40,7 @@ use Rattle.plane.specs.Shape.{next, IsShape}
 use Rattle.plane.specs.Direction.{value, support}
 use Rattle.plane.specs.theory.Forms.{NonZero}
 use Rattle.plane.specs.theory.Members.{_∈_, point-path, member-position, position-member}
-use Rattle.plane.specs.theory.Vector.{turn-back, turn-level}
+use Rattle.plane.specs.theory.Vector.{outward, turn-back, turn-level}
 use Rattle.plane.specs.theory.Next.{next-below, preceding, two-steps}
 use Rattle.plane.specs.theory.Support.{value-le-support, support-attained}
 
@@ -67,9 +67,6 @@ square-positive d n = go (compared (d .x) (pos 0)) (compared (d .y) (pos 0))
     go (is-equal e) (is-equal f) = absurd (n .non-zero (point-path e f))
 
 -- ---- the outer normal of an edge
-
-abbrev pub outward : Point → Point → Point
-outward a b = point (b .y -ℤ a .y) (a .x -ℤ b .x)
 
 pub value-outward : (a b c : Point) → value (outward a b) c ≡ value (outward a b) a -ℤ turn a b c
 unfolding value turn

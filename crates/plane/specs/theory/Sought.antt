@@ -6,8 +6,9 @@
 --     sought-start, -more, -found, -none     the moves of the loop  while i < n { if p(i) { found } i += 1 }
 --     sought-yes, sought-no                  its ends, where only whether there is such a number is asked
 --     search-none, none-search               there is none exactly if the test fails at every number below n
+--     true-not-false, tests-agree            a test is not both; two tests that pass together are equal
 -- Assumes nothing.
-use mathlib.Core.Path.{_≡_, refl, _∙_, ap}
+use mathlib.Core.Path.{_≡_, refl, sym, _∙_, ap}
 use mathlib.Core.Bool.{Bool, true, false}
 use Prim.Native.Nat.{ℕ, zero, suc, _+_, _≤_, _<_, zero-le}
 use native.Mathlib.Omega.{arith}
@@ -20,6 +21,12 @@ use Rattle.plane.specs.Search.{first}
 pub true-not-false {ℓ} : {X : Type ℓ} {b : Bool} → b ≡ true → b ≡ false → X
 true-not-false {b = true} p q = absurd (let z : _≡_ {A = ℕ} 0 1 = cc in let f : ⊥ = omega arith in f)
 true-not-false {b = false} p q = absurd (let z : _≡_ {A = ℕ} 0 1 = cc in let f : ⊥ = omega arith in f)
+
+-- two tests that pass together are equal
+pub tests-agree : (s t : Bool) → (s ≡ true → t ≡ true) → (t ≡ true → s ≡ true) → s ≡ t
+tests-agree true t f g = sym (f refl)
+tests-agree false true f g = g refl
+tests-agree false false f g = refl
 
 -- the first step of a search: found at 0, or one further than the search from 1 on
 first-suc : (p : ℕ → Bool) (n : ℕ) (P : ℕ → Type 0) → (p 0 ≡ true → P 0) → (p 0 ≡ false → P (suc (first (λ i. p (suc i)) n))) → P (first p (suc n))

@@ -5,13 +5,14 @@
 --     cross-self, cross-swap, cross-opposite, cross-turned     the laws of the cross product; `cross-nonzero`: above 0, of two not zero
 --     turn-edges                          the turn at a corner is the product of its two edges
 --     turn-stay, turn-back, turn-level    with two of three corners equal there is no turn
+--     outward a b                         the outer normal of the edge a to b
 --     quarter d                           d turned left by a quarter; `value-cross`: the value of d is the product with it
 --     value-⊕, value-origin, value-opposite, value-turned      the value of a sum, of the origin, of -p, and of p in direction -d
 -- Which vectors are up is in `HalfPlane.antt`, their order by angle in `Angle.antt`. Assumes nothing.
 use mathlib.Core.Path.{_≡_, _∙_, ap}
 use mathlib.Core.List.{List, [], _∷_}
 use native.Mathlib.Omega.{arith}
-use lib.IntN.{pos, negℤ, _+ℤ_}
+use lib.IntN.{pos, negℤ, _+ℤ_, _-ℤ_}
 use lib.Signed.{_<ℤ_}
 use Rattle.integer.specs.Ring.{ring, reify}
 use Rattle.integer.specs.Linear.{linear, lia, _&_}
@@ -119,6 +120,10 @@ unfolding turn
 turn-level p q = ring (p .x ∷ p .y ∷ q .x ∷ q .y ∷ []) (search reify depth 40) tt
 
 -- ---- values
+
+-- the outer normal of the edge a to b
+abbrev pub outward : Point → Point → Point
+outward a b = point (b .y -ℤ a .y) (a .x -ℤ b .x)
 
 -- d turned left by a quarter
 abbrev pub quarter : Point → Point
