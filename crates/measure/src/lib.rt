@@ -18,7 +18,7 @@ use polygon::opposite;
 // far apart. Of several such pairs: the smallest first position, then the smallest second. A point
 // answers 0 at 0, 0, and a segment its own two corners. Parallel edges are passed in one step, and
 // the corners at the greatest distance are met all the same. Refused: what `judge` refuses.
-// Ruled out: ties to the larger position.
+// Ruled out: ties to the larger position; first position given twice.
 pub fn length(list: &[i32]) -> Length
     ensures { λ r. ⌜ lengthAnswer r ≡ lengthReply (now (list .entry)) ⌝ }
 {

@@ -52,7 +52,7 @@ pub fn inside(a: &[i32], b: &[i32]) -> Inside
 
 // The clearance squared: 0 if the shapes are not apart, else the least squared distance between a corner of one and a corner of the other.
 // Two points have their own squared distance. Refused: 1 to 5 of the first shape, then of the second.
-// Ruled out: the nearest corner missed.
+// Ruled out: the nearest corner missed; a clearance where the shapes touch.
 pub fn clearance(a: &[i32], b: &[i32]) -> Clearance
     ensures { λ r. ⌜ clearanceAnswer r ≡ clearanceReply (now (a .entry)) (now (b .entry)) ⌝ }
 {
