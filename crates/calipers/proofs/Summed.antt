@@ -5,7 +5,6 @@
 --     summed-room                    the output is too small
 --     written-place                  before the corners are written, there is room for them
 --     summed-all                     they are written
--- Assumes nothing.
 use mathlib.Core.Path.{_≡_, refl, sym, _∙_, ap, subst}
 use mathlib.Core.Bool.{Bool, true, false, cond}
 use mathlib.Core.List.{List, [], _∷_, _++_}
@@ -22,9 +21,10 @@ use Rattle.plane.specs.Judge.{judged}
 use Rattle.plane.specs.Corner.{shapeOf, sums}
 use Rattle.plane.specs.Output.{noRoom, answerRows}
 use Rattle.plane.specs.Combine.{sumWritten}
-use Rattle.plane.specs.theory.EdgeSum.{vectorSum, vectorSum-shape}
-use Rattle.plane.specs.theory.Flat.{numbers-length}
-use Rattle.plane.specs.theory.Write.{Wrote, wrote-many, wrote-far, wrote-room, wrote-all}
+use Rattle.plane.specs.VectorSum.{vectorSum}
+use Rattle.plane.specs.theory.sum.EdgeSum.{vectorSum-shape}
+use Rattle.plane.specs.theory.lists.Flat.{numbers-length}
+use Rattle.plane.specs.theory.refusals.Write.{Wrote, wrote-many, wrote-far, wrote-room, wrote-all}
 use Rattle.polygon.specs.Answer.{faultReply, judgedReply, answerReply}
 use Rattle.polygon.specs.declared.Fault.{Fault}
 use Rattle.polygon.specs.declared.Judged.the-variants.{No as Judged·No}

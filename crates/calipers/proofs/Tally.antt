@@ -2,7 +2,6 @@
 --     Tally a b walk count some           so many corners are passed, not too many; whether some of them is out of range
 --     tally-start, -more, -less           its moves, and that what is to come gets less
 --     tally-many, -far, -all              its three ends
--- Assumes nothing.
 use mathlib.Core.Path.{_≡_, refl, sym, _∙_, ap, ap₂, subst}
 use mathlib.Core.Bool.{Bool, true, false, _||_, or-assoc}
 use mathlib.Core.List.{List, []}
@@ -15,8 +14,8 @@ use lib.ListN.{length}
 use Rattle.plane.specs.Limits.{maxCorners}
 use Rattle.plane.specs.Point.{Point, points}
 use Rattle.plane.specs.Refusal.{tooMany}
-use Rattle.plane.specs.theory.Far.{far, anyFar, someOutside-far}
-use Rattle.plane.specs.theory.EdgeSum.{vectorSum}
+use Rattle.calipers.specs.theory.Far.{far, anyFar, someOutside-far}
+use Rattle.plane.specs.VectorSum.{vectorSum}
 use Rattle.polygon.specs.declared.answer.Answer.the-variants.{Corners, No}
 use Rattle.polygon.specs.declared.answer.Refusal.the-variants.{Many, Far}
 use Rattle.calipers.specs.declared.walk.Walk.{Walk}

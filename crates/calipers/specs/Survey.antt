@@ -1,5 +1,4 @@
 -- One look over the corners of an answer, before anything is written: refusals 6 and 7 in their order, else the count of corners.
--- Assumes nothing.
 use mathlib.Core.Bool.{cond}
 use mathlib.Core.List.{List}
 use lib.ListN.{length}

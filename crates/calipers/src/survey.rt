@@ -2,8 +2,8 @@
 ghost use mathlib.Core.Bool.{_||_};
 ghost use mathlib.Core.Path.{_≡_};
 ghost use Rattle.plane.specs.Point.{points};
-ghost use Rattle.plane.specs.theory.EdgeSum.{vectorSum};
-ghost use Rattle.plane.specs.theory.Far.{far};
+ghost use Rattle.plane.specs.VectorSum.{vectorSum};
+ghost use Rattle.calipers.specs.theory.Far.{far};
 ghost use Rattle.calipers.specs.Walk.{At, here, begun};
 ghost use Rattle.calipers.specs.Survey.{surveyed};
 use crate::walk::Walk;

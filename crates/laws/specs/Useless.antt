@@ -1,7 +1,7 @@
 -- The four useless builds (document 01, "How tight the words are drawn"): none of them keeps the promise of a sum.
 --     Promised call      what a sum promises: answer and whole output are those of the definition
 --     square, triangle   01's S and T, whose sum has five corners; room: a lent output of twelve numbers
--- That every sum which fits is answered is `fitting-sum` of `Laws.antt`. Assumes nothing.
+-- That every sum which fits is answered is `fitting-sum` of `Laws.antt`.
 use mathlib.Core.Path.{_≡_, refl, sym, _∙_, ap}
 use mathlib.Core.List.{List, [], _∷_}
 use Prim.Native.Nat.{ℕ}

@@ -2,7 +2,6 @@
 --     length-faulty, width-faulty       what `judge` refuses
 --     width-flat                        row 10
 --     length-answered, width-answered   of a valid list, the values; `length-within`, `some-squared`: what is asked on the way to them
--- Assumes nothing.
 use mathlib.Core.Path.{_≡_, refl, sym, _∙_}
 use mathlib.Core.List.{List, [], _∷_}
 use Prim.Native.Nat.{ℕ, _<_, _≤_}
@@ -16,14 +15,14 @@ use Rattle.plane.specs.Point.{Point, points, corner}
 use Rattle.plane.specs.Reply.{Reply, answered, refused, row, firstRow}
 use Rattle.plane.specs.Refusal.{shapeRows, Valid}
 use Rattle.plane.specs.Judge.{judged}
-use Rattle.plane.specs.Measure.{squared, lengthSquared, lengthReply}
-use Rattle.plane.specs.Measure.{reach, edgeSquared, widthEdge, widthCorner, widthRounded, widthReply}
-use Rattle.plane.specs.theory.Rows.{firstRow-none, firstRow-passed, row-given, row-passed}
-use Rattle.plane.specs.theory.Accept.{valid→accepted}
-use Rattle.plane.specs.theory.Longest.{length-longest}
-use Rattle.plane.specs.theory.Reach.{edgeSquared-positive}
-use Rattle.plane.specs.theory.Rounded.{rounded-unique}
-use Rattle.plane.specs.theory.WidthScan.{Width, none, best, width-done}
+use Rattle.plane.specs.Measure.{squared, lengthSquared, lengthReply, reach, edgeSquared, widthEdge, widthCorner, widthRounded, widthReply}
+use Rattle.plane.specs.theory.refusals.Rows.{firstRow-none, firstRow-passed, row-given, row-passed}
+use Rattle.plane.specs.theory.refusals.Accept.{valid→accepted}
+use Rattle.measure.specs.theory.Longest.{length-longest}
+use Rattle.measure.specs.theory.Reach.{edgeSquared-positive}
+use Rattle.measure.specs.theory.Rounded.{rounded-unique}
+use Rattle.measure.specs.theory.WidthScan.{width-done}
+use Rattle.measure.specs.Comparison.{Width, none, best}
 use Rattle.polygon.specs.Answer.{faultReply, judgedReply}
 use Rattle.polygon.specs.declared.Fault.{Fault}
 use Rattle.polygon.specs.declared.Judged.the-variants.{No}

@@ -1,7 +1,6 @@
 -- Document 01's number and values for each case of the enums ("Where an answer is an enum ..").
 --     lengthAnswer r    the answer of `length`
 --     widthAnswer r     the answer of `width`
--- Assumes nothing.
 use mathlib.Core.List.{[], _∷_}
 use lib.IntN.{pos}
 use Rattle.plane.specs.Reply.{Reply, answered, refused}

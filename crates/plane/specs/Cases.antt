@@ -1,5 +1,5 @@
 -- Document 01's starred cases ("Cases to hold against"), as one table over the definitions and one fact about all its rows, by computing.
--- The rows are quoted in 01's order; a row is what the definition gives and what 01 states. Assumes nothing.
+-- The rows are quoted in 01's order; a row is what the definition gives and what 01 states.
 use mathlib.Core.Path.{_≡_, refl}
 use mathlib.Core.Bool.{cond}
 use mathlib.Core.List.{List, [], _∷_, map}

@@ -2,7 +2,7 @@
 --     shapeRows which l    the five rows, in number order
 --     InRange l            "each coordinate from -1,000,000 to 1,000,000"
 --     Valid l              l meets all that stands under "What makes a shape"
--- What it means: `valid→accepted`, `accepted→valid`. Assumes nothing.
+-- What it means: `valid→accepted`, `accepted→valid`.
 use mathlib.Core.Bool.{Bool, true, false, not, _&&_, _||_}
 use mathlib.Core.List.{List, [], _∷_}
 use mathlib.Core.Path.{_≡_}

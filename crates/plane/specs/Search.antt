@@ -1,6 +1,6 @@
 -- Searching the numbers below a bound.
 --     first p n     the least i below n at which the test p passes; n where it passes at none
--- What it means: `Sought` of the theory. Assumes nothing.
+-- What it means: `Sought` of the theory.
 use mathlib.Core.Bool.{Bool, true, false}
 use Prim.Native.Nat.{ℕ, zero, suc}
 

@@ -4,7 +4,6 @@
 --     valid-passed      a valid list: its rows may be left out
 --     judged-refused    likewise of a question that writes nothing
 --     furthest-faulty, mirror-faulty      what a fault says of the questions on one list
--- Assumes nothing.
 use mathlib.Core.Path.{_≡_, refl, sym, _∙_, ap, ap₂}
 use mathlib.Core.Bool.{Bool, true, false, cond}
 use mathlib.Core.List.{List, [], _∷_, _++_}
@@ -22,9 +21,9 @@ use Rattle.plane.specs.Corner.{shapeOf, mirrored}
 use Rattle.plane.specs.Output.{answerRows}
 use Rattle.plane.specs.Furthest.{badDirection, furthestReply}
 use Rattle.plane.specs.Combine.{mirrorWritten}
-use Rattle.plane.specs.theory.Rows.{First, Outcome, given, passed, outcome, firstRow-append, firstRow-given, firstRow-none, firstRow-answered}
-use Rattle.plane.specs.theory.Write.{Wrote, wrote-given, wrote-passed}
-use Rattle.plane.specs.theory.Accept.{accepted→valid, valid→accepted}
+use Rattle.plane.specs.theory.refusals.Rows.{First, Outcome, given, passed, outcome, firstRow-append, firstRow-given, firstRow-none, firstRow-answered}
+use Rattle.plane.specs.theory.refusals.Write.{Wrote, wrote-given, wrote-passed}
+use Rattle.plane.specs.theory.refusals.Accept.{accepted→valid, valid→accepted}
 use Rattle.polygon.specs.Answer.{faultReply, judgedReply}
 use Rattle.polygon.specs.declared.Fault.{Fault}
 use Rattle.polygon.specs.declared.Fault.the-variants.{Count, Many, Range, Side, Start}

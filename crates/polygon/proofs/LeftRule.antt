@@ -2,7 +2,6 @@
 --     broken-at          both searches stopped
 --     broken-nowhere     the outer one came to its end
 --     broken-found, broken-none     the same, read off the result
--- Assumes nothing.
 use mathlib.Core.Path.{_≡_, refl, sym, _∙_, ap, ap₂}
 use mathlib.Core.Bool.{Bool, true, false, cond}
 use mathlib.Core.List.{List}

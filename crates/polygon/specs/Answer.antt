@@ -4,7 +4,6 @@
 --     furthestAnswerReply r         the answer of `furthest`
 --     refusalReply r, answerReply a     the answers of the questions that write a shape
 --     broken ps             where the left rule is broken first, as the code carries it
--- Assumes nothing.
 use mathlib.Core.Bool.{cond}
 use mathlib.Core.List.{List, [], _∷_}
 use Prim.Native.Nat.{ℕ}

@@ -1,2 +1,3 @@
--- The answers of this crate's functions in document 01's terms.
+-- The answers of this crate's functions in document 01's terms; then the theory of the furthest corner.
 pub mod Answer
+pub mod theory

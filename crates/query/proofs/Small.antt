@@ -1,5 +1,4 @@
 -- Sums of small numbers fit 64 bits: what a machine term (integer, Machine) can be made of here.
--- Assumes nothing.
 use mathlib.Core.Path.{_≡_, _∙_}
 use Prim.Native.Nat.{ℕ, _≤_}
 use native.Mathlib.Omega.{arith}

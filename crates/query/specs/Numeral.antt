@@ -1,6 +1,5 @@
 -- The numbers of 32 bits that a sign and digits stand for.
 --     signedOf negative n    the number of size n with this sign, if 32 bits hold it
--- Assumes nothing.
 use Prim.Native.Nat.{ℕ}
 use mathlib.Core.Bool.{Bool, true, false, cond}
 use lib.Dec.{ltb, leb}

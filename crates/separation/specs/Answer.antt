@@ -5,7 +5,6 @@
 --     clearanceAnswer r                   the answer of `clearance`
 --     Admitted a b r                      what judging both lists says: two shapes, or the refusal of every question on them
 --     Same a b r                          r says whether two lists are equal
--- Assumes nothing.
 use mathlib.Core.Path.{_≡_}
 use mathlib.Core.Bool.{Bool, true, false}
 use mathlib.Core.List.{List, [], _∷_, _++_}

@@ -4,7 +4,7 @@ ghost use mathlib.Core.Path.{_≡_};
 ghost use Rattle.plane.specs.Point.{points};
 ghost use Rattle.plane.specs.Turn.{cross};
 ghost use Rattle.plane.specs.Direction.{value};
-ghost use Rattle.plane.specs.theory.EdgeSum.{vectorSum};
+ghost use Rattle.plane.specs.VectorSum.{vectorSum};
 ghost use Rattle.calipers.specs.Walk.{At, here, begun};
 ghost use Rattle.separation.specs.Answer.{placeNumber};
 ghost use Rattle.separation.specs.Around.{Passed, placed, placedFew};

@@ -1,5 +1,4 @@
 -- `sum` meets its contract: both shapes are judged, the corners of the sum counted, and then written.
--- Assumes nothing.
 use mathlib.Core.Path.{sym, _∙_, ap}
 use borrow.Author.Needs.{needs}
 use Rattle.plane.specs.Refusal.{Valid}

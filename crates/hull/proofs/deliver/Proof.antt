@@ -1,5 +1,4 @@
 -- `deliver` meets its contract: refusals 6 and 8 in their order, 7 does not apply, and two copies make the answer.
--- Assumes nothing.
 use mathlib.Core.Path.{_≡_, sym, _∙_, ap}
 use mathlib.Core.Bool.{false}
 use mathlib.Core.List.{List, [], _∷_, _++_}
@@ -14,8 +13,8 @@ use Rattle.plane.specs.Limits.{maxCorners, corners-small}
 use Rattle.plane.specs.Point.{points, numbers}
 use Rattle.plane.specs.Reply.{answered}
 use Rattle.plane.specs.Refusal.{tooMany, someOutside}
-use Rattle.plane.specs.theory.Flat.{points-length}
-use Rattle.plane.specs.theory.Write.{wrote-many, wrote-room, wrote-all}
+use Rattle.plane.specs.theory.lists.Flat.{points-length}
+use Rattle.plane.specs.theory.refusals.Write.{wrote-many, wrote-room, wrote-all}
 use Rattle.hull.specs.theory.Deliver.{fronts-length, fronts-many, fronts-room, fronts-near, fronts-pasted}
 use Rattle.hull.proofs.deliver.Statement.{statement}
 use Rattle.hull.proofs.deliver.Tie as tie

@@ -1,5 +1,5 @@
 -- `merge` meets its contract: both lists are judged, the chains of both together are the shape, and it is delivered. The limit is opened where
--- the buffers have room for both. Assumes nothing.
+-- the buffers have room for both.
 use mathlib.Core.Path.{refl, sym, _∙_, ap}
 use mathlib.Core.List.{List, _++_}
 use Prim.Native.Nat.{_*_}

@@ -3,7 +3,6 @@
 --     fronts-near           those of two lists in range are in range, so that refusal 7 does not apply
 --     fronts-length         as many corners as both; fronts-many, fronts-room: what that says of refusals 6 and 8
 --     fronts-pasted         copied one after the other they stand at the front of the output, and all behind them is kept
--- Assumes nothing.
 use mathlib.Core.Path.{_≡_, refl, sym, _∙_, ap, ap₂, subst}
 use mathlib.Core.Bool.{Bool, true, false}
 use mathlib.Core.List.{List, [], _∷_, _++_}
@@ -20,8 +19,8 @@ use Rattle.plane.specs.Limits.{maxCorners, maxCoordinate}
 use Rattle.plane.specs.Point.{Point, points, numbers}
 use Rattle.plane.specs.Refusal.{InRange, tooMany, someOutside}
 use Rattle.plane.specs.Output.{noRoom, overwritten}
-use Rattle.plane.specs.theory.Flat.{points-length, numbers-length}
-use Rattle.plane.specs.theory.Accept.{inRange→inside}
+use Rattle.plane.specs.theory.lists.Flat.{points-length, numbers-length}
+use Rattle.plane.specs.theory.refusals.Accept.{inRange→inside}
 
 pub numbers-front : (l : List ℤ) (m : ℕ) → m ≤ length (points l) → numbers (take m (points l)) ≡ take (2 * m) l
 numbers-front l zero h = refl

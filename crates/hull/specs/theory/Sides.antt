@@ -1,7 +1,6 @@
 -- The two chains that the scans leave, each without its last corner, are the shape.
 --     UpToLast n k m     what is taken of a chain
 --     sides              what both scans leave of the ascending corners of a set, read upwards and downwards, joins to its shape
--- Assumes nothing.
 use mathlib.Core.Path.{_≡_, refl, sym, _∙_, ap, ap₂, subst}
 use mathlib.Core.List.{List, [], _∷_, _++_, reverse}
 use Prim.Native.Nat.{ℕ, suc, _+_, _-_, _≤_, _<_}
@@ -13,8 +12,8 @@ use lib.ListN.{length, take}
 use lib.Seq.{length-take-le}
 use Rattle.plane.specs.Point.{Point, points}
 use Rattle.plane.specs.Corner.{ascending, scan, withoutFirst, around, shapeOf}
-use Rattle.plane.specs.theory.Flat.{points-length}
-use Rattle.plane.specs.theory.Least.{ascending-some}
+use Rattle.plane.specs.theory.lists.Flat.{points-length}
+use Rattle.hull.specs.theory.Least.{ascending-some}
 use Rattle.hull.specs.Buffer.{stack, Holds, Scanned, Sides}
 use Rattle.hull.specs.theory.Stack.{stack-length, stack-reverse, take-stack}
 

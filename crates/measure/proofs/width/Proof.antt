@@ -1,5 +1,4 @@
 -- `width` meets its contract: the rows of the shape, row 10, then the walk round it and its mirror image.
--- Assumes nothing.
 use mathlib.Core.Path.{sym, _∙_, ap}
 use Prim.Native.Nat.{_≤_}
 use native.Mathlib.Omega.{arith}
@@ -8,7 +7,7 @@ use lib.ListN.{length}
 use Rattle.plane.specs.Limits.{maxCorners}
 use Rattle.plane.specs.Point.{points}
 use Rattle.plane.specs.Refusal.{Valid}
-use Rattle.plane.specs.theory.Mirror.{Top}
+use Rattle.plane.specs.theory.mirror.Mirror.{Top}
 use Rattle.polygon.specs.Answer.{judgedReply}
 use Rattle.polygon.proofs.Judging.{judged-shape}
 use Rattle.measure.proofs.Image.{image-room, image-within, image-length, image-made}

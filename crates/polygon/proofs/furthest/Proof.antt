@@ -1,5 +1,4 @@
 -- `furthest` meets its contract: the rows of the shape, then the row of the direction, then the walk.
--- Assumes nothing.
 use mathlib.Core.Path.{_≡_, sym, _∙_, ap, ap₂}
 use mathlib.Core.List.{[], _∷_}
 use Prim.Native.Nat.{ℕ}
@@ -14,8 +13,8 @@ use Rattle.plane.specs.Direction.{support, furthest}
 use Rattle.plane.specs.Reply.{answered}
 use Rattle.plane.specs.Refusal.{Valid}
 use Rattle.plane.specs.Furthest.{badDirection}
-use Rattle.plane.specs.theory.Bounds.{support-size}
-use Rattle.plane.specs.theory.Furthest.{direction-near, furthest-refused, furthest-answered}
+use Rattle.plane.specs.theory.support.Bounds.{support-size}
+use Rattle.polygon.specs.theory.Furthest.{direction-near, furthest-refused, furthest-answered}
 use Rattle.polygon.specs.Answer.{judgedReply}
 use Rattle.polygon.proofs.Judging.{judged-shape, furthest-faulty}
 use Rattle.polygon.proofs.furthest.Statement.{statement}

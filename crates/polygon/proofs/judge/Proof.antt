@@ -1,5 +1,4 @@
 -- `judge` meets its contract: each test is a row of the table, and the rows before it did not apply.
--- Assumes nothing.
 use mathlib.Core.Path.{_≡_, sym, _∙_, ap, ap₂}
 use mathlib.Core.Bool.{false}
 use mathlib.Core.List.{List, [], _∷_}
@@ -12,7 +11,7 @@ use Rattle.plane.specs.Point.{points}
 use Rattle.plane.specs.Reply.{answered, refused}
 use Rattle.plane.specs.Refusal.{badCount, tooMany, someOutside, equalPair, brokenEdge, brokenCorner, badStart}
 use Rattle.plane.specs.Judge.{judged}
-use Rattle.plane.specs.theory.Accept.{inside→inRange}
+use Rattle.plane.specs.theory.refusals.Accept.{inside→inRange}
 use Rattle.polygon.proofs.LeftRule.{broken-found, broken-none}
 use Rattle.polygon.proofs.judge.Statement.{statement}
 use Rattle.polygon.proofs.judge.Tie as tie

@@ -1,5 +1,4 @@
 -- `mirror` meets its contract: the rows of the shape, then row 8; rows 6 and 7 never apply.
--- Assumes nothing.
 use mathlib.Core.Path.{sym, _∙_, ap}
 use mathlib.Core.List.{[], _∷_}
 use Prim.Native.Nat.{ℕ, _*_, _≤_}
@@ -10,9 +9,9 @@ use lib.ListN.{length}
 use Rattle.plane.specs.Point.{points}
 use Rattle.plane.specs.Reply.{answered}
 use Rattle.plane.specs.Refusal.{Valid}
-use Rattle.plane.specs.theory.Flat.{points-length}
-use Rattle.plane.specs.theory.Mirror.{Top}
-use Rattle.plane.specs.theory.MirrorWritten.{mirror-room, mirror-written}
+use Rattle.plane.specs.theory.lists.Flat.{points-length}
+use Rattle.plane.specs.theory.mirror.Mirror.{Top}
+use Rattle.plane.specs.theory.mirror.MirrorWritten.{mirror-room, mirror-written}
 use Rattle.polygon.specs.Answer.{judgedReply}
 use Rattle.polygon.proofs.Judging.{judged-shape, mirror-faulty}
 use Rattle.polygon.proofs.mirror.Statement.{statement}

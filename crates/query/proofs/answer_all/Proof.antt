@@ -1,5 +1,4 @@
 -- `answer_all` is safe and ends. The invariant: every buffer keeps its length. The measure: the turns left.
--- Assumes nothing.
 use mathlib.Core.Path.{_≡_}
 use lib.ListN.{length}
 use borrow.Author.Needs.{needs}

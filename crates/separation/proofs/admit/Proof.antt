@@ -1,12 +1,11 @@
 -- `admit` meets its contract: a fault is the first row of the table that applies, whichever shape is blamed.
--- Assumes nothing.
 use mathlib.Core.Path.{sym, _∙_, ap}
 use mathlib.Core.List.{[]}
 use borrow.Author.Needs.{needs}
 use Rattle.plane.specs.Reply.{answered}
 use Rattle.plane.specs.Refusal.{shapeRows, Valid}
-use Rattle.plane.specs.theory.Accept.{valid→accepted}
-use Rattle.plane.specs.theory.Rows.{firstRow-passed}
+use Rattle.plane.specs.theory.refusals.Accept.{valid→accepted}
+use Rattle.plane.specs.theory.refusals.Rows.{firstRow-passed}
 use Rattle.polygon.specs.Answer.{judgedReply}
 use Rattle.polygon.proofs.Judging.{judged-shape, judged-refused}
 use Rattle.separation.proofs.admit.Statement.{statement}

@@ -1,5 +1,4 @@
 -- `clearance` meets its contract: both lists are judged, the shapes placed, and the nearest corners sought if they are apart.
--- Assumes nothing.
 use mathlib.Core.Path.{_≡_, sym, _∙_, ap, subst}
 use mathlib.Core.Bool.{false}
 use mathlib.Core.List.{List, [], _∷_}
@@ -15,7 +14,7 @@ use Rattle.plane.specs.Point.{Point, points}
 use Rattle.plane.specs.Reply.{answered}
 use Rattle.plane.specs.Refusal.{Valid}
 use Rattle.plane.specs.Separation.{apart, clearanceReply}
-use Rattle.plane.specs.theory.Clearance.{zero-clearance}
+use Rattle.separation.specs.theory.Clearance.{zero-clearance}
 use Rattle.separation.specs.declared.answer.Place.{Place}
 use Rattle.separation.specs.declared.answer.Place.the-variants.{Apart, Touching, Overlapping}
 use Rattle.separation.specs.Answer.{placeNumber, Admitted}

@@ -1,5 +1,4 @@
 -- `inside` meets its contract: both lists are judged, and the shapes merged.
--- Assumes nothing.
 use mathlib.Core.Path.{sym, _∙_, ap, subst}
 use mathlib.Core.Bool.{Bool, cond}
 use mathlib.Core.List.{[], _∷_}

@@ -1,5 +1,4 @@
 -- `place` meets its contract: the mirror image stands at the front of the buffer, and the walk goes round its sum with the first shape.
--- Assumes nothing.
 use mathlib.Core.Path.{_≡_, refl, sym, _∙_, ap, subst}
 use mathlib.Core.List.{List}
 use Prim.Native.Nat.{_*_, _≤_}
@@ -10,8 +9,8 @@ use lib.ListN.{length, take}
 use lib.Seq.{length-take-le}
 use Rattle.plane.specs.Limits.{maxCorners}
 use Rattle.plane.specs.Point.{points, numbers}
-use Rattle.plane.specs.theory.EdgeSum.{vectorSum}
-use Rattle.plane.specs.theory.Flat.{points-length}
+use Rattle.plane.specs.VectorSum.{vectorSum}
+use Rattle.plane.specs.theory.lists.Flat.{points-length}
 use Rattle.calipers.specs.Walk.{At, begun}
 use Rattle.separation.specs.Around.{placed}
 use Rattle.separation.specs.theory.Image.{image, image-front, image-fits, image-begun, image-related}

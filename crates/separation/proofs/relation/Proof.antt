@@ -1,5 +1,4 @@
 -- `relation` meets its contract: both lists are judged, and the shapes placed.
--- Assumes nothing.
 use mathlib.Core.Path.{sym, _∙_, ap, subst}
 use mathlib.Core.List.{[], _∷_}
 use borrow.Author.Needs.{needs}

@@ -2,7 +2,6 @@
 --     image-front        the image stands at the front; `image-fits`: all of it
 --     image-begun        the walk may begin
 --     image-related      the corners that it visits are those of the differences
--- Assumes nothing.
 use mathlib.Core.Path.{_≡_, sym, _∙_, ap}
 use mathlib.Core.List.{List}
 use Prim.Native.Nat.{ℕ, _*_, _≤_}
@@ -16,12 +15,12 @@ use Rattle.plane.specs.Refusal.{Valid}
 use Rattle.plane.specs.Corner.{shapeOf, mirrored}
 use Rattle.plane.specs.Output.{overwritten}
 use Rattle.plane.specs.Combine.{mirrorWritten}
-use Rattle.plane.specs.theory.Accept.{inside→inRange}
-use Rattle.plane.specs.theory.Flat.{points-numbers, numbers-length}
-use Rattle.plane.specs.theory.EdgeSum.{vectorSum}
-use Rattle.plane.specs.theory.Mirror.{topmost, mirror-known, mirror-count}
-use Rattle.plane.specs.theory.MirrorWritten.{mirror-inside, mirror-written}
-use Rattle.plane.specs.theory.Apart.{differences-shape}
+use Rattle.plane.specs.theory.refusals.Accept.{inside→inRange}
+use Rattle.plane.specs.theory.lists.Flat.{points-numbers, numbers-length}
+use Rattle.plane.specs.VectorSum.{vectorSum}
+use Rattle.plane.specs.theory.mirror.Mirror.{topmost, mirror-known, mirror-count}
+use Rattle.plane.specs.theory.mirror.MirrorWritten.{mirror-inside, mirror-written}
+use Rattle.separation.specs.theory.Apart.{differences-shape}
 use Rattle.calipers.specs.Walk.{begun, At}
 use Rattle.separation.specs.Around.{placed, related}
 use Rattle.separation.specs.theory.Around.{placed-related}

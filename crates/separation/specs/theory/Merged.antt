@@ -3,7 +3,6 @@
 --     merged-refused        the merge is refused: the first shape is not inside the second
 --     merged-front          it is answered: it stands at the front; `merged-fits`: all of it; `merged-few`: not too many corners
 --     merged-same           it is the second shape exactly if the first is inside
--- Assumes nothing.
 use mathlib.Core.Path.{_≡_, refl, sym, _∙_, ap}
 use mathlib.Core.Bool.{Bool, true, false}
 use mathlib.Core.List.{List, [], _∷_, _++_}
@@ -21,11 +20,11 @@ use Rattle.plane.specs.Corner.{shapeOf}
 use Rattle.plane.specs.Output.{noRoom, answerRows, overwritten}
 use Rattle.plane.specs.Combine.{mergeWritten}
 use Rattle.plane.specs.Separation.{inside}
-use Rattle.plane.specs.theory.Accept.{inRange→inside, corners-few, valid→accepted}
-use Rattle.plane.specs.theory.Flat.{points-numbers, numbers-length, numbers-points}
-use Rattle.plane.specs.theory.Rows.{NoneApply, firstRow-none, firstRow-passed, firstRow-answered}
-use Rattle.plane.specs.theory.Write.{passed-output, none-output}
-use Rattle.plane.specs.theory.Inside.{inside→merge, merge→inside}
+use Rattle.plane.specs.theory.refusals.Accept.{inRange→inside, corners-few, valid→accepted}
+use Rattle.plane.specs.theory.lists.Flat.{points-numbers, numbers-length, numbers-points}
+use Rattle.plane.specs.theory.refusals.Rows.{NoneApply, firstRow-none, firstRow-passed, firstRow-answered}
+use Rattle.plane.specs.theory.refusals.Write.{passed-output, none-output}
+use Rattle.separation.specs.theory.Inside.{inside→merge, merge→inside}
 use Rattle.polygon.specs.Answer.{refusalReply}
 use Rattle.polygon.specs.declared.Fault.{Fault}
 use Rattle.polygon.specs.declared.Fault.the-variants.{Count, Many, Range, Side, Start}

@@ -1,4 +1,4 @@
--- `is_far` meets its contract. Assumes nothing.
+-- `is_far` meets its contract.
 use mathlib.Core.Path.{_∙_, ap, ap₂}
 use mathlib.Core.Bool.{_||_}
 use mir.Syntax.{w32}

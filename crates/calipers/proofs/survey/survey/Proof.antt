@@ -1,6 +1,5 @@
 -- `survey` meets its contract. The invariant: so many corners are passed, not too many, and whether some is out of range; the measure is what
 -- is to come.
--- Assumes nothing.
 use mathlib.Core.Path.{_≡_, sym, _∙_, ap, subst}
 use mathlib.Core.Bool.{false, _||_}
 use native.Mathlib.Omega.{arith}

@@ -1,6 +1,5 @@
 -- `first_broken` meets its contract. The invariants: nothing was found, at no edge before this one, and at this edge at no corner before
 -- this one; the measures are what is left.
--- Assumes nothing.
 use mathlib.Core.Path.{_≡_, refl, sym, _∙_}
 use Prim.Native.Nat.{ℕ, _-_, _<_}
 use native.Mathlib.Omega.{arith}
@@ -9,7 +8,7 @@ use lib.ListN.{length}
 use Rattle.plane.specs.Point.{points}
 use Rattle.plane.specs.Shape.{breaks}
 use Rattle.plane.specs.Refusal.{brokenEdge, brokenCorner}
-use Rattle.plane.specs.theory.Sought.{Sought, sought-start, sought-more, sought-found, sought-yes, sought-no}
+use Rattle.plane.specs.theory.lists.Sought.{Sought, sought-start, sought-more, sought-found, sought-yes, sought-no}
 use Rattle.polygon.specs.declared.rules.Broken.the-variants.{At, Nowhere}
 use Rattle.polygon.proofs.LeftRule.{broken-at, broken-nowhere}
 use Rattle.polygon.proofs.rules.first_broken.Statement.{statement}

@@ -1,5 +1,4 @@
 -- `numbers` is safe and ends. The invariant: the output keeps its length; the measure is what is left of the list.
--- Assumes nothing.
 use mathlib.Core.Path.{_≡_}
 use Prim.Native.Nat.{_≤_, _-_}
 use lib.ListN.{length}

@@ -1,5 +1,4 @@
 -- `size` meets its contract. Below zero -1 less the number is one less than its size, and fits.
--- Assumes nothing.
 use mathlib.Core.Path.{_≡_, ap, _∙_}
 use mathlib.Core.Bool.{true, false}
 use Prim.Native.Nat.{ℕ, suc, _-_, _≤_, _<_}

@@ -1,5 +1,4 @@
 -- `wide` meets its contract: a number of 32 bits is one of 64.
--- Assumes nothing.
 use native.Mathlib.Omega.{arith}
 use lib.IntN.{ℤ}
 use mir.Syntax.{w32, w64}

@@ -1,5 +1,4 @@
 -- `word` is safe and ends. The invariant: `i` is within the text, and the buffer keeps its length. The measure: what is left of the text.
--- Assumes nothing.
 use mathlib.Core.Path.{_≡_}
 use Prim.Native.Nat.{_≤_, _-_}
 use lib.ListN.{length}

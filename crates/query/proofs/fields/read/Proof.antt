@@ -1,5 +1,4 @@
 -- `read` is safe and ends. The invariant: `i` is within the line, and both buffers keep their length. The measure: what is left of the line.
--- Assumes nothing.
 use mathlib.Core.Path.{_≡_}
 use Prim.Native.Nat.{_≤_, _-_}
 use lib.ListN.{length}

@@ -1,5 +1,4 @@
 -- `signed` meets its contract. A number below zero of size n is -1 less n - 1, which the least number needs too.
--- Assumes nothing.
 use mathlib.Core.Path.{_≡_, refl, ap, _∙_}
 use Prim.Native.Nat.{ℕ, zero, suc, _-_, _≤_, _<_}
 use native.Mathlib.Omega.{arith}

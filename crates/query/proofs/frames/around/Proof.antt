@@ -1,5 +1,4 @@
 -- `around` is safe and ends. The invariant: the first corner is passed. The measure: the corners left.
--- Assumes nothing.
 use Prim.Native.Nat.{_≤_, _-_}
 use lib.ListN.{length}
 use borrow.Author.Needs.{needs}

@@ -1,5 +1,4 @@
 -- `less` is safe: a number of 32 bits less a margin fits 64.
--- Assumes nothing.
 use Rattle.integer.specs.Machine.{machine, machine-fits}
 use borrow.Author.Needs.{needs}
 use Rattle.query.proofs.Small.{widened, margined}

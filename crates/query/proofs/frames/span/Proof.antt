@@ -1,5 +1,4 @@
 -- `span` meets its contract: two numbers of 32 bits are at most 2^32 apart.
--- Assumes nothing.
 use Rattle.integer.specs.Machine.{machine, machine-fits, machine-read, machine-add, machine-neg}
 use mir.Syntax.{w64}
 use borrow.Author.Needs.{needs}

@@ -1,5 +1,4 @@
 -- `next_line` is safe and ends. The invariant: both buffers keep their length. The measure: the turns left.
--- Assumes nothing.
 use mathlib.Core.Path.{_≡_}
 use lib.ListN.{length}
 use borrow.Author.Needs.{needs}

@@ -1,5 +1,4 @@
 -- `count_bars` is safe and ends. The invariant: `i` is within the line, and no more bars than bytes are passed. The measure: what is left of the line.
--- Assumes nothing.
 use Prim.Native.Nat.{_≤_, _-_}
 use lib.ListN.{length}
 use mathlib.Core.Logic.{⊎-elim}

@@ -1,5 +1,4 @@
 -- `word_start` is safe and ends. The invariant: `i` is within the line. The measure: what is left of the line.
--- Assumes nothing.
 use Prim.Native.Nat.{_≤_, _-_}
 use lib.ListN.{length}
 use borrow.Author.Needs.{needs}

@@ -1,5 +1,4 @@
 -- `adds_nothing` meets its contract: the merge stands at the front of the buffer, and is compared with the second shape.
--- Assumes nothing.
 use mathlib.Core.Path.{_≡_, refl, sym, _∙_, ap}
 use mathlib.Core.List.{[], _∷_}
 use Prim.Native.Nat.{_*_, _≤_}

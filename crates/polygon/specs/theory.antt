@@ -1,0 +1,2 @@
+-- The theory of the furthest corner, which only proves.
+pub mod Furthest
