@@ -1,5 +1,4 @@
 -- The theory of the walk, which only proves: where it stands, the places it visits, the corners there.
-pub mod Far
 pub mod Standing
 pub mod Places
 pub mod PlaceCorners

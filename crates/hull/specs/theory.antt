@@ -2,6 +2,7 @@
 pub mod Least
 pub mod Run
 pub mod RunEnds
+pub mod Few
 pub mod Stored
 pub mod Pour
 pub mod Ascend
@@ -9,4 +10,4 @@ pub mod Unite
 pub mod Gather
 pub mod Stack
 pub mod Sides
-pub mod Deliver
+pub mod Fronts

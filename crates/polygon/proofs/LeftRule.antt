@@ -12,7 +12,7 @@ use lib.Dec.{ltb}
 use lib.ListN.{length}
 use Rattle.plane.specs.Point.{Point}
 use Rattle.plane.specs.Refusal.{brokenEdge, brokenCorner}
-use Rattle.polygon.specs.Answer.{broken}
+use Rattle.polygon.specs.Broken.{broken}
 use Rattle.polygon.specs.declared.rules.Broken.the-variants.{At, Nowhere}
 
 pub broken-nowhere : (ps : List Point) → ltb (brokenEdge ps) (length ps) ≡ false → Nowhere ≡ broken ps

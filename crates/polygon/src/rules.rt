@@ -5,7 +5,7 @@ ghost use lib.ListN.{length};
 ghost use Rattle.plane.specs.Point.{points, corner};
 ghost use Rattle.plane.specs.Shape.{next as Shape·next, breaks};
 ghost use Rattle.plane.specs.Refusal.{InRange, badCount, tooMany, someOutside, equalPair, badStart};
-ghost use Rattle.polygon.specs.Answer.{broken};
+ghost use Rattle.polygon.specs.Broken.{broken};
 use crate::corners;
 use crate::limits;
 
