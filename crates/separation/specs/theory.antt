@@ -8,5 +8,4 @@ pub mod Clearance
 pub mod Around
 pub mod Nearest
 pub mod Image
-pub mod Admission
 pub mod Merged

@@ -6,9 +6,9 @@ ghost use Rattle.plane.specs.Turn.{cross};
 ghost use Rattle.plane.specs.Direction.{value};
 ghost use Rattle.plane.specs.VectorSum.{vectorSum};
 ghost use Rattle.calipers.specs.Walk.{At, here, begun};
-ghost use Rattle.separation.specs.Answer.{placeNumber};
+ghost use Rattle.separation.specs.Place.{placeNumber};
 ghost use Rattle.separation.specs.Around.{Passed, placed, placedFew};
-use crate::answer::Place;
+use crate::place::Place;
 use calipers::walk::Walk;
 
 // What a walk round all edges saw: how many there are, whether the origin is to the right of one, and whether it is not to the left of one.
