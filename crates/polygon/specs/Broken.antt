@@ -1,12 +1,15 @@
--- Where the left rule is broken first, as the code carries it (document 01, "Number 4 also gives the first edge, then the first corner").
+-- Where refusal 4 finds the rules broken, as the code carries it.
+--     leftBreak ps     the first edge, then the first corner, that breaks the left rule; Nowhere if none does
+--     broken ps        the same with two equal corners in a list of two, at 0 and 1: the table's row 4
 use mathlib.Core.Bool.{cond}
 use mathlib.Core.List.{List}
-use lib.Dec.{ltb}
-use lib.ListN.{length}
 use Rattle.plane.specs.Point.{Point}
-use Rattle.plane.specs.Refusal.{brokenEdge, brokenCorner}
+use Rattle.plane.specs.Refusal.{leftBroken, breakingEdge, breakingCorner, ruleBroken, brokenEdge, brokenCorner}
 use Rattle.polygon.specs.declared.rules.Broken.{Broken}
 use Rattle.polygon.specs.declared.rules.Broken.the-variants.{At, Nowhere}
 
+abbrev pub leftBreak : List Point → Broken
+leftBreak ps = cond (leftBroken ps) (At (breakingEdge ps) (breakingCorner ps)) Nowhere
+
 abbrev pub broken : List Point → Broken
-broken ps = cond (ltb (brokenEdge ps) (length ps)) (At (brokenEdge ps) (brokenCorner ps (brokenEdge ps))) Nowhere
+broken ps = cond (ruleBroken ps) (At (brokenEdge ps) (brokenCorner ps)) Nowhere
