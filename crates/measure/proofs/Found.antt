@@ -33,10 +33,10 @@ length-within l v r f =
     let pair = length-longest (points l) (v .shape .some) in
     (omega (arith, f .from-is, pair .ordered, pair .within), omega (arith, f .to-is, pair .within))
 
-pub length-found : (l : List ℤ) → Valid l → (r : Pair) {z : ℤ} → LengthAt (points l) r
-    → z ≡ squared (corner (points l) (r .from)) (corner (points l) (r .to))
-    → IsLength (points l) (record { squared = z; from = r .from; to = r .to })
-length-found l v r {z} f e = record {
+pub length-found : (l : List ℤ) → Valid l → (r : Pair) {n : ℕ} → LengthAt (points l) r
+    → pos n ≡ squared (corner (points l) (r .from)) (corner (points l) (r .to))
+    → IsLength (points l) (record { squared = n; from = r .from; to = r .to })
+length-found l v r {n} f e = record {
   squared-is = e ∙ rw (f .from-is, f .to-is) (length-longest (points l) (v .shape .some) .longest);
   from-is = f .from-is;
   to-is = f .to-is;

@@ -10,7 +10,7 @@ use Rattle.measure.specs.declared.Length.{Length}
 use Rattle.measure.specs.declared.Width.{Width}
 
 pub record IsLength (ps : List Point) (r : Length) : Type 0 where
-  pub squared-is : r .squared ≡ lengthSquared ps
+  pub squared-is : pos (r .squared) ≡ lengthSquared ps
   pub from-is : r .from ≡ lengthFrom ps
   pub to-is : r .to ≡ lengthTo ps
 

@@ -13,7 +13,7 @@ use polygon::opposite;
 
 // The greatest squared distance between two corners, and their positions.
 pub struct Length {
-    pub squared: i64,
+    pub squared: u64,
     pub from: usize,
     pub to: usize,
 }
@@ -42,7 +42,7 @@ pub fn furthest_pair(list: &[i32]) -> Length
     let end = list.len();
     let pair = longest::longest(list, &image[..end], top);
     Length {
-        squared: place::squared_at(list, pair.from, pair.to),
+        squared: narrowest::magnitude(place::squared_at(list, pair.from, pair.to)),
         from: pair.from,
         to: pair.to,
     }

@@ -89,7 +89,7 @@ fn furthest_corner(list: &[i32], image: &[i32], top: usize, walk: Walk, next: Wa
 }
 
 // A number that is not negative, as an unsigned one.
-fn magnitude(z: i64) -> u64
+pub fn magnitude(z: i64) -> u64
     requires { ⌜ pos 0 ≤ℤ z ⌝ }
     ensures { λ r. ⌜ z ≡ pos r ⌝ }
 {

@@ -31,7 +31,7 @@ copy-requires-2 c κs =
     let start = c .before .before .before .before in
     let buf = start .args .buf .now in
     let room = length-paste buf 0 (start .args .right .now) (2 * start .args .m)
-        (omega (arith, start .pre .2, points-length buf)) (omega (arith, start .pre .0, points-length (start .args .right .now))) in (
+    (omega (arith, start .pre .2, points-length buf)) (omega (arith, start .pre .0, points-length (start .args .right .now))) in (
       omega (arith, start .pre .1, points-length (start .args .left .now)),
       omega (arith, start .pre .2, points-length buf, ap length (c .before .before .copy .ensures), room),
     )

@@ -19,8 +19,11 @@ few : (c : tie.After-both-chains) → let start = c .before .before .before in
 few c =
     let start = c .before .before .before in
     let counts = length-append (points (start .args .a .now)) (points (start .args .b .now)) in
-    omega (arith, counts,
-    sides-few (points (start .args .a .now) ++ points (start .args .b .now)) (omega (arith, counts, start .pre .0 .shape .some)) (c .both-chains .ensures))
+    omega (
+      arith,
+      counts,
+      sides-few (points (start .args .a .now) ++ points (start .args .b .now)) (omega (arith, counts, start .pre .0 .shape .some)) (c .both-chains .ensures),
+    )
 
 slice-aggregate-both-chains : tie.Need-slice-aggregate-both-chains
 slice-aggregate-both-chains c = search needs

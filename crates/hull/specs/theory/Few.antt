@@ -48,10 +48,10 @@ different-few [] S different within = omega arith
 different-few (p ∷ A) S different within =
     let w = without p S (within p (List·Memᴰ·head refl)) in
     let other : (q : Point) → q ∈ A → q ≡ p → ⊥ = λ q m e. (
-      let at = member-position m in
-      let same : 0 ≡ suc (at .0) = different 0 (suc (at .0)) (omega arith) (omega (arith, at .1)) (sym (at .2 ∙ e)) in omega arith) in
+    let at = member-position m in
+    let same : 0 ≡ suc (at .0) = different 0 (suc (at .0)) (omega arith) (omega (arith, at .1)) (sym (at .2 ∙ e)) in omega arith) in
     let ih = different-few A (w .rest) (λ i j h k e. (let s = different (suc i) (suc j) (omega arith) (omega arith) e in omega arith))
-        (λ q m. w .stays q (other q m) (within q (List·Memᴰ·tail m))) in
+    (λ q m. w .stays q (other q m) (within q (List·Memᴰ·tail m))) in
     omega (arith, w .one-less)
 
 pub shapeOf-few : (S : List Point) → 0 < length S → length (shapeOf S) ≤ length S

@@ -1,10 +1,14 @@
 -- `furthest_pair` meets its contract: the walk round the shape and its mirror image leaves the length.
+use mathlib.Core.Path.{_≡_, sym, _∙_}
 use borrow.Author.Needs.{needs}
 use lib.ListN.{length}
 use mir.Syntax.{w64}
+use mir.Val.{toZ, ofZ}
 use Rattle.integer.specs.Machine.{result-is}
 use Rattle.plane.specs.Limits.{maxCorners}
-use Rattle.plane.specs.Point.{points}
+use Rattle.plane.specs.Point.{points, corner}
+use Rattle.plane.specs.Measure.{squared}
+use Rattle.plane.specs.theory.forms.Squared.{squared-nonneg}
 use Rattle.plane.specs.theory.mirror.Mirror.{Top}
 use Rattle.measure.proofs.Image.{image-room, image-within, image-length, image-made}
 use Rattle.measure.proofs.Found.{length-within, length-found}
@@ -13,6 +17,11 @@ use Rattle.measure.proofs.furthest_pair.Tie as tie
 
 is-top : (c : tie.After-top) → let ps = points (c .before .args .list .now) in Top ps (length ps) (c .top .result)
 is-top c = record { within = c .top .ensures .0; last = c .top .ensures .1 }
+
+squared-is : (c : tie.After-squared-at) → let start = c .before .before .before .before .before .before .before in
+    let ps = points (start .args .list .now) in
+    toZ w64 (ofZ w64 (c .squared-at .result)) ≡ squared (corner ps (c .before .longest .result .from)) (corner ps (c .before .longest .result .to))
+squared-is c = result-is w64 (c .squared-at .ok) (c .squared-at .ensures)
 
 top-requires : tie.Need-top-requires
 top-requires c κs = search needs
@@ -43,13 +52,16 @@ squared-at-requires c κs =
     let v = c .before .before .before .before .before .before .pre in
     let within = length-within _ v _ (c .longest .ensures) in (within .0, within .1, v .inRange)
 
+magnitude-requires : tie.Need-magnitude-requires
+magnitude-requires c κs = rw (squared-is c) (squared-nonneg _ _)
+
 returns : tie.Need-returns
 returns c =
-    length-found _ (c .before .before .before .before .before .before .before .pre) _ (c .before .longest .ensures)
-    (result-is w64 (c .squared-at .ok) (c .squared-at .ensures))
+    length-found _ (c .before .before .before .before .before .before .before .before .pre) _ (c .before .before .longest .ensures)
+    (sym (c .magnitude .ensures) ∙ squared-is (c .before))
 
 pub furthest-pair-spec : {M : Type 1} → statement M
 furthest-pair-spec =
     tie.close
     (tie.spec top-requires slice-aggregate-write-from write-from-requires array-share-prefix-image slice-aggregate-longest
-    longest-requires squared-at-requires returns)
+    longest-requires squared-at-requires magnitude-requires returns)
