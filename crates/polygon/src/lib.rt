@@ -5,6 +5,7 @@ pub mod corners;
 mod direction;
 pub mod limits;
 pub mod opposite;
+pub mod point;
 mod rules;
 
 ghost use mathlib.Core.Path.{_≡_};
