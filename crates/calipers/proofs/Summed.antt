@@ -34,9 +34,9 @@ use Rattle.polygon.specs.declared.answer.Refusal.{Refusal}
 use Rattle.polygon.specs.declared.answer.Refusal.the-variants.{Many, Far}
 use Rattle.polygon.proofs.Judging.{judged-no, valid-passed}
 use Rattle.calipers.specs.declared.walk.Walk.{Walk}
-use Rattle.calipers.specs.declared.helping.Helping.{Helping}
+use Rattle.calipers.specs.declared.part.Part.{Part}
 use Rattle.calipers.specs.Walk.{begun, At}
-use Rattle.calipers.specs.Helping.{helping, Helped}
+use Rattle.calipers.specs.Part.{partOf, PartWritten}
 use Rattle.calipers.specs.Survey.{surveyed}
 use Rattle.calipers.specs.theory.Steps.{remaining-begin, at-begin}
 
@@ -109,18 +109,18 @@ module _ (a b old : List ℤ) where
             (lt-ltb (length old) (length (numbers corners)) (omega (arith, numbers-length corners, fine .number))))
 
         module _ (room : n ≤ length old / 2) (start : Walk) (begins : start ≡ begun) where
-          -- the helping is all of the sum
-          all : helping a b start n ≡ corners
-          all = ap (λ (u : Walk). helping a b u n) begins ∙ ap (take n) (remaining-begin (points a) (points b) (v .shape .some) (w .shape .some))
+          -- the part is all of the sum
+          all : partOf a b start n ≡ corners
+          all = ap (λ (u : Walk). partOf a b u n) begins ∙ ap (take n) (remaining-begin (points a) (points b) (v .shape .some) (w .shape .some))
               ∙ ap (λ (k : ℕ). take k corners) (fine .number) ∙ take-length corners
 
-          pub written-place : At a b start × (length (numbers (helping a b start n)) ≤ length old)
+          pub written-place : At a b start × (length (numbers (partOf a b start n)) ≤ length old)
           written-place = (
             subst (At a b) (sym begins) (at-begin a b v w),
             omega (arith, numbers-length corners, fine .number, ap (λ (ps : List Point). length (numbers ps)) all),
           )
 
-          pub summed-all : (k : Helping) (out : List ℤ) → Helped a b start n old k out → Summed a b old (answered (pos n ∷ [])) out
+          pub summed-all : (k : Part) (out : List ℤ) → PartWritten a b start n old k out → Summed a b old (answered (pos n ∷ [])) out
           unfolding noRoom
           summed-all k out d = rw (fine .number, d .filled, all) (passed (wrote-all (fine .few) (fine .near)
               (le-ltb (length old) (length (numbers corners)) (omega (arith, numbers-length corners, fine .number)))))

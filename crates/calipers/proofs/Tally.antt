@@ -21,7 +21,7 @@ use Rattle.polygon.specs.declared.answer.Refusal.the-variants.{Many, Far}
 use Rattle.calipers.specs.declared.walk.Walk.{Walk}
 use Rattle.calipers.specs.Walk.{here, begun, advanced, At}
 use Rattle.calipers.specs.Survey.{surveyed}
-use Rattle.calipers.specs.Helping.{coming}
+use Rattle.calipers.specs.Part.{coming}
 use Rattle.calipers.specs.theory.Steps.{remaining-begin, remaining-here, remaining-over, at-advanced}
 
 or-none : (b : Bool) → (b || false) ≡ b

@@ -2,6 +2,6 @@
 pub mod Places
 pub mod Walk
 pub mod Survey
-pub mod Helping
+pub mod Part
 pub mod Meaning
 pub mod theory

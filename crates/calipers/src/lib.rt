@@ -1,6 +1,6 @@
 // The vector sum of two shapes by the caliper walk: document 01, "Sum".
 pub mod edges;
-mod helping;
+mod part;
 mod survey;
 pub mod walk;
 
@@ -35,6 +35,6 @@ pub fn sum(a: &[i32], b: &[i32], out: &mut [i32]) -> Answer
     if out.len() / 2 < n {
         return Answer::No(Refusal::Room);
     }
-    let _ = helping::write(a, b, Walk::begin(), n, out);
+    let _ = part::write(a, b, Walk::begin(), n, out);
     answer
 }

@@ -1,5 +1,4 @@
 // A first walk over the corners of the sum, that writes nothing: how many there are, and whether all are in range.
-ghost use mathlib.Core.Bool.{_||_};
 ghost use mathlib.Core.Path.{_≡_};
 ghost use Rattle.plane.specs.Point.{points};
 ghost use Rattle.plane.specs.VectorSum.{vectorSum};
@@ -7,6 +6,7 @@ ghost use Rattle.calipers.specs.theory.Far.{far};
 ghost use Rattle.calipers.specs.Walk.{At, here, begun};
 ghost use Rattle.calipers.specs.Survey.{surveyed};
 use crate::walk::Walk;
+use crate::walk::either;
 use polygon::answer::Answer;
 use polygon::answer::Refusal;
 use polygon::limits;
@@ -40,12 +40,6 @@ fn is_far(a: &[i32], b: &[i32], walk: Walk) -> bool
     requires { ⌜ At (now a) (now b) walk ⌝ }
     ensures { λ r. ⌜ r ≡ far (here (points (now (a .entry))) (points (now (b .entry))) walk) ⌝ }
 {
-    either(limits::outside(walk.x(a, b)), limits::outside(walk.y(a, b)))
-}
-
-// Whether one of the two holds.
-fn either(x: bool, y: bool) -> bool
-    ensures { λ r. ⌜ r ≡ (x || y) ⌝ }
-{
-    x || y
+    let here = walk.here(a, b);
+    either(limits::outside(here.x), limits::outside(here.y))
 }

@@ -1,20 +1,18 @@
 -- `is_far` meets its contract.
-use mathlib.Core.Path.{_∙_, ap, ap₂}
+use mathlib.Core.Path.{refl, _∙_, ap, ap₂}
 use mathlib.Core.Bool.{_||_}
 use mir.Syntax.{w32}
 use Rattle.integer.specs.Machine.{result-is}
 use Rattle.plane.specs.Refusal.{outside}
+use Rattle.calipers.specs.theory.Far.{far}
 use Rattle.calipers.proofs.survey.is_far.Statement.{statement}
 use Rattle.calipers.proofs.survey.is_far.Tie as tie
 
-x-requires : tie.Need-x-requires
-x-requires c κs = c .pre
+here-requires : tie.Need-here-requires
+here-requires c κs = c .pre
 
 outside-requires : tie.Need-outside-requires
 outside-requires c κs = tt
-
-y-requires : tie.Need-y-requires
-y-requires c κs = c .before .before .pre
 
 outside-requires-2 : tie.Need-outside-requires-2
 outside-requires-2 c κs = tt
@@ -24,13 +22,13 @@ either-requires c κs = tt
 
 returns : tie.Need-returns
 returns c =
-    let at-y = c .before .before in
-    let at-x = at-y .before .before in
+    let at-y = c .before in
+    let at-x = c .before .before .before in
     c .either .ensures
-    ∙ ap₂ (λ s t. s || t) (at-y .before .outside .ensures ∙ ap outside (result-is w32 (at-x .x .ok) (at-x .x .ensures)))
-    (c .before .outside2 .ensures ∙ ap outside (result-is w32 (at-y .y .ok) (at-y .y .ensures)))
+    ∙ ap₂ (λ s t. s || t) (at-x .outside .ensures ∙ ap outside (result-is w32 (at-x .before .struct-told .given .0 .1) refl))
+    (at-y .outside2 .ensures ∙ ap outside (result-is w32 (at-y .before .struct-told2 .given .1 .0 .1) refl))
+    ∙ ap far (at-x .before .before .here .ensures)
 
 pub is-far-spec : {M : Type 1} → statement M
 is-far-spec =
-    tie.close
-    (tie.spec x-requires outside-requires y-requires outside-requires-2 either-requires returns)
+    tie.close (tie.spec here-requires outside-requires outside-requires-2 either-requires returns)

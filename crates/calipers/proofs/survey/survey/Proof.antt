@@ -7,7 +7,7 @@ use borrow.Author.Tests.{not-true, not-false}
 use lib.ListN.{length}
 use Rattle.plane.specs.Limits.{corners-small}
 use Rattle.calipers.specs.declared.walk.Walk.{Walk}
-use Rattle.calipers.specs.Helping.{coming}
+use Rattle.calipers.specs.Part.{coming}
 use Rattle.calipers.proofs.Tally.{Tally, tally-start, tally-more, tally-less, tally-many, tally-far, tally-all}
 use Rattle.calipers.proofs.survey.survey.Statement.{statement}
 use Rattle.calipers.proofs.survey.survey.Tie as tie
