@@ -1,6 +1,6 @@
 // Inner functions for the vector sum of two shapes by the caliper walk (document 01, "Sum"). Callers ask the crate `questions`.
 pub mod edges;
-mod helping;
+mod part;
 pub mod walk;
 
 ghost use Prim.Native.Nat.{_+_, _≤_};
@@ -22,6 +22,6 @@ pub fn sum(a: &[i32], b: &[i32], buf: &mut [i32]) -> usize
     ensures { λ r. ⌜ Front (shapeOf (sums (points (now (a .entry))) (points (now (b .entry))))) r (now (buf .exit)) ⌝ }
 {
     let all = corners::count(a) + corners::count(b);
-    let part = helping::write(a, b, Walk::begin(), all, buf);
+    let part = part::write(a, b, Walk::begin(), all, buf);
     part.count
 }

@@ -1,4 +1,4 @@
-// The scan, and the two chains of a shape: the right-hand one up from the least corner, the left-hand one down from the greatest.
+// Inner functions: the scan, and the two chains of a shape, the right-hand one up from the least corner, the left-hand one down from the greatest.
 ghost use mathlib.Core.Path.{_≡_};
 ghost use mathlib.Core.List.{_++_};
 ghost use Prim.Native.Nat.{_+_, _<_, _≤_};

@@ -1,4 +1,4 @@
-// Directions (u, v): refusal 11, and the greatest value over the corners of a list.
+// Inner functions on directions (u, v): refusal 11, and the greatest value over the corners of a list.
 ghost use mathlib.Core.Bool.{_&&_};
 ghost use mathlib.Core.Path.{_≡_};
 ghost use Prim.Native.Nat.{_<_};
@@ -13,6 +13,8 @@ ghost use Rattle.plane.specs.Direction.{value, support, furthest};
 ghost use Rattle.plane.specs.Furthest.{badDirection};
 use crate::corners;
 use crate::limits;
+use crate::point;
+use crate::point::Point;
 
 // Refusal 11: direction (0, 0), or a part of it out of range.
 pub fn bad_direction(u: i32, v: i32) -> bool
@@ -68,5 +70,5 @@ fn value_at(list: &[i32], i: usize, u: i32, v: i32) -> i64
         × Within maxPart u × Within maxPart v ⌝ }
     ensures { λ r. ⌜ r ≡ value (point u v) (corner (points (now (list .entry))) i) ⌝ }
 {
-    (u as i64) * (corners::x_at(list, i) as i64) + (v as i64) * (corners::y_at(list, i) as i64)
+    point::dot(Point { x: u, y: v }, corners::corner_at(list, i))
 }

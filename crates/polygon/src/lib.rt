@@ -5,4 +5,5 @@ pub mod direction;
 pub mod limits;
 pub mod numbers;
 pub mod opposite;
+pub mod point;
 pub mod rules;

@@ -18,7 +18,8 @@ use Rattle.plane.specs.Corner.{push, scan}
 use Rattle.plane.specs.Refusal.{InRange}
 use Rattle.plane.specs.theory.lists.Flat.{points-length, points-near}
 use Rattle.hull.specs.theory.Run.{run, run-more, run-take, run-set}
-use Rattle.hull.specs.Buffer.{stored, stack, Settled, Scanned}
+use Rattle.polygon.specs.Point.{stored}
+use Rattle.hull.specs.Buffer.{stack, Settled, Scanned}
 use Rattle.hull.specs.theory.Stored.{stored-points, stored-length, stored-near}
 
 -- ---- stacks

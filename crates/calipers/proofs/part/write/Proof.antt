@@ -2,8 +2,6 @@
 -- left of k.
 use Prim.Native.Nat.{_-_}
 use native.Mathlib.Omega.{arith}
-use mir.Syntax.{w32}
-use Rattle.integer.specs.Machine.{result-is}
 use Rattle.calipers.proofs.Progress.{
   Progress,
   progress-start,
@@ -15,8 +13,8 @@ use Rattle.calipers.proofs.Progress.{
   progress-room,
   progress-length,
 }
-use Rattle.calipers.proofs.helping.write.Statement.{statement}
-use Rattle.calipers.proofs.helping.write.Tie as tie
+use Rattle.calipers.proofs.part.write.Statement.{statement}
+use Rattle.calipers.proofs.part.write.Tie as tie
 
 abbrev Inv-loop : tie.InvT-loop
 Inv-loop a b k out₀ walk₀ count₀ out walk count = Progress a b walk₀ k out₀ count walk out
@@ -33,33 +31,29 @@ same-length c = progress-length (c .before .before .loop .inv)
 returns : tie.Need-returns Inv-loop μ-loop
 returns c = let inv = c .before .before .loop .inv in progress-stop inv (progress-over inv (c .if1 .taken))
 
-x-requires : tie.Need-x-requires Inv-loop μ-loop
-x-requires c κs = progress-at (c .before .before .before .loop .inv)
-
-y-requires : tie.Need-y-requires Inv-loop μ-loop
-y-requires c κs = progress-at (c .before .before .before .before .loop .inv)
+here-requires : tie.Need-here-requires Inv-loop μ-loop
+here-requires c κs = progress-at (c .before .before .before .loop .inv)
 
 put-requires : tie.Need-put-requires Inv-loop μ-loop
 put-requires c κs =
-    let at-else = c .before .before .before in
+    let at-else = c .before .before in
     progress-room (at-else .before .before .loop .inv) (at-else .before .loop-test .taken) (at-else .if1 .left)
 
 advance-requires : tie.Need-advance-requires Inv-loop μ-loop
-advance-requires c κs = progress-at (c .before .before .before .before .before .before .before .loop .inv)
+advance-requires c κs = progress-at (c .before .before .before .before .before .before .loop .inv)
 
 add-count : tie.Need-add-count Inv-loop μ-loop
 add-count c = omega arith
 
 loop-less : tie.Need-loop-less Inv-loop μ-loop
-loop-less c = let in-loop = c .before .before .before .before .before .before .before in omega (arith, in-loop .loop-test .taken)
+loop-less c = omega (arith, c .before .before .before .before .before .before .loop-test .taken)
 
 loop-again : tie.Need-loop-again Inv-loop μ-loop
 loop-again c =
     let at-put = c .before .before in
-    let at-else = at-put .before .before .before .before in
+    let at-else = at-put .before .before .before in
     progress-more (at-else .before .before .loop .inv) (at-else .before .loop-test .taken) (at-else .if1 .left)
-    (result-is w32 (at-put .before .before .x .ok) (at-put .before .before .x .ensures)) (result-is w32 (at-put .before .y .ok) (at-put .before .y .ensures))
-    (c .advance .ensures) (at-put .put .ensures)
+    (at-put .before .here .ensures) (c .advance .ensures) (at-put .put .ensures)
 
 same-length-2 : tie.Need-same-length-2 Inv-loop μ-loop
 same-length-2 c = progress-length (c .before .loop .inv)
@@ -70,18 +64,5 @@ returns-2 c = let inv = c .before .loop .inv in progress-stop inv (progress-all 
 pub write-spec : {M : Type 1} → statement M
 write-spec =
     tie.close
-    (tie.spec
-    Inv-loop
-    μ-loop
-    loop-holds
-    same-length
-    returns
-    x-requires
-    y-requires
-    put-requires
-    advance-requires
-    add-count
-    loop-less
-    loop-again
-    same-length-2
-    returns-2)
+    (tie.spec Inv-loop μ-loop loop-holds same-length returns here-requires put-requires advance-requires add-count loop-less
+    loop-again same-length-2 returns-2)
