@@ -13,7 +13,7 @@ use Rattle.plane.specs.Point.{points}
 use Rattle.plane.specs.Turn.{turn}
 use Rattle.plane.specs.Shape.{breaks, precedes}
 use Rattle.plane.specs.Reply.{answered, refused}
-use Rattle.plane.specs.Refusal.{badCount, tooMany, outside, someOutside, equalPair, brokenCorner, brokenEdge, badStart}
+use Rattle.plane.specs.Refusal.{badCount, tooMany, outside, someOutside, equalPair, leftBroken, breakingEdge, breakingCorner, ruleBroken, brokenEdge, brokenCorner, badStart}
 use Rattle.plane.specs.Corner.{shapeOf, sums}
 use Rattle.plane.specs.Output.{Written, noRoom, overwritten}
 use Rattle.plane.specs.Combine.{sumWritten}
@@ -42,7 +42,7 @@ fiveCorners = record {
 
 pub square-plus-triangle : sumWritten square triangle room ≡ fiveCorners
 unfolding sumWritten shapeOf overwritten noRoom maxCorners maxCoordinate turn breaks precedes
-    badCount tooMany outside someOutside equalPair brokenCorner brokenEdge badStart
+    badCount tooMany outside someOutside equalPair leftBroken breakingEdge breakingCorner ruleBroken brokenEdge brokenCorner badStart
 square-plus-triangle = refl
 
 module _ (call : Call) (promised : Promised call) where

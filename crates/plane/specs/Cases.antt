@@ -12,7 +12,7 @@ use Rattle.plane.specs.Point.{points, corner}
 use Rattle.plane.specs.Turn.{turn}
 use Rattle.plane.specs.Shape.{next, breaks, precedes}
 use Rattle.plane.specs.Reply.{Reply, answered, refused}
-use Rattle.plane.specs.Refusal.{badCount, tooMany, outside, someOutside, equalPair, brokenCorner, brokenEdge, badStart}
+use Rattle.plane.specs.Refusal.{badCount, tooMany, outside, someOutside, equalPair, leftBroken, breakingEdge, breakingCorner, ruleBroken, brokenEdge, brokenCorner, badStart}
 use Rattle.plane.specs.Judge.{judged}
 use Rattle.plane.specs.Direction.{max}
 use Rattle.plane.specs.Corner.{shapeOf}
@@ -112,5 +112,5 @@ rows =
 
 pub rows-hold : (map (λ (r : Case). r .reply) rows ≡ map (λ (r : Case). r .stated) rows)
     × (map (λ (r : Case). r .output) rows ≡ map (λ (r : Case). r .numbers) rows)
-unfolding rows turn breaks precedes maxCorners maxCoordinate maxPart badCount tooMany outside someOutside equalPair brokenCorner brokenEdge badStart judged max shapeOf noRoom overwritten sumWritten mergeWritten squared lengthSquared furthestPair lengthFrom lengthTo lengthReply edgeTurn reach edgeSquared noWider widthEdge widthCorner widthRounded widthReply inside apart notLeft onRim touching relationReply
+unfolding rows turn breaks precedes maxCorners maxCoordinate maxPart badCount tooMany outside someOutside equalPair leftBroken breakingEdge breakingCorner ruleBroken brokenEdge brokenCorner badStart judged max shapeOf noRoom overwritten sumWritten mergeWritten squared lengthSquared furthestPair lengthFrom lengthTo lengthReply edgeTurn reach edgeSquared noWider widthEdge widthCorner widthRounded widthReply inside apart notLeft onRim touching relationReply
 rows-hold = (refl, refl)

@@ -66,7 +66,7 @@ blamed-row {which} {n} {b} {c} {vs} {ws} s = record { same = λ v. go b v }
     go false v = s .same v
 
 blamed : (which : ℕ) (l : List ℤ) → Blamed which (shapeRows which l) (shapeRows 1 l)
-blamed which l = blamed-row (blamed-row (blamed-row (blamed-row (blamed-row (blamed-row (record { same = λ v. refl }))))))
+blamed which l = blamed-row (blamed-row (blamed-row (blamed-row (blamed-row (record { same = λ v. refl })))))
 
 fault-refused : (which : ℕ) (f : Fault) (v : List ℤ) → faultReply which f ≡ answered v → ⊥
 fault-refused which Count v h = let z : _≡_ {A = ℕ} 0 1 = cc in omega arith

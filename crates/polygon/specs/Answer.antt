@@ -3,18 +3,10 @@
 --     judgedReply j         the answer of `judge`
 --     furthestAnswerReply r         the answer of `furthest`
 --     refusalReply r, answerReply a     the answers of the questions that write a shape
---     broken ps             where the left rule is broken first, as the code carries it
-use mathlib.Core.Bool.{cond}
 use mathlib.Core.List.{List, [], _∷_}
 use Prim.Native.Nat.{ℕ}
-use lib.Dec.{ltb}
 use lib.IntN.{pos}
-use lib.ListN.{length}
-use Rattle.plane.specs.Point.{Point}
 use Rattle.plane.specs.Reply.{Reply, answered, refused}
-use Rattle.plane.specs.Refusal.{brokenEdge, brokenCorner}
-use Rattle.polygon.specs.declared.rules.Broken.{Broken}
-use Rattle.polygon.specs.declared.rules.Broken.the-variants.{At, Nowhere}
 use Rattle.polygon.specs.declared.Fault.{Fault}
 use Rattle.polygon.specs.declared.Fault.the-variants.{Count, Many, Range, Side, Start}
 use Rattle.polygon.specs.declared.Judged.{Judged}
@@ -52,6 +44,3 @@ refusalReply Refusal.Room = refused 8 []
 abbrev pub answerReply : Answer → Reply
 answerReply (Answer.Corners n) = answered (pos n ∷ [])
 answerReply (Answer.No r) = refusalReply r
-
-abbrev pub broken : List Point → Broken
-broken ps = cond (ltb (brokenEdge ps) (length ps)) (At (brokenEdge ps) (brokenCorner ps (brokenEdge ps))) Nowhere

@@ -48,9 +48,6 @@ pub fn judge(list: &[i32]) -> Judged
     if rules::some_outside(list) {
         return Judged::No(Fault::Range);
     }
-    if rules::equal_pair(list) {
-        return Judged::No(Fault::Side { edge: 0, corner: 1 });
-    }
     if let rules::Broken::At { edge, corner } = rules::first_broken(list) {
         return Judged::No(Fault::Side { edge, corner });
     }

@@ -4,12 +4,10 @@ use mathlib.Core.Bool.{false}
 use mathlib.Core.List.{List, [], _∷_}
 use Prim.Native.Nat.{ℕ}
 use borrow.Author.Needs.{needs}
-use lib.Dec.{ltb}
 use lib.IntN.{ℤ, pos}
-use lib.ListN.{length}
 use Rattle.plane.specs.Point.{points}
 use Rattle.plane.specs.Reply.{answered, refused}
-use Rattle.plane.specs.Refusal.{badCount, tooMany, someOutside, equalPair, brokenEdge, brokenCorner, badStart}
+use Rattle.plane.specs.Refusal.{badCount, tooMany, someOutside, ruleBroken, badStart}
 use Rattle.plane.specs.Judge.{judged}
 use Rattle.plane.specs.theory.refusals.Accept.{inside→inRange}
 use Rattle.polygon.proofs.LeftRule.{broken-found, broken-none}
@@ -18,7 +16,7 @@ use Rattle.polygon.proofs.judge.Tie as tie
 
 -- the list that came in, as it is known past the search for a broken edge
 abbrev list : tie.After-enum-told → List ℤ
-list c = c .before .before .before .before .before .before .before .before .before .before .before .args .list .now
+list c = c .before .before .before .before .before .before .before .before .before .args .list .now
 
 -- ---- the rows that do not apply, each where it is known
 
@@ -31,12 +29,9 @@ row-2 c = sym (c .before .too-many .ensures) ∙ c .if2 .left
 row-3 : (c : tie.Else3) → someOutside (c .before .before .before .before .before .before .args .list .now) ≡ false
 row-3 c = sym (c .before .some-outside .ensures) ∙ c .if3 .left
 
-row-4 : (c : tie.Else4) → equalPair (points (c .before .before .before .before .before .before .before .before .args .list .now)) ≡ false
-row-4 c = sym (c .before .equal-pair .ensures) ∙ c .if4 .left
-
 -- past the search for a broken edge there is none
-row-5 : (c : tie.After-enum-told) → ltb (brokenEdge (points (list c))) (length (points (list c))) ≡ false
-row-5 c = broken-none _ (sym (c .before .before .first-broken .ensures) ∙ c .enum-told .given .1)
+row-4 : (c : tie.After-enum-told) → ruleBroken (points (list c)) ≡ false
+row-4 c = broken-none _ (sym (c .before .before .first-broken .ensures) ∙ c .enum-told .given .1)
 
 -- ---- the needs
 
@@ -63,30 +58,19 @@ returns-3 c =
     let at-2 = c .before .before in
     rw (row-1 (at-2 .before .before), row-2 at-2, sym (c .before .some-outside .ensures) ∙ c .if3 .taken)
 
-equal-pair-requires : tie.Need-equal-pair-requires
-equal-pair-requires c κs = tt
-
-returns-4 : tie.Need-returns-4
-unfolding judged
-returns-4 c =
-    let at-3 = c .before .before in
-    let at-2 = at-3 .before .before in
-    rw (row-1 (at-2 .before .before), row-2 at-2, row-3 at-3, sym (c .before .equal-pair .ensures) ∙ c .if4 .taken)
-
 first-broken-requires : tie.Need-first-broken-requires
-first-broken-requires c κs = inside→inRange _ (row-3 (c .before .before))
+first-broken-requires c κs = inside→inRange _ (row-3 c)
 
 enum-known-edge : tie.Need-enum-known-edge
 enum-known-edge c = search needs
 
-returns-5 : tie.Need-returns-5
+returns-4 : tie.Need-returns-4
 unfolding judged
-returns-5 c =
-    let at-4 = c .before .before .before .before in
-    let at-3 = at-4 .before .before in
+returns-4 c =
+    let at-3 = c .before .before .before .before in
     let at-2 = at-3 .before .before in
     let found = broken-found _ _ _ (sym (c .before .before .before .first-broken .ensures) ∙ c .before .edge .given .1) in
-    rw (row-1 (at-2 .before .before), row-2 at-2, row-3 at-3, row-4 at-4, found .0)
+    rw (row-1 (at-2 .before .before), row-2 at-2, row-3 at-3, found .0)
     (ap₂ (λ (e k : ℕ). refused 4 (1 ∷ e ∷ k ∷ [])) (sym (found .1)) (sym (found .2)))
 
 enum-told : tie.Need-enum-told
@@ -95,30 +79,28 @@ enum-told c = search needs
 bad-start-requires : tie.Need-bad-start-requires
 bad-start-requires c κs = tt
 
-returns-6 : tie.Need-returns-6
+returns-5 : tie.Need-returns-5
 unfolding judged
-returns-6 c =
-    let at-5 = c .before .before in
-    let at-4 = at-5 .before .before .before in
-    let at-3 = at-4 .before .before in
+returns-5 c =
+    let at-4 = c .before .before in
+    let at-3 = at-4 .before .before .before in
     let at-2 = at-3 .before .before in
-    rw (row-1 (at-2 .before .before), row-2 at-2, row-3 at-3, row-4 at-4, row-5 at-5, sym (c .before .bad-start .ensures) ∙ c .if5 .taken)
+    rw (row-1 (at-2 .before .before), row-2 at-2, row-3 at-3, row-4 at-4, sym (c .before .bad-start .ensures) ∙ c .if4 .taken)
 
 count-requires : tie.Need-count-requires
 count-requires c κs = tt
 
-returns-7 : tie.Need-returns-7
+returns-6 : tie.Need-returns-6
 unfolding judged
-returns-7 c =
-    let at-5 = c .before .before .before in
-    let at-4 = at-5 .before .before .before in
-    let at-3 = at-4 .before .before in
+returns-6 c =
+    let at-4 = c .before .before .before in
+    let at-3 = at-4 .before .before .before in
     let at-2 = at-3 .before .before in
-    rw (row-1 (at-2 .before .before), row-2 at-2, row-3 at-3, row-4 at-4, row-5 at-5, sym (c .before .before .bad-start .ensures) ∙ c .before .if5 .left)
+    rw (row-1 (at-2 .before .before), row-2 at-2, row-3 at-3, row-4 at-4, sym (c .before .before .bad-start .ensures) ∙ c .before .if4 .left)
     (ap (λ (n : ℕ). answered (pos n ∷ [])) (c .count .ensures))
 
 pub judge-spec : {M : Type 1} → statement M
 judge-spec =
     tie.close
-    (tie.spec bad-count-requires returns too-many-requires returns-2 some-outside-requires returns-3 equal-pair-requires returns-4
-    first-broken-requires enum-known-edge returns-5 enum-told bad-start-requires returns-6 count-requires returns-7)
+    (tie.spec bad-count-requires returns too-many-requires returns-2 some-outside-requires returns-3 first-broken-requires
+    enum-known-edge returns-4 enum-told bad-start-requires returns-5 count-requires returns-6)

@@ -5,17 +5,20 @@
 --     Sought p n i                           the search has come to i and found nothing
 --     sought-start, -more, -found, -none     the moves of the loop  while i < n { if p(i) { found } i += 1 }
 --     sought-yes, sought-no                  its ends, where only whether there is such a number is asked
+--     some-witness, some-here, some-none, none-some      `some p n` passes exactly if the test does at a number below n
+--     sought-some, sought-never              the loop's ends, for it
 --     search-none, none-search               there is none exactly if the test fails at every number below n
 --     true-not-false, tests-agree            a test is not both; two tests that pass together are equal
 use mathlib.Core.Path.{_≡_, refl, sym, _∙_, ap}
-use mathlib.Core.Bool.{Bool, true, false}
+use mathlib.Core.Bool.{Bool, true, false, _||_, true≢false, false≢true}
 use Prim.Native.Nat.{ℕ, zero, suc, _+_, _≤_, _<_, zero-le}
 use native.Mathlib.Omega.{arith}
 use native.Mathlib.Nat.{le-of-suc-le-suc, le-refl}
+use native.Mathlib.Decide.{ℕ-discrete}
 use borrow.Author.Count.{below-more}
 use borrow.Author.Tests.{lt-ltb, le-ltb, ltb-true, ltb-false}
 use lib.Dec.{ltb}
-use Rattle.plane.specs.Search.{first}
+use Rattle.plane.specs.Search.{some, first}
 
 pub true-not-false {ℓ} : {X : Type ℓ} {b : Bool} → b ≡ true → b ≡ false → X
 true-not-false {b = true} p q = absurd (let z : _≡_ {A = ℕ} 0 1 = cc in let f : ⊥ = omega arith in f)
@@ -68,6 +71,39 @@ first-at-most p n i h = go (ltb i (first p n)) refl
     go true e = true-not-false h (first-least p n i (ltb-true i (first p n) e))
     go false e = ltb-false i (first p n) e
 
+-- ---- whether there is such a number
+
+pub some-witness : (p : ℕ → Bool) (n : ℕ) → some p n ≡ true → (i : ℕ) × (i < n) × (p i ≡ true)
+some-witness p zero h = absurd (false≢true h)
+some-witness p (suc n) h = go (some p n) refl h (some-witness p n)
+  where
+    go : (t : Bool) → some p n ≡ t → (t || p n) ≡ true → (some p n ≡ true → (i : ℕ) × (i < n) × (p i ≡ true))
+        → (i : ℕ) × (i < suc n) × (p i ≡ true)
+    go true e k earlier = let r = earlier e in (r .0, omega (arith, r .1), r .2)
+    go false e k earlier = (n, omega arith, k)
+
+pub some-none : (p : ℕ → Bool) (n : ℕ) → some p n ≡ false → (i : ℕ) → i < n → p i ≡ false
+some-none p zero h i l = absurd (omega arith)
+some-none p (suc n) h i l = go (some p n) refl (p n) refl h (some-none p n) (ℕ-discrete i n)
+  where
+    go : (t : Bool) → some p n ≡ t → (u : Bool) → p n ≡ u → (t || u) ≡ false → (some p n ≡ false → (i : ℕ) → i < n → p i ≡ false)
+        → Dec (i ≡ n) → p i ≡ false
+    go true e u f k earlier d = absurd (true≢false k)
+    go false e true f k earlier d = absurd (true≢false k)
+    go false e false f k earlier (yes q) = rw q f
+    go false e false f k earlier (no q) = earlier e i (omega arith)
+
+pub none-some : (p : ℕ → Bool) (n : ℕ) → ((i : ℕ) → i < n → p i ≡ false) → some p n ≡ false
+none-some p zero f = refl
+none-some p (suc n) f = rw (none-some p n (λ i l. f i (omega arith))) (f n (omega arith))
+
+pub some-here : (p : ℕ → Bool) (n i : ℕ) → i < n → p i ≡ true → some p n ≡ true
+some-here p n i l e = go (some p n) refl
+  where
+    go : (t : Bool) → some p n ≡ t → t ≡ true
+    go true h = refl
+    go false h = true-not-false e (some-none p n h i l)
+
 -- ---- a loop that searches
 
 pub record Sought (p : ℕ → Bool) (n i : ℕ) : Type 0 where
@@ -86,6 +122,13 @@ module _ (p : ℕ → Bool) (n : ℕ) where
 
   pub sought-none : (i : ℕ) → Sought p n i → n ≤ i → first p n ≡ n
   sought-none i s h = first-unique p n i (s .within) (λ q. let f : ⊥ = omega arith in absurd f) (s .none) ∙ omega (arith, s .within)
+
+  -- whether there is such a number
+  pub sought-some : (i : ℕ) → i < n → p i ≡ true → some p n ≡ true
+  sought-some i h e = some-here p n i h e
+
+  pub sought-never : (i : ℕ) → Sought p n i → n ≤ i → some p n ≡ false
+  sought-never i s h = none-some p n (λ k l. s .none k (omega arith))
 
   -- the search as a test: whether there is such a number
   pub sought-yes : (i : ℕ) → Sought p n i → i < n → p i ≡ true → ltb (first p n) n ≡ true

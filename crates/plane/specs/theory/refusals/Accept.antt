@@ -24,8 +24,8 @@ use Rattle.plane.specs.Refusal.{
   outside,
   someOutside,
   equalPair,
-  brokenCorner,
-  brokenEdge,
+  leftBroken,
+  ruleBroken,
   badStart,
   shapeRows,
   InRange,
@@ -34,7 +34,7 @@ use Rattle.plane.specs.Refusal.{
 use Rattle.plane.specs.theory.lists.Flat.{points-length}
 use Rattle.plane.specs.theory.forms.Precedes.{precedes-total, precedes-irrefl, not-precedes}
 use Rattle.plane.specs.theory.refusals.Rows.{NoneApply}
-use Rattle.plane.specs.theory.lists.Sought.{search-none, none-search}
+use Rattle.plane.specs.theory.lists.Sought.{search-none, none-search, some-none, none-some}
 use Rattle.plane.specs.theory.refusals.Tests.{breaks-own, breaks-end, breaks-other, equalPair-other, equalPair-two}
 
 -- ---- row 3
@@ -102,13 +102,22 @@ different-pair ps f = go (ℕ-discrete (length ps) 2)
     go (yes n) = equalPair-two ps n ∙ neither _ _ (λ p q. f n (precedes-total (corner ps 0) (corner ps 1) p q))
     go (no g) = equalPair-other ps g
 
-kept→left : (ps : List Point) → ltb (brokenEdge ps) (length ps) ≡ false → (e c : ℕ) → e < length ps → c < length ps → breaks ps e c ≡ false
-unfolding brokenEdge brokenCorner
-kept→left ps h e c p q = search-none _ (length ps) (search-none _ (length ps) h e p) c q
+kept→left : (ps : List Point) → leftBroken ps ≡ false → (e c : ℕ) → e < length ps → c < length ps → breaks ps e c ≡ false
+unfolding leftBroken
+kept→left ps h e c p q = some-none _ (length ps) (some-none _ (length ps) h e p) c q
 
-left→kept : (ps : List Point) → ((e c : ℕ) → e < length ps → c < length ps → breaks ps e c ≡ false) → ltb (brokenEdge ps) (length ps) ≡ false
-unfolding brokenEdge brokenCorner
-left→kept ps f = none-search _ (length ps) (λ e p. none-search _ (length ps) (λ c q. f e c p q))
+left→kept : (ps : List Point) → ((e c : ℕ) → e < length ps → c < length ps → breaks ps e c ≡ false) → leftBroken ps ≡ false
+unfolding leftBroken
+left→kept ps f = none-some _ (length ps) (λ e p. none-some _ (length ps) (λ c q. f e c p q))
+
+-- row 4 does not apply exactly if neither of its parts does
+rule→parts : (ps : List Point) → ruleBroken ps ≡ false → (equalPair ps ≡ false) × (leftBroken ps ≡ false)
+unfolding ruleBroken
+rule→parts ps h = either-false (equalPair ps) (leftBroken ps) h
+
+parts→rule : (ps : List Point) → equalPair ps ≡ false → leftBroken ps ≡ false → ruleBroken ps ≡ false
+unfolding ruleBroken
+parts→rule ps h k = ap₂ (λ a b. a || b) h k
 
 -- ---- the whole table
 
@@ -131,15 +140,15 @@ left-keeps ps s e c p q = go (ℕ-discrete c e) (ℕ-discrete c (next (length ps
 
 module _ (l : List ℤ) where
   pub accepted→valid : (which : ℕ) → NoneApply (shapeRows which l) → Valid l
-  accepted→valid which n = record {
+  accepted→valid which n = let rule = rule→parts (points l) (n .1 .1 .1 .0) in record {
     paired = counted l (n .0) .1;
     few = few-corners (points l) (n .1 .0);
     inRange = inside→inRange l (n .1 .1 .0);
     shape = record {
       some = counted l (n .0) .0;
-      different = pair-different (points l) (n .1 .1 .1 .0);
-      left = λ e c p q i j. ltZ-true (not-false _ (sym (breaks-other (points l) e c i j) ∙ kept→left (points l) (n .1 .1 .1 .1 .0) e c p q));
-      start = λ c p. first-least (points l) (n .1 .1 .1 .1 .1 .0) c p;
+      different = pair-different (points l) (rule .0);
+      left = λ e c p q i j. ltZ-true (not-false _ (sym (breaks-other (points l) e c i j) ∙ kept→left (points l) (rule .1) e c p q));
+      start = λ c p. first-least (points l) (n .1 .1 .1 .1 .0) c p;
     };
   }
 
@@ -152,11 +161,8 @@ module _ (l : List ℤ) where
           (
             inRange→inside l (v .inRange),
             (
-              different-pair (points l) (s .different),
-              (
-                left→kept (points l) (left-keeps (points l) s),
-                (least-first (points l) (s .start), tt),
-              ),
+              parts→rule (points l) (different-pair (points l) (s .different)) (left→kept (points l) (left-keeps (points l) s)),
+              (least-first (points l) (s .start), tt),
             ),
           ),
         ),
