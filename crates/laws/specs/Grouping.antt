@@ -7,11 +7,11 @@
 --     Grouping L            a way to bring the list L together: no call, or two groups and one call on their results
 --     Result call g l       every call of the grouping g is answered, and l is its result
 --     Refused call g        some call of the grouping is refused
---     sumOfAll L            the result of sums that 01 states; mergeOfAll L: that of merges, over all corners `together`
+--     sumOfAll L            the result of sums that 01 states; mergeOfAll L: that of merges
 -- `List·Permᴰ L M` is mathlib's: M is L in another order. Groups are never empty: `group-not-empty` of the laws.
 use mathlib.Core.Path.{_≡_}
 use mathlib.Core.Logic.{_⊎_}
-use mathlib.Core.List.{List, [], _∷_, _++_, map, List·Memᴰ, List·Permᴰ}
+use mathlib.Core.List.{List, [], _∷_, _++_, map, flatten, List·Memᴰ, List·Permᴰ}
 use Prim.Native.Nat.{ℕ, _*_, _≤_}
 use lib.IntN.{ℤ, pos}
 use lib.ListN.{length, take}
@@ -83,11 +83,6 @@ Refused call (split order g h out) =
 abbrev pub sumOfAll : List (List ℤ) → List ℤ
 sumOfAll L = numbers (shapeOf (sumsOf (map points L)))
 
--- "the corners of all shapes in the list"
-abbrev pub together : List (List Point) → List Point
-together [] = []
-together (A ∷ L) = A ++ together L
-
 -- "the shape of the corners of all shapes in the list"
 abbrev pub mergeOfAll : List (List ℤ) → List ℤ
-mergeOfAll L = numbers (shapeOf (together (map points L)))
+mergeOfAll L = numbers (shapeOf (flatten (map points L)))

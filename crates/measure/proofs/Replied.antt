@@ -15,11 +15,11 @@ use Rattle.plane.specs.Point.{Point, points, corner}
 use Rattle.plane.specs.Reply.{Reply, answered, refused, row, firstRow}
 use Rattle.plane.specs.Refusal.{shapeRows, Valid}
 use Rattle.plane.specs.Judge.{judged}
-use Rattle.plane.specs.Measure.{squared, lengthSquared, lengthReply, reach, edgeSquared, widthEdge, widthCorner, widthRounded, widthReply}
+use Rattle.plane.specs.Measure.{squared, lengthSquared, lengthReply, height, edgeSquared, widthEdge, widthCorner, widthRounded, widthReply}
 use Rattle.plane.specs.theory.refusals.Rows.{firstRow-none, firstRow-passed, row-given, row-passed}
 use Rattle.plane.specs.theory.refusals.Accept.{valid→accepted}
 use Rattle.measure.specs.theory.Longest.{length-longest}
-use Rattle.measure.specs.theory.Reach.{edgeSquared-positive}
+use Rattle.measure.specs.theory.Height.{edgeSquared-positive}
 use Rattle.measure.specs.theory.Rounded.{rounded-unique}
 use Rattle.measure.specs.theory.WidthScan.{width-done}
 use Rattle.measure.specs.Comparison.{Width, none, best}
@@ -68,8 +68,8 @@ module _ (l : List ℤ) (v : Valid l) where
   ps = points l
 
   abbrev values : Reply
-  values = let e = widthEdge ps in answered (pos e ∷ pos (widthCorner ps) ∷ reach ps e ∷ edgeSquared ps e
-      ∷ pos (widthRounded (natAbs (reach ps e)) (natAbs (edgeSquared ps e))) ∷ [])
+  values = let e = widthEdge ps in answered (pos e ∷ pos (widthCorner ps) ∷ height ps e ∷ edgeSquared ps e
+      ∷ pos (widthRounded (natAbs (height ps e)) (natAbs (edgeSquared ps e))) ∷ [])
 
   past : widthReply l ≡ firstRow (row 10 (ltb (length ps) 3) [] ∷ []) values
   unfolding widthReply
@@ -79,7 +79,7 @@ module _ (l : List ℤ) (v : Valid l) where
   width-flat h = row-given (row 10 (ltb (length ps) 3) []) [] values (lt-ltb (length ps) 3 h) ∙ sym past
 
   module _ (three : 3 ≤ length ps) (r : Across) (b : Best l (length ps) r) where
-    done : (widthEdge ps ≡ r .edge) × (widthCorner ps ≡ r .corner) × (reach ps (r .edge) ≡ pos (r .turn))
+    done : (widthEdge ps ≡ r .edge) × (widthCorner ps ≡ r .corner) × (height ps (r .edge) ≡ pos (r .turn))
         × (edgeSquared ps (r .edge) ≡ pos (r .squared))
     done = width-done (v .shape .some) b refl
 

@@ -11,7 +11,7 @@
 -- What it means: shapeOf S is a shape, p is in it exactly if Corner S p, and every list with these two properties equals it
 -- (`Meaning.antt`).
 use mathlib.Core.Bool.{Bool, true, false}
-use mathlib.Core.List.{List, [], _∷_, _++_, map, reverse, List·Memᴰ}
+use mathlib.Core.List.{List, [], _∷_, _++_, map, tail, reverse, List·Memᴰ}
 use mathlib.Core.Path.{_≡_}
 use Prim.Native.Nat.{ℕ}
 use lib.IntN.{ℤ, pos}
@@ -49,13 +49,9 @@ abbrev pub scan : List Point → List Point → List Point
 scan kept [] = kept
 scan kept (p ∷ ps) = scan (push p kept) ps
 
--- from the first point of a sorted list up to, and without, its last
-abbrev pub withoutFirst : List Point → List Point
-withoutFirst [] = []
-withoutFirst (p ∷ ps) = ps
-
+-- from the first point of a sorted list up to, and without, its last, which the scan has put first
 abbrev pub side : List Point → List Point
-side ps = reverse (withoutFirst (scan [] ps))
+side ps = reverse (tail (scan [] ps))
 
 abbrev pub around : List Point → List Point
 around [] = []

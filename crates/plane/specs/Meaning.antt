@@ -33,7 +33,7 @@ use Rattle.plane.specs.theory.sum.Cut.{cutSum, cut-formula}
 use Rattle.plane.specs.VectorSum.{vectorSum}
 use Rattle.plane.specs.theory.sum.EdgeSum.{vectorSum-shape}
 use Rattle.plane.specs.theory.mirror.Mirror.{mirror-count}
-use Rattle.plane.specs.theory.mirror.MirrorWritten.{mirror-few, mirror-inside}
+use Rattle.plane.specs.theory.mirror.MirrorWritten.{mirror-few, mirror-near}
 
 -- ---- judging
 
@@ -173,4 +173,4 @@ module _ (l : List ℤ) (v : Valid l) where
 
   -- nor 7, "a corner of the answer is out of range"
   pub mirror-is-never-out-of-range : someOutside (numbers (shapeOf (mirrored (points l)))) ≡ false
-  mirror-is-never-out-of-range = mirror-inside l v
+  mirror-is-never-out-of-range = mirror-near l v

@@ -5,7 +5,8 @@ ghost use lib.ListN.{length};
 ghost use Rattle.plane.specs.Point.{points, corner};
 ghost use Rattle.plane.specs.Measure.{squared as Measure·squared};
 ghost use Rattle.plane.specs.Refusal.{Valid, InRange};
-ghost use Rattle.separation.specs.Nearest.{min, nearestTo, nearest as Nearest·nearest};
+ghost use Rattle.plane.specs.Direction.{min};
+ghost use Rattle.separation.specs.Nearest.{nearestTo, nearest as Nearest·nearest};
 use polygon::corners;
 
 // The least over all corners of a.

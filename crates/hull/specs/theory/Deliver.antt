@@ -20,7 +20,7 @@ use Rattle.plane.specs.Point.{Point, points, numbers}
 use Rattle.plane.specs.Refusal.{InRange, tooMany, someOutside}
 use Rattle.plane.specs.Output.{noRoom, overwritten}
 use Rattle.plane.specs.theory.lists.Flat.{points-length, numbers-length}
-use Rattle.plane.specs.theory.refusals.Accept.{inRange→inside}
+use Rattle.plane.specs.theory.refusals.Accept.{inRange→near}
 
 pub numbers-front : (l : List ℤ) (m : ℕ) → m ≤ length (points l) → numbers (take m (points l)) ≡ take (2 * m) l
 numbers-front l zero h = refl
@@ -76,7 +76,7 @@ module _ (a : List ℤ) (m : ℕ) (b : List ℤ) (n : ℕ) (h : m ≤ length (po
   fronts-room out e = ap (ltb (length out)) (numbers-length fronts ∙ ap (λ k. 2 * k) fronts-length) ∙ e
 
   pub fronts-near : InRange a → InRange b → someOutside (numbers fronts) ≡ false
-  fronts-near r s = inRange→inside (numbers fronts) (subst InRange (sym fronts-numbers) (append-near (take (2 * m) a) (take (2 * n) b)
+  fronts-near r s = inRange→near (numbers fronts) (subst InRange (sym fronts-numbers) (append-near (take (2 * m) a) (take (2 * n) b)
       (front-near a (2 * m) (omega (arith, points-length a)) r) (front-near b (2 * n) (omega (arith, points-length b)) s)))
 
   pub fronts-pasted : (out : List ℤ) → 2 * m + 2 * n ≤ length out

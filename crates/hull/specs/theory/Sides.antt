@@ -2,7 +2,7 @@
 --     UpToLast n k m     what is taken of a chain
 --     sides              what both scans leave of the ascending corners of a set, read upwards and downwards, joins to its shape
 use mathlib.Core.Path.{_≡_, refl, sym, _∙_, ap, ap₂, subst}
-use mathlib.Core.List.{List, [], _∷_, _++_, reverse}
+use mathlib.Core.List.{List, [], _∷_, _++_, tail, reverse}
 use Prim.Native.Nat.{ℕ, suc, _+_, _-_, _≤_, _<_}
 use native.Mathlib.Decide.{ℕ-discrete}
 use native.Mathlib.Numerals.{add-one}
@@ -11,7 +11,7 @@ use lib.IntN.{ℤ}
 use lib.ListN.{length, take}
 use lib.Seq.{length-take-le}
 use Rattle.plane.specs.Point.{Point, points}
-use Rattle.plane.specs.Corner.{ascending, scan, withoutFirst, around, shapeOf}
+use Rattle.plane.specs.Corner.{ascending, scan, around, shapeOf}
 use Rattle.plane.specs.theory.lists.Flat.{points-length}
 use Rattle.hull.specs.theory.Least.{ascending-some}
 use Rattle.hull.specs.Buffer.{stack, Holds, Scanned, Sides}
@@ -23,9 +23,9 @@ UpToLast n k m = (n ≡ 1 → m ≡ 1) × ((n ≡ 1 → ⊥) → m + 1 ≡ k)
 
 module _ (R L : List Point) where
   -- a chain without its last corner
-  side-take : (P : List Point) (k m : ℕ) (A : List Point) → m ≤ length P → m + 1 ≡ k → stack P k ≡ scan [] A → take m P ≡ reverse (withoutFirst (scan [] A))
+  side-take : (P : List Point) (k m : ℕ) (A : List Point) → m ≤ length P → m + 1 ≡ k → stack P k ≡ scan [] A → take m P ≡ reverse (tail (scan [] A))
   side-take P k m A h e s =
-      take-stack P m h ∙ ap (λ l. reverse (withoutFirst l)) (go ∙ s)
+      take-stack P m h ∙ ap (λ l. reverse (tail l)) (go ∙ s)
     where
       go : stack P (suc m) ≡ stack P k
       go = ap (stack P) (sym (add-one m) ∙ e)

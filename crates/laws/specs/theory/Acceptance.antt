@@ -14,7 +14,7 @@ use Rattle.plane.specs.Corner.{shapeOf, sums}
 use Rattle.plane.specs.Output.{answerRows, noRoom}
 use Rattle.plane.specs.Combine.{pairWritten, sumWritten, mergeWritten}
 use Rattle.plane.specs.theory.refusals.Rows.{NoneApply, firstRow-none}
-use Rattle.plane.specs.theory.refusals.Accept.{valid→accepted, inRange→inside}
+use Rattle.plane.specs.theory.refusals.Accept.{valid→accepted, inRange→near}
 use Rattle.laws.specs.Grouping.{Gives, Fits}
 use Rattle.laws.specs.theory.Answer.{pairRows, written-answered}
 
@@ -26,7 +26,7 @@ fits→none : (shape : List Point) (out : List ℤ) → Fits shape out → NoneA
 unfolding tooMany noRoom
 fits→none shape out f = (
   le-ltb maxCorners (length shape) (f .few),
-  (inRange→inside (numbers shape) (f .inRange), (le-ltb (length out) (length (numbers shape)) (f .room), tt)),
+  (inRange→near (numbers shape) (f .inRange), (le-ltb (length out) (length (numbers shape)) (f .room), tt)),
 )
 
 module _ (a b out : List ℤ) where

@@ -26,7 +26,7 @@ use Rattle.plane.specs.Output.{Written, written, answerRows, overwritten}
 use Rattle.plane.specs.Combine.{pairWritten, sumWritten, mergeWritten}
 use Rattle.plane.specs.theory.refusals.Rows.{NoneApply, firstRow-none, firstRow-answered}
 use Rattle.plane.specs.theory.refusals.Write.{none-output}
-use Rattle.plane.specs.theory.refusals.Accept.{few-corners, accepted→valid, inside→inRange}
+use Rattle.plane.specs.theory.refusals.Accept.{few-corners, accepted→valid, near→inRange}
 use Rattle.plane.specs.theory.lists.Flat.{points-numbers, numbers-points, numbers-length}
 use Rattle.plane.specs.theory.lists.Members.{sums-some}
 use Rattle.plane.specs.theory.lists.Max.{left-le-max, max-comm, max-assoc, max-idem}
@@ -97,7 +97,7 @@ module _ (c : ℤ → ℤ → ℤ) (a b : List ℤ) (S : List Point) (out l : Li
         first = v;
         second = w;
         valid = subst Valid (sym e)
-            (numbers-valid (shapeOf S) (shapeOf-shape S n) (few-corners _ (later .1 .0)) (inside→inRange _ (later .1 .1 .0)));
+            (numbers-valid (shapeOf S) (shapeOf-shape S n) (few-corners _ (later .1 .0)) (near→inRange _ (later .1 .1 .0)));
         reach = λ d. ap (λ m. support d (points m)) e ∙ ap (support d) (points-numbers (shapeOf S)) ∙ shapeOf-support S n d
             ∙ follows (v .shape .some) (w .shape .some) d;
       }

@@ -11,7 +11,7 @@ use mathlib.Core.List.{List, [], _∷_}
 use mathlib.Core.Logic.{_⊎_, inl, inr}
 use Prim.Native.Nat.{ℕ, _≤_, _<_}
 use native.Mathlib.Omega.{arith}
-use borrow.Author.Tests.{ltb-true, ltb-false, lt-ltb, leb-true, leb-false, le-leb}
+use borrow.Author.Tests.{ltb-true, ltb-false, leb-true, leb-false, le-leb}
 use lib.Dec.{leb, ltb}
 use lib.IntN.{ℤ, pos, _+ℤ_, _-ℤ_, _*ℤ_}
 use lib.ListN.{length}
@@ -21,12 +21,12 @@ use Rattle.integer.specs.Linear.{lia, linear, _&_}
 use Rattle.integer.specs.Order.{Compared, is-below, is-equal, is-above, compared, _<×<_, square-nonneg}
 use Rattle.integer.specs.Order.{le-of-eq, le-trans, le-antisym, leZ-true, le-leZ}
 use Rattle.plane.specs.Point.{Point, corner, _⊕_, _⊖_}
-use Rattle.plane.specs.Search.{first}
+use Rattle.plane.specs.Search.{some}
 use Rattle.plane.specs.Direction.{value}
 use Rattle.plane.specs.Corner.{Corner, sums, mirrored}
 use Rattle.plane.specs.Measure.{greatest, squared, lengthSquared, furthestPair, lengthFrom, lengthTo}
 use Rattle.plane.specs.theory.lists.Members.{_∈_, point-path, sums-member, member-sums, SumOf, mirrored-member, member-mirrored}
-use Rattle.plane.specs.theory.lists.Sought.{first-true, first-at-most}
+use Rattle.plane.specs.theory.lists.Sought.{first-true, first-at-most, some-here, some-found}
 use Rattle.plane.specs.theory.lists.Greatest.{greatest-above, greatest-attained, greatest-le}
 use Rattle.plane.specs.theory.forms.Squared.{squared-sym, squared-positive}
 use Rattle.measure.specs.Comparison.{NotAfter, sooner, level}
@@ -140,12 +140,11 @@ module _ (ps : List Point) where
 
   -- some pair that starts at i is at the greatest distance
   row : ℕ → Bool
-  row i = ltb (first (furthestPair ps i) (length ps)) (length ps)
+  row i = some (furthestPair ps i) (length ps)
 
   longest-row : {i j : ℕ} → Longest ps i j → row i ≡ true
   unfolding row
-  longest-row {i} {j} p = lt-ltb (first (furthestPair ps i) (length ps)) (length ps)
-      (omega (arith, first-at-most (furthestPair ps i) (length ps) j (longest-passes p), p .within))
+  longest-row {i} {j} p = some-here (furthestPair ps i) (length ps) j (p .within) (longest-passes p)
 
   from-at-most : {i j : ℕ} → Longest ps i j → lengthFrom ps ≤ i
   unfolding lengthFrom row
@@ -156,7 +155,7 @@ module _ (ps : List Point) where
   length-longest h =
       let p = some-longest h in
       let found : lengthFrom ps < length ps = omega (arith, from-at-most (p .2), p .2 .ordered, p .2 .within) in
-      let ends : lengthTo ps < length ps = ltb-true (lengthTo ps) (length ps) (first-true row (length ps) found) in
+      let ends : lengthTo ps < length ps = some-found (furthestPair ps (lengthFrom ps)) (length ps) (first-true row (length ps) found) in
       passes-longest (lengthFrom ps) (lengthTo ps) ends (first-true (furthestPair ps (lengthFrom ps)) (length ps) ends)
 
   pub length-least : {k l : ℕ} → Longest ps k l → NotAfter (lengthFrom ps) (lengthTo ps) k l

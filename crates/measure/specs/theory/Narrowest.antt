@@ -9,7 +9,6 @@ use mathlib.Core.Path.{_≡_, refl, ap}
 use mathlib.Core.Bool.{Bool, true, false, not}
 use mathlib.Core.List.{List, [], _∷_}
 use Prim.Native.Nat.{ℕ, _+_, _*_, _≤_, _<_}
-use native.Mathlib.Nat.{le-refl}
 use native.Mathlib.Omega.{arith}
 use borrow.Author.Count.{below-more}
 use borrow.Author.Tests.{le-leb, lt-leb, ltb-true, ltb-false}
@@ -20,11 +19,11 @@ use lib.Signed.{_≤ℤ_, _<ℤ_, ≤ℤ-refl}
 use Rattle.integer.specs.Linear.{lia, linear, _&_}
 use Rattle.integer.specs.Order.{_<×<_, _≤×<_, contra≤, weaken, leZ-true, leZ-false, le-leZ}
 use Rattle.plane.specs.Point.{Point}
-use Rattle.plane.specs.Search.{first}
+use Rattle.plane.specs.Search.{every}
 use Rattle.plane.specs.Shape.{IsShape}
-use Rattle.plane.specs.Measure.{reach, edgeSquared, noWider, widthEdge}
-use Rattle.plane.specs.theory.lists.Sought.{first-unique, first-at-most, true-not-false}
-use Rattle.measure.specs.theory.Reach.{edgeSquared-positive}
+use Rattle.plane.specs.Measure.{height, edgeSquared, noWider, widthEdge}
+use Rattle.plane.specs.theory.lists.Sought.{first-unique, all-every, not-every, true-not-false}
+use Rattle.measure.specs.theory.Height.{edgeSquared-positive}
 use Rattle.measure.specs.Comparison.{Narrowest}
 
 -- s/p ≤ t/q and t/q ≤ u/r: bring all to the denominator p·q·r
@@ -35,7 +34,7 @@ fraction-trans s t u p q r hp hq hr a b = contra≤ (λ g.
 
 -- what stands for edge e in its comparison with f
 abbrev wide : List Point → ℕ → ℕ → ℤ
-wide ps e f = reach ps e *ℤ reach ps e *ℤ edgeSquared ps f
+wide ps e f = height ps e *ℤ height ps e *ℤ edgeSquared ps f
 
 pub noWider-refl : (ps : List Point) (e : ℕ) → noWider ps e e ≡ true
 unfolding noWider
@@ -54,10 +53,10 @@ module _ (ps : List Point) (s : IsShape ps) (long : 2 < length ps) where
       (leZ-true {x = wide ps e f} {y = wide ps f e} a) (leZ-true {x = wide ps f g} {y = wide ps g f} b))
     where
       t : ℕ → ℤ
-      t e = reach ps e *ℤ reach ps e
+      t e = height ps e *ℤ height ps e
 
 -- the test as it is made on numbers of ℕ: edge f is narrower than e
-pub noWider-fractions : (ps : List Point) (e f : ℕ) {t q u r : ℕ} → reach ps e ≡ pos t → edgeSquared ps e ≡ pos q → reach ps f ≡ pos u
+pub noWider-fractions : (ps : List Point) (e f : ℕ) {t q u r : ℕ} → height ps e ≡ pos t → edgeSquared ps e ≡ pos q → height ps f ≡ pos u
     → edgeSquared ps f ≡ pos r → noWider ps e f ≡ not (ltb (u * u * q) (t * t * r))
 unfolding noWider
 noWider-fractions ps e f {t} {q} {u} {r} h i k l = rw (h, i, k, l) (go (ltb (u * u * q) (t * t * r)) refl)
@@ -109,16 +108,6 @@ module _ {ps : List Point} (s : IsShape ps) (long : 2 < length ps) where
 
 pub narrowest-done : {ps : List Point} {e : ℕ} → Narrowest ps (length ps) e → widthEdge ps ≡ e
 unfolding widthEdge
-narrowest-done {ps} {e} n = first-unique (λ k. leb (length ps) (first (λ f. not (noWider ps k f)) (length ps))) (length ps) e
-    (omega (arith, n .within)) (λ h. best) (λ k l. worse k l)
-  where
-    best : leb (length ps) (first (λ f. not (noWider ps e f)) (length ps)) ≡ true
-    best = le-leb (length ps) (first (λ f. not (noWider ps e f)) (length ps)) (omega (
-      arith,
-      first-unique (λ f. not (noWider ps e f)) (length ps)
-          (length ps) (le-refl (length ps)) (λ h. absurd (omega arith)) (λ f l. ap not (n .least f l)),
-    ))
-
-    worse : (k : ℕ) → k < e → leb (length ps) (first (λ f. not (noWider ps k f)) (length ps)) ≡ false
-    worse k l = lt-leb (length ps) (first (λ f. not (noWider ps k f)) (length ps))
-        (omega (arith, n .within, first-at-most (λ f. not (noWider ps k f)) (length ps) e (ap not (n .sole k l))))
+narrowest-done {ps} {e} n = first-unique (λ k. every (noWider ps k) (length ps)) (length ps) e
+    (omega (arith, n .within)) (λ h. all-every (noWider ps e) (length ps) (n .least))
+    (λ k l. not-every (noWider ps k) (length ps) e (n .within) (n .sole k l))

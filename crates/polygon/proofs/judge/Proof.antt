@@ -9,7 +9,7 @@ use Rattle.plane.specs.Point.{points}
 use Rattle.plane.specs.Reply.{answered, refused}
 use Rattle.plane.specs.Refusal.{badCount, tooMany, someOutside, ruleBroken, badStart}
 use Rattle.plane.specs.Judge.{judged}
-use Rattle.plane.specs.theory.refusals.Accept.{inside→inRange}
+use Rattle.plane.specs.theory.refusals.Accept.{near→inRange}
 use Rattle.polygon.proofs.LeftRule.{broken-found, broken-none}
 use Rattle.polygon.proofs.judge.Statement.{statement}
 use Rattle.polygon.proofs.judge.Tie as tie
@@ -59,7 +59,7 @@ returns-3 c =
     rw (row-1 (at-2 .before .before), row-2 at-2, sym (c .before .some-outside .ensures) ∙ c .if3 .taken)
 
 first-broken-requires : tie.Need-first-broken-requires
-first-broken-requires c κs = inside→inRange _ (row-3 c)
+first-broken-requires c κs = near→inRange _ (row-3 c)
 
 enum-known-edge : tie.Need-enum-known-edge
 enum-known-edge c = search needs

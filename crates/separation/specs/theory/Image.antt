@@ -15,11 +15,11 @@ use Rattle.plane.specs.Refusal.{Valid}
 use Rattle.plane.specs.Corner.{shapeOf, mirrored}
 use Rattle.plane.specs.Output.{overwritten}
 use Rattle.plane.specs.Combine.{mirrorWritten}
-use Rattle.plane.specs.theory.refusals.Accept.{inside→inRange}
+use Rattle.plane.specs.theory.refusals.Accept.{near→inRange}
 use Rattle.plane.specs.theory.lists.Flat.{points-numbers, numbers-length}
 use Rattle.plane.specs.VectorSum.{vectorSum}
 use Rattle.plane.specs.theory.mirror.Mirror.{topmost, mirror-known, mirror-count}
-use Rattle.plane.specs.theory.mirror.MirrorWritten.{mirror-inside, mirror-written}
+use Rattle.plane.specs.theory.mirror.MirrorWritten.{mirror-near, mirror-written}
 use Rattle.separation.specs.theory.Apart.{differences-shape}
 use Rattle.calipers.specs.Walk.{begun, At}
 use Rattle.separation.specs.Around.{placed, related}
@@ -57,7 +57,7 @@ module _ (b : List ℤ) (v : Valid b) where
     pub image-begun : At a (numbers (image b)) begun
     image-begun = record {
       first-near = u .inRange;
-      second-near = inside→inRange (numbers (image b)) (mirror-inside b v);
+      second-near = near→inRange (numbers (image b)) (mirror-near b v);
       first-some = u .shape .some;
       second-some = omega (arith, v .shape .some, mirror-count (points b) (v .shape), ap length (points-numbers (image b)));
       i-in = omega arith;

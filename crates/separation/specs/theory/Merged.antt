@@ -20,7 +20,7 @@ use Rattle.plane.specs.Corner.{shapeOf}
 use Rattle.plane.specs.Output.{noRoom, answerRows, overwritten}
 use Rattle.plane.specs.Combine.{mergeWritten}
 use Rattle.plane.specs.Separation.{inside}
-use Rattle.plane.specs.theory.refusals.Accept.{inRange→inside, corners-few, valid→accepted}
+use Rattle.plane.specs.theory.refusals.Accept.{inRange→near, corners-few, valid→accepted}
 use Rattle.plane.specs.theory.lists.Flat.{points-numbers, numbers-length, numbers-points}
 use Rattle.plane.specs.theory.refusals.Rows.{NoneApply, firstRow-none, firstRow-passed, firstRow-answered}
 use Rattle.plane.specs.theory.refusals.Write.{passed-output, none-output}
@@ -125,7 +125,7 @@ module _ (a b : List ℤ) (u : Valid a) (v : Valid b) where
       accepted e = (
         ap tooMany e ∙ corners-few (points b) (v .few),
         (
-          ap (λ ps. someOutside (numbers ps)) e ∙ ap someOutside (numbers-points b (v .paired)) ∙ inRange→inside b (v .inRange),
+          ap (λ ps. someOutside (numbers ps)) e ∙ ap someOutside (numbers-points b (v .paired)) ∙ inRange→near b (v .inRange),
           (ap (λ ps. noRoom ps old) e ∙ room-enough old room, tt),
         ),
       )

@@ -16,6 +16,7 @@ use mathlib.Core.List.{
   [],
   _∷_,
   _++_,
+  tail,
   reverse,
   reverseAux,
   reverse-append,
@@ -36,7 +37,7 @@ use lib.Signed.{_≤ℤ_, _<ℤ_}
 use Rattle.integer.specs.Order.{weaken, lt-or-le}
 use Rattle.plane.specs.Point.{Point, _⊖_}
 use Rattle.plane.specs.Direction.{value}
-use Rattle.plane.specs.Corner.{ascending, scan, withoutFirst, around, shapeOf}
+use Rattle.plane.specs.Corner.{ascending, scan, around, shapeOf}
 use Rattle.plane.specs.Forms.{Before, NonZero, edgesTo, From, InOrder, Sorted}
 use Rattle.plane.specs.theory.lists.Members.{_∈_, lastOf, last-member, member-reverse, reverse-member, all-member, member-all, all-subset}
 use Rattle.plane.specs.theory.hull.Halves.{Onward, Facing, onward-nonzero, onward-before, onward-around, onward-irrefl}
@@ -63,7 +64,7 @@ closed-sorted c b (a ∷ K) acc F e back f from =
 -- ---- a chain up and a chain down
 
 abbrev pub circuit : List Point → List Point → List Point
-circuit K L = reverse (withoutFirst K) ++ reverse (withoutFirst L)
+circuit K L = reverse (tail K) ++ reverse (tail L)
 
 chain-backwards : {half : Bool} (c b : Point) (K : List Point) → Chain half (c ∷ b ∷ K) → Backwards c b K
 chain-backwards c b [] k = onward-nonzero (k .0)
@@ -122,13 +123,13 @@ module _ {s t : Point} (apart : s ≡ t → ⊥) where
       go (inr h) = circuit-bound-right climb down d h N b
 
 pub circuit-member : {p : Point} (K L : List Point) → p ∈ circuit K L → p ∈ K ⊎ p ∈ L
-circuit-member {p} K L m = go (List·Memᴰ·append-cases (reverse (withoutFirst K)) m)
+circuit-member {p} K L m = go (List·Memᴰ·append-cases (reverse (tail K)) m)
   where
-    under : (M : List Point) → p ∈ withoutFirst M → p ∈ M
+    under : (M : List Point) → p ∈ tail M → p ∈ M
     under [] n = n
     under (q ∷ M) n = List·Memᴰ·tail n
 
-    go : p ∈ reverse (withoutFirst K) ⊎ p ∈ reverse (withoutFirst L) → p ∈ K ⊎ p ∈ L
+    go : p ∈ reverse (tail K) ⊎ p ∈ reverse (tail L) → p ∈ K ⊎ p ∈ L
     go (inl n) = inl (under K (reverse-member _ n))
     go (inr n) = inr (under L (reverse-member _ n))
 
