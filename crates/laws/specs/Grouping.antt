@@ -2,6 +2,7 @@
 --     originPoint           the shape 0 0; AllValid L: every shape of the list L is valid
 --     Call                  a question on two shapes and a lent output: `sumWritten` or `mergeWritten`
 --     Gives w l             the call is answered, and l is the shape that stands in its output
+--     answeredWith l out    the whole of a call that is answered with the shape l: its count of corners; l, and what stood behind it in out
 --     Fits shape out        the shape keeps the limits, and the output has room for it
 --     Called call a b l     some call on a and b, in either order, gives l
 --     Grouping L            a way to bring the list L together: no call, or two groups and one call on their results
@@ -20,7 +21,7 @@ use Rattle.plane.specs.Point.{Point, points, numbers}
 use Rattle.plane.specs.Reply.{answered, refused}
 use Rattle.plane.specs.Refusal.{InRange, Valid}
 use Rattle.plane.specs.Corner.{shapeOf, sumsOf}
-use Rattle.plane.specs.Output.{Written}
+use Rattle.plane.specs.Output.{Written, overwritten}
 
 -- "The point at the origin is 0 0"
 abbrev pub originPoint : List ℤ
@@ -41,6 +42,10 @@ pub record Gives (w : Written) (l : List ℤ) : Type 0 where
   pub count : ℕ
   pub answer : w .reply ≡ answered (pos count ∷ [])
   pub counted : l ≡ take (2 * count) (w .output)
+
+-- "the answer says how many corners", and "only its first numbers are written"
+abbrev pub answeredWith : List ℤ → List ℤ → Written
+answeredWith l out = record { reply = answered (pos (length (points l)) ∷ []); output = overwritten l out }
 
 -- refusals 6, 7 and 8 have nothing against this shape in this output
 pub record Fits (shape : List Point) (out : List ℤ) : Type 0 where
