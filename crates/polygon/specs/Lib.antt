@@ -1,4 +1,5 @@
--- The answers of this crate's functions in document 01's terms; then the theory of the furthest corner.
+-- What this crate's functions answer in document 01's terms; what the furthest corner means; then the theory behind it.
 pub mod Broken
 pub mod Answer
+pub mod Meaning
 pub mod theory
