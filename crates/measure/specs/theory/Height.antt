@@ -8,6 +8,7 @@
 --     height-positive, edgeSquared-positive     of a shape with three corners or more
 --     Facing ps e c                            c is the first corner of greatest turn; `facing-only`, `facing-either`: of one, or of two
 --     facing-width                             against the edge of the width it is widthCorner
+--     width-facing, width-earlier              and widthCorner is such a corner; before it all turns are less
 use mathlib.Core.Path.{_≡_, refl, sym, _∙_, ap}
 use mathlib.Core.Bool.{Bool, true, false, cond}
 use mathlib.Core.List.{List, [], _∷_}
@@ -18,10 +19,10 @@ use borrow.Author.Tests.{eqb-true, eqb-false}
 use lib.Dec.{eqb}
 use lib.IntN.{ℤ, pos, negℤ, _+ℤ_}
 use lib.ListN.{length}
-use lib.Signed.{_≤ℤ_, _<ℤ_, leZ}
+use lib.Signed.{_≤ℤ_, _<ℤ_, leZ, clashℤ}
 use Rattle.integer.specs.Ring.{ring, reify}
 use Rattle.integer.specs.Linear.{lia, linear, _&_}
-use Rattle.integer.specs.Order.{le-of-eq, le-antisym, le-leZ, lt-leZ, contra<}
+use Rattle.integer.specs.Order.{le-of-eq, le-antisym, le-leZ, lt-leZ, leZ-true, leZ-false, contra<}
 use Rattle.plane.specs.Point.{Point, point, corner, _⊖_, opposite}
 use Rattle.plane.specs.Turn.{turn, Left}
 use Rattle.plane.specs.Shape.{next, IsShape}
@@ -31,7 +32,7 @@ use Rattle.plane.specs.Measure.{greatest, edgeTurn, height, edgeSquared, widthE
 use Rattle.plane.specs.theory.lists.Members.{point-path, position-member, member-position, mirrored-member, member-mirrored, mirrored-some}
 use Rattle.plane.specs.theory.forms.Vector.{quarter, turn-stay}
 use Rattle.plane.specs.theory.support.Support.{value-le-support, support-attained}
-use Rattle.plane.specs.theory.lists.Sought.{first-unique}
+use Rattle.plane.specs.theory.lists.Sought.{first-true, first-least, first-at-most, first-unique}
 use Rattle.plane.specs.theory.lists.Greatest.{greatest-above, greatest-attained, greatest-le}
 use Rattle.plane.specs.theory.forms.Squared.{squared-positive}
 use Rattle.measure.specs.Comparison.{Facing}
@@ -158,3 +159,25 @@ facing-width {ps} {e} {c} best f = rw best (first-unique (λ k. leZ (height ps e
   where
     below : (k : ℕ) → k < c → k < length ps
     below k l = omega (arith, f .within)
+
+-- ---- widthCorner is that corner
+
+module _ (ps : List Point) where
+  tests : ℕ → Bool
+  tests c = leZ (height ps (widthEdge ps)) (edgeTurn ps (widthEdge ps) c)
+
+  pub width-earlier : (c : ℕ) → c < widthCorner ps → edgeTurn ps (widthEdge ps) c <ℤ height ps (widthEdge ps)
+  unfolding widthCorner tests
+  width-earlier c h = leZ-false (first-least tests (length ps) c h)
+
+  pub width-facing : 0 < length ps → Facing ps (widthEdge ps) (widthCorner ps)
+  unfolding widthCorner tests
+  width-facing some =
+      let top = height-had ps (widthEdge ps) some in
+      let found : widthCorner ps < length ps =
+      omega (arith, first-at-most tests (length ps) (top .0) (le-leZ (le-of-eq (top .2))), top .1) in
+      record {
+        within = found;
+        has = le-antisym (height-above ps (widthEdge ps) (widthCorner ps) found) (leZ-true (first-true tests (length ps) found));
+        sole = λ k l e. clashℤ (width-earlier k l) (le-of-eq (sym e));
+      }
