@@ -1,6 +1,6 @@
 -- A sum or merge is answered exactly where document 01 has no reason to refuse it.
 --     sum-accepted, merge-accepted        of valid shapes, what fits is answered
---     sum-whole, merge-whole              of valid shapes: if the set of the call has a valid shape, and the output has room, it is answered with it
+--     sum-whole, merge-whole              of valid shapes, where the set of the call has a valid shape: with room for it, it is the answer
 --     origin-valid, valid-gives           the origin point is valid; what is answered with a valid shape gives it
 --     sum-answered, merge-answered        what is answered is the shape that is defined, and its count
 use mathlib.Core.Path.{_≡_, refl, sym, _∙_, ap, ap₂, subst}

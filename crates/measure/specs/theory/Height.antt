@@ -122,8 +122,8 @@ module _ (ps : List Point) (s : IsShape ps) (long : 2 < length ps) (e : ℕ) (h 
   pub height-positive : pos 0 <ℤ height ps e
   unfolding edgeTurn
   height-positive = let c = third-left in
-      lia (turn (corner ps e) (corner ps (next (length ps) e)) (corner ps (c .0)) ∷ height ps e ∷ []) (c .2 & height-above ps e (c .0) (c .1))
-      (search linear depth 40) (omega arith)
+      lia (turn (corner ps e) (corner ps (next (length ps) e)) (corner ps (c .0)) ∷ height ps e ∷ [])
+      (c .2 & height-above ps e (c .0) (c .1)) (search linear depth 40) (omega arith)
 
   pub edgeSquared-positive : pos 0 <ℤ edgeSquared ps e
   unfolding edgeSquared

@@ -96,7 +96,8 @@ returns-6 c =
     let at-4 = c .before .before .before in
     let at-3 = at-4 .before .before .before in
     let at-2 = at-3 .before .before in
-    rw (row-1 (at-2 .before .before), row-2 at-2, row-3 at-3, row-4 at-4, sym (c .before .before .bad-start .ensures) ∙ c .before .if4 .left)
+    let row-5 = sym (c .before .before .bad-start .ensures) ∙ c .before .if4 .left in
+    rw (row-1 (at-2 .before .before), row-2 at-2, row-3 at-3, row-4 at-4, row-5)
     (ap (λ (n : ℕ). answered (pos n ∷ [])) (c .count .ensures))
 
 pub judge-spec : {M : Type 1} → statement M

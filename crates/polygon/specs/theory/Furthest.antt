@@ -114,7 +114,8 @@ furthest-greatest d ps some = record {
 
 pub direction-near : (d : Point) → badDirection d ≡ false → Within maxPart (d .x) × Within maxPart (d .y)
 unfolding badDirection
-direction-near d h = go (eqb (natAbs (d .x)) 0 && eqb (natAbs (d .y)) 0) (ltb maxPart (natAbs (d .x))) refl (ltb maxPart (natAbs (d .y))) refl h
+direction-near d h = go (eqb (natAbs (d .x)) 0 && eqb (natAbs (d .y)) 0)
+    (ltb maxPart (natAbs (d .x))) refl (ltb maxPart (natAbs (d .y))) refl h
   where
     go : (z s : Bool) → ltb maxPart (natAbs (d .x)) ≡ s → (t : Bool) → ltb maxPart (natAbs (d .y)) ≡ t → (z || (s || t)) ≡ false
         → Within maxPart (d .x) × Within maxPart (d .y)

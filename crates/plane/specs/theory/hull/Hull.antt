@@ -39,9 +39,28 @@ use Rattle.plane.specs.Point.{Point, _⊖_}
 use Rattle.plane.specs.Direction.{value}
 use Rattle.plane.specs.Corner.{ascending, scan, around, shapeOf}
 use Rattle.plane.specs.Forms.{Before, NonZero, edgesTo, From, InOrder, Sorted}
-use Rattle.plane.specs.theory.lists.Members.{_∈_, lastOf, last-member, member-reverse, reverse-member, all-member, member-all, all-subset}
+use Rattle.plane.specs.theory.lists.Members.{
+  _∈_,
+  lastOf,
+  last-member,
+  member-reverse,
+  reverse-member,
+  all-member,
+  member-all,
+  all-subset,
+}
 use Rattle.plane.specs.theory.hull.Halves.{Onward, Facing, onward-nonzero, onward-before, onward-around, onward-irrefl}
-use Rattle.plane.specs.theory.hull.Ascending.{Runs, Ends, ends, runs-last, reverse-runs, reverse-ends, ascending-runs, ascending-member, member-ascending}
+use Rattle.plane.specs.theory.hull.Ascending.{
+  Runs,
+  Ends,
+  ends,
+  runs-last,
+  reverse-runs,
+  reverse-ends,
+  ascending-runs,
+  ascending-member,
+  member-ascending,
+}
 use Rattle.plane.specs.theory.hull.Scan.{Chain, Bounds, Kept, kept-reverse, scanned}
 
 -- ---- sorted edges of a way that is read backwards

@@ -31,7 +31,8 @@ tests-agree false true f g = g refl
 tests-agree false false f g = refl
 
 -- the first step of a search: found at 0, or one further than the search from 1 on
-first-suc : (p : ℕ → Bool) (n : ℕ) (P : ℕ → Type 0) → (p 0 ≡ true → P 0) → (p 0 ≡ false → P (suc (first (λ i. p (suc i)) n))) → P (first p (suc n))
+first-suc : (p : ℕ → Bool) (n : ℕ) (P : ℕ → Type 0) → (p 0 ≡ true → P 0)
+    → (p 0 ≡ false → P (suc (first (λ i. p (suc i)) n))) → P (first p (suc n))
 first-suc p n P f g = go (p 0) f g
   where
     go : (b : Bool) → (b ≡ true → P 0) → (b ≡ false → P (suc (first (λ i. p (suc i)) n)))

@@ -1,5 +1,5 @@
 -- How the tests of the refusal table are decided.
---     breaks-own, breaks-end, breaks-other      a corner against the edge that leaves it, against the edge that ends in it, against any other
+--     breaks-own, breaks-end, breaks-other      a corner against the edge that leaves it, that ends in it, against any other
 --     equalPair-other, equalPair-two            a list of another length than two; a list of two, also by the order of its corners
 --     outside-found, outside-none, none-outside               a list with a number outside its range; a list with none, by position
 use mathlib.Core.Path.{_≡_, refl, _∙_}

@@ -42,17 +42,20 @@ module _ {shape : List Point} {old : List ℤ} where
   }
 
   -- one row that does not
-  row-passes : {v : Row} {ws : List Row} {r : Reply} {out : List ℤ} → v .applies ≡ false → Wrote ws shape old r out → Wrote (v ∷ ws) shape old r out
+  row-passes : {v : Row} {ws : List Row} {r : Reply} {out : List ℤ} → v .applies ≡ false → Wrote ws shape old r out
+      → Wrote (v ∷ ws) shape old r out
   row-passes {v} {ws} e s = record {
     reply-is = row-passed v ws _ e (s .reply-is);
     output-is = s .output-is ∙ ap (λ (b : Bool). cond b old (unlessRefused ws old (overwritten (numbers shape) old))) (sym e);
   }
 
-  pub wrote-given : {w : Row} {vs : List Row} (ws : List Row) → First w vs → Wrote (vs ++ ws) shape old (refused (w .number) (w .carries)) old
+  pub wrote-given : {w : Row} {vs : List Row} (ws : List Row) → First w vs
+      → Wrote (vs ++ ws) shape old (refused (w .number) (w .carries)) old
   wrote-given ws (here e) = row-gives e
   wrote-given ws (later e f) = row-passes e (wrote-given ws f)
 
-  pub wrote-passed : (vs : List Row) {ws : List Row} {r : Reply} {out : List ℤ} → NoneApply vs → Wrote ws shape old r out → Wrote (vs ++ ws) shape old r out
+  pub wrote-passed : (vs : List Row) {ws : List Row} {r : Reply} {out : List ℤ} → NoneApply vs → Wrote ws shape old r out
+      → Wrote (vs ++ ws) shape old r out
   wrote-passed [] n s = s
   wrote-passed (v ∷ vs) n s = row-passes (n .0) (wrote-passed vs (n .1) s)
 

@@ -44,7 +44,8 @@ loop-less c = omega arith
 loop-again : tie.Need-loop-again Inv-loop μ-loop
 loop-again c =
     let at-loop = c .before .before .before in
-    sought-more _ _ (at-loop .loop .c) (at-loop .loop .inv) (below (c .before .before)) (sym (c .before .precedes-at .ensures) ∙ c .if1 .left)
+    sought-more _ _ (at-loop .loop .c) (at-loop .loop .inv) (below (c .before .before))
+    (sym (c .before .precedes-at .ensures) ∙ c .if1 .left)
 
 returns-2 : tie.Need-returns-2 Inv-loop μ-loop
 unfolding badStart

@@ -37,7 +37,8 @@ loop-holds : tie.Need-loop-holds Inv-loop μ-loop Inv-edges μ-edges
 loop-holds c = (c .before .edges .inv .0, sought-start _ _)
 
 -- the loops' tests, said of the corners
-edge-below : (c : tie.In-edges Inv-loop μ-loop Inv-edges μ-edges) → c .before .edges .edge < length (points (c .before .before .before .args .list .now))
+edge-below : (c : tie.In-edges Inv-loop μ-loop Inv-edges μ-edges)
+    → c .before .edges .edge < length (points (c .before .before .before .args .list .now))
 edge-below c = omega (arith, c .before .before .count .ensures)
 
 corner-below : (c : tie.In-loop Inv-loop μ-loop Inv-edges μ-edges)
@@ -57,7 +58,8 @@ loop-again : tie.Need-loop-again Inv-loop μ-loop Inv-edges μ-edges
 loop-again c =
     let at-loop = c .before .before .before in (
       at-loop .loop .inv .0,
-      sought-more _ _ (at-loop .loop .corner) (at-loop .loop .inv .1) (corner-below (c .before .before)) (sym (c .before .breaks-at .ensures) ∙ c .if1 .left),
+      sought-more _ _ (at-loop .loop .corner) (at-loop .loop .inv .1) (corner-below (c .before .before))
+          (sym (c .before .breaks-at .ensures) ∙ c .if1 .left),
     )
 
 add-edge : tie.Need-add-edge Inv-loop μ-loop Inv-edges μ-edges
@@ -80,7 +82,8 @@ unfolding leftBroken
 returns c =
     let at-edges = c .before in
     at-edges .edges .inv .0
-    ∙ left-break-nowhere (points (at-edges .before .before .args .list .now)) (sought-no _ _ (at-edges .edges .edge) (at-edges .edges .inv .1) (omega (arith, at-edges .before .count .ensures)))
+    ∙ left-break-nowhere (points (at-edges .before .before .args .list .now))
+    (sought-no _ _ (at-edges .edges .edge) (at-edges .edges .inv .1) (omega (arith, at-edges .before .count .ensures)))
 
 returns-2 : tie.Need-returns-2 Inv-loop μ-loop Inv-edges μ-edges
 unfolding leftBroken breakingEdge
