@@ -11,7 +11,7 @@ use lib.IntN.{ℤ}
 use lib.ListN.{length, take}
 use lib.Seq.{length-take-le}
 use Rattle.plane.specs.Point.{Point, points}
-use Rattle.plane.specs.Corner.{ascending, scan, around, shapeOf}
+use Rattle.plane.specs.Corner.{ascending, scan, outline, shapeOf}
 use Rattle.plane.specs.theory.lists.Flat.{points-length}
 use Rattle.hull.specs.theory.Least.{ascending-some}
 use Rattle.hull.specs.Buffer.{stack, Holds, Scanned, Sides}
@@ -30,10 +30,10 @@ module _ (R L : List Point) where
       go : stack P (suc m) ≡ stack P k
       go = ap (stack P) (sym (add-one m) ∙ e)
 
-  chains-around : (A : List Point) (u d m w : ℕ) → 0 < length A → m ≤ length R → w ≤ length L → UpToLast (length A) u m → w + 1 ≡ d
-      → stack R u ≡ scan [] A → stack L d ≡ scan [] (reverse A) → take m R ++ take w L ≡ around A
-  chains-around [] u d m w some a b c e s t = absurd (omega arith)
-  chains-around (p ∷ []) u d m w some a b c e s t =
+  chains-outline : (A : List Point) (u d m w : ℕ) → 0 < length A → m ≤ length R → w ≤ length L → UpToLast (length A) u m → w + 1 ≡ d
+      → stack R u ≡ scan [] A → stack L d ≡ scan [] (reverse A) → take m R ++ take w L ≡ outline A
+  chains-outline [] u d m w some a b c e s t = absurd (omega arith)
+  chains-outline (p ∷ []) u d m w some a b c e s t =
       ap₂ (λ x y. x ++ y) (ap (λ k. take k R) one ∙ take-stack R u (omega (arith, one)) ∙ ap reverse s) (ap (λ k. take k L) none)
     where
       one : m ≡ u
@@ -41,7 +41,7 @@ module _ (R L : List Point) where
 
       none : w ≡ 0
       none = let z = sym (stack-length L d) ∙ ap length t in omega (arith, z)
-  chains-around (p ∷ (q ∷ ps)) u d m w some a b c e s t =
+  chains-outline (p ∷ (q ∷ ps)) u d m w some a b c e s t =
       ap₂ (λ x y. x ++ y) (side-take R u m (p ∷ q ∷ ps) a (c .1 (λ z. omega arith)) s) (side-take L d w (reverse (p ∷ q ∷ ps)) b e t)
 
 module _ {right up-read up-kept left down-read down-kept : List ℤ} {n u d m : ℕ} (S : List Point) (some : 0 < length S)
@@ -70,7 +70,7 @@ module _ {right up-read up-kept left down-read down-kept : List ℤ} {n u d m : 
   pub sides : Sides S up-kept m down-kept (d - 1)
   unfolding shapeOf
   sides = record {
-    joined = chains-around (points up-kept) (points down-kept) (ascending S) u d m (d - 1) (ascending-some S some) right-room
+    joined = chains-outline (points up-kept) (points down-kept) (ascending S) u d m (d - 1) (ascending-some S some) right-room
         (omega (arith, down .few, turned .within, points-length down-read, points-length down-kept, down .same))
         (subst (λ k. UpToLast k u m) (sym count) taken) (omega (arith, down .some any)) right-chain left-chain;
     within-right = right-room;

@@ -22,7 +22,7 @@ use Rattle.plane.specs.theory.hull.ShapeOf.{shape-known}
 use Rattle.laws.specs.Grouping.{originPoint, Call, answeredWith, Called}
 use Rattle.laws.specs.theory.Answer.{Combines, sum-combines, merge-combines, called-reaches, valid-same}
 use Rattle.laws.specs.theory.Acceptance.{sum-whole, merge-whole, origin-valid}
-use Rattle.laws.specs.theory.Fold.{far}
+use Rattle.laws.specs.theory.Fold.{reach}
 use Rattle.laws.specs.theory.Whole.{support-origin}
 
 -- ---- one shape, and an output with room for it
@@ -33,13 +33,13 @@ module _ (a out : List ℤ) (v : Valid a) (room : length a ≤ length out) where
   origin-left = shape-known (points a) (sums (points originPoint) (points a)) (v .shape)
       (sums-some (points originPoint) (points a) (omega arith) (v .shape .some))
       (λ d. sym (support-sums d (points originPoint) (points a) (omega arith) (v .shape .some)
-      ∙ ap (λ x. x +ℤ far d a) (support-origin d) ∙ +ℤ-idl (far d a)))
+      ∙ ap (λ x. x +ℤ reach d a) (support-origin d) ∙ +ℤ-idl (reach d a)))
 
   origin-right : points a ≡ shapeOf (sums (points a) (points originPoint))
   origin-right = shape-known (points a) (sums (points a) (points originPoint)) (v .shape)
       (sums-some (points a) (points originPoint) (v .shape .some) (omega arith))
       (λ d. sym (support-sums d (points a) (points originPoint) (v .shape .some) (omega arith)
-      ∙ ap (λ x. far d a +ℤ x) (support-origin d) ∙ +ℤ-idr (far d a)))
+      ∙ ap (λ x. reach d a +ℤ x) (support-origin d) ∙ +ℤ-idr (reach d a)))
 
   pub origin-neutral : (sumWritten originPoint a out ≡ answeredWith a out) × (sumWritten a originPoint out ≡ answeredWith a out)
   origin-neutral = (
@@ -50,7 +50,7 @@ module _ (a out : List ℤ) (v : Valid a) (room : length a ≤ length out) where
   pub merge-idem : mergeWritten a a out ≡ answeredWith a out
   merge-idem = merge-whole a a out a v v v (shape-known (points a) (points a ++ points a) (v .shape)
       (omega (arith, length-append (points a) (points a), v .shape .some))
-      (λ d. sym (support-append d (points a) (points a) (v .shape .some) (v .shape .some) ∙ max-idem (far d a)))) room
+      (λ d. sym (support-append d (points a) (points a) (v .shape .some) (v .shape .some) ∙ max-idem (reach d a)))) room
 
 -- ---- two shapes and three
 
@@ -69,7 +69,7 @@ sum-distributes {a} {b} {c} u s p q t =
     let other = called-reaches sum-combines q in
     let parts = called-reaches merge-combines t in
     valid-same (whole .valid) (parts .valid) (λ d. whole .reach d ∙ rw (merged .reach d, parts .reach d, one .reach d, other .reach d)
-    (plus-max (far d a) (far d b) (far d c)))
+    (plus-max (reach d a) (reach d b) (reach d c)))
 
 plus-injective : (x y z : ℤ) → x +ℤ z ≡ y +ℤ z → x ≡ y
 plus-injective x y z h = lia (x ∷ y ∷ z ∷ []) h (search linear depth 40) (omega arith)
@@ -78,4 +78,4 @@ pub sum-cancels : {a b c l : List ℤ} → Called sumWritten a c l → Called su
 sum-cancels {a} {b} {c} s t =
     let r = called-reaches sum-combines s in
     let q = called-reaches sum-combines t in
-    valid-same (r .first) (q .first) (λ d. plus-injective (far d a) (far d b) (far d c) (sym (r .reach d) ∙ q .reach d))
+    valid-same (r .first) (q .first) (λ d. plus-injective (reach d a) (reach d b) (reach d c) (sym (r .reach d) ∙ q .reach d))

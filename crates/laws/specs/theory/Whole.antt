@@ -26,7 +26,7 @@ use Rattle.laws.specs.Grouping.{Call, AllValid, Grouping, alone, split, 
 use Rattle.laws.specs.theory.Answer.{Combines, sum-combines, merge-combines}
 use Rattle.laws.specs.theory.Acceptance.{sum-answered, merge-answered}
 use Rattle.laws.specs.theory.Refused.{unrefused→result}
-use Rattle.laws.specs.theory.Fold.{far, act, result-acts, result-valid}
+use Rattle.laws.specs.theory.Fold.{reach, act, result-acts, result-valid}
 
 -- ---- no group is empty
 
@@ -61,7 +61,7 @@ sumsOf-acts d [] v z = ap (λ x. x +ℤ z) (support-origin d) ∙ +ℤ-idl z
 sumsOf-acts d (a ∷ L) v z =
     let S = sumsOf (map points L) in
     ap (λ x. x +ℤ z) (support-sums d (points a) S (some-first v) (sumsOf-some L (valid-later v)))
-    ∙ +ℤ-assoc (far d a) (support d S) z ∙ ap (λ x. far d a +ℤ x) (sumsOf-acts d L (valid-later v) z)
+    ∙ +ℤ-assoc (reach d a) (support d S) z ∙ ap (λ x. reach d a +ℤ x) (sumsOf-acts d L (valid-later v) z)
 
 flatten-some : (a : List ℤ) (L : List (List ℤ)) → AllValid (a ∷ L) → 0 < length (flatten (map points (a ∷ L)))
 unfolding flatten
@@ -74,7 +74,7 @@ flatten-acts d a [] v z = ap (λ S. max (support d S) z) (append-nil (points a))
 flatten-acts d a (b ∷ L) v z =
     let S = flatten (map points (b ∷ L)) in
     ap (λ x. max x z) (support-append d (points a) S (some-first v) (flatten-some b L (valid-later v)))
-    ∙ max-assoc (far d a) (support d S) z ∙ ap (max (far d a)) (flatten-acts d b L (valid-later v) z)
+    ∙ max-assoc (reach d a) (support d S) z ∙ ap (max (reach d a)) (flatten-acts d b L (valid-later v) z)
 
 -- ---- the result
 
