@@ -76,7 +76,7 @@ module _ (ps : List Point) (shape : IsShape ps) (three : 2 < length ps) where
   abbrev q : ℕ → ℤ
   q f = edgeSquared ps f
 
-  -- the edge is one of the shape
+  -- "Answered: edge, corner, t, q and w": the edge is one of the shape
   pub width-edge-is-position : e < length ps
   width-edge-is-position = width-narrowest shape three .within
 

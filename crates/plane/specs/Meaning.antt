@@ -1,12 +1,12 @@
 -- What the definitions mean, in document 01's words. Each theorem is proved in the theory; here it is only cited.
---     judging        accepted and valid are the same; how large turns and values get
+--     judging        accepted and valid are the same; how large turns and values get; where row 4 finds the rules broken
 --     the table      of every question, a refusal is given exactly when its row says; what is written, and what is left untouched
 --     corners        the shape of a set is the standard list of its corners, and the only one
 --     forms          three ways to say that a list is a shape
 --     directions     how far sums, lists taken together and mirrored lists reach; a shape is known by how far it reaches
 --     mirror         refusals 6 and 7 cannot come of it
 use mathlib.Core.Path.{_≡_, refl}
-use mathlib.Core.Bool.{false}
+use mathlib.Core.Bool.{true, false}
 use mathlib.Core.List.{List, [], _∷_, _++_}
 use Prim.Native.Nat.{ℕ, _<_}
 use lib.ListN.{length, drop}
@@ -15,9 +15,19 @@ use Rattle.integer.specs.Bound.{Within}
 use Rattle.plane.specs.Limits.{maxPart}
 use Rattle.plane.specs.Point.{Point, points, numbers, corner, opposite}
 use Rattle.plane.specs.Turn.{turn}
-use Rattle.plane.specs.Shape.{IsShape}
+use Rattle.plane.specs.Shape.{breaks, IsShape}
 use Rattle.plane.specs.Reply.{answered, refused, Row}
-use Rattle.plane.specs.Refusal.{tooMany, someOutside, shapeRows, InRange, Valid}
+use Rattle.plane.specs.Refusal.{
+  tooMany,
+  someOutside,
+  equalPair,
+  leftBroken,
+  breakingEdge,
+  breakingCorner,
+  shapeRows,
+  InRange,
+  Valid,
+}
 use Rattle.plane.specs.Judge.{judged}
 use Rattle.plane.specs.Direction.{value, support, max}
 use Rattle.plane.specs.Corner.{Corner, shapeOf, sums, mirrored}
@@ -27,6 +37,7 @@ use Rattle.plane.specs.Question.{Question, reply, table}
 use Rattle.plane.specs.theory.lists.Members.{_∈_, _⊆_}
 use Rattle.plane.specs.theory.refusals.Rows.{NoneApply, First, firstRow-none, firstRow-answered}
 use Rattle.plane.specs.theory.lists.Flat.{points-near}
+use Rattle.plane.specs.theory.refusals.Tests.{equalPair-equal, break-found, break-first-edge, break-first-corner}
 use Rattle.plane.specs.theory.refusals.Accept.{accepted→valid, valid→accepted}
 use Rattle.plane.specs.theory.refusals.Write.{refused-output, answered-output}
 use Rattle.plane.specs.theory.refusals.Tables.{table-given, table-refused, table-none, table-answered}
@@ -81,6 +92,25 @@ module _ (l : List ℤ) where
       -- and so is the greatest, "that value (at most 4,000,000,000,000 in size)"
       pub support-bounded : 0 < length (points l) → Within 4_000_000_000_000 (support d (points l))
       support-bounded some = support-size l r u v some
+
+-- row 4, of the corners of a list
+module _ (ps : List Point) where
+  -- "two equal corners in a list of two"
+  pub equal-pair-is-equal : equalPair ps ≡ true → (length ps ≡ 2) × (corner ps 0 ≡ corner ps 1)
+  equal-pair-is-equal h = equalPair-equal ps h
+
+  -- "the first edge, then the first corner, that breaks the left rule": they are of the list, and break it
+  pub breaking-corner-breaks : leftBroken ps ≡ true → (breakingEdge ps < length ps) × (breakingCorner ps < length ps)
+      × (breaks ps (breakingEdge ps) (breakingCorner ps) ≡ true)
+  breaking-corner-breaks h = break-found ps h
+
+  -- no corner breaks it at an earlier edge
+  pub no-earlier-edge-broken : (e c : ℕ) → e < breakingEdge ps → c < length ps → breaks ps e c ≡ false
+  no-earlier-edge-broken e c h k = break-first-edge ps e c h k
+
+  -- and no earlier corner at that edge
+  pub no-earlier-corner-breaks : (c : ℕ) → c < breakingCorner ps → breaks ps (breakingEdge ps) c ≡ false
+  no-earlier-corner-breaks c h = break-first-corner ps c h
 
 -- ---- the table
 
