@@ -10,11 +10,10 @@
 --     mirrored A       all (-x, -y)
 -- What it means: shapeOf S is a shape, p is in it exactly if Corner S p, and every list with these two properties equals it
 -- (`Meaning.antt`).
-use mathlib.Core.Bool.{Bool, true, false}
+use mathlib.Core.Bool.{true, false}
 use mathlib.Core.List.{List, [], _∷_, _++_, map, tail, reverse, List·Memᴰ}
 use mathlib.Core.Path.{_≡_}
-use Prim.Native.Nat.{ℕ}
-use lib.IntN.{ℤ, pos}
+use lib.IntN.{pos}
 use lib.Signed.{ltZ, _<ℤ_}
 use Rattle.plane.specs.Point.{Point, origin, _⊕_, opposite}
 use Rattle.plane.specs.Turn.{turn}

@@ -3,7 +3,7 @@
 --     max a b, min a b     the greater and the lesser of two numbers
 --     support d ps     the greatest value of d over ps; 0 on []
 --     furthest d ps    the smallest position at which it is had
-use mathlib.Core.Bool.{Bool, true, false}
+use mathlib.Core.Bool.{true, false}
 use mathlib.Core.List.{List, [], _∷_}
 use Prim.Native.Nat.{ℕ}
 use lib.IntN.{ℤ, pos, _+ℤ_, _*ℤ_}

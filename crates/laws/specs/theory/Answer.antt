@@ -7,7 +7,7 @@
 --     sum-combines, merge-combines     a sum adds, a merge takes the greater
 --     called-reaches                   also where the two shapes stand in the other order
 --     valid-same                       valid shapes that reach as far in every direction are equal
-use mathlib.Core.Path.{_≡_, refl, sym, _∙_, ap, subst}
+use mathlib.Core.Path.{_≡_, sym, _∙_, ap, subst}
 use mathlib.Core.List.{List, [], _∷_, _++_}
 use Prim.Native.Nat.{_*_, _≤_, _<_}
 use native.Mathlib.Omega.{arith}

@@ -14,19 +14,18 @@ use Prim.Native.Nat.{ℕ, _≤_, _<_}
 use native.Mathlib.Omega.{arith}
 use borrow.Author.Tests.{ltb-true, ltb-false, leb-true, leb-false, le-leb}
 use lib.Dec.{leb, ltb}
-use lib.IntN.{ℤ, pos, _+ℤ_, _-ℤ_, _*ℤ_}
+use lib.IntN.{ℤ, pos, _+ℤ_, _-ℤ_}
 use lib.ListN.{length}
 use lib.Signed.{_≤ℤ_, _<ℤ_, leZ}
 use Rattle.integer.specs.Ring.{ring, reify}
 use Rattle.integer.specs.Linear.{lia, linear, _&_}
-use Rattle.integer.specs.Order.{Compared, is-below, is-equal, is-above, compared, _<×<_, square-nonneg}
 use Rattle.integer.specs.Order.{le-of-eq, le-trans, le-antisym, leZ-true, le-leZ}
 use Rattle.plane.specs.Point.{Point, corner, _⊕_, _⊖_}
 use Rattle.plane.specs.Search.{some}
 use Rattle.plane.specs.Direction.{value}
 use Rattle.plane.specs.Corner.{Corner, sums, mirrored}
 use Rattle.plane.specs.Measure.{greatest, squared, lengthSquared, furthestPair, lengthFrom, lengthTo}
-use Rattle.plane.specs.theory.lists.Members.{_∈_, point-path, sums-member, member-sums, SumOf, mirrored-member, member-mirrored}
+use Rattle.plane.specs.theory.lists.Members.{_∈_, sums-member, member-sums, SumOf, mirrored-member, member-mirrored}
 use Rattle.plane.specs.theory.lists.Sought.{first-true, first-at-most, some-here, some-found}
 use Rattle.plane.specs.theory.lists.Greatest.{greatest-above, greatest-attained, greatest-le}
 use Rattle.plane.specs.theory.forms.Squared.{squared-sym, squared-positive}

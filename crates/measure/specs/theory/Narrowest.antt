@@ -7,7 +7,7 @@
 --     Narrowest ps k e               of the first k edges, e is the first with the least t·t/q
 --     narrowest-start, -keep, -replace    the moves of the loop; `narrowest-done`: all edges seen, it is widthEdge
 --     width-narrowest                there is one, so widthEdge is it
-use mathlib.Core.Path.{_≡_, refl, sym, ap, subst}
+use mathlib.Core.Path.{_≡_, refl, sym, subst}
 use mathlib.Core.Bool.{Bool, true, false, not}
 use mathlib.Core.List.{List, [], _∷_}
 use Prim.Native.Nat.{ℕ, zero, suc, pred, _+_, _*_, _≤_, _<_}

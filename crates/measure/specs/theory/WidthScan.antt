@@ -20,9 +20,7 @@ use Rattle.plane.specs.Shape.{IsShape}
 use Rattle.plane.specs.Measure.{height, edgeSquared, widthEdge, widthCorner}
 use Rattle.plane.specs.theory.lists.Sought.{true-not-false}
 use Rattle.measure.specs.theory.Height.{edgeSquared-positive, facing-width}
-use Rattle.measure.specs.Comparison.{Facing}
 use Rattle.measure.specs.theory.Narrowest.{noWider-fractions}
-use Rattle.measure.specs.Comparison.{Narrowest}
 use Rattle.measure.specs.theory.Narrowest.{narrowest-start, narrowest-keep, narrowest-replace, narrowest-done}
 use Rattle.measure.specs.Comparison.{Measured, Width, none, best}
 

@@ -7,7 +7,7 @@ use borrow.Author.Needs.{needs}
 use lib.IntN.{ℤ, pos}
 use Rattle.plane.specs.Point.{points}
 use Rattle.plane.specs.Reply.{answered, refused}
-use Rattle.plane.specs.Refusal.{badCount, tooMany, someOutside, ruleBroken, badStart}
+use Rattle.plane.specs.Refusal.{badCount, tooMany, someOutside, ruleBroken}
 use Rattle.plane.specs.Judge.{judged}
 use Rattle.plane.specs.theory.refusals.Accept.{near→inRange}
 use Rattle.polygon.proofs.LeftRule.{broken-found, broken-none}

@@ -1,7 +1,7 @@
 -- How two shapes stand, by the origin against the edges of their differences.
 --     placed-origin         the numbers of `placed` say whether the origin is outside a shape, on its rim or inside
 --     placed-related        of the differences of two lists: the relation
-use mathlib.Core.Path.{_≡_, refl, sym, _∙_, ap}
+use mathlib.Core.Path.{_≡_, refl, _∙_, ap}
 use mathlib.Core.Bool.{Bool, true, false, not, cond, _||_, _&&_}
 use mathlib.Core.List.{List, [], _∷_}
 use Prim.Native.Nat.{ℕ, _<_}

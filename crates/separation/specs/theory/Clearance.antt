@@ -4,19 +4,17 @@
 --     clearance-zero, zero-clearance     the clearance is 0 exactly if the lists are not apart
 --     clearance-sym                      it does not matter which is the first
 -- Lists have a point: 0 < length.
-use mathlib.Core.Path.{_≡_, refl, sym, _∙_, ap}
+use mathlib.Core.Path.{_≡_, refl, sym, _∙_}
 use mathlib.Core.Bool.{Bool, true, false}
-use mathlib.Core.Logic.{_⊎_, inl, inr}
 use mathlib.Core.List.{List, [], _∷_}
-use Prim.Native.Nat.{ℕ, zero, suc, _<_}
+use Prim.Native.Nat.{ℕ, _<_}
 use native.Mathlib.Omega.{arith}
 use lib.IntN.{ℤ, pos}
 use lib.ListN.{length}
-use lib.Signed.{_≤ℤ_, _<ℤ_, ≤ℤ-refl}
+use lib.Signed.{_≤ℤ_}
 use Rattle.integer.specs.Linear.{linear, lia, _&_}
 use Rattle.integer.specs.Order.{le-trans, le-antisym}
-use Rattle.plane.specs.Point.{Point, corner, _⊖_}
-use Rattle.plane.specs.Direction.{value, max}
+use Rattle.plane.specs.Point.{Point, corner}
 use Rattle.plane.specs.Measure.{least, squared}
 use Rattle.plane.specs.Separation.{apart, clearance}
 use Rattle.plane.specs.theory.lists.Members.{_∈_, position-member, member-position}

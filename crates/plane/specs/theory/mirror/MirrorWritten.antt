@@ -5,13 +5,13 @@
 use mathlib.Core.Path.{_≡_, sym, _∙_, ap, subst}
 use mathlib.Core.Bool.{true, false}
 use mathlib.Core.List.{List, [], _∷_}
-use Prim.Native.Nat.{ℕ, zero, suc, _*_, _≤_, _<_, suc-le-suc}
+use Prim.Native.Nat.{ℕ, _*_, _≤_, _<_}
 use native.Mathlib.Omega.{arith}
 use borrow.Author.Tests.{lt-ltb, le-ltb}
 use lib.IntN.{ℤ, pos}
-use lib.ListN.{length, getD}
-use Rattle.integer.specs.Bound.{Within, within-neg}
-use Rattle.plane.specs.Limits.{maxCorners, maxCoordinate}
+use lib.ListN.{length}
+use Rattle.integer.specs.Bound.{within-neg}
+use Rattle.plane.specs.Limits.{maxCorners}
 use Rattle.plane.specs.Point.{Point, points, numbers, corner, opposite}
 use Rattle.plane.specs.Reply.{answered, refused}
 use Rattle.plane.specs.Refusal.{tooMany, someOutside, InRange, Valid, shapeRows}

@@ -1,5 +1,5 @@
 -- `breaks_at` meets its contract: the three parts of the rule in turn.
-use mathlib.Core.Path.{_≡_, sym, _∙_, ap, ap₂, subst}
+use mathlib.Core.Path.{_≡_, sym, _∙_, ap, subst}
 use mathlib.Core.Bool.{not}
 use lib.IntN.{ℤ, pos}
 use lib.ListN.{length}

@@ -1,15 +1,15 @@
 -- `left_break` meets its contract. The invariants: nothing was found, at no edge before this one, and at this edge at no corner before
 -- this one; the measures are what is left.
 use mathlib.Core.Path.{_≡_, refl, sym, _∙_}
-use Prim.Native.Nat.{ℕ, _-_, _<_}
+use Prim.Native.Nat.{_-_, _<_}
 use native.Mathlib.Omega.{arith}
 use lib.ListN.{length}
 use Rattle.plane.specs.Point.{points}
 use Rattle.plane.specs.Search.{some}
 use Rattle.plane.specs.Shape.{breaks}
-use Rattle.plane.specs.Refusal.{leftBroken, breakingEdge, breakingCorner}
+use Rattle.plane.specs.Refusal.{leftBroken, breakingEdge}
 use Rattle.plane.specs.theory.lists.Sought.{Sought, sought-start, sought-more, sought-found, sought-yes, sought-no}
-use Rattle.polygon.specs.declared.rules.Broken.the-variants.{At, Nowhere}
+use Rattle.polygon.specs.declared.rules.Broken.the-variants.{Nowhere}
 use Rattle.polygon.proofs.LeftRule.{left-break-at, left-break-nowhere}
 use Rattle.polygon.proofs.rules.left_break.Statement.{statement}
 use Rattle.polygon.proofs.rules.left_break.Tie as tie

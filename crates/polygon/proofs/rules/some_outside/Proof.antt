@@ -1,6 +1,6 @@
 -- `some_outside` meets its contract. The invariant: no coordinate before i is out of range; the measure is what is left.
 use mathlib.Core.Path.{_≡_, sym, _∙_, ap}
-use Prim.Native.Nat.{ℕ, _-_}
+use Prim.Native.Nat.{_-_}
 use native.Mathlib.Omega.{arith}
 use borrow.Author.Needs.{sfits-of}
 use lib.IntN.{pos}
