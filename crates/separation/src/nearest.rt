@@ -4,7 +4,8 @@ ghost use Prim.Native.Nat.{_<_};
 ghost use lib.ListN.{length};
 ghost use Rattle.plane.specs.Point.{points};
 ghost use Rattle.plane.specs.Refusal.{Valid};
-ghost use Rattle.separation.specs.Nearest.{min, nearestTo, nearest as Nearest·nearest};
+ghost use Rattle.plane.specs.Direction.{min};
+ghost use Rattle.separation.specs.Nearest.{nearestTo, nearest as Nearest·nearest};
 use polygon::corners;
 use polygon::point;
 

@@ -3,3 +3,4 @@ pub mod Rows
 pub mod Tests
 pub mod Accept
 pub mod Write
+pub mod Tables

@@ -8,7 +8,7 @@ use lib.IntN.{ℤ}
 use Rattle.plane.specs.Point.{points}
 use Rattle.plane.specs.Reply.{refused}
 use Rattle.plane.specs.Refusal.{badCount, tooMany, someOutside, ruleBroken, badStart}
-use Rattle.plane.specs.theory.refusals.Accept.{inside→inRange, accepted→valid}
+use Rattle.plane.specs.theory.refusals.Accept.{near→inRange, accepted→valid}
 use Rattle.polygon.proofs.LeftRule.{broken-found, broken-none}
 use Rattle.questions.proofs.admission.admit.Statement.{statement}
 use Rattle.questions.proofs.admission.admit.Tie as tie
@@ -51,7 +51,7 @@ returns-3 c =
     record { whatever = λ x. rw (row-1 (at-2 .before .before), row-2 at-2, sym (c .before .some-outside .ensures) ∙ c .if3 .taken) }
 
 first-broken-requires : tie.Need-first-broken-requires
-first-broken-requires c κs = inside→inRange _ (row-3 c)
+first-broken-requires c κs = near→inRange _ (row-3 c)
 
 enum-known-edge : tie.Need-enum-known-edge
 enum-known-edge c = search needs

@@ -10,7 +10,8 @@ use Rattle.plane.specs.Point.{points, corner}
 use Rattle.plane.specs.Measure.{squared}
 use Rattle.polygon.specs.Point.{at, Small}
 use Rattle.polygon.specs.theory.Small.{small-corner}
-use Rattle.separation.specs.Nearest.{min, nearestTo}
+use Rattle.plane.specs.Direction.{min}
+use Rattle.separation.specs.Nearest.{nearestTo}
 use Rattle.separation.specs.theory.Nearest.{Running, running-start, running-more, running-end}
 use Rattle.separation.proofs.nearest.nearest_to.Statement.{statement}
 use Rattle.separation.proofs.nearest.nearest_to.Tie as tie

@@ -2,12 +2,13 @@
 -- opposite, up to a number that the edge alone fixes.
 --     quarterBack e, quarter-quarterBack      the direction out of the edge e; turned left by a quarter it is e
 --     edgeOf ps e                     the edge that leaves corner e
---     edgeTurn-value, reach-support   the turn, and the greatest turn, by values of the direction out of the edge
---     reach-above, reach-had          no turn is above it; some corner has it
---     furthest-reach, reach-furthest  a corner has the greatest turn exactly if its opposite is furthest in the mirror image
---     reach-positive, edgeSquared-positive     of a shape with three corners or more
+--     edgeTurn-value, height-support   the turn, and the greatest turn, by values of the direction out of the edge
+--     height-above, height-had          no turn is above it; some corner has it
+--     furthest-height, height-furthest  a corner has the greatest turn exactly if its opposite is furthest in the mirror image
+--     height-positive, edgeSquared-positive     of a shape with three corners or more
 --     Facing ps e c                            c is the first corner of greatest turn; `facing-only`, `facing-either`: of one, or of two
 --     facing-width                             against the edge of the width it is widthCorner
+--     width-facing, width-earlier              and widthCorner is such a corner; before it all turns are less
 use mathlib.Core.Path.{_≡_, refl, sym, _∙_, ap}
 use mathlib.Core.Bool.{Bool, true, false, cond}
 use mathlib.Core.List.{List, [], _∷_}
@@ -18,20 +19,20 @@ use borrow.Author.Tests.{eqb-true, eqb-false}
 use lib.Dec.{eqb}
 use lib.IntN.{ℤ, pos, negℤ, _+ℤ_}
 use lib.ListN.{length}
-use lib.Signed.{_≤ℤ_, _<ℤ_, leZ}
+use lib.Signed.{_≤ℤ_, _<ℤ_, leZ, clashℤ}
 use Rattle.integer.specs.Ring.{ring, reify}
 use Rattle.integer.specs.Linear.{lia, linear, _&_}
-use Rattle.integer.specs.Order.{le-of-eq, le-antisym, le-leZ, lt-leZ, contra<}
+use Rattle.integer.specs.Order.{le-of-eq, le-antisym, le-leZ, lt-leZ, leZ-true, leZ-false, contra<}
 use Rattle.plane.specs.Point.{Point, point, corner, _⊖_, opposite}
 use Rattle.plane.specs.Turn.{turn, Left}
 use Rattle.plane.specs.Shape.{next, IsShape}
 use Rattle.plane.specs.Direction.{value, support}
 use Rattle.plane.specs.Corner.{mirrored}
-use Rattle.plane.specs.Measure.{greatest, edgeTurn, reach, edgeSquared, widthEdge, widthCorner}
+use Rattle.plane.specs.Measure.{greatest, edgeTurn, height, edgeSquared, widthEdge, widthCorner}
 use Rattle.plane.specs.theory.lists.Members.{point-path, position-member, member-position, mirrored-member, member-mirrored, mirrored-some}
 use Rattle.plane.specs.theory.forms.Vector.{quarter, turn-stay}
 use Rattle.plane.specs.theory.support.Support.{value-le-support, support-attained}
-use Rattle.plane.specs.theory.lists.Sought.{first-unique}
+use Rattle.plane.specs.theory.lists.Sought.{first-true, first-least, first-at-most, first-unique}
 use Rattle.plane.specs.theory.lists.Greatest.{greatest-above, greatest-attained, greatest-le}
 use Rattle.plane.specs.theory.forms.Squared.{squared-positive}
 use Rattle.measure.specs.Comparison.{Facing}
@@ -55,18 +56,18 @@ module _ (ps : List Point) (e : ℕ) where
   unfolding edgeTurn
   edgeTurn-value c = turn-value (corner ps e) (corner ps (next (length ps) e)) (corner ps c)
 
-  pub reach-above : (c : ℕ) → c < length ps → edgeTurn ps e c ≤ℤ reach ps e
-  unfolding reach
-  reach-above c h = greatest-above (edgeTurn ps e) (length ps) c h
+  pub height-above : (c : ℕ) → c < length ps → edgeTurn ps e c ≤ℤ height ps e
+  unfolding height
+  height-above c h = greatest-above (edgeTurn ps e) (length ps) c h
 
-  pub reach-had : 0 < length ps → (c : ℕ) × (c < length ps) × (reach ps e ≡ edgeTurn ps e c)
-  unfolding reach
-  reach-had h = greatest-attained (edgeTurn ps e) (length ps) h
+  pub height-had : 0 < length ps → (c : ℕ) × (c < length ps) × (height ps e ≡ edgeTurn ps e c)
+  unfolding height
+  height-had h = greatest-attained (edgeTurn ps e) (length ps) h
 
-  pub reach-support : 0 < length ps
-      → reach ps e ≡ support (quarterBack (edgeOf ps e)) (mirrored ps) +ℤ value (quarterBack (edgeOf ps e)) (corner ps e)
-  unfolding reach
-  reach-support some = le-antisym (greatest-le (edgeTurn ps e) (length ps) some below) above
+  pub height-support : 0 < length ps
+      → height ps e ≡ support (quarterBack (edgeOf ps e)) (mirrored ps) +ℤ value (quarterBack (edgeOf ps e)) (corner ps e)
+  unfolding height
+  height-support some = le-antisym (greatest-le (edgeTurn ps e) (length ps) some below) above
     where
       d : Point
       d = quarterBack (edgeOf ps e)
@@ -91,16 +92,16 @@ module _ (ps : List Point) (e : ℕ) where
   module _ (some : 0 < length ps) (c : ℕ) where
     -- what the two facts speak of
     abbrev numbers : List ℤ
-    numbers = edgeTurn ps e c ∷ reach ps e ∷ value (quarterBack (edgeOf ps e)) (opposite (corner ps c))
+    numbers = edgeTurn ps e c ∷ height ps e ∷ value (quarterBack (edgeOf ps e)) (opposite (corner ps c))
         ∷ support (quarterBack (edgeOf ps e)) (mirrored ps) ∷ value (quarterBack (edgeOf ps e)) (corner ps e) ∷ []
 
-    pub furthest-reach : value (quarterBack (edgeOf ps e)) (opposite (corner ps c)) ≡ support (quarterBack (edgeOf ps e)) (mirrored ps)
-        → edgeTurn ps e c ≡ reach ps e
-    furthest-reach h = lia numbers (h & edgeTurn-value c & reach-support some) (search linear depth 40) (omega arith)
+    pub furthest-height : value (quarterBack (edgeOf ps e)) (opposite (corner ps c)) ≡ support (quarterBack (edgeOf ps e)) (mirrored ps)
+        → edgeTurn ps e c ≡ height ps e
+    furthest-height h = lia numbers (h & edgeTurn-value c & height-support some) (search linear depth 40) (omega arith)
 
-    pub reach-furthest : edgeTurn ps e c ≡ reach ps e
+    pub height-furthest : edgeTurn ps e c ≡ height ps e
         → value (quarterBack (edgeOf ps e)) (opposite (corner ps c)) ≡ support (quarterBack (edgeOf ps e)) (mirrored ps)
-    reach-furthest h = lia numbers (h & edgeTurn-value c & reach-support some) (search linear depth 40) (omega arith)
+    height-furthest h = lia numbers (h & edgeTurn-value c & height-support some) (search linear depth 40) (omega arith)
 
 -- ---- a shape with three corners or more
 
@@ -118,11 +119,11 @@ module _ (ps : List Point) (s : IsShape ps) (long : 2 < length ps) (e : ℕ) (h 
   third-left : (c : ℕ) × (c < length ps) × Left (corner ps e) (corner ps (next (length ps) e)) (corner ps c)
   third-left = let c = third (length ps) e long h in (c .0, c .1, s .left e (c .0) h (c .1) (c .2) (c .3))
 
-  pub reach-positive : pos 0 <ℤ reach ps e
+  pub height-positive : pos 0 <ℤ height ps e
   unfolding edgeTurn
-  reach-positive = let c = third-left in
-      lia (turn (corner ps e) (corner ps (next (length ps) e)) (corner ps (c .0)) ∷ reach ps e ∷ []) (c .2 & reach-above ps e (c .0) (c .1))
-      (search linear depth 40) (omega arith)
+  height-positive = let c = third-left in
+      lia (turn (corner ps e) (corner ps (next (length ps) e)) (corner ps (c .0)) ∷ height ps e ∷ [])
+      (c .2 & height-above ps e (c .0) (c .1)) (search linear depth 40) (omega arith)
 
   pub edgeSquared-positive : pos 0 <ℤ edgeSquared ps e
   unfolding edgeSquared
@@ -138,13 +139,13 @@ module _ (ps : List Point) (s : IsShape ps) (long : 2 < length ps) (e : ℕ) (h 
 
 -- ---- the first corner of greatest turn
 
-module _ {ps : List Point} {e c : ℕ} (h : c < length ps) (has : edgeTurn ps e c ≡ reach ps e) where
+module _ {ps : List Point} {e c : ℕ} (h : c < length ps) (has : edgeTurn ps e c ≡ height ps e) where
   -- no other has it
-  pub facing-only : ((k : ℕ) → k < length ps → edgeTurn ps e k ≡ reach ps e → k ≡ c) → Facing ps e c
+  pub facing-only : ((k : ℕ) → k < length ps → edgeTurn ps e k ≡ height ps e → k ≡ c) → Facing ps e c
   facing-only only = record { within = h; has = has; sole = λ k l q. omega (arith, only k (omega arith) q) }
 
   -- one other at most has it, and it stands no earlier
-  pub facing-either : (b : ℕ) → c ≤ b → ((k : ℕ) → k < length ps → edgeTurn ps e k ≡ reach ps e → (k ≡ c) ⊎ (k ≡ b)) → Facing ps e c
+  pub facing-either : (b : ℕ) → c ≤ b → ((k : ℕ) → k < length ps → edgeTurn ps e k ≡ height ps e → (k ≡ c) ⊎ (k ≡ b)) → Facing ps e c
   facing-either b l two = record { within = h; has = has; sole = λ k m q. go k m (two k (omega arith) q) }
     where
       go : (k : ℕ) → k < c → (k ≡ c) ⊎ (k ≡ b) → ⊥
@@ -153,8 +154,30 @@ module _ {ps : List Point} {e c : ℕ} (h : c < length ps) (has : edgeTurn ps e 
 
 pub facing-width : {ps : List Point} {e c : ℕ} → widthEdge ps ≡ e → Facing ps e c → widthCorner ps ≡ c
 unfolding widthCorner
-facing-width {ps} {e} {c} best f = rw best (first-unique (λ k. leZ (reach ps e) (edgeTurn ps e k)) (length ps) c (omega (arith, f .within))
-    (λ q. le-leZ (le-of-eq (sym (f .has)))) (λ k l. lt-leZ (contra< (λ g. f .sole k l (le-antisym (reach-above ps e k (below k l)) g)))))
+facing-width {ps} {e} {c} best f = rw best (first-unique (λ k. leZ (height ps e) (edgeTurn ps e k)) (length ps) c (omega (arith, f .within))
+    (λ q. le-leZ (le-of-eq (sym (f .has)))) (λ k l. lt-leZ (contra< (λ g. f .sole k l (le-antisym (height-above ps e k (below k l)) g)))))
   where
     below : (k : ℕ) → k < c → k < length ps
     below k l = omega (arith, f .within)
+
+-- ---- widthCorner is that corner
+
+module _ (ps : List Point) where
+  tests : ℕ → Bool
+  tests c = leZ (height ps (widthEdge ps)) (edgeTurn ps (widthEdge ps) c)
+
+  pub width-earlier : (c : ℕ) → c < widthCorner ps → edgeTurn ps (widthEdge ps) c <ℤ height ps (widthEdge ps)
+  unfolding widthCorner tests
+  width-earlier c h = leZ-false (first-least tests (length ps) c h)
+
+  pub width-facing : 0 < length ps → Facing ps (widthEdge ps) (widthCorner ps)
+  unfolding widthCorner tests
+  width-facing some =
+      let top = height-had ps (widthEdge ps) some in
+      let found : widthCorner ps < length ps =
+      omega (arith, first-at-most tests (length ps) (top .0) (le-leZ (le-of-eq (top .2))), top .1) in
+      record {
+        within = found;
+        has = le-antisym (height-above ps (widthEdge ps) (widthCorner ps) found) (leZ-true (first-true tests (length ps) found));
+        sole = λ k l e. clashℤ (width-earlier k l) (le-of-eq (sym e));
+      }
