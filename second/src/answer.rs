@@ -3,10 +3,10 @@
 use crate::combine::{held_by, merge, mirror, sum};
 use crate::judge::judge;
 use crate::measure::{Width, furthest, length, width};
-use crate::pair::{Relation, clearance, inside, relation};
 use crate::plane::{Point, Shape, point};
 use crate::question::{Kind, Question, passed_over, read};
 use crate::refusal::Refusal;
+use crate::separation::{Relation, clearance, inside, relation};
 use std::io::{self, BufRead, Write};
 
 /// Answers every question line of the input.

@@ -12,14 +12,14 @@
 mod answer;
 mod cases;
 mod combine;
-mod corners;
+mod hull;
 mod judge;
 mod make;
 mod measure;
-mod pair;
 mod plane;
 mod question;
 mod refusal;
+mod separation;
 
 use question::Kind;
 use std::io::{self, BufWriter, Write};

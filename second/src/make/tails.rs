@@ -7,7 +7,7 @@ use super::{List, line};
 use crate::answer::answer;
 use crate::plane::{Point, point};
 use crate::question::{Kind, Tail};
-use crate::refusal::{DIRECTION_REACH, MOST_CORNERS};
+use crate::refusal::{MOST_CORNERS, MOST_DIRECTION};
 
 /// Adds the field that the kind wants, or leaves a room out.
 pub fn add(dice: &mut Dice, kind: Kind, fields: &mut Vec<List>) {
@@ -32,7 +32,7 @@ fn direction(dice: &mut Dice, list: &[i64]) -> Point {
         4..10 => normal(dice, list),
         10..15 => vector(dice, 3),
         15..17 => dice.pick(&[point(1, 0), point(0, 1), point(-1, 0), point(0, -1)]),
-        _ => vector(dice, DIRECTION_REACH),
+        _ => vector(dice, MOST_DIRECTION),
     }
 }
 
@@ -40,12 +40,12 @@ fn direction(dice: &mut Dice, list: &[i64]) -> Point {
 fn limit_part(dice: &mut Dice) -> i64 {
     let sign = dice.pick(&[-1, 1]);
     match dice.below(12) {
-        0 => sign * (DIRECTION_REACH + 1),
+        0 => sign * (MOST_DIRECTION + 1),
         1 => dice.between(i64::from(i32::MIN), i64::from(i32::MAX)),
         2 => dice.pick(&[i64::from(i32::MIN), i64::from(i32::MAX)]),
         3..5 => 0,
-        5 => sign * (DIRECTION_REACH - 1),
-        _ => sign * DIRECTION_REACH,
+        5 => sign * (MOST_DIRECTION - 1),
+        _ => sign * MOST_DIRECTION,
     }
 }
 
@@ -62,11 +62,7 @@ fn normal(dice: &mut Dice, list: &[i64]) -> Point {
         dice.pick(&edges)
     };
     let inward = edge.quarter_turned();
-    let away = if dice.one_in(6) {
-        inward
-    } else {
-        inward.negated()
-    };
+    let away = if dice.one_in(6) { inward } else { -inward };
     let fits = |part: i64| i32::try_from(part).is_ok();
     if fits(away.x) && fits(away.y) {
         away
