@@ -6,11 +6,14 @@
 //!     second answer                               answers the questions of standard input
 //!     second cases                                writes 01's cases as questions
 //!     second check                                answers 01's cases, compares with what 01 states
+//!     second compare LEAST QUESTIONS ANSWERS      compares another program's answers with its own:
+//!                                                 two files, and how many answers there must be
 
 mod answer;
 mod ask;
 mod cases;
 mod combine;
+mod compare;
 mod hull;
 mod judge;
 mod make;
@@ -22,10 +25,12 @@ mod separation;
 mod text;
 
 use std::error::Error;
+use std::fs;
 use std::io::{self, BufWriter, Read, Write};
 use std::process::ExitCode;
 
-const USAGE: &str = "second make SEED COUNT | answer | cases | check";
+const USAGE: &str =
+    "second make SEED COUNT | answer | cases | check | compare LEAST QUESTIONS ANSWERS";
 
 /// Whether all is as it should be; trouble is what kept the program from finding out.
 type Outcome = Result<bool, Box<dyn Error>>;
@@ -50,6 +55,9 @@ fn run(words: &[&str]) -> Outcome {
         ["answer"] => answer::write_all(&standard_input()?, output)?,
         ["cases"] => cases::write_all(output)?,
         ["check"] => return check_cases(output),
+        ["compare", least, questions, answers] => {
+            return compare_files(number(least)?, questions, answers, output);
+        }
         _ => return Err(USAGE.into()),
     }
     Ok(true)
@@ -79,4 +87,17 @@ fn check_cases(mut output: impl Write) -> Outcome {
     )?;
     output.flush()?;
     Ok(reports.is_empty())
+}
+
+/// Fails as well where fewer answers than wanted were compared.
+fn compare_files(least: usize, questions: &str, answers: &str, mut output: impl Write) -> Outcome {
+    let read = |path: &str| fs::read(path).map_err(|trouble| format!("{path}: {trouble}"));
+    let comparison = compare::compare(&read(questions)?, &read(answers)?);
+    comparison.tell(&mut output)?;
+    let enough = comparison.compared >= least;
+    if !enough {
+        writeln!(output, "second: at least {least} were to be compared")?;
+    }
+    output.flush()?;
+    Ok(enough && comparison.different == 0)
 }
