@@ -94,11 +94,7 @@ fn moved_copy(dice: &mut Dice) -> (Shape, Shape) {
 
 /// A shape and its mirror image at a corner or along an edge, sometimes one step off.
 fn flush(dice: &mut Dice) -> (Shape, Shape) {
-    let a = if dice.one_in(3) {
-        shapes::any(dice)
-    } else {
-        shapes::small(dice)
-    };
+    let a = shapes::mostly_small(dice);
     let at = dice.below(a.len());
     let other = (at + dice.below(2)) % a.len();
     let mut by = a[at] + a[other];
@@ -169,11 +165,7 @@ fn on_one_line(dice: &mut Dice) -> (Shape, Shape) {
 
 /// The second has some of the first's edges, longer or shorter, or turned round.
 fn sharing_directions(dice: &mut Dice) -> (Shape, Shape) {
-    let a = if dice.one_in(3) {
-        shapes::any(dice)
-    } else {
-        shapes::small(dice)
-    };
+    let a = shapes::mostly_small(dice);
     let edges = edges_of(&a);
     let count = dice.between(1, edges.len().min(12) as i64) as usize;
     let mut chosen = dice.draw(&edges, count);
@@ -201,11 +193,7 @@ fn across_the_range(dice: &mut Dice) -> (Shape, Shape) {
 /// Two shapes whose sum ends at the range's end, one before it or one behind.
 fn at_the_range_end(dice: &mut Dice) -> (Shape, Shape) {
     let a = shapes::any(dice);
-    let b = if dice.one_in(2) {
-        shapes::small(dice)
-    } else {
-        shapes::any(dice)
-    };
+    let b = shapes::mostly_small(dice);
     let top = |parts: &[i64]| parts.iter().copied().max().unwrap_or(0);
     let bottom = |parts: &[i64]| parts.iter().copied().min().unwrap_or(0);
     let xs = |s: &[Point]| s.iter().map(|c| c.x).collect::<Vec<i64>>();

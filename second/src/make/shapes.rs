@@ -37,6 +37,15 @@ pub fn small(dice: &mut Dice) -> Shape {
     }
 }
 
+/// Any shape in one case of three, else a small one.
+pub fn mostly_small(dice: &mut Dice) -> Shape {
+    if dice.one_in(3) {
+        any(dice)
+    } else {
+        small(dice)
+    }
+}
+
 /// The shape moved within the range: near the middle, anywhere, or to an end of the range.
 pub fn settled(dice: &mut Dice, shape: &[Point]) -> Shape {
     let xs: Vec<i64> = shape.iter().map(|c| c.x).collect();

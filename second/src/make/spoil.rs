@@ -7,55 +7,25 @@ use crate::text::fields::MOST_NUMBERS;
 use crate::text::lines::{MOST_CHARACTERS, is_passed_over};
 
 /// Not among them: `draw`, which the other program knows and this one does not.
-const WORDS: [&str; 9] = [
-    "rotate",
-    "Judge",
-    "sums",
-    "x",
-    "",
-    " # judge",
-    "sum sum",
-    "judge 0 0",
-    "\u{FEFF}judge",
+#[rustfmt::skip]
+const WORDS: &[&str] = &[
+    "rotate", "Judge", "sums", "x", "", " # judge", "sum sum", "judge 0 0", "\u{FEFF}judge",
 ];
 
-const NO_NUMBERS: [&str; 16] = [
-    "2147483648",
-    "-2147483649",
-    "4294967296",
-    "99999999999999999999",
-    "+5",
-    "-",
-    "--5",
-    "5-",
-    "1.5",
-    "1e3",
-    "0x10",
-    "5,",
-    "zero",
-    "\u{A0}5",
-    "5\u{C}",
-    "\u{665}",
+#[rustfmt::skip]
+const NO_NUMBERS: &[&str] = &[
+    "2147483648", "-2147483649", "4294967296", "99999999999999999999", "+5", "-", "--5", "5-",
+    "1.5", "1e3", "0x10", "5,", "zero", "\u{A0}5", "5\u{C}", "\u{665}",
 ];
 
-const NUMBERS: [&str; 5] = [
-    "-0",
-    "007",
-    "2147483647",
-    "-2147483648",
-    "-00000000000000000001",
+#[rustfmt::skip]
+const NUMBERS: &[&str] = &[
+    "-0", "007", "2147483647", "-2147483648", "-00000000000000000001",
 ];
 
-const TAILS: [&str; 9] = [
-    "",
-    "-1",
-    "-2147483648",
-    "-0",
-    "0",
-    "1",
-    "3 4",
-    "-3 4",
-    "3 4 5",
+#[rustfmt::skip]
+const TAILS: &[&str] = &[
+    "", "-1", "-2147483648", "-0", "0", "1", "3 4", "-3 4", "3 4 5",
 ];
 
 /// A question with one fault or two; a few are questions still.
@@ -75,7 +45,7 @@ pub fn spoilt(dice: &mut Dice, word: &str, mut fields: Vec<String>) -> String {
 
 fn spoil(dice: &mut Dice, word: &mut String, fields: &mut Vec<String>) {
     match dice.below(40) {
-        0..5 => *word = dice.pick(&WORDS).to_string(),
+        0..5 => *word = dice.pick(WORDS).to_string(),
         5..9 => drop(fields.pop()),
         9..13 => fields.resize(fields.len() + dice.pick(&[1, 1, 2, 7, 8]), "4".to_string()),
         13..16 => *any_field(dice, fields) = String::new(),
@@ -98,9 +68,9 @@ fn any_field<'a>(dice: &mut Dice, fields: &'a mut Vec<String>) -> &'a mut String
 /// One number becomes another word, or one is added.
 fn spoil_number(dice: &mut Dice, fields: &mut Vec<String>) {
     let word = if dice.one_in(4) {
-        dice.pick(&NUMBERS)
+        dice.pick(NUMBERS)
     } else {
-        dice.pick(&NO_NUMBERS)
+        dice.pick(NO_NUMBERS)
     };
     let field = any_field(dice, fields);
     let mut words: Vec<&str> = field.split(' ').collect();
@@ -118,7 +88,7 @@ fn spoil_tail(dice: &mut Dice, fields: &mut [String]) {
         0..2 => tail.insert(0, '-'),
         2 => tail.push_str(" 5"),
         3 => tail.truncate(tail.rfind(' ').unwrap_or(0)),
-        _ => *tail = dice.pick(&TAILS).to_string(),
+        _ => *tail = dice.pick(TAILS).to_string(),
     }
 }
 
