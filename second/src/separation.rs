@@ -53,7 +53,7 @@ pub fn clearance(a: &[Point], b: &[Point]) -> i128 {
 fn holds(shape: &[Point], c: Point) -> bool {
     match *shape {
         [p] => c == p,
-        [p, q] => turn(p, q, c) == 0 && dot(p.minus(c), q.minus(c)) <= 0,
+        [p, q] => turn(p, q, c) == 0 && dot(p - c, q - c) <= 0,
         _ => (0..shape.len()).all(|edge| {
             let (a, b) = edge_ends(shape, edge);
             turn(a, b, c) >= 0
@@ -68,10 +68,10 @@ fn normals(shape: &[Point]) -> Vec<Point> {
     }
     let left = |edge: usize| {
         let (a, b) = edge_ends(shape, edge);
-        b.minus(a).quarter_turned()
+        (b - a).quarter_turned()
     };
     (0..shape.len())
-        .flat_map(|edge| [left(edge), left(edge).negated()])
+        .flat_map(|edge| [left(edge), -left(edge)])
         .collect()
 }
 

@@ -1,6 +1,6 @@
 //! Corners of a finite set of points, and the shape of the set ("What each question asks" of 01).
 //!
-//!     shape_of points      the standard list of the corners; repeats count once
+//!     hull_of points       the standard list of the corners; repeats count once
 //!     standard_list        puts corners in order: lowest, then leftmost first, counterclockwise
 //!
 //! Small sets go by the meaning of the definition, large ones by a sorted chain; the tests hold the
@@ -13,7 +13,7 @@ use std::cmp::Ordering;
 const FEW: usize = 150;
 
 /// The shape of a finite set of points. Empty only for no points.
-pub fn shape_of(mut points: Vec<Point>) -> Shape {
+pub fn hull_of(mut points: Vec<Point>) -> Shape {
     points.sort_unstable_by_key(Point::low_then_left);
     points.dedup();
     let corners = if points.len() <= FEW {
@@ -43,11 +43,7 @@ pub fn standard_list(mut corners: Vec<Point>) -> Shape {
 /// The different points that are strictly furthest in some whole-number direction.
 fn corners_by_meaning(points: &[Point]) -> Vec<Point> {
     let is_corner = |p: Point| {
-        let from_others: Vec<Point> = points
-            .iter()
-            .filter(|&&q| q != p)
-            .map(|&q| p.minus(q))
-            .collect();
+        let from_others: Vec<Point> = points.iter().filter(|&&q| q != p).map(|&q| p - q).collect();
         some_direction_above(&from_others)
     };
     points.iter().copied().filter(|&p| is_corner(p)).collect()
@@ -110,14 +106,14 @@ mod tests {
         points
     }
 
-    /// The definition word for word, over all directions with parts up to `reach`.
-    fn corners_by_box(points: &[Point], reach: i64) -> Vec<Point> {
+    /// The definition word for word, over all directions with parts up to `size`.
+    fn corners_by_box(points: &[Point], size: i64) -> Vec<Point> {
         let strictly_furthest = |p: Point, d: Point| {
             let others = points.iter().filter(|&&q| q != p);
             others.into_iter().all(|&q| value(d, q) < value(d, p))
         };
         let is_corner = |p: Point| {
-            (-reach..=reach).any(|u| (-reach..=reach).any(|v| strictly_furthest(p, point(u, v))))
+            (-size..=size).any(|u| (-size..=size).any(|v| strictly_furthest(p, point(u, v))))
         };
         points.iter().copied().filter(|&p| is_corner(p)).collect()
     }

@@ -5,20 +5,20 @@
 //! difference itself, is inside the cone if anything is. So parts up to 8 are enough.
 
 use super::*;
-use crate::corners::{shape_of, some_direction_above};
+use crate::hull::{hull_of, some_direction_above};
 use crate::make::dice::Dice;
 use crate::plane::Shape;
 
-const REACH: i64 = 8;
+const MOST_PART: i64 = 8;
 
 fn small_shape(dice: &mut Dice) -> Shape {
     let count = dice.between(1, 5);
     let points = (0..count).map(|_| point(dice.between(0, 4), dice.between(0, 4)));
-    shape_of(points.collect())
+    hull_of(points.collect())
 }
 
 fn box_directions() -> impl Iterator<Item = Point> {
-    (-REACH..=REACH).flat_map(|u| (-REACH..=REACH).map(move |v| point(u, v)))
+    (-MOST_PART..=MOST_PART).flat_map(|u| (-MOST_PART..=MOST_PART).map(move |v| point(u, v)))
 }
 
 fn relation_by_box(a: &[Point], b: &[Point]) -> Relation {
@@ -55,7 +55,7 @@ fn apart_exactly_if_all_differences_lie_in_an_open_half_plane() {
         if a.len() * b.len() > 20_000 {
             continue;
         }
-        let pairs = a.iter().flat_map(|&p| b.iter().map(move |&q| q.minus(p)));
+        let pairs = a.iter().flat_map(|&p| b.iter().map(move |&q| q - p));
         let apart = some_direction_above(&pairs.collect::<Vec<Point>>());
         assert_eq!(relation(&a, &b) == Relation::Apart, apart, "{a:?} {b:?}");
     }
