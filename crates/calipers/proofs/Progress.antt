@@ -48,7 +48,8 @@ module _ {a b : List ℤ} {from : Walk} {k : ℕ} {old : List ℤ} where
 
     -- the part ends where k corners are written, or where the walk is over
     pub progress-stop : count ≡ length (partOf a b from k) → PartWritten a b from k old (record { walk = walk; count = count }) out
-    progress-stop e = record { counted = e; moved = p .moved; filled = filled-done (p .front) (omega (arith, numbers-length (partOf a b from k))) }
+    progress-stop e =
+        record { counted = e; moved = p .moved; filled = filled-done (p .front) (omega (arith, numbers-length (partOf a b from k))) }
 
     pub progress-over : walk .over ≡ true → count ≡ length (partOf a b from k)
     progress-over o =
@@ -68,13 +69,14 @@ module _ {a b : List ℤ} {from : Walk} {k : ℕ} {old : List ℤ} where
       pub progress-room : 2 * count + 1 < length out
       progress-room = omega (arith, progress-length, below, p .room, numbers-length (partOf a b from k))
 
-      pub progress-more : {next : Walk} {q : Point} {new : List ℤ} → q ≡ here (points a) (points b) walk → next ≡ advanced (points a) (points b) walk
-          → new ≡ stored out count q → Progress a b from k old (count + 1) next new
+      pub progress-more : {next : Walk} {q : Point} {new : List ℤ} → q ≡ here (points a) (points b) walk
+          → next ≡ advanced (points a) (points b) walk → new ≡ stored out count q → Progress a b from k old (count + 1) next new
       progress-more {next} {q} {new} hq hw ho = record {
         at = p .at;
         room = p .room;
         within = omega (arith, below);
-        moved = hw ∙ ap (advanced (points a) (points b)) (p .moved) ∙ ap (λ (n : ℕ). stepped (points a) (points b) n from) (sym (add-one count));
+        moved = hw ∙ ap (advanced (points a) (points b)) (p .moved)
+            ∙ ap (λ (n : ℕ). stepped (points a) (points b) n from) (sym (add-one count));
         front = subst (Filled old _ _) (sym ho) (filled-corner (partOf a b from k) count (p .front) below (p .room)
             (ap (λ (r : Point). r .x) (hq ∙ present)) (ap (λ (r : Point). r .y) (hq ∙ present)));
       }

@@ -45,7 +45,8 @@ fn is_up(e: Point) -> bool
     point::precedes(Point { x: 0, y: 0 }, e)
 }
 
-// Whether e comes before f by its direction, from level to the right all the way round. Two that point the same way: no.
+// Whether e comes before f by its direction, from level to the right all the way round. Two that point the same
+// way: no.
 pub fn is_before(e: Point, f: Point) -> bool
     requires { ⌜ Small (2 ^ 22) (at e) × Small (2 ^ 22) (at f) ⌝ }
     ensures { λ r. ⌜ r ≡ before (at e) (at f) ⌝ }

@@ -18,8 +18,8 @@ use polygon::corners;
 use polygon::point;
 use polygon::point::Point;
 
-// A place of the walk: i edges of the first shape and j of the second are passed. It is over when all corners are visited: two points have
-// no edge, and one corner to visit.
+// A place of the walk: i edges of the first shape and j of the second are passed. It is over when all corners
+// are visited: two points have no edge, and one corner to visit.
 pub struct Walk {
     pub i: usize,
     pub j: usize,
@@ -63,7 +63,8 @@ impl Walk {
     }
 }
 
-// Whether edge i of a is passed next: there is one, and edge j of b is not before it. The same function asks it of either shape.
+// Whether edge i of a is passed next: there is one, and edge j of b is not before it. The same function asks it
+// of either shape.
 fn takes(a: &[i32], i: usize, b: &[i32], j: usize) -> bool
     requires { ⌜ InRange (now a) × InRange (now b) ⌝ }
     ensures { λ r. ⌜ r ≡ Walk·takes (points (now (a .entry))) i (points (now (b .entry))) j ⌝ }

@@ -13,7 +13,8 @@ use calipers::walk::Walk;
 use calipers::walk::either;
 use polygon::point;
 
-// What a walk round all edges saw: how many there are, whether the origin is to the right of one, and whether it is not to the left of one.
+// What a walk round all edges saw: how many there are, whether the origin is to the right of one, and whether
+// it is not to the left of one.
 pub struct Sides {
     pub count: usize,
     pub outside: bool,
@@ -82,7 +83,8 @@ fn around_to(next: Walk) -> Walk
     if next.over { Walk::begin() } else { next }
 }
 
-// The cross product of the corners at two places of the walk: positive if the origin is to the left of the edge that joins them.
+// The cross product of the corners at two places of the walk: positive if the origin is to the left of the edge
+// that joins them.
 fn across(a: &[i32], b: &[i32], from: Walk, to: Walk) -> i64
     requires { ⌜ At (now a) (now b) from × At (now a) (now b) to ⌝ }
     ensures { λ r. ⌜ r ≡ cross (here (points (now (a .entry))) (points (now (b .entry))) from)

@@ -29,15 +29,18 @@ step-requires : tie.Need-step-requires
 step-requires c κs =
     let first = c .before .before in
     let pre = first .before .pre in
-    let from = edge-start (points (first .before .args .list .now)) _ (pre .0) in
-    (small-corner _ (pre .1) _ from (first .corner-at .ensures), small-corner _ (pre .1) _ (c .before .round .ensures .1) (c .corner-at2 .ensures))
+    let from = edge-start (points (first .before .args .list .now)) _ (pre .0) in (
+      small-corner _ (pre .1) _ from (first .corner-at .ensures),
+      small-corner _ (pre .1) _ (c .before .round .ensures .1) (c .corner-at2 .ensures),
+    )
 
 returns : tie.Need-returns
 returns c =
     let second = c .before in
     let first = second .before .before in
     let ps = points (first .before .args .list .now) in
-    c .step .ensures ∙ ap₂ _⊖_ (second .corner-at2 .ensures ∙ ap (corner ps) (second .before .round .ensures .0)) (first .corner-at .ensures)
+    c .step .ensures
+    ∙ ap₂ _⊖_ (second .corner-at2 .ensures ∙ ap (corner ps) (second .before .round .ensures .0)) (first .corner-at .ensures)
     ∙ sym (edge-at ps _ (first .before .pre .0))
 
 pub edge-spec : {M : Type 1} → statement M

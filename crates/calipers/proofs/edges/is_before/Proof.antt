@@ -32,7 +32,8 @@ is-up-requires-2 c κs = tt
 returns : tie.Need-returns
 returns c =
     let first = c .before .before in
-    first .is-up .ensures ∙ before-apart _ _ (λ e. unequal _ _ (c .if1 .taken) (first .is-up .ensures ∙ e ∙ sym (c .before .is-up2 .ensures)))
+    first .is-up .ensures
+    ∙ before-apart _ _ (λ e. unequal _ _ (c .if1 .taken) (first .is-up .ensures ∙ e ∙ sym (c .before .is-up2 .ensures)))
 
 cross-requires : tie.Need-cross-requires
 cross-requires c κs = c .before .before .before .pre

@@ -21,7 +21,8 @@ sides-requires-2 : tie.Need-sides-requires-2
 sides-requires-2 c κs = tt
 
 returns-2 : tie.Need-returns-2
-returns-2 c = sym (takes-alone _ _ _ _ (omega (arith, c .before .before .before .sides .ensures)) (omega (arith, c .before .sides2 .ensures)))
+returns-2 c =
+    sym (takes-alone _ _ _ _ (omega (arith, c .before .before .before .sides .ensures)) (omega (arith, c .before .sides2 .ensures)))
 
 -- both have an edge left
 first-left : (c : tie.Else2) → let args = c .before .before .before .before .args in args .i < length (edges (points (args .a .now)))

@@ -5,7 +5,6 @@ use mir.Syntax.{w64}
 use Rattle.integer.specs.Machine.{result-is}
 use Rattle.plane.specs.Point.{_⊖_}
 use Rattle.plane.specs.Turn.{cross, turn-cross}
-use Rattle.polygon.specs.Point.{at, Small}
 use Rattle.polygon.specs.theory.Small.{small-corner, small-step}
 use Rattle.polygon.proofs.corners.turn_at.Statement.{statement}
 use Rattle.polygon.proofs.corners.turn_at.Tie as tie

@@ -28,7 +28,8 @@ cross-requires c κs =
 returns : tie.Need-returns
 returns c =
     let args = c .before .before .before .before .args in
-    result-is w64 (c .cross .ok) (c .cross .ensures ∙ ap (cross (at (args .p))) (left-is (c .before)) ∙ sym (value-cross (at (args .d)) (at (args .p))))
+    result-is w64 (c .cross .ok) (c .cross .ensures
+    ∙ ap (cross (at (args .p))) (left-is (c .before)) ∙ sym (value-cross (at (args .d)) (at (args .p))))
 
 pub dot-spec : {M : Type 1} → statement M
 dot-spec = tie.close (tie.spec sub-t3 cross-requires returns)

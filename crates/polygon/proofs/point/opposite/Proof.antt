@@ -14,7 +14,8 @@ sub-t3 c = machine-fits (search (machine, bounded) depth 40) tt
 
 returns : tie.Need-returns
 returns c =
-    ap₂ point (machine-is (search (machine, bounded) depth 40) tt ∙ +ℤ-idl _) (machine-is (search (machine, bounded) depth 40) tt ∙ +ℤ-idl _)
+    ap₂ point (machine-is (search (machine, bounded) depth 40) tt ∙ +ℤ-idl _)
+    (machine-is (search (machine, bounded) depth 40) tt ∙ +ℤ-idl _)
 
 pub opposite-spec : {M : Type 1} → statement M
 opposite-spec = tie.close (tie.spec sub-t2 sub-t3 returns)

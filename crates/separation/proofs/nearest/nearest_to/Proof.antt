@@ -77,7 +77,8 @@ loop-again c =
     let first = at-loop .before .before .before .before in
     running-more _ _ (at-loop .loop .inv) (at-test .loop-test .taken)
     (result-is w64 (c .lesser .ok) (c .lesser .ensures ∙ ap (min (toZ w64 (at-loop .loop .least)))
-    (result-is w64 (c .before .squared2 .ok) (c .before .squared2 .ensures ∙ ap₂ squared (first .corner-at .ensures) (c .before .before .corner-at3 .ensures)))))
+    (result-is w64 (c .before .squared2 .ok) (c .before .squared2 .ensures
+    ∙ ap₂ squared (first .corner-at .ensures) (c .before .before .corner-at3 .ensures)))))
 
 returns : tie.Need-returns Inv-loop μ-loop
 unfolding nearestTo
