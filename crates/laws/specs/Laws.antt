@@ -21,20 +21,8 @@ use Rattle.plane.specs.Corner.{shapeOf, sums}
 use Rattle.plane.specs.Combine.{sumWritten, mergeWritten}
 use Rattle.plane.specs.Meaning.{accepted-is-valid, valid-is-accepted}
 use Rattle.plane.specs.theory.lists.Flat.{points-length}
-use Rattle.laws.specs.Grouping.{
-  originPoint,
-  AllValid,
-  Call,
-  answeredWith,
-  Gives,
-  Fits,
-  Called,
-  Grouping,
-  Result,
-  Refused,
-  sumOfAll,
-  mergeOfAll,
-}
+use Rattle.laws.specs.Grouping.{originPoint, AllValid, Call, answeredWith, Gives, Fits, Called, Grouping, Result, Refused, sumOfAll}
+use Rattle.laws.specs.Grouping.{mergeOfAll}
 use Rattle.laws.specs.theory.Answer.{sum-combines, merge-combines}
 use Rattle.laws.specs.theory.Refused.{refused→no-result}
 use Rattle.laws.specs.theory.Fold.{result-valid}

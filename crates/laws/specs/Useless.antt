@@ -13,20 +13,8 @@ use Rattle.plane.specs.Point.{points, samePoint}
 use Rattle.plane.specs.Turn.{turn}
 use Rattle.plane.specs.Shape.{breaks, precedes}
 use Rattle.plane.specs.Reply.{answered, refused}
-use Rattle.plane.specs.Refusal.{
-  badCount,
-  tooMany,
-  outside,
-  someOutside,
-  equalPair,
-  leftBroken,
-  breakingEdge,
-  breakingCorner,
-  ruleBroken,
-  brokenEdge,
-  brokenCorner,
-  badStart,
-}
+use Rattle.plane.specs.Refusal.{badCount, tooMany, outside, someOutside, equalPair, leftBroken, breakingEdge, breakingCorner, ruleBroken}
+use Rattle.plane.specs.Refusal.{brokenEdge, brokenCorner, badStart}
 use Rattle.plane.specs.Corner.{shapeOf, sums}
 use Rattle.plane.specs.Output.{Written, noRoom, overwritten}
 use Rattle.plane.specs.Combine.{sumWritten}

@@ -9,18 +9,8 @@ use lib.ListN.{length}
 use lib.Signed.{_≤ℤ_, _<ℤ_}
 use Rattle.plane.specs.Point.{Point, corner}
 use Rattle.plane.specs.Shape.{IsShape}
-use Rattle.plane.specs.Measure.{
-  squared,
-  lengthSquared,
-  lengthFrom,
-  lengthTo,
-  edgeTurn,
-  height,
-  edgeSquared,
-  widthEdge,
-  widthCorner,
-  widthRounded,
-}
+use Rattle.plane.specs.Measure.{squared, lengthSquared, lengthFrom, lengthTo, edgeTurn, height, edgeSquared, widthEdge, widthCorner}
+use Rattle.plane.specs.Measure.{widthRounded}
 use Rattle.measure.specs.theory.Longest.{squared-le-length, length-longest, length-from-least, length-to-least, length-point}
 use Rattle.measure.specs.theory.Height.{height-above, height-had, height-positive, edgeSquared-positive, width-facing, width-earlier}
 use Rattle.measure.specs.theory.Narrowest.{width-narrowest, noWider-le, wider-lt}

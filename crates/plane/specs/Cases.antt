@@ -12,41 +12,15 @@ use Rattle.plane.specs.Point.{points, corner, samePoint}
 use Rattle.plane.specs.Turn.{turn}
 use Rattle.plane.specs.Shape.{next, breaks, precedes}
 use Rattle.plane.specs.Reply.{Reply, answered, refused}
-use Rattle.plane.specs.Refusal.{
-  badCount,
-  tooMany,
-  outside,
-  someOutside,
-  equalPair,
-  leftBroken,
-  breakingEdge,
-  breakingCorner,
-  ruleBroken,
-  brokenEdge,
-  brokenCorner,
-  badStart,
-}
+use Rattle.plane.specs.Refusal.{badCount, tooMany, outside, someOutside, equalPair, leftBroken, breakingEdge, breakingCorner}
+use Rattle.plane.specs.Refusal.{ruleBroken, brokenEdge, brokenCorner, badStart}
 use Rattle.plane.specs.Judge.{judged}
 use Rattle.plane.specs.Direction.{max}
 use Rattle.plane.specs.Corner.{shapeOf}
 use Rattle.plane.specs.Output.{Written, noRoom, overwritten}
 use Rattle.plane.specs.Combine.{sumWritten, mergeWritten}
-use Rattle.plane.specs.Measure.{
-  squared,
-  lengthSquared,
-  furthestPair,
-  lengthFrom,
-  lengthTo,
-  lengthReply,
-  edgeTurn,
-  height,
-  edgeSquared,
-  noWider,
-  widthEdge,
-  widthCorner,
-  widthRounded,
-  widthReply,
-}
+use Rattle.plane.specs.Measure.{squared, lengthSquared, furthestPair, lengthFrom, lengthTo, lengthReply, edgeTurn, height}
+use Rattle.plane.specs.Measure.{edgeSquared, noWider, widthEdge, widthCorner, widthRounded, widthReply}
 use Rattle.plane.specs.Separation.{inside, apart, notLeft, onRim, touching, relationReply}
 
 -- what the definition gives and what 01 states: each a reply and a whole output

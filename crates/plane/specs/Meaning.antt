@@ -17,17 +17,7 @@ use Rattle.plane.specs.Point.{Point, points, numbers, corner, opposite}
 use Rattle.plane.specs.Turn.{turn}
 use Rattle.plane.specs.Shape.{breaks, IsShape}
 use Rattle.plane.specs.Reply.{answered, refused, Row}
-use Rattle.plane.specs.Refusal.{
-  tooMany,
-  someOutside,
-  equalPair,
-  leftBroken,
-  breakingEdge,
-  breakingCorner,
-  shapeRows,
-  InRange,
-  Valid,
-}
+use Rattle.plane.specs.Refusal.{tooMany, someOutside, equalPair, leftBroken, breakingEdge, breakingCorner, shapeRows, InRange, Valid}
 use Rattle.plane.specs.Judge.{judged}
 use Rattle.plane.specs.Direction.{value, support, max}
 use Rattle.plane.specs.Corner.{Corner, shapeOf, sums, mirrored}
@@ -43,17 +33,8 @@ use Rattle.plane.specs.theory.refusals.Write.{refused-output, answered-o
 use Rattle.plane.specs.theory.refusals.Tables.{table-given, table-refused, table-none, table-answered}
 use Rattle.plane.specs.theory.forms.Standard.{shape→sorted, sorted→ordered, ordered→shape}
 use Rattle.plane.specs.theory.support.Support.{support-append, support-sums, support-mirrored}
-use Rattle.plane.specs.theory.hull.ShapeOf.{
-  shapeOf-support,
-  shapeOf-shape,
-  shapeOf-corner,
-  corner-shapeOf,
-  shapeOf-unique,
-  shapeOf-same,
-  shape-extensional,
-  shape-known,
-  shape-own,
-}
+use Rattle.plane.specs.theory.hull.ShapeOf.{shapeOf-support, shapeOf-shape, shapeOf-corner, corner-shapeOf, shapeOf-unique}
+use Rattle.plane.specs.theory.hull.ShapeOf.{shapeOf-same, shape-extensional, shape-known, shape-own}
 use Rattle.plane.specs.theory.support.Bounds.{turn-size, value-size, support-size}
 use Rattle.plane.specs.theory.sum.Cut.{cutSum, cut-formula}
 use Rattle.plane.specs.VectorSum.{vectorSum}

@@ -2,7 +2,7 @@
 --     greatest f n       the greatest of f 0, .., f (n-1), and least f n the least; 0 where n is 0
 --     squared p q        the squared distance of two corners
 --     lengthSquared ps   the greatest squared distance between two corners, had at positions lengthFrom ps ≤ lengthTo ps
---     height ps e         "for each edge, the greatest turn t over the corners", and edgeSquared ps e "the edge's squared length q"
+--     height ps e        "for each edge, the greatest turn t over the corners", and edgeSquared ps e "the edge's squared length q"
 --     widthEdge ps       the edge with the least t·t/q; widthCorner ps the smallest corner position that has its greatest turn
 --     widthRounded t q   "w, the width rounded down: w·w·q ≤ t·t < (w+1)·(w+1)·q"
 use mathlib.Core.Bool.{Bool, _&&_}

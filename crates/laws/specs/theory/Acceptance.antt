@@ -15,19 +15,8 @@ use Rattle.plane.specs.Limits.{maxCorners, maxCoordinate}
 use Rattle.plane.specs.Point.{Point, points, numbers}
 use Rattle.plane.specs.Reply.{Reply, Row, answered}
 use Rattle.plane.specs.Shape.{breaks, precedes}
-use Rattle.plane.specs.Refusal.{
-  InRange,
-  Valid,
-  shapeRows,
-  badCount,
-  tooMany,
-  outside,
-  someOutside,
-  equalPair,
-  leftBroken,
-  ruleBroken,
-  badStart,
-}
+use Rattle.plane.specs.Refusal.{InRange, Valid, shapeRows, badCount, tooMany, outside, someOutside, equalPair, leftBroken, ruleBroken}
+use Rattle.plane.specs.Refusal.{badStart}
 use Rattle.plane.specs.Judge.{judged}
 use Rattle.plane.specs.Corner.{shapeOf, sums}
 use Rattle.plane.specs.Output.{Written, answerRows, noRoom, overwritten}

@@ -33,14 +33,8 @@ use Rattle.plane.specs.theory.forms.Vector.{outward, value-origin, value-turned
 use Rattle.plane.specs.theory.support.Support.{value-le-support, support-attained, support-le}
 use Rattle.plane.specs.theory.hull.ShapeOf.{shapeOf-support, shapeOf-shape}
 use Rattle.plane.specs.theory.lists.Sought.{tests-agree}
-use Rattle.separation.specs.theory.Apart.{
-  value-difference,
-  differences-some,
-  difference-member,
-  member-difference,
-  DifferenceOf,
-  apart-sym,
-}
+use Rattle.separation.specs.theory.Apart.{value-difference, differences-some, difference-member, member-difference, DifferenceOf}
+use Rattle.separation.specs.theory.Apart.{apart-sym}
 use Rattle.separation.specs.theory.InsideShape.{turn-origin}
 use Rattle.separation.specs.theory.Sector.{value-outward, edge-outermost, edge-nonzero, left→passed}
 

@@ -12,21 +12,8 @@ use mathlib.Core.List.{[], _∷_}
 use native.Mathlib.Omega.{arith}
 use lib.Signed.{_≤ℤ_, _<ℤ_, leZ, ltZ}
 use Rattle.integer.specs.Linear.{linear, lia, _&_}
-use Rattle.integer.specs.Order.{
-  Compared,
-  is-below,
-  is-equal,
-  is-above,
-  compared,
-  le-of-eq,
-  le-antisym,
-  ltZ-true,
-  ltZ-false,
-  leZ-true,
-  lt-ltZ,
-  le-ltZ,
-  le-leZ,
-}
+use Rattle.integer.specs.Order.{Compared, is-below, is-equal, is-above, compared, le-of-eq, le-antisym, ltZ-true, ltZ-false, leZ-true}
+use Rattle.integer.specs.Order.{lt-ltZ, le-ltZ, le-leZ}
 use Rattle.plane.specs.Point.{Point, point, opposite, samePoint}
 use Rattle.plane.specs.Shape.{precedes}
 use Rattle.plane.specs.Forms.{Precedes}

@@ -11,23 +11,8 @@
 -- That its corners are the corners of the set is in `ShapeOf.antt`.
 use mathlib.Core.Path.{_≡_, refl, sym, _∙_, ap, subst}
 use mathlib.Core.Bool.{Bool, true, false}
-use mathlib.Core.List.{
-  List,
-  [],
-  _∷_,
-  _++_,
-  tail,
-  reverse,
-  reverseAux,
-  reverse-append,
-  List·Memᴰ·head,
-  List·Memᴰ·tail,
-  List·Memᴰ·not-nil,
-  List·Memᴰ·append-cases,
-  Memᴰ·append-left,
-  Memᴰ·append-right,
-  Memᴰ·cast,
-}
+use mathlib.Core.List.{List, [], _∷_, _++_, tail, reverse, reverseAux, reverse-append, List·Memᴰ·head, List·Memᴰ·tail, List·Memᴰ·not-nil}
+use mathlib.Core.List.{List·Memᴰ·append-cases, Memᴰ·append-left, Memᴰ·append-right, Memᴰ·cast}
 use mathlib.Core.Logic.{_⊎_, inl, inr, ⊎-elim}
 use Prim.Native.Nat.{_<_}
 use native.Mathlib.Omega.{arith}
@@ -39,28 +24,11 @@ use Rattle.plane.specs.Point.{Point, _⊖_}
 use Rattle.plane.specs.Direction.{value}
 use Rattle.plane.specs.Corner.{ascending, scan, outline, shapeOf}
 use Rattle.plane.specs.Forms.{Before, NonZero, edgesTo, From, InOrder, Sorted}
-use Rattle.plane.specs.theory.lists.Members.{
-  _∈_,
-  lastOf,
-  last-member,
-  member-reverse,
-  reverse-member,
-  all-member,
-  member-all,
-  all-subset,
-}
+use Rattle.plane.specs.theory.lists.Members.{_∈_, lastOf, last-member, member-reverse, reverse-member, all-member, member-all}
+use Rattle.plane.specs.theory.lists.Members.{all-subset}
 use Rattle.plane.specs.theory.hull.Halves.{Onward, Sideways, onward-nonzero, onward-before, onward-around, onward-irrefl}
-use Rattle.plane.specs.theory.hull.Ascending.{
-  Runs,
-  Ends,
-  ends,
-  runs-last,
-  reverse-runs,
-  reverse-ends,
-  ascending-runs,
-  ascending-member,
-  member-ascending,
-}
+use Rattle.plane.specs.theory.hull.Ascending.{Runs, Ends, ends, runs-last, reverse-runs, reverse-ends, ascending-runs}
+use Rattle.plane.specs.theory.hull.Ascending.{ascending-member, member-ascending}
 use Rattle.plane.specs.theory.hull.Scan.{Chain, Bounds, Kept, kept-reverse, scanned}
 
 -- ---- sorted edges of a way that is read backwards

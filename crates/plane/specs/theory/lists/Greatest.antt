@@ -17,16 +17,8 @@ use lib.Signed.{_≤ℤ_, ≤ℤ-refl}
 use Rattle.integer.specs.Order.{le-trans, le-antisym}
 use Rattle.plane.specs.Direction.{max, min}
 use Rattle.plane.specs.Measure.{greatest, least}
-use Rattle.plane.specs.theory.lists.Max.{
-  left-le-max,
-  right-le-max,
-  max-either,
-  max-assoc,
-  min-le-left,
-  min-le-right,
-  min-either,
-  min-assoc,
-}
+use Rattle.plane.specs.theory.lists.Max.{left-le-max, right-le-max, max-either, max-assoc, min-le-left, min-le-right, min-either}
+use Rattle.plane.specs.theory.lists.Max.{min-assoc}
 
 pub greatest-above : (f : ℕ → ℤ) (n i : ℕ) → i < n → f i ≤ℤ greatest f n
 greatest-above f zero i h = absurd (not-suc-le-zero h)

@@ -27,16 +27,8 @@ use Rattle.plane.specs.theory.lists.Members.{_∈_, point-path, mirrored
 use Rattle.plane.specs.theory.forms.Precedes.{precedes-irrefl, precedes-trans, precedes-opposite, not-precedes}
 use Rattle.plane.specs.theory.lists.Flat.{numbers-length}
 use Rattle.plane.specs.Cycle.{turned}
-use Rattle.plane.specs.theory.lists.Turned.{
-  Turned,
-  ahead,
-  round,
-  turned-cases,
-  turned-below,
-  turned-injective,
-  turned-start,
-  turned-next,
-}
+use Rattle.plane.specs.theory.lists.Turned.{Turned, ahead, round, turned-cases, turned-below, turned-injective, turned-start}
+use Rattle.plane.specs.theory.lists.Turned.{turned-next}
 use Rattle.plane.specs.theory.lists.Next.{next-below}
 use Rattle.plane.specs.theory.support.Support.{support-same}
 use Rattle.plane.specs.theory.hull.ShapeOf.{shape-known}

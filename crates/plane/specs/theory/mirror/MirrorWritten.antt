@@ -22,15 +22,8 @@ use Rattle.plane.specs.theory.lists.Flat.{numbers-inRange, Near, points-
 use Rattle.plane.specs.theory.refusals.Accept.{inRange→near, valid→accepted}
 use Rattle.plane.specs.theory.refusals.Write.{wrote-passed, wrote-room, wrote-all}
 use Rattle.plane.specs.theory.lists.Turned.{turned-below}
-use Rattle.plane.specs.theory.mirror.Mirror.{
-  Top,
-  topmost,
-  mirroredFrom,
-  mirroredFrom-length,
-  mirroredFrom-at,
-  mirror-known,
-  mirror-count,
-}
+use Rattle.plane.specs.theory.mirror.Mirror.{Top, topmost, mirroredFrom, mirroredFrom-length, mirroredFrom-at, mirror-known}
+use Rattle.plane.specs.theory.mirror.Mirror.{mirror-count}
 
 -- ---- rows 6 and 7
 

@@ -18,32 +18,14 @@ use Rattle.integer.specs.Order.{ltZ-true, lt-ltZ}
 use Rattle.plane.specs.Limits.{maxCorners, maxCoordinate}
 use Rattle.plane.specs.Point.{Point, points, corner, samePoint}
 use Rattle.plane.specs.Shape.{next, breaks, precedes, IsShape}
-use Rattle.plane.specs.Refusal.{
-  badCount,
-  tooMany,
-  outside,
-  someOutside,
-  equalPair,
-  leftBroken,
-  ruleBroken,
-  badStart,
-  shapeRows,
-  InRange,
-  Valid,
-}
+use Rattle.plane.specs.Refusal.{badCount, tooMany, outside, someOutside, equalPair, leftBroken, ruleBroken, badStart, shapeRows}
+use Rattle.plane.specs.Refusal.{InRange, Valid}
 use Rattle.plane.specs.theory.lists.Flat.{points-length}
 use Rattle.plane.specs.theory.lists.Members.{samePoint-self, samePoint-other}
 use Rattle.plane.specs.theory.refusals.Rows.{NoneApply}
 use Rattle.plane.specs.theory.lists.Sought.{some-none, none-some}
-use Rattle.plane.specs.theory.refusals.Tests.{
-  breaks-own,
-  breaks-end,
-  breaks-other,
-  equalPair-other,
-  equalPair-two,
-  outside-none,
-  none-outside,
-}
+use Rattle.plane.specs.theory.refusals.Tests.{breaks-own, breaks-end, breaks-other, equalPair-other, equalPair-two, outside-none}
+use Rattle.plane.specs.theory.refusals.Tests.{none-outside}
 
 -- ---- row 3
 

@@ -11,29 +11,9 @@ use Rattle.plane.specs.Furthest.{furthestReply}
 use Rattle.plane.specs.Combine.{mirrorWritten, sumWritten, mergeWritten}
 use Rattle.plane.specs.Measure.{lengthReply, widthReply}
 use Rattle.plane.specs.Separation.{relationReply, insideReply, clearanceReply}
-use Rattle.plane.specs.Question.{
-  Question,
-  Judge,
-  Furthest,
-  Mirror,
-  Sum,
-  Merge,
-  Length,
-  Width,
-  Relation,
-  Inside,
-  Clearance,
-  reply,
-  table,
-}
-use Rattle.plane.specs.theory.refusals.Rows.{
-  NoneApply,
-  First,
-  firstRow-given,
-  firstRow-none,
-  firstRow-answered,
-  firstRow-refused,
-}
+use Rattle.plane.specs.Question.{Question, Judge, Furthest, Mirror, Sum, Merge, Length, Width, Relation, Inside, Clearance, reply}
+use Rattle.plane.specs.Question.{table}
+use Rattle.plane.specs.theory.refusals.Rows.{NoneApply, First, firstRow-given, firstRow-none, firstRow-answered, firstRow-refused}
 
 pub follows : (q : Question) → (values : List ℤ) × (reply q ≡ firstRow (table q) (answered values))
 unfolding judged furthestReply mirrorWritten sumWritten mergeWritten lengthReply widthReply relationReply insideReply clearanceReply

@@ -55,7 +55,8 @@ module _ (ps : List Point) where
   unfolding leftBroken breakingEdge breakingCorner
   break-found h =
       let edge = some-found (λ e. some (breaks ps e) (length ps)) (length ps) h in
-      let corner = some-found (breaks ps (breakingEdge ps)) (length ps) (first-true (λ e. some (breaks ps e) (length ps)) (length ps) edge) in
+      let has-one = first-true (λ e. some (breaks ps e) (length ps)) (length ps) edge in
+      let corner = some-found (breaks ps (breakingEdge ps)) (length ps) has-one in
       (edge, corner, first-true (breaks ps (breakingEdge ps)) (length ps) corner)
 
   pub break-first-edge : (e c : ℕ) → e < breakingEdge ps → c < length ps → breaks ps e c ≡ false

@@ -15,17 +15,8 @@ use Rattle.plane.specs.Point.{Point, numbers}
 use Rattle.plane.specs.Reply.{Reply, answered, refused, Row}
 use Rattle.plane.specs.Refusal.{tooMany, someOutside}
 use Rattle.plane.specs.Output.{noRoom, answerRows, overwritten, unlessRefused, written}
-use Rattle.plane.specs.theory.refusals.Rows.{
-  NoneApply,
-  First,
-  here,
-  later,
-  row-given,
-  row-passed,
-  firstRow-none,
-  firstRow-answered,
-  firstRow-refused,
-}
+use Rattle.plane.specs.theory.refusals.Rows.{NoneApply, First, here, later, row-given, row-passed, firstRow-none, firstRow-answered}
+use Rattle.plane.specs.theory.refusals.Rows.{firstRow-refused}
 
 pub record Wrote (rows : List Row) (shape : List Point) (old : List ℤ) (reply : Reply) (out : List ℤ) : Type 0 where
   pub reply-is : reply ≡ written rows shape old .reply
