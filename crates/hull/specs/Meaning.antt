@@ -26,4 +26,5 @@ merge-in-range a b v w = inRange→near (numbers shape) (numbers-inRange shape (
     shape = shapeOf (points a ++ points b)
 
     near : {p : Point} → p ∈ set → Near p
-    near {p} m = ⊎-elim (λ (n : p ∈ points a). corner-near a v n) (λ (n : p ∈ points b). corner-near b w n) (List·Memᴰ·append-cases (points a) m)
+    near {p} m = ⊎-elim (λ (n : p ∈ points a). corner-near a v n) (λ (n : p ∈ points b). corner-near b w n)
+        (List·Memᴰ·append-cases (points a) m)

@@ -1,6 +1,7 @@
 -- Bounds on the size of an integer.
 --     Within n x      x is from -n to n
--- `beyond-size`: a bound as two tests. `within-le`, `within-ge` read it as two orders, `within-of` makes it of them; `within-widen` takes a larger bound.
+-- `beyond-size`: a bound as two tests. `within-le`, `within-ge` read it as two orders, `within-of` makes it of them; `within-widen` takes
+-- a larger bound.
 use mathlib.Core.Path.{_≡_, refl, sym, ap, subst}
 use mathlib.Core.Bool.{Bool, true, false, _||_}
 use mathlib.Core.Logic.{_⊎_, inl, inr}
@@ -48,7 +49,8 @@ within-add {m} {n} {x} {y} v w = record { size = go (one-part (x +ℤ y)) (one-p
     same : above (x +ℤ y) + (below x + below y) ≡ below (x +ℤ y) + (above x + above y)
     same = differs-add (differs-own x) (differs-own y) .same
 
-    go : (above (x +ℤ y) ≡ 0) ⊎ (below (x +ℤ y) ≡ 0) → (above x ≡ 0) ⊎ (below x ≡ 0) → (above y ≡ 0) ⊎ (below y ≡ 0) → natAbs (x +ℤ y) ≤ m + n
+    go : (above (x +ℤ y) ≡ 0) ⊎ (below (x +ℤ y) ≡ 0) → (above x ≡ 0) ⊎ (below x ≡ 0) → (above y ≡ 0) ⊎ (below y ≡ 0)
+        → natAbs (x +ℤ y) ≤ m + n
     go (inl h) p q = omega (arith, size-parts x, size-parts y, size-parts (x +ℤ y), same, v .size, w .size)
     go (inr h) p q = omega (arith, size-parts x, size-parts y, size-parts (x +ℤ y), same, v .size, w .size)
 
@@ -71,8 +73,18 @@ pub within-of : {n : ℕ} {x : ℤ} → negℤ (pos n) ≤ℤ x → x ≤ℤ pos
 within-of {n} {x} h k = record { size = go (one-part x) }
   where
     go : (above x ≡ 0) ⊎ (below x ≡ 0) → natAbs x ≤ n
-    go (inl e) = omega (arith, size-parts x, le-parts (differs-neg (differs-own (pos n))) (differs-own x) h, le-parts (differs-own x) (differs-own (pos n)) k)
-    go (inr e) = omega (arith, size-parts x, le-parts (differs-neg (differs-own (pos n))) (differs-own x) h, le-parts (differs-own x) (differs-own (pos n)) k)
+    go (inl e) = omega (
+      arith,
+      size-parts x,
+      le-parts (differs-neg (differs-own (pos n))) (differs-own x) h,
+      le-parts (differs-own x) (differs-own (pos n)) k,
+    )
+    go (inr e) = omega (
+      arith,
+      size-parts x,
+      le-parts (differs-neg (differs-own (pos n))) (differs-own x) h,
+      le-parts (differs-own x) (differs-own (pos n)) k,
+    )
 
 -- ---- a bound as two tests, as code makes them
 

@@ -91,7 +91,14 @@ machine-mul p q = record {
 }
 
 abbrev pub machine-neg : {x : ℤ} → Machine x → Machine (negℤ x)
-machine-neg p = record { value = negℤ (p .value); bound = p .bound; within = within-neg (p .within); good = p .good; is = λ t. ap negℤ (p .is t) }
+machine-neg p = record {
+  value = negℤ (p .value);
+  bound = p .bound;
+  within = within-neg (p .within);
+  good = p .good;
+  is = λ t. ap negℤ
+      (p .is t);
+}
 
 pub ruleset machine = (machine-read, machine-add, machine-mul, machine-neg, machine-pos, machine-negsuc)
 

@@ -64,7 +64,8 @@ differs-scale n {x} {a} {b} p = record { same = go x (p .same) }
     go (negsuc m) h = omega (arith, ap (λ k. n * k) h, negated (n * suc m) .same)
 
 pub differs-scale-neg : (n : ℕ) {x : ℤ} {a b : ℕ} → Differs x a b → Differs (negsuc n *ℤ x) (suc n * b) (suc n * a)
-differs-scale-neg n {x} {a} {b} p = subst (λ z. Differs z (suc n * b) (suc n * a)) (sym (negℤ-*ℤ (pos (suc n)) x)) (differs-neg (differs-scale (suc n) p))
+differs-scale-neg n {x} {a} {b} p = subst (λ z. Differs z (suc n * b) (suc n * a)) (sym (negℤ-*ℤ (pos (suc n)) x))
+    (differs-neg (differs-scale (suc n) p))
 
 -- ---- the order, read off the parts
 

@@ -81,7 +81,8 @@ module _ (a b : List ℤ) (start : At a b begun) where
   end-here n h = go (stepped (points a) (points b) (suc n) begun .over) refl (following (length corners) n h)
     where
       go : (o : Bool) → stepped (points a) (points b) (suc n) begun .over ≡ o → Following (length corners) n
-          → here (points a) (points b) (cond o begun (stepped (points a) (points b) (suc n) begun)) ≡ corner corners (next (length corners) n)
+          → here (points a) (points b) (cond o begun (stepped (points a) (points b) (suc n) begun))
+          ≡ corner corners (next (length corners) n)
       go true e (onward k q) = absurd (omega (arith, over-end (suc n) (omega arith) e))
       go true e (closing k q) = corner-here 0 (omega arith) ∙ ap (corner corners) (sym q)
       go false e (onward k q) = corner-here (suc n) k ∙ ap (corner corners) (sym q)

@@ -15,14 +15,16 @@ use Rattle.hull.proofs.merge.Tie as tie
 
 -- not more corners than both lists have
 few : (c : tie.After-both-chains) → let start = c .before .before .before in
-    c .both-chains .result .right + c .both-chains .result .left ≤ length (points (start .args .a .now)) + length (points (start .args .b .now))
+    c .both-chains .result .right + c .both-chains .result .left ≤ length (points (start .args .a .now)) + length
+    (points (start .args .b .now))
 few c =
     let start = c .before .before .before in
     let counts = length-append (points (start .args .a .now)) (points (start .args .b .now)) in
     omega (
       arith,
       counts,
-      sides-few (points (start .args .a .now) ++ points (start .args .b .now)) (omega (arith, counts, start .pre .0 .shape .some)) (c .both-chains .ensures),
+      sides-few (points (start .args .a .now) ++ points (start .args .b .now)) (omega (arith, counts, start .pre .0 .shape .some))
+          (c .both-chains .ensures),
     )
 
 slice-aggregate-both-chains : tie.Need-slice-aggregate-both-chains

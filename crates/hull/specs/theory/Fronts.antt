@@ -42,7 +42,8 @@ module _ (a : List ℤ) (m : ℕ) (b : List ℤ) (n : ℕ) (h : m ≤ length (po
   fronts-numbers = numbers-append (take m (points a)) (take n (points b)) ∙ ap₂ (λ x y. x ++ y) (numbers-front a m h) (numbers-front b n k)
 
   fronts-length : length fronts ≡ m + n
-  fronts-length = length-append (take m (points a)) (take n (points b)) ∙ ap₂ (λ x y. x + y) (length-take-le m (points a) h) (length-take-le n (points b) k)
+  fronts-length = length-append (take m (points a)) (take n (points b))
+      ∙ ap₂ (λ x y. x + y) (length-take-le m (points a) h) (length-take-le n (points b) k)
 
   fronts-pasted : (out : List ℤ) → 2 * m + 2 * n ≤ length out
       → paste (paste out 0 a (2 * m)) (2 * m) b (2 * n) ≡ overwritten (numbers fronts) out

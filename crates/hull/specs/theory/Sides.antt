@@ -24,7 +24,8 @@ UpToLast n k m = (n ≡ 1 → m ≡ 1) × ((n ≡ 1 → ⊥) → m + 1 ≡ k)
 
 module _ (R L : List Point) where
   -- a chain without its last corner
-  side-take : (P : List Point) (k m : ℕ) (A : List Point) → m ≤ length P → m + 1 ≡ k → stack P k ≡ scan [] A → take m P ≡ reverse (tail (scan [] A))
+  side-take : (P : List Point) (k m : ℕ) (A : List Point) → m ≤ length P → m + 1 ≡ k → stack P k ≡ scan [] A → take m P
+      ≡ reverse (tail (scan [] A))
   side-take P k m A h e s =
       take-stack P m h ∙ ap (λ l. reverse (tail l)) (go ∙ s)
     where

@@ -74,4 +74,7 @@ returns-2 c =
     (c .before .deliver .ensures .0) (c .before .deliver .ensures .1)
 
 pub merge-spec : {M : Type 1} → statement M
-merge-spec = tie.close (tie.spec admit-pair-requires enum-known-refusal returns enum-told slice-aggregate-merge merge-requires mul-shape array-share-prefix-shape slice-aggregate-deliver deliver-requires same-length returns-2)
+merge-spec =
+    tie.close
+    (tie.spec admit-pair-requires enum-known-refusal returns enum-told slice-aggregate-merge merge-requires mul-shape
+    array-share-prefix-shape slice-aggregate-deliver deliver-requires same-length returns-2)

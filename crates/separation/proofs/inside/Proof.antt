@@ -34,7 +34,8 @@ returns : tie.Need-returns
 returns c =
     let at-merge = c .before .before .before in
     let start = at-merge .before .before in
-    merged-same (start .args .a .now) (start .args .b .now) (start .pre .1) (c .is-same .result) (at-merge .merge .ensures .front) (c .is-same .ensures)
+    merged-same (start .args .a .now) (start .args .b .now) (start .pre .1) (c .is-same .result) (at-merge .merge .ensures .front)
+    (c .is-same .ensures)
 
 pub inside-spec : {M : Type 1} → statement M
 inside-spec =

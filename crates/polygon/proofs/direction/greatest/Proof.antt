@@ -39,8 +39,10 @@ value-at-requires : tie.Need-value-at-requires Inv-loop μ-loop
 value-at-requires c κs = let start = c .before in (start .pre .0, start .pre .1, u-near start, v-near start)
 
 loop-holds : tie.Need-loop-holds Inv-loop μ-loop
-loop-holds c =
-    (greatest-start _ _ (result-is w64 (c .value-at .ok) (c .value-at .ensures)), omega (arith, c .before .count .ensures, c .before .before .pre .0))
+loop-holds c = (
+  greatest-start _ _ (result-is w64 (c .value-at .ok) (c .value-at .ensures)),
+  omega (arith, c .before .count .ensures, c .before .before .pre .0),
+)
 
 value-at-requires-2 : tie.Need-value-at-requires-2 Inv-loop μ-loop
 value-at-requires-2 c κs =

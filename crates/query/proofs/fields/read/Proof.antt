@@ -1,4 +1,5 @@
--- `read` is safe and ends. The invariant: `i` is within the line, and both buffers keep their length. The measure: what is left of the line.
+-- `read` is safe and ends. The invariant: `i` is within the line, and both buffers keep their length. The measure: what is left of the
+-- line.
 use mathlib.Core.Path.{_≡_}
 use Prim.Native.Nat.{_≤_, _-_}
 use lib.ListN.{length}
@@ -7,7 +8,8 @@ use Rattle.query.proofs.fields.read.Statement.{statement}
 use Rattle.query.proofs.fields.read.Tie as tie
 
 abbrev Inv-loop : tie.InvT-loop
-Inv-loop line values₀ marks₀ progress₀ i₀ values marks progress i = (i ≤ length line) × ((length values ≡ length values₀) × (length marks ≡ length marks₀))
+Inv-loop line values₀ marks₀ progress₀ i₀ values marks progress i = (i ≤ length line)
+    × ((length values ≡ length values₀) × (length marks ≡ length marks₀))
 
 abbrev μ-loop : tie.MeasureT-loop
 μ-loop line values₀ marks₀ progress₀ i₀ values marks progress i = length line - i

@@ -25,7 +25,8 @@ row-3 : (c : tie.Else3) → someOutside (c .before .before .before .before .befo
 row-3 c = sym (c .before .some-outside .ensures) ∙ c .if3 .left
 
 -- past the search for a broken edge there is none
-row-4 : (c : tie.After-enum-told) → ruleBroken (points (c .before .before .before .before .before .before .before .before .before .args .list .now)) ≡ false
+row-4 : (c : tie.After-enum-told) → ruleBroken
+    (points (c .before .before .before .before .before .before .before .before .before .args .list .now)) ≡ false
 row-4 c = broken-none _ (sym (c .before .before .first-broken .ensures) ∙ c .enum-told .given .1)
 
 -- ---- the needs
@@ -78,7 +79,16 @@ returns-5 c =
     let at-4 = c .before .before in
     let at-3 = at-4 .before .before .before in
     let at-2 = at-3 .before .before in
-    record { whatever = λ x. rw (row-1 (at-2 .before .before), row-2 at-2, row-3 at-3, row-4 at-4, sym (c .before .bad-start .ensures) ∙ c .if4 .taken) }
+    record {
+      whatever = λ x. rw (
+        row-1 (at-2 .before .before),
+        row-2 at-2,
+        row-3 at-3,
+        row-4 at-4,
+        sym (c .before .bad-start .ensures)
+            ∙ c .if4 .taken,
+      );
+    }
 
 returns-6 : tie.Need-returns-6
 returns-6 c =

@@ -34,14 +34,16 @@ some-outside-requires c κs = search needs
 returns-2 : tie.Need-returns-2
 returns-2 c =
     let start = c .before .before .before .before in
-    let w = wrote-far (row-6 (c .before .before)) (numbers-outside _ (start .pre) (sym (c .before .some-outside .ensures) ∙ c .if2 .taken)) in
+    let w = wrote-far (row-6 (c .before .before))
+    (numbers-outside _ (start .pre) (sym (c .before .some-outside .ensures) ∙ c .if2 .taken)) in
     (w .reply-is, w .output-is)
 
 returns-3 : tie.Need-returns-3
 returns-3 c =
     let at-7 = c .before in
     let start = at-7 .before .before .before .before in
-    let w = little-room (start .args .shape .now) (start .pre) (start .args .out .now) (row-6 (at-7 .before .before)) (row-7 at-7) (c .if3 .taken) in (w .reply-is, w .output-is)
+    let w = little-room (start .args .shape .now) (start .pre) (start .args .out .now) (row-6 (at-7 .before .before)) (row-7 at-7)
+    (c .if3 .taken) in (w .reply-is, w .output-is)
 
 copy-requires : tie.Need-copy-requires
 copy-requires c κs = search needs
