@@ -67,7 +67,8 @@ fn scan(buf: &mut [i32], n: usize) -> usize
     let mut i = 0;
     while i < n {
         let under = settle(buf, k, i);
-        buffer::move_corner(buf, i, under);
+        let p = corners::corner_at(buf, i);
+        corners::put(buf, under, p);
         k = under + 1;
         i += 1;
     }
