@@ -3,7 +3,7 @@
 --     sum-part       so that many steps from the beginning come to all of it
 --     sum-room       and there is room for it in the buffer
 --     sum-front      it stands at the front
-use mathlib.Core.Path.{_≡_, refl, sym, _∙_, ap, subst}
+use mathlib.Core.Path.{_≡_, sym, _∙_, ap, subst}
 use mathlib.Core.List.{List, [], _∷_}
 use Prim.Native.Nat.{ℕ, _+_, _≤_}
 use native.Mathlib.Omega.{arith}

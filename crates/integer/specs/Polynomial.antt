@@ -11,7 +11,7 @@ use Prim.Native.Nat.{ℕ, zero, suc, compare, Ordering, Ordering·lt, Ordering·
 use lib.Dec.{T, isEq, eqb→eq, leb}
 use lib.ListN.{getD}
 use lib.IntN.{ℤ, pos, negsuc, negℤ, _+ℤ_, _*ℤ_, +ℤ-assoc, +ℤ-comm, +ℤ-idl, +ℤ-idr, zero-*ℤ, *ℤ-zero, *ℤ-comm}
-use Rattle.integer.specs.Laws.{+ℤ-swap, *ℤ-distrib-r, *ℤ-distrib-l, *ℤ-assoc, one-*ℤ, minus-one-*ℤ}
+use Rattle.integer.specs.Laws.{*ℤ-distrib-r, *ℤ-distrib-l, *ℤ-assoc, one-*ℤ, minus-one-*ℤ}
 
 pub data Expr : Type 0 where
   var : ℕ → Expr

@@ -18,8 +18,6 @@ use Rattle.measure.specs.theory.Rounded.{rounded-unique}
 use Rattle.measure.specs.theory.WidthScan.{width-done}
 use Rattle.measure.specs.Comparison.{Width as Comparison·Width, none, best}
 use Rattle.words.specs.Root.{RoundedRoot}
-use Rattle.measure.specs.declared.Length.{Length}
-use Rattle.measure.specs.declared.Width.{Width}
 use Rattle.measure.specs.declared.longest.Pair.{Pair}
 use Rattle.measure.specs.declared.narrowest.Across.{Across}
 use Rattle.measure.specs.Answer.{IsLength, IsWidth}

@@ -1,7 +1,7 @@
 -- Document 01's number and values for each case of the enums ("Where an answer is an enum ..").
 --     ofRefusal r     the number of the table's row, and what it carries: 1 to 5 the shape, 4 also the edge and the corner
 --     ofAnswer r, ofFurthest r, ..     the reply of each question: its values, or a refusal
-use mathlib.Core.Bool.{Bool, cond}
+use mathlib.Core.Bool.{cond}
 use mathlib.Core.List.{[], _∷_}
 use lib.IntN.{pos}
 use Rattle.plane.specs.Reply.{Reply, answered, refused}

@@ -1,21 +1,15 @@
 -- Corners at the front of two buffers, copied one after the other.
 --     fronts-joined         copied one after the other they stand at the front of the output
-use mathlib.Core.Path.{_≡_, refl, sym, _∙_, ap, ap₂, subst}
-use mathlib.Core.Bool.{Bool, true, false}
+use mathlib.Core.Path.{_≡_, refl, sym, _∙_, ap, ap₂}
 use mathlib.Core.List.{List, [], _∷_, _++_}
-use Prim.Native.Nat.{ℕ, zero, suc, _+_, _-_, _*_, _≤_, _<_}
+use Prim.Native.Nat.{ℕ, zero, suc, _+_, _*_, _≤_}
 use native.Mathlib.Nat.{le-of-suc-le-suc}
 use native.Mathlib.Omega.{arith}
-use borrow.Author.Tests.{ltb-true, ltb-false}
-use lib.Dec.{ltb}
-use lib.IntN.{ℤ, pos}
-use lib.ListN.{length, getD, take, drop, length-append, List·getD-append}
-use lib.Seq.{paste, length-take-le, take-at, drop-append-add, drop-drop, getD-take, getD-append-add}
-use Rattle.integer.specs.Bound.{Within}
-use Rattle.plane.specs.Limits.{maxCorners, maxCoordinate}
+use lib.IntN.{ℤ}
+use lib.ListN.{length, take, drop, length-append}
+use lib.Seq.{paste, length-take-le, take-at, drop-append-add, drop-drop}
 use Rattle.plane.specs.Point.{Point, points, numbers}
-use Rattle.plane.specs.Refusal.{InRange, tooMany, someOutside}
-use Rattle.plane.specs.Output.{noRoom, overwritten}
+use Rattle.plane.specs.Output.{overwritten}
 use Rattle.plane.specs.theory.lists.Flat.{points-length, numbers-length}
 use Rattle.polygon.specs.Front.{Front}
 use Rattle.polygon.specs.theory.Fronts.{overwritten-front}

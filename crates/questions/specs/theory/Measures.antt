@@ -8,7 +8,7 @@ use borrow.Author.Tests.{lt-ltb, le-ltb}
 use lib.Dec.{ltb}
 use lib.IntN.{ℤ, pos, natAbs}
 use lib.ListN.{length}
-use Rattle.plane.specs.Point.{Point, points}
+use Rattle.plane.specs.Point.{points}
 use Rattle.plane.specs.Reply.{Reply, answered, refused, Row, row, firstRow}
 use Rattle.plane.specs.Refusal.{shapeRows, Valid}
 use Rattle.plane.specs.Measure.{lengthReply, height, edgeSquared, widthEdge, widthCorner, widthRounded, widthReply}

@@ -2,7 +2,6 @@
 use mathlib.Core.Path.{sym}
 use native.Mathlib.Omega.{arith}
 use borrow.Author.Needs.{needs}
-use lib.ListN.{length}
 use Rattle.plane.specs.Limits.{maxCorners}
 use Rattle.polygon.specs.theory.Fronts.{front-length}
 use Rattle.separation.specs.theory.Merged.{merged-same}

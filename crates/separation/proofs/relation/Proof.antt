@@ -1,13 +1,11 @@
 -- `relation` meets its contract: the mirror image stands at the front of the buffer, and the walk goes round its sum with the first shape.
-use mathlib.Core.Path.{_≡_, sym, _∙_, ap, subst}
+use mathlib.Core.Path.{sym, _∙_, ap, subst}
 use mathlib.Core.List.{List}
-use Prim.Native.Nat.{_*_, _≤_}
 use native.Mathlib.Omega.{arith}
 use borrow.Author.Needs.{needs}
 use lib.IntN.{ℤ}
-use lib.ListN.{length, take}
 use Rattle.plane.specs.Limits.{maxCorners}
-use Rattle.plane.specs.Point.{points, numbers}
+use Rattle.plane.specs.Point.{points}
 use Rattle.plane.specs.VectorSum.{vectorSum}
 use Rattle.plane.specs.theory.lists.Flat.{points-length}
 use Rattle.polygon.specs.Front.{Front}

@@ -6,12 +6,12 @@
 --     numbers-inRange         corners in range make numbers in range
 use mathlib.Core.Path.{_≡_, refl, sym, _∙_, ap, subst}
 use mathlib.Core.List.{List, [], _∷_}
-use Prim.Native.Nat.{ℕ, zero, suc, _+_, _*_, _/_, _%_, _^_, _<_, suc-le-suc}
+use Prim.Native.Nat.{ℕ, zero, suc, _+_, _*_, _/_, _%_, _<_, suc-le-suc}
 use native.Mathlib.Omega.{arith}
 use native.Mathlib.Nat.{le-of-suc-le-suc}
 use lib.ListN.{length, getD}
-use lib.IntN.{ℤ, pos, _-ℤ_}
-use Rattle.integer.specs.Bound.{Within, within-widen, within-add, within-neg}
+use lib.IntN.{ℤ, pos}
+use Rattle.integer.specs.Bound.{Within}
 use Rattle.plane.specs.Limits.{maxCoordinate}
 use Rattle.plane.specs.Point.{Point, points, numbers, corner}
 use Rattle.plane.specs.Refusal.{InRange}

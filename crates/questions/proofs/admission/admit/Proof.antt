@@ -1,13 +1,12 @@
 -- `admit` meets its contract: each test is a row of the table, and the rows before it did not apply.
 use mathlib.Core.Path.{_≡_, sym, _∙_, ap₂}
 use mathlib.Core.Bool.{false}
-use mathlib.Core.List.{List, [], _∷_}
+use mathlib.Core.List.{[], _∷_}
 use Prim.Native.Nat.{ℕ}
 use borrow.Author.Needs.{needs}
-use lib.IntN.{ℤ}
 use Rattle.plane.specs.Point.{points}
 use Rattle.plane.specs.Reply.{refused}
-use Rattle.plane.specs.Refusal.{badCount, tooMany, someOutside, ruleBroken, badStart}
+use Rattle.plane.specs.Refusal.{badCount, tooMany, someOutside, ruleBroken}
 use Rattle.plane.specs.theory.refusals.Accept.{near→inRange, accepted→valid}
 use Rattle.polygon.proofs.LeftRule.{broken-found, broken-none}
 use Rattle.questions.proofs.admission.admit.Statement.{statement}

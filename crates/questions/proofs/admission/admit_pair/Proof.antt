@@ -1,8 +1,8 @@
 -- `admit_pair` meets its contract: the first list's refusal is given before the second's.
 use mathlib.Core.Path.{subst}
 use borrow.Author.Needs.{needs}
-use Rattle.plane.specs.Refusal.{shapeRows, Valid}
-use Rattle.questions.specs.Admission.{Admitted, AdmittedPair, Refuses}
+use Rattle.plane.specs.Refusal.{shapeRows}
+use Rattle.questions.specs.Admission.{Admitted}
 use Rattle.questions.specs.theory.Rows.{refuses-more, admitted-pair}
 use Rattle.questions.proofs.admission.admit_pair.Statement.{statement}
 use Rattle.questions.proofs.admission.admit_pair.Tie as tie

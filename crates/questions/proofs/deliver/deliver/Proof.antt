@@ -1,14 +1,9 @@
 -- `deliver` meets its contract: refusals 6, 7 and 8 in their order, and a copy makes the answer.
-use mathlib.Core.Path.{_≡_, sym, _∙_, ap}
+use mathlib.Core.Path.{_≡_, sym, _∙_}
 use mathlib.Core.Bool.{false}
-use mathlib.Core.List.{List, [], _∷_}
-use Prim.Native.Nat.{ℕ}
 use native.Mathlib.Omega.{arith}
 use borrow.Author.Needs.{needs}
-use lib.IntN.{ℤ, pos}
-use lib.ListN.{length}
 use Rattle.plane.specs.Point.{points, numbers}
-use Rattle.plane.specs.Reply.{answered}
 use Rattle.plane.specs.Refusal.{tooMany, someOutside}
 use Rattle.plane.specs.theory.refusals.Write.{wrote-many, wrote-far}
 use Rattle.questions.specs.theory.Delivery.{numbers-outside, little-room, all-delivered}
