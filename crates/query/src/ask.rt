@@ -1,0 +1,156 @@
+// One arm and one function for each question: it asks the library and adds the reply, without its
+// newline.
+use crate::answer::Answer;
+use crate::answer::Clearance;
+use crate::answer::Furthest;
+use crate::answer::Inside;
+use crate::answer::Length;
+use crate::answer::Relation;
+use crate::answer::Width;
+use crate::door;
+use crate::pictures;
+use crate::replies;
+use crate::table::Question;
+use polygon::limits;
+use separation::answer::Place;
+use text::answers;
+use text::fields;
+use text::numbers;
+
+// The most numbers that a shape has.
+pub const SHAPE_NUMBERS: usize = 2 * limits::MAX_CORNERS;
+
+// Asks the question of its fields, of which so many are given.
+pub fn ask(
+    out: &mut [u8],
+    filled: usize,
+    question: Question,
+    count: usize,
+    values: &[i32],
+    marks: &[usize],
+) -> usize {
+    let a = fields::field(values, marks, 0);
+    let b = fields::field(values, marks, 1);
+    let c = fields::field(values, marks, 2);
+    match question {
+        Question::Judge => judge(out, filled, a),
+        Question::Furthest => furthest(out, filled, a, b),
+        Question::Mirror => written(out, filled, question, a, a, b),
+        Question::Sum => written(out, filled, question, a, b, c),
+        Question::Merge => written(out, filled, question, a, b, c),
+        Question::Length => length(out, filled, a),
+        Question::Width => width(out, filled, a),
+        Question::Relation => relation(out, filled, a, b),
+        Question::Inside => inside(out, filled, a, b),
+        Question::Clearance => clearance(out, filled, a, b),
+        Question::Draw => pictures::draw(out, filled, a, b, count),
+    }
+}
+
+// Whether a list is a shape, and how many corners it has.
+fn judge(out: &mut [u8], filled: usize, list: &[i32]) -> usize {
+    match door::judge(list) {
+        Answer::Corners(corners) => replies::ok(out, filled, &[corners as u64]),
+        Answer::No(refusal) => replies::refuse(out, filled, refusal),
+    }
+}
+
+// The position and the value of the furthest corner in a direction.
+fn furthest(out: &mut [u8], filled: usize, list: &[i32], direction: &[i32]) -> usize {
+    match door::furthest(
+        list,
+        fields::number(direction, 0),
+        fields::number(direction, 1),
+    ) {
+        Furthest::At { position, value } => {
+            let now = replies::ok(out, filled, &[position as u64]);
+            let then = answers::word(out, now, b" ");
+            answers::signed(out, then, value)
+        }
+        Furthest::No(refusal) => replies::refuse(out, filled, refusal),
+    }
+}
+
+// A question that writes a shape, in an output of as many numbers as the room says.
+fn written(
+    out: &mut [u8],
+    filled: usize,
+    question: Question,
+    a: &[i32],
+    b: &[i32],
+    room: &[i32],
+) -> usize {
+    let mut answer = [0i32; SHAPE_NUMBERS];
+    let lent: &mut [i32] = &mut answer;
+    let end = fields::room(room, lent);
+    match write(question, a, b, &mut lent[0..end]) {
+        Answer::Corners(corners) => replies::shape(out, filled, corners, lent),
+        Answer::No(refusal) => replies::refuse(out, filled, refusal),
+    }
+}
+
+// The mirror image, the vector sum, or the shape of both together.
+fn write(question: Question, a: &[i32], b: &[i32], out: &mut [i32]) -> Answer {
+    match question {
+        Question::Mirror => door::mirror(a, out),
+        Question::Sum => door::sum(a, b, out),
+        _ => door::merge(a, b, out),
+    }
+}
+
+// The greatest squared distance between two corners, and their positions.
+fn length(out: &mut [u8], filled: usize, list: &[i32]) -> usize {
+    match door::length(list) {
+        Length::Between { squared, from, to } => {
+            let values = [numbers::size(squared), from as u64, to as u64];
+            replies::ok(out, filled, &values)
+        }
+        Length::No(refusal) => replies::refuse(out, filled, refusal),
+    }
+}
+
+// The edge and the corner of the least width, its turn, the squared edge, and the width rounded
+// down.
+fn width(out: &mut [u8], filled: usize, list: &[i32]) -> usize {
+    match door::width(list) {
+        Width::Across {
+            edge,
+            corner,
+            turn,
+            squared,
+            rounded,
+        } => {
+            let values = [edge as u64, corner as u64, turn, squared, rounded];
+            replies::ok(out, filled, &values)
+        }
+        Width::No(refusal) => replies::refuse(out, filled, refusal),
+    }
+}
+
+// Whether two shapes are apart, touching or overlapping.
+fn relation(out: &mut [u8], filled: usize, a: &[i32], b: &[i32]) -> usize {
+    match door::relation(a, b) {
+        Relation::Is(place) => match place {
+            Place::Apart => answers::word(out, filled, b"ok apart"),
+            Place::Touching => answers::word(out, filled, b"ok touching"),
+            Place::Overlapping => answers::word(out, filled, b"ok overlapping"),
+        },
+        Relation::No(refusal) => replies::refuse(out, filled, refusal),
+    }
+}
+
+// Whether the first shape is inside the second.
+fn inside(out: &mut [u8], filled: usize, a: &[i32], b: &[i32]) -> usize {
+    match door::inside(a, b) {
+        Inside::Is(yes) => replies::yes_or_no(out, filled, yes),
+        Inside::No(refusal) => replies::refuse(out, filled, refusal),
+    }
+}
+
+// The squared clearance of two shapes.
+fn clearance(out: &mut [u8], filled: usize, a: &[i32], b: &[i32]) -> usize {
+    match door::clearance(a, b) {
+        Clearance::Squared(squared) => replies::ok(out, filled, &[numbers::size(squared)]),
+        Clearance::No(refusal) => replies::refuse(out, filled, refusal),
+    }
+}
