@@ -12,7 +12,6 @@ use crate::pictures;
 use crate::replies;
 use crate::table::Question;
 use polygon::limits;
-use separation::answer::Place;
 use text::answers;
 use text::fields;
 use text::numbers;
@@ -33,17 +32,24 @@ pub fn ask(
     let b = fields::field(values, marks, 1);
     let c = fields::field(values, marks, 2);
     match question {
-        Question::Judge => judge(out, filled, a),
-        Question::Furthest => furthest(out, filled, a, b),
         Question::Mirror => written(out, filled, question, a, a, b),
         Question::Sum => written(out, filled, question, a, b, c),
         Question::Merge => written(out, filled, question, a, b, c),
+        Question::Draw => pictures::draw(out, filled, a, b, count),
+        _ => measure(out, filled, question, a, b),
+    }
+}
+
+// Asks a question that is answered by numbers or a word.
+fn measure(out: &mut [u8], filled: usize, question: Question, a: &[i32], b: &[i32]) -> usize {
+    match question {
+        Question::Judge => judge(out, filled, a),
+        Question::Furthest => furthest(out, filled, a, b),
         Question::Length => length(out, filled, a),
         Question::Width => width(out, filled, a),
         Question::Relation => relation(out, filled, a, b),
         Question::Inside => inside(out, filled, a, b),
-        Question::Clearance => clearance(out, filled, a, b),
-        Question::Draw => pictures::draw(out, filled, a, b, count),
+        _ => clearance(out, filled, a, b),
     }
 }
 
@@ -64,8 +70,7 @@ fn furthest(out: &mut [u8], filled: usize, list: &[i32], direction: &[i32]) -> u
     ) {
         Furthest::At { position, value } => {
             let now = replies::ok(out, filled, &[position as u64]);
-            let then = answers::word(out, now, b" ");
-            answers::signed(out, then, value)
+            answers::number(out, now, value)
         }
         Furthest::No(refusal) => replies::refuse(out, filled, refusal),
     }
@@ -130,11 +135,7 @@ fn width(out: &mut [u8], filled: usize, list: &[i32]) -> usize {
 // Whether two shapes are apart, touching or overlapping.
 fn relation(out: &mut [u8], filled: usize, a: &[i32], b: &[i32]) -> usize {
     match door::relation(a, b) {
-        Relation::Is(place) => match place {
-            Place::Apart => answers::word(out, filled, b"ok apart"),
-            Place::Touching => answers::word(out, filled, b"ok touching"),
-            Place::Overlapping => answers::word(out, filled, b"ok overlapping"),
-        },
+        Relation::Is(place) => replies::place(out, filled, place),
         Relation::No(refusal) => replies::refuse(out, filled, refusal),
     }
 }

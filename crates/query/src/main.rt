@@ -9,10 +9,11 @@ mod replies;
 mod table;
 
 use table::Entry;
-use table::Row;
+use table::Question;
 use text::answers;
 use text::fields;
 use text::fields::Fields;
+use text::fields::Kinds;
 use text::lines;
 use text::lines::Reading;
 use text::reasons;
@@ -37,41 +38,63 @@ fn answer_all(out: &mut [u8], chunk: &mut [u8], line: &mut [u8], values: &mut [i
     let mut reading = lines::begin();
     let mut turns = u64::MAX;
     while turns > 0 && !reading.last {
-        reading = lines::next_line(reading, out, chunk, line);
-        let filled = answer_read(out, reading, line, values);
-        reading.filled = filled;
+        reading = answer_next(reading, out, chunk, line, values);
         turns -= 1;
     }
     answers::flush(out, reading.filled);
 }
 
-// Answers the line that was read, if there is one.
-fn answer_read(out: &mut [u8], reading: Reading, line: &[u8], values: &mut [i32]) -> usize {
-    if !reading.whole {
-        return reading.filled;
+// Reads the next line, and answers it if there is one.
+fn answer_next(
+    before: Reading,
+    out: &mut [u8],
+    chunk: &mut [u8],
+    line: &mut [u8],
+    values: &mut [i32],
+) -> Reading {
+    let mut reading = lines::next_line(before, out, chunk, line);
+    if reading.whole {
+        let filled = answer_line(out, reading.filled, lines::text(reading, line), values);
+        reading.filled = filled;
+        return reading;
     }
-    if reading.too_long {
-        return reasons::unreadable(out, reading.filled, Reason::LineTooLong);
-    }
-    answer_line(out, reading.filled, lines::text(reading, line), values)
+    reading
 }
 
-// Answers a line.
+// Answers a line, or says why it is no question.
 fn answer_line(out: &mut [u8], filled: usize, line: &[u8], values: &mut [i32]) -> usize {
     match table::look_up(words::word_of(line)) {
-        Entry::Known(row) => answer_known(out, filled, row, line, values),
+        Entry::Known(question, kinds) => answer_known(out, filled, question, kinds, line, values),
         Entry::Unknown => reasons::unreadable(out, filled, Reason::UnknownWord),
     }
 }
 
 // Answers a line whose word is known.
-fn answer_known(out: &mut [u8], filled: usize, row: Row, line: &[u8], values: &mut [i32]) -> usize {
-    let question = row.question;
-    let kinds = row.kinds;
+fn answer_known(
+    out: &mut [u8],
+    filled: usize,
+    question: Question,
+    kinds: Kinds,
+    line: &[u8],
+    values: &mut [i32],
+) -> usize {
     let mut marks = [0usize; fields::MARKS];
-    match fields::read(line, kinds, values, &mut marks) {
+    let read = fields::read(line, kinds, values, &mut marks);
+    answer_fields(out, filled, question, read, values, &marks)
+}
+
+// Answers a question whose fields are read.
+fn answer_fields(
+    out: &mut [u8],
+    filled: usize,
+    question: Question,
+    read: Fields,
+    values: &[i32],
+    marks: &[usize],
+) -> usize {
+    match read {
         Fields::Ready(count) => {
-            let now = ask::ask(out, filled, question, count, values, &marks);
+            let now = ask::ask(out, filled, question, count, values, marks);
             answers::word(out, now, b"\n")
         }
         Fields::No(reason) => reasons::unreadable(out, filled, reason),

@@ -1,5 +1,6 @@
 // Replies, without their newlines: `ok` and values, or `no` and a refusal.
 use crate::answer::Refusal;
+use separation::answer::Place;
 use text::answers;
 
 // Adds `ok` and numbers.
@@ -14,6 +15,15 @@ pub fn yes_or_no(out: &mut [u8], filled: usize, yes: bool) -> usize {
         answers::word(out, filled, b"ok yes")
     } else {
         answers::word(out, filled, b"ok no")
+    }
+}
+
+// Adds `ok` and how two shapes stand to each other.
+pub fn place(out: &mut [u8], filled: usize, place: Place) -> usize {
+    match place {
+        Place::Apart => answers::word(out, filled, b"ok apart"),
+        Place::Touching => answers::word(out, filled, b"ok touching"),
+        Place::Overlapping => answers::word(out, filled, b"ok overlapping"),
     }
 }
 
@@ -34,23 +44,32 @@ pub fn front(list: &[i32], corners: usize) -> &[i32] {
     }
 }
 
-// Adds a refusal: its number, which shape of the question it means, and where the left rule breaks.
+// Adds a refusal: its number, and which shape of the question it means.
 pub fn refuse(out: &mut [u8], filled: usize, refusal: Refusal) -> usize {
     let now = answers::labelled(out, filled, b"no ", number(refusal));
-    let shape = blamed(refusal);
-    if shape == 0 {
-        return now;
-    }
-    let then = answers::labelled(out, now, b" shape ", shape as u64);
     if let Refusal::Side {
-        shape: _,
+        shape,
         edge,
         corner,
     } = refusal {
-        let at_edge = answers::labelled(out, then, b" edge ", edge as u64);
-        return answers::labelled(out, at_edge, b" corner ", corner as u64);
+        return broken(out, now, shape, edge, corner);
     }
-    then
+    blame(out, now, blamed(refusal))
+}
+
+// Adds where the left rule is broken.
+fn broken(out: &mut [u8], filled: usize, shape: usize, edge: usize, corner: usize) -> usize {
+    let now = blame(out, filled, shape);
+    let at_edge = answers::labelled(out, now, b" edge ", edge as u64);
+    answers::labelled(out, at_edge, b" corner ", corner as u64)
+}
+
+// Adds which shape is meant, if one is.
+fn blame(out: &mut [u8], filled: usize, shape: usize) -> usize {
+    if shape == 0 {
+        return filled;
+    }
+    answers::labelled(out, filled, b" shape ", shape as u64)
 }
 
 // Document 01's number of a refusal.

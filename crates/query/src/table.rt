@@ -18,71 +18,117 @@ pub enum Question {
     Draw,
 }
 
-// A row, as it is found by its word.
-pub struct Row {
-    pub question: Question,
-    pub kinds: Kinds,
-}
-
 // What a word stands for.
 pub enum Entry {
-    Known(Row),
+    Known(Question, Kinds),
     Unknown,
 }
 
-// The questions that are answered by corners.
+// Looks a word up in the table.
 pub fn look_up(word: &[u8]) -> Entry {
-    if check::same(word, b"judge") {
-        return known(Question::Judge, fields::one(Kind::Shape));
-    }
-    if check::same(word, b"furthest") {
-        return known(
-            Question::Furthest,
-            fields::two(Kind::Shape, Kind::Direction),
-        );
-    }
-    if check::same(word, b"mirror") {
-        return known(Question::Mirror, fields::two(Kind::Shape, Kind::Room));
-    }
-    if check::same(word, b"sum") {
-        return known(
-            Question::Sum,
-            fields::three(Kind::Shape, Kind::Shape, Kind::Room),
-        );
-    }
-    if check::same(word, b"merge") {
-        return known(
-            Question::Merge,
-            fields::three(Kind::Shape, Kind::Shape, Kind::Room),
-        );
-    }
-    look_up_measure(word)
+    let mut entry = Entry::Unknown;
+    entry = on_one(entry, word);
+    entry = on_two(entry, word);
+    written(entry, word)
 }
 
-// The questions that are answered by measures, and pictures.
-fn look_up_measure(word: &[u8]) -> Entry {
-    if check::same(word, b"length") {
-        return known(Question::Length, fields::one(Kind::Shape));
-    }
-    if check::same(word, b"width") {
-        return known(Question::Width, fields::one(Kind::Shape));
-    }
-    if check::same(word, b"relation") {
-        return known(Question::Relation, fields::two(Kind::Shape, Kind::Shape));
-    }
-    if check::same(word, b"inside") {
-        return known(Question::Inside, fields::two(Kind::Shape, Kind::Shape));
-    }
-    if check::same(word, b"clearance") {
-        return known(Question::Clearance, fields::two(Kind::Shape, Kind::Shape));
-    }
-    if check::same(word, b"draw") {
-        return known(Question::Draw, fields::two(Kind::Shape, Kind::Further));
-    }
-    Entry::Unknown
+// The questions on one shape.
+fn on_one(found: Entry, word: &[u8]) -> Entry {
+    let mut entry = found;
+    entry = row(
+        entry,
+        word,
+        b"judge",
+        Question::Judge,
+        fields::one(Kind::Shape),
+    );
+    entry = row(
+        entry,
+        word,
+        b"length",
+        Question::Length,
+        fields::one(Kind::Shape),
+    );
+    entry = row(
+        entry,
+        word,
+        b"width",
+        Question::Width,
+        fields::one(Kind::Shape),
+    );
+    row(
+        entry,
+        word,
+        b"furthest",
+        Question::Furthest,
+        fields::two(Kind::Shape, Kind::Direction),
+    )
 }
 
-// A row of the table.
-fn known(question: Question, kinds: Kinds) -> Entry {
-    Entry::Known(Row { question, kinds })
+// The questions on two shapes.
+fn on_two(found: Entry, word: &[u8]) -> Entry {
+    let mut entry = found;
+    entry = row(
+        entry,
+        word,
+        b"relation",
+        Question::Relation,
+        fields::two(Kind::Shape, Kind::Shape),
+    );
+    entry = row(
+        entry,
+        word,
+        b"inside",
+        Question::Inside,
+        fields::two(Kind::Shape, Kind::Shape),
+    );
+    entry = row(
+        entry,
+        word,
+        b"clearance",
+        Question::Clearance,
+        fields::two(Kind::Shape, Kind::Shape),
+    );
+    row(
+        entry,
+        word,
+        b"draw",
+        Question::Draw,
+        fields::two(Kind::Shape, Kind::Further),
+    )
+}
+
+// The questions that write a shape.
+fn written(found: Entry, word: &[u8]) -> Entry {
+    let mut entry = found;
+    entry = row(
+        entry,
+        word,
+        b"mirror",
+        Question::Mirror,
+        fields::two(Kind::Shape, Kind::Room),
+    );
+    entry = row(
+        entry,
+        word,
+        b"sum",
+        Question::Sum,
+        fields::three(Kind::Shape, Kind::Shape, Kind::Room),
+    );
+    row(
+        entry,
+        word,
+        b"merge",
+        Question::Merge,
+        fields::three(Kind::Shape, Kind::Shape, Kind::Room),
+    )
+}
+
+// A row of the table: what was found before, or the row's question if the word is its own.
+fn row(found: Entry, word: &[u8], own: &[u8], question: Question, kinds: Kinds) -> Entry {
+    if check::same(word, own) {
+        Entry::Known(question, kinds)
+    } else {
+        found
+    }
 }

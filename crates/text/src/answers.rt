@@ -52,13 +52,18 @@ pub fn counts(out: &mut [u8], filled: usize, list: &[u64]) -> usize {
     now
 }
 
+// Adds a signed number with a space before it.
+pub fn number(out: &mut [u8], filled: usize, number: i64) -> usize {
+    let now = word(out, filled, b" ");
+    signed(out, now, number)
+}
+
 // Adds signed numbers, with a space before each.
 pub fn numbers(out: &mut [u8], filled: usize, list: &[i32]) -> usize {
     let mut now = filled;
     let mut i = 0;
     while i < list.len() {
-        now = word(out, now, b" ");
-        now = signed(out, now, numbers::wide(list[i]));
+        now = number(out, now, numbers::wide(list[i]));
         i += 1;
     }
     now

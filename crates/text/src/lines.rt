@@ -2,6 +2,8 @@
 // buffer of its own. The caller lends both. Lines that begin with # or have nothing but spaces are
 // passed over, and so is a byte order mark at the start of the input.
 use crate::answers;
+use crate::reasons;
+use crate::reasons::Reason;
 use crate::standard;
 use crate::standard::Input;
 use crate::words::is_space;
@@ -10,17 +12,18 @@ use crate::words::is_space;
 pub struct Reading {
     // How many bytes of answers wait to be written.
     pub filled: usize,
-    // Whether there is a line to answer, and whether some of it found no room.
+    // Whether there is a line to answer.
     pub whole: bool,
-    pub too_long: bool,
     // Whether the input ended, or could not be read, or an answer could not be written.
     pub last: bool,
     // The bytes of the chunk from `at` up to `end` are read and not yet taken.
     at: usize,
     end: usize,
-    // How many bytes of its buffer the line fills, and whether all of them are spaces.
+    // How many bytes of its buffer the line fills, whether all of them are spaces, and whether some
+    // more found no room.
     length: usize,
     blank: bool,
+    too_long: bool,
     // Whether the line is the first of the input.
     first: bool,
 }
@@ -30,24 +33,25 @@ pub fn begin() -> Reading {
     Reading {
         filled: 0,
         whole: false,
-        too_long: false,
         last: false,
         at: 0,
         end: 0,
         length: 0,
         blank: true,
+        too_long: false,
         first: true,
     }
 }
 
-// Gathers the next line to answer, without its newline. The last line needs none. Before anything
-// is waited for, the answers that `out` holds are written. A proved loop has to end, so this one
-// counts its turns down, from a number that no run uses up.
-pub fn next_line(before: Reading, out: &[u8], chunk: &mut [u8], line: &mut [u8]) -> Reading {
+// Gathers the next line to answer, without its newline. The last line needs none. A line that is too
+// long is answered here. Before anything is waited for, the answers that `out` holds are written. A
+// proved loop has to end, so this one counts its turns down, from a number that no run uses up.
+pub fn next_line(before: Reading, out: &mut [u8], chunk: &mut [u8], line: &mut [u8]) -> Reading {
     let mut reading = anew(before);
     let mut turns = u64::MAX;
     while turns > 0 && is_open(reading) {
         reading = take(reading, out, chunk, line);
+        reading = refuse_long(reading, out);
         turns -= 1;
     }
     reading
@@ -71,9 +75,19 @@ fn is_open(reading: Reading) -> bool {
 // The same place with an empty line.
 fn anew(mut reading: Reading) -> Reading {
     reading.whole = false;
-    reading.too_long = false;
     reading.length = 0;
     reading.blank = true;
+    reading.too_long = false;
+    reading
+}
+
+// Answers a line that is too long.
+fn refuse_long(mut reading: Reading, out: &mut [u8]) -> Reading {
+    if reading.whole && reading.too_long {
+        let filled = reasons::unreadable(out, reading.filled, Reason::LineTooLong);
+        reading.filled = filled;
+        return anew(reading);
+    }
     reading
 }
 

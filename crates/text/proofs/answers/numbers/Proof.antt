@@ -7,19 +7,13 @@ use Rattle.text.proofs.answers.numbers.Statement.{statement}
 use Rattle.text.proofs.answers.numbers.Tie as tie
 
 abbrev Inv-loop : tie.InvT-loop
-Inv-loop out₀ filled list now₀ i₀ t6 out now i = (i ≤ length list) × (length out ≡ length out₀)
+Inv-loop out₀ filled list now₀ i₀ out now i = (i ≤ length list) × (length out ≡ length out₀)
 
 abbrev μ-loop : tie.MeasureT-loop
-μ-loop out₀ filled list now₀ i₀ t6 out now i = length list - i
+μ-loop out₀ filled list now₀ i₀ out now i = length list - i
 
 loop-holds : tie.Need-loop-holds Inv-loop μ-loop
 loop-holds c = search needs
-
-slice-aggregate-word : tie.Need-slice-aggregate-word Inv-loop μ-loop
-slice-aggregate-word c = search needs
-
-word-requires : tie.Need-word-requires Inv-loop μ-loop
-word-requires c κs = search needs
 
 mul-wide : tie.Need-mul-wide Inv-loop μ-loop
 mul-wide c = search needs
@@ -30,8 +24,8 @@ shared-slice-copy-out-wide c = search needs
 wide-requires : tie.Need-wide-requires Inv-loop μ-loop
 wide-requires c κs = search needs
 
-signed-requires : tie.Need-signed-requires Inv-loop μ-loop
-signed-requires c κs = search needs
+number-requires : tie.Need-number-requires Inv-loop μ-loop
+number-requires c κs = search needs
 
 add-i : tie.Need-add-i Inv-loop μ-loop
 add-i c = search needs
@@ -55,12 +49,10 @@ numbers-spec =
     Inv-loop
     μ-loop
     loop-holds
-    slice-aggregate-word
-    word-requires
     mul-wide
     shared-slice-copy-out-wide
     wide-requires
-    signed-requires
+    number-requires
     add-i
     loop-less
     loop-again

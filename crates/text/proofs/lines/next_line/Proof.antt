@@ -1,4 +1,4 @@
--- `next_line` is safe and ends. The invariant: both buffers keep their length. The measure: the turns left.
+-- `next_line` is safe and ends. The invariant: every buffer keeps its length. The measure: the turns left.
 use mathlib.Core.Path.{_≡_}
 use lib.ListN.{length}
 use borrow.Author.Needs.{needs}
@@ -6,10 +6,11 @@ use Rattle.text.proofs.lines.next_line.Statement.{statement}
 use Rattle.text.proofs.lines.next_line.Tie as tie
 
 abbrev Inv-loop : tie.InvT-loop
-Inv-loop out chunk₀ line₀ reading₀ turns₀ chunk line reading turns = (length chunk ≡ length chunk₀) × (length line ≡ length line₀)
+Inv-loop out₀ chunk₀ line₀ reading₀ turns₀ out chunk line reading turns =
+    (length out ≡ length out₀) × ((length chunk ≡ length chunk₀) × (length line ≡ length line₀))
 
 abbrev μ-loop : tie.MeasureT-loop
-μ-loop out chunk₀ line₀ reading₀ turns₀ chunk line reading turns = turns
+μ-loop out₀ chunk₀ line₀ reading₀ turns₀ out chunk line reading turns = turns
 
 anew-requires : tie.Need-anew-requires Inv-loop μ-loop
 anew-requires c κs = search needs
@@ -22,6 +23,9 @@ is-open-requires c κs = search needs
 
 take-requires : tie.Need-take-requires Inv-loop μ-loop
 take-requires c κs = search needs
+
+refuse-long-requires : tie.Need-refuse-long-requires Inv-loop μ-loop
+refuse-long-requires c κs = search needs
 
 sub-turns : tie.Need-sub-turns Inv-loop μ-loop
 sub-turns c = search needs
@@ -38,14 +42,20 @@ same-length c = search needs
 same-length-2 : tie.Need-same-length-2 Inv-loop μ-loop
 same-length-2 c = search needs
 
-returns : tie.Need-returns Inv-loop μ-loop
-returns c = search needs
-
 same-length-3 : tie.Need-same-length-3 Inv-loop μ-loop
 same-length-3 c = search needs
 
+returns : tie.Need-returns Inv-loop μ-loop
+returns c = search needs
+
 same-length-4 : tie.Need-same-length-4 Inv-loop μ-loop
 same-length-4 c = search needs
+
+same-length-5 : tie.Need-same-length-5 Inv-loop μ-loop
+same-length-5 c = search needs
+
+same-length-6 : tie.Need-same-length-6 Inv-loop μ-loop
+same-length-6 c = search needs
 
 returns-2 : tie.Need-returns-2 Inv-loop μ-loop
 returns-2 c = search needs
@@ -60,12 +70,15 @@ next-line-spec =
     loop-holds
     is-open-requires
     take-requires
+    refuse-long-requires
     sub-turns
     loop-less
     loop-again
     same-length
     same-length-2
-    returns
     same-length-3
+    returns
     same-length-4
+    same-length-5
+    same-length-6
     returns-2)
