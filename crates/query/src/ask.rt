@@ -56,7 +56,7 @@ fn measure(out: &mut [u8], filled: usize, question: Question, a: &[i32], b: &[i3
 // Whether a list is a shape, and how many corners it has.
 fn judge(out: &mut [u8], filled: usize, list: &[i32]) -> usize {
     match door::judge(list) {
-        Answer::Corners(corners) => replies::ok(out, filled, &[corners as u64]),
+        Answer::Corners(corners) => answers::ok(out, filled, &[corners as u64]),
         Answer::No(refusal) => replies::refuse(out, filled, refusal),
     }
 }
@@ -69,7 +69,7 @@ fn furthest(out: &mut [u8], filled: usize, list: &[i32], direction: &[i32]) -> u
         fields::number(direction, 1),
     ) {
         Furthest::At { position, value } => {
-            let now = replies::ok(out, filled, &[position as u64]);
+            let now = answers::ok(out, filled, &[position as u64]);
             answers::number(out, now, value)
         }
         Furthest::No(refusal) => replies::refuse(out, filled, refusal),
@@ -89,7 +89,7 @@ fn written(
     let lent: &mut [i32] = &mut answer;
     let end = fields::room(room, lent);
     match write(question, a, b, &mut lent[0..end]) {
-        Answer::Corners(corners) => replies::shape(out, filled, corners, lent),
+        Answer::Corners(corners) => answers::ok_pairs(out, filled, corners, lent),
         Answer::No(refusal) => replies::refuse(out, filled, refusal),
     }
 }
@@ -108,7 +108,7 @@ fn length(out: &mut [u8], filled: usize, list: &[i32]) -> usize {
     match door::length(list) {
         Length::Between { squared, from, to } => {
             let values = [numbers::size(squared), from as u64, to as u64];
-            replies::ok(out, filled, &values)
+            answers::ok(out, filled, &values)
         }
         Length::No(refusal) => replies::refuse(out, filled, refusal),
     }
@@ -126,7 +126,7 @@ fn width(out: &mut [u8], filled: usize, list: &[i32]) -> usize {
             rounded,
         } => {
             let values = [edge as u64, corner as u64, turn, squared, rounded];
-            replies::ok(out, filled, &values)
+            answers::ok(out, filled, &values)
         }
         Width::No(refusal) => replies::refuse(out, filled, refusal),
     }
@@ -143,7 +143,7 @@ fn relation(out: &mut [u8], filled: usize, a: &[i32], b: &[i32]) -> usize {
 // Whether the first shape is inside the second.
 fn inside(out: &mut [u8], filled: usize, a: &[i32], b: &[i32]) -> usize {
     match door::inside(a, b) {
-        Inside::Is(yes) => replies::yes_or_no(out, filled, yes),
+        Inside::Is(yes) => answers::ok_yes(out, filled, yes),
         Inside::No(refusal) => replies::refuse(out, filled, refusal),
     }
 }
@@ -151,7 +151,7 @@ fn inside(out: &mut [u8], filled: usize, a: &[i32], b: &[i32]) -> usize {
 // The squared clearance of two shapes.
 fn clearance(out: &mut [u8], filled: usize, a: &[i32], b: &[i32]) -> usize {
     match door::clearance(a, b) {
-        Clearance::Squared(squared) => replies::ok(out, filled, &[numbers::size(squared)]),
+        Clearance::Squared(squared) => answers::ok(out, filled, &[numbers::size(squared)]),
         Clearance::No(refusal) => replies::refuse(out, filled, refusal),
     }
 }

@@ -3,6 +3,7 @@ use crate::answer::Answer;
 use crate::ask::SHAPE_NUMBERS;
 use crate::door;
 use crate::replies;
+use text::answers;
 
 // Draws one shape, or two if a second is given.
 pub fn draw(out: &mut [u8], filled: usize, a: &[i32], b: &[i32], count: usize) -> usize {
@@ -25,7 +26,7 @@ fn one(out: &mut [u8], filled: usize, list: &[i32]) -> usize {
 fn pair(out: &mut [u8], filled: usize, a: &[i32], b: &[i32]) -> usize {
     let mut sum = [0i32; SHAPE_NUMBERS];
     match door::sum(a, b, &mut sum) {
-        Answer::Corners(corners) => picture::pair(out, filled, a, b, replies::front(&sum, corners)),
+        Answer::Corners(corners) => picture::pair(out, filled, a, b, answers::front(&sum, corners)),
         Answer::No(refusal) => replies::refuse(out, filled, refusal),
     }
 }

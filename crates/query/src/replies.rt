@@ -1,22 +1,7 @@
-// Replies, without their newlines: `ok` and values, or `no` and a refusal.
+// The replies that know the library's words, without their newlines; the others are in `text`.
 use crate::answer::Refusal;
 use separation::answer::Place;
 use text::answers;
-
-// Adds `ok` and numbers.
-pub fn ok(out: &mut [u8], filled: usize, values: &[u64]) -> usize {
-    let now = answers::word(out, filled, b"ok");
-    answers::counts(out, now, values)
-}
-
-// Adds `ok` and whether something holds.
-pub fn yes_or_no(out: &mut [u8], filled: usize, yes: bool) -> usize {
-    if yes {
-        answers::word(out, filled, b"ok yes")
-    } else {
-        answers::word(out, filled, b"ok no")
-    }
-}
 
 // Adds `ok` and how two shapes stand to each other.
 pub fn place(out: &mut [u8], filled: usize, place: Place) -> usize {
@@ -24,23 +9,6 @@ pub fn place(out: &mut [u8], filled: usize, place: Place) -> usize {
         Place::Apart => answers::word(out, filled, b"ok apart"),
         Place::Touching => answers::word(out, filled, b"ok touching"),
         Place::Overlapping => answers::word(out, filled, b"ok overlapping"),
-    }
-}
-
-// Adds `ok` and a shape of so many corners, which stand at the front of the list.
-pub fn shape(out: &mut [u8], filled: usize, corners: usize, list: &[i32]) -> usize {
-    let now = answers::labelled(out, filled, b"ok ", corners as u64);
-    let then = answers::word(out, now, b" |");
-    answers::numbers(out, then, front(list, corners))
-}
-
-// The numbers of so many corners; all where there are fewer.
-pub fn front(list: &[i32], corners: usize) -> &[i32] {
-    if corners <= list.len() / 2 {
-        let end = corners * 2;
-        &list[0..end]
-    } else {
-        list
     }
 }
 

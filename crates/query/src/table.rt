@@ -34,94 +34,34 @@ pub fn look_up(word: &[u8]) -> Entry {
 
 // The questions on one shape.
 fn on_one(found: Entry, word: &[u8]) -> Entry {
+    let shape = fields::one(Kind::Shape);
+    let aimed = fields::two(Kind::Shape, Kind::Direction);
     let mut entry = found;
-    entry = row(
-        entry,
-        word,
-        b"judge",
-        Question::Judge,
-        fields::one(Kind::Shape),
-    );
-    entry = row(
-        entry,
-        word,
-        b"length",
-        Question::Length,
-        fields::one(Kind::Shape),
-    );
-    entry = row(
-        entry,
-        word,
-        b"width",
-        Question::Width,
-        fields::one(Kind::Shape),
-    );
-    row(
-        entry,
-        word,
-        b"furthest",
-        Question::Furthest,
-        fields::two(Kind::Shape, Kind::Direction),
-    )
+    entry = row(entry, word, b"judge", Question::Judge, shape);
+    entry = row(entry, word, b"length", Question::Length, shape);
+    entry = row(entry, word, b"width", Question::Width, shape);
+    row(entry, word, b"furthest", Question::Furthest, aimed)
 }
 
 // The questions on two shapes.
 fn on_two(found: Entry, word: &[u8]) -> Entry {
+    let pair = fields::two(Kind::Shape, Kind::Shape);
+    let some = fields::two(Kind::Shape, Kind::Further);
     let mut entry = found;
-    entry = row(
-        entry,
-        word,
-        b"relation",
-        Question::Relation,
-        fields::two(Kind::Shape, Kind::Shape),
-    );
-    entry = row(
-        entry,
-        word,
-        b"inside",
-        Question::Inside,
-        fields::two(Kind::Shape, Kind::Shape),
-    );
-    entry = row(
-        entry,
-        word,
-        b"clearance",
-        Question::Clearance,
-        fields::two(Kind::Shape, Kind::Shape),
-    );
-    row(
-        entry,
-        word,
-        b"draw",
-        Question::Draw,
-        fields::two(Kind::Shape, Kind::Further),
-    )
+    entry = row(entry, word, b"relation", Question::Relation, pair);
+    entry = row(entry, word, b"inside", Question::Inside, pair);
+    entry = row(entry, word, b"clearance", Question::Clearance, pair);
+    row(entry, word, b"draw", Question::Draw, some)
 }
 
 // The questions that write a shape.
 fn written(found: Entry, word: &[u8]) -> Entry {
+    let shape = fields::two(Kind::Shape, Kind::Room);
+    let pair = fields::three(Kind::Shape, Kind::Shape, Kind::Room);
     let mut entry = found;
-    entry = row(
-        entry,
-        word,
-        b"mirror",
-        Question::Mirror,
-        fields::two(Kind::Shape, Kind::Room),
-    );
-    entry = row(
-        entry,
-        word,
-        b"sum",
-        Question::Sum,
-        fields::three(Kind::Shape, Kind::Shape, Kind::Room),
-    );
-    row(
-        entry,
-        word,
-        b"merge",
-        Question::Merge,
-        fields::three(Kind::Shape, Kind::Shape, Kind::Room),
-    )
+    entry = row(entry, word, b"mirror", Question::Mirror, shape);
+    entry = row(entry, word, b"sum", Question::Sum, pair);
+    row(entry, word, b"merge", Question::Merge, pair)
 }
 
 // A row of the table: what was found before, or the row's question if the word is its own.

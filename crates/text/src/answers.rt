@@ -69,6 +69,38 @@ pub fn numbers(out: &mut [u8], filled: usize, list: &[i32]) -> usize {
     now
 }
 
+// Adds `ok` and numbers.
+pub fn ok(out: &mut [u8], filled: usize, values: &[u64]) -> usize {
+    let now = word(out, filled, b"ok");
+    counts(out, now, values)
+}
+
+// Adds `ok` and whether something holds.
+pub fn ok_yes(out: &mut [u8], filled: usize, yes: bool) -> usize {
+    if yes {
+        word(out, filled, b"ok yes")
+    } else {
+        word(out, filled, b"ok no")
+    }
+}
+
+// Adds `ok`, how many pairs of numbers there are, and the pairs, which stand at the front of a list.
+pub fn ok_pairs(out: &mut [u8], filled: usize, count: usize, list: &[i32]) -> usize {
+    let now = labelled(out, filled, b"ok ", count as u64);
+    let then = word(out, now, b" |");
+    numbers(out, then, front(list, count))
+}
+
+// So many pairs of numbers; all where there are fewer.
+pub fn front(list: &[i32], count: usize) -> &[i32] {
+    if count <= list.len() / 2 {
+        let end = count * 2;
+        &list[0..end]
+    } else {
+        list
+    }
+}
+
 // Writes all that waits.
 pub fn flush(out: &[u8], filled: usize) -> usize {
     if out.len() < filled {

@@ -6,7 +6,7 @@ use Rattle.query.proofs.answer_all.Statement.{statement}
 use Rattle.query.proofs.answer_all.Tie as tie
 
 abbrev Inv-loop : tie.InvT-loop
-Inv-loop out₀ chunk₀ line₀ values₀ reading₀ turns₀ out chunk line values reading turns = 
+Inv-loop out₀ chunk₀ line₀ values₀ reading₀ turns₀ out chunk line values reading turns =
     (length chunk ≡ length chunk₀) × ((length line ≡ length line₀) × ((length values ≡ length values₀) × (length out ≡ length out₀)))
 
 abbrev μ-loop : tie.MeasureT-loop
