@@ -2,7 +2,6 @@
 --     Progress a b from k old count walk out      so many corners from `from` on stand at the front of the output, and the walk is as far
 --     progress-start, -more, -stop                its moves: nothing yet, one corner more, all of the helping
 --     progress-room                               before a corner is written, there is room for it
--- Assumes nothing.
 use mathlib.Core.Path.{_≡_, refl, sym, _∙_, ap, subst}
 use mathlib.Core.Bool.{true, false}
 use mathlib.Core.List.{List}
@@ -13,8 +12,8 @@ use lib.IntN.{ℤ}
 use lib.ListN.{length, drop, set, length-take, length-drop}
 use lib.Seq.{getD-take}
 use Rattle.plane.specs.Point.{Point, points, numbers, corner, origin}
-use Rattle.plane.specs.theory.Flat.{numbers-length}
-use Rattle.plane.specs.theory.Filled.{Filled, filled-start, filled-corner, filled-length, filled-done}
+use Rattle.plane.specs.theory.lists.Flat.{numbers-length}
+use Rattle.plane.specs.theory.lists.Filled.{Filled, filled-start, filled-corner, filled-length, filled-done}
 use Rattle.calipers.specs.declared.walk.Walk.{Walk}
 use Rattle.calipers.specs.Walk.{here, advanced, stepped, At}
 use Rattle.calipers.specs.Helping.{coming, helping, Helped}

@@ -2,7 +2,6 @@
 --     coming a b w                the corners still to come, of two lists of numbers
 --     helping a b w k             the first k of them, or all that remain
 --     Helped a b w k old r out    they were written at the front of the output `old`, and r is their count and the walk after them
--- Assumes nothing.
 use mathlib.Core.Path.{_≡_}
 use mathlib.Core.List.{List}
 use Prim.Native.Nat.{ℕ}

@@ -5,8 +5,8 @@ ghost use lib.ListN.{length};
 ghost use Rattle.plane.specs.Point.{points};
 ghost use Rattle.plane.specs.Refusal.{InRange};
 ghost use Rattle.plane.specs.Turn.{cross as Turn·cross};
-ghost use Rattle.plane.specs.theory.Forms.{up, before, edges};
-ghost use Rattle.plane.specs.theory.Positions.{round as Positions·round};
+ghost use Rattle.plane.specs.Forms.{up, before, edges};
+ghost use Rattle.plane.specs.Cycle.{round as Positions·round};
 ghost use Rattle.calipers.specs.Walk.{edge};
 use polygon::corners;
 

@@ -1,4 +1,4 @@
--- What the merge's table of refusals comes to, in document 01's words. Assumes nothing.
+-- What the merge's table of refusals comes to, in document 01's words.
 use mathlib.Core.Path.{_≡_, subst}
 use mathlib.Core.Bool.{false}
 use mathlib.Core.Logic.{⊎-elim}
@@ -7,10 +7,10 @@ use lib.IntN.{ℤ}
 use Rattle.plane.specs.Point.{Point, points, numbers}
 use Rattle.plane.specs.Refusal.{someOutside, Valid}
 use Rattle.plane.specs.Corner.{shapeOf}
-use Rattle.plane.specs.theory.Members.{_∈_, position-member, member-position}
-use Rattle.plane.specs.theory.Flat.{Near, points-near, numbers-inRange}
-use Rattle.plane.specs.theory.Accept.{inRange→inside}
-use Rattle.plane.specs.theory.Hull.{shapeOf-member}
+use Rattle.plane.specs.theory.lists.Members.{_∈_, position-member, member-position}
+use Rattle.plane.specs.theory.lists.Flat.{Near, points-near, numbers-inRange}
+use Rattle.plane.specs.theory.refusals.Accept.{inRange→inside}
+use Rattle.plane.specs.theory.hull.Hull.{shapeOf-member}
 
 corner-near : (l : List ℤ) → Valid l → {p : Point} → p ∈ points l → Near p
 corner-near l v m = let r = member-position m in subst Near (r .2) (points-near l (v .inRange) (r .0) (r .1))

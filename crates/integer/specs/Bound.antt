@@ -1,7 +1,6 @@
 -- Bounds on the size of an integer.
 --     Within n x      x is from -n to n
 -- `beyond-size`: a bound as two tests. `within-le`, `within-ge` read it as two orders, `within-of` makes it of them; `within-widen` takes a larger bound.
--- Assumes nothing.
 use mathlib.Core.Path.{_≡_, refl, sym, ap, subst}
 use mathlib.Core.Bool.{Bool, true, false, _||_}
 use mathlib.Core.Logic.{_⊎_, inl, inr}

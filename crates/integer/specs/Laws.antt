@@ -3,7 +3,7 @@
 --     *ℤ-assoc                      the product regrouped
 --     negℤ-*ℤ                       a sign moves out of a product
 --     +ℤ-swap                       the middle two of four summands change places
--- The group laws of the sum, and that the product is commutative, are in `lib.IntN`. Assumes nothing.
+-- The group laws of the sum, and that the product is commutative, are in `lib.IntN`.
 use mathlib.Core.Path.{_≡_, refl, sym, _∙_, ap, ap₂}
 use Prim.Native.Nat.{ℕ, zero, suc}
 use lib.IntN.{

@@ -5,7 +5,6 @@
 -- `Order.antt`) make it prove what is not linear.
 --     Says ρ A      a statement over ℕ that is equivalent to A; `search linear` finds it
 --     lia           A → C, from its statement over ℕ
--- Assumes nothing.
 use mathlib.Core.Path.{_≡_, refl, sym, _∙_, ap, ap₂, subst}
 use mathlib.Core.List.{List, [], _∷_}
 use Prim.Native.Nat.{ℕ, zero, suc, _+_, _*_, _≤_, _<_}

@@ -4,7 +4,6 @@
 --     machine-is (search machine depth 40) tt         term ≡ its value, with every reading back gone
 -- The numbers in the term are hypotheses of type `Machine x`: `known e h` for a call's result x with e : x ≡ v and h : Within n v,
 -- `bounded h` for h : Within n x.
--- Assumes nothing.
 use mathlib.Core.Path.{_≡_, refl, sym, _∙_, ap, ap₂, subst}
 use mathlib.Core.Bool.{Bool, true, false, _&&_}
 use Prim.Native.Nat.{ℕ, zero, suc, _+_, _*_, _^_, _≤_, _<_}

@@ -5,7 +5,6 @@
 --     lt-or-le, compared          cases
 --     weaken, le-of-eq, le-trans, le-antisym      weak orders by name, where no atom need be written
 --     ltZ-true .. leZ-false       what a test that came out so says; `lt-ltZ` .. the other way
--- Assumes nothing.
 use mathlib.Core.Path.{_≡_, refl, sym, _∙_, ap, subst}
 use mathlib.Core.Bool.{Bool, true, false, not}
 use mathlib.Core.List.{List, [], _∷_}

@@ -2,7 +2,6 @@
 --     above z, below z    the naturals by which z is above and below 0; one of them is 0
 --     Differs z a b       z is a - b
 -- How it goes through the operations (`differs-add`, `-neg`, `-scale`), and what it says of the order (`le-parts`, `lt-parts`, `eq-parts`).
--- Assumes nothing.
 use mathlib.Core.Path.{_≡_, refl, sym, _∙_, ap, ap₂, subst}
 use mathlib.Core.Bool.{Bool, true, false, cond}
 use Prim.Native.Nat.{ℕ, zero, suc, _+_, _*_, _-_, _≤_, _<_}

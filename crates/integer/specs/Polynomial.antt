@@ -3,7 +3,7 @@
 --     Poly, value    a sum of terms, each a coefficient and a sorted list of variable numbers, in ascending order of these lists
 --     norm           the polynomial of an expression; coefficients that come to 0 are dropped
 --     norm-sound     an expression and its polynomial have the same value
--- Only soundness is proved: that the form is unique is what the solver's uses show. Assumes nothing.
+-- Only soundness is proved: that the form is unique is what the solver's uses show.
 use mathlib.Core.Path.{_≡_, refl, sym, _∙_, ap, ap₂, subst}
 use mathlib.Core.List.{List, [], _∷_}
 use mathlib.Core.Bool.{Bool, true, false}

@@ -4,7 +4,6 @@
 -- atom, or is opened by `unfolding`. Where an identity fails, the check prints `Remains p` with the polynomial that is left.
 --     Is ρ x        an expression over the atoms ρ whose value is x; `search reify` finds it
 --     ring          two terms whose difference has the empty polynomial are equal
--- Assumes nothing.
 use mathlib.Core.Path.{_≡_, refl, sym, _∙_, ap, ap₂}
 use mathlib.Core.List.{List, [], _∷_}
 use Prim.Native.Nat.{ℕ}

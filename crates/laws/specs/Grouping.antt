@@ -8,7 +8,7 @@
 --     Result call g l       every call of the grouping g is answered, and l is its result
 --     Refused call g        some call of the grouping is refused
 --     sumOfAll L            the result of sums that 01 states; mergeOfAll L: that of merges, over all corners `together`
--- `List·Permᴰ L M` is mathlib's: M is L in another order. Groups are never empty: `group-not-empty` of the laws. Assumes nothing.
+-- `List·Permᴰ L M` is mathlib's: M is L in another order. Groups are never empty: `group-not-empty` of the laws.
 use mathlib.Core.Path.{_≡_}
 use mathlib.Core.Logic.{_⊎_}
 use mathlib.Core.List.{List, [], _∷_, _++_, map, List·Memᴰ, List·Permᴰ}

@@ -2,7 +2,7 @@
 --     ground           what valid, equal and answered say, over which the laws are stated
 --     whole lists      the result of sums, and of merges, whatever the order and the grouping
 --     two and three    the origin point, a shape merged with itself, a sum over a merge, taking a sum back
--- Every law speaks of calls that are answered, whatever is refused elsewhere, and of any outputs that they are lent. Assumes nothing.
+-- Every law speaks of calls that are answered, whatever is refused elsewhere, and of any outputs that they are lent.
 use mathlib.Core.Path.{_≡_}
 use mathlib.Core.Logic.{_↔_}
 use mathlib.Core.List.{List, [], _∷_, _++_}
@@ -19,7 +19,7 @@ use Rattle.plane.specs.Judge.{judged}
 use Rattle.plane.specs.Corner.{shapeOf, sums}
 use Rattle.plane.specs.Combine.{sumWritten, mergeWritten}
 use Rattle.plane.specs.Meaning.{accepted-is-valid, valid-is-accepted}
-use Rattle.plane.specs.theory.Flat.{points-length}
+use Rattle.plane.specs.theory.lists.Flat.{points-length}
 use Rattle.laws.specs.Grouping.{
   originPoint,
   AllValid,

@@ -5,7 +5,7 @@ ghost use lib.ListN.{length};
 ghost use Rattle.plane.specs.Point.{points, corner};
 ghost use Rattle.plane.specs.Refusal.{InRange};
 ghost use Rattle.plane.specs.Measure.{squared};
-ghost use Rattle.plane.specs.theory.Turned.{turned};
+ghost use Rattle.plane.specs.Cycle.{turned};
 use polygon::corners;
 
 // The position of the corner whose opposite is corner k of the image. The image begins at the top.

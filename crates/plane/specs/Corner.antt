@@ -9,7 +9,7 @@
 --     sums A B         all corner-plus-corner points of two lists; `sumsOf` of a list of lists, one corner of each, chosen separately
 --     mirrored A       all (-x, -y)
 -- What it means: shapeOf S is a shape, p is in it exactly if Corner S p, and every list with these two properties equals it
--- (`Meaning.antt`). Assumes nothing.
+-- (`Meaning.antt`).
 use mathlib.Core.Bool.{Bool, true, false}
 use mathlib.Core.List.{List, [], _∷_, _++_, map, reverse, List·Memᴰ}
 use mathlib.Core.Path.{_≡_}

@@ -2,7 +2,6 @@
 --     value d p        u·x + v·y
 --     support d ps     the greatest value of d over ps; 0 on []
 --     furthest d ps    the smallest position at which it is had
--- Assumes nothing.
 use mathlib.Core.Bool.{Bool, true, false}
 use mathlib.Core.List.{List, [], _∷_}
 use Prim.Native.Nat.{ℕ}

@@ -4,7 +4,6 @@
 --     forms          three ways to say that a list is a shape
 --     directions     how far sums, lists taken together and mirrored lists reach; a shape is known by how far it reaches
 --     mirror         refusals 6 and 7 cannot come of it
--- Assumes nothing.
 use mathlib.Core.Path.{_≡_, refl}
 use mathlib.Core.Bool.{false}
 use mathlib.Core.List.{List, [], _∷_, _++_}
@@ -21,29 +20,20 @@ use Rattle.plane.specs.Refusal.{tooMany, someOutside, shapeRows, InRange
 use Rattle.plane.specs.Judge.{judged}
 use Rattle.plane.specs.Direction.{value, support, max}
 use Rattle.plane.specs.Corner.{Corner, shapeOf, sums, mirrored}
-use Rattle.plane.specs.theory.Forms.{Ordered, Sorted, edges}
-use Rattle.plane.specs.theory.Members.{_∈_, _⊆_}
-use Rattle.plane.specs.theory.Rows.{First, firstRow-given, firstRow-none, firstRow-answered, firstRow-refused}
-use Rattle.plane.specs.theory.Flat.{points-near}
-use Rattle.plane.specs.theory.Accept.{accepted→valid, valid→accepted}
-use Rattle.plane.specs.theory.Standard.{shape→sorted, sorted→ordered, ordered→shape}
-use Rattle.plane.specs.theory.Support.{support-append, support-sums, support-mirrored}
-use Rattle.plane.specs.theory.ShapeOf.{
-  shapeOf-support,
-  shapeOf-shape,
-  shapeOf-corner,
-  corner-shapeOf,
-  shapeOf-unique,
-  shapeOf-same,
-  shape-extensional,
-  shape-known,
-  shape-own,
-}
-use Rattle.plane.specs.theory.Bounds.{turn-size, value-size, support-size}
-use Rattle.plane.specs.theory.Cut.{cutSum, cut-formula}
-use Rattle.plane.specs.theory.EdgeSum.{vectorSum, vectorSum-shape}
-use Rattle.plane.specs.theory.Mirror.{mirror-count}
-use Rattle.plane.specs.theory.MirrorWritten.{mirror-few, mirror-inside}
+use Rattle.plane.specs.Forms.{Ordered, Sorted, edges}
+use Rattle.plane.specs.theory.lists.Members.{_∈_, _⊆_}
+use Rattle.plane.specs.theory.refusals.Rows.{First, firstRow-given, firstRow-none, firstRow-answered, firstRow-refused}
+use Rattle.plane.specs.theory.lists.Flat.{points-near}
+use Rattle.plane.specs.theory.refusals.Accept.{accepted→valid, valid→accepted}
+use Rattle.plane.specs.theory.forms.Standard.{shape→sorted, sorted→ordered, ordered→shape}
+use Rattle.plane.specs.theory.support.Support.{support-append, support-sums, support-mirrored}
+use Rattle.plane.specs.theory.hull.ShapeOf.{shapeOf-support, shapeOf-shape, shapeOf-corner, corner-shapeOf, shapeOf-unique, shapeOf-same, shape-extensional, shape-known, shape-own}
+use Rattle.plane.specs.theory.support.Bounds.{turn-size, value-size, support-size}
+use Rattle.plane.specs.theory.sum.Cut.{cutSum, cut-formula}
+use Rattle.plane.specs.VectorSum.{vectorSum}
+use Rattle.plane.specs.theory.sum.EdgeSum.{vectorSum-shape}
+use Rattle.plane.specs.theory.mirror.Mirror.{mirror-count}
+use Rattle.plane.specs.theory.mirror.MirrorWritten.{mirror-few, mirror-inside}
 
 -- ---- judging
 

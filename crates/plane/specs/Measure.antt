@@ -5,7 +5,6 @@
 --     reach ps e         "for each edge, the greatest turn t over the corners", and edgeSquared ps e "the edge's squared length q"
 --     widthEdge ps       the edge with the least t·t/q; widthCorner ps the smallest corner position that has its greatest turn
 --     widthRounded t q   "w, the width rounded down: w·w·q ≤ t·t < (w+1)·(w+1)·q"
--- Assumes nothing.
 use mathlib.Core.Bool.{Bool, not, _&&_}
 use mathlib.Core.List.{List, [], _∷_, _++_}
 use Prim.Native.Nat.{ℕ, zero, suc, _+_, _*_}

@@ -3,7 +3,6 @@
 --     points l      the corners that a list of numbers holds, in its order; an odd last number is left out
 --     numbers ps    the list of numbers that holds these corners
 --     corner ps i   the corner at position i, counted from 0; the origin past the end
--- Assumes nothing.
 use mathlib.Core.List.{List, [], _∷_}
 use Prim.Native.Nat.{ℕ}
 use lib.ListN.{getD}

@@ -6,7 +6,6 @@
 --     apart A B         the origin is not inside the differences
 --     touching A B      not apart, and the differences lie on one line, or the origin is on an edge of their shape
 --     clearance A B     0 if not apart, else the least squared distance between a corner of one and a corner of the other
--- Assumes nothing.
 use mathlib.Core.Bool.{Bool, true, false, not, cond, _&&_, _||_}
 use mathlib.Core.List.{List, [], _∷_, _++_}
 use Prim.Native.Nat.{ℕ}

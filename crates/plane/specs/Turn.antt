@@ -3,7 +3,6 @@
 --     turn a b c    positive if c lies to the left of the edge a to b, 0 on its line, negative to its right
 --     Left a b c    c lies strictly to the left
 -- What it means: `turn-cycle` (any edge of the triangle may be taken), `turn-swap` (an edge read backwards).
--- Assumes nothing.
 use mathlib.Core.Path.{_≡_, refl}
 use mathlib.Core.List.{List, [], _∷_}
 use lib.IntN.{ℤ, pos, negℤ, _-ℤ_, _*ℤ_}

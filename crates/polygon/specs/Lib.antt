@@ -1,2 +1,4 @@
--- The answers of this crate's functions in document 01's terms.
-pub mod Answer
+-- What the functions of this crate promise, beside the plane's definitions; then the theory of the furthest corner and of fronts.
+pub mod Broken
+pub mod Front
+pub mod theory

@@ -1,23 +1,19 @@
 // One arm and one function for each question: it asks the library and adds the reply, without its
 // newline.
-use crate::answer::Answer;
-use crate::answer::Clearance;
-use crate::answer::Furthest;
-use crate::answer::Inside;
-use crate::answer::Length;
-use crate::answer::Relation;
-use crate::answer::Width;
-use crate::door;
 use crate::pictures;
 use crate::replies;
 use crate::table::Question;
-use polygon::limits;
+use polygon::limits::SHAPE_NUMBERS;
+use questions::answer::Answer;
+use questions::answer::Clearance;
+use questions::answer::Furthest;
+use questions::answer::Inside;
+use questions::answer::Length;
+use questions::answer::Relation;
+use questions::answer::Width;
 use text::answers;
 use text::fields;
 use text::numbers;
-
-// The most numbers that a shape has.
-pub const SHAPE_NUMBERS: usize = 2 * limits::MAX_CORNERS;
 
 // Asks the question of its fields, of which so many are given.
 pub fn ask(
@@ -55,7 +51,7 @@ fn measure(out: &mut [u8], filled: usize, question: Question, a: &[i32], b: &[i3
 
 // Whether a list is a shape, and how many corners it has.
 fn judge(out: &mut [u8], filled: usize, list: &[i32]) -> usize {
-    match door::judge(list) {
+    match questions::judge(list) {
         Answer::Corners(corners) => answers::ok(out, filled, &[corners as u64]),
         Answer::No(refusal) => replies::refuse(out, filled, refusal),
     }
@@ -63,7 +59,7 @@ fn judge(out: &mut [u8], filled: usize, list: &[i32]) -> usize {
 
 // The position and the value of the furthest corner in a direction.
 fn furthest(out: &mut [u8], filled: usize, list: &[i32], direction: &[i32]) -> usize {
-    match door::furthest(
+    match questions::furthest(
         list,
         fields::number(direction, 0),
         fields::number(direction, 1),
@@ -97,17 +93,17 @@ fn written(
 // The mirror image, the vector sum, or the shape of both together.
 fn write(question: Question, a: &[i32], b: &[i32], out: &mut [i32]) -> Answer {
     match question {
-        Question::Mirror => door::mirror(a, out),
-        Question::Sum => door::sum(a, b, out),
-        _ => door::merge(a, b, out),
+        Question::Mirror => questions::mirror(a, out),
+        Question::Sum => questions::sum(a, b, out),
+        _ => questions::merge(a, b, out),
     }
 }
 
 // The greatest squared distance between two corners, and their positions.
 fn length(out: &mut [u8], filled: usize, list: &[i32]) -> usize {
-    match door::length(list) {
+    match questions::length(list) {
         Length::Between { squared, from, to } => {
-            let values = [numbers::size(squared), from as u64, to as u64];
+            let values = [squared, from as u64, to as u64];
             answers::ok(out, filled, &values)
         }
         Length::No(refusal) => replies::refuse(out, filled, refusal),
@@ -117,7 +113,7 @@ fn length(out: &mut [u8], filled: usize, list: &[i32]) -> usize {
 // The edge and the corner of the least width, its turn, the squared edge, and the width rounded
 // down.
 fn width(out: &mut [u8], filled: usize, list: &[i32]) -> usize {
-    match door::width(list) {
+    match questions::width(list) {
         Width::Across {
             edge,
             corner,
@@ -134,7 +130,7 @@ fn width(out: &mut [u8], filled: usize, list: &[i32]) -> usize {
 
 // Whether two shapes are apart, touching or overlapping.
 fn relation(out: &mut [u8], filled: usize, a: &[i32], b: &[i32]) -> usize {
-    match door::relation(a, b) {
+    match questions::relation(a, b) {
         Relation::Is(place) => replies::place(out, filled, place),
         Relation::No(refusal) => replies::refuse(out, filled, refusal),
     }
@@ -142,7 +138,7 @@ fn relation(out: &mut [u8], filled: usize, a: &[i32], b: &[i32]) -> usize {
 
 // Whether the first shape is inside the second.
 fn inside(out: &mut [u8], filled: usize, a: &[i32], b: &[i32]) -> usize {
-    match door::inside(a, b) {
+    match questions::inside(a, b) {
         Inside::Is(yes) => answers::ok_yes(out, filled, yes),
         Inside::No(refusal) => replies::refuse(out, filled, refusal),
     }
@@ -150,7 +146,7 @@ fn inside(out: &mut [u8], filled: usize, a: &[i32], b: &[i32]) -> usize {
 
 // The squared clearance of two shapes.
 fn clearance(out: &mut [u8], filled: usize, a: &[i32], b: &[i32]) -> usize {
-    match door::clearance(a, b) {
+    match questions::clearance(a, b) {
         Clearance::Squared(squared) => answers::ok(out, filled, &[numbers::size(squared)]),
         Clearance::No(refusal) => replies::refuse(out, filled, refusal),
     }

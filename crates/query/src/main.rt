@@ -1,9 +1,7 @@
 // Answers questions about shapes. Each line of standard input is a question: a word, and behind a
 // bar each field. Each is answered by one line of standard output, in order; a line that is no
 // question is answered with the reason.
-mod answer;
 mod ask;
-mod door;
 mod pictures;
 mod replies;
 mod table;

@@ -1,6 +1,6 @@
 // The replies that know the library's words, without their newlines; the others are in `text`.
-use crate::answer::Refusal;
-use separation::answer::Place;
+use questions::answer::Refusal;
+use separation::place::Place;
 use text::answers;
 
 // Adds `ok` and how two shapes stand to each other.

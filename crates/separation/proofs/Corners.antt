@@ -1,6 +1,5 @@
 -- The corners at which the walk stands, as machine numbers: sums of two coordinates in range.
 --     here-x-small, here-y-small     they are less than 2 to the 21st in size
--- Assumes nothing.
 use mathlib.Core.List.{List}
 use Prim.Native.Nat.{_^_, _<_}
 use native.Mathlib.Omega.{arith}
@@ -8,9 +7,10 @@ use lib.IntN.{ℤ}
 use lib.ListN.{length}
 use Rattle.integer.specs.Bound.{Within, within-add}
 use Rattle.plane.specs.Point.{points}
-use Rattle.plane.specs.theory.Flat.{x-small, y-small}
+use Rattle.plane.specs.theory.lists.Flat.{x-small, y-small}
 use Rattle.calipers.specs.declared.walk.Walk.{Walk}
-use Rattle.plane.specs.theory.Positions.{round, round-within, edges-at-most}
+use Rattle.plane.specs.Cycle.{round}
+use Rattle.plane.specs.theory.sum.Positions.{round-within, edges-at-most}
 use Rattle.calipers.specs.Walk.{here, At}
 
 module _ (a b : List ℤ) (w : Walk) (t : At a b w) where

@@ -3,7 +3,6 @@
 --     on-below, over-end        whether the walk is over tells whether all corners are passed
 --     corner-here               the corner at which it stands
 --     end, end-at, end-here     the place where the edge that leaves a corner ends: the next corner, after the last the first
--- Assumes nothing.
 use mathlib.Core.Path.{_≡_, refl, sym, _∙_, ap}
 use mathlib.Core.Bool.{Bool, true, false, cond}
 use mathlib.Core.List.{List, [], _∷_}
@@ -13,13 +12,15 @@ use lib.IntN.{ℤ}
 use lib.ListN.{length, drop, length-drop}
 use Rattle.plane.specs.Point.{Point, points, corner, _⊕_}
 use Rattle.plane.specs.Shape.{next}
-use Rattle.plane.specs.theory.Forms.{edges}
-use Rattle.plane.specs.theory.Path.{path, along-length}
-use Rattle.plane.specs.theory.EdgeSum.{vectorSum, joinEdges, joinEdges-length}
-use Rattle.plane.specs.theory.Next.{Following, onward, around, following}
+use Rattle.plane.specs.Forms.{edges}
+use Rattle.plane.specs.VectorSum.{path}
+use Rattle.plane.specs.theory.sum.Path.{along-length}
+use Rattle.plane.specs.VectorSum.{vectorSum, joinEdges}
+use Rattle.plane.specs.theory.sum.EdgeSum.{joinEdges-length}
+use Rattle.plane.specs.theory.lists.Next.{Following, onward, around, following}
 use Rattle.calipers.specs.declared.walk.Walk.{Walk}
 use Rattle.calipers.specs.Walk.{here, begun, stepped, remaining, At}
-use Rattle.plane.specs.theory.Positions.{edges-at-most}
+use Rattle.plane.specs.theory.sum.Positions.{edges-at-most}
 use Rattle.calipers.specs.theory.Steps.{remaining-begin, remaining-here, remaining-over, at-stepped, remaining-stepped, here-stepped}
 
 -- ---- how many corners a sum has

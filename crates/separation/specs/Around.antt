@@ -5,7 +5,7 @@
 --     placed D          0 outside, 1 on the rim, 2 inside; `placedFew D` for a point or a segment on a line through the origin
 --     related A B       the number of document 01's relation
 --     Passed D s        a walk saw s of D
--- What it means: `placed-related` of the theory. Assumes nothing.
+-- What it means: `placed-related` of the theory.
 use mathlib.Core.Path.{_≡_}
 use mathlib.Core.Bool.{Bool, false, cond, _||_}
 use mathlib.Core.List.{List}

@@ -2,7 +2,6 @@
 --     min x y            the lesser of two numbers
 --     nearestTo A B i    from corner i of A to a corner of B
 --     nearest A B        from any corner of A
--- Assumes nothing.
 use mathlib.Core.List.{List}
 use Prim.Native.Nat.{ℕ}
 use lib.IntN.{ℤ, negℤ}

@@ -4,11 +4,11 @@ ghost use mathlib.Core.Path.{_≡_};
 ghost use Rattle.plane.specs.Point.{points};
 ghost use Rattle.plane.specs.Turn.{cross};
 ghost use Rattle.plane.specs.Direction.{value};
-ghost use Rattle.plane.specs.theory.EdgeSum.{vectorSum};
+ghost use Rattle.plane.specs.VectorSum.{vectorSum};
 ghost use Rattle.calipers.specs.Walk.{At, here, begun};
-ghost use Rattle.separation.specs.Answer.{placeNumber};
+ghost use Rattle.separation.specs.Place.{placeNumber};
 ghost use Rattle.separation.specs.Around.{Passed, placed, placedFew};
-use crate::answer::Place;
+use crate::place::Place;
 use calipers::walk::Walk;
 
 // What a walk round all edges saw: how many there are, whether the origin is to the right of one, and whether it is not to the left of one.

@@ -3,7 +3,7 @@
 --     edge-start, edge-end           their positions
 --     edge-x-small, edge-y-small     in a list in range
 --     before-apart                   of two vectors in different halves the upper comes first
--- Which corners these are is in `Positions` of the plane. Assumes nothing.
+-- Which corners these are is in `Positions` of the plane.
 use mathlib.Core.Path.{_≡_, refl, sym, _∙_, ap, subst}
 use mathlib.Core.Bool.{Bool, true, false, true≢false}
 use mathlib.Core.List.{List, [], _∷_}
@@ -16,10 +16,11 @@ use Rattle.integer.specs.Linear.{linear, lia}
 use Rattle.plane.specs.Point.{Point, points, corner, origin, _⊖_}
 use Rattle.plane.specs.Shape.{precedes}
 use Rattle.plane.specs.Refusal.{InRange}
-use Rattle.plane.specs.theory.Flat.{dx-small, dy-small}
-use Rattle.plane.specs.theory.Forms.{edges, up, before}
-use Rattle.plane.specs.theory.Precedes.{Lower, lower, level, precedes-lower, lower-precedes, not-precedes}
-use Rattle.plane.specs.theory.Positions.{round, cornerRound, round-within, edges-at-most, edge-at}
+use Rattle.plane.specs.theory.lists.Flat.{dx-small, dy-small}
+use Rattle.plane.specs.Forms.{edges, up, before}
+use Rattle.plane.specs.theory.forms.Precedes.{Lower, lower, level, precedes-lower, lower-precedes, not-precedes}
+use Rattle.plane.specs.Cycle.{round, cornerRound}
+use Rattle.plane.specs.theory.sum.Positions.{round-within, edges-at-most, edge-at}
 use Rattle.calipers.specs.Walk.{edge}
 
 -- a step from p to q goes up exactly if p precedes q

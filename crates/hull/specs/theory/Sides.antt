@@ -1,7 +1,6 @@
 -- The two chains that the scans leave, each without its last corner, are the shape.
 --     UpToLast n k m     what is taken of a chain
 --     sides              what both scans leave of the ascending corners of a set, read upwards and downwards, joins to its shape
--- Assumes nothing.
 use mathlib.Core.Path.{_≡_, refl, sym, _∙_, ap, ap₂, subst}
 use mathlib.Core.List.{List, [], _∷_, _++_, reverse}
 use Prim.Native.Nat.{ℕ, suc, _+_, _-_, _≤_, _<_}
@@ -9,12 +8,13 @@ use native.Mathlib.Decide.{ℕ-discrete}
 use native.Mathlib.Numerals.{add-one}
 use native.Mathlib.Omega.{arith}
 use lib.IntN.{ℤ}
-use lib.ListN.{length, take}
+use lib.ListN.{length, take, length-append}
 use lib.Seq.{length-take-le}
 use Rattle.plane.specs.Point.{Point, points}
 use Rattle.plane.specs.Corner.{ascending, scan, withoutFirst, around, shapeOf}
-use Rattle.plane.specs.theory.Flat.{points-length}
-use Rattle.plane.specs.theory.Least.{ascending-some}
+use Rattle.plane.specs.theory.lists.Flat.{points-length}
+use Rattle.hull.specs.theory.Few.{shapeOf-few}
+use Rattle.hull.specs.theory.Least.{ascending-some}
 use Rattle.hull.specs.Buffer.{stack, Holds, Scanned, Sides}
 use Rattle.hull.specs.theory.Stack.{stack-length, stack-reverse, take-stack}
 
@@ -79,3 +79,14 @@ module _ {right up-read up-kept left down-read down-kept : List ℤ} {n u d m : 
     near-right = climb .near;
     near-left = down .near;
   }
+
+-- joined they have at most as many corners as the set has points
+pub sides-few : (S : List Point) → 0 < length S → {r l : List ℤ} {m n : ℕ} → Sides S r m l n → m + n ≤ length S
+sides-few S some {r} {l} {m} {n} s = omega (
+  arith,
+  shapeOf-few S some,
+  ap length (s .joined),
+  length-append (take m (points r)) (take n (points l)),
+  length-take-le m (points r) (s .within-right),
+  length-take-le n (points l) (s .within-left),
+)

@@ -2,7 +2,6 @@
 --     Settling, settle-drop, settle-keep, settle-short      the loop that drops corners until the new one turns left
 --     Scanning, scanning-start, -more, -end                 the loop that reads the corners
 --     stack-more, take-stack, stack-reverse                 a stack from its top on; it is the front of a list, read backwards
--- Assumes nothing.
 use mathlib.Core.Path.{_≡_, refl, sym, _∙_, ap, ap₂, subst}
 use mathlib.Core.Bool.{true, false}
 use mathlib.Core.List.{List, [], _∷_, reverse, reverse-append, reverse-reverse}
@@ -17,8 +16,8 @@ use Rattle.plane.specs.Point.{Point, origin, points, corner}
 use Rattle.plane.specs.Turn.{turn}
 use Rattle.plane.specs.Corner.{push, scan}
 use Rattle.plane.specs.Refusal.{InRange}
-use Rattle.plane.specs.theory.Flat.{points-length, points-near}
-use Rattle.plane.specs.theory.Run.{run, run-more, run-take, run-set}
+use Rattle.plane.specs.theory.lists.Flat.{points-length, points-near}
+use Rattle.hull.specs.theory.Run.{run, run-more, run-take, run-set}
 use Rattle.hull.specs.Buffer.{stored, stack, Settled, Scanned}
 use Rattle.hull.specs.theory.Stored.{stored-points, stored-length, stored-near}
 

@@ -1,7 +1,6 @@
 -- A sum or merge is answered exactly where document 01 has no reason to refuse it.
 --     sum-accepted, merge-accepted        of valid shapes, what fits is answered
 --     sum-answered, merge-answered        what is answered is the shape that is defined, and its count
--- Assumes nothing.
 use mathlib.Core.Path.{_≡_}
 use mathlib.Core.List.{List, [], _∷_, _++_}
 use borrow.Author.Tests.{le-ltb}
@@ -14,8 +13,8 @@ use Rattle.plane.specs.Refusal.{Valid, shapeRows, tooMany}
 use Rattle.plane.specs.Corner.{shapeOf, sums}
 use Rattle.plane.specs.Output.{answerRows, noRoom}
 use Rattle.plane.specs.Combine.{pairWritten, sumWritten, mergeWritten}
-use Rattle.plane.specs.theory.Rows.{NoneApply, firstRow-none}
-use Rattle.plane.specs.theory.Accept.{valid→accepted, inRange→inside}
+use Rattle.plane.specs.theory.refusals.Rows.{NoneApply, firstRow-none}
+use Rattle.plane.specs.theory.refusals.Accept.{valid→accepted, inRange→inside}
 use Rattle.laws.specs.Grouping.{Gives, Fits}
 use Rattle.laws.specs.theory.Answer.{pairRows, written-answered}
 

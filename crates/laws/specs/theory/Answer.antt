@@ -7,7 +7,6 @@
 --     sum-combines, merge-combines     a sum adds, a merge takes the greater
 --     called-reaches                   also where the two shapes stand in the other order
 --     valid-same                       valid shapes that reach as far in every direction are equal
--- Assumes nothing.
 use mathlib.Core.Path.{_≡_, refl, sym, _∙_, ap, subst}
 use mathlib.Core.List.{List, [], _∷_, _++_}
 use Prim.Native.Nat.{_*_, _≤_, _<_}
@@ -25,14 +24,14 @@ use Rattle.plane.specs.Direction.{support, max}
 use Rattle.plane.specs.Corner.{shapeOf, sums}
 use Rattle.plane.specs.Output.{Written, written, answerRows, overwritten}
 use Rattle.plane.specs.Combine.{pairWritten, sumWritten, mergeWritten}
-use Rattle.plane.specs.theory.Rows.{NoneApply, firstRow-none, firstRow-answered}
-use Rattle.plane.specs.theory.Write.{none-output}
-use Rattle.plane.specs.theory.Accept.{few-corners, accepted→valid, inside→inRange}
-use Rattle.plane.specs.theory.Flat.{points-numbers, numbers-points, numbers-length}
-use Rattle.plane.specs.theory.Members.{sums-some}
-use Rattle.plane.specs.theory.Max.{left-le-max, max-comm, max-assoc, max-idem}
-use Rattle.plane.specs.theory.Support.{support-append, support-sums}
-use Rattle.plane.specs.theory.ShapeOf.{shapeOf-support, shapeOf-shape, shape-extensional}
+use Rattle.plane.specs.theory.refusals.Rows.{NoneApply, firstRow-none, firstRow-answered}
+use Rattle.plane.specs.theory.refusals.Write.{none-output}
+use Rattle.plane.specs.theory.refusals.Accept.{few-corners, accepted→valid, inside→inRange}
+use Rattle.plane.specs.theory.lists.Flat.{points-numbers, numbers-points, numbers-length}
+use Rattle.plane.specs.theory.lists.Members.{sums-some}
+use Rattle.plane.specs.theory.lists.Max.{left-le-max, max-comm, max-assoc, max-idem}
+use Rattle.plane.specs.theory.support.Support.{support-append, support-sums}
+use Rattle.plane.specs.theory.hull.ShapeOf.{shapeOf-support, shapeOf-shape, shape-extensional}
 use Rattle.laws.specs.Grouping.{Call, Gives, Called, as-named, swapped}
 
 -- the table of a question on two shapes

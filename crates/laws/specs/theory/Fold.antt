@@ -4,7 +4,6 @@
 --     act-order       the order of L makes no difference
 --     result-acts     nor does the grouping
 --     result-valid    the result is valid if the shapes are
--- Assumes nothing.
 use mathlib.Core.Path.{_≡_, refl, sym, _∙_, ap, ap₂, subst}
 use mathlib.Core.List.{List, [], _∷_, _++_, List·Memᴰ·head, List·Permᴰ}
 use mathlib.Core.List.{List·Permᴰ·nil, List·Permᴰ·cons, List·Permᴰ·swap, List·Permᴰ·trans}

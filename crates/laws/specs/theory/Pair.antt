@@ -4,14 +4,13 @@
 --     call-comm          the order of the two shapes and the outputs make no difference
 --     sum-distributes    a sum over a merge is the merge of the sums
 --     sum-cancels        equal sums with c come of equal shapes
--- Assumes nothing.
 use mathlib.Core.Path.{_≡_, sym, _∙_, ap}
 use mathlib.Core.List.{List, [], _∷_}
 use native.Mathlib.Omega.{arith}
 use lib.IntN.{ℤ, _+ℤ_, +ℤ-idl}
 use Rattle.integer.specs.Linear.{lia, linear}
 use Rattle.plane.specs.Combine.{sumWritten, mergeWritten}
-use Rattle.plane.specs.theory.Max.{max-idem, plus-max}
+use Rattle.plane.specs.theory.lists.Max.{max-idem, plus-max}
 use Rattle.laws.specs.Grouping.{Call, Called, originPoint}
 use Rattle.laws.specs.theory.Answer.{Combines, sum-combines, merge-combines, called-reaches, valid-same}
 use Rattle.laws.specs.theory.Fold.{far}

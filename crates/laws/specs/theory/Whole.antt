@@ -4,7 +4,6 @@
 --     sumsOf-acts, together-acts     what all sums of corners, and all corners together, reach is the same fold
 --     sums-whole, merges-whole       so the result is the shape of that set
 --     sums-result, merges-result     and a grouping of which no call is refused has it
--- Assumes nothing.
 use mathlib.Core.Path.{_≡_, refl, sym, _∙_, ap, subst}
 use mathlib.Core.List.{List, [], _∷_, map, append-nil, List·Memᴰ·head, List·Memᴰ·tail, List·Permᴰ}
 use mathlib.Core.List.{List·Permᴰ·nil, List·Permᴰ·cons, List·Permᴰ·swap, List·Permᴰ·trans}
@@ -18,11 +17,11 @@ use Rattle.plane.specs.Point.{Point, origin, points, numbers}
 use Rattle.plane.specs.Direction.{value, support, max}
 use Rattle.plane.specs.Corner.{shapeOf, sumsOf}
 use Rattle.plane.specs.Combine.{sumWritten, mergeWritten}
-use Rattle.plane.specs.theory.Flat.{numbers-points}
-use Rattle.plane.specs.theory.Members.{sums-some}
-use Rattle.plane.specs.theory.Max.{max-assoc}
-use Rattle.plane.specs.theory.Support.{support-append, support-sums}
-use Rattle.plane.specs.theory.ShapeOf.{shape-known}
+use Rattle.plane.specs.theory.lists.Flat.{numbers-points}
+use Rattle.plane.specs.theory.lists.Members.{sums-some}
+use Rattle.plane.specs.theory.lists.Max.{max-assoc}
+use Rattle.plane.specs.theory.support.Support.{support-append, support-sums}
+use Rattle.plane.specs.theory.hull.ShapeOf.{shape-known}
 use Rattle.laws.specs.Grouping.{Call, AllValid, Grouping, alone, split, Result, Refused, together, sumOfAll, mergeOfAll}
 use Rattle.laws.specs.theory.Answer.{Combines, sum-combines, merge-combines}
 use Rattle.laws.specs.theory.Acceptance.{sum-answered, merge-answered}

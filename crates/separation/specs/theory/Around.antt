@@ -2,7 +2,6 @@
 --     some-first            a test that passes at some number is found by a search
 --     placed-origin         the numbers of `placed` say whether the origin is outside a shape, on its rim or inside
 --     placed-related        of the differences of two lists: the relation
--- Assumes nothing.
 use mathlib.Core.Path.{_≡_, refl, sym, _∙_, ap}
 use mathlib.Core.Bool.{Bool, true, false, not, cond, _||_, _&&_, true≢false, false≢true}
 use mathlib.Core.List.{List, [], _∷_}
@@ -23,20 +22,13 @@ use Rattle.plane.specs.Shape.{next, IsShape}
 use Rattle.plane.specs.Direction.{value}
 use Rattle.plane.specs.Corner.{shapeOf}
 use Rattle.plane.specs.Separation.{inside, differences, apart, notLeft, onRim, touching}
-use Rattle.plane.specs.theory.Members.{point-discrete}
-use Rattle.plane.specs.theory.Sought.{first-at-most, none-search}
-use Rattle.plane.specs.theory.Vector.{cross-swap, value-origin}
-use Rattle.plane.specs.theory.ShapeOf.{shapeOf-shape}
-use Rattle.plane.specs.theory.Apart.{differences-some, apart-shapeOf}
-use Rattle.plane.specs.theory.InsideShape.{
-  polygon-origin→crosses,
-  polygon-crosses→origin,
-  segment-origin→opposed,
-  segment-opposed→origin,
-  point-inside→equal,
-  point-equal→inside,
-}
-use Rattle.plane.specs.theory.Sector.{square-positive}
+use Rattle.plane.specs.theory.lists.Members.{point-discrete}
+use Rattle.plane.specs.theory.lists.Sought.{first-at-most, none-search}
+use Rattle.plane.specs.theory.forms.Vector.{cross-swap, value-origin}
+use Rattle.plane.specs.theory.hull.ShapeOf.{shapeOf-shape}
+use Rattle.separation.specs.theory.Apart.{differences-some, apart-shapeOf}
+use Rattle.separation.specs.theory.InsideShape.{polygon-origin→crosses, polygon-crosses→origin, segment-origin→opposed, segment-opposed→origin, point-inside→equal, point-equal→inside}
+use Rattle.separation.specs.theory.Sector.{square-positive}
 use Rattle.separation.specs.Around.{some, crossAt, rightOf, placedFew, placed, related}
 
 -- ---- some number passes

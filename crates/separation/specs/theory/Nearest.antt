@@ -2,7 +2,6 @@
 --     min-left, min-right             the lesser of two numbers
 --     Running f n k v                 v is the least of the first k of n numbers; `running-start`, `-more`, `-end`: the moves of a loop
 --     clearance-nearest-apart         clearance of lists that are apart
--- Assumes nothing.
 use mathlib.Core.Path.{_≡_, sym, _∙_, ap}
 use mathlib.Core.Bool.{true}
 use mathlib.Core.List.{List, [], _∷_}
@@ -17,8 +16,8 @@ use Rattle.plane.specs.Point.{Point}
 use Rattle.plane.specs.Direction.{max}
 use Rattle.plane.specs.Measure.{least}
 use Rattle.plane.specs.Separation.{apart, clearance}
-use Rattle.plane.specs.theory.Greatest.{least-more}
-use Rattle.plane.specs.theory.Max.{max-comm}
+use Rattle.plane.specs.theory.lists.Greatest.{least-more}
+use Rattle.plane.specs.theory.lists.Max.{max-comm}
 use Rattle.separation.specs.Nearest.{min, nearestTo, nearest}
 
 -- ---- the lesser of two

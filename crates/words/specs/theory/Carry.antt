@@ -3,7 +3,6 @@
 --     Scaling l₀ w c₀ l c i      the first i words of l₀·w + c₀ are stored in l, c is the carry
 --     adding-, scaling-start, -more, -end     the moves of their loops
 --     row-fits, row-value                     the last carry goes into word k, where it is known that it fits
--- Assumes nothing.
 use mathlib.Core.Path.{_≡_, refl, sym, ap}
 use mathlib.Core.List.{List}
 use Prim.Native.Nat.{ℕ, _+_, _*_, _^_, _≤_, _<_}

@@ -1,5 +1,4 @@
 -- `read` is safe and ends. The invariant: `i` is within the word. The measure: what is left of the word.
--- Assumes nothing.
 use Prim.Native.Nat.{_≤_, _-_}
 use lib.ListN.{length}
 use borrow.Author.Needs.{needs}

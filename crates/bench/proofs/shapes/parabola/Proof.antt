@@ -1,5 +1,4 @@
 -- `parabola` is safe and ends. The invariant: `i` is within the list, and the list keeps its length. The measure: what is left of the list.
--- Assumes nothing.
 use mathlib.Core.Path.{_≡_}
 use Prim.Native.Nat.{_≤_, _-_}
 use lib.ListN.{length}

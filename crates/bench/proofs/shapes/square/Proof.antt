@@ -1,5 +1,4 @@
 -- `square` is safe: 1,024 times 1,024 fits.
--- Assumes nothing.
 use native.Mathlib.Nat.{mul-le-mul}
 use native.Mathlib.Omega.{arith}
 use borrow.Author.Needs.{needs}

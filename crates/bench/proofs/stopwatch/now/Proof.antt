@@ -1,5 +1,4 @@
 -- `now` is safe: a time that is not below 0 is cast to itself.
--- Assumes nothing.
 use mathlib.Core.Path.{_≡_, sym, subst}
 use mathlib.Core.Bool.{Bool, true, false}
 use Prim.Native.Nat.{_<_, _^_}

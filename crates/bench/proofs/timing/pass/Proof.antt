@@ -1,5 +1,4 @@
 -- `pass` is safe and ends. The invariant: there are five columns. The measure: the columns left.
--- Assumes nothing.
 use Prim.Native.Nat.{_≤_, _-_}
 use borrow.Author.Needs.{needs}
 use Rattle.bench.proofs.timing.pass.Statement.{statement}

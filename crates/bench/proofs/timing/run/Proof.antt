@@ -1,5 +1,4 @@
 -- `run` is safe and ends. The invariant says nothing. The measure: the passes left.
--- Assumes nothing.
 use borrow.Author.Needs.{needs}
 use Rattle.bench.proofs.timing.run.Statement.{statement}
 use Rattle.bench.proofs.timing.run.Tie as tie

@@ -1,5 +1,4 @@
 -- `run_block` is safe and ends. The invariant: the output keeps its length. The measure: the calls left.
--- Assumes nothing.
 use mathlib.Core.Path.{_≡_}
 use lib.ListN.{length}
 use borrow.Author.Needs.{needs}

@@ -1,5 +1,4 @@
 -- `cross` meets its contract: products of 32-bit differences, and their difference, fit 64 bits.
--- Assumes nothing.
 use Rattle.integer.specs.Machine.{Machine, machine, known, machine-fits, machine-is}
 use Rattle.plane.specs.Turn.{cross}
 use Rattle.calipers.specs.theory.EdgeAt.{edge-x-small, edge-y-small}

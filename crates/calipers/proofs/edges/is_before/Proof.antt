@@ -1,11 +1,11 @@
--- `is_before` meets its contract: edges in different halves are told by their halves, others by the product. Assumes nothing.
+-- `is_before` meets its contract: edges in different halves are told by their halves, others by the product.
 use mathlib.Core.Path.{_≡_, refl, sym, _∙_, ap}
 use mathlib.Core.Bool.{Bool, true, false, not, Bool·beq, true≢false, false≢true}
 use lib.IntN.{ℤ, pos}
 use lib.Signed.{ltZ}
 use mir.Syntax.{w64}
 use Rattle.integer.specs.Machine.{result-is}
-use Rattle.plane.specs.theory.Angle.{before-alike}
+use Rattle.plane.specs.theory.forms.Angle.{before-alike}
 use Rattle.calipers.specs.theory.EdgeAt.{before-apart}
 use Rattle.calipers.proofs.edges.is_before.Statement.{statement}
 use Rattle.calipers.proofs.edges.is_before.Tie as tie

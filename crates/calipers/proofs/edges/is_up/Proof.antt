@@ -1,11 +1,11 @@
--- `is_up` meets its contract: the edge points up if its start precedes its end. Assumes nothing.
+-- `is_up` meets its contract: the edge points up if its start precedes its end.
 use mathlib.Core.Path.{_∙_, ap}
 use Prim.Native.Nat.{ℕ}
 use native.Mathlib.Omega.{arith}
 use Rattle.plane.specs.Point.{points, corner}
 use Rattle.plane.specs.Shape.{precedes}
-use Rattle.plane.specs.theory.Flat.{points-length}
-use Rattle.plane.specs.theory.Positions.{edges-at-most}
+use Rattle.plane.specs.theory.lists.Flat.{points-length}
+use Rattle.plane.specs.theory.sum.Positions.{edges-at-most}
 use Rattle.calipers.specs.theory.EdgeAt.{edge-up, edge-start}
 use Rattle.calipers.proofs.edges.is_up.Statement.{statement}
 use Rattle.calipers.proofs.edges.is_up.Tie as tie

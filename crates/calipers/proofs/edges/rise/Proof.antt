@@ -1,4 +1,4 @@
--- `rise` meets its contract: the edge goes from its corner to the next on the way round. Assumes nothing.
+-- `rise` meets its contract: the edge goes from its corner to the next on the way round.
 use mathlib.Core.Path.{_∙_, ap}
 use Prim.Native.Nat.{ℕ}
 use native.Mathlib.Omega.{arith}
@@ -6,8 +6,8 @@ use lib.IntN.{_-ℤ_}
 use mir.Syntax.{w32}
 use Rattle.integer.specs.Machine.{result-is}
 use Rattle.plane.specs.Point.{points, corner}
-use Rattle.plane.specs.theory.Flat.{points-length}
-use Rattle.plane.specs.theory.Positions.{edges-at-most}
+use Rattle.plane.specs.theory.lists.Flat.{points-length}
+use Rattle.plane.specs.theory.sum.Positions.{edges-at-most}
 use Rattle.calipers.specs.theory.EdgeAt.{edge-y, edge-start}
 use Rattle.calipers.proofs.edges.rise.Statement.{statement}
 use Rattle.calipers.proofs.edges.rise.Tie as tie

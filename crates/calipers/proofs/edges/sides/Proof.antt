@@ -1,8 +1,8 @@
--- `sides` meets its contract. Assumes nothing.
+-- `sides` meets its contract.
 use mathlib.Core.Path.{sym, _∙_}
 use native.Mathlib.Omega.{arith}
 use Rattle.plane.specs.Point.{points}
-use Rattle.plane.specs.theory.Positions.{edges-few, edges-some}
+use Rattle.plane.specs.theory.sum.Positions.{edges-few, edges-some}
 use Rattle.calipers.proofs.edges.sides.Statement.{statement}
 use Rattle.calipers.proofs.edges.sides.Tie as tie
 

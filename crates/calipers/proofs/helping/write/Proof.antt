@@ -1,6 +1,5 @@
 -- `write` meets its contract. The invariant: so many corners stand at the front of the output, and the walk is as far; the measure is what is
 -- left of k.
--- Assumes nothing.
 use Prim.Native.Nat.{_-_}
 use native.Mathlib.Omega.{arith}
 use mir.Syntax.{w32}

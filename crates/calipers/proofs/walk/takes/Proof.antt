@@ -1,8 +1,8 @@
--- `takes` meets its contract: the tests in turn. Assumes nothing.
+-- `takes` meets its contract: the tests in turn.
 use mathlib.Core.Path.{sym, _∙_, ap}
 use mathlib.Core.Bool.{not}
 use native.Mathlib.Omega.{arith}
-use Rattle.plane.specs.theory.Forms.{before}
+use Rattle.plane.specs.Forms.{before}
 use Rattle.calipers.specs.theory.Pass.{takes-none, takes-alone, takes-asked}
 use Rattle.calipers.proofs.walk.takes.Statement.{statement}
 use Rattle.calipers.proofs.walk.takes.Tie as tie

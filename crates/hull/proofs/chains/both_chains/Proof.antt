@@ -1,12 +1,11 @@
 -- `both_chains` meets its contract: the corners of both shapes are read upwards and downwards, and what the two scans leave is the shape.
--- Assumes nothing.
 use mathlib.Core.List.{_++_}
 use Prim.Native.Nat.{_<_}
 use native.Mathlib.Omega.{arith}
 use borrow.Author.Needs.{needs}
 use lib.ListN.{length, length-append}
 use Rattle.plane.specs.Point.{points}
-use Rattle.plane.specs.theory.Flat.{points-length}
+use Rattle.plane.specs.theory.lists.Flat.{points-length}
 use Rattle.hull.specs.theory.Gather.{held-some}
 use Rattle.hull.specs.theory.Sides.{sides}
 use Rattle.hull.proofs.chains.both_chains.Statement.{statement}

@@ -1,5 +1,5 @@
 -- `scan` meets its contract. The invariant: the stack at the front, and the corners from i on, still give what the scan of all gives; the
--- measure is what is left. Assumes nothing.
+-- measure is what is left.
 use Prim.Native.Nat.{_-_}
 use native.Mathlib.Omega.{arith}
 use Rattle.hull.specs.theory.Stack.{Scanning, scanning-start, scanning-room, scanning-more, scanning-end}

@@ -1,5 +1,4 @@
 -- `measured` meets its contract: the greatest turn and the squared length are not negative.
--- Assumes nothing.
 use mathlib.Core.Path.{_≡_, refl, sym, _∙_, ap}
 use Prim.Native.Nat.{ℕ}
 use native.Mathlib.Omega.{arith}
@@ -11,7 +10,7 @@ use Rattle.integer.specs.Order.{weaken}
 use Rattle.plane.specs.Point.{points, corner}
 use Rattle.plane.specs.Turn.{turn}
 use Rattle.plane.specs.Measure.{squared, edgeTurn, reach, edgeSquared}
-use Rattle.plane.specs.theory.Reach.{reach-positive, edgeSquared-positive}
+use Rattle.measure.specs.theory.Reach.{reach-positive, edgeSquared-positive}
 use Rattle.measure.proofs.Edges.{step-within}
 use Rattle.measure.proofs.narrowest.measured.Statement.{statement}
 use Rattle.measure.proofs.narrowest.measured.Tie as tie

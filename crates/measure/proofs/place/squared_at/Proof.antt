@@ -1,9 +1,8 @@
 -- `squared_at` meets its contract: squares of 32-bit differences, and their sum, fit 64 bits.
--- Assumes nothing.
 use borrow.Author.Needs.{needs}
 use Rattle.integer.specs.Machine.{Machine, machine, known, machine-fits, machine-is}
 use Rattle.plane.specs.Measure.{squared}
-use Rattle.plane.specs.theory.Flat.{dx-small, dy-small}
+use Rattle.plane.specs.theory.lists.Flat.{dx-small, dy-small}
 use Rattle.measure.proofs.place.squared_at.Statement.{statement}
 use Rattle.measure.proofs.place.squared_at.Tie as tie
 

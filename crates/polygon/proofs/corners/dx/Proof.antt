@@ -1,7 +1,6 @@
 -- `dx` meets its contract: coordinates in range differ by what 32 bits hold.
--- Assumes nothing.
 use Rattle.integer.specs.Machine.{machine, known, machine-fits, machine-is}
-use Rattle.plane.specs.theory.Flat.{x-small}
+use Rattle.plane.specs.theory.lists.Flat.{x-small}
 use Rattle.polygon.proofs.corners.dx.Statement.{statement}
 use Rattle.polygon.proofs.corners.dx.Tie as tie
 

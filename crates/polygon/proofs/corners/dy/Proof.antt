@@ -1,7 +1,6 @@
 -- `dy` meets its contract: coordinates in range differ by what 32 bits hold.
--- Assumes nothing.
 use Rattle.integer.specs.Machine.{machine, known, machine-fits, machine-is}
-use Rattle.plane.specs.theory.Flat.{y-small}
+use Rattle.plane.specs.theory.lists.Flat.{y-small}
 use Rattle.polygon.proofs.corners.dy.Statement.{statement}
 use Rattle.polygon.proofs.corners.dy.Tie as tie
 

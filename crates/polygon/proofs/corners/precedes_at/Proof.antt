@@ -1,11 +1,10 @@
 -- `precedes_at` meets its contract: the two tests on y leave equal y.
--- Assumes nothing.
 use mathlib.Core.Path.{_≡_, sym, _∙_, ap₂}
 use lib.Signed.{ltZ}
 use mir.Syntax.{w32}
 use Rattle.integer.specs.Machine.{result-is}
 use Rattle.integer.specs.Order.{ltZ-true, ltZ-false}
-use Rattle.plane.specs.theory.Precedes.{precedes-below, precedes-above, precedes-level}
+use Rattle.plane.specs.theory.forms.Precedes.{precedes-below, precedes-above, precedes-level}
 use Rattle.polygon.proofs.corners.precedes_at.Statement.{statement}
 use Rattle.polygon.proofs.corners.precedes_at.Tie as tie
 

@@ -1,8 +1,7 @@
 -- `turn_at` meets its contract: products of 32-bit differences, and their difference, fit 64 bits.
--- Assumes nothing.
 use Rattle.integer.specs.Machine.{Machine, machine, known, machine-fits, machine-is}
 use Rattle.plane.specs.Turn.{turn}
-use Rattle.plane.specs.theory.Flat.{dx-small, dy-small}
+use Rattle.plane.specs.theory.lists.Flat.{dx-small, dy-small}
 use Rattle.polygon.proofs.corners.turn_at.Statement.{statement}
 use Rattle.polygon.proofs.corners.turn_at.Tie as tie
 

@@ -1,10 +1,9 @@
 -- `x_at` meets its contract: the place is within the list, and the number read back is the corner's.
--- Assumes nothing.
 use mathlib.Core.Path.{sym, _∙_}
 use native.Mathlib.Omega.{arith}
 use mir.Facts.{toZ-ofZ}
 use borrow.Author.Needs.{sfits-of}
-use Rattle.plane.specs.theory.Flat.{points-length, points-x}
+use Rattle.plane.specs.theory.lists.Flat.{points-length, points-x}
 use Rattle.polygon.proofs.corners.x_at.Statement.{statement}
 use Rattle.polygon.proofs.corners.x_at.Tie as tie
 

@@ -1,5 +1,4 @@
 -- `greatest` meets its contract. The invariant: of the values before i the greatest, at its smallest position; the measure is what is left.
--- Assumes nothing.
 use mathlib.Core.Path.{_≡_, sym, _∙_, ap, ap₂}
 use mathlib.Core.Logic.{⊎-elim}
 use Prim.Native.Nat.{_-_, _≤_}
@@ -15,7 +14,7 @@ use Rattle.integer.specs.Order.{ltZ-true, ltZ-false}
 use Rattle.plane.specs.Limits.{maxPart}
 use Rattle.plane.specs.Point.{point, points, corner}
 use Rattle.plane.specs.Direction.{value as Direction·value, support, furthest}
-use Rattle.plane.specs.theory.Furthest.{Greatest, greatest-start, greatest-keep, greatest-rise, greatest-support, greatest-furthest}
+use Rattle.polygon.specs.theory.Furthest.{Greatest, greatest-start, greatest-keep, greatest-rise, greatest-support, greatest-furthest}
 use Rattle.polygon.proofs.direction.greatest.Statement.{statement}
 use Rattle.polygon.proofs.direction.greatest.Tie as tie
 

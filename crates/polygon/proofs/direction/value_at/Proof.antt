@@ -1,10 +1,9 @@
 -- `value_at` meets its contract: products of parts and coordinates in range, and their sum, fit 64 bits.
--- Assumes nothing.
 use Rattle.integer.specs.Bound.{within-widen}
 use Rattle.integer.specs.Machine.{Machine, machine, known, bounded, machine-fits, machine-is}
 use Rattle.plane.specs.Limits.{part-small}
 use Rattle.plane.specs.Direction.{value}
-use Rattle.plane.specs.theory.Flat.{x-small, y-small}
+use Rattle.plane.specs.theory.lists.Flat.{x-small, y-small}
 use Rattle.polygon.proofs.direction.value_at.Statement.{statement}
 use Rattle.polygon.proofs.direction.value_at.Tie as tie
 

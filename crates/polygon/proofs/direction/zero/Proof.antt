@@ -1,4 +1,4 @@
--- `zero` meets its contract: a number is 0 exactly if its bits are. Assumes nothing.
+-- `zero` meets its contract: a number is 0 exactly if its bits are.
 use mathlib.Core.Path.{_≡_, refl, sym, _∙_, ap}
 use mathlib.Core.Bool.{Bool, _&&_}
 use Prim.Native.Nat.{suc, _-_, _<_, _^_}

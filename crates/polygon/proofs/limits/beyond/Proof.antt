@@ -1,4 +1,4 @@
--- `beyond` meets its contract. Assumes nothing.
+-- `beyond` meets its contract.
 use mathlib.Core.Path.{_≡_, sym, _∙_, ap, ap₂}
 use mathlib.Core.Bool.{Bool, _||_}
 use lib.Signed.{ltZ}

@@ -1,4 +1,4 @@
--- `outside` meets its contract. The limit is opened here alone. Assumes nothing.
+-- `outside` meets its contract. The limit is opened here alone.
 use mathlib.Core.Path.{_∙_, ap}
 use mathlib.Core.Bool.{_||_}
 use lib.IntN.{ℤ, pos, negℤ}

@@ -1,6 +1,5 @@
 -- `write_from` meets its contract. The invariant: k corners of the answer stand in the output, and the next comes from k places after
 -- the start; the measure is what is left.
--- Assumes nothing.
 use mathlib.Core.Path.{_≡_, sym, _∙_, ap, ap₂, subst}
 use mathlib.Core.List.{List}
 use Prim.Native.Nat.{ℕ, _+_, _*_, _-_, _≤_, _<_, zero-le}
@@ -9,9 +8,10 @@ use lib.IntN.{ℤ}
 use lib.ListN.{length}
 use Rattle.plane.specs.Point.{Point, points, numbers, corner, opposite}
 use Rattle.plane.specs.Shape.{next}
-use Rattle.plane.specs.theory.Turned.{turned, turned-start, turned-below, turned-step}
-use Rattle.plane.specs.theory.Filled.{Filled, filled-start, filled-length, filled-corner, filled-done}
-use Rattle.plane.specs.theory.Mirror.{mirroredFrom, mirroredFrom-length, mirroredFrom-numbers, mirroredFrom-at}
+use Rattle.plane.specs.Cycle.{turned}
+use Rattle.plane.specs.theory.lists.Turned.{turned-start, turned-below, turned-step}
+use Rattle.plane.specs.theory.lists.Filled.{Filled, filled-start, filled-length, filled-corner, filled-done}
+use Rattle.plane.specs.theory.mirror.Mirror.{mirroredFrom, mirroredFrom-length, mirroredFrom-numbers, mirroredFrom-at}
 use Rattle.polygon.proofs.opposite.write_from.Statement.{statement}
 use Rattle.polygon.proofs.opposite.write_from.Tie as tie
 

@@ -1,5 +1,4 @@
 -- `write_opposite` meets its contract: the opposite of a coordinate in range fits 32 bits.
--- Assumes nothing.
 use mathlib.Core.Path.{_≡_, _∙_, ap₂}
 use borrow.Author.Needs.{needs}
 use Prim.Native.Nat.{_+_, _*_}
@@ -10,7 +9,7 @@ use lib.IntN.{ℤ, pos, negℤ, _-ℤ_}
 use Rattle.integer.specs.Ring.{ring, reify}
 use lib.ListN.{set}
 use Rattle.integer.specs.Machine.{Machine, machine, known, machine-fits, machine-is}
-use Rattle.plane.specs.theory.Flat.{x-small, y-small}
+use Rattle.plane.specs.theory.lists.Flat.{x-small, y-small}
 use Rattle.polygon.proofs.opposite.write_opposite.Statement.{statement}
 use Rattle.polygon.proofs.opposite.write_opposite.Tie as tie
 

@@ -1,4 +1,4 @@
--- `bad_count` meets its contract. Assumes nothing.
+-- `bad_count` meets its contract.
 use mathlib.Core.Path.{sym}
 use mathlib.Core.Bool.{_||_}
 use borrow.Author.Tests.{eq-eqb, ne-eqb}

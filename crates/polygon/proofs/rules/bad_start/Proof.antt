@@ -1,5 +1,4 @@
 -- `bad_start` meets its contract. The invariant: no corner before c precedes the first; the measure is what is left.
--- Assumes nothing.
 use mathlib.Core.Path.{_≡_, sym, _∙_, ap}
 use Prim.Native.Nat.{ℕ, _-_, _<_}
 use native.Mathlib.Omega.{arith}
@@ -9,7 +8,7 @@ use lib.ListN.{length}
 use Rattle.plane.specs.Point.{points, corner}
 use Rattle.plane.specs.Shape.{precedes}
 use Rattle.plane.specs.Refusal.{badStart}
-use Rattle.plane.specs.theory.Sought.{Sought, sought-start, sought-more, sought-yes, sought-no}
+use Rattle.plane.specs.theory.lists.Sought.{Sought, sought-start, sought-more, sought-yes, sought-no}
 use Rattle.polygon.proofs.rules.bad_start.Statement.{statement}
 use Rattle.polygon.proofs.rules.bad_start.Tie as tie
 

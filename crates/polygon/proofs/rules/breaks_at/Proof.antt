@@ -1,4 +1,4 @@
--- `breaks_at` meets its contract: the three parts of the rule in turn. Assumes nothing.
+-- `breaks_at` meets its contract: the three parts of the rule in turn.
 use mathlib.Core.Path.{_≡_, sym, _∙_, ap, ap₂, subst}
 use mathlib.Core.Bool.{not}
 use lib.IntN.{ℤ, pos}
@@ -10,7 +10,7 @@ use lib.Signed.{ltZ}
 use mir.Syntax.{w64}
 use Rattle.integer.specs.Machine.{result-is}
 use Rattle.plane.specs.Shape.{next}
-use Rattle.plane.specs.theory.Tests.{breaks-own, breaks-end, breaks-other}
+use Rattle.plane.specs.theory.refusals.Tests.{breaks-own, breaks-end, breaks-other}
 use Rattle.polygon.proofs.rules.breaks_at.Statement.{statement}
 use Rattle.polygon.proofs.rules.breaks_at.Tie as tie
 

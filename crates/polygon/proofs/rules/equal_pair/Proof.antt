@@ -1,4 +1,4 @@
--- `equal_pair` meets its contract: two corners neither of which precedes the other. Assumes nothing.
+-- `equal_pair` meets its contract: two corners neither of which precedes the other.
 use mathlib.Core.Path.{_≡_, sym, _∙_, ap}
 use mathlib.Core.Bool.{Bool, not, _&&_}
 use native.Mathlib.Omega.{arith}
@@ -7,7 +7,7 @@ use Prim.Native.Nat.{ℕ}
 use lib.ListN.{length}
 use Rattle.plane.specs.Point.{points, corner}
 use Rattle.plane.specs.Shape.{precedes}
-use Rattle.plane.specs.theory.Tests.{equalPair-other, equalPair-two}
+use Rattle.plane.specs.theory.refusals.Tests.{equalPair-other, equalPair-two}
 use Rattle.polygon.proofs.rules.equal_pair.Statement.{statement}
 use Rattle.polygon.proofs.rules.equal_pair.Tie as tie
 

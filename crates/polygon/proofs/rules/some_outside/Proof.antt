@@ -1,5 +1,4 @@
 -- `some_outside` meets its contract. The invariant: no coordinate before i is out of range; the measure is what is left.
--- Assumes nothing.
 use mathlib.Core.Path.{_≡_, sym, _∙_, ap}
 use Prim.Native.Nat.{ℕ, _-_}
 use native.Mathlib.Omega.{arith}
@@ -10,7 +9,7 @@ use lib.IntN.{pos}
 use lib.ListN.{length, getD}
 use mir.Facts.{toZ-ofZ}
 use Rattle.plane.specs.Refusal.{outside, someOutside}
-use Rattle.plane.specs.theory.Sought.{Sought, sought-start, sought-more, sought-yes, sought-no}
+use Rattle.plane.specs.theory.lists.Sought.{Sought, sought-start, sought-more, sought-yes, sought-no}
 use Rattle.polygon.proofs.rules.some_outside.Statement.{statement}
 use Rattle.polygon.proofs.rules.some_outside.Tie as tie
 

@@ -1,5 +1,4 @@
 -- `along` meets its contract: products of corners of the sum, and their sum, fit 64 bits.
--- Assumes nothing.
 use Rattle.integer.specs.Machine.{Machine, machine, known, machine-fits, machine-is}
 use Rattle.plane.specs.Direction.{value}
 use Rattle.separation.proofs.Corners.{here-x-small, here-y-small}

@@ -1,5 +1,4 @@
 -- `lesser` meets its contract: the test is on the two numbers, read back from their bits.
--- Assumes nothing.
 use mathlib.Core.Path.{_≡_, sym, _∙_, ap₂}
 use lib.Signed.{ltZ}
 use mir.Syntax.{w64}

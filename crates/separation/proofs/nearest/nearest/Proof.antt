@@ -1,5 +1,4 @@
 -- `nearest` meets its contract. The invariant: the least so far; the measure is what is left.
--- Assumes nothing.
 use mathlib.Core.Path.{_∙_, ap}
 use Prim.Native.Nat.{_-_}
 use native.Mathlib.Omega.{arith}

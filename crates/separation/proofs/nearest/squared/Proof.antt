@@ -1,8 +1,7 @@
 -- `squared` meets its contract: squares of differences of coordinates in range, and their sum, fit 64 bits.
--- Assumes nothing.
 use Rattle.integer.specs.Machine.{Machine, machine, known, machine-fits, machine-is}
 use Rattle.plane.specs.Measure.{squared}
-use Rattle.plane.specs.theory.Flat.{x-small, y-small}
+use Rattle.plane.specs.theory.lists.Flat.{x-small, y-small}
 use Rattle.separation.proofs.nearest.squared.Statement.{statement}
 use Rattle.separation.proofs.nearest.squared.Tie as tie
 

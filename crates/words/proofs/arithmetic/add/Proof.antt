@@ -1,5 +1,4 @@
 -- `add` meets its contract: b is added once, from the lowest word on.
--- Assumes nothing.
 use mathlib.Core.Path.{_≡_}
 use Prim.Native.Nat.{ℕ, _+_, _*_}
 use native.Mathlib.Nat.{zero-add}

@@ -1,5 +1,4 @@
 -- `is_less` meets its contract. The invariant: from word i on the numbers agree; the measure is i.
--- Assumes nothing.
 use mathlib.Core.Path.{_≡_}
 use Prim.Native.Nat.{_-_, _≤_}
 use native.Mathlib.Omega.{arith}

@@ -1,6 +1,5 @@
 -- `scale` meets its contract. The invariant: what is stored, the carry and the product to come make the whole product, where the words
 -- that are still to be multiplied count on the other side; the measure is what is left.
--- Assumes nothing.
 use Prim.Native.Nat.{_-_}
 use native.Mathlib.Omega.{arith}
 use borrow.Author.Needs.{needs}

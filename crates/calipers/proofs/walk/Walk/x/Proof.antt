@@ -1,12 +1,12 @@
--- `x` meets its contract: coordinates in range add up to what 32 bits hold. Assumes nothing.
+-- `x` meets its contract: coordinates in range add up to what 32 bits hold.
 use mathlib.Core.Path.{_∙_, ap}
 use Prim.Native.Nat.{ℕ}
 use native.Mathlib.Omega.{arith}
 use lib.ListN.{length}
 use Rattle.integer.specs.Machine.{Machine, machine, known, machine-fits, machine-is}
 use Rattle.plane.specs.Point.{points, corner}
-use Rattle.plane.specs.theory.Flat.{x-small}
-use Rattle.plane.specs.theory.Positions.{edges-at-most, round-within}
+use Rattle.plane.specs.theory.lists.Flat.{x-small}
+use Rattle.plane.specs.theory.sum.Positions.{edges-at-most, round-within}
 use Rattle.calipers.specs.Walk.{here}
 use Rattle.calipers.proofs.walk.Walk.x.Statement.{statement}
 use Rattle.calipers.proofs.walk.Walk.x.Tie as tie
