@@ -1,0 +1,77 @@
+// The replies that know the library's words, without their newlines; the others are in `text`.
+use questions::answer::Refusal;
+use separation::place::Place;
+use text::answers;
+
+// Adds `ok` and how two shapes stand to each other.
+pub fn place(out: &mut [u8], filled: usize, place: Place) -> usize {
+    match place {
+        Place::Apart => answers::word(out, filled, b"ok apart"),
+        Place::Touching => answers::word(out, filled, b"ok touching"),
+        Place::Overlapping => answers::word(out, filled, b"ok overlapping"),
+    }
+}
+
+// Adds a refusal: its number, and which shape of the question it means.
+pub fn refuse(out: &mut [u8], filled: usize, refusal: Refusal) -> usize {
+    let now = answers::labelled(out, filled, b"no ", number(refusal));
+    if let Refusal::Side {
+        shape,
+        edge,
+        corner,
+    } = refusal {
+        return broken(out, now, shape, edge, corner);
+    }
+    blame(out, now, blamed(refusal))
+}
+
+// Adds where the left rule is broken.
+fn broken(out: &mut [u8], filled: usize, shape: usize, edge: usize, corner: usize) -> usize {
+    let now = blame(out, filled, shape);
+    let at_edge = answers::labelled(out, now, b" edge ", edge as u64);
+    answers::labelled(out, at_edge, b" corner ", corner as u64)
+}
+
+// Adds which shape is meant, if one is.
+fn blame(out: &mut [u8], filled: usize, shape: usize) -> usize {
+    if shape == 0 {
+        return filled;
+    }
+    answers::labelled(out, filled, b" shape ", shape as u64)
+}
+
+// Document 01's number of a refusal.
+fn number(refusal: Refusal) -> u64 {
+    match refusal {
+        Refusal::Count { shape: _ } => 1,
+        Refusal::Corners { shape: _ } => 2,
+        Refusal::Range { shape: _ } => 3,
+        Refusal::Side {
+            shape: _,
+            edge: _,
+            corner: _,
+        } => 4,
+        Refusal::Start { shape: _ } => 5,
+        Refusal::LargeAnswer => 6,
+        Refusal::FarAnswer => 7,
+        Refusal::Room => 8,
+        Refusal::Flat => 10,
+        Refusal::Direction => 11,
+    }
+}
+
+// The shape that a refusal means, counted from 1; 0 where it means none.
+fn blamed(refusal: Refusal) -> usize {
+    match refusal {
+        Refusal::Count { shape } => shape,
+        Refusal::Corners { shape } => shape,
+        Refusal::Range { shape } => shape,
+        Refusal::Side {
+            shape,
+            edge: _,
+            corner: _,
+        } => shape,
+        Refusal::Start { shape } => shape,
+        _ => 0,
+    }
+}
