@@ -1,4 +1,4 @@
--- `now` is safe: a time that is not below 0 is cast to itself.
+-- `clock` is safe: a time that is not below 0 is cast to itself.
 use mathlib.Core.Path.{_≡_, sym, subst}
 use mathlib.Core.Bool.{Bool, true, false}
 use Prim.Native.Nat.{_<_, _^_}
@@ -10,8 +10,8 @@ use mir.Syntax.{w64}
 use mir.Val.{Fits, toZ, ofZ}
 use mir.ValLaws.{toZ-ofZ}
 use borrow.Author.Needs.{needs}
-use Rattle.bench.proofs.stopwatch.now.Statement.{statement}
-use Rattle.bench.proofs.stopwatch.now.Tie as tie
+use Rattle.bench.proofs.timing.clock.Statement.{statement}
+use Rattle.bench.proofs.timing.clock.Tie as tie
 
 not-below : (z : ℤ) → ltZ z (pos 0) ≡ false → mag z < 2 ^ 63 → T (nonNeg z) × Fits w64 (natAbs z)
 not-below (pos n) e h = (tt, record { fits = omega (arith, h) })
@@ -33,5 +33,5 @@ returns c = search needs
 returns-2 : tie.Need-returns-2
 returns-2 c = search needs
 
-pub now-spec : {M : Type 1} → statement M
-now-spec = tie.close (tie.spec clock-requires cast-result returns returns-2)
+pub clock-spec : {M : Type 1} → statement M
+clock-spec = tie.close (tie.spec clock-requires cast-result returns returns-2)

@@ -2,8 +2,8 @@
 use Prim.Native.Nat.{_≤_, _-_}
 use lib.ListN.{length}
 use borrow.Author.Needs.{needs}
-use Rattle.bench.proofs.numeral.read.Statement.{statement}
-use Rattle.bench.proofs.numeral.read.Tie as tie
+use Rattle.bench.proofs.number.read.Statement.{statement}
+use Rattle.bench.proofs.number.read.Tie as tie
 
 abbrev Inv-loop : tie.InvT-loop
 Inv-loop word number₀ i₀ number i = i ≤ length word

@@ -1,18 +1,15 @@
--- `run_block` is safe and ends. The invariant: the output keeps its length. The measure: the calls left.
+-- `ask_often` is safe and ends. The invariant: the output keeps its length. The measure: the calls left.
 use mathlib.Core.Path.{_≡_}
 use lib.ListN.{length}
 use borrow.Author.Needs.{needs}
-use Rattle.bench.proofs.timing.run_block.Statement.{statement}
-use Rattle.bench.proofs.timing.run_block.Tie as tie
+use Rattle.bench.proofs.timing.ask_often.Statement.{statement}
+use Rattle.bench.proofs.timing.ask_often.Tie as tie
 
 abbrev Inv-loop : tie.InvT-loop
-Inv-loop question a b out₀ calls start seen₀ left₀ out seen left = length out ≡ length out₀
+Inv-loop question a b out₀ calls seen₀ left₀ out seen left = length out ≡ length out₀
 
 abbrev μ-loop : tie.MeasureT-loop
-μ-loop question a b out₀ calls start seen₀ left₀ out seen left = left
-
-now-requires : tie.Need-now-requires Inv-loop μ-loop
-now-requires c κs = search needs
+μ-loop question a b out₀ calls seen₀ left₀ out seen left = left
 
 loop-holds : tie.Need-loop-holds Inv-loop μ-loop
 loop-holds c = search needs
@@ -38,22 +35,18 @@ loop-less c = search needs
 loop-again : tie.Need-loop-again Inv-loop μ-loop
 loop-again c = search needs
 
-since-requires : tie.Need-since-requires Inv-loop μ-loop
-since-requires c κs = search needs
-
 same-length : tie.Need-same-length Inv-loop μ-loop
 same-length c = search needs
 
 returns : tie.Need-returns Inv-loop μ-loop
 returns c = search needs
 
-pub run-block-spec : {M : Type 1} → statement M
-run-block-spec =
+pub ask-often-spec : {M : Type 1} → statement M
+ask-often-spec =
     tie.close
     (tie.spec
     Inv-loop
     μ-loop
-    now-requires
     loop-holds
     lent-requires
     lent-requires-2
@@ -62,6 +55,5 @@ run-block-spec =
     sub-left
     loop-less
     loop-again
-    since-requires
     same-length
     returns)
