@@ -1,5 +1,5 @@
 // What the questions answer.
-use separation::place::Place;
+pub use separation::place::Place;
 
 // A row of document 01's table, and what it carries: 1 to 5 the shape that is blamed, the first or the second, and 4 the edge and the corner
 // that break the left rule.
