@@ -17,7 +17,7 @@ use polygon::numbers;
 // shapes together, and each of them is a corner of one of the two. The shapes may overlap, lie one in the other, share corners or edges; a
 // corner in line between two others is dropped, and so is one that lies strictly inside the other shape. Two points make a segment, or a
 // point if they are equal; segments in line make a segment.
-// Ruled out: points in line kept; the second shape forgotten; one corner more counted.
+// Ruled out: points in line kept; second shape forgotten; count one more.
 pub fn merge(a: &[i32], b: &[i32], buf: &mut [i32]) -> usize
     requires { ⌜ Valid (now a) × Valid (now b)
         × (length (points (now a)) + length (points (now b)) ≤ length (points (now buf))) ⌝ }

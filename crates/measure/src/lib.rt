@@ -50,7 +50,7 @@ pub fn furthest_pair(list: &[i32]) -> Length
 
 // The edge across which a shape of three corners or more is narrowest. Edges compare by turn·turn/squared as exact fractions. Of several such
 // edges the smallest position; of two corners equally far from it, as where the opposite edge is parallel, the smallest position.
-// Ruled out: later edge on a tie; corner after the tie; rounded width one too large.
+// Ruled out: later edge on a tie; corner after the tie; widths compared after rounding down.
 pub fn narrowest_edge(list: &[i32]) -> Width
     requires { ⌜ Valid (now list) × (2 < ListN·length (points (now list))) ⌝ }
     ensures { λ r. ⌜ IsWidth (points (now (list .entry))) r ⌝ }

@@ -16,7 +16,7 @@ use crate::rules;
 
 // Writes the mirror image of a shape, the shape of all (-x, -y), at the front of the output; all behind it is kept. It has as many corners
 // as the shape. A point becomes a point and a segment a segment; the image begins at the opposite of the highest, rightmost corner.
-// Ruled out: mirror begun at the old start; output left alone; number written behind the answer.
+// Ruled out: mirror begun at the old start; output left alone.
 pub fn mirror(list: &[i32], out: &mut [i32])
     requires { ⌜ Valid (now list) × (2 * length (points (now list)) ≤ length (now out)) ⌝ }
     ensures { λ r. ⌜ now (out .exit) ≡ overwritten (numbers (shapeOf (mirrored (points (now (list .entry)))))) (now (out .entry)) ⌝ }
