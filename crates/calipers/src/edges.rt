@@ -13,6 +13,7 @@ use polygon::point;
 use polygon::point::Point;
 
 // The number of edges: a point has none, a segment two.
+// Ruled out: segment passed once.
 pub fn sides(list: &[i32]) -> usize
     ensures { λ r. ⌜ r ≡ length (edges (points (now (list .entry)))) ⌝ }
 {

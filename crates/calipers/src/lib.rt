@@ -1,4 +1,5 @@
-// Inner functions for the vector sum of two shapes by the caliper walk (document 01, "Sum"). Callers ask the crate `questions`.
+// Inner functions for the vector sum of two shapes by the caliper walk (document 01, "Sum"). Callers ask the crate
+// `questions`.
 pub mod edges;
 mod part;
 pub mod walk;
@@ -12,10 +13,10 @@ ghost use Rattle.polygon.specs.Front.{Front};
 use polygon::corners;
 use walk::Walk;
 
-// Writes the shape of all corner-plus-corner points at the front of the buffer, and says how many corners it has: at most as many as both
-// shapes together. Edges of equal direction make one step, so no three corners of the answer are in line. A point moves the other shape; a
-// segment's edge is passed twice.
-// Ruled out: both corners kept where parallel edges meet; the origin point for every sum; a made-up count.
+// Writes the shape of all corner-plus-corner points at the front of the buffer, and says how many corners it has: at
+// most as many as both shapes together. Edges of equal direction make one step, so no three corners of the answer are
+// in line. A point moves the other shape; a segment's edge is passed twice.
+// Ruled out: parallel corners kept; made up count.
 pub fn sum(a: &[i32], b: &[i32], buf: &mut [i32]) -> usize
     requires { ⌜ Valid (now a) × Valid (now b)
         × (length (points (now a)) + length (points (now b)) ≤ length (points (now buf))) ⌝ }

@@ -13,9 +13,8 @@ pub struct Part {
     pub count: usize,
 }
 
-// Writes k corners from the walk's place on, or what remains of them, at the front of the output; all behind
-// them is kept.
-// Ruled out: the tail of the output touched; the origin for every corner.
+// Writes k corners from the walk's place on, or what remains of them, at the front of the output; all behind them is
+// kept.
 pub fn write(a: &[i32], b: &[i32], from: Walk, k: usize, out: &mut [i32]) -> Part
     requires { ⌜ At (now a) (now b) from
         × (length (numbers (partOf (now a) (now b) from k)) ≤ length (now out)) ⌝ }

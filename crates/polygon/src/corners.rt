@@ -50,7 +50,7 @@ pub fn precedes_at(list: &[i32], a: usize, b: usize) -> bool
 }
 
 // Writes a corner at position k of an output.
-// Ruled out: coordinates swapped.
+// Ruled out: number written at the end.
 pub fn put(out: &mut [i32], k: usize, p: Point)
     requires { ⌜ 2 * k + 1 < length (now out) ⌝ }
     ensures { λ r. ⌜ now (out .exit) ≡ stored (now (out .entry)) k (at p) ⌝ }

@@ -18,6 +18,7 @@ use crate::point;
 use crate::point::Point;
 
 // Refusal 11: direction (0, 0), or a part of it out of range.
+// Ruled out: upright direction refused.
 pub fn bad_direction(u: i32, v: i32) -> bool
     ensures { λ r. ⌜ r ≡ badDirection (point u v) ⌝ }
 {
@@ -44,6 +45,7 @@ pub struct Reach {
 }
 
 // The greatest value, at its smallest position.
+// Ruled out: last position on a tie.
 pub fn greatest(list: &[i32], u: i32, v: i32) -> Reach
     requires { ⌜ (0 < length (points (now list))) × InRange (now list)
         × Within maxPart u × Within maxPart v ⌝ }

@@ -1,4 +1,5 @@
-// Inner functions for the mirror image, corner by corner: the opposites of all corners, begun at the one that becomes the least.
+// Inner functions for the mirror image, corner by corner: the opposites of all corners, begun at the one that becomes
+// the least.
 ghost use mathlib.Core.Bool.{false};
 ghost use mathlib.Core.List.{_++_};
 ghost use mathlib.Core.Path.{_≡_};
@@ -14,12 +15,14 @@ use crate::corners;
 use crate::point;
 use crate::rules;
 
-// Writes the mirror image of a shape, the shape of all (-x, -y), at the front of the output; all behind it is kept. It has as many corners
-// as the shape. A point becomes a point and a segment a segment; the image begins at the opposite of the highest, rightmost corner.
-// Ruled out: mirror begun at the old start; output left alone; number written behind the answer.
+// Writes the mirror image of a shape, the shape of all (-x, -y), at the front of the output; all behind it is kept. It
+// has as many corners as the shape. A point becomes a point and a segment a segment; the image begins at the opposite
+// of the highest, rightmost corner.
+// Ruled out: mirror begun at the old start; output left alone.
 pub fn mirror(list: &[i32], out: &mut [i32])
     requires { ⌜ Valid (now list) × (2 * length (points (now list)) ≤ length (now out)) ⌝ }
-    ensures { λ r. ⌜ now (out .exit) ≡ overwritten (numbers (shapeOf (mirrored (points (now (list .entry)))))) (now (out .entry)) ⌝ }
+    ensures { λ r. ⌜ now (out .exit)
+        ≡ overwritten (numbers (shapeOf (mirrored (points (now (list .entry)))))) (now (out .entry)) ⌝ }
 {
     write_from(list, top(list), out);
 }

@@ -26,6 +26,7 @@ pub fn step(from: Point, to: Point) -> Point
 }
 
 // The sum of two points, part by part.
+// Ruled out: origin for every sum.
 pub fn plus(p: Point, q: Point) -> Point
     requires { ⌜ Small (2 ^ 21) (at p) × Small (2 ^ 21) (at q) ⌝ }
     ensures { λ r. ⌜ at r ≡ at p ⊕ at q ⌝ }
@@ -37,6 +38,7 @@ pub fn plus(p: Point, q: Point) -> Point
 }
 
 // The point on the other side of the origin.
+// Ruled out: coordinates swapped.
 pub fn opposite(p: Point) -> Point
     requires { ⌜ Small (2 ^ 21) (at p) ⌝ }
     ensures { λ r. ⌜ at r ≡ Point·opposite (at p) ⌝ }

@@ -10,6 +10,7 @@ use polygon::corners;
 use polygon::point;
 
 // The least over all corners of a.
+// Ruled out: nearest corner missed.
 pub fn nearest(a: &[i32], b: &[i32]) -> i64
     requires { ⌜ Valid (now a) × Valid (now b) ⌝ }
     ensures { λ r. ⌜ r ≡ Nearest·nearest (points (now (a .entry))) (points (now (b .entry))) ⌝ }
