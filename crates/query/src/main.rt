@@ -6,16 +6,13 @@ mod pictures;
 mod replies;
 mod table;
 
-use table::Entry;
 use table::Question;
 use text::answers;
 use text::fields;
 use text::fields::Fields;
-use text::fields::Kinds;
 use text::lines;
 use text::lines::Reading;
 use text::reasons;
-use text::reasons::Reason;
 use text::words;
 
 // How many numbers the fields of a line can hold together.
@@ -42,7 +39,7 @@ fn answer_all(out: &mut [u8], chunk: &mut [u8], line: &mut [u8], values: &mut [i
     answers::flush(out, reading.filled);
 }
 
-// Reads the next line, and answers it if there is one.
+// Reads the next line and answers it.
 fn answer_next(
     before: Reading,
     out: &mut [u8],
@@ -51,37 +48,25 @@ fn answer_next(
     values: &mut [i32],
 ) -> Reading {
     let mut reading = lines::next_line(before, out, chunk, line);
-    if reading.whole {
-        let filled = answer_line(out, reading.filled, lines::text(reading, line), values);
-        reading.filled = filled;
-        return reading;
-    }
+    let filled = answer_line(out, reading.filled, lines::text(reading, line), values);
+    reading.filled = filled;
     reading
 }
 
-// Answers a line, or says why it is no question.
+// Answers a line, if it is not empty.
 fn answer_line(out: &mut [u8], filled: usize, line: &[u8], values: &mut [i32]) -> usize {
-    match table::look_up(words::word_of(line)) {
-        Entry::Known(question, kinds) => answer_known(out, filled, question, kinds, line, values),
-        Entry::Unknown => reasons::unreadable(out, filled, Reason::UnknownWord),
+    if line.len() == 0 {
+        return filled;
     }
-}
-
-// Answers a line whose word is known.
-fn answer_known(
-    out: &mut [u8],
-    filled: usize,
-    question: Question,
-    kinds: Kinds,
-    line: &[u8],
-    values: &mut [i32],
-) -> usize {
+    let entry = table::look_up(words::word_of(line));
+    let kinds = entry.kinds;
     let mut marks = [0usize; fields::MARKS];
     let read = fields::read(line, kinds, values, &mut marks);
+    let question = entry.question;
     answer_fields(out, filled, question, read, values, &marks)
 }
 
-// Answers a question whose fields are read.
+// Answers a question whose fields are read, or says why they could not be.
 fn answer_fields(
     out: &mut [u8],
     filled: usize,

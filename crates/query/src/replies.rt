@@ -12,32 +12,25 @@ pub fn place(out: &mut [u8], filled: usize, place: Place) -> usize {
     }
 }
 
-// Adds a refusal: its number, and which shape of the question it means.
+// Adds a refusal: its number, which shape of the question it means, and where the left rule breaks.
 pub fn refuse(out: &mut [u8], filled: usize, refusal: Refusal) -> usize {
     let now = answers::labelled(out, filled, b"no ", number(refusal));
-    if let Refusal::Side {
-        shape,
+    let then = answers::labelled_some(out, now, b" shape ", blamed(refusal));
+    broken(out, then, refusal)
+}
+
+// Adds where the left rule breaks, if it does.
+fn broken(out: &mut [u8], filled: usize, refusal: Refusal) -> usize {
+    let Refusal::Side {
+        shape: _,
         edge,
         corner,
-    } = refusal {
-        return broken(out, now, shape, edge, corner);
-    }
-    blame(out, now, blamed(refusal))
-}
-
-// Adds where the left rule is broken.
-fn broken(out: &mut [u8], filled: usize, shape: usize, edge: usize, corner: usize) -> usize {
-    let now = blame(out, filled, shape);
-    let at_edge = answers::labelled(out, now, b" edge ", edge as u64);
-    answers::labelled(out, at_edge, b" corner ", corner as u64)
-}
-
-// Adds which shape is meant, if one is.
-fn blame(out: &mut [u8], filled: usize, shape: usize) -> usize {
-    if shape == 0 {
+    } = refusal
+    else {
         return filled;
-    }
-    answers::labelled(out, filled, b" shape ", shape as u64)
+    };
+    let now = answers::labelled(out, filled, b" edge ", edge as u64);
+    answers::labelled(out, now, b" corner ", corner as u64)
 }
 
 // Document 01's number of a refusal.
@@ -61,17 +54,17 @@ fn number(refusal: Refusal) -> u64 {
 }
 
 // The shape that a refusal means, counted from 1; 0 where it means none.
-fn blamed(refusal: Refusal) -> usize {
+fn blamed(refusal: Refusal) -> u64 {
     match refusal {
-        Refusal::Count { shape } => shape,
-        Refusal::Corners { shape } => shape,
-        Refusal::Range { shape } => shape,
+        Refusal::Count { shape } => shape as u64,
+        Refusal::Corners { shape } => shape as u64,
+        Refusal::Range { shape } => shape as u64,
         Refusal::Side {
             shape,
             edge: _,
             corner: _,
-        } => shape,
-        Refusal::Start { shape } => shape,
+        } => shape as u64,
+        Refusal::Start { shape } => shape as u64,
         _ => 0,
     }
 }

@@ -18,15 +18,18 @@ pub enum Question {
     Draw,
 }
 
-// What a word stands for.
-pub enum Entry {
-    Known(Question, Kinds),
-    Unknown,
+// What a word stands for: a question and the kinds of its fields.
+pub struct Entry {
+    pub question: Question,
+    pub kinds: Kinds,
 }
 
-// Looks a word up in the table.
+// Looks a word up in the table. Where it is not there the kinds are unknown.
 pub fn look_up(word: &[u8]) -> Entry {
-    let mut entry = Entry::Unknown;
+    let mut entry = Entry {
+        question: Question::Judge,
+        kinds: fields::unknown(),
+    };
     entry = on_one(entry, word);
     entry = on_two(entry, word);
     written(entry, word)
@@ -67,7 +70,7 @@ fn written(found: Entry, word: &[u8]) -> Entry {
 // A row of the table: what was found before, or the row's question if the word is its own.
 fn row(found: Entry, word: &[u8], own: &[u8], question: Question, kinds: Kinds) -> Entry {
     if check::same(word, own) {
-        Entry::Known(question, kinds)
+        Entry { question, kinds }
     } else {
         found
     }

@@ -41,6 +41,14 @@ pub fn labelled(out: &mut [u8], filled: usize, label: &[u8], number: u64) -> usi
     unsigned(out, now, number)
 }
 
+// Adds a text and a number behind it, or nothing for 0.
+pub fn labelled_some(out: &mut [u8], filled: usize, label: &[u8], number: u64) -> usize {
+    if number == 0 {
+        return filled;
+    }
+    labelled(out, filled, label, number)
+}
+
 // Adds numbers, with a space before each.
 pub fn counts(out: &mut [u8], filled: usize, list: &[u64]) -> usize {
     let mut now = filled;

@@ -33,16 +33,22 @@ pub struct Kinds {
     digits: u64,
 }
 
+// The digits of no kinds.
+const UNKNOWN: u64 = u64::MAX;
+
 // So many fields stand ready, or why the line is no question.
 pub enum Fields {
     Ready(usize),
     No(Reason),
 }
 
-// Reads the fields of a line. The reasons against it come in this order: too few fields or too
-// many; the first word that is no number, or number that finds no room; the first field that holds
-// another count of numbers than its kind says.
+// Reads the fields of a line. The reasons against it come in this order: a word that is not known;
+// too few fields or too many; the first word that is no number, or number that finds no room; the
+// first field that holds another count of numbers than its kind says.
 pub fn read(line: &[u8], kinds: Kinds, values: &mut [i32], marks: &mut [usize]) -> Fields {
+    if kinds.digits == UNKNOWN {
+        return Fields::No(Reason::UnknownWord);
+    }
     let count = words::count_bars(line);
     match enough(kinds, count) {
         Fields::No(reason) => Fields::No(reason),
@@ -84,6 +90,11 @@ pub fn room(field: &[i32], output: &[i32]) -> usize
     } else {
         output.len()
     }
+}
+
+// The kinds of a word that is not known.
+pub fn unknown() -> Kinds {
+    Kinds { digits: UNKNOWN }
 }
 
 // The kinds of a question with one field.

@@ -12,18 +12,17 @@ use crate::words::is_space;
 pub struct Reading {
     // How many bytes of answers wait to be written.
     pub filled: usize,
-    // Whether there is a line to answer.
-    pub whole: bool,
     // Whether the input ended, or could not be read, or an answer could not be written.
     pub last: bool,
     // The bytes of the chunk from `at` up to `end` are read and not yet taken.
     at: usize,
     end: usize,
-    // How many bytes of its buffer the line fills, whether all of them are spaces, and whether some
-    // more found no room.
+    // How many bytes of its buffer the line fills, whether all of them are spaces, whether some more
+    // found no room, and whether the line is to be answered.
     length: usize,
     blank: bool,
     too_long: bool,
+    whole: bool,
     // Whether the line is the first of the input.
     first: bool,
 }
@@ -32,13 +31,13 @@ pub struct Reading {
 pub fn begin() -> Reading {
     Reading {
         filled: 0,
-        whole: false,
         last: false,
         at: 0,
         end: 0,
         length: 0,
         blank: true,
         too_long: false,
+        whole: false,
         first: true,
     }
 }
@@ -57,7 +56,7 @@ pub fn next_line(before: Reading, out: &mut [u8], chunk: &mut [u8], line: &mut [
     reading
 }
 
-// The line that the buffer holds.
+// The line to answer; empty where there is none.
 pub fn text(reading: Reading, line: &[u8]) -> &[u8] {
     let length = reading.length;
     if length <= line.len() {
@@ -74,10 +73,10 @@ fn is_open(reading: Reading) -> bool {
 
 // The same place with an empty line.
 fn anew(mut reading: Reading) -> Reading {
-    reading.whole = false;
     reading.length = 0;
     reading.blank = true;
     reading.too_long = false;
+    reading.whole = false;
     reading
 }
 
@@ -192,7 +191,7 @@ fn read_chunk(mut reading: Reading, chunk: &mut [u8], line: &[u8]) -> Reading {
         }
         Input::Failed => {
             reading.last = true;
-            reading
+            anew(reading)
         }
     }
 }
