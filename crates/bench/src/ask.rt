@@ -70,7 +70,9 @@ fn width(answer: Width) -> u64 {
 // The three places have no name in `questions`, so they count alike.
 fn relation(answer: Relation) -> u64 {
     match answer {
-        Relation::Is(_) => 1,
+        Relation::Apart => 1,
+        Relation::Touching => 2,
+        Relation::Overlapping => 3,
         Relation::No(_) => 0,
     }
 }

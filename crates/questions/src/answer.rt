@@ -1,6 +1,4 @@
 // What the questions answer.
-pub use separation::place::Place;
-
 // A row of document 01's table, and what it carries: 1 to 5 the shape that is blamed, the first or the second, and 4
 // the edge and the corner that break the left rule.
 pub enum Refusal {
@@ -75,7 +73,9 @@ pub enum Width {
 
 // How two shapes stand to each other.
 pub enum Relation {
-    Is(Place),
+    Apart,
+    Touching,
+    Overlapping,
     No(Refusal),
 }
 

@@ -5,6 +5,9 @@ pub mod answer;
 mod deliver;
 
 ghost use mathlib.Core.Path.{_≡_};
+ghost use mathlib.Core.List.{[], _∷_};
+ghost use Rattle.plane.specs.Reply.{answered};
+ghost use Rattle.separation.specs.Place.{placeNumber};
 ghost use Rattle.plane.specs.Point.{point};
 ghost use Rattle.plane.specs.Judge.{judged};
 ghost use Rattle.plane.specs.Furthest.{furthestReply};
@@ -25,6 +28,7 @@ use answer::Width;
 use polygon::corners;
 use polygon::direction;
 use polygon::limits;
+pub use polygon::limits::SHAPE_NUMBERS;
 use polygon::opposite;
 use separation::nearest;
 use separation::place::Place;
@@ -168,7 +172,18 @@ pub fn relation(a: &[i32], b: &[i32]) -> Relation
     if let Admission::No(refusal) = admission::admit_pair(a, b) {
         return Relation::No(refusal);
     }
-    Relation::Is(separation::relation(a, b))
+    stand(separation::relation(a, b))
+}
+
+// How two shapes stand, as an answer.
+fn stand(place: Place) -> Relation
+    ensures { λ r. ⌜ ofRelation r ≡ answered (placeNumber place ∷ []) ⌝ }
+{
+    match place {
+        Place::Apart => Relation::Apart,
+        Place::Touching => Relation::Touching,
+        Place::Overlapping => Relation::Overlapping,
+    }
 }
 
 // Whether the first shape is inside the second: in no direction does it reach further. A shape is inside itself, and so
