@@ -2,7 +2,9 @@
 // newline.
 use crate::pictures;
 use crate::replies;
+use crate::table::Measure;
 use crate::table::Question;
+use crate::table::Written;
 use questions::SHAPE_NUMBERS;
 use questions::answer::Answer;
 use questions::answer::Clearance;
@@ -21,31 +23,56 @@ pub fn ask(
     filled: usize,
     question: Question,
     count: usize,
+    room: usize,
     values: &[i32],
     marks: &[usize],
 ) -> usize {
     let a = fields::field(values, marks, 0);
     let b = fields::field(values, marks, 1);
-    let c = fields::field(values, marks, 2);
     match question {
-        Question::Mirror => written(out, filled, question, a, a, b),
-        Question::Sum => written(out, filled, question, a, b, c),
-        Question::Merge => written(out, filled, question, a, b, c),
+        Question::Measure(which) => measure(out, filled, which, a, b),
+        Question::Write(which) => write(out, filled, which, a, b, room),
         Question::Draw => pictures::draw(out, filled, a, b, count),
-        _ => measure(out, filled, question, a, b),
     }
 }
 
 // Asks a question that is answered by numbers or a word.
-fn measure(out: &mut [u8], filled: usize, question: Question, a: &[i32], b: &[i32]) -> usize {
-    match question {
-        Question::Judge => judge(out, filled, a),
-        Question::Furthest => furthest(out, filled, a, b),
-        Question::Length => length(out, filled, a),
-        Question::Width => width(out, filled, a),
-        Question::Relation => relation(out, filled, a, b),
-        Question::Inside => inside(out, filled, a, b),
-        _ => clearance(out, filled, a, b),
+fn measure(out: &mut [u8], filled: usize, which: Measure, a: &[i32], b: &[i32]) -> usize {
+    match which {
+        Measure::Judge => judge(out, filled, a),
+        Measure::Furthest => furthest(out, filled, a, b),
+        Measure::Length => length(out, filled, a),
+        Measure::Width => width(out, filled, a),
+        Measure::Relation => relation(out, filled, a, b),
+        Measure::Inside => inside(out, filled, a, b),
+        Measure::Clearance => clearance(out, filled, a, b),
+    }
+}
+
+// Asks a question that writes a shape, in an output of as many numbers as the room says.
+fn write(
+    out: &mut [u8],
+    filled: usize,
+    which: Written,
+    a: &[i32],
+    b: &[i32],
+    room: usize,
+) -> usize {
+    let mut answer = [0i32; SHAPE_NUMBERS];
+    let lent: &mut [i32] = &mut answer;
+    let end = fields::lent(room, lent);
+    match shape(which, a, b, &mut lent[0..end]) {
+        Answer::Corners(corners) => answers::ok_pairs(out, filled, corners, lent),
+        Answer::No(refusal) => replies::refuse(out, filled, refusal),
+    }
+}
+
+// The mirror image, the vector sum, or the shape of both together.
+fn shape(which: Written, a: &[i32], b: &[i32], out: &mut [i32]) -> Answer {
+    match which {
+        Written::Mirror => questions::mirror(a, out),
+        Written::Sum => questions::sum(a, b, out),
+        Written::Merge => questions::merge(a, b, out),
     }
 }
 
@@ -69,33 +96,6 @@ fn furthest(out: &mut [u8], filled: usize, list: &[i32], direction: &[i32]) -> u
             answers::number(out, now, value)
         }
         Furthest::No(refusal) => replies::refuse(out, filled, refusal),
-    }
-}
-
-// A question that writes a shape, in an output of as many numbers as the room says.
-fn written(
-    out: &mut [u8],
-    filled: usize,
-    question: Question,
-    a: &[i32],
-    b: &[i32],
-    room: &[i32],
-) -> usize {
-    let mut answer = [0i32; SHAPE_NUMBERS];
-    let lent: &mut [i32] = &mut answer;
-    let end = fields::room(room, lent);
-    match write(question, a, b, &mut lent[0..end]) {
-        Answer::Corners(corners) => answers::ok_pairs(out, filled, corners, lent),
-        Answer::No(refusal) => replies::refuse(out, filled, refusal),
-    }
-}
-
-// The mirror image, the vector sum, or the shape of both together.
-fn write(question: Question, a: &[i32], b: &[i32], out: &mut [i32]) -> Answer {
-    match question {
-        Question::Mirror => questions::mirror(a, out),
-        Question::Sum => questions::sum(a, b, out),
-        _ => questions::merge(a, b, out),
     }
 }
 

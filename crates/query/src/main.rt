@@ -1,6 +1,7 @@
 // Answers questions about shapes. Each line of standard input is a question: a word, and behind a
 // bar each field. Each is answered by one line of standard output, in order; a line that is no
-// question is answered with the reason.
+// question is answered with the reason. A line has at most 65,536 characters, and its fields hold at
+// most 16,384 numbers together.
 mod ask;
 mod pictures;
 mod replies;
@@ -15,10 +16,10 @@ use text::lines::Reading;
 use text::reasons;
 use text::words;
 
-// How many numbers the fields of a line can hold together.
+// How many numbers the fields of a line hold together, at most.
 const NUMBERS: usize = 16384;
 
-// A line can have 65,536 characters.
+// A large buffer has 65,536 bytes: so many characters has a line at most.
 fn main() {
     let mut chunk = io::large_buffer();
     let mut line = io::large_buffer();
@@ -76,8 +77,8 @@ fn answer_fields(
     marks: &[usize],
 ) -> usize {
     match read {
-        Fields::Ready(count) => {
-            let now = ask::ask(out, filled, question, count, values, marks);
+        Fields::Ready { count, room } => {
+            let now = ask::ask(out, filled, question, count, room, values, marks);
             answers::word(out, now, b"\n")
         }
         Fields::No(reason) => reasons::unreadable(out, filled, reason),

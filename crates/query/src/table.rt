@@ -5,17 +5,27 @@ use text::fields::Kinds;
 
 // What can be asked.
 pub enum Question {
+    Measure(Measure),
+    Write(Written),
+    Draw,
+}
+
+// The questions that are answered by numbers or a word.
+pub enum Measure {
     Judge,
     Furthest,
-    Mirror,
-    Sum,
-    Merge,
     Length,
     Width,
     Relation,
     Inside,
     Clearance,
-    Draw,
+}
+
+// The questions that write a shape.
+pub enum Written {
+    Mirror,
+    Sum,
+    Merge,
 }
 
 // What a word stands for: a question and the kinds of its fields.
@@ -24,47 +34,62 @@ pub struct Entry {
     pub kinds: Kinds,
 }
 
-// Looks a word up in the table. Where it is not there the kinds are unknown.
+// Looks a word up in the table. Where it is not there the kinds are unknown, and nothing is asked.
 pub fn look_up(word: &[u8]) -> Entry {
     let mut entry = Entry {
-        question: Question::Judge,
+        question: Question::Draw,
         kinds: fields::unknown(),
     };
     entry = on_one(entry, word);
     entry = on_two(entry, word);
-    written(entry, word)
+    entry = shapes(entry, word);
+    pictures(entry, word)
 }
 
-// The questions on one shape.
+// The measures of one shape.
 fn on_one(found: Entry, word: &[u8]) -> Entry {
     let shape = fields::one(Kind::Shape);
     let aimed = fields::two(Kind::Shape, Kind::Direction);
     let mut entry = found;
-    entry = row(entry, word, b"judge", Question::Judge, shape);
-    entry = row(entry, word, b"length", Question::Length, shape);
-    entry = row(entry, word, b"width", Question::Width, shape);
-    row(entry, word, b"furthest", Question::Furthest, aimed)
+    entry = measured(entry, word, b"judge", Measure::Judge, shape);
+    entry = measured(entry, word, b"furthest", Measure::Furthest, aimed);
+    entry = measured(entry, word, b"length", Measure::Length, shape);
+    measured(entry, word, b"width", Measure::Width, shape)
 }
 
-// The questions on two shapes.
+// The measures of two shapes.
 fn on_two(found: Entry, word: &[u8]) -> Entry {
     let pair = fields::two(Kind::Shape, Kind::Shape);
-    let some = fields::two(Kind::Shape, Kind::Further);
     let mut entry = found;
-    entry = row(entry, word, b"relation", Question::Relation, pair);
-    entry = row(entry, word, b"inside", Question::Inside, pair);
-    entry = row(entry, word, b"clearance", Question::Clearance, pair);
-    row(entry, word, b"draw", Question::Draw, some)
+    entry = measured(entry, word, b"relation", Measure::Relation, pair);
+    entry = measured(entry, word, b"inside", Measure::Inside, pair);
+    measured(entry, word, b"clearance", Measure::Clearance, pair)
 }
 
-// The questions that write a shape.
-fn written(found: Entry, word: &[u8]) -> Entry {
-    let shape = fields::two(Kind::Shape, Kind::Room);
-    let pair = fields::three(Kind::Shape, Kind::Shape, Kind::Room);
+// The shapes that are written.
+fn shapes(found: Entry, word: &[u8]) -> Entry {
+    let one = fields::two(Kind::Shape, Kind::Room);
+    let two = fields::three(Kind::Shape, Kind::Shape, Kind::Room);
     let mut entry = found;
-    entry = row(entry, word, b"mirror", Question::Mirror, shape);
-    entry = row(entry, word, b"sum", Question::Sum, pair);
-    row(entry, word, b"merge", Question::Merge, pair)
+    entry = write(entry, word, b"mirror", Written::Mirror, one);
+    entry = write(entry, word, b"sum", Written::Sum, two);
+    write(entry, word, b"merge", Written::Merge, two)
+}
+
+// The pictures.
+fn pictures(found: Entry, word: &[u8]) -> Entry {
+    let some = fields::two(Kind::Shape, Kind::Further);
+    row(found, word, b"draw", Question::Draw, some)
+}
+
+// A row of the table, of a measure.
+fn measured(found: Entry, word: &[u8], own: &[u8], question: Measure, kinds: Kinds) -> Entry {
+    row(found, word, own, Question::Measure(question), kinds)
+}
+
+// A row of the table, of a shape that is written.
+fn write(found: Entry, word: &[u8], own: &[u8], question: Written, kinds: Kinds) -> Entry {
+    row(found, word, own, Question::Write(question), kinds)
 }
 
 // A row of the table: what was found before, or the row's question if the word is its own.

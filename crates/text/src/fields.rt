@@ -21,7 +21,7 @@ pub enum Kind {
     Shape,
     // Two numbers.
     Direction,
-    // One number, not below 0. May be left out.
+    // One number, not below 0: how many numbers an output holds. The last field; may be left out.
     Room,
     // Any numbers. May be left out.
     Further,
@@ -36,9 +36,15 @@ pub struct Kinds {
 // The digits of no kinds.
 const UNKNOWN: u64 = u64::MAX;
 
-// So many fields stand ready, or why the line is no question.
+// How many fields stand ready and what the room among them says, or why the line is no question.
 pub enum Fields {
-    Ready(usize),
+    Ready { count: usize, room: usize },
+    No(Reason),
+}
+
+// Whether something is as the question takes it, or why not.
+enum Check {
+    Passed,
     No(Reason),
 }
 
@@ -50,13 +56,17 @@ pub fn read(line: &[u8], kinds: Kinds, values: &mut [i32], marks: &mut [usize]) 
         return Fields::No(Reason::UnknownWord);
     }
     let count = words::count_bars(line);
-    match enough(kinds, count) {
-        Fields::No(reason) => Fields::No(reason),
-        Fields::Ready(_) => match take_all(line, kinds, count, values, marks) {
-            Fields::No(reason) => Fields::No(reason),
-            Fields::Ready(_) => fit_all(kinds, count, values, marks),
-        },
+    if let Check::No(reason) = enough(kinds, count) {
+        return Fields::No(reason);
     }
+    if let Check::No(reason) = take_all(line, kinds, count, values, marks) {
+        return Fields::No(reason);
+    }
+    if let Check::No(reason) = fit_all(kinds, count, values, marks) {
+        return Fields::No(reason);
+    }
+    let room = room_in(kinds, count, values, marks);
+    Fields::Ready { count, room }
 }
 
 // The numbers of field k; empty if the line has no such field.
@@ -76,17 +86,12 @@ pub fn number(field: &[i32], i: usize) -> i32 {
     if i < field.len() { field[i] } else { 0 }
 }
 
-// How many numbers of an output are lent: what the room says, at most all; all where the room is
-// left out.
-pub fn room(field: &[i32], output: &[i32]) -> usize
+// How many numbers of an output are lent: as many as the room says, at most all.
+pub fn lent(room: usize, output: &[i32]) -> usize
     ensures { λ r. ⌜ r ≤ length (now (output .entry)) ⌝ }
 {
-    if field.len() == 0 {
-        return output.len();
-    }
-    let size = numbers::size(numbers::wide(field[0]));
-    if size <= output.len() as u64 {
-        size as usize
+    if room <= output.len() {
+        room
     } else {
         output.len()
     }
@@ -143,16 +148,16 @@ fn kind_at(kinds: Kinds, k: usize) -> Kind {
 
 // Whether so many fields are what the question takes: the first that is not there may be left out,
 // and the last that is there is known.
-fn enough(kinds: Kinds, count: usize) -> Fields {
+fn enough(kinds: Kinds, count: usize) -> Check {
     if !may_be_left_out(kind_at(kinds, count)) {
-        return Fields::No(Reason::MissingField);
+        return Check::No(Reason::MissingField);
     }
     if 0 < count {
         if let Kind::Nothing = kind_at(kinds, count - 1) {
-            return Fields::No(Reason::TooManyFields);
+            return Check::No(Reason::TooManyFields);
         }
     }
-    Fields::Ready(count)
+    Check::Passed
 }
 
 // Whether a field may be left out.
@@ -172,7 +177,7 @@ fn take_all(
     count: usize,
     values: &mut [i32],
     marks: &mut [usize],
-) -> Fields {
+) -> Check {
     let mut bar = words::next_bar(line, 0);
     let mut held = 0;
     let mut k = 0;
@@ -185,61 +190,73 @@ fn take_all(
                 held = now;
             }
             Taken::No(reason) => {
-                return Fields::No(reason);
+                return Check::No(reason);
             }
         }
         k += 1;
         set_mark(marks, k, held);
     }
-    Fields::Ready(count)
+    Check::Passed
 }
 
 // Reads the text of a field into numbers, by its kind.
 fn take(kind: Kind, text: &[u8], values: &mut [i32], held: usize) -> Taken {
     match kind {
+        Kind::Nothing => Taken::Held(held),
         _ => numbers::read(text, values, held),
     }
 }
 
 // Whether the numbers of all fields are as many as their kinds say.
-fn fit_all(kinds: Kinds, count: usize, values: &[i32], marks: &[usize]) -> Fields {
+fn fit_all(kinds: Kinds, count: usize, values: &[i32], marks: &[usize]) -> Check {
     let mut k = 0;
     while k < count {
-        if let Fields::No(reason) = fit(kind_at(kinds, k), field(values, marks, k)) {
-            return Fields::No(reason);
+        if let Check::No(reason) = fit(kind_at(kinds, k), field(values, marks, k)) {
+            return Check::No(reason);
         }
         k += 1;
     }
-    Fields::Ready(count)
+    Check::Passed
 }
 
 // Whether the numbers of a field are what its kind says.
-fn fit(kind: Kind, field: &[i32]) -> Fields {
+fn fit(kind: Kind, field: &[i32]) -> Check {
     match kind {
         Kind::Direction => of_count(field, 2),
         Kind::Room => of_room(field),
-        _ => Fields::Ready(1),
+        _ => Check::Passed,
     }
 }
 
 // Whether a field holds so many numbers.
-fn of_count(field: &[i32], count: usize) -> Fields {
+fn of_count(field: &[i32], count: usize) -> Check {
     if field.len() == count {
-        Fields::Ready(1)
+        Check::Passed
     } else {
-        Fields::No(Reason::WrongCount)
+        Check::No(Reason::WrongCount)
     }
 }
 
 // Whether a field holds one number, which counts numbers.
-fn of_room(field: &[i32]) -> Fields {
+fn of_room(field: &[i32]) -> Check {
     if field.len() != 1 {
-        return Fields::No(Reason::WrongCount);
+        return Check::No(Reason::WrongCount);
     }
     if field[0] < 0 {
-        return Fields::No(Reason::NotACount);
+        return Check::No(Reason::NotACount);
     }
-    Fields::Ready(1)
+    Check::Passed
+}
+
+// What the last field says if it is a room; more than any output holds if there is none.
+fn room_in(kinds: Kinds, count: usize, values: &[i32], marks: &[usize]) -> usize {
+    if 0 < count {
+        if let Kind::Room = kind_at(kinds, count - 1) {
+            let said = number(field(values, marks, count - 1), 0);
+            return numbers::size(numbers::wide(said)) as usize;
+        }
+    }
+    usize::MAX
 }
 
 // Mark k, or 0 where there is none.
