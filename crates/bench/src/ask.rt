@@ -67,7 +67,6 @@ fn width(answer: Width) -> u64 {
     }
 }
 
-// The three places have no name in `questions`, so they count alike.
 fn relation(answer: Relation) -> u64 {
     match answer {
         Relation::Apart => 1,
