@@ -1,4 +1,3 @@
 -- Lemmas that function proofs share.
 pub mod Progress
-pub mod Tally
 pub mod Summed

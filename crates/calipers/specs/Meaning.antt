@@ -1,5 +1,5 @@
 -- What the walk means, in document 01's words. Each theorem is proved in the theory; here it is only cited.
--- That an answered sum is valid, its laws in either order, and the origin point's, are in the crate `laws`. Assumes nothing.
+-- That an answered sum is valid, its laws in either order, and the origin point's, are in the crate `laws`.
 use mathlib.Core.Path.{_≡_}
 use mathlib.Core.List.{List, [], _∷_}
 use Prim.Native.Nat.{ℕ, _+_, _<_}
@@ -8,11 +8,11 @@ use lib.ListN.{length}
 use Rattle.plane.specs.Point.{Point, points, corner, _⊕_}
 use Rattle.plane.specs.Refusal.{Valid}
 use Rattle.plane.specs.Corner.{Corner, shapeOf, sums}
-use Rattle.plane.specs.theory.Forms.{edges}
-use Rattle.plane.specs.theory.EdgeCount.{shared}
-use Rattle.plane.specs.theory.Places.{places}
-use Rattle.plane.specs.theory.Visited.{Visited, place-of-corner, corner-parts}
-use Rattle.plane.specs.theory.Members.{position-member}
+use Rattle.plane.specs.Forms.{edges}
+use Rattle.plane.specs.theory.sum.EdgeCount.{shared}
+use Rattle.calipers.specs.Places.{places}
+use Rattle.calipers.specs.theory.Visited.{Visited, place-of-corner, corner-parts}
+use Rattle.plane.specs.theory.lists.Members.{position-member}
 use Rattle.calipers.specs.Walk.{here, begun, stepped, ahead, remaining}
 use Rattle.calipers.specs.theory.Steps.{ahead-begin}
 use Rattle.calipers.specs.theory.Directions.{sum-directions, sum-points}

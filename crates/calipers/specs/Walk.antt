@@ -8,7 +8,7 @@
 --     ahead A B w       the places still to come, the present one first
 --     remaining A B w   the corners of the sum that are still to come
 --     At a b w          the walk stands at edges of these two lists, whose coordinates are in range
--- What it means: `Meaning.antt`; `Steps` of the theory. Assumes nothing.
+-- What it means: `Meaning.antt`; `Steps` of the theory.
 use mathlib.Core.Bool.{Bool, false, cond}
 use mathlib.Core.List.{List, []}
 use Prim.Native.Nat.{ℕ, zero, suc, _≤_, _<_}
@@ -16,12 +16,10 @@ use lib.IntN.{ℤ}
 use lib.ListN.{length, drop}
 use Rattle.plane.specs.Point.{Point, points, corner, _⊕_}
 use Rattle.plane.specs.Refusal.{InRange}
-use Rattle.plane.specs.theory.Forms.{edges}
-use Rattle.plane.specs.theory.Path.{path}
-use Rattle.plane.specs.theory.EdgeSum.{joinEdges}
-use Rattle.plane.specs.theory.Positions.{cornerRound}
-use Rattle.plane.specs.theory.Standing.{takes as Standing·takes, passed as Standing·passed}
-use Rattle.plane.specs.theory.Places.{Place, placesFrom, finished as Places·finished}
+use Rattle.plane.specs.Forms.{edges}
+use Rattle.plane.specs.VectorSum.{path, joinEdges}
+use Rattle.plane.specs.Cycle.{cornerRound}
+use Rattle.calipers.specs.Places.{takes as Standing·takes, passed as Standing·passed, Place, placesFrom, finished as Places·finished}
 use Rattle.calipers.specs.declared.walk.Walk.{Walk}
 
 abbrev pub edge : List Point → ℕ → Point

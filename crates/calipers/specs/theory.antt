@@ -1,4 +1,8 @@
--- The theory of the walk: proves, and defines nothing that a contract cites.
+-- The theory of the walk, which only proves: where it stands, the places it visits, the corners there.
+pub mod Standing
+pub mod Places
+pub mod PlaceCorners
+pub mod Visited
 pub mod EdgeAt
 pub mod Pass
 pub mod Steps

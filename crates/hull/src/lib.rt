@@ -1,59 +1,44 @@
-// The shape of two shapes together: document 01, "Merge".
+// Inner functions for the shape of two shapes together by the hull scan (document 01, "Merge"). Callers ask the crate
+// `questions`.
 mod buffer;
 mod chains;
 mod order;
 
-ghost use mathlib.Core.Path.{_≡_};
-ghost use Prim.Native.Nat.{_≤_};
-ghost use lib.ListN.{length};
+ghost use Prim.Native.Nat.{_+_, _≤_};
+ghost use lib.ListN.{length, take};
+ghost use mathlib.Core.List.{_++_};
 ghost use Rattle.plane.specs.Point.{points};
-ghost use Rattle.plane.specs.Refusal.{InRange};
-ghost use Rattle.plane.specs.Combine.{mergeWritten};
-ghost use Rattle.polygon.specs.Answer.{answerReply};
-ghost use Rattle.hull.specs.Buffer.{delivered};
-use polygon::Judged;
-use polygon::answer::Answer;
-use polygon::answer::Refusal;
+ghost use Rattle.plane.specs.Refusal.{Valid};
+ghost use Rattle.plane.specs.Corner.{shapeOf};
+ghost use Rattle.polygon.specs.Front.{Front};
 use polygon::limits;
+use polygon::numbers;
 
-// Writes the shape of both corner lists taken together, and answers how many corners it has. The shapes may overlap, lie one in the other,
-// share corners or edges; a corner of one that the other covers, and one in line between two others, is not a corner of the answer. Two
-// points make a segment, or a point if they are equal; segments in line make a segment. Refused: a list that is no shape, the first before
-// the second; an answer of more corners than a shape may have; an output with too little room, which is then untouched. No corner of the
-// answer is out of range, since each is a corner of one of the two.
-// Ruled out: points in line kept; the second shape forgotten; one corner more counted; the output touched behind the answer.
-pub fn merge(a: &[i32], b: &[i32], out: &mut [i32]) -> Answer
-    ensures { λ r. ⌜
-        (answerReply r ≡ mergeWritten (now (a .entry)) (now (b .entry)) (now (out .entry)) .reply)
-        × (now (out .exit) ≡ mergeWritten (now (a .entry)) (now (b .entry)) (now (out .entry)) .output) ⌝ }
+// Writes the shape of both corner lists taken together at the front of the buffer, and says how many corners it has: at
+// most as many as both shapes together, and each of them is a corner of one of the two. The shapes may overlap, lie one
+// in the other, share corners or edges; a corner in line between two others is dropped, and so is one that lies
+// strictly inside the other shape. Two points make a segment, or a point if they are equal; segments in line make a
+// segment.
+// Ruled out: points in line kept; second shape forgotten; count one more.
+pub fn merge(a: &[i32], b: &[i32], buf: &mut [i32]) -> usize
+    requires { ⌜ Valid (now a) × Valid (now b)
+        × (length (points (now a)) + length (points (now b)) ≤ length (points (now buf))) ⌝ }
+    ensures { λ r. ⌜ Front (shapeOf (points (now (a .entry)) ++ points (now (b .entry)))) r (now (buf .exit)) ⌝ }
 {
-    if let Judged::No(fault) = polygon::judge(a) {
-        return Answer::No(Refusal::First(fault));
-    }
-    if let Judged::No(fault) = polygon::judge(b) {
-        return Answer::No(Refusal::Second(fault));
-    }
     let mut right = [0i32; limits::PAIR_NUMBERS];
     let mut left = [0i32; limits::PAIR_NUMBERS];
     let chains = chains::both_chains(a, b, &mut right, &mut left);
-    deliver(&right, chains.right, &left, chains.left, out)
+    join(&right, chains.right, &left, chains.left, buf)
 }
 
-// Writes the first m corners of one list and then the first n of another to the output, if they are not too many and there is room.
-fn deliver(right: &[i32], m: usize, left: &[i32], n: usize, out: &mut [i32]) -> Answer
-    requires { ⌜ (m ≤ length (points (now right))) × (n ≤ length (points (now left))) × InRange (now right) × InRange (now left) ⌝ }
-    ensures { λ r. ⌜
-        (answerReply r ≡ delivered (now (right .entry)) m (now (left .entry)) n (now (out .entry)) .reply)
-        × (now (out .exit) ≡ delivered (now (right .entry)) m (now (left .entry)) n (now (out .entry)) .output) ⌝ }
+// Writes the first m corners of one list and then the first n of another at the front of the buffer; says how many.
+fn join(right: &[i32], m: usize, left: &[i32], n: usize, buf: &mut [i32]) -> usize
+    requires { ⌜ (m ≤ length (points (now right))) × (n ≤ length (points (now left)))
+        × (m + n ≤ length (points (now buf))) ⌝ }
+    ensures { λ r. ⌜ Front (take m (points (now (right .entry))) ++ take n (points (now (left .entry)))) r
+        (now (buf .exit)) ⌝ }
 {
-    let count = m + n;
-    if limits::exceeds_corners(count) {
-        return Answer::No(Refusal::Many);
-    }
-    if out.len() < 2 * count {
-        return Answer::No(Refusal::Room);
-    }
-    buffer::copy_numbers(right, 2 * m, out, 0);
-    buffer::copy_numbers(left, 2 * n, out, 2 * m);
-    Answer::Corners(count)
+    numbers::copy(right, 2 * m, buf, 0);
+    numbers::copy(left, 2 * n, buf, 2 * m);
+    m + n
 }

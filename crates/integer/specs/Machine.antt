@@ -4,10 +4,9 @@
 --     machine-is (search machine depth 40) tt         term ≡ its value, with every reading back gone
 -- The numbers in the term are hypotheses of type `Machine x`: `known e h` for a call's result x with e : x ≡ v and h : Within n v,
 -- `bounded h` for h : Within n x.
--- Assumes nothing.
 use mathlib.Core.Path.{_≡_, refl, sym, _∙_, ap, ap₂, subst}
 use mathlib.Core.Bool.{Bool, true, false, _&&_}
-use Prim.Native.Nat.{ℕ, zero, suc, _+_, _*_, _^_, _≤_, _<_}
+use Prim.Native.Nat.{ℕ, suc, _+_, _*_, _^_, _≤_, _<_}
 use native.Mathlib.Nat.{le-refl, le-trans, le-suc, lt-of-le-of-lt}
 use lib.Dec.{T, ltb, ltb→lt}
 use lib.IntN.{ℤ, pos, negsuc, negℤ, natAbs, _+ℤ_, _-ℤ_, _*ℤ_}
@@ -92,7 +91,14 @@ machine-mul p q = record {
 }
 
 abbrev pub machine-neg : {x : ℤ} → Machine x → Machine (negℤ x)
-machine-neg p = record { value = negℤ (p .value); bound = p .bound; within = within-neg (p .within); good = p .good; is = λ t. ap negℤ (p .is t) }
+machine-neg p = record {
+  value = negℤ (p .value);
+  bound = p .bound;
+  within = within-neg (p .within);
+  good = p .good;
+  is = λ t. ap negℤ
+      (p .is t);
+}
 
 pub ruleset machine = (machine-read, machine-add, machine-mul, machine-neg, machine-pos, machine-negsuc)
 

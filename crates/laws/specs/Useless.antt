@@ -1,7 +1,7 @@
 -- The four useless builds (document 01, "How tight the words are drawn"): none of them keeps the promise of a sum.
 --     Promised call      what a sum promises: answer and whole output are those of the definition
 --     square, triangle   01's S and T, whose sum has five corners; room: a lent output of twelve numbers
--- That every sum which fits is answered is `fitting-sum` of `Laws.antt`. Assumes nothing.
+-- That every sum which fits is answered is `fitting-sum` of `Laws.antt`.
 use mathlib.Core.Path.{_≡_, refl, sym, _∙_, ap}
 use mathlib.Core.List.{List, [], _∷_}
 use Prim.Native.Nat.{ℕ}
@@ -9,11 +9,12 @@ use native.Mathlib.Omega.{arith}
 use lib.IntN.{ℤ, pos}
 use lib.ListN.{length, take}
 use Rattle.plane.specs.Limits.{maxCorners, maxCoordinate}
-use Rattle.plane.specs.Point.{points}
+use Rattle.plane.specs.Point.{points, samePoint}
 use Rattle.plane.specs.Turn.{turn}
 use Rattle.plane.specs.Shape.{breaks, precedes}
 use Rattle.plane.specs.Reply.{answered, refused}
-use Rattle.plane.specs.Refusal.{badCount, tooMany, outside, someOutside, equalPair, brokenCorner, brokenEdge, badStart}
+use Rattle.plane.specs.Refusal.{badCount, tooMany, outside, someOutside, equalPair, leftBroken, breakingEdge, breakingCorner, ruleBroken}
+use Rattle.plane.specs.Refusal.{brokenEdge, brokenCorner, badStart}
 use Rattle.plane.specs.Corner.{shapeOf, sums}
 use Rattle.plane.specs.Output.{Written, noRoom, overwritten}
 use Rattle.plane.specs.Combine.{sumWritten}
@@ -41,8 +42,8 @@ fiveCorners = record {
 }
 
 pub square-plus-triangle : sumWritten square triangle room ≡ fiveCorners
-unfolding sumWritten shapeOf overwritten noRoom maxCorners maxCoordinate turn breaks precedes
-    badCount tooMany outside someOutside equalPair brokenCorner brokenEdge badStart
+unfolding sumWritten shapeOf overwritten noRoom maxCorners maxCoordinate turn breaks precedes samePoint
+    badCount tooMany outside someOutside equalPair leftBroken breakingEdge breakingCorner ruleBroken brokenEdge brokenCorner badStart
 square-plus-triangle = refl
 
 module _ (call : Call) (promised : Promised call) where

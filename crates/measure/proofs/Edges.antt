@@ -2,7 +2,6 @@
 --     step-still, step-on               it passes no edge of the shape, or one; `step-within`: edge w .i; `other-within`: the image's edges
 --     across-alone, -first, -second     the first corner that is furthest from the passed edge
 --     best-found, best-keep             the best edge after the passed one is measured
--- Assumes nothing.
 use mathlib.Core.Path.{_≡_, refl, _∙_, ap}
 use mathlib.Core.Bool.{Bool, true, false, cond}
 use mathlib.Core.List.{List}
@@ -12,14 +11,16 @@ use lib.Dec.{ltb}
 use lib.IntN.{ℤ}
 use lib.ListN.{length}
 use Rattle.plane.specs.Point.{Point, points}
-use Rattle.plane.specs.theory.Forms.{edges}
-use Rattle.plane.specs.theory.Turned.{turned}
-use Rattle.plane.specs.theory.Positions.{round, edges-some}
-use Rattle.plane.specs.theory.Reach.{Facing}
-use Rattle.plane.specs.theory.Standing.{takes, passed, Taken, takes-taken, passed-taken}
-use Rattle.plane.specs.theory.Places.{passed-within}
-use Rattle.plane.specs.theory.MirrorWalk.{width-alone, width-first, width-second}
-use Rattle.plane.specs.theory.WidthScan.{Measured, width-keep, width-replace}
+use Rattle.plane.specs.Forms.{edges}
+use Rattle.plane.specs.Cycle.{turned, round}
+use Rattle.plane.specs.theory.sum.Positions.{edges-some}
+use Rattle.measure.specs.Comparison.{Facing}
+use Rattle.calipers.specs.Places.{takes, passed}
+use Rattle.calipers.specs.theory.Standing.{Taken, takes-taken, passed-taken}
+use Rattle.calipers.specs.theory.Places.{passed-within}
+use Rattle.measure.specs.theory.MirrorWalk.{width-alone, width-first, width-second}
+use Rattle.measure.specs.Comparison.{Measured}
+use Rattle.measure.specs.theory.WidthScan.{width-keep, width-replace}
 use Rattle.calipers.specs.declared.walk.Walk.{Walk}
 use Rattle.calipers.specs.Walk as Walk
 use Rattle.calipers.specs.Walk.{advanced}

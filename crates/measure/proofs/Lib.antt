@@ -4,4 +4,4 @@ pub mod Image
 pub mod Pairs
 pub mod Edges
 pub mod Sweep
-pub mod Replied
+pub mod Found

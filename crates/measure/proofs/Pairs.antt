@@ -3,7 +3,6 @@
 --     search-start, -next             its moves
 --     search-done                     at the end: the answer
 --     kept-shorter, -longer, -level   what is kept of two pairs, by their distances
--- Assumes nothing.
 use mathlib.Core.Path.{_≡_, refl, sym, _∙_, subst}
 use mathlib.Core.Bool.{true, false}
 use mathlib.Core.List.{List, _∷_}
@@ -15,16 +14,15 @@ use lib.Signed.{ltZ}
 use Rattle.integer.specs.Order.{le-antisym, ltZ-true, ltZ-false}
 use Rattle.plane.specs.Point.{Point, points, corner}
 use Rattle.plane.specs.Measure.{squared}
-use Rattle.plane.specs.theory.Turned.{turned}
-use Rattle.plane.specs.theory.Places.{Place, place}
-use Rattle.plane.specs.theory.LengthScan.{shorter-noBetter, level-noBetter}
-use Rattle.plane.specs.theory.LengthScan.{Leads, leads-start, leads-skip, leads-keep, leads-replace, leads-done}
+use Rattle.plane.specs.Cycle.{turned}
+use Rattle.calipers.specs.Places.{Place, place}
+use Rattle.measure.specs.theory.LengthScan.{shorter-noBetter, level-noBetter}
+use Rattle.measure.specs.theory.LengthScan.{Leads, leads-start, leads-skip, leads-keep, leads-replace, leads-done}
 use Rattle.calipers.specs.declared.walk.Walk.{Walk}
 use Rattle.calipers.specs.Walk.{begun, advanced, At}
 use Rattle.calipers.specs.theory.Steps.{at-advanced}
 use Rattle.measure.specs.declared.longest.Pair.{Pair}
-use Rattle.measure.specs.Scan.{Imaged, Paired, Earlier, best-first, next-first}
-use Rattle.measure.specs.Scan.{Kept, skipped, kept, replaced, LengthAt}
+use Rattle.measure.specs.Scan.{Imaged, Paired, Earlier, best-first, next-first, Kept, skipped, kept, replaced, LengthAt}
 use Rattle.measure.proofs.Walked.{toCome, toCome-next, toCome-over, image-at}
 
 -- ---- the better of two pairs

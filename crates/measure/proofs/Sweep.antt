@@ -2,7 +2,6 @@
 --     Sweep a m t w best                   the best edge so far, at a place of the walk; `sweep-at`: it is a place
 --     sweep-start, -moving, -next          its moves
 --     sweep-done                           at the end: the best of all edges
--- Assumes nothing.
 use mathlib.Core.Path.{_≡_}
 use mathlib.Core.Bool.{true}
 use mathlib.Core.List.{List}
@@ -11,12 +10,13 @@ use native.Mathlib.Omega.{arith}
 use lib.IntN.{ℤ}
 use lib.ListN.{length}
 use Rattle.plane.specs.Point.{points}
-use Rattle.plane.specs.theory.Forms.{edges}
-use Rattle.plane.specs.theory.Positions.{edges-some}
-use Rattle.plane.specs.theory.Standing.{Standing, standing-start, standing-advance}
-use Rattle.plane.specs.theory.PlaceCut.{shape-in-order}
-use Rattle.plane.specs.theory.Places.{finished-ended}
-use Rattle.plane.specs.theory.WidthScan.{none}
+use Rattle.plane.specs.Forms.{edges}
+use Rattle.plane.specs.theory.sum.Positions.{edges-some}
+use Rattle.calipers.specs.Places.{Standing}
+use Rattle.calipers.specs.theory.Standing.{standing-start, standing-advance}
+use Rattle.measure.specs.theory.PlaceCut.{shape-in-order}
+use Rattle.calipers.specs.theory.Places.{finished-ended}
+use Rattle.measure.specs.Comparison.{none}
 use Rattle.calipers.specs.declared.walk.Walk.{Walk}
 use Rattle.calipers.specs.Walk as Walk
 use Rattle.calipers.specs.Walk.{begun, advanced, At}

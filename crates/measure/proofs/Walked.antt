@@ -3,7 +3,6 @@
 --     toCome-next           unless it is over, the present one is next; `toCome-over`: then there is none
 --     toCome-less           so fewer are to come after a step
 --     image-at              the walk stands at edges of a shape and its image
--- Assumes nothing.
 use mathlib.Core.Path.{_≡_, ap}
 use mathlib.Core.Bool.{true, false, cond}
 use mathlib.Core.List.{List, [], _∷_}
@@ -12,8 +11,9 @@ use native.Mathlib.Omega.{arith}
 use lib.IntN.{ℤ}
 use lib.ListN.{length, drop}
 use Rattle.plane.specs.Point.{Point, points}
-use Rattle.plane.specs.theory.Forms.{edges}
-use Rattle.plane.specs.theory.Places.{Place, place, placesFrom, places-here}
+use Rattle.plane.specs.Forms.{edges}
+use Rattle.calipers.specs.Places.{Place, place, placesFrom}
+use Rattle.calipers.specs.theory.Places.{places-here}
 use Rattle.calipers.specs.declared.walk.Walk.{Walk}
 use Rattle.calipers.specs.Walk.{takes, passed, finished, advanced, At}
 use Rattle.measure.specs.Scan.{Imaged}

@@ -1,22 +1,22 @@
--- Document 01's number and values for each case of the enums ("Where an answer is an enum ..").
---     lengthAnswer r    the answer of `length`
---     widthAnswer r     the answer of `width`
--- Assumes nothing.
-use mathlib.Core.List.{[], _∷_}
-use lib.IntN.{pos}
-use Rattle.plane.specs.Reply.{Reply, answered, refused}
-use Rattle.polygon.specs.Answer.{faultReply}
-use Rattle.measure.specs.declared.answer.Length.{Length}
-use Rattle.measure.specs.declared.answer.Length.the-variants as Length
-use Rattle.measure.specs.declared.answer.Width.{Width}
-use Rattle.measure.specs.declared.answer.Width.the-variants as Width
+-- What the two searches find, in document 01's terms.
+--     IsLength ps r    the length of the shape: the squared distance and the two positions
+--     IsWidth ps r     its width: edge, corner, t, q and w
+use mathlib.Core.Path.{_≡_}
+use mathlib.Core.List.{List}
+use lib.IntN.{pos, natAbs}
+use Rattle.plane.specs.Point.{Point}
+use Rattle.plane.specs.Measure.{lengthSquared, lengthFrom, lengthTo, height, edgeSquared, widthEdge, widthCorner, widthRounded}
+use Rattle.measure.specs.declared.Length.{Length}
+use Rattle.measure.specs.declared.Width.{Width}
 
-abbrev pub lengthAnswer : Length → Reply
-lengthAnswer (Length.Between squared from to) = answered (squared ∷ pos from ∷ pos to ∷ [])
-lengthAnswer (Length.Shape f) = faultReply 1 f
+pub record IsLength (ps : List Point) (r : Length) : Type 0 where
+  pub squared-is : pos (r .squared) ≡ lengthSquared ps
+  pub from-is : r .from ≡ lengthFrom ps
+  pub to-is : r .to ≡ lengthTo ps
 
-abbrev pub widthAnswer : Width → Reply
-widthAnswer (Width.Across edge corner turn squared rounded) =
-    answered (pos edge ∷ pos corner ∷ pos turn ∷ pos squared ∷ pos rounded ∷ [])
-widthAnswer (Width.Shape f) = faultReply 1 f
-widthAnswer Width.Flat = refused 10 []
+pub record IsWidth (ps : List Point) (r : Width) : Type 0 where
+  pub edge-is : r .edge ≡ widthEdge ps
+  pub corner-is : r .corner ≡ widthCorner ps
+  pub turn-is : pos (r .turn) ≡ height ps (widthEdge ps)
+  pub squared-is : pos (r .squared) ≡ edgeSquared ps (widthEdge ps)
+  pub rounded-is : r .rounded ≡ widthRounded (natAbs (height ps (widthEdge ps))) (natAbs (edgeSquared ps (widthEdge ps)))

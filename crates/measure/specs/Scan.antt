@@ -6,7 +6,7 @@
 --     LengthAt ps r           r is the first pair of corners at the greatest distance
 --     Moving a m t w next     one step of the walk round a shape of three corners or more
 --     Best a k b              b is the narrowest of the first k edges
--- What they mean: `Leads` and `Width` of the plane's theory. Assumes nothing.
+-- What they mean: `Leads` and `Width` of the plane's theory.
 use mathlib.Core.Path.{_≡_}
 use mathlib.Core.List.{List}
 use Prim.Native.Nat.{ℕ, _≤_, _<_}
@@ -15,14 +15,10 @@ use lib.ListN.{length}
 use Rattle.plane.specs.Point.{Point, points}
 use Rattle.plane.specs.Refusal.{InRange}
 use Rattle.plane.specs.Measure.{lengthFrom, lengthTo}
-use Rattle.plane.specs.theory.Forms.{edges}
-use Rattle.plane.specs.theory.Turned.{turned}
-use Rattle.plane.specs.theory.Standing.{Standing}
-use Rattle.plane.specs.theory.Places.{place}
-use Rattle.plane.specs.theory.Longest.{NotAfter}
-use Rattle.plane.specs.theory.MirrorWalk.{Mirrors}
-use Rattle.plane.specs.theory.LengthScan.{NoBetter, Stands}
-use Rattle.plane.specs.theory.WidthScan.{Width}
+use Rattle.plane.specs.Forms.{edges}
+use Rattle.plane.specs.Cycle.{turned}
+use Rattle.calipers.specs.Places.{Standing, place}
+use Rattle.measure.specs.Comparison.{NotAfter, Mirrors, NoBetter, Stands, Width}
 use Rattle.calipers.specs.declared.walk.Walk.{Walk}
 use Rattle.calipers.specs.Walk.{advanced}
 use Rattle.measure.specs.declared.longest.Pair.{Pair}

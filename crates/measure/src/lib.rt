@@ -1,63 +1,68 @@
-// Length and width of a shape by rotating calipers: document 01, "Length" and "Width".
-pub mod answer;
+// Inner functions for length and width of a shape by rotating calipers (document 01, "Length" and "Width"). Callers ask
+// the crate `questions`.
 mod longest;
 mod narrowest;
 mod place;
 
-ghost use mathlib.Core.Path.{_≡_};
-ghost use Rattle.plane.specs.Measure.{lengthReply, widthReply};
-ghost use Rattle.measure.specs.Answer.{lengthAnswer, widthAnswer};
-use answer::Length;
-use answer::Width;
-use polygon::Judged;
-use polygon::corners;
+ghost use Prim.Native.Nat.{_<_};
+ghost use lib.ListN.{length as ListN·length};
+ghost use Rattle.plane.specs.Point.{points};
+ghost use Rattle.plane.specs.Refusal.{Valid};
+ghost use Rattle.measure.specs.Answer.{IsLength, IsWidth};
 use polygon::limits;
 use polygon::opposite;
 
-// The greatest squared distance between two corners, and the positions of two corners that are so
-// far apart. Of several such pairs: the smallest first position, then the smallest second. A point
-// answers 0 at 0, 0, and a segment its own two corners. Parallel edges are passed in one step, and
-// the corners at the greatest distance are met all the same. Refused: what `judge` refuses.
+// The greatest squared distance between two corners, and their positions.
+pub struct Length {
+    pub squared: u64,
+    pub from: usize,
+    pub to: usize,
+}
+
+// The edge that a shape is narrowest across, the corner furthest from it, the turn of that corner against the edge, the
+// edge's squared length, and the width rounded down.
+pub struct Width {
+    pub edge: usize,
+    pub corner: usize,
+    pub turn: u64,
+    pub squared: u64,
+    pub rounded: u64,
+}
+
+// The two corners of a shape that are furthest apart. Of several such pairs: the smallest first position, then the
+// smallest second. A point has 0 at 0, 0, and a segment its own two corners. Parallel edges are passed in one step, and
+// the corners at the greatest distance are met all the same.
 // Ruled out: ties to the larger position; first position given twice.
-pub fn length(list: &[i32]) -> Length
-    ensures { λ r. ⌜ lengthAnswer r ≡ lengthReply (now (list .entry)) ⌝ }
+pub fn furthest_pair(list: &[i32]) -> Length
+    requires { ⌜ Valid (now list) ⌝ }
+    ensures { λ r. ⌜ IsLength (points (now (list .entry))) r ⌝ }
 {
-    if let Judged::No(fault) = polygon::judge(list) {
-        return Length::Shape(fault);
-    }
-    let mut image = [0i32; 2 * limits::MAX_CORNERS];
+    let mut image = [0i32; limits::SHAPE_NUMBERS];
     let top = opposite::top(list);
     opposite::write_from(list, top, &mut image);
     let end = list.len();
     let pair = longest::longest(list, &image[..end], top);
-    Length::Between {
-        squared: place::squared_at(list, pair.from, pair.to),
+    Length {
+        squared: narrowest::magnitude(place::squared_at(list, pair.from, pair.to)),
         from: pair.from,
         to: pair.to,
     }
 }
 
-// The edge across which the shape is narrowest, the corner furthest from it, that corner's turn,
-// the edge's squared length, and the width rounded down. Edges compare by turn·turn/squared as
-// exact fractions. Of several such edges the smallest position; of two corners equally far from it,
-// as where the opposite edge is parallel, the smallest position. Refused: what `judge` refuses,
-// then a point and a segment.
-// Ruled out: later edge on a tie; corner after the tie; rounded width one too large.
-pub fn width(list: &[i32]) -> Width
-    ensures { λ r. ⌜ widthAnswer r ≡ widthReply (now (list .entry)) ⌝ }
+// The edge across which a shape of three corners or more is narrowest. Edges compare by turn·turn/squared as exact
+// fractions. Of several such edges the smallest position; of two corners equally far from it, as where the opposite
+// edge is parallel, the smallest position.
+// Ruled out: later edge on a tie; corner after the tie; widths compared after rounding down.
+pub fn narrowest_edge(list: &[i32]) -> Width
+    requires { ⌜ Valid (now list) × (2 < ListN·length (points (now list))) ⌝ }
+    ensures { λ r. ⌜ IsWidth (points (now (list .entry))) r ⌝ }
 {
-    if let Judged::No(fault) = polygon::judge(list) {
-        return Width::Shape(fault);
-    }
-    if corners::count(list) < 3 {
-        return Width::Flat;
-    }
-    let mut image = [0i32; 2 * limits::MAX_CORNERS];
+    let mut image = [0i32; limits::SHAPE_NUMBERS];
     let top = opposite::top(list);
     opposite::write_from(list, top, &mut image);
     let end = list.len();
     let best = narrowest::narrowest(list, &image[..end], top);
-    Width::Across {
+    Width {
         edge: best.edge,
         corner: best.corner,
         turn: best.turn,

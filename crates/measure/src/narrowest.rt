@@ -1,4 +1,4 @@
-// The edge across which a shape is narrowest. When the walk round the shape and its mirror image
+// Inner functions: the edge across which a shape is narrowest. When the walk round the shape and its mirror image
 // passes an edge of the shape, it stands at the opposite of the corner that is furthest from it.
 ghost use mathlib.Core.Path.{_≡_};
 ghost use Prim.Native.Nat.{_<_};
@@ -6,8 +6,7 @@ ghost use lib.IntN.{pos};
 ghost use lib.ListN.{length};
 ghost use lib.Signed.{_≤ℤ_};
 ghost use Rattle.plane.specs.Point.{points};
-ghost use Rattle.plane.specs.theory.Reach.{Facing};
-ghost use Rattle.plane.specs.theory.WidthScan.{Measured};
+ghost use Rattle.measure.specs.Comparison.{Facing, Measured};
 ghost use Rattle.measure.specs.Scan.{Imaged, Moving, Best};
 use crate::place;
 use calipers::edges;
@@ -90,7 +89,7 @@ fn furthest_corner(list: &[i32], image: &[i32], top: usize, walk: Walk, next: Wa
 }
 
 // A number that is not negative, as an unsigned one.
-fn magnitude(z: i64) -> u64
+pub fn magnitude(z: i64) -> u64
     requires { ⌜ pos 0 ≤ℤ z ⌝ }
     ensures { λ r. ⌜ z ≡ pos r ⌝ }
 {

@@ -2,7 +2,7 @@
 --     mirrorWritten l out     "Mirror: the shape of all (-x, -y)"
 --     sumWritten a b out      "Sum: the shape of all corner-plus-corner points"
 --     mergeWritten a b out    "Merge: the shape of both corner lists taken together"
--- That 6 and 7 cannot come of a mirror (`Meaning.antt`), nor 7 of a merge (`Meaning.antt` of hull), is proved. Assumes nothing.
+-- That 6 and 7 cannot come of a mirror (`Meaning.antt`), nor 7 of a merge (`Meaning.antt` of hull), is proved.
 use mathlib.Core.List.{List, _++_}
 use lib.IntN.{ℤ}
 use Rattle.plane.specs.Point.{Point, points}

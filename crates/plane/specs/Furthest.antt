@@ -1,5 +1,5 @@
 -- Furthest corner (document 01, "What each question asks", first paragraph): refusals 1 to 5, then 11; otherwise the smallest position of
--- the greatest value in the direction, and that value. Assumes nothing.
+-- the greatest value in the direction, and that value.
 use mathlib.Core.Bool.{Bool, _&&_, _||_}
 use mathlib.Core.List.{List, [], _∷_, _++_}
 use lib.Dec.{eqb, ltb}

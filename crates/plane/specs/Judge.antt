@@ -1,5 +1,5 @@
 -- Judging a shape: refusals 1 to 5, blamed on shape 1; otherwise the answer is how many corners it has.
--- Document 01 does not spell out either choice (docs/DECISIONS.md). Assumes nothing.
+-- Document 01 does not spell out either choice (docs/DECISIONS.md).
 use mathlib.Core.List.{List, [], _∷_}
 use lib.ListN.{length}
 use lib.IntN.{ℤ, pos}

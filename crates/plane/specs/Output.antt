@@ -3,10 +3,8 @@
 --     Written                 the reply, and the whole output afterwards
 --     written rows shape out  the rows in order; without a refusal the shape's numbers stand at the front and all behind them is kept,
 --                             and the reply is the count of corners; a refusal leaves the output untouched
--- Assumes nothing.
 use mathlib.Core.Bool.{Bool, cond}
 use mathlib.Core.List.{List, [], _∷_, _++_}
-use Prim.Native.Nat.{ℕ}
 use lib.Dec.{ltb}
 use lib.IntN.{ℤ, pos}
 use lib.ListN.{length, drop}

@@ -2,18 +2,18 @@
 --     shapeRows which l    the five rows, in number order
 --     InRange l            "each coordinate from -1,000,000 to 1,000,000"
 --     Valid l              l meets all that stands under "What makes a shape"
--- What it means: `valid→accepted`, `accepted→valid`. Assumes nothing.
-use mathlib.Core.Bool.{Bool, true, false, not, _&&_, _||_}
+-- What it means: `valid→accepted`, `accepted→valid`.
+use mathlib.Core.Bool.{Bool, false, cond, _&&_, _||_}
 use mathlib.Core.List.{List, [], _∷_}
 use mathlib.Core.Path.{_≡_}
-use Prim.Native.Nat.{ℕ, _%_, _+_, _≤_, _<_}
-use lib.Dec.{eqb, ltb, leb}
+use Prim.Native.Nat.{ℕ, _%_, _≤_, _<_}
+use lib.Dec.{eqb, ltb}
 use lib.ListN.{length, getD}
 use lib.IntN.{ℤ, pos, natAbs}
 use Rattle.integer.specs.Bound.{Within}
 use Rattle.plane.specs.Limits.{maxCorners, maxCoordinate}
-use Rattle.plane.specs.Point.{Point, points, corner}
-use Rattle.plane.specs.Search.{first}
+use Rattle.plane.specs.Point.{Point, points, corner, samePoint}
+use Rattle.plane.specs.Search.{some, first}
 use Rattle.plane.specs.Shape.{breaks, precedes, IsShape}
 use Rattle.plane.specs.Reply.{Row, row}
 
@@ -30,30 +30,45 @@ unfoldable pub outside : ℤ → Bool
 outside z = ltb maxCoordinate (natAbs z)
 
 unfoldable pub someOutside : List ℤ → Bool
-someOutside l = ltb (first (λ i. outside (getD l i (pos 0))) (length l)) (length l)
+someOutside [] = false
+someOutside (z ∷ l) = outside z || someOutside l
 
--- 4: "two equal corners in a list of two"
+-- "two equal corners in a list of two"
 unfoldable pub equalPair : List Point → Bool
-equalPair ps = eqb (length ps) 2 && (not (precedes (corner ps 0) (corner ps 1)) && not (precedes (corner ps 1) (corner ps 0)))
+equalPair ps = eqb (length ps) 2 && samePoint (corner ps 0) (corner ps 1)
 
--- 4: "or the left rule broken": "the first edge, then the first corner, that breaks the left rule"
-unfoldable pub brokenCorner : List Point → ℕ → ℕ
-brokenCorner ps e = first (breaks ps e) (length ps)
+-- "the left rule broken": at some edge, by some corner
+unfoldable pub leftBroken : List Point → Bool
+leftBroken ps = some (λ e. some (breaks ps e) (length ps)) (length ps)
 
+-- "the first edge, then the first corner, that breaks the left rule"
+unfoldable pub breakingEdge : List Point → ℕ
+breakingEdge ps = first (λ e. some (breaks ps e) (length ps)) (length ps)
+
+unfoldable pub breakingCorner : List Point → ℕ
+breakingCorner ps = first (breaks ps (breakingEdge ps)) (length ps)
+
+-- 4: "two equal corners in a list of two, or the left rule broken"
+unfoldable pub ruleBroken : List Point → Bool
+ruleBroken ps = equalPair ps || leftBroken ps
+
+-- "Number 4 also gives the first edge, then the first corner, that breaks the left rule; for a list of two it gives positions 0 and 1"
 unfoldable pub brokenEdge : List Point → ℕ
-brokenEdge ps = first (λ e. ltb (brokenCorner ps e) (length ps)) (length ps)
+brokenEdge ps = cond (equalPair ps) 0 (breakingEdge ps)
+
+unfoldable pub brokenCorner : List Point → ℕ
+brokenCorner ps = cond (equalPair ps) 1 (breakingCorner ps)
 
 -- 5: "the corners pass, but the first is not the standard one"
 unfoldable pub badStart : List Point → Bool
-badStart ps = ltb (first (λ c. precedes (corner ps c) (corner ps 0)) (length ps)) (length ps)
+badStart ps = some (λ c. precedes (corner ps c) (corner ps 0)) (length ps)
 
 abbrev pub shapeRows : ℕ → List ℤ → List Row
 shapeRows which l =
     row 1 (badCount l) (which ∷ [])
     ∷ row 2 (tooMany (points l)) (which ∷ [])
     ∷ row 3 (someOutside l) (which ∷ [])
-    ∷ row 4 (equalPair (points l)) (which ∷ 0 ∷ 1 ∷ [])
-    ∷ row 4 (ltb (brokenEdge (points l)) (length (points l))) (which ∷ brokenEdge (points l) ∷ brokenCorner (points l) (brokenEdge (points l)) ∷ [])
+    ∷ row 4 (ruleBroken (points l)) (which ∷ brokenEdge (points l) ∷ brokenCorner (points l) ∷ [])
     ∷ row 5 (badStart (points l)) (which ∷ [])
     ∷ []
 

@@ -3,7 +3,6 @@
 --     Row              a row of the table: its number, whether it applies, and what it carries
 --     firstRow rs r    the refusal of the first row that applies, in the order of the list; r where none does
 -- What it means: `firstRow-given` and `firstRow-none` of the theory: a refusal is given exactly when its row applies and none before it.
--- Assumes nothing.
 use mathlib.Core.Bool.{Bool, cond}
 use mathlib.Core.List.{List, [], _∷_}
 use Prim.Native.Nat.{ℕ}

@@ -1,45 +1,55 @@
--- Where the left rule is broken, from what two nested searches found.
---     broken-at          both searches stopped
---     broken-nowhere     the outer one came to its end
---     broken-found, broken-none     the same, read off the result
--- Assumes nothing.
+-- Where refusal 4 finds the rules broken.
+--     left-break-at, left-break-nowhere     of the left rule, from what two nested searches found: both stopped, or the outer one ended
+--     broken-pair, broken-left              of a pair of equal corners, and of any other list
+--     broken-found, broken-none             read off the result: row 4 of the table applies, with these positions, or it does not
 use mathlib.Core.Path.{_≡_, refl, sym, _∙_, ap, ap₂}
 use mathlib.Core.Bool.{Bool, true, false, cond}
 use mathlib.Core.List.{List}
-use Prim.Native.Nat.{ℕ, _<_}
+use Prim.Native.Nat.{ℕ}
 use native.Mathlib.Omega.{arith}
-use borrow.Author.Tests.{lt-ltb}
-use lib.Dec.{ltb}
 use lib.ListN.{length}
 use Rattle.plane.specs.Point.{Point}
-use Rattle.plane.specs.Refusal.{brokenEdge, brokenCorner}
-use Rattle.polygon.specs.Answer.{broken}
+use Rattle.plane.specs.Search.{first}
+use Rattle.plane.specs.Shape.{breaks}
+use Rattle.plane.specs.Refusal.{equalPair, leftBroken, breakingEdge, breakingCorner, ruleBroken, brokenEdge, brokenCorner}
+use Rattle.polygon.specs.Broken.{leftBreak, broken}
 use Rattle.polygon.specs.declared.rules.Broken.the-variants.{At, Nowhere}
 
-pub broken-nowhere : (ps : List Point) → ltb (brokenEdge ps) (length ps) ≡ false → Nowhere ≡ broken ps
-broken-nowhere ps h = ap (λ b. cond b (At (brokenEdge ps) (brokenCorner ps (brokenEdge ps))) Nowhere) (sym h)
+module _ (ps : List Point) where
+  -- ---- the left rule
 
-pub broken-at : (ps : List Point) (e c : ℕ) → e < length ps → brokenEdge ps ≡ e → brokenCorner ps e ≡ c → At e c ≡ broken ps
-broken-at ps e c h p q =
-    ap₂ At (sym p) (sym q ∙ ap (brokenCorner ps) (sym p))
-    ∙ ap (λ b. cond b (At (brokenEdge ps) (brokenCorner ps (brokenEdge ps))) Nowhere)
-    (sym (ap (λ n. ltb n (length ps)) p ∙ lt-ltb e (length ps) h))
+  pub left-break-nowhere : leftBroken ps ≡ false → Nowhere ≡ leftBreak ps
+  left-break-nowhere h = ap (λ b. cond b (At (breakingEdge ps) (breakingCorner ps)) Nowhere) (sym h)
 
--- ---- and back, for who asked
+  pub left-break-at : (e c : ℕ) → leftBroken ps ≡ true → breakingEdge ps ≡ e → first (breaks ps e) (length ps) ≡ c → At e c ≡ leftBreak ps
+  unfolding breakingCorner
+  left-break-at e c h p q =
+      ap₂ At (sym p) (sym q ∙ ap (λ k. first (breaks ps k) (length ps)) (sym p))
+      ∙ ap (λ b. cond b (At (breakingEdge ps) (breakingCorner ps)) Nowhere) (sym h)
 
-pub broken-found : (ps : List Point) (e c : ℕ) → broken ps ≡ At e c
-    → (ltb (brokenEdge ps) (length ps) ≡ true) × (brokenEdge ps ≡ e) × (brokenCorner ps (brokenEdge ps) ≡ c)
-broken-found ps e c h = go (ltb (brokenEdge ps) (length ps)) refl h
-  where
-    go : (b : Bool) → ltb (brokenEdge ps) (length ps) ≡ b → cond b (At (brokenEdge ps) (brokenCorner ps (brokenEdge ps))) Nowhere ≡ At e c
-        → (ltb (brokenEdge ps) (length ps) ≡ true) × (brokenEdge ps ≡ e) × (brokenCorner ps (brokenEdge ps) ≡ c)
-    go true p q = (p, cc, cc)
-    go false p q = absurd (let z : _≡_ {A = ℕ} 0 1 = cc in let f : ⊥ = omega arith in f)
+  -- ---- row 4
 
-pub broken-none : (ps : List Point) → broken ps ≡ Nowhere → ltb (brokenEdge ps) (length ps) ≡ false
-broken-none ps h = go (ltb (brokenEdge ps) (length ps)) refl h
-  where
-    go : (b : Bool) → ltb (brokenEdge ps) (length ps) ≡ b → cond b (At (brokenEdge ps) (brokenCorner ps (brokenEdge ps))) Nowhere ≡ Nowhere
-        → ltb (brokenEdge ps) (length ps) ≡ false
-    go true p q = absurd (let z : _≡_ {A = ℕ} 0 1 = cc in let f : ⊥ = omega arith in f)
-    go false p q = p
+  pub broken-pair : equalPair ps ≡ true → At 0 1 ≡ broken ps
+  unfolding ruleBroken brokenEdge brokenCorner
+  broken-pair h = rw h
+
+  pub broken-left : equalPair ps ≡ false → leftBreak ps ≡ broken ps
+  unfolding ruleBroken brokenEdge brokenCorner
+  broken-left h = rw h
+
+  -- ---- and back, for who asked
+
+  pub broken-found : (e c : ℕ) → broken ps ≡ At e c → (ruleBroken ps ≡ true) × (brokenEdge ps ≡ e) × (brokenCorner ps ≡ c)
+  broken-found e c h = go (ruleBroken ps) refl h
+    where
+      go : (b : Bool) → ruleBroken ps ≡ b → cond b (At (brokenEdge ps) (brokenCorner ps)) Nowhere ≡ At e c
+          → (ruleBroken ps ≡ true) × (brokenEdge ps ≡ e) × (brokenCorner ps ≡ c)
+      go true p q = (p, cc, cc)
+      go false p q = absurd (let z : _≡_ {A = ℕ} 0 1 = cc in let f : ⊥ = omega arith in f)
+
+  pub broken-none : broken ps ≡ Nowhere → ruleBroken ps ≡ false
+  broken-none h = go (ruleBroken ps) refl h
+    where
+      go : (b : Bool) → ruleBroken ps ≡ b → cond b (At (brokenEdge ps) (brokenCorner ps)) Nowhere ≡ Nowhere → ruleBroken ps ≡ false
+      go true p q = absurd (let z : _≡_ {A = ℕ} 0 1 = cc in let f : ⊥ = omega arith in f)
+      go false p q = p

@@ -1,2 +1,7 @@
--- The answers of this crate's functions in document 01's terms.
-pub mod Answer
+-- The code's points and what the functions of this crate promise, beside the plane's definitions; what the furthest corner means; then the
+-- theory behind it.
+pub mod Point
+pub mod Broken
+pub mod Front
+pub mod Meaning
+pub mod theory

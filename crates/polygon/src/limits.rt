@@ -13,10 +13,14 @@ const MAX_COORDINATE: i32 = 1_000_000;
 
 const MAX_PART: i32 = 2_000_000;
 
+// So many numbers hold the corners of any shape.
+pub const SHAPE_NUMBERS: usize = 2 * MAX_CORNERS;
+
 // So many numbers hold the corners of any two shapes.
-pub const PAIR_NUMBERS: usize = 4 * MAX_CORNERS;
+pub const PAIR_NUMBERS: usize = 2 * SHAPE_NUMBERS;
 
 // Whether so many corners are more than a shape may have.
+// Ruled out: one corner more.
 pub fn exceeds_corners(n: usize) -> bool
     ensures { λ r. ⌜ r ≡ ltb maxCorners n ⌝ }
 {

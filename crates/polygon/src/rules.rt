@@ -5,11 +5,12 @@ ghost use lib.ListN.{length};
 ghost use Rattle.plane.specs.Point.{points, corner};
 ghost use Rattle.plane.specs.Shape.{next as Shape·next, breaks};
 ghost use Rattle.plane.specs.Refusal.{InRange, badCount, tooMany, someOutside, equalPair, badStart};
-ghost use Rattle.polygon.specs.Answer.{broken};
+ghost use Rattle.polygon.specs.Broken.{leftBreak, broken};
 use crate::corners;
 use crate::limits;
 
 // Refusal 1: an empty list, or an odd count of numbers.
+// Ruled out: everything refused.
 pub fn bad_count(list: &[i32]) -> bool
     ensures { λ r. ⌜ r ≡ badCount (now (list .entry)) ⌝ }
 {
@@ -37,8 +38,8 @@ pub fn some_outside(list: &[i32]) -> bool
     false
 }
 
-// Refusal 4, for a list of two: the corners are equal.
-pub fn equal_pair(list: &[i32]) -> bool
+// The first part of refusal 4: a list of two whose corners are equal.
+fn equal_pair(list: &[i32]) -> bool
     ensures { λ r. ⌜ r ≡ equalPair (points (now (list .entry))) ⌝ }
 {
     if corners::count(list) != 2 {
@@ -74,16 +75,17 @@ fn breaks_at(list: &[i32], edge: usize, corner: usize) -> bool
     !(0 < corners::turn_at(list, edge, end, corner))
 }
 
-// Where the left rule is broken.
+// Where refusal 4 finds the rules broken.
 pub enum Broken {
     At { edge: usize, corner: usize },
     Nowhere,
 }
 
-// Refusal 4: the first edge, then the first corner, that breaks the left rule.
-pub fn first_broken(list: &[i32]) -> Broken
+// The second part of refusal 4: the first edge, then the first corner, that breaks the left rule.
+// Ruled out: later corners only.
+fn left_break(list: &[i32]) -> Broken
     requires { ⌜ InRange (now list) ⌝ }
-    ensures { λ r. ⌜ r ≡ broken (points (now (list .entry))) ⌝ }
+    ensures { λ r. ⌜ r ≡ leftBreak (points (now (list .entry))) ⌝ }
 {
     let n = corners::count(list);
     let mut found = Broken::Nowhere;
@@ -96,6 +98,17 @@ pub fn first_broken(list: &[i32]) -> Broken
         }
     }
     found
+}
+
+// Refusal 4: two equal corners in a list of two, at positions 0 and 1; otherwise where the left rule is broken.
+pub fn first_broken(list: &[i32]) -> Broken
+    requires { ⌜ InRange (now list) ⌝ }
+    ensures { λ r. ⌜ r ≡ broken (points (now (list .entry))) ⌝ }
+{
+    if equal_pair(list) {
+        return Broken::At { edge: 0, corner: 1 };
+    }
+    left_break(list)
 }
 
 // Refusal 5: some corner precedes the first.

@@ -1,31 +1,25 @@
 // Answers questions about shapes. Each line of standard input is a question: a word, and behind a
-// bar each field of numbers. Each is answered by one line of standard output, in order; a line that
-// is no question is answered with the reason. Empty lines and lines that begin with # are passed
-// over. No function here asks anything of its caller: past the end of a buffer there is nothing.
-mod answers;
-mod drawing;
-mod fields;
-mod frames;
-mod lines;
-mod measures;
+// bar each field. Each is answered by one line of standard output, in order; a line that is no
+// question is answered with the reason. A line has at most 65,536 characters, and its fields hold at
+// most 16,384 numbers together.
+mod ask;
 mod pictures;
-mod questions;
-mod words;
+mod replies;
+mod table;
 
-use answers::Reason;
-use fields::Fields;
-use lines::Reading;
-use words::Entry;
-use words::Form;
-use words::Question;
+use table::Question;
+use text::answers;
+use text::fields;
+use text::fields::Fields;
+use text::lines;
+use text::lines::Reading;
+use text::reasons;
+use text::words;
 
-// How many numbers the fields of a line can hold together.
+// How many numbers the fields of a line hold together, at most.
 const NUMBERS: usize = 16384;
 
-// Up to four fields, and the end of the last.
-const MARKS: usize = 5;
-
-// A line can have 65,536 characters.
+// A large buffer has 65,536 bytes: so many characters has a line at most.
 fn main() {
     let mut chunk = io::large_buffer();
     let mut line = io::large_buffer();
@@ -34,130 +28,59 @@ fn main() {
     answer_all(&mut out, &mut chunk, &mut line, &mut values);
 }
 
-// Answers every line. The answers are written when all that was read is answered. A proved loop has
-// to end, so this one counts its turns down, from a number that no run uses up.
+// Answers every line. A proved loop has to end, so this one counts its turns down, from a number
+// that no run uses up.
 fn answer_all(out: &mut [u8], chunk: &mut [u8], line: &mut [u8], values: &mut [i32]) {
-    let mut filled = 0;
     let mut reading = lines::begin();
     let mut turns = u64::MAX;
     while turns > 0 && !reading.last {
-        reading = lines::next_line(reading, chunk, line);
-        filled = answer_read(out, filled, reading, line, values);
-        if reading.at == reading.end {
-            filled = answers::flush(out, filled);
-        }
+        reading = answer_next(reading, out, chunk, line, values);
         turns -= 1;
     }
+    answers::flush(out, reading.filled);
 }
 
-// Answers the line that was read, or passes it over.
-fn answer_read(
+// Reads the next line and answers it.
+fn answer_next(
+    before: Reading,
     out: &mut [u8],
-    filled: usize,
-    reading: Reading,
-    line: &[u8],
+    chunk: &mut [u8],
+    line: &mut [u8],
     values: &mut [i32],
-) -> usize {
-    let text = lines::text(line, reading.length);
-    if is_comment(text) {
+) -> Reading {
+    let mut reading = lines::next_line(before, out, chunk, line);
+    let filled = answer_line(out, reading.filled, lines::text(reading, line), values);
+    reading.filled = filled;
+    reading
+}
+
+// Answers a line, if it is not empty.
+fn answer_line(out: &mut [u8], filled: usize, line: &[u8], values: &mut [i32]) -> usize {
+    if line.len() == 0 {
         return filled;
     }
-    if reading.too_long {
-        return answers::unreadable(out, filled, Reason::LineTooLong);
-    }
-    answer(out, filled, text, values)
+    let entry = table::look_up(words::word_of(line));
+    let kinds = entry.kinds;
+    let mut marks = [0usize; fields::MARKS];
+    let read = fields::read(line, kinds, values, &mut marks);
+    let question = entry.question;
+    answer_fields(out, filled, question, read, values, &marks)
 }
 
-// Whether a line begins with #.
-fn is_comment(line: &[u8]) -> bool {
-    0 < line.len() && line[0] == b'#'
-}
-
-// Answers a line, unless it has nothing but spaces.
-fn answer(out: &mut [u8], filled: usize, line: &[u8], values: &mut [i32]) -> usize {
-    let word = words::word_of(line);
-    let bars = words::count_bars(line);
-    if word.len() == 0 && bars == 0 {
-        return filled;
-    }
-    match words::look_up(word) {
-        Entry::Unknown => answers::unreadable(out, filled, Reason::UnknownWord),
-        Entry::Known(form) => match fields::enough(form, bars) {
-            Fields::Read => answer_known(out, filled, form, line, values),
-            Fields::No(reason) => answers::unreadable(out, filled, reason),
-        },
-    }
-}
-
-// Answers a question whose word is known and takes as many fields as the line has.
-fn answer_known(
-    out: &mut [u8],
-    filled: usize,
-    form: Form,
-    line: &[u8],
-    values: &mut [i32],
-) -> usize {
-    let mut marks = [0usize; MARKS];
-    match fields::read(line, values, &mut marks) {
-        Fields::Read => {
-            let bars = words::count_bars(line);
-            answer_fields(out, filled, form, bars, values, &marks)
-        }
-        Fields::No(reason) => answers::unreadable(out, filled, reason),
-    }
-}
-
-// Answers a question whose fields are read, of which there are as many as bars.
+// Answers a question whose fields are read, or says why they could not be.
 fn answer_fields(
     out: &mut [u8],
     filled: usize,
-    form: Form,
-    bars: usize,
+    question: Question,
+    read: Fields,
     values: &[i32],
     marks: &[usize],
 ) -> usize {
-    let question = form.question;
-    let shapes = form.shapes;
-    match fields::fit(form, bars, fields::field(values, marks, shapes)) {
-        Fields::Read => {
-            let now = ask(out, filled, question, values, marks);
+    match read {
+        Fields::Ready { count, room } => {
+            let now = ask::ask(out, filled, question, count, room, values, marks);
             answers::word(out, now, b"\n")
         }
-        Fields::No(reason) => answers::unreadable(out, filled, reason),
-    }
-}
-
-// Asks the question of its fields.
-fn ask(
-    out: &mut [u8],
-    filled: usize,
-    question: Question,
-    values: &[i32],
-    marks: &[usize],
-) -> usize {
-    let first = fields::field(values, marks, 0);
-    let second = fields::field(values, marks, 1);
-    let third = fields::field(values, marks, 2);
-    match question {
-        Question::Judge => questions::judge(out, filled, first),
-        Question::Furthest => questions::furthest(out, filled, first, second),
-        Question::Mirror => questions::mirror(out, filled, first, second),
-        Question::Sum => questions::sum(out, filled, first, second, third),
-        Question::Merge => questions::merge(out, filled, first, second, third),
-        Question::Length => measures::length(out, filled, first),
-        Question::Width => measures::width(out, filled, first),
-        Question::Relation => measures::relation(out, filled, first, second),
-        Question::Inside => measures::inside(out, filled, first, second),
-        Question::Clearance => measures::clearance(out, filled, first, second),
-        Question::Draw => draw(out, filled, first, second, fields::given(marks, 1)),
-    }
-}
-
-// Draws one shape, or two if a second is given.
-fn draw(out: &mut [u8], filled: usize, first: &[i32], second: &[i32], both: bool) -> usize {
-    if both {
-        pictures::pair(out, filled, first, second)
-    } else {
-        pictures::one(out, filled, first)
+        Fields::No(reason) => reasons::unreadable(out, filled, reason),
     }
 }

@@ -4,7 +4,6 @@
 --     passing-at, passing-to                     the walk stands at edges of the lists; so does the end of an edge
 --     passing-below, passing-count               there is an edge to pass; the count fits
 --     passing-corners                            the corners that the edge joins
--- Assumes nothing.
 use mathlib.Core.Path.{_≡_, refl, sym, _∙_, ap, ap₂, subst}
 use mathlib.Core.Bool.{Bool, true, false, cond, _||_}
 use mathlib.Core.List.{List}
@@ -18,12 +17,13 @@ use Rattle.plane.specs.Point.{Point, points, corner}
 use Rattle.plane.specs.Turn.{cross}
 use Rattle.plane.specs.Shape.{next}
 use Rattle.plane.specs.Separation.{notLeft}
-use Rattle.plane.specs.theory.EdgeSum.{vectorSum}
-use Rattle.plane.specs.theory.Rim.{notLeft-cross}
+use Rattle.plane.specs.VectorSum.{vectorSum}
+use Rattle.separation.specs.theory.Rim.{notLeft-cross}
 use Rattle.calipers.specs.declared.walk.Walk.{Walk}
 use Rattle.calipers.specs.Walk.{here, begun, advanced, stepped, At}
 use Rattle.calipers.specs.theory.Steps.{at-stepped}
-use Rattle.separation.specs.Around.{some, crossAt, rightOf, Passed}
+use Rattle.plane.specs.Search.{some}
+use Rattle.separation.specs.Around.{crossAt, rightOf, Passed}
 use Rattle.separation.proofs.Stops.{sum-length, on-below, over-end, corner-here, end, end-at, end-here}
 
 -- ---- the loop

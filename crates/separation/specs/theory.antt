@@ -1,6 +1,11 @@
--- What the code finds is what the questions ask.
+-- The theory of inside, apart and touching, which only proves; then that what the code finds is what the questions ask.
+pub mod Inside
+pub mod Apart
+pub mod Sector
+pub mod InsideShape
+pub mod Rim
+pub mod Clearance
 pub mod Around
 pub mod Nearest
 pub mod Image
-pub mod Admission
 pub mod Merged

@@ -3,7 +3,6 @@
 --     value ws     the number that the words make; 0 on []
 --     weight i     what a one in word i counts for: 2 ^ (32 · i)
 -- What it means: `theory/Laws.antt`.
--- Assumes nothing.
 use mathlib.Core.List.{List, [], _∷_}
 use Prim.Native.Nat.{ℕ, _+_, _*_, _^_}
 

@@ -1,132 +1,56 @@
--- `sum` meets its contract: both shapes are judged, the corners of the sum counted, and then written.
--- Assumes nothing.
-use mathlib.Core.Path.{sym, _∙_, ap}
+-- `sum` meets its contract: so many corners from the beginning of the walk are the whole sum.
+use mathlib.Core.Path.{_≡_}
+use Prim.Native.Nat.{_+_}
+use native.Mathlib.Omega.{arith}
 use borrow.Author.Needs.{needs}
-use Rattle.plane.specs.Refusal.{Valid}
-use Rattle.polygon.specs.Answer.{judgedReply}
-use Rattle.polygon.proofs.Judging.{judged-shape}
-use Rattle.calipers.specs.theory.Steps.{at-begin}
-use Rattle.calipers.proofs.Summed.{summed-first, summed-second, summed-refused, summed-room, written-place, summed-all}
+use lib.ListN.{length}
+use Rattle.plane.specs.Point.{points}
+use Rattle.plane.specs.theory.lists.Flat.{points-length}
+use Rattle.calipers.proofs.Summed.{sum-room, sum-front}
 use Rattle.calipers.proofs.sum.Statement.{statement}
 use Rattle.calipers.proofs.sum.Tie as tie
 
--- ---- the shapes, each where it is known to be one
+-- as many as both lists have
+all : (c : tie.After-count2) → let args = c .before .before .args in
+    c .before .count .result + c .count2 .result ≡ length (points (args .a .now)) + length (points (args .b .now))
+all c = omega (arith, c .before .count .ensures, c .count2 .ensures)
 
-first : (c : tie.After-enum-told) → Valid (c .before .before .before .args .a .now)
-first c = judged-shape _ _ (sym (ap judgedReply (c .enum-told .given .1)) ∙ c .before .before .judge .ensures) .0
+count-requires : tie.Need-count-requires
+count-requires c κs = search needs
 
-second : (c : tie.After-enum-told2) → Valid (c .before .before .before .before .before .before .args .b .now)
-second c = judged-shape _ _ (sym (ap judgedReply (c .enum-told2 .given .1)) ∙ c .before .before .judge2 .ensures) .0
+count-requires-2 : tie.Need-count-requires-2
+count-requires-2 c κs = search needs
 
--- the same once the corners are counted
-abbrev start-of : tie.After-survey → tie.Start
-start-of c = c .before .before .before .before .before .before .before
-
-first-of : (c : tie.After-survey) → Valid (start-of c .args .a .now)
-first-of c = first (c .before .before .before .before)
-
-second-of : (c : tie.After-survey) → Valid (start-of c .args .b .now)
-second-of c = second (c .before)
-
--- ---- the needs
-
-judge-requires : tie.Need-judge-requires
-judge-requires c κs = tt
-
-enum-known-f : tie.Need-enum-known-f
-enum-known-f c = search needs
-
-returns : tie.Need-returns
-returns c =
-    let at-judge = c .before .before .before in
-    let start = at-judge .before in
-    summed-first (start .args .a .now) (start .args .b .now) (start .args .out .now) (c .before .f .given .0 .0)
-    (sym (ap judgedReply (c .before .f .given .1)) ∙ at-judge .judge .ensures)
-
-enum-told : tie.Need-enum-told
-enum-told c = search needs
-
-judge-requires-2 : tie.Need-judge-requires-2
-judge-requires-2 c κs = tt
-
-enum-known-f-2 : tie.Need-enum-known-f-2
-enum-known-f-2 c = search needs
-
-returns-2 : tie.Need-returns-2
-returns-2 c =
-    let at-judge = c .before .before .before in
-    let start = at-judge .before .before .before .before in
-    summed-second (start .args .a .now) (start .args .b .now) (start .args .out .now) (first (at-judge .before)) (c .before .f2 .given .0 .0)
-    (sym (ap judgedReply (c .before .f2 .given .1)) ∙ at-judge .judge2 .ensures)
-
-enum-told-2 : tie.Need-enum-told-2
-enum-told-2 c = search needs
-
-survey-requires : tie.Need-survey-requires
-survey-requires c κs = at-begin _ _ (first (c .before .before .before)) (second c)
-
-enum-known-answer : tie.Need-enum-known-answer
-enum-known-answer c = search needs
-
-enum-told-3 : tie.Need-enum-told-3
-enum-told-3 c = search needs
-
-returns-3 : tie.Need-returns-3
-returns-3 c =
-    let at-survey = c .before .before in
-    let start = start-of at-survey in
-    rw (c .enum-told3 .given .1)
-    (summed-refused (start .args .a .now) (start .args .b .now) (start .args .out .now) (first-of at-survey) (second-of at-survey) _
-    (sym (c .enum-told3 .given .1) ∙ at-survey .survey .ensures))
-
-returns-4 : tie.Need-returns-4
-returns-4 c =
-    let at-survey = c .before .before .before .before in
-    let start = start-of at-survey in
-    summed-room (start .args .a .now) (start .args .b .now) (start .args .out .now) (first-of at-survey) (second-of at-survey) _
-    (sym (c .before .before .answer .given .1) ∙ at-survey .survey .ensures) (c .if1 .taken)
+add-all : tie.Need-add-all
+add-all c =
+    let start = c .before .before in
+    omega (
+      arith,
+      all c,
+      points-length (start .args .a .now),
+      points-length (start .args .b .now),
+      start .pre .2,
+      points-length (start .args .buf .now),
+    )
 
 begin-requires : tie.Need-begin-requires
-begin-requires c κs = tt
+begin-requires c κs = search needs
 
 write-requires : tie.Need-write-requires
 write-requires c κs =
-    let at-answer = c .before .before .before .before in
-    let at-survey = at-answer .before .before in
-    let start = start-of at-survey in
-    written-place (start .args .a .now) (start .args .b .now) (start .args .out .now) (first-of at-survey) (second-of at-survey) _
-    (sym (at-answer .answer .given .1) ∙ at-survey .survey .ensures) (c .before .before .if1 .left) _ (c .before .begin .ensures)
+    let at-count = c .before .before in
+    let start = at-count .before .before in
+    sum-room _ _ (start .pre .0) (start .pre .1) _ (all at-count) _ (c .before .begin .ensures) (start .args .buf .now) (start .pre .2)
 
 same-length : tie.Need-same-length
 same-length c = search needs
 
-returns-5 : tie.Need-returns-5
-returns-5 c =
+returns : tie.Need-returns
+returns c =
     let at-begin = c .before .before .before in
-    let at-answer = at-begin .before .before .before in
-    let at-survey = at-answer .before .before in
-    let start = start-of at-survey in
-    summed-all (start .args .a .now) (start .args .b .now) (start .args .out .now) (first-of at-survey) (second-of at-survey) _
-    (sym (at-answer .answer .given .1) ∙ at-survey .survey .ensures) (at-begin .before .if1 .left) _ (at-begin .begin .ensures) _ _ (c .before .write .ensures)
+    let at-count = at-begin .before in
+    let start = at-count .before .before in
+    sum-front _ _ (start .pre .0) (start .pre .1) _ (all at-count) _ (at-begin .begin .ensures) _ _ _ (c .before .write .ensures)
 
 pub sum-spec : {M : Type 1} → statement M
-sum-spec =
-    tie.close
-    (tie.spec
-    judge-requires
-    enum-known-f
-    returns
-    enum-told
-    judge-requires-2
-    enum-known-f-2
-    returns-2
-    enum-told-2
-    survey-requires
-    enum-known-answer
-    enum-told-3
-    returns-3
-    returns-4
-    begin-requires
-    write-requires
-    same-length
-    returns-5)
+sum-spec = tie.close (tie.spec count-requires count-requires-2 add-all begin-requires write-requires same-length returns)

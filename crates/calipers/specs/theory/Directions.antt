@@ -1,7 +1,6 @@
 -- How many corners a sum has: one for each direction that an edge of one of the shapes has, and one if there is no edge.
 --     sum-directions      `shared` counts the directions that both have (`EdgeCount` of the plane)
 --     sum-points          two points make a point
--- Assumes nothing.
 use mathlib.Core.Path.{_≡_, refl, sym, _∙_, ap}
 use mathlib.Core.List.{List, [], _∷_}
 use Prim.Native.Nat.{_+_, _≤_, _<_}
@@ -10,12 +9,15 @@ use lib.ListN.{length}
 use Rattle.plane.specs.Point.{Point, _⊕_}
 use Rattle.plane.specs.Shape.{IsShape}
 use Rattle.plane.specs.Corner.{shapeOf, sums}
-use Rattle.plane.specs.theory.Forms.{edges, Sorted}
-use Rattle.plane.specs.theory.Path.{along, path, along-length}
-use Rattle.plane.specs.theory.Standard.{shape→sorted}
-use Rattle.plane.specs.theory.EdgeSum.{joinEdges, joinEdges-comm, Joined, no-left, no-right, take-left, take-right, take-both, joined}
-use Rattle.plane.specs.theory.EdgeSum.{vectorSum, vectorSum-shape}
-use Rattle.plane.specs.theory.EdgeCount.{shared, joinEdges-count}
+use Rattle.plane.specs.Forms.{edges, Sorted}
+use Rattle.plane.specs.VectorSum.{along, path}
+use Rattle.plane.specs.theory.sum.Path.{along-length}
+use Rattle.plane.specs.theory.forms.Standard.{shape→sorted}
+use Rattle.plane.specs.VectorSum.{joinEdges}
+use Rattle.plane.specs.theory.sum.EdgeSum.{joinEdges-comm, Joined, no-left, no-right, take-left, take-right, take-both, joined}
+use Rattle.plane.specs.VectorSum.{vectorSum}
+use Rattle.plane.specs.theory.sum.EdgeSum.{vectorSum-shape}
+use Rattle.plane.specs.theory.sum.EdgeCount.{shared, joinEdges-count}
 
 -- joined, there are at least as many edges as in either list
 left-le : {E F G : List Point} → Joined E F G → length E ≤ length G

@@ -1,7 +1,7 @@
 -- What one step of the walk passes: how the test is decided.
 --     takes-none, takes-alone, takes-asked     there is no edge; there is one and none of the other list; the edges are compared
 --     passed-le                                no more edges are passed than there are
--- How the walk goes on by its places is in `Standing` and `Places` of the plane. Assumes nothing.
+-- How the walk goes on by its places is in `Standing` and `Places` of the plane.
 use mathlib.Core.Path.{_≡_}
 use mathlib.Core.Bool.{true, false, not}
 use mathlib.Core.List.{List}
@@ -9,8 +9,8 @@ use Prim.Native.Nat.{ℕ, _≤_, _<_}
 use borrow.Author.Tests.{lt-ltb, le-ltb}
 use lib.ListN.{length}
 use Rattle.plane.specs.Point.{Point}
-use Rattle.plane.specs.theory.Forms.{before, edges}
-use Rattle.plane.specs.theory.Places.{passed-within}
+use Rattle.plane.specs.Forms.{before, edges}
+use Rattle.calipers.specs.theory.Places.{passed-within}
 use Rattle.calipers.specs.Walk.{edge, takes, passed}
 
 module _ (A : List Point) (i : ℕ) (B : List Point) (j : ℕ) where

@@ -5,7 +5,6 @@
 --     remaining-ahead                    the corners to come are those at the places to come
 --     at-begin, at-advanced, at-stepped        the walk stays at edges of the two lists
 --     remaining-stepped, here-stepped    after n steps: all but the first n corners, and the corner at position n
--- Assumes nothing.
 use mathlib.Core.Path.{_≡_, refl, sym, _∙_, ap}
 use mathlib.Core.Bool.{Bool, true, false, cond}
 use mathlib.Core.List.{List, [], _∷_, map}
@@ -17,12 +16,12 @@ use lib.ListN.{length, drop, length-drop}
 use lib.Seq.{drop-cons}
 use Rattle.plane.specs.Point.{Point, points, corner, origin, _⊕_}
 use Rattle.plane.specs.Refusal.{Valid}
-use Rattle.plane.specs.theory.Forms.{edges}
-use Rattle.plane.specs.theory.Path.{path}
-use Rattle.plane.specs.theory.EdgeSum.{joinEdges, vectorSum}
-use Rattle.plane.specs.theory.Positions.{cornerRound}
-use Rattle.plane.specs.theory.Places.{place, placesFrom, places, places-here}
-use Rattle.plane.specs.theory.PlaceCorners.{cornerAt, placesFrom-corners}
+use Rattle.plane.specs.Forms.{edges}
+use Rattle.plane.specs.VectorSum.{path, joinEdges, vectorSum}
+use Rattle.plane.specs.Cycle.{cornerRound}
+use Rattle.calipers.specs.Places.{place, placesFrom, places}
+use Rattle.calipers.specs.theory.Places.{places-here}
+use Rattle.calipers.specs.theory.PlaceCorners.{cornerAt, placesFrom-corners}
 use Rattle.calipers.specs.declared.walk.Walk.{Walk}
 use Rattle.calipers.specs.theory.Pass.{passed-le}
 use Rattle.calipers.specs.Walk.{here, begun, passed, finished, advanced, stepped, ahead, remaining, At}
@@ -44,7 +43,8 @@ module _ (A B : List Point) where
   unfolding remaining ahead here
   remaining-ahead w = go (w .over)
     where
-      go : (o : Bool) → cond o [] (path (cornerRound A (w .i) ⊕ cornerRound B (w .j)) (joinEdges (drop (w .i) (edges A)) (drop (w .j) (edges B))))
+      go : (o : Bool) → cond o [] (path (cornerRound A (w .i) ⊕ cornerRound B (w .j))
+          (joinEdges (drop (w .i) (edges A)) (drop (w .j) (edges B))))
           ≡ map (cornerAt A B) (cond o [] (placesFrom (w .i) (w .j) (drop (w .i) (edges A)) (drop (w .j) (edges B))))
       go true = refl
       go false = sym (placesFrom-corners A B (w .i) (w .j))
@@ -113,7 +113,8 @@ module _ (a b : List ℤ) where
         → here A B (stepped A B n w) ∷ remaining A B (stepped A B (suc n) w) ≡ corner (remaining A B w) n ∷ drop (suc n) (remaining A B w)
     next-corner n h e =
         let some : 0 < length (remaining A B (stepped A B n w)) = omega (arith, ap length e, length-drop n (remaining A B w)) in
-        sym (remaining-here (stepped A B n w) (at-stepped n) (some-to-come (stepped A B n w) some)) ∙ e ∙ drop-cons (remaining A B w) n origin h
+        sym (remaining-here (stepped A B n w) (at-stepped n) (some-to-come (stepped A B n w) some)) ∙ e
+        ∙ drop-cons (remaining A B w) n origin h
 
     pub remaining-stepped : (n : ℕ) → n ≤ length (remaining A B w) → remaining A B (stepped A B n w) ≡ drop n (remaining A B w)
     remaining-stepped zero h = refl

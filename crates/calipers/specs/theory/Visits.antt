@@ -1,7 +1,7 @@
 -- What the walk visits: the shape of all corner-plus-corner points.
 --     sum-visited           the corners visited are those of the shape, in its order
 --     visited-corner        wherever the walk stands, there is a corner of the set
--- That every corner of the set stands at a place of the walk, the place of its two parts, is in `Visited` of the plane. Assumes nothing.
+-- That every corner of the set stands at a place of the walk, the place of its two parts, is in `Visited` of the plane.
 use mathlib.Core.Path.{_≡_, _∙_, subst}
 use mathlib.Core.List.{List}
 use Prim.Native.Nat.{ℕ, _<_}
@@ -10,9 +10,9 @@ use lib.ListN.{length}
 use Rattle.plane.specs.Point.{Point, points}
 use Rattle.plane.specs.Refusal.{Valid}
 use Rattle.plane.specs.Corner.{Corner, shapeOf, sums}
-use Rattle.plane.specs.theory.Members.{_∈_, sums-some, position-member}
-use Rattle.plane.specs.theory.ShapeOf.{shapeOf-corner}
-use Rattle.plane.specs.theory.EdgeSum.{vectorSum-shape}
+use Rattle.plane.specs.theory.lists.Members.{_∈_, sums-some, position-member}
+use Rattle.plane.specs.theory.hull.ShapeOf.{shapeOf-corner}
+use Rattle.plane.specs.theory.sum.EdgeSum.{vectorSum-shape}
 use Rattle.calipers.specs.Walk.{here, begun, stepped, remaining}
 use Rattle.calipers.specs.theory.Steps.{remaining-begin, at-begin, here-stepped}
 

@@ -1,7 +1,6 @@
 -- Two shapes' corners, each in ascending order, one behind the other at the front of a buffer.
 --     held-few, held-some      there are no more of them than the shape has, and one if it has one
 --     Gathered, gathered       how many they are, that each part rises, and what both are together
--- Assumes nothing.
 use mathlib.Core.Path.{_≡_, sym, _∙_, ap, subst, ap₂}
 use mathlib.Core.List.{List, _++_}
 use Prim.Native.Nat.{ℕ, _+_, _-_, _≤_, _<_}
@@ -11,10 +10,10 @@ use lib.ListN.{length, take, length-append, List·getD-append}
 use lib.Seq.{length-take-le, getD-take, getD-append-add}
 use Rattle.plane.specs.Point.{Point, origin, points, corner}
 use Rattle.plane.specs.Corner.{ascending}
-use Rattle.plane.specs.theory.Forms.{Precedes}
-use Rattle.plane.specs.theory.Standard.{pairs-at}
-use Rattle.plane.specs.theory.Ascending.{ascending-pairs}
-use Rattle.plane.specs.theory.Least.{ascending-twice, ascending-length, ascending-some}
+use Rattle.plane.specs.Forms.{Precedes}
+use Rattle.plane.specs.theory.forms.Standard.{pairs-at}
+use Rattle.plane.specs.theory.hull.Ascending.{ascending-pairs}
+use Rattle.hull.specs.theory.Least.{ascending-twice, ascending-length, ascending-some}
 use Rattle.hull.specs.Buffer.{Holds}
 use Rattle.hull.specs.Order.{Rises}
 
@@ -37,7 +36,8 @@ module _ (A B old ps : List Point) (n e : ℕ) (first : take n old ≡ ascending
   held = both ∙ ap (λ l. l ++ ascending B) first
 
   all-count : e ≡ n + length (ascending B)
-  all-count = sym (length-take-le e ps e-le) ∙ ap length held ∙ length-append (ascending A) (ascending B) ∙ ap (λ k. k + length (ascending B)) first-count
+  all-count = sym (length-take-le e ps e-le) ∙ ap length held ∙ length-append (ascending A) (ascending B)
+      ∙ ap (λ k. k + length (ascending B)) first-count
 
   gathered-all : (n ≤ e) × (e ≤ length A + length B)
   gathered-all = (omega (arith, all-count), omega (arith, all-count, gathered-first, ascending-length B))

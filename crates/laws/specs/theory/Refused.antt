@@ -2,7 +2,6 @@
 --     result-unique             it has at most one
 --     refused→no-result         none where some call is refused
 --     result-or-refused         one where none is, of calls whose answers give a shape
--- Assumes nothing.
 use mathlib.Core.Path.{_≡_, refl, sym, _∙_, ap₂, subst}
 use mathlib.Core.Logic.{_⊎_, inl, inr}
 use mathlib.Core.List.{List}

@@ -1,51 +1,42 @@
--- `inside` meets its contract: both lists are judged, and the shapes merged.
--- Assumes nothing.
-use mathlib.Core.Path.{sym, _∙_, ap, subst}
-use mathlib.Core.Bool.{Bool, cond}
-use mathlib.Core.List.{[], _∷_}
+-- `inside` meets its contract: the merge stands at the front of the buffer, and is compared with the second shape.
+use mathlib.Core.Path.{sym}
+use native.Mathlib.Omega.{arith}
 use borrow.Author.Needs.{needs}
-use lib.IntN.{pos}
-use Rattle.plane.specs.Reply.{answered}
-use Rattle.plane.specs.Refusal.{Valid}
-use Rattle.plane.specs.Separation.{insideReply}
-use Rattle.separation.specs.Answer.{Admitted}
-use Rattle.separation.specs.theory.Admission.{admitted-answer}
+use Rattle.plane.specs.Limits.{maxCorners}
+use Rattle.polygon.specs.theory.Fronts.{front-length}
+use Rattle.separation.specs.theory.Merged.{merged-same}
 use Rattle.separation.proofs.inside.Statement.{statement}
 use Rattle.separation.proofs.inside.Tie as tie
 
--- past the judging both lists are shapes
-shapes : (c : tie.After-enum-told) → Valid (c .before .before .before .args .a .now) × Valid (c .before .before .before .args .b .now)
-shapes c = subst (Admitted _ _) (c .enum-told .given .1) (c .before .before .admit .ensures)
+slice-aggregate-merge : tie.Need-slice-aggregate-merge
+slice-aggregate-merge c = search needs
 
-admit-requires : tie.Need-admit-requires
-admit-requires c κs = tt
+merge-requires : tie.Need-merge-requires
+unfolding maxCorners
+merge-requires c κs =
+    let start = c .before in
+    (start .pre .0, start .pre .1, omega (arith, start .pre .0 .few, start .pre .1 .few))
 
-enum-known-refusal : tie.Need-enum-known-refusal
-enum-known-refusal c = search needs
+mul-both : tie.Need-mul-both
+mul-both c = search needs
+
+array-share-prefix-both : tie.Need-array-share-prefix-both
+array-share-prefix-both c = search needs
+
+slice-aggregate-is-same : tie.Need-slice-aggregate-is-same
+slice-aggregate-is-same c = sym (front-length (c .before .before .merge .ensures))
+
+is-same-requires : tie.Need-is-same-requires
+is-same-requires c κs = search needs
 
 returns : tie.Need-returns
-unfolding insideReply
-returns c = subst (Admitted _ _) (c .before .refusal .given .1) (c .before .before .before .admit .ensures) _
-
-enum-told : tie.Need-enum-told
-enum-told c = search needs
-
-adds-nothing-requires : tie.Need-adds-nothing-requires
-adds-nothing-requires c κs = shapes c
-
-returns-2 : tie.Need-returns-2
-unfolding insideReply
-returns-2 c =
-    ap (λ (t : Bool). answered (cond t (pos 1) (pos 0) ∷ [])) (sym (c .if1 .taken) ∙ c .before .adds-nothing .ensures)
-    ∙ sym (admitted-answer (shapes (c .before .before)) (answered _))
-
-returns-3 : tie.Need-returns-3
-unfolding insideReply
-returns-3 c =
-    ap (λ (t : Bool). answered (cond t (pos 1) (pos 0) ∷ [])) (sym (c .if1 .left) ∙ c .before .adds-nothing .ensures)
-    ∙ sym (admitted-answer (shapes (c .before .before)) (answered _))
+returns c =
+    let at-merge = c .before .before .before in
+    let start = at-merge .before .before in
+    merged-same (start .args .a .now) (start .args .b .now) (start .pre .1) (c .is-same .result) (at-merge .merge .ensures .front)
+    (c .is-same .ensures)
 
 pub inside-spec : {M : Type 1} → statement M
 inside-spec =
     tie.close
-    (tie.spec admit-requires enum-known-refusal returns enum-told adds-nothing-requires returns-2 returns-3)
+    (tie.spec slice-aggregate-merge merge-requires mul-both array-share-prefix-both slice-aggregate-is-same is-same-requires returns)

@@ -1,5 +1,4 @@
 -- `fraction_less` meets its contract: both sides are multiplied out and compared.
--- Assumes nothing.
 use borrow.Author.Needs.{needs}
 use Rattle.words.proofs.fraction_less.Statement.{statement}
 use Rattle.words.proofs.fraction_less.Tie as tie

@@ -1,5 +1,4 @@
 -- `root_of_fraction` meets its contract. The invariant: low is reached and high + 1 is not; the measure is what lies between.
--- Assumes nothing.
 use mathlib.Core.Path.{sym, _∙_}
 use Prim.Native.Nat.{_-_}
 use native.Mathlib.Omega.{arith}

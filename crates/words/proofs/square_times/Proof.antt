@@ -1,5 +1,4 @@
 -- `square_times` meets its contract: two words to each factor, and the products need six.
--- Assumes nothing.
 use borrow.Author.Needs.{needs}
 use Rattle.words.proofs.square_times.Statement.{statement}
 use Rattle.words.proofs.square_times.Tie as tie

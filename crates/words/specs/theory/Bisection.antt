@@ -2,7 +2,6 @@
 --     root-unique                two rounded roots are equal
 --     Between t q low high       low is reached, and high + 1 is not
 --     between-start, -down, -up, -end   the moves of the loop; a test asks whether t·t < m·m·q
--- Assumes nothing.
 use mathlib.Core.Path.{_≡_, refl}
 use mathlib.Core.Bool.{Bool, true, false}
 use Prim.Native.Nat.{ℕ, _+_, _-_, _*_, _≤_, _<_}

@@ -2,7 +2,6 @@
 --     above-none, none-below     the ends of the loop
 --     word-agrees      if it does not differ, they agree from word k - 1 on
 --     word-decides     if it differs, the numbers compare as these words
--- Assumes nothing.
 use mathlib.Core.Path.{_≡_, refl, sym, _∙_, ap}
 use mathlib.Core.Bool.{Bool, true, false}
 use mathlib.Core.List.{List}

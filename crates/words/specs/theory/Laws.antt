@@ -7,7 +7,6 @@
 --     word-le-value                      a word alone is at most the number
 --     Words                              each element is a word
 --     value-lt-weight, low-lt-weight     n words make less than the weight of place n
--- Assumes nothing.
 use mathlib.Core.Path.{_≡_, refl, sym}
 use mathlib.Core.List.{List, [], _∷_, _++_}
 use Prim.Native.Nat.{ℕ, zero, suc, _+_, _*_, _^_, _≤_, _<_}

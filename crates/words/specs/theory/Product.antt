@@ -1,7 +1,6 @@
 -- A product by rows: v is a times the first j words of b.
 --     product-start, -more, -end     the moves of the loop
 --     product-fits                   a row's last carry has room in the word above
--- Assumes nothing.
 use mathlib.Core.Path.{_≡_, _∙_, ap}
 use mathlib.Core.List.{List, []}
 use Prim.Native.Nat.{ℕ, _+_, _*_, _≤_, _<_}

@@ -1,11 +1,11 @@
--- `is_before` meets its contract: edges in different halves are told by their halves, others by the product. Assumes nothing.
+-- `is_before` meets its contract: edges in different halves are told by their halves, others by the product.
 use mathlib.Core.Path.{_≡_, refl, sym, _∙_, ap}
 use mathlib.Core.Bool.{Bool, true, false, not, Bool·beq, true≢false, false≢true}
 use lib.IntN.{ℤ, pos}
 use lib.Signed.{ltZ}
 use mir.Syntax.{w64}
 use Rattle.integer.specs.Machine.{result-is}
-use Rattle.plane.specs.theory.Angle.{before-alike}
+use Rattle.plane.specs.theory.forms.Angle.{before-alike}
 use Rattle.calipers.specs.theory.EdgeAt.{before-apart}
 use Rattle.calipers.proofs.edges.is_before.Statement.{statement}
 use Rattle.calipers.proofs.edges.is_before.Tie as tie
@@ -24,15 +24,16 @@ equal false true h = absurd (true≢false h)
 equal false false h = refl
 
 is-up-requires : tie.Need-is-up-requires
-is-up-requires c κs = c .pre .0
+is-up-requires c κs = tt
 
 is-up-requires-2 : tie.Need-is-up-requires-2
-is-up-requires-2 c κs = c .before .pre .1
+is-up-requires-2 c κs = tt
 
 returns : tie.Need-returns
 returns c =
     let first = c .before .before in
-    first .is-up .ensures ∙ before-apart _ _ (λ e. unequal _ _ (c .if1 .taken) (first .is-up .ensures ∙ e ∙ sym (c .before .is-up2 .ensures)))
+    first .is-up .ensures
+    ∙ before-apart _ _ (λ e. unequal _ _ (c .if1 .taken) (first .is-up .ensures ∙ e ∙ sym (c .before .is-up2 .ensures)))
 
 cross-requires : tie.Need-cross-requires
 cross-requires c κs = c .before .before .before .pre

@@ -1,4 +1,4 @@
--- `round` meets its contract. Assumes nothing.
+-- `round` meets its contract.
 use mathlib.Core.Path.{_≡_, sym, _∙_, ap}
 use mathlib.Core.Bool.{Bool, cond}
 use borrow.Author.Tests.{eq-eqb, ne-eqb}

@@ -1,4 +1,4 @@
--- `finished` meets its contract. Assumes nothing.
+-- `finished` meets its contract.
 use mathlib.Core.Path.{sym, _∙_}
 use borrow.Author.Tests.{eq-eqb, ne-eqb}
 use Rattle.calipers.specs.Walk.{finished}

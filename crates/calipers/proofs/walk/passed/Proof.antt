@@ -1,11 +1,11 @@
--- `passed` meets its contract. Assumes nothing.
+-- `passed` meets its contract.
 use mathlib.Core.Path.{sym, _∙_}
 use native.Mathlib.Omega.{arith}
 use Rattle.plane.specs.Point.{points}
-use Rattle.plane.specs.theory.Flat.{points-length}
-use Rattle.plane.specs.theory.Forms.{edges}
-use Rattle.plane.specs.theory.Positions.{edges-at-most}
-use Rattle.plane.specs.theory.Standing.{takes-taken}
+use Rattle.plane.specs.theory.lists.Flat.{points-length}
+use Rattle.plane.specs.Forms.{edges}
+use Rattle.plane.specs.theory.sum.Positions.{edges-at-most}
+use Rattle.calipers.specs.theory.Standing.{takes-taken}
 use Rattle.calipers.specs.Walk.{takes, passed}
 use Rattle.calipers.proofs.walk.passed.Statement.{statement}
 use Rattle.calipers.proofs.walk.passed.Tie as tie

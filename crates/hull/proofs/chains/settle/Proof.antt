@@ -1,5 +1,4 @@
 -- `settle` meets its contract. The invariant: dropping down to kept corners pushes the same; the measure is how many are kept.
--- Assumes nothing.
 use mathlib.Core.Path.{refl, sym, _∙_, ap}
 use native.Mathlib.Omega.{arith}
 use lib.IntN.{ℤ, pos}

@@ -1,10 +1,9 @@
 -- `turn_over` meets its contract. The invariant: k corners are copied, and the stack of the others is to come; the measure is their number.
--- Assumes nothing.
 use mathlib.Core.Path.{_≡_, ap, subst}
 use Prim.Native.Nat.{ℕ, _-_, _≤_}
 use native.Mathlib.Omega.{arith}
 use Rattle.plane.specs.Point.{points}
-use Rattle.plane.specs.theory.Flat.{points-near}
+use Rattle.plane.specs.theory.lists.Flat.{points-near}
 use Rattle.hull.specs.Buffer.{stack, Holds}
 use Rattle.hull.specs.theory.Pour.{Pouring, pour-start, pour-room, pour-one, pour-end}
 use Rattle.hull.specs.theory.Stack.{stack-length, stack-more}
@@ -47,7 +46,8 @@ loop-again c =
     let list = at-loop .before .args .list .now in
     let less = c .before .before .before .loop-test .taken in (
       omega arith,
-      pour-one (at-loop .loop .inv .1) (stack-more (points list) less) (points-near list (at-loop .before .pre .2) _ (omega (arith, at-loop .before .pre .0)))
+      pour-one (at-loop .loop .inv .1) (stack-more (points list) less)
+          (points-near list (at-loop .before .pre .2) _ (omega (arith, at-loop .before .pre .0)))
           (c .before .copy-corner .ensures),
     )
 

@@ -1,5 +1,4 @@
 -- `better` meets its contract: the distances decide, then the positions.
--- Assumes nothing.
 use mathlib.Core.Path.{_≡_, refl}
 use Prim.Native.Nat.{_≤_}
 use native.Mathlib.Omega.{arith}

@@ -1,8 +1,7 @@
 -- `earlier` meets its contract: the first positions decide, then the second.
--- Assumes nothing.
 use mathlib.Core.Path.{refl}
 use native.Mathlib.Omega.{arith}
-use Rattle.plane.specs.theory.Longest.{sooner, level}
+use Rattle.measure.specs.Comparison.{sooner, level}
 use Rattle.measure.specs.Scan.{best-first, next-first}
 use Rattle.measure.proofs.longest.earlier.Statement.{statement}
 use Rattle.measure.proofs.longest.earlier.Tie as tie

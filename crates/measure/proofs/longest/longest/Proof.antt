@@ -1,5 +1,4 @@
 -- `longest` meets its contract. The invariant: the best pair of the places passed; the measure is how many are to come.
--- Assumes nothing.
 use mathlib.Core.Path.{_≡_, sym, subst}
 use mathlib.Core.Bool.{false}
 use borrow.Author.Tests.{not-true, not-false}

@@ -1,11 +1,12 @@
--- `pair_at` meets its contract. Assumes nothing.
+-- `pair_at` meets its contract.
 use mathlib.Core.Path.{sym, _∙_, ap}
 use native.Mathlib.Omega.{arith}
 use borrow.Author.Needs.{needs}
 use lib.ListN.{length}
 use Rattle.plane.specs.Point.{points}
-use Rattle.plane.specs.theory.Turned.{turned, turned-below}
-use Rattle.plane.specs.theory.Positions.{edges-at-most}
+use Rattle.plane.specs.Cycle.{turned}
+use Rattle.plane.specs.theory.lists.Turned.{turned-below}
+use Rattle.plane.specs.theory.sum.Positions.{edges-at-most}
 use Rattle.measure.proofs.longest.pair_at.Statement.{statement}
 use Rattle.measure.proofs.longest.pair_at.Tie as tie
 

@@ -1,12 +1,11 @@
 -- `furthest_corner` meets its contract: one corner is furthest, or the two ends of a parallel edge.
--- Assumes nothing.
 use mathlib.Core.Path.{_≡_, _∙_, ap}
 use native.Mathlib.Omega.{arith}
 use borrow.Author.Needs.{needs}
 use lib.ListN.{length}
 use Rattle.plane.specs.Point.{points}
-use Rattle.plane.specs.theory.Turned.{turned}
-use Rattle.plane.specs.theory.Positions.{round, edges-at-most}
+use Rattle.plane.specs.Cycle.{turned, round}
+use Rattle.plane.specs.theory.sum.Positions.{edges-at-most}
 use Rattle.measure.proofs.Edges.{other-within, across-alone, across-first, across-second}
 use Rattle.measure.proofs.narrowest.furthest_corner.Statement.{statement}
 use Rattle.measure.proofs.narrowest.furthest_corner.Tie as tie

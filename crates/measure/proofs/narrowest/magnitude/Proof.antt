@@ -1,5 +1,4 @@
 -- `magnitude` meets its contract: a number that is not negative is its own size.
--- Assumes nothing.
 use mathlib.Core.Path.{_≡_, sym}
 use lib.Signed.{yes-nonNeg, pos-natAbs}
 use mir.Syntax.{w64}

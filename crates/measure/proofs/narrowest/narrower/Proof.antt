@@ -1,5 +1,4 @@
 -- `narrower` meets its contract: the step passes no edge of the shape, or one that is narrower, or one that is not.
--- Assumes nothing.
 use mathlib.Core.Path.{sym, _∙_}
 use native.Mathlib.Omega.{arith}
 use borrow.Author.Needs.{needs}

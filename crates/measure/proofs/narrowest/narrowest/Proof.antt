@@ -1,5 +1,4 @@
 -- `narrowest` meets its contract. The invariant: the best of the edges passed; the measure is how many places are to come.
--- Assumes nothing.
 use mathlib.Core.Path.{_≡_, sym, subst}
 use mathlib.Core.Bool.{false}
 use borrow.Author.Tests.{not-true, not-false}

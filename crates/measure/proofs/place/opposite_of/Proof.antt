@@ -1,12 +1,11 @@
 -- `opposite_of` meets its contract. The sum of two positions fits: a list has at most half as many corners as numbers.
--- Assumes nothing.
 use Prim.Native.Nat.{_+_}
 use native.Mathlib.Omega.{arith}
 use borrow.Author.Needs.{needs}
 use borrow.Author.Tests.{lt-ltb, le-ltb}
 use lib.ListN.{length}
 use Rattle.plane.specs.Point.{points}
-use Rattle.plane.specs.theory.Flat.{points-length}
+use Rattle.plane.specs.theory.lists.Flat.{points-length}
 use Rattle.measure.proofs.place.opposite_of.Statement.{statement}
 use Rattle.measure.proofs.place.opposite_of.Tie as tie
 

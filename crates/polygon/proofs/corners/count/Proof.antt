@@ -1,7 +1,6 @@
 -- `count` meets its contract: two numbers to a corner.
--- Assumes nothing.
 use mathlib.Core.Path.{sym}
-use Rattle.plane.specs.theory.Flat.{points-length}
+use Rattle.plane.specs.theory.lists.Flat.{points-length}
 use Rattle.polygon.proofs.corners.count.Statement.{statement}
 use Rattle.polygon.proofs.corners.count.Tie as tie
 

@@ -1,4 +1,4 @@
--- `bad_direction` meets its contract: the three parts of the row in turn. Assumes nothing.
+-- `bad_direction` meets its contract: the three parts of the row in turn.
 use mathlib.Core.Path.{_≡_, sym, _∙_, ap, ap₂}
 use mathlib.Core.Bool.{_&&_}
 use lib.Dec.{eqb, ltb}

@@ -1,4 +1,4 @@
--- `exceeds_corners` meets its contract. The limit is opened here alone. Assumes nothing.
+-- `exceeds_corners` meets its contract. The limit is opened here alone.
 use mathlib.Core.Path.{refl}
 use Rattle.plane.specs.Limits.{maxCorners}
 use Rattle.polygon.proofs.limits.exceeds_corners.Statement.{statement}

@@ -1,4 +1,4 @@
--- `outside_part` meets its contract. The limit is opened here alone. Assumes nothing.
+-- `outside_part` meets its contract. The limit is opened here alone.
 use mathlib.Core.Path.{_∙_, ap}
 use mathlib.Core.Bool.{_||_}
 use lib.IntN.{ℤ, pos, negℤ}
@@ -20,7 +20,8 @@ returns : tie.Need-returns
 unfolding maxPart
 returns c =
     c .beyond .ensures
-    ∙ ap (λ (z : ℤ). ltZ z (negℤ (pos maxPart)) || ltZ (pos maxPart) z) (toZ-ofZ (c .before .fits .z)) ∙ beyond-size maxPart (c .before .args .z)
+    ∙ ap (λ (z : ℤ). ltZ z (negℤ (pos maxPart)) || ltZ (pos maxPart) z) (toZ-ofZ (c .before .fits .z))
+    ∙ beyond-size maxPart (c .before .args .z)
 
 pub outside-part-spec : {M : Type 1} → statement M
 outside-part-spec = tie.close (tie.spec sub-beyond beyond-requires returns)

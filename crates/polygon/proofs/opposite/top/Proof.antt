@@ -1,12 +1,11 @@
 -- `top` meets its contract. The invariant: none of the corners before i comes after the top; the measure is what is left.
--- Assumes nothing.
 use mathlib.Core.Path.{_≡_, sym, _∙_}
 use mathlib.Core.Logic.{⊎-elim}
 use Prim.Native.Nat.{_-_, _≤_}
 use native.Mathlib.Omega.{arith}
 use lib.ListN.{length}
 use Rattle.plane.specs.Point.{points}
-use Rattle.plane.specs.theory.Mirror.{Top, top-start, top-keep, top-rise}
+use Rattle.plane.specs.theory.mirror.Mirror.{Top, top-start, top-keep, top-rise}
 use Rattle.polygon.proofs.opposite.top.Statement.{statement}
 use Rattle.polygon.proofs.opposite.top.Tie as tie
 

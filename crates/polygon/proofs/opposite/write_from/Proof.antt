@@ -1,6 +1,5 @@
 -- `write_from` meets its contract. The invariant: k corners of the answer stand in the output, and the next comes from k places after
 -- the start; the measure is what is left.
--- Assumes nothing.
 use mathlib.Core.Path.{_≡_, sym, _∙_, ap, ap₂, subst}
 use mathlib.Core.List.{List}
 use Prim.Native.Nat.{ℕ, _+_, _*_, _-_, _≤_, _<_, zero-le}
@@ -9,9 +8,10 @@ use lib.IntN.{ℤ}
 use lib.ListN.{length}
 use Rattle.plane.specs.Point.{Point, points, numbers, corner, opposite}
 use Rattle.plane.specs.Shape.{next}
-use Rattle.plane.specs.theory.Turned.{turned, turned-start, turned-below, turned-step}
-use Rattle.plane.specs.theory.Filled.{Filled, filled-start, filled-length, filled-corner, filled-done}
-use Rattle.plane.specs.theory.Mirror.{mirroredFrom, mirroredFrom-length, mirroredFrom-numbers, mirroredFrom-at}
+use Rattle.plane.specs.Cycle.{turned}
+use Rattle.plane.specs.theory.lists.Turned.{turned-start, turned-below, turned-step}
+use Rattle.plane.specs.theory.lists.Filled.{Filled, filled-start, filled-length, filled-corner, filled-done}
+use Rattle.plane.specs.theory.mirror.Mirror.{mirroredFrom, mirroredFrom-length, mirroredFrom-numbers, mirroredFrom-at}
 use Rattle.polygon.proofs.opposite.write_from.Statement.{statement}
 use Rattle.polygon.proofs.opposite.write_from.Tie as tie
 
@@ -68,7 +68,8 @@ loop-again c =
     let ps = points (start .args .list .now) in
     let from = at-loop .loop .inv .1 in
     let at = ap (λ (i : ℕ). opposite (corner ps i)) from ∙ sym (mirroredFrom-at ps _ (start .pre .0) _ (below in-loop)) in (
-      subst (λ (out : List ℤ). Filled (start .args .out .now) (numbers (mirroredFrom ps (start .args .start))) (2 * (at-loop .loop .k + 1)) out)
+      subst (λ (out : List ℤ). Filled (start .args .out .now) (numbers (mirroredFrom ps (start .args .start)))
+          (2 * (at-loop .loop .k + 1)) out)
           (sym (c .before .before .write-opposite .ensures))
           (filled-corner (mirroredFrom ps (start .args .start)) (at-loop .loop .k) (at-loop .loop .inv .0)
           (omega (arith, below in-loop, mirroredFrom-length ps (start .args .start) (start .pre .0)))
@@ -89,4 +90,5 @@ returns c =
 pub write-from-spec : {M : Type 1} → statement M
 write-from-spec =
     tie.close
-    (tie.spec Inv-loop μ-loop count-requires loop-holds write-opposite-requires next-requires add-k loop-less loop-again same-length returns)
+    (tie.spec Inv-loop μ-loop count-requires loop-holds write-opposite-requires next-requires add-k loop-less loop-again
+    same-length returns)

@@ -1,4 +1,4 @@
--- `next` meets its contract. Assumes nothing.
+-- `next` meets its contract.
 use borrow.Author.Needs.{needs}
 use borrow.Author.Tests.{eq-eqb, ne-eqb}
 use native.Mathlib.Omega.{arith}

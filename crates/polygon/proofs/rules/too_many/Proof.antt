@@ -1,4 +1,4 @@
--- `too_many` meets its contract. Assumes nothing.
+-- `too_many` meets its contract.
 use mathlib.Core.Path.{_∙_, ap}
 use Prim.Native.Nat.{ℕ}
 use lib.Dec.{ltb}

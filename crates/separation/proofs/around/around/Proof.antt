@@ -1,5 +1,4 @@
 -- `around` meets its contract: what the pass saw decides, but for a point or a segment.
--- Assumes nothing.
 use mathlib.Core.Path.{_≡_, sym, _∙_, ap}
 use mathlib.Core.Bool.{true, false}
 use Prim.Native.Nat.{ℕ}
@@ -7,8 +6,9 @@ use borrow.Author.Tests.{lt-ltb, le-ltb}
 use lib.Dec.{ltb}
 use lib.ListN.{length}
 use Rattle.plane.specs.Point.{points}
-use Rattle.plane.specs.theory.EdgeSum.{vectorSum}
-use Rattle.separation.specs.Around.{some, rightOf, placed}
+use Rattle.plane.specs.VectorSum.{vectorSum}
+use Rattle.plane.specs.Search.{some}
+use Rattle.separation.specs.Around.{rightOf, placed}
 use Rattle.separation.proofs.around.around.Statement.{statement}
 use Rattle.separation.proofs.around.around.Tie as tie
 

@@ -1,5 +1,4 @@
 -- `around_few` meets its contract: the first edge of the sum, and the value of its ends.
--- Assumes nothing.
 use mathlib.Core.Path.{_≡_, sym, _∙_, ap}
 use mathlib.Core.Bool.{Bool, false, cond}
 use lib.IntN.{ℤ, pos}
@@ -11,7 +10,7 @@ use Rattle.integer.specs.Machine.{result-is}
 use Rattle.plane.specs.Point.{points, corner}
 use Rattle.plane.specs.Shape.{next}
 use Rattle.plane.specs.Direction.{value}
-use Rattle.plane.specs.theory.EdgeSum.{vectorSum}
+use Rattle.plane.specs.VectorSum.{vectorSum}
 use Rattle.calipers.specs.declared.walk.Walk.{Walk}
 use Rattle.separation.specs.Around.{placedFew}
 use Rattle.separation.proofs.Passing.{Passing, passing-start, passing-at, passing-to, passing-corners}

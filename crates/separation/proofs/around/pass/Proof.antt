@@ -1,5 +1,4 @@
 -- `pass` meets its contract. The invariant: so many edges are passed, and on which sides of them the origin was; the measure: what is left.
--- Assumes nothing.
 use mathlib.Core.Path.{_≡_}
 use mathlib.Core.Bool.{false}
 use Prim.Native.Nat.{_-_}
@@ -9,8 +8,8 @@ use lib.ListN.{length}
 use mir.Syntax.{w64}
 use Rattle.integer.specs.Machine.{result-is}
 use Rattle.plane.specs.Point.{points}
-use Rattle.plane.specs.theory.Flat.{points-length}
-use Rattle.plane.specs.theory.EdgeSum.{vectorSum}
+use Rattle.plane.specs.theory.lists.Flat.{points-length}
+use Rattle.plane.specs.VectorSum.{vectorSum}
 use Rattle.separation.proofs.Passing.{
   Passing,
   passing-start,

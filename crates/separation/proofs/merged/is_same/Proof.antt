@@ -1,5 +1,4 @@
 -- `is_same` meets its contract. The invariant: the numbers passed are equal; the measure is what is left.
--- Assumes nothing.
 use mathlib.Core.Path.{_≡_, sym, _∙_, ap}
 use mathlib.Core.List.{List}
 use Prim.Native.Nat.{ℕ, _-_, _≤_, _<_}

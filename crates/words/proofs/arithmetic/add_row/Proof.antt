@@ -1,5 +1,4 @@
 -- `add_row` meets its contract: the carry has room in the word above, since the whole has.
--- Assumes nothing.
 use native.Mathlib.Omega.{arith}
 use borrow.Author.Needs.{needs}
 use Rattle.words.specs.theory.Carry.{row-fits, row-value}

@@ -1,6 +1,5 @@
 -- `add_scaled` meets its contract. The invariant: what is stored, the carry and what is to come make the whole sum; the measure is what is
 -- left of a.
--- Assumes nothing.
 use Prim.Native.Nat.{_-_}
 use native.Mathlib.Omega.{arith}
 use borrow.Author.Needs.{needs}

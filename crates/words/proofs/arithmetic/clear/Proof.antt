@@ -1,5 +1,4 @@
 -- `clear` meets its contract. The invariant: the words before i are 0, the others as they were; the measure is what is left.
--- Assumes nothing.
 use mathlib.Core.Path.{_≡_, refl, _∙_, ap}
 use mathlib.Core.List.{_++_}
 use Prim.Native.Nat.{_-_, _≤_, _<_}

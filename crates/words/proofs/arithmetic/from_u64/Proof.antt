@@ -1,5 +1,4 @@
 -- `from_u64` meets its contract: a number of 64 bits is two words.
--- Assumes nothing.
 use mathlib.Core.Path.{_∙_}
 use native.Mathlib.Omega.{arith}
 use borrow.Author.Needs.{needs}

@@ -1,5 +1,4 @@
 -- `multiply_add` meets its contract: the largest words give 2 ^ 64 - 1.
--- Assumes nothing.
 use Prim.Native.Nat.{ℕ, _+_, _-_, _*_, _^_, _≤_, _<_}
 use native.Mathlib.Nat.{mul-le-mul}
 use native.Mathlib.Omega.{arith}

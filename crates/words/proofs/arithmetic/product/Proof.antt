@@ -1,5 +1,4 @@
 -- `product` meets its contract. The invariant: so far it is the product with the first j words of b; the measure is what is left of b.
--- Assumes nothing.
 use mathlib.Core.Path.{_≡_, refl, _∙_}
 use Prim.Native.Nat.{_-_, _*_, _≤_}
 use native.Mathlib.Omega.{arith}

@@ -1,4 +1,4 @@
--- `advance` meets its contract: either shape's edges by the same function. Assumes nothing.
+-- `advance` meets its contract: either shape's edges by the same function.
 use Rattle.calipers.specs.Walk.{advanced}
 use Rattle.calipers.proofs.walk.Walk.advance.Statement.{statement}
 use Rattle.calipers.proofs.walk.Walk.advance.Tie as tie

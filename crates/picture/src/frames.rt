@@ -1,0 +1,149 @@
+// How far shapes reach, and what a picture of them takes from that: its margin, and the size of a
+// pixel.
+ghost use Prim.Native.Nat.{_≤_};
+use text::numbers;
+
+// A corner.
+pub struct Point {
+    pub x: i32,
+    pub y: i32,
+}
+
+// How far corners reach.
+pub struct Frame {
+    pub left: i32,
+    pub right: i32,
+    pub low: i32,
+    pub high: i32,
+}
+
+// Corner i; past the end the origin.
+pub fn corner(list: &[i32], i: usize) -> Point {
+    if i < list.len() / 2 {
+        Point {
+            x: list[2 * i],
+            y: list[2 * i + 1],
+        }
+    } else {
+        Point { x: 0, y: 0 }
+    }
+}
+
+// How far the corners of a list reach.
+pub fn around(list: &[i32]) -> Frame {
+    let first = corner(list, 0);
+    let mut frame = Frame {
+        left: first.x,
+        right: first.x,
+        low: first.y,
+        high: first.y,
+    };
+    let mut i = 1;
+    while i < list.len() / 2 {
+        frame = reach(frame, corner(list, i));
+        i += 1;
+    }
+    frame
+}
+
+// How far two frames reach together.
+pub fn joined(a: Frame, b: Frame) -> Frame {
+    let lower = Point {
+        x: b.left,
+        y: b.low,
+    };
+    let upper = Point {
+        x: b.right,
+        y: b.high,
+    };
+    reach(reach(a, lower), upper)
+}
+
+// The frame by which the numbers of b are placed. Where both shapes start at one corner it is upside
+// down, so that the numbers there stand apart.
+pub fn second_frame(a: &[i32], b: &[i32]) -> Frame {
+    let own = around(b);
+    let start = corner(a, 0);
+    let other = corner(b, 0);
+    if start.x == other.x {
+        if start.y == other.y {
+            return upturned(own);
+        }
+    }
+    own
+}
+
+// The frame upside down.
+fn upturned(frame: Frame) -> Frame {
+    Frame {
+        left: frame.left,
+        right: frame.right,
+        low: frame.high,
+        high: frame.low,
+    }
+}
+
+// The frame with one corner more.
+fn reach(frame: Frame, at: Point) -> Frame {
+    Frame {
+        left: lesser(frame.left, at.x),
+        right: greater(frame.right, at.x),
+        low: lesser(frame.low, at.y),
+        high: greater(frame.high, at.y),
+    }
+}
+
+// The lesser of two numbers.
+fn lesser(a: i32, b: i32) -> i32 {
+    if a < b { a } else { b }
+}
+
+// The greater of two numbers.
+fn greater(a: i32, b: i32) -> i32 {
+    if a < b { b } else { a }
+}
+
+// The scale of a shape's corners. They are smaller the more there are.
+pub fn unit(view: Frame, list: &[i32]) -> u64 {
+    pixel(view) * 64 / (60 + (list.len() / 2) as u64)
+}
+
+// A pixel, in millionths: the larger side has 640.
+pub fn pixel(view: Frame) -> u64
+    ensures { λ r. ⌜ r ≤ 10000000000000 ⌝ }
+{
+    (breadth(view) + 2 * margin(view)) * 3125 / 2
+}
+
+// What is left free on each side: about a twelfth of the larger.
+pub fn margin(view: Frame) -> u64
+    ensures { λ r. ⌜ r ≤ 400000000 ⌝ }
+{
+    breadth(view) / 12 + 1
+}
+
+// The larger of width and height.
+fn breadth(view: Frame) -> u64
+    ensures { λ r. ⌜ r ≤ 4294967296 ⌝ }
+{
+    let width = span(view.left, view.right);
+    let height = span(view.low, view.high);
+    if width < height { height } else { width }
+}
+
+// How far apart two numbers are.
+pub fn span(a: i32, b: i32) -> u64
+    ensures { λ r. ⌜ r ≤ 4294967296 ⌝ }
+{
+    numbers::size(numbers::wide(b) - numbers::wide(a))
+}
+
+// A number less the margin.
+pub fn less(number: i32, view: Frame) -> i64 {
+    numbers::wide(number) - margin(view) as i64
+}
+
+// A number and the margin.
+pub fn more(number: i32, view: Frame) -> i64 {
+    numbers::wide(number) + margin(view) as i64
+}

@@ -1,0 +1,3 @@
+-- The mirror image of a shape, and what is written of it.
+pub mod Mirror
+pub mod MirrorWritten

@@ -1,0 +1,76 @@
+-- The table of refusals: what its first row that applies says.
+--     row-given, row-passed       one step along the table, as code takes it
+--     firstRow-append, firstRow-passed     one table after the other
+--     NoneApply, First, outcome, firstRow-given, firstRow-none, firstRow-refused, firstRow-answered
+--                                 a refusal is given exactly when its row applies and none before it does
+use mathlib.Core.Path.{_≡_, refl, sym, _∙_, ap}
+use mathlib.Core.Bool.{Bool, true, false, cond}
+use mathlib.Core.List.{List, [], _∷_, _++_}
+use Prim.Native.Nat.{ℕ}
+use native.Mathlib.Omega.{arith}
+use lib.IntN.{ℤ}
+use Rattle.plane.specs.Reply.{Reply, answered, refused, Row, firstRow}
+
+pub row-given : (w : Row) (ws : List Row) (r : Reply) → w .applies ≡ true → refused (w .number) (w .carries) ≡ firstRow (w ∷ ws) r
+row-given w ws r e = ap (λ b. cond b (refused (w .number) (w .carries)) (firstRow ws r)) (sym e)
+
+pub row-passed : {x : Reply} (w : Row) (ws : List Row) (r : Reply) → w .applies ≡ false → x ≡ firstRow ws r → x ≡ firstRow (w ∷ ws) r
+row-passed w ws r e h = h ∙ ap (λ b. cond b (refused (w .number) (w .carries)) (firstRow ws r)) (sym e)
+
+pub firstRow-append : (vs ws : List Row) (r : Reply) → firstRow (vs ++ ws) r ≡ firstRow vs (firstRow ws r)
+firstRow-append [] ws r = refl
+firstRow-append (v ∷ vs) ws r = ap (λ x. cond (v .applies) (refused (v .number) (v .carries)) x) (firstRow-append vs ws r)
+
+-- ---- exactly when
+
+-- none of the rows applies
+abbrev pub NoneApply : List Row → Type 0
+NoneApply [] = Unit {0}
+NoneApply (w ∷ ws) = (w .applies ≡ false) × NoneApply ws
+
+-- w is the first row of ws that applies
+pub data First (w : Row) : List Row → Type 0 where
+  here : {ws : List Row} → w .applies ≡ true → First w (w ∷ ws)
+  later : {v : Row} {ws : List Row} → v .applies ≡ false → First w ws → First w (v ∷ ws)
+
+pub firstRow-given : {w : Row} {ws : List Row} (r : Reply) → First w ws → firstRow ws r ≡ refused (w .number) (w .carries)
+firstRow-given r (here {ws = ws} e) = sym (row-given _ ws r e)
+firstRow-given r (later {v = v} {ws = ws} e f) = sym (row-passed v ws r e (sym (firstRow-given r f)))
+
+pub firstRow-none : (ws : List Row) (r : Reply) → NoneApply ws → firstRow ws r ≡ r
+firstRow-none [] r n = refl
+firstRow-none (w ∷ ws) r n = sym (row-passed w ws r (n .0) (sym (firstRow-none ws r (n .1))))
+
+-- a table of which no row applies can be left out
+pub firstRow-passed : (vs ws : List Row) (r : Reply) → NoneApply vs → firstRow (vs ++ ws) r ≡ firstRow ws r
+firstRow-passed vs ws r n = firstRow-append vs ws r ∙ firstRow-none vs (firstRow ws r) n
+
+-- a table either has a first row that applies or none
+pub data Outcome (ws : List Row) : Type 0 where
+  given : (w : Row) → First w ws → Outcome ws
+  passed : NoneApply ws → Outcome ws
+
+pub outcome : (ws : List Row) → Outcome ws
+outcome [] = passed tt
+outcome (w ∷ ws) = go (outcome ws) (w .applies) refl
+  where
+    go : Outcome ws → (b : Bool) → w .applies ≡ b → Outcome (w ∷ ws)
+    go o true e = given w (here e)
+    go (given v f) false e = given v (later e f)
+    go (passed n) false e = passed (e, n)
+
+-- an answer is given only where no row applies, and a refusal only by the first that does
+pub firstRow-answered : (ws : List Row) (values answer : List ℤ) → firstRow ws (answered values) ≡ answered answer → NoneApply ws
+firstRow-answered ws values answer h = go (outcome ws)
+  where
+    go : Outcome ws → NoneApply ws
+    go (given w f) = absurd (let z : _≡_ {A = ℕ} 0 1 = cc (firstRow-given (answered values) f) in let b : ⊥ = omega arith in b)
+    go (passed n) = n
+
+pub firstRow-refused : (ws : List Row) (values : List ℤ) (n : ℕ) (carries : List ℕ) → firstRow ws (answered values) ≡ refused n carries
+    → (w : Row) × First w ws × (w .number ≡ n) × (w .carries ≡ carries)
+firstRow-refused ws values n carries h = go (outcome ws)
+  where
+    go : Outcome ws → (w : Row) × First w ws × (w .number ≡ n) × (w .carries ≡ carries)
+    go (given w f) = (w, f, cc (firstRow-given (answered values) f), cc (firstRow-given (answered values) f))
+    go (passed q) = absurd (let z : _≡_ {A = ℕ} 0 1 = cc (firstRow-none ws (answered values) q) in let b : ⊥ = omega arith in b)

@@ -1,0 +1,146 @@
+-- The invariant of a walk that keeps the greatest value so far and its smallest position, and what it has found at the end.
+--     Greatest f i at z      of f's values below i, z is the greatest, and `at` the smallest position that has it
+--     greatest-start, greatest-keep, greatest-rise      the moves of the walk
+--     greatest-support, greatest-furthest               past the last corner: the support value, and the position of the furthest corner
+--     furthest-greatest      the furthest corner of a list, as it is defined, is what the walk finds
+--     direction-near         a direction that refusal 11 lets pass has its parts in range
+--     furthest-refused, furthest-answered       what is answered of a valid list
+use mathlib.Core.Path.{_≡_, refl, sym, _∙_, ap, subst}
+use mathlib.Core.Bool.{Bool, true, false, _&&_, _||_, true≢false}
+use mathlib.Core.List.{List, [], _∷_}
+use Prim.Native.Nat.{ℕ, _+_, _<_}
+use native.Mathlib.Omega.{arith}
+use borrow.Author.Count.{below-more}
+use borrow.Author.Tests.{ltb-false}
+use lib.Dec.{eqb, ltb}
+use lib.IntN.{ℤ, pos, natAbs}
+use lib.ListN.{length}
+use lib.Signed.{_≤ℤ_, _<ℤ_, leZ}
+use Rattle.integer.specs.Bound.{Within}
+use Rattle.integer.specs.Linear.{lia, linear, _&_}
+use Rattle.integer.specs.Order.{weaken, le-of-eq, le-antisym, le-leZ, lt-leZ, leZ-true, leZ-false}
+use Rattle.plane.specs.Limits.{maxPart}
+use Rattle.plane.specs.Point.{Point, points, corner}
+use Rattle.plane.specs.Direction.{value, support, furthest}
+use Rattle.plane.specs.Reply.{Reply, answered, refused, Row, row, firstRow}
+use Rattle.plane.specs.Refusal.{shapeRows, Valid}
+use Rattle.plane.specs.Furthest.{badDirection, furthestReply}
+use Rattle.plane.specs.theory.refusals.Rows.{row-given, firstRow-append, firstRow-none}
+use Rattle.plane.specs.theory.refusals.Accept.{valid→accepted}
+use Rattle.plane.specs.theory.lists.Members.{position-member, member-position}
+use Rattle.plane.specs.theory.lists.Sought.{first-true, first-least, first-at-most, first-unique}
+use Rattle.plane.specs.theory.support.Support.{value-le-support, support-attained, support-unique}
+
+pub record Greatest (f : ℕ → ℤ) (i at : ℕ) (z : ℤ) : Type 0 where
+  pub within : at < i
+  pub has : z ≡ f at
+  pub highest : (k : ℕ) → k < i → f k ≤ℤ z
+  pub earliest : (k : ℕ) → k < at → f k <ℤ z
+
+-- ---- the moves
+
+module _ (f : ℕ → ℤ) where
+  pub greatest-start : (z : ℤ) → z ≡ f 0 → Greatest f 1 0 z
+  greatest-start z e = record {
+    within = omega arith;
+    has = e;
+    highest = λ k h. le-of-eq (ap f (omega arith) ∙ sym e);
+    earliest = λ k h. absurd (omega arith);
+  }
+
+  pub greatest-keep : {i at at′ : ℕ} {z z′ : ℤ} → Greatest f i at z → f i ≤ℤ z → at′ ≡ at → z′ ≡ z → Greatest f (i + 1) at′ z′
+  greatest-keep {i} {at} {at′} {z} {z′} g h p q = record {
+    within = omega (arith, g .within);
+    has = q ∙ g .has ∙ ap f (sym p);
+    highest = below-more (λ k. f k ≤ℤ z′) i (λ k b. rw q (g .highest k b)) (rw q h);
+    earliest = λ k b. rw q (g .earliest k (omega arith));
+  }
+
+  pub greatest-rise : {i at at′ : ℕ} {z z′ : ℤ} → Greatest f i at z → z <ℤ f i → at′ ≡ i → z′ ≡ f i → Greatest f (i + 1) at′ z′
+  greatest-rise {i} {at} {at′} {z} {z′} g h p q = record {
+    within = omega arith;
+    has = q ∙ ap f (sym p);
+    highest = below-more (λ k. f k ≤ℤ z′) i (λ k b. weaken (above k b)) (le-of-eq (sym q));
+    earliest = λ k b. above k (omega arith);
+  }
+    where
+      above : (k : ℕ) → k < i → f k <ℤ z′
+      above k b = rw q (lia (f k ∷ z ∷ f i ∷ []) (g .highest k b & h) (search linear depth 40) (omega arith))
+
+-- ---- the end
+
+module _ (d : Point) (ps : List Point) {i at : ℕ} {z : ℤ} (g : Greatest (λ k. value d (corner ps k)) i at z) (end : i ≡ length ps) where
+  pub greatest-support : z ≡ support d ps
+  greatest-support =
+      let here : at < length ps = omega (arith, g .within) in
+      g .has ∙ sym (support-unique d (position-member ps at here) (λ q m. below q (member-position m)))
+    where
+      below : (q : Point) → (k : ℕ) × (k < length ps) × (corner ps k ≡ q) → value d q ≤ℤ value d (corner ps at)
+      below q k = rw (← k .2, ← g .has) (g .highest (k .0) (omega (arith, k .1)))
+
+  pub greatest-furthest : at ≡ furthest d ps
+  unfolding furthest
+  greatest-furthest =
+      let here : at < length ps = omega (arith, g .within) in
+      sym (first-unique (λ k. leZ (support d ps) (value d (corner ps k))) (length ps) at (omega arith)
+      (λ h. le-leZ (le-of-eq (sym greatest-support ∙ g .has)))
+      (λ k h. lt-leZ (subst (λ s. value d (corner ps k) <ℤ s) greatest-support (g .earliest k h))))
+
+-- ---- the furthest corner is what such a walk finds
+
+pub furthest-greatest : (d : Point) (ps : List Point) → 0 < length ps
+    → Greatest (λ k. value d (corner ps k)) (length ps) (furthest d ps) (support d ps)
+unfolding furthest
+furthest-greatest d ps some = record {
+  within = found;
+  has = le-antisym (leZ-true (first-true passes (length ps) found)) (below (furthest d ps) found);
+  highest = below;
+  earliest = λ k h. leZ-false (first-least passes (length ps) k h);
+}
+  where
+    passes : ℕ → Bool
+    passes k = leZ (support d ps) (value d (corner ps k))
+
+    below : (k : ℕ) → k < length ps → value d (corner ps k) ≤ℤ support d ps
+    below k h = value-le-support d (position-member ps k h)
+
+    found : furthest d ps < length ps
+    found = let top = support-attained d ps some in
+        let at = member-position (top .at-in) in
+        let has : value d (corner ps (at .0)) ≡ support d ps = ap (value d) (at .2) ∙ top .at-value in
+        omega (arith, first-at-most passes (length ps) (at .0) (le-leZ (le-of-eq (sym has))), at .1)
+
+-- ---- the direction
+
+pub direction-near : (d : Point) → badDirection d ≡ false → Within maxPart (d .x) × Within maxPart (d .y)
+unfolding badDirection
+direction-near d h = go (eqb (natAbs (d .x)) 0 && eqb (natAbs (d .y)) 0)
+    (ltb maxPart (natAbs (d .x))) refl (ltb maxPart (natAbs (d .y))) refl h
+  where
+    go : (z s : Bool) → ltb maxPart (natAbs (d .x)) ≡ s → (t : Bool) → ltb maxPart (natAbs (d .y)) ≡ t → (z || (s || t)) ≡ false
+        → Within maxPart (d .x) × Within maxPart (d .y)
+    go true s p t q h = absurd (true≢false h)
+    go false true p t q h = absurd (true≢false h)
+    go false false p true q h = absurd (true≢false h)
+    go false false p false q h = (record { size = ltb-false _ _ p }, record { size = ltb-false _ _ q })
+
+-- ---- the answer
+
+module _ (l : List ℤ) (v : Valid l) (d : Point) where
+  rows : List Row
+  rows = row 11 (badDirection d) [] ∷ []
+
+  answer : Reply
+  answer = answered (pos (furthest d (points l)) ∷ support d (points l) ∷ [])
+
+  reply-is : furthestReply l d ≡ firstRow rows answer
+  unfolding furthestReply rows answer
+  reply-is = firstRow-append (shapeRows 1 l) rows answer ∙ firstRow-none (shapeRows 1 l) (firstRow rows answer) (valid→accepted l 1 v)
+
+  pub furthest-refused : badDirection d ≡ true → refused 11 [] ≡ furthestReply l d
+  unfolding rows answer
+  furthest-refused h = row-given (row 11 (badDirection d) []) [] answer h ∙ sym reply-is
+
+  pub furthest-answered : badDirection d ≡ false → answered (pos (furthest d (points l)) ∷ support d (points l) ∷ []) ≡ furthestReply l d
+  unfolding rows answer
+  furthest-answered h = sym (firstRow-none rows answer (h, tt)) ∙ sym reply-is

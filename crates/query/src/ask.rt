@@ -1,0 +1,155 @@
+// One arm and one function for each question: it asks the library and adds the reply, without its
+// newline.
+use crate::pictures;
+use crate::replies;
+use crate::table::Measure;
+use crate::table::Question;
+use crate::table::Written;
+use questions::SHAPE_NUMBERS;
+use questions::answer::Answer;
+use questions::answer::Clearance;
+use questions::answer::Furthest;
+use questions::answer::Inside;
+use questions::answer::Length;
+use questions::answer::Relation;
+use questions::answer::Width;
+use text::answers;
+use text::fields;
+use text::numbers;
+
+// Asks the question of its fields, of which so many are given.
+pub fn ask(
+    out: &mut [u8],
+    filled: usize,
+    question: Question,
+    count: usize,
+    room: usize,
+    values: &[i32],
+    marks: &[usize],
+) -> usize {
+    let a = fields::field(values, marks, 0);
+    let b = fields::field(values, marks, 1);
+    match question {
+        Question::Measure(which) => measure(out, filled, which, a, b),
+        Question::Write(which) => write(out, filled, which, a, b, room),
+        Question::Draw => pictures::draw(out, filled, a, b, count),
+    }
+}
+
+// Asks a question that is answered by numbers or a word.
+fn measure(out: &mut [u8], filled: usize, which: Measure, a: &[i32], b: &[i32]) -> usize {
+    match which {
+        Measure::Judge => judge(out, filled, a),
+        Measure::Furthest => furthest(out, filled, a, b),
+        Measure::Length => length(out, filled, a),
+        Measure::Width => width(out, filled, a),
+        Measure::Relation => relation(out, filled, a, b),
+        Measure::Inside => inside(out, filled, a, b),
+        Measure::Clearance => clearance(out, filled, a, b),
+    }
+}
+
+// Asks a question that writes a shape, in an output of as many numbers as the room says.
+fn write(
+    out: &mut [u8],
+    filled: usize,
+    which: Written,
+    a: &[i32],
+    b: &[i32],
+    room: usize,
+) -> usize {
+    let mut answer = [0i32; SHAPE_NUMBERS];
+    let lent: &mut [i32] = &mut answer;
+    let end = fields::lent(room, lent);
+    match shape(which, a, b, &mut lent[0..end]) {
+        Answer::Corners(corners) => answers::ok_pairs(out, filled, corners, lent),
+        Answer::No(refusal) => replies::refuse(out, filled, refusal),
+    }
+}
+
+// The mirror image, the vector sum, or the shape of both together.
+fn shape(which: Written, a: &[i32], b: &[i32], out: &mut [i32]) -> Answer {
+    match which {
+        Written::Mirror => questions::mirror(a, out),
+        Written::Sum => questions::sum(a, b, out),
+        Written::Merge => questions::merge(a, b, out),
+    }
+}
+
+// Whether a list is a shape, and how many corners it has.
+fn judge(out: &mut [u8], filled: usize, list: &[i32]) -> usize {
+    match questions::judge(list) {
+        Answer::Corners(corners) => answers::ok(out, filled, &[corners as u64]),
+        Answer::No(refusal) => replies::refuse(out, filled, refusal),
+    }
+}
+
+// The position and the value of the furthest corner in a direction.
+fn furthest(out: &mut [u8], filled: usize, list: &[i32], direction: &[i32]) -> usize {
+    match questions::furthest(
+        list,
+        fields::number(direction, 0),
+        fields::number(direction, 1),
+    ) {
+        Furthest::At { position, value } => {
+            let now = answers::ok(out, filled, &[position as u64]);
+            answers::number(out, now, value)
+        }
+        Furthest::No(refusal) => replies::refuse(out, filled, refusal),
+    }
+}
+
+// The greatest squared distance between two corners, and their positions.
+fn length(out: &mut [u8], filled: usize, list: &[i32]) -> usize {
+    match questions::length(list) {
+        Length::Between { squared, from, to } => {
+            let values = [squared, from as u64, to as u64];
+            answers::ok(out, filled, &values)
+        }
+        Length::No(refusal) => replies::refuse(out, filled, refusal),
+    }
+}
+
+// The edge and the corner of the least width, its turn, the squared edge, and the width rounded
+// down.
+fn width(out: &mut [u8], filled: usize, list: &[i32]) -> usize {
+    match questions::width(list) {
+        Width::Across {
+            edge,
+            corner,
+            turn,
+            squared,
+            rounded,
+        } => {
+            let values = [edge as u64, corner as u64, turn, squared, rounded];
+            answers::ok(out, filled, &values)
+        }
+        Width::No(refusal) => replies::refuse(out, filled, refusal),
+    }
+}
+
+// Whether two shapes are apart, touching or overlapping.
+fn relation(out: &mut [u8], filled: usize, a: &[i32], b: &[i32]) -> usize {
+    match questions::relation(a, b) {
+        Relation::Apart => answers::word(out, filled, b"ok apart"),
+        Relation::Touching => answers::word(out, filled, b"ok touching"),
+        Relation::Overlapping => answers::word(out, filled, b"ok overlapping"),
+        Relation::No(refusal) => replies::refuse(out, filled, refusal),
+    }
+}
+
+// Whether the first shape is inside the second.
+fn inside(out: &mut [u8], filled: usize, a: &[i32], b: &[i32]) -> usize {
+    match questions::inside(a, b) {
+        Inside::Is(yes) => answers::ok_yes(out, filled, yes),
+        Inside::No(refusal) => replies::refuse(out, filled, refusal),
+    }
+}
+
+// The squared clearance of two shapes.
+fn clearance(out: &mut [u8], filled: usize, a: &[i32], b: &[i32]) -> usize {
+    match questions::clearance(a, b) {
+        Clearance::Squared(squared) => answers::ok(out, filled, &[numbers::size(squared)]),
+        Clearance::No(refusal) => replies::refuse(out, filled, refusal),
+    }
+}

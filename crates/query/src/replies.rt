@@ -1,0 +1,60 @@
+// The replies that know the library's words, without their newlines; the others are in `text`.
+use questions::answer::Refusal;
+use text::answers;
+
+// Adds a refusal: its number, which shape of the question it means, and where the left rule breaks.
+pub fn refuse(out: &mut [u8], filled: usize, refusal: Refusal) -> usize {
+    let now = answers::labelled(out, filled, b"no ", number(refusal));
+    let then = answers::labelled_some(out, now, b" shape ", blamed(refusal));
+    broken(out, then, refusal)
+}
+
+// Adds where the left rule breaks, if it does.
+fn broken(out: &mut [u8], filled: usize, refusal: Refusal) -> usize {
+    let Refusal::Side {
+        shape: _,
+        edge,
+        corner,
+    } = refusal
+    else {
+        return filled;
+    };
+    let now = answers::labelled(out, filled, b" edge ", edge as u64);
+    answers::labelled(out, now, b" corner ", corner as u64)
+}
+
+// Document 01's number of a refusal.
+fn number(refusal: Refusal) -> u64 {
+    match refusal {
+        Refusal::Count { shape: _ } => 1,
+        Refusal::Corners { shape: _ } => 2,
+        Refusal::Range { shape: _ } => 3,
+        Refusal::Side {
+            shape: _,
+            edge: _,
+            corner: _,
+        } => 4,
+        Refusal::Start { shape: _ } => 5,
+        Refusal::LargeAnswer => 6,
+        Refusal::FarAnswer => 7,
+        Refusal::Room => 8,
+        Refusal::Flat => 10,
+        Refusal::Direction => 11,
+    }
+}
+
+// The shape that a refusal means, counted from 1; 0 where it means none.
+fn blamed(refusal: Refusal) -> u64 {
+    match refusal {
+        Refusal::Count { shape } => shape as u64,
+        Refusal::Corners { shape } => shape as u64,
+        Refusal::Range { shape } => shape as u64,
+        Refusal::Side {
+            shape,
+            edge: _,
+            corner: _,
+        } => shape as u64,
+        Refusal::Start { shape } => shape as u64,
+        _ => 0,
+    }
+}

@@ -1,0 +1,102 @@
+// The table of questions: a row says a question's word and the kinds of its fields.
+use text::fields;
+use text::fields::Kind;
+use text::fields::Kinds;
+
+// What can be asked.
+pub enum Question {
+    Measure(Measure),
+    Write(Written),
+    Draw,
+}
+
+// The questions that are answered by numbers or a word.
+pub enum Measure {
+    Judge,
+    Furthest,
+    Length,
+    Width,
+    Relation,
+    Inside,
+    Clearance,
+}
+
+// The questions that write a shape.
+pub enum Written {
+    Mirror,
+    Sum,
+    Merge,
+}
+
+// What a word stands for: a question and the kinds of its fields.
+pub struct Entry {
+    pub question: Question,
+    pub kinds: Kinds,
+}
+
+// Looks a word up in the table. Where it is not there the kinds are unknown, and nothing is asked.
+pub fn look_up(word: &[u8]) -> Entry {
+    let mut entry = Entry {
+        question: Question::Draw,
+        kinds: fields::unknown(),
+    };
+    entry = on_one(entry, word);
+    entry = on_two(entry, word);
+    entry = shapes(entry, word);
+    pictures(entry, word)
+}
+
+// The measures of one shape.
+fn on_one(found: Entry, word: &[u8]) -> Entry {
+    let shape = fields::one(Kind::Shape);
+    let aimed = fields::two(Kind::Shape, Kind::Direction);
+    let mut entry = found;
+    entry = measured(entry, word, b"judge", Measure::Judge, shape);
+    entry = measured(entry, word, b"furthest", Measure::Furthest, aimed);
+    entry = measured(entry, word, b"length", Measure::Length, shape);
+    measured(entry, word, b"width", Measure::Width, shape)
+}
+
+// The measures of two shapes.
+fn on_two(found: Entry, word: &[u8]) -> Entry {
+    let pair = fields::two(Kind::Shape, Kind::Shape);
+    let mut entry = found;
+    entry = measured(entry, word, b"relation", Measure::Relation, pair);
+    entry = measured(entry, word, b"inside", Measure::Inside, pair);
+    measured(entry, word, b"clearance", Measure::Clearance, pair)
+}
+
+// The shapes that are written.
+fn shapes(found: Entry, word: &[u8]) -> Entry {
+    let one = fields::two(Kind::Shape, Kind::Room);
+    let two = fields::three(Kind::Shape, Kind::Shape, Kind::Room);
+    let mut entry = found;
+    entry = write(entry, word, b"mirror", Written::Mirror, one);
+    entry = write(entry, word, b"sum", Written::Sum, two);
+    write(entry, word, b"merge", Written::Merge, two)
+}
+
+// The pictures.
+fn pictures(found: Entry, word: &[u8]) -> Entry {
+    let some = fields::two(Kind::Shape, Kind::Further);
+    row(found, word, b"draw", Question::Draw, some)
+}
+
+// A row of the table, of a measure.
+fn measured(found: Entry, word: &[u8], own: &[u8], question: Measure, kinds: Kinds) -> Entry {
+    row(found, word, own, Question::Measure(question), kinds)
+}
+
+// A row of the table, of a shape that is written.
+fn write(found: Entry, word: &[u8], own: &[u8], question: Written, kinds: Kinds) -> Entry {
+    row(found, word, own, Question::Write(question), kinds)
+}
+
+// A row of the table: what was found before, or the row's question if the word is its own.
+fn row(found: Entry, word: &[u8], own: &[u8], question: Question, kinds: Kinds) -> Entry {
+    if check::same(word, own) {
+        Entry { question, kinds }
+    } else {
+        found
+    }
+}

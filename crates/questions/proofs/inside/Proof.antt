@@ -1,0 +1,48 @@
+-- `inside` meets its contract: a list is refused, or the shapes are compared.
+use mathlib.Core.Path.{_∙_, ap, subst}
+use mathlib.Core.Bool.{Bool, cond}
+use mathlib.Core.List.{[], _∷_, _++_}
+use lib.IntN.{pos}
+use Rattle.plane.specs.Reply.{answered}
+use Rattle.plane.specs.Separation.{insideReply}
+use Rattle.questions.specs.theory.Rows.{pair-answer}
+use borrow.Author.Needs.{needs}
+use Rattle.plane.specs.Refusal.{shapeRows, Valid}
+use Rattle.questions.specs.Answer.{ofRefusal}
+use Rattle.questions.specs.Admission.{Refuses, AdmittedPair}
+use Rattle.questions.proofs.inside.Statement.{statement}
+use Rattle.questions.proofs.inside.Tie as tie
+
+-- past the judging both lists are shapes
+shapes : (c : tie.After-enum-told) → Valid (c .before .before .before .args .a .now) × Valid (c .before .before .before .args .b .now)
+shapes c = subst (AdmittedPair _ _) (c .enum-told .given .1) (c .before .before .admit-pair .ensures)
+
+-- before it, one of them is refused
+refusal : (c : tie.After-known-told) → let start = c .before .before .before .before in
+    Refuses (shapeRows 1 (start .args .a .now) ++ shapeRows 2 (start .args .b .now)) (ofRefusal (c .before .refusal .given .0 .0))
+refusal c = subst (AdmittedPair _ _) (c .before .refusal .given .1) (c .before .before .before .admit-pair .ensures)
+
+admit-pair-requires : tie.Need-admit-pair-requires
+admit-pair-requires c κs = search needs
+
+enum-known-refusal : tie.Need-enum-known-refusal
+enum-known-refusal c = search needs
+
+enum-told : tie.Need-enum-told
+enum-told c = search needs
+
+returns : tie.Need-returns
+unfolding insideReply
+returns c = refusal c .whatever _
+
+inside-requires : tie.Need-inside-requires
+inside-requires c κs = shapes c
+
+returns-2 : tie.Need-returns-2
+unfolding insideReply
+returns-2 c =
+    let both = shapes (c .before) in
+    ap (λ (t : Bool). answered (cond t (pos 1) (pos 0) ∷ [])) (c .inside .ensures) ∙ pair-answer _ (both .0) _ (both .1) _
+
+pub inside-spec : {M : Type 1} → statement M
+inside-spec = tie.close (tie.spec admit-pair-requires enum-known-refusal returns enum-told inside-requires returns-2)

@@ -1,0 +1,26 @@
+-- What judging the lists of a question says (document 01, "Several at once: the first shape by 1 to 5 in number order, then the second
+-- shape
+-- likewise"). Our own, not of document 01.
+--     Refuses rows r          r is given by these rows, whatever the answer would be
+--     Admitted which l r      the list is a shape, or its rows refuse it and blame the shape `which`
+--     AdmittedPair a b r      two shapes, or the rows of the first and then of the second refuse them
+use mathlib.Core.Path.{_≡_}
+use mathlib.Core.List.{List, _++_}
+use Prim.Native.Nat.{ℕ}
+use lib.IntN.{ℤ}
+use Rattle.plane.specs.Reply.{Reply, Row, firstRow}
+use Rattle.plane.specs.Refusal.{shapeRows, Valid}
+use Rattle.questions.specs.Answer.{ofRefusal}
+use Rattle.questions.specs.declared.admission.Admission.{Admission}
+use Rattle.questions.specs.declared.admission.Admission.the-variants as Admission
+
+pub record Refuses (rows : List Row) (r : Reply) : Type 0 where
+  pub whatever : (x : Reply) → r ≡ firstRow rows x
+
+abbrev pub Admitted : ℕ → List ℤ → Admission → Type 0
+Admitted which l Admission.Valid = Valid l
+Admitted which l (Admission.No r) = Refuses (shapeRows which l) (ofRefusal r)
+
+abbrev pub AdmittedPair : List ℤ → List ℤ → Admission → Type 0
+AdmittedPair a b Admission.Valid = Valid a × Valid b
+AdmittedPair a b (Admission.No r) = Refuses (shapeRows 1 a ++ shapeRows 2 b) (ofRefusal r)

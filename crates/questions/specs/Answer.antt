@@ -1,0 +1,68 @@
+-- Document 01's number and values for each case of the enums ("Where an answer is an enum ..").
+--     ofRefusal r     the number of the table's row, and what it carries: 1 to 5 the shape, 4 also the edge and the corner
+--     ofAnswer r, ofFurthest r, ..     the reply of each question: its values, or a refusal
+use mathlib.Core.Bool.{cond}
+use mathlib.Core.List.{[], _∷_}
+use lib.IntN.{pos}
+use Rattle.plane.specs.Reply.{Reply, answered, refused}
+use Rattle.questions.specs.declared.answer.Refusal.{Refusal}
+use Rattle.questions.specs.declared.answer.Refusal.the-variants as Refusal
+use Rattle.questions.specs.declared.answer.Answer.{Answer}
+use Rattle.questions.specs.declared.answer.Answer.the-variants as Answer
+use Rattle.questions.specs.declared.answer.Furthest.{Furthest}
+use Rattle.questions.specs.declared.answer.Furthest.the-variants as Furthest
+use Rattle.questions.specs.declared.answer.Length.{Length}
+use Rattle.questions.specs.declared.answer.Length.the-variants as Length
+use Rattle.questions.specs.declared.answer.Width.{Width}
+use Rattle.questions.specs.declared.answer.Width.the-variants as Width
+use Rattle.questions.specs.declared.answer.Relation.{Relation}
+use Rattle.questions.specs.declared.answer.Relation.the-variants as Relation
+use Rattle.questions.specs.declared.answer.Inside.{Inside}
+use Rattle.questions.specs.declared.answer.Inside.the-variants as Inside
+use Rattle.questions.specs.declared.answer.Clearance.{Clearance}
+use Rattle.questions.specs.declared.answer.Clearance.the-variants as Clearance
+
+abbrev pub ofRefusal : Refusal → Reply
+ofRefusal (Refusal.Count shape) = refused 1 (shape ∷ [])
+ofRefusal (Refusal.Corners shape) = refused 2 (shape ∷ [])
+ofRefusal (Refusal.Range shape) = refused 3 (shape ∷ [])
+ofRefusal (Refusal.Side shape edge corner) = refused 4 (shape ∷ edge ∷ corner ∷ [])
+ofRefusal (Refusal.Start shape) = refused 5 (shape ∷ [])
+ofRefusal Refusal.LargeAnswer = refused 6 []
+ofRefusal Refusal.FarAnswer = refused 7 []
+ofRefusal Refusal.Room = refused 8 []
+ofRefusal Refusal.Flat = refused 10 []
+ofRefusal Refusal.Direction = refused 11 []
+
+abbrev pub ofAnswer : Answer → Reply
+ofAnswer (Answer.Corners n) = answered (pos n ∷ [])
+ofAnswer (Answer.No r) = ofRefusal r
+
+abbrev pub ofFurthest : Furthest → Reply
+ofFurthest (Furthest.At position value) = answered (pos position ∷ value ∷ [])
+ofFurthest (Furthest.No r) = ofRefusal r
+
+abbrev pub ofLength : Length → Reply
+ofLength (Length.Between squared from to) = answered (pos squared ∷ pos from ∷ pos to ∷ [])
+ofLength (Length.No r) = ofRefusal r
+
+abbrev pub ofWidth : Width → Reply
+ofWidth (Width.Across edge corner turn squared rounded) =
+    answered (pos edge ∷ pos corner ∷ pos turn ∷ pos squared ∷ pos rounded ∷ [])
+ofWidth (Width.No r) = ofRefusal r
+
+-- 0 apart, 1 touching, 2 overlapping
+abbrev pub ofRelation : Relation → Reply
+ofRelation Relation.Apart = answered (pos 0 ∷ [])
+ofRelation Relation.Touching = answered (pos 1 ∷ [])
+ofRelation Relation.Overlapping = answered (pos 2 ∷ [])
+ofRelation (Relation.No r) = ofRefusal r
+
+-- 1 yes, 0 no
+abbrev pub ofInside : Inside → Reply
+ofInside (Inside.Is within) = answered (cond within (pos 1) (pos 0) ∷ [])
+ofInside (Inside.No r) = ofRefusal r
+
+abbrev pub ofClearance : Clearance → Reply
+ofClearance (Clearance.Squared n) = answered (n ∷ [])
+ofClearance (Clearance.No r) = ofRefusal r

@@ -1,0 +1,4 @@
+-- The theory of the door, which only proves: rows passed or given before a question's own, and what is written.
+pub mod Rows
+pub mod Delivery
+pub mod Measures

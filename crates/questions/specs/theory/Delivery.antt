@@ -1,0 +1,93 @@
+-- A shape's numbers, written to an output.
+--     numbers-outside     row 7 is asked of the numbers as they stand
+--     little-room         row 8 applies
+--     all-delivered       no row does: the numbers are copied
+--     pair-delivered      what is delivered of the front of a buffer, where a shape made of two shapes stands; `front-paired`: its numbers
+--     pair-refused, mirror-refused     a list is refused; `mirror-answered`: the image is written
+use mathlib.Core.Path.{_≡_, sym, _∙_, ap, ap₂, subst}
+use mathlib.Core.Bool.{Bool, false}
+use mathlib.Core.List.{List, [], _∷_, _++_}
+use Prim.Native.Nat.{ℕ, _%_, _*_, _+_, _≤_, _<_}
+use native.Mathlib.Omega.{arith}
+use borrow.Author.Tests.{lt-ltb, le-ltb}
+use lib.IntN.{ℤ, pos}
+use lib.ListN.{length, take, drop}
+use lib.Seq.{paste, take-length}
+use Rattle.plane.specs.Point.{Point, points, numbers}
+use Rattle.plane.specs.Reply.{Reply, answered, refused}
+use Rattle.plane.specs.Refusal.{tooMany, someOutside, shapeRows, Valid}
+use Rattle.plane.specs.Corner.{shapeOf, mirrored}
+use Rattle.plane.specs.Output.{noRoom, answerRows, overwritten}
+use Rattle.plane.specs.Combine.{mirrorWritten, pairWritten}
+use Rattle.plane.specs.theory.lists.Flat.{numbers-points}
+use Rattle.plane.specs.theory.refusals.Write.{Wrote, wrote-room, wrote-all}
+use Rattle.plane.specs.theory.mirror.Mirror.{topmost, mirror-known}
+use Rattle.plane.specs.theory.mirror.MirrorWritten.{mirror-written}
+use Rattle.polygon.specs.Front.{Front}
+use Rattle.polygon.specs.theory.Fronts.{front-points, front-length}
+use Rattle.questions.specs.Delivery.{delivered}
+use Rattle.questions.specs.Admission.{Refuses}
+use Rattle.questions.specs.theory.Rows.{refuses-written, pair-wrote}
+
+module _ (l : List ℤ) (paired : length l % 2 ≡ 0) where
+  pub numbers-outside : {t : Bool} → someOutside l ≡ t → someOutside (numbers (points l)) ≡ t
+  numbers-outside h = ap someOutside (numbers-points l paired) ∙ h
+
+  module _ (old : List ℤ) (few : tooMany (points l) ≡ false) (near : someOutside (numbers (points l)) ≡ false) where
+    count : length (numbers (points l)) ≡ length l
+    count = ap length (numbers-points l paired)
+
+    pub little-room : length old < length l → Wrote (answerRows (points l) old) (points l) old (refused 8 []) old
+    unfolding noRoom
+    little-room h = wrote-room few near (lt-ltb (length old) (length (numbers (points l))) (omega (arith, count)))
+
+    pub all-delivered : length l ≤ length old → {n : ℕ} {out : List ℤ} → n ≡ length (points l) → out ≡ paste old 0 l (length l)
+        → Wrote (answerRows (points l) old) (points l) old (answered (pos n ∷ [])) out
+    unfolding noRoom overwritten
+    all-delivered h {n} {out} e f =
+        let w = wrote-all few near (le-ltb (length old) (length (numbers (points l))) (omega (arith, count))) in
+        let zero : 0 + length l ≡ length l = omega arith in
+        let written : out ≡ numbers (points l) ++ drop (length (numbers (points l))) old =
+        f ∙ ap₂ (λ k n. k ++ drop n old) (take-length l) zero ∙ ap (λ k. k ++ drop (length k) old) (sym (numbers-points l paired)) in
+        record {
+          reply-is = ap (λ k. answered (pos k ∷ [])) e ∙ w .reply-is;
+          output-is = written ∙ w .output-is;
+        }
+
+-- ---- a shape that stands at the front of a buffer
+
+module _ {ps : List Point} {n : ℕ} {l : List ℤ} (f : Front ps n l) where
+  pub front-paired : length (take (2 * n) l) % 2 ≡ 0
+  front-paired = omega (arith, front-length f)
+
+  -- what is delivered of the front is written of the shape, behind the rows of two shapes
+  pub pair-delivered : (a b : List ℤ) → Valid a → Valid b → (old : List ℤ) {r : Reply} {out : List ℤ}
+      → r ≡ delivered (points (take (2 * n) l)) old .reply → out ≡ delivered (points (take (2 * n) l)) old .output
+      → (r ≡ pairWritten a b ps old .reply) × (out ≡ pairWritten a b ps old .output)
+  pair-delivered a b u v old {r} {out} h k =
+      let w = pair-wrote a u b v
+      (subst (λ s. Wrote (answerRows s old) s old r out) (front-points f) (record { reply-is = h; output-is = k })) in
+      (w .reply-is, w .output-is)
+
+-- a list that is refused: nothing is written
+pub pair-refused : (a b : List ℤ) (shape : List Point) (old : List ℤ) {r : Reply} → Refuses (shapeRows 1 a ++ shapeRows 2 b) r
+    → (r ≡ pairWritten a b shape old .reply) × (old ≡ pairWritten a b shape old .output)
+pair-refused a b shape old f = let w = refuses-written f (answerRows shape old) shape old in (w .reply-is, w .output-is)
+
+pub mirror-refused : (l old : List ℤ) {r : Reply} → Refuses (shapeRows 1 l) r
+    → (r ≡ mirrorWritten l old .reply) × (old ≡ mirrorWritten l old .output)
+unfolding mirrorWritten
+mirror-refused l old f =
+    let shape = shapeOf (mirrored (points l)) in
+    let w = refuses-written f (answerRows shape old) shape old in (w .reply-is, w .output-is)
+
+pub mirror-answered : (l : List ℤ) → Valid l → (old : List ℤ) → 2 * length (points l) ≤ length old → {n : ℕ} {out : List ℤ} → n
+    ≡ length (points l)
+    → out ≡ overwritten (numbers (shapeOf (mirrored (points l)))) old
+    → (answered (pos n ∷ []) ≡ mirrorWritten l old .reply) × (out ≡ mirrorWritten l old .output)
+mirror-answered l v old room e f =
+    let top = topmost (points l) (v .shape) in
+    let w = mirror-written l v old (top .0) (top .1) room in (
+      ap (λ k. answered (pos k ∷ [])) e ∙ w .0,
+      f ∙ ap (λ ps. overwritten (numbers ps) old) (mirror-known (points l) (v .shape) (top .0) (top .1)) ∙ w .1,
+    )

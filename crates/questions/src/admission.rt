@@ -1,0 +1,49 @@
+// Inner functions: lists judged, each once, before a question is asked of them.
+ghost use Rattle.questions.specs.Admission.{Admitted, AdmittedPair};
+use crate::answer::Refusal;
+use polygon::rules;
+use polygon::rules::Broken;
+
+// A list that is a shape, two lists that are, or the first refusal of 1 to 5.
+pub enum Admission {
+    Valid,
+    No(Refusal),
+}
+
+// Judges a list that is the first or the second shape of a question: refusals 1 to 5 in their order.
+// Ruled out: positions swapped; everything refused.
+pub fn admit(list: &[i32], shape: usize) -> Admission
+    ensures { λ r. ⌜ Admitted shape (now (list .entry)) r ⌝ }
+{
+    if rules::bad_count(list) {
+        return Admission::No(Refusal::Count { shape });
+    }
+    if rules::too_many(list) {
+        return Admission::No(Refusal::Corners { shape });
+    }
+    if rules::some_outside(list) {
+        return Admission::No(Refusal::Range { shape });
+    }
+    if let Broken::At { edge, corner } = rules::first_broken(list) {
+        return Admission::No(Refusal::Side {
+            shape,
+            edge,
+            corner,
+        });
+    }
+    if rules::bad_start(list) {
+        return Admission::No(Refusal::Start { shape });
+    }
+    Admission::Valid
+}
+
+// Judges the first list, then the second.
+// Ruled out: second shape judged first; other shape blamed.
+pub fn admit_pair(a: &[i32], b: &[i32]) -> Admission
+    ensures { λ r. ⌜ AdmittedPair (now (a .entry)) (now (b .entry)) r ⌝ }
+{
+    if let Admission::No(refusal) = admit(a, 1) {
+        return Admission::No(refusal);
+    }
+    admit(b, 2)
+}

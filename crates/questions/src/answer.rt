@@ -1,0 +1,92 @@
+// What the questions answer.
+// A row of document 01's table, and what it carries: 1 to 5 the shape that is blamed, the first or the second, and 4
+// the edge and the corner that break the left rule.
+pub enum Refusal {
+    // 1: an empty list, or an odd count of numbers
+    Count {
+        shape: usize,
+    },
+    // 2: more corners than a shape may have
+    Corners {
+        shape: usize,
+    },
+    // 3: a coordinate out of range
+    Range {
+        shape: usize,
+    },
+    // 4: two equal corners in a list of two, or a broken left rule
+    Side {
+        shape: usize,
+        edge: usize,
+        corner: usize,
+    },
+    // 5: not begun at the standard corner
+    Start {
+        shape: usize,
+    },
+    // 6: more corners in the answer than a shape may have
+    LargeAnswer,
+    // 7: a corner of the answer out of range
+    FarAnswer,
+    // 8: an output that holds fewer numbers than the answer
+    Room,
+    // 10: the width of a shape of fewer than three corners
+    Flat,
+    // 11: a direction (0, 0), or with a part out of range
+    Direction,
+}
+
+// How many corners a shape has that was judged or written.
+pub enum Answer {
+    Corners(usize),
+    No(Refusal),
+}
+
+// The position of the furthest corner, and its value.
+pub enum Furthest {
+    At { position: usize, value: i64 },
+    No(Refusal),
+}
+
+// The greatest squared distance between two corners, and their positions.
+pub enum Length {
+    Between {
+        squared: u64,
+        from: usize,
+        to: usize,
+    },
+    No(Refusal),
+}
+
+// The edge that the shape is narrowest across, the corner furthest from it, the turn of that corner against the edge,
+// the edge's squared length, and the width rounded down.
+pub enum Width {
+    Across {
+        edge: usize,
+        corner: usize,
+        turn: u64,
+        squared: u64,
+        rounded: u64,
+    },
+    No(Refusal),
+}
+
+// How two shapes stand to each other.
+pub enum Relation {
+    Apart,
+    Touching,
+    Overlapping,
+    No(Refusal),
+}
+
+// Whether the first shape is inside the second.
+pub enum Inside {
+    Is(bool),
+    No(Refusal),
+}
+
+// The squared clearance.
+pub enum Clearance {
+    Squared(i64),
+    No(Refusal),
+}

@@ -1,0 +1,33 @@
+// Inner function: an answer that is a shape, written to the lent output.
+ghost use mathlib.Core.Path.{_≡_};
+ghost use Prim.Native.Nat.{_%_};
+ghost use lib.ListN.{length};
+ghost use Rattle.plane.specs.Point.{points};
+ghost use Rattle.questions.specs.Answer.{ofAnswer};
+ghost use Rattle.questions.specs.Delivery.{delivered};
+use crate::answer::Answer;
+use crate::answer::Refusal;
+use polygon::corners;
+use polygon::numbers;
+use polygon::rules;
+
+// Writes a shape's numbers at the front of the output, all behind them being kept, and answers how many corners it has;
+// or refuses 6, 7 and 8 in their order, with the output as it was.
+// Ruled out: count and range exchanged; exact room refused; tail cleared.
+pub fn deliver(shape: &[i32], out: &mut [i32]) -> Answer
+    requires paired { ⌜ length (now shape) % 2 ≡ 0 ⌝ }
+    ensures { λ r. ⌜ (ofAnswer r ≡ delivered (points (now (shape .entry))) (now (out .entry)) .reply)
+        × (now (out .exit) ≡ delivered (points (now (shape .entry))) (now (out .entry)) .output) ⌝ }
+{
+    if rules::too_many(shape) {
+        return Answer::No(Refusal::LargeAnswer);
+    }
+    if rules::some_outside(shape) {
+        return Answer::No(Refusal::FarAnswer);
+    }
+    if out.len() < shape.len() {
+        return Answer::No(Refusal::Room);
+    }
+    numbers::copy(shape, shape.len(), out, 0);
+    Answer::Corners(corners::count(shape))
+}

@@ -1,0 +1,286 @@
+// The fields of a question. The numbers of all fields of a line stand in one buffer, field behind
+// field, and mark k counts the numbers before field k. The caller lends the buffer and the marks.
+ghost use Prim.Native.Nat.{_≤_};
+ghost use lib.ListN.{length};
+use crate::numbers;
+use crate::numbers::Taken;
+use crate::reasons::Reason;
+use crate::words;
+
+// The most fields that a question has.
+const FIELDS: usize = 8;
+
+// The marks of a line: one before each field, and one behind the last.
+pub const MARKS: usize = FIELDS + 1;
+
+// What a field holds. Those that may be left out, with their bars, stand behind the others.
+pub enum Kind {
+    // There is no such field.
+    Nothing,
+    // Any numbers.
+    Shape,
+    // Two numbers.
+    Direction,
+    // One number, not below 0: how many numbers an output holds. The last field; may be left out.
+    Room,
+    // Any numbers. May be left out.
+    Further,
+}
+
+// The kinds of a question's fields, as the digits of one number in base 16, the first lowest. (What
+// passes a struct of eight enums is slow to prove.)
+pub struct Kinds {
+    digits: u64,
+}
+
+// The digits of no kinds.
+const UNKNOWN: u64 = u64::MAX;
+
+// How many fields stand ready and what the room among them says, or why the line is no question.
+pub enum Fields {
+    Ready { count: usize, room: usize },
+    No(Reason),
+}
+
+// Whether something is as the question takes it, or why not.
+enum Check {
+    Passed,
+    No(Reason),
+}
+
+// Reads the fields of a line. The reasons against it come in this order: a word that is not known;
+// too few fields or too many; the first word that is no number, or number that finds no room; the
+// first field that holds another count of numbers than its kind says.
+pub fn read(line: &[u8], kinds: Kinds, values: &mut [i32], marks: &mut [usize]) -> Fields {
+    if kinds.digits == UNKNOWN {
+        return Fields::No(Reason::UnknownWord);
+    }
+    let count = words::count_bars(line);
+    if let Check::No(reason) = enough(kinds, count) {
+        return Fields::No(reason);
+    }
+    if let Check::No(reason) = take_all(line, kinds, count, values, marks) {
+        return Fields::No(reason);
+    }
+    if let Check::No(reason) = fit_all(kinds, count, values, marks) {
+        return Fields::No(reason);
+    }
+    let room = room_in(kinds, count, values, marks);
+    Fields::Ready { count, room }
+}
+
+// The numbers of field k; empty if the line has no such field.
+pub fn field<'a>(values: &'a [i32], marks: &[usize], k: usize) -> &'a [i32] {
+    let from = mark(marks, k);
+    let to = mark_behind(marks, k);
+    if from <= to {
+        if to <= values.len() {
+            return &values[from..to];
+        }
+    }
+    &values[..0]
+}
+
+// The number at a position of a field, or 0 where there is none.
+pub fn number(field: &[i32], i: usize) -> i32 {
+    if i < field.len() { field[i] } else { 0 }
+}
+
+// How many numbers of an output are lent: as many as the room says, at most all.
+pub fn lent(room: usize, output: &[i32]) -> usize
+    ensures { λ r. ⌜ r ≤ length (now (output .entry)) ⌝ }
+{
+    if room <= output.len() {
+        room
+    } else {
+        output.len()
+    }
+}
+
+// The kinds of a word that is not known.
+pub fn unknown() -> Kinds {
+    Kinds { digits: UNKNOWN }
+}
+
+// The kinds of a question with one field.
+pub fn one(a: Kind) -> Kinds {
+    two(a, Kind::Nothing)
+}
+
+// The kinds of a question with two fields.
+pub fn two(a: Kind, b: Kind) -> Kinds {
+    three(a, b, Kind::Nothing)
+}
+
+// The kinds of a question with three fields.
+pub fn three(a: Kind, b: Kind, c: Kind) -> Kinds {
+    Kinds {
+        digits: digit(a) + 16 * digit(b) + 256 * digit(c),
+    }
+}
+
+// The digit of a kind.
+fn digit(kind: Kind) -> u64
+    ensures { λ r. ⌜ r ≤ 15 ⌝ }
+{
+    match kind {
+        Kind::Nothing => 0,
+        Kind::Shape => 1,
+        Kind::Direction => 2,
+        Kind::Room => 3,
+        Kind::Further => 4,
+    }
+}
+
+// The kind of field k.
+fn kind_at(kinds: Kinds, k: usize) -> Kind {
+    if FIELDS <= k {
+        return Kind::Nothing;
+    }
+    match (kinds.digits >> (4 * k)) % 16 {
+        1 => Kind::Shape,
+        2 => Kind::Direction,
+        3 => Kind::Room,
+        4 => Kind::Further,
+        _ => Kind::Nothing,
+    }
+}
+
+// Whether so many fields are what the question takes: the first that is not there may be left out,
+// and the last that is there is known.
+fn enough(kinds: Kinds, count: usize) -> Check {
+    if !may_be_left_out(kind_at(kinds, count)) {
+        return Check::No(Reason::MissingField);
+    }
+    if 0 < count {
+        if let Kind::Nothing = kind_at(kinds, count - 1) {
+            return Check::No(Reason::TooManyFields);
+        }
+    }
+    Check::Passed
+}
+
+// Whether a field may be left out.
+fn may_be_left_out(kind: Kind) -> bool {
+    match kind {
+        Kind::Nothing => true,
+        Kind::Room => true,
+        Kind::Further => true,
+        _ => false,
+    }
+}
+
+// Reads the numbers of all fields, and sets a mark before each and one behind the last.
+fn take_all(
+    line: &[u8],
+    kinds: Kinds,
+    count: usize,
+    values: &mut [i32],
+    marks: &mut [usize],
+) -> Check {
+    let mut bar = words::next_bar(line, 0);
+    let mut held = 0;
+    let mut k = 0;
+    while k < count {
+        let from = after(bar);
+        bar = words::next_bar(line, from);
+        let text = words::between(line, from, bar);
+        match take(kind_at(kinds, k), text, values, held) {
+            Taken::Held(now) => {
+                held = now;
+            }
+            Taken::No(reason) => {
+                return Check::No(reason);
+            }
+        }
+        k += 1;
+        set_mark(marks, k, held);
+    }
+    Check::Passed
+}
+
+// Reads the text of a field into numbers, by its kind.
+fn take(kind: Kind, text: &[u8], values: &mut [i32], held: usize) -> Taken {
+    match kind {
+        Kind::Nothing => Taken::Held(held),
+        _ => numbers::read(text, values, held),
+    }
+}
+
+// Whether the numbers of all fields are as many as their kinds say.
+fn fit_all(kinds: Kinds, count: usize, values: &[i32], marks: &[usize]) -> Check {
+    let mut k = 0;
+    while k < count {
+        if let Check::No(reason) = fit(kind_at(kinds, k), field(values, marks, k)) {
+            return Check::No(reason);
+        }
+        k += 1;
+    }
+    Check::Passed
+}
+
+// Whether the numbers of a field are what its kind says.
+fn fit(kind: Kind, field: &[i32]) -> Check {
+    match kind {
+        Kind::Direction => of_count(field, 2),
+        Kind::Room => of_room(field),
+        _ => Check::Passed,
+    }
+}
+
+// Whether a field holds so many numbers.
+fn of_count(field: &[i32], count: usize) -> Check {
+    if field.len() == count {
+        Check::Passed
+    } else {
+        Check::No(Reason::WrongCount)
+    }
+}
+
+// Whether a field holds one number, which counts numbers.
+fn of_room(field: &[i32]) -> Check {
+    if field.len() != 1 {
+        return Check::No(Reason::WrongCount);
+    }
+    if field[0] < 0 {
+        return Check::No(Reason::NotACount);
+    }
+    Check::Passed
+}
+
+// What the last field says if it is a room; more than any output holds if there is none.
+fn room_in(kinds: Kinds, count: usize, values: &[i32], marks: &[usize]) -> usize {
+    if 0 < count {
+        if let Kind::Room = kind_at(kinds, count - 1) {
+            let said = number(field(values, marks, count - 1), 0);
+            return numbers::size(numbers::wide(said)) as usize;
+        }
+    }
+    usize::MAX
+}
+
+// Mark k, or 0 where there is none.
+fn mark(marks: &[usize], k: usize) -> usize {
+    if k < marks.len() { marks[k] } else { 0 }
+}
+
+// The mark behind mark k, or 0 where there is none.
+fn mark_behind(marks: &[usize], k: usize) -> usize {
+    if k < marks.len() {
+        mark(marks, k + 1)
+    } else {
+        0
+    }
+}
+
+// Sets mark k, if there is one.
+fn set_mark(marks: &mut [usize], k: usize, held: usize) {
+    if k < marks.len() {
+        marks[k] = held;
+    }
+}
+
+// The next position.
+fn after(at: usize) -> usize {
+    if at < usize::MAX { at + 1 } else { at }
+}
