@@ -1,0 +1,4 @@
+-- The theory of lines that touch two lists of corners, which only proves.
+pub mod Counted
+pub mod Stays
+pub mod Neighbours

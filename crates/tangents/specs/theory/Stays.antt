@@ -1,0 +1,228 @@
+-- The test `draws` as facts about turns and the value in a direction d, in which the line rises from p to q.
+--     sign-zero, sign-not           signs
+--     Rises d p q                   the line rises; `rise-gap`, `rise-positive`: by how much, and that it has a length
+--     Stays s d p q x               p stays the start of the line to q: x is on side s, and not ahead of p on the line
+--     Drawn s d p q x               x draws it away
+--     draws→stays, draws→drawn      what the test says; `stays→draws`, `drawn→draws` the other way
+--     draws-self, draws-trans       a walk from corner to corner that each draws never comes back
+--     on-line-same                  a point of the line that is no further in d than p, and no less, is p
+--     stays-same                    of two that both stay one is the other
+use mathlib.Core.Path.{_≡_, refl, sym, _∙_, ap}
+use mathlib.Core.Bool.{Bool, true, false, not, _&&_, _||_, true≢false, false≢true}
+use mathlib.Core.List.{[], _∷_}
+use native.Mathlib.Omega.{arith}
+use lib.IntN.{ℤ, pos, negℤ, _+ℤ_, _-ℤ_, _*ℤ_}
+use lib.Signed.{_≤ℤ_, _<ℤ_, ltZ}
+use Rattle.integer.specs.Ring.{ring, reify}
+use Rattle.integer.specs.Linear.{linear, lia, _&_}
+use Rattle.integer.specs.Order.{
+  _<×<_,
+  _<×≤_,
+  _≤×≤_,
+  _≤×<_,
+  _≡×_,
+  contra<,
+  contra≤,
+  le-antisym,
+  ltZ-true,
+  ltZ-false,
+  leZ-true,
+  leZ-false,
+}
+use Rattle.plane.specs.Point.{Point, origin, _⊖_}
+use Rattle.plane.specs.Turn.{turn, cross}
+use Rattle.plane.specs.Direction.{value}
+use Rattle.plane.specs.Forms.{NonZero}
+use Rattle.plane.specs.Tangent.{signOf, onSide}
+use Rattle.plane.specs.theory.lists.Members.{point-path}
+use Rattle.plane.specs.theory.lists.Sought.{true-not-false}
+use Rattle.plane.specs.theory.forms.Vector.{⊖-zero, turn-back}
+use Rattle.separation.specs.theory.Sector.{square-positive, zero-factor}
+use Rattle.tangents.specs.Draws.{draws}
+
+-- ---- signs
+
+pub sign-not : (s : Bool) → signOf (not s) ≡ negℤ (signOf s)
+sign-not true = refl
+sign-not false = refl
+
+pub sign-zero : (s : Bool) {z : ℤ} → pos 0 ≤ℤ (signOf s *ℤ z) → (signOf s *ℤ z) ≤ℤ pos 0 → z ≡ pos 0
+sign-zero true {z} h k = lia (z ∷ []) (h & k) (search linear depth 40) (omega arith)
+sign-zero false {z} h k = lia (z ∷ []) (h & k) (search linear depth 40) (omega arith)
+
+-- ---- the facts
+
+-- the line rises in d
+pub record Rises (d p q : Point) : Type 0 where
+  pub up : value d p <ℤ value d q
+
+pub rise-gap : {d p q : Point} → Rises d p q → pos 0 <ℤ (value d q -ℤ value d p)
+rise-gap {d} {p} {q} h = lia (value d p ∷ value d q ∷ []) (h .up) (search linear depth 40) (omega arith)
+
+pub record Stays (s : Bool) (d p q x : Point) : Type 0 where
+  pub side : pos 0 ≤ℤ (signOf s *ℤ turn p q x)
+  pub near : turn p q x ≡ pos 0 → value d x ≤ℤ value d p
+
+pub data Drawn (s : Bool) (d p q x : Point) : Type 0 where
+  across : (signOf s *ℤ turn p q x) <ℤ pos 0 → Drawn s d p q x
+  ahead : turn p q x ≡ pos 0 → value d p <ℤ value d x → Drawn s d p q x
+
+pub stays-not-drawn : {s : Bool} {d p q x : Point} → Stays s d p q x → Drawn s d p q x → ⊥
+stays-not-drawn {s} {d} {p} {q} {x} h (across k) =
+    lia ((signOf s *ℤ turn p q x) ∷ []) (h .side & k) (search linear depth 40) (omega arith)
+stays-not-drawn {s} {d} {p} {q} {x} h (ahead e k) =
+    lia (value d p ∷ value d x ∷ []) (h .near e & k) (search linear depth 40) (omega arith)
+
+-- x - p along the line and in d
+along-line : (d p q x : Point) → (value d q -ℤ value d p) *ℤ value (q ⊖ p) (x ⊖ p)
+    ≡ (value d x -ℤ value d p) *ℤ value (q ⊖ p) (q ⊖ p) +ℤ turn p q x *ℤ cross d (q ⊖ p)
+unfolding value turn cross
+along-line d p q x =
+    ring (d .x ∷ d .y ∷ p .x ∷ p .y ∷ q .x ∷ q .y ∷ x .x ∷ x .y ∷ []) (search reify depth 40) tt
+
+pub rise-positive : {d p q : Point} → Rises d p q → pos 0 <ℤ value (q ⊖ p) (q ⊖ p)
+rise-positive {d} {p} {q} h = square-positive (q ⊖ p) (record { non-zero = λ e. flat (⊖-zero p q e) })
+  where
+    flat : p ≡ q → ⊥
+    flat e = lia (value d p ∷ value d q ∷ []) (h .up & ap (value d) e) (search linear depth 40) (omega arith)
+
+module _ (s : Bool) {d p q : Point} (x : Point) (rise : Rises d p q) where
+  -- on the line, what is ahead of p is further in d
+  on-line : turn p q x ≡ pos 0 → (value d q -ℤ value d p) *ℤ value (q ⊖ p) (x ⊖ p) ≡ (value d x -ℤ value d p) *ℤ value (q ⊖ p) (q ⊖ p)
+  on-line e = lia (value d p ∷ value d q ∷ value d x ∷ value (q ⊖ p) (x ⊖ p) ∷ value (q ⊖ p) (q ⊖ p) ∷ turn p q x ∷ cross d (q ⊖ p) ∷ [])
+      (along-line d p q x & e ≡× cross d (q ⊖ p)) (search linear depth 40) (omega arith)
+
+  not-ahead : turn p q x ≡ pos 0 → value (q ⊖ p) (x ⊖ p) ≤ℤ pos 0 → value d x ≤ℤ value d p
+  not-ahead e h = contra≤ (λ g. lia
+      (value d p ∷ value d q ∷ value d x ∷ value (q ⊖ p) (x ⊖ p) ∷ value (q ⊖ p) (q ⊖ p) ∷ [])
+      (on-line e & rise .up <×≤ h & g <×< rise-positive rise) (search linear depth 40) (omega arith))
+
+  is-ahead : turn p q x ≡ pos 0 → pos 0 <ℤ value (q ⊖ p) (x ⊖ p) → value d p <ℤ value d x
+  is-ahead e h = contra< (λ g. lia
+      (value d p ∷ value d q ∷ value d x ∷ value (q ⊖ p) (x ⊖ p) ∷ value (q ⊖ p) (q ⊖ p) ∷ [])
+      (on-line e & rise .up <×< h & rise-positive rise <×≤ g) (search linear depth 40) (omega arith))
+
+  -- on both sides is on the line
+  both-sides : pos 0 ≤ℤ (signOf s *ℤ turn p q x) → pos 0 ≤ℤ (signOf (not s) *ℤ turn p q x) → turn p q x ≡ pos 0
+  both-sides h k = sign-zero s h (lia (signOf s ∷ signOf (not s) ∷ turn p q x ∷ []) (k & sign-not s ≡× turn p q x)
+      (search linear depth 40) (omega arith))
+
+  pub draws→stays : draws s p q x ≡ false → Stays s d p q x
+  unfolding draws onSide
+  draws→stays h = go (onSide s p q x) refl (onSide (not s) p q x) refl h
+    where
+      go : (a : Bool) → onSide s p q x ≡ a → (b : Bool) → onSide (not s) p q x ≡ b
+          → (not a || (b && ltZ (pos 0) (value (q ⊖ p) (x ⊖ p)))) ≡ false → Stays s d p q x
+      go false e b f k = absurd (true≢false k)
+      go true e false f k = record {
+        side = leZ-true e;
+        near = λ z. absurd (lia (signOf (not s) ∷ turn p q x ∷ []) (leZ-false {x = pos 0} {y = signOf (not s) *ℤ turn p q x} f & z ≡× signOf (not s)) (search linear depth 40) (omega arith));
+      }
+      go true e true f k = record { side = leZ-true e; near = λ z. not-ahead z (ltZ-false k) }
+
+  pub draws→drawn : draws s p q x ≡ true → Drawn s d p q x
+  unfolding draws onSide
+  draws→drawn h = go (onSide s p q x) refl (onSide (not s) p q x) refl h
+    where
+      go : (a : Bool) → onSide s p q x ≡ a → (b : Bool) → onSide (not s) p q x ≡ b
+          → (not a || (b && ltZ (pos 0) (value (q ⊖ p) (x ⊖ p)))) ≡ true → Drawn s d p q x
+      go false e b f k = across (leZ-false e)
+      go true e false f k = absurd (false≢true k)
+      go true e true f k = let z = both-sides (leZ-true e) (leZ-true f) in ahead z (is-ahead z (ltZ-true k))
+
+  pub stays→draws : Stays s d p q x → draws s p q x ≡ false
+  stays→draws h = go (draws s p q x) refl
+    where
+      go : (t : Bool) → draws s p q x ≡ t → t ≡ false
+      go true e = absurd (stays-not-drawn h (draws→drawn e))
+      go false e = refl
+
+  pub drawn→draws : Drawn s d p q x → draws s p q x ≡ true
+  drawn→draws h = go (draws s p q x) refl
+    where
+      go : (t : Bool) → draws s p q x ≡ t → t ≡ true
+      go true e = refl
+      go false e = absurd (stays-not-drawn (draws→stays e) h)
+
+-- ---- the walk never comes back
+
+-- a point is not ahead of itself
+value-self : (e p : Point) → value e (p ⊖ p) ≡ pos 0
+unfolding value
+value-self e p = ring (e .x ∷ e .y ∷ p .x ∷ p .y ∷ []) (search reify depth 40) tt
+
+pub draws-self : (s : Bool) (p q : Point) → draws s p q p ≡ false
+unfolding draws onSide
+draws-self true p q = rw (turn-back p q, value-self (q ⊖ p) p)
+draws-self false p q = rw (turn-back p q, value-self (q ⊖ p) p)
+
+-- three lines to q
+three-lines : (d p q x y : Point) → (value d q -ℤ value d x) *ℤ turn p q y
+    ≡ (value d q -ℤ value d p) *ℤ turn x q y +ℤ (value d q -ℤ value d y) *ℤ turn p q x
+unfolding value turn
+three-lines d p q x y =
+    ring (d .x ∷ d .y ∷ p .x ∷ p .y ∷ q .x ∷ q .y ∷ x .x ∷ x .y ∷ y .x ∷ y .y ∷ []) (search reify depth 40) tt
+
+module _ {d p q x y : Point} (rise-p : Rises d p q) (rise-x : Rises d x q) (rise-y : Rises d y q) where
+  drawn-trans : (s : Bool) → Drawn s d p q x → Drawn s d x q y → Drawn s d p q y
+  drawn-trans s (across h) (across k) = across (contra< (λ g. lia
+      (signOf s ∷ turn p q x ∷ turn x q y ∷ turn p q y ∷ value d p ∷ value d q ∷ value d x ∷ value d y ∷ [])
+      (three-lines d p q x y ≡× signOf s & rise-y .up <×< h & rise-p .up <×< k & rise-x .up <×≤ g) (search linear depth 40) (omega arith)))
+  drawn-trans s (across h) (ahead e k) = across (contra< (λ g. lia
+      (signOf s ∷ turn p q x ∷ turn x q y ∷ turn p q y ∷ value d p ∷ value d q ∷ value d x ∷ value d y ∷ [])
+      (three-lines d p q x y ≡× signOf s & rise-y .up <×< h & e ≡× (signOf s *ℤ (value d q -ℤ value d p)) & rise-x .up <×≤ g)
+      (search linear depth 40) (omega arith)))
+  drawn-trans s (ahead e h) (across k) = across (contra< (λ g. lia
+      (signOf s ∷ turn p q x ∷ turn x q y ∷ turn p q y ∷ value d p ∷ value d q ∷ value d x ∷ value d y ∷ [])
+      (three-lines d p q x y ≡× signOf s & rise-p .up <×< k & e ≡× (signOf s *ℤ (value d q -ℤ value d y)) & rise-x .up <×≤ g)
+      (search linear depth 40) (omega arith)))
+  drawn-trans s (ahead e h) (ahead f k) = ahead (zero-factor (rise-gap rise-x) flat)
+      (lia (value d p ∷ value d x ∷ value d y ∷ []) (h & k) (search linear depth 40) (omega arith))
+    where
+      flat : (value d q -ℤ value d x) *ℤ turn p q y ≡ pos 0
+      flat = lia (turn p q x ∷ turn x q y ∷ turn p q y ∷ value d p ∷ value d q ∷ value d x ∷ value d y ∷ [])
+          (three-lines d p q x y & e ≡× (value d q -ℤ value d y) & f ≡× (value d q -ℤ value d p)) (search linear depth 40) (omega arith)
+
+  pub draws-trans : (s : Bool) → draws s p q x ≡ true → draws s x q y ≡ true → draws s p q y ≡ true
+  draws-trans s h k = drawn→draws s y rise-p (drawn-trans s (draws→drawn s x rise-p h) (draws→drawn s y rise-x k))
+
+-- ---- of two that both stay one is the other
+
+-- x - p along q - p, in either coordinate
+across-line : (d p q x : Point) → ((value d q -ℤ value d p) *ℤ (x .x -ℤ p .x)
+    ≡ (value d x -ℤ value d p) *ℤ (q .x -ℤ p .x) -ℤ d .y *ℤ turn p q x)
+    × ((value d q -ℤ value d p) *ℤ (x .y -ℤ p .y) ≡ (value d x -ℤ value d p) *ℤ (q .y -ℤ p .y) +ℤ d .x *ℤ turn p q x)
+unfolding value turn
+across-line d p q x = (
+  ring (d .x ∷ d .y ∷ p .x ∷ p .y ∷ q .x ∷ q .y ∷ x .x ∷ x .y ∷ []) (search reify depth 40) tt,
+  ring (d .x ∷ d .y ∷ p .x ∷ p .y ∷ q .x ∷ q .y ∷ x .x ∷ x .y ∷ []) (search reify depth 40) tt,
+)
+
+module _ {d p q : Point} (x : Point) (rise : Rises d p q) where
+  pub on-line-same : turn p q x ≡ pos 0 → value d x ≡ value d p → x ≡ p
+  on-line-same e f = point-path (level (zero-factor (rise-gap rise) part-x)) (level (zero-factor (rise-gap rise) part-y))
+    where
+      level : {a b : ℤ} → a -ℤ b ≡ pos 0 → a ≡ b
+      level {a} {b} h = lia (a ∷ b ∷ []) h (search linear depth 40) (omega arith)
+
+      part-x : (value d q -ℤ value d p) *ℤ (x .x -ℤ p .x) ≡ pos 0
+      part-x = lia (value d p ∷ value d q ∷ value d x ∷ turn p q x ∷ d .y ∷ p .x ∷ q .x ∷ x .x ∷ [])
+          (across-line d p q x .0 & e ≡× d .y & f ≡× (q .x -ℤ p .x)) (search linear depth 40) (omega arith)
+
+      part-y : (value d q -ℤ value d p) *ℤ (x .y -ℤ p .y) ≡ pos 0
+      part-y = lia (value d p ∷ value d q ∷ value d x ∷ turn p q x ∷ d .x ∷ p .y ∷ q .y ∷ x .y ∷ [])
+          (across-line d p q x .1 & e ≡× d .x & f ≡× (q .y -ℤ p .y)) (search linear depth 40) (omega arith)
+
+turn-other : (p q x : Point) → turn x q p ≡ negℤ (turn p q x)
+unfolding turn
+turn-other p q x = ring (p .x ∷ p .y ∷ q .x ∷ q .y ∷ x .x ∷ x .y ∷ []) (search reify depth 40) tt
+
+pub stays-same : {s : Bool} {d p q x : Point} → Rises d p q → Stays s d p q x → Stays s d x q p → x ≡ p
+stays-same {s} {d} {p} {q} {x} rise h k = on-line-same x rise flat (le-antisym (h .near flat) (k .near back))
+  where
+    flat : turn p q x ≡ pos 0
+    flat = sign-zero s (h .side) (lia (signOf s ∷ turn p q x ∷ turn x q p ∷ [])
+        (k .side & turn-other p q x ≡× signOf s) (search linear depth 40) (omega arith))
+
+    back : turn x q p ≡ pos 0
+    back = lia (turn p q x ∷ turn x q p ∷ []) (turn-other p q x & flat) (search linear depth 40) (omega arith)
