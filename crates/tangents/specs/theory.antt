@@ -2,3 +2,4 @@
 pub mod Counted
 pub mod Stays
 pub mod Neighbours
+pub mod Lines

@@ -5,6 +5,7 @@
 --     Drawn s d p q x               x draws it away
 --     draws→stays, draws→drawn      what the test says; `stays→draws`, `drawn→draws` the other way
 --     draws-self, draws-trans       a walk from corner to corner that each draws never comes back
+--     across-line                   the step from p to x by the step from p to q
 --     on-line-same                  a point of the line that is no further in d than p, and no less, is p
 --     stays-same                    of two that both stay one is the other
 use mathlib.Core.Path.{_≡_, refl, sym, _∙_, ap}
@@ -189,7 +190,7 @@ module _ {d p q x y : Point} (rise-p : Rises d p q) (rise-x : Rises d x q) (rise
 -- ---- of two that both stay one is the other
 
 -- x - p along q - p, in either coordinate
-across-line : (d p q x : Point) → ((value d q -ℤ value d p) *ℤ (x .x -ℤ p .x)
+pub across-line : (d p q x : Point) → ((value d q -ℤ value d p) *ℤ (x .x -ℤ p .x)
     ≡ (value d x -ℤ value d p) *ℤ (q .x -ℤ p .x) -ℤ d .y *ℤ turn p q x)
     × ((value d q -ℤ value d p) *ℤ (x .y -ℤ p .y) ≡ (value d x -ℤ value d p) *ℤ (q .y -ℤ p .y) +ℤ d .x *ℤ turn p q x)
 unfolding value turn
