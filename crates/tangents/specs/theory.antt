@@ -3,3 +3,6 @@ pub mod Counted
 pub mod Stays
 pub mod Neighbours
 pub mod Lines
+pub mod Settled
+pub mod Only
+pub mod Rows

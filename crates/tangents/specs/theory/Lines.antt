@@ -151,7 +151,7 @@ unfolding turn value
 level-starts d p q p′ y =
     ring (d .x ∷ d .y ∷ p .x ∷ p .y ∷ q .x ∷ q .y ∷ p′ .x ∷ p′ .y ∷ y .x ∷ y .y ∷ []) (search reify depth 40) tt
 
-value-back : (d p q : Point) → value (opposite d) (q ⊖ p) ≡ value d p -ℤ value d q
+pub value-back : (d p q : Point) → value (opposite d) (q ⊖ p) ≡ value d p -ℤ value d q
 unfolding value
 value-back d p q = ring (d .x ∷ d .y ∷ p .x ∷ p .y ∷ q .x ∷ q .y ∷ []) (search reify depth 40) tt
 
