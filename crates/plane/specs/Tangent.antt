@@ -6,6 +6,7 @@
 --     touches s t A B i j   the line from corner i of A to corner j of B has all of A on side s and all of B on side t
 --     tangent s t A B i j   it touches, and no pair of corners that touches is nearer
 --     tangentFrom, tangentTo     the first such i, and its first j
+--     tangentPositions A B  these of all four kinds
 -- What it means: exactly one pair is meant, if A and B are apart (`Meaning.antt` of the crate `tangents`).
 use mathlib.Core.Bool.{Bool, true, false, not, _&&_}
 use mathlib.Core.List.{List, [], _∷_, _++_}
@@ -32,7 +33,7 @@ onSide s p q x = leZ (pos 0) (signOf s *ℤ turn p q x)
 abbrev pub allOnSide : Bool → Point → Point → List Point → Bool
 allOnSide s p q ps = every (λ k. onSide s p q (corner ps k)) (length ps)
 
--- "both shapes on the left or on the line, both on the right, first left and second right, and the reverse"
+-- "lines that just touch both"
 unfoldable pub touches : Bool → Bool → List Point → List Point → ℕ → ℕ → Bool
 touches s t A B i j = allOnSide s (corner A i) (corner B j) A && allOnSide t (corner A i) (corner B j) B
 
@@ -50,14 +51,17 @@ tangentFrom s t A B = first (λ i. some (tangent s t A B i) (length B)) (length 
 unfoldable pub tangentTo : Bool → Bool → List Point → List Point → ℕ
 tangentTo s t A B = first (tangent s t A B (tangentFrom s t A B)) (length B)
 
--- 9: "Refusal 9 is given exactly when the shapes are not apart, after 1 to 5". The answer: the kinds in the ticket's order, each its
--- corner of the first shape, then of the second
-unfoldable pub tangentsReply : List ℤ → List ℤ → Reply
-tangentsReply a b =
-    let A = points a in
-    let B = points b in
-    firstRow (shapeRows 1 a ++ (shapeRows 2 b ++ (row 9 (not (apart A B)) [] ∷ [])))
-    (answered (pos (tangentFrom true true A B) ∷ pos (tangentTo true true A B)
+-- "both shapes on the left or on the line, both on the right, first left and second right, and the reverse": of each kind the position in
+-- the first shape, then in the second
+abbrev pub tangentPositions : List Point → List Point → List ℤ
+tangentPositions A B =
+    pos (tangentFrom true true A B) ∷ pos (tangentTo true true A B)
     ∷ pos (tangentFrom false false A B) ∷ pos (tangentTo false false A B)
     ∷ pos (tangentFrom true false A B) ∷ pos (tangentTo true false A B)
-    ∷ pos (tangentFrom false true A B) ∷ pos (tangentTo false true A B) ∷ []))
+    ∷ pos (tangentFrom false true A B) ∷ pos (tangentTo false true A B) ∷ []
+
+-- 9: "Refusal 9 is given exactly when the shapes are not apart, after 1 to 5"
+unfoldable pub tangentsReply : List ℤ → List ℤ → Reply
+tangentsReply a b =
+    firstRow (shapeRows 1 a ++ (shapeRows 2 b ++ (row 9 (not (apart (points a) (points b))) [] ∷ [])))
+    (answered (tangentPositions (points a) (points b)))

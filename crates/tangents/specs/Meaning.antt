@@ -14,7 +14,7 @@ use Rattle.plane.specs.Reply.{answered, refused}
 use Rattle.plane.specs.Refusal.{Valid}
 use Rattle.plane.specs.Measure.{squared}
 use Rattle.plane.specs.Separation.{apart}
-use Rattle.plane.specs.Tangent.{signOf, touches, tangent, tangentFrom, tangentTo, tangentsReply}
+use Rattle.plane.specs.Tangent.{signOf, touches, tangent, tangentFrom, tangentTo, tangentPositions, tangentsReply}
 use Rattle.separation.specs.theory.Apart.{apart→direction}
 use Rattle.tangents.specs.theory.Only.{
   settled-first,
@@ -26,7 +26,7 @@ use Rattle.tangents.specs.theory.Only.{
   tangent-is-settled,
   tangent-back,
 }
-use Rattle.tangents.specs.theory.Rows.{tangentPositions, tangents-refused, tangents-answered, refused-not-apart}
+use Rattle.tangents.specs.theory.Rows.{tangents-refused, tangents-answered, refused-not-apart}
 
 module _ (s t : Bool) (A B : List Point) (a : IsShape A) (b : IsShape B) (h : apart A B ≡ true) where
   -- the two corners that are answered

@@ -1,8 +1,9 @@
 -- A corner of a shape that neither neighbour draws away is drawn away by no corner.
 --     neighbours-rest     Rests, from the corner before and the corner after
+--     better-moved, better-rests     what a step of the walk has found: a corner that draws, or that neither neighbour does
 -- The idea: the step from corner p to any other is a sum of the steps to its two neighbours, each taken so many times, 0 or more
 -- (`sector`); what no part of a sum does, the sum does not.
-use mathlib.Core.Path.{_≡_, refl, sym, _∙_, ap}
+use mathlib.Core.Path.{_≡_, refl, sym, _∙_, ap, subst}
 use mathlib.Core.Bool.{Bool, true, false}
 use mathlib.Core.List.{List, [], _∷_}
 use mathlib.Core.Logic.{_⊎_, inl, inr}
@@ -22,9 +23,10 @@ use Rattle.plane.specs.Turn.{turn, Left}
 use Rattle.plane.specs.Shape.{next, IsShape}
 use Rattle.plane.specs.Direction.{value}
 use Rattle.plane.specs.Tangent.{signOf}
+use Rattle.plane.specs.theory.lists.Sought.{true-not-false}
 use Rattle.plane.specs.theory.lists.Next.{Following, onward, closing, following, next-below}
 use Rattle.separation.specs.theory.Sector.{edge-turn, next-left, sector}
-use Rattle.tangents.specs.Draws.{draws, Facing, Rests}
+use Rattle.tangents.specs.Draws.{draws, Facing, Rests, Better}
 use Rattle.tangents.specs.theory.Stays.{Rises, Stays, sign-zero, draws→stays, stays→draws, draws-self}
 
 -- ---- the sector at p between the edges from a and to c
@@ -124,3 +126,24 @@ module _ (s : Bool) (ps : List Point) (shape : IsShape ps) (q : Point) (facing :
         go : (t : Bool) → ltb 2 (length ps) ≡ t → (k : ℕ) → k < length ps → draws s (corner ps i) q (corner ps k) ≡ false
         go true e = neighbours-many (ltb-true 2 (length ps) e)
         go false e = neighbours-few (ltb-false 2 (length ps) e)
+
+-- ---- a step of the walk
+
+pub better-moved : {s : Bool} {ps : List Point} {i k : ℕ} {q : Point} → k < length ps → draws s (corner ps i) q (corner ps k) ≡ true
+    → Better s ps i q k
+better-moved {s} {ps} {i} {k} {q} h e = record {
+  within = h;
+  rests = λ f. true-not-false (ap (λ j. draws s (corner ps i) q (corner ps j)) (sym f) ∙ e) (draws-self s (corner ps i) q);
+  drawn = λ f. e;
+}
+
+pub better-rests : (s : Bool) (ps : List Point) → IsShape ps → (q : Point) → Facing ps q → (b i : ℕ) → b < length ps → next (length ps) b ≡ i
+    → draws s (corner ps i) q (corner ps b) ≡ false → draws s (corner ps i) q (corner ps (next (length ps) i)) ≡ false → Better s ps i q i
+better-rests s ps shape q facing b i h e before after = record {
+  within = rests .within;
+  rests = λ f. rests;
+  drawn = λ f. absurd (f refl);
+}
+  where
+    rests : Rests s ps i q
+    rests = subst (λ j. Rests s ps j q) e (neighbours-rest s ps shape q facing b h (rw e before) (rw e after))

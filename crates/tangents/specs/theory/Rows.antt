@@ -1,5 +1,4 @@
 -- What is answered of two valid lists: refusal 9, or the four tangents.
---     tangentPositions A B      the eight positions of the answer
 --     tangents-refused          9 if they are not apart
 --     tangents-answered         else the positions
 --     refused-not-apart         so 9 is given only if they are not apart
@@ -13,16 +12,9 @@ use Rattle.plane.specs.Point.{Point, points}
 use Rattle.plane.specs.Reply.{Reply, answered, refused, Row, row, firstRow}
 use Rattle.plane.specs.Refusal.{shapeRows, Valid}
 use Rattle.plane.specs.Separation.{apart}
-use Rattle.plane.specs.Tangent.{tangentFrom, tangentTo, tangentsReply}
+use Rattle.plane.specs.Tangent.{tangentPositions, tangentsReply}
 use Rattle.plane.specs.theory.refusals.Accept.{valid→accepted}
 use Rattle.plane.specs.theory.refusals.Rows.{row-given, firstRow-none, firstRow-passed}
-
-abbrev pub tangentPositions : List Point → List Point → List ℤ
-tangentPositions A B =
-    pos (tangentFrom true true A B) ∷ pos (tangentTo true true A B)
-    ∷ pos (tangentFrom false false A B) ∷ pos (tangentTo false false A B)
-    ∷ pos (tangentFrom true false A B) ∷ pos (tangentTo true false A B)
-    ∷ pos (tangentFrom false true A B) ∷ pos (tangentTo false true A B) ∷ []
 
 module _ (a b : List ℤ) (v : Valid a) (w : Valid b) where
   rows : List Row

@@ -1,5 +1,6 @@
 -- The test `draws` as facts about turns and the value in a direction d, in which the line rises from p to q.
 --     sign-zero, sign-not           signs
+--     draws-off, -beside, -along, side-left, side-right      the test step by step
 --     Rises d p q                   the line rises; `rise-gap`, `rise-positive`: by how much, and that it has a length
 --     Stays s d p q x               p stays the start of the line to q: x is on side s, and not ahead of p on the line
 --     Drawn s d p q x               x draws it away
@@ -13,7 +14,8 @@ use mathlib.Core.Bool.{Bool, true, false, not, _&&_, _||_, true≢false, false�
 use mathlib.Core.List.{[], _∷_}
 use native.Mathlib.Omega.{arith}
 use lib.IntN.{ℤ, pos, negℤ, _+ℤ_, _-ℤ_, _*ℤ_}
-use lib.Signed.{_≤ℤ_, _<ℤ_, ltZ}
+use lib.Signed.{_≤ℤ_, _<ℤ_, ltZ, leZ}
+use Rattle.integer.specs.Laws.{one-*ℤ}
 use Rattle.integer.specs.Ring.{ring, reify}
 use Rattle.integer.specs.Linear.{linear, lia, _&_}
 use Rattle.integer.specs.Order.{
@@ -25,6 +27,7 @@ use Rattle.integer.specs.Order.{
   contra<,
   contra≤,
   le-antisym,
+  le-leZ,
   ltZ-true,
   ltZ-false,
   leZ-true,
@@ -36,7 +39,7 @@ use Rattle.plane.specs.Direction.{value}
 use Rattle.plane.specs.Forms.{NonZero}
 use Rattle.plane.specs.Tangent.{signOf, onSide}
 use Rattle.plane.specs.theory.lists.Members.{point-path}
-use Rattle.plane.specs.theory.lists.Sought.{true-not-false}
+use Rattle.plane.specs.theory.lists.Sought.{tests-agree}
 use Rattle.plane.specs.theory.forms.Vector.{⊖-zero, turn-back}
 use Rattle.separation.specs.theory.Sector.{square-positive, zero-factor}
 use Rattle.tangents.specs.Draws.{draws}
@@ -50,6 +53,30 @@ sign-not false = refl
 pub sign-zero : (s : Bool) {z : ℤ} → pos 0 ≤ℤ (signOf s *ℤ z) → (signOf s *ℤ z) ≤ℤ pos 0 → z ≡ pos 0
 sign-zero true {z} h k = lia (z ∷ []) (h & k) (search linear depth 40) (omega arith)
 sign-zero false {z} h k = lia (z ∷ []) (h & k) (search linear depth 40) (omega arith)
+
+-- ---- the test, as code makes it
+
+module _ (s : Bool) (p q x : Point) where
+  pub draws-off : onSide s p q x ≡ false → draws s p q x ≡ true
+  unfolding draws
+  draws-off h = rw h
+
+  pub draws-beside : onSide s p q x ≡ true → onSide (not s) p q x ≡ false → draws s p q x ≡ false
+  unfolding draws
+  draws-beside h k = rw (h, k)
+
+  pub draws-along : onSide s p q x ≡ true → onSide (not s) p q x ≡ true → draws s p q x ≡ ltZ (pos 0) (value (q ⊖ p) (x ⊖ p))
+  unfolding draws
+  draws-along h k = rw (h, k)
+
+-- a turn's side
+pub side-left : (z : ℤ) → leZ (pos 0) (signOf true *ℤ z) ≡ leZ (pos 0) z
+side-left z = ap (leZ (pos 0)) (one-*ℤ z)
+
+pub side-right : (z : ℤ) → leZ (pos 0) (signOf false *ℤ z) ≡ leZ z (pos 0)
+side-right z = tests-agree _ _
+    (λ h. le-leZ {x = z} {y = pos 0} (lia (z ∷ []) (leZ-true {x = pos 0} {y = signOf false *ℤ z} h) (search linear depth 40) (omega arith)))
+    (λ h. le-leZ {x = pos 0} {y = signOf false *ℤ z} (lia (z ∷ []) (leZ-true {x = z} {y = pos 0} h) (search linear depth 40) (omega arith)))
 
 -- ---- the facts
 
