@@ -5,4 +5,5 @@ pub mod Neighbours
 pub mod Lines
 pub mod Settled
 pub mod Only
+pub mod Search
 pub mod Rows

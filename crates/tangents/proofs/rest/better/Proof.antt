@@ -22,10 +22,19 @@ next-requires c κs = search needs
 drawn-requires : tie.Need-drawn-requires
 drawn-requires c κs = search needs
 
+-- what the two tests say
+after-is : (c : tie.After-drawn) → let args = c .before .before .before .args in let ps = points (args .list .now) in
+    draws (args .s) (corner ps (args .i)) (at (args .q)) (corner ps (c .before .next .result)) ≡ c .drawn .result
+after-is c = sym (c .drawn .ensures)
+
+before-is : (c : tie.After-drawn2) → let args = c .before .before .before .before .before .before .args in let ps = points (args .list .now) in
+    draws (args .s) (corner ps (args .i)) (at (args .q)) (corner ps (c .before .previous .result)) ≡ c .drawn2 .result
+before-is c = sym (c .drawn2 .ensures)
+
 returns : tie.Need-returns
 returns c =
     let at-next = c .before .before in
-    better-moved (omega (arith, at-next .next .ensures .1, at-next .before .count .ensures)) (sym (c .before .drawn .ensures) ∙ c .if1 .taken)
+    better-moved (omega (arith, at-next .next .ensures .1, at-next .before .count .ensures)) (after-is (c .before) ∙ c .if1 .taken)
 
 previous-requires : tie.Need-previous-requires
 previous-requires c κs = search needs
@@ -39,7 +48,7 @@ below : (c : tie.After-previous) → let start = c .before .before .before .befo
 below c = omega (arith, c .previous .ensures .0, c .before .before .before .before .count .ensures)
 
 returns-2 : tie.Need-returns-2
-returns-2 c = better-moved (below (c .before .before)) (sym (c .before .drawn2 .ensures) ∙ c .if2 .taken)
+returns-2 c = better-moved (below (c .before .before)) (before-is (c .before) ∙ c .if2 .taken)
 
 -- the corner after does not draw
 after : (c : tie.Else1) → let args = c .before .before .before .before .args in let ps = points (args .list .now) in
@@ -49,7 +58,7 @@ after c =
     let args = at-next .before .before .args in
     let ps = points (args .list .now) in
     let is = at-next .next .ensures .0 ∙ ap (λ (n : ℕ). next n (args .i)) (at-next .before .count .ensures) in
-    ap (λ (k : ℕ). draws (args .s) (corner ps (args .i)) (at (args .q)) (corner ps k)) (sym is) ∙ sym (c .before .drawn .ensures) ∙ c .if1 .left
+    ap (λ (k : ℕ). draws (args .s) (corner ps (args .i)) (at (args .q)) (corner ps k)) (sym is) ∙ after-is (c .before) ∙ c .if1 .left
 
 returns-3 : tie.Need-returns-3
 returns-3 c =
@@ -59,7 +68,7 @@ returns-3 c =
     let round = subst (λ (n : ℕ). next n (at-previous .previous .result) ≡ at-count .before .args .i)
     (at-count .count .ensures) (at-previous .previous .ensures .1) in
     better-rests _ _ (ready .valid .shape) _ (ready .facing) _ _ (below at-previous) round
-    (sym (c .before .drawn2 .ensures) ∙ c .if2 .left) (after (at-previous .before))
+    (before-is (c .before) ∙ c .if2 .left) (after (at-previous .before))
 
 pub better-spec : {M : Type 1} → statement M
 better-spec =
