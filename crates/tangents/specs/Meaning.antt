@@ -72,20 +72,24 @@ module _ (s t : Bool) (A B : List Point) (a : IsShape A) (b : IsShape B) (h : ap
   touching-pairs-on-one-line = touching-on-line (apart→direction A B (a .some) (b .some) h) (tangent-is-settled s t A B a b h)
 
   -- exchanging the shapes turns each line round: what was left is right
-  pub exchanging-turns-round : (tangentFrom (not t) (not s) B A ≡ tangentTo s t A B) × (tangentTo (not t) (not s) B A ≡ tangentFrom s t A B)
+  pub exchanging-turns-round :
+      (tangentFrom (not t) (not s) B A ≡ tangentTo s t A B) × (tangentTo (not t) (not s) B A ≡ tangentFrom s t A B)
   exchanging-turns-round = tangent-back s t A B a b h
 
 module _ (A B : List Point) (a : IsShape A) (b : IsShape B) (h : apart A B ≡ true) where
   -- so the first kind, "both shapes on the left", becomes the second, "both on the right"
-  pub both-left-becomes-both-right : (tangentFrom false false B A ≡ tangentTo true true A B) × (tangentTo false false B A ≡ tangentFrom true true A B)
+  pub both-left-becomes-both-right :
+      (tangentFrom false false B A ≡ tangentTo true true A B) × (tangentTo false false B A ≡ tangentFrom true true A B)
   both-left-becomes-both-right = tangent-back true true A B a b h
 
   -- the third, "first left and second right", stays
-  pub left-and-right-stays : (tangentFrom true false B A ≡ tangentTo true false A B) × (tangentTo true false B A ≡ tangentFrom true false A B)
+  pub left-and-right-stays :
+      (tangentFrom true false B A ≡ tangentTo true false A B) × (tangentTo true false B A ≡ tangentFrom true false A B)
   left-and-right-stays = tangent-back true false A B a b h
 
   -- and so does the fourth, "the reverse"
-  pub right-and-left-stays : (tangentFrom false true B A ≡ tangentTo false true A B) × (tangentTo false true B A ≡ tangentFrom false true A B)
+  pub right-and-left-stays :
+      (tangentFrom false true B A ≡ tangentTo false true A B) × (tangentTo false true B A ≡ tangentFrom false true A B)
   right-and-left-stays = tangent-back false true A B a b h
 
 module _ (a b : List ℤ) (v : Valid a) (w : Valid b) where

@@ -48,9 +48,15 @@ pub fn better(list: &[i32], i: usize, q: Point, s: bool) -> usize
 fn drawn(list: &[i32], i: usize, k: usize, q: Point, s: bool) -> bool
     requires { ⌜ (i < length (points (now list))) × (k < length (points (now list))) × InRange (now list)
         × Small (2 ^ 21) (at q) ⌝ }
-    ensures { λ r. ⌜ r ≡ Draws·draws s (corner (points (now (list .entry))) i) (at q) (corner (points (now (list .entry))) k) ⌝ }
+    ensures { λ r. ⌜ r ≡ Draws·draws s (corner (points (now (list .entry))) i) (at q)
+        (corner (points (now (list .entry))) k) ⌝ }
 {
-    draws::draws(corners::corner_at(list, i), q, corners::corner_at(list, k), s)
+    draws::draws(
+        corners::corner_at(list, i),
+        q,
+        corners::corner_at(list, k),
+        s,
+    )
 }
 
 // The position before i on the way round n corners.

@@ -1,5 +1,4 @@
 -- `tangent` meets its contract. The invariant: the search is not past the tangent's end; the measure: the corners that are left.
-use mathlib.Core.Bool.{Bool}
 use Prim.Native.Nat.{_-_, _<_}
 use native.Mathlib.Omega.{arith}
 use lib.ListN.{length}

@@ -3,23 +3,24 @@
 --     nearest-same   on one line, the pair that is not drawn away at either end is nearer than any other
 --     start-rests    of the lines from each q's own start, the one that no other draws away is not drawn away at q
 -- One argument for all four kinds: s is the side of the first list, t that of the second.
-use mathlib.Core.Path.{_≡_, refl, sym, _∙_, ap}
-use mathlib.Core.Bool.{Bool, true, false, not}
+use mathlib.Core.Path.{_≡_, ap}
+use mathlib.Core.Bool.{Bool, true, false}
 use mathlib.Core.List.{[], _∷_}
 use mathlib.Core.Logic.{_⊎_, inl, inr}
 use native.Mathlib.Omega.{arith}
-use lib.IntN.{ℤ, pos, negℤ, _+ℤ_, _-ℤ_, _*ℤ_}
+use lib.IntN.{ℤ, pos, _+ℤ_, _-ℤ_, _*ℤ_}
 use lib.Signed.{_≤ℤ_, _<ℤ_}
 use Rattle.integer.specs.Ring.{ring, reify}
 use Rattle.integer.specs.Linear.{linear, lia, _&_}
-use Rattle.integer.specs.Order.{_<×<_, _<×≤_, _≤×≤_, _≤×<_, _≡×_, contra<, contra≤, lt-or-le, le-antisym, square-nonneg}
+use Rattle.integer.specs.Order.{_<×<_, _<×≤_, _≤×≤_, _≡×_, contra≤, lt-or-le, le-antisym, square-nonneg}
 use Rattle.plane.specs.Point.{Point, origin, opposite, _⊖_}
 use Rattle.plane.specs.Turn.{turn, turn-swap}
 use Rattle.plane.specs.Direction.{value}
 use Rattle.plane.specs.Measure.{squared}
 use Rattle.plane.specs.Tangent.{signOf}
 use Rattle.plane.specs.theory.forms.Vector.{value-turned}
-use Rattle.tangents.specs.theory.Stays.{Rises, rise-gap, rise-positive, Stays, Drawn, across, ahead, sign-zero, across-line, on-line-same}
+use Rattle.tangents.specs.theory.Stays.{Rises, rise-gap, rise-positive, Stays, Drawn, across, ahead, sign-zero}
+use Rattle.tangents.specs.theory.Walk.{across-line, on-line-same}
 
 -- ---- lines that both touch are one line
 
@@ -112,7 +113,8 @@ no-longer k k′ {m} {n} a b c h e = contra≤ (λ g.
 module _ {d p q p′ q′ : Point} (pq : Rises d p q) (p′q′ : Rises d p′ q′) (e : turn p q p′ ≡ pos 0) (f : turn p q q′ ≡ pos 0) where
   scaled : (value d q -ℤ value d p) *ℤ (value d q -ℤ value d p) *ℤ squared p′ q′
       ≡ (value d q′ -ℤ value d p′) *ℤ (value d q′ -ℤ value d p′) *ℤ squared p q
-  scaled = rw (squared-step p q, squared-step p′ q′) (squares (value d q -ℤ value d p) (value d q′ -ℤ value d p′) (q .x -ℤ p .x) (q′ .x -ℤ p′ .x)
+  scaled = rw (squared-step p q, squared-step p′ q′)
+      (squares (value d q -ℤ value d p) (value d q′ -ℤ value d p′) (q .x -ℤ p .x) (q′ .x -ℤ p′ .x)
       (q .y -ℤ p .y) (q′ .y -ℤ p′ .y) part-x part-y)
     where
       part-x : (value d q -ℤ value d p) *ℤ (q′ .x -ℤ p′ .x) ≡ (value d q′ -ℤ value d p′) *ℤ (q .x -ℤ p .x)

@@ -17,7 +17,7 @@ use lib.ListN.{length}
 use lib.Signed.{_≤ℤ_, _<ℤ_}
 use Rattle.integer.specs.Ring.{ring, reify}
 use Rattle.integer.specs.Linear.{linear, lia, _&_}
-use Rattle.integer.specs.Order.{_<×<_, _≤×≤_, _<×≤_, _≡×_, contra≤, le-antisym, le-of-eq, lt-or-le}
+use Rattle.integer.specs.Order.{_<×<_, _≤×≤_, _<×≤_, _≡×_, contra≤, le-antisym, lt-or-le}
 use Rattle.plane.specs.Point.{Point, corner}
 use Rattle.plane.specs.Turn.{turn, Left}
 use Rattle.plane.specs.Shape.{next, IsShape}
@@ -27,7 +27,8 @@ use Rattle.plane.specs.theory.lists.Sought.{true-not-false}
 use Rattle.plane.specs.theory.lists.Next.{Following, onward, closing, following, next-below}
 use Rattle.separation.specs.theory.Sector.{edge-turn, next-left, sector}
 use Rattle.tangents.specs.Draws.{draws, Facing, Rests, Better}
-use Rattle.tangents.specs.theory.Stays.{Rises, Stays, sign-zero, draws→stays, stays→draws, draws-self}
+use Rattle.tangents.specs.theory.Stays.{Rises, Stays, sign-zero, draws→stays, stays→draws}
+use Rattle.tangents.specs.theory.Walk.{draws-self}
 
 -- ---- the sector at p between the edges from a and to c
 
@@ -45,7 +46,8 @@ part {k} {z} s e some h flat near = go (lt-or-le (pos 0) k)
     go : (pos 0 <ℤ k) ⊎ (k ≤ℤ pos 0) → (k *ℤ e) ≤ℤ pos 0
     go (inr none) = lia (k ∷ e ∷ []) (le-antisym none some ≡× e) (search linear depth 40) (omega arith)
     go (inl more) =
-        let level = near (sign-zero s h (contra≤ (λ g. lia (signOf s ∷ k ∷ z ∷ []) (more <×< g & flat) (search linear depth 40) (omega arith)))) in
+        let none : (signOf s *ℤ z) ≤ℤ pos 0 = contra≤ (λ g. lia (signOf s ∷ k ∷ z ∷ []) (more <×< g & flat) (search linear depth 40) (omega arith)) in
+        let level = near (sign-zero s h none) in
         lia (k ∷ e ∷ []) (more <×≤ level) (search linear depth 40) (omega arith)
 
 module _ {s : Bool} {d a p c q : Point} (x : Point) (t : Left a p c) (left : pos 0 ≤ℤ turn a p x) (right : pos 0 ≤ℤ turn p c x)
@@ -62,7 +64,8 @@ module _ {s : Bool} {d a p c q : Point} (x : Point) (t : Left a p c) (left : pos
       where
         flat : (signOf s *ℤ (turn a p x *ℤ turn p q c)) ≤ℤ pos 0
         flat = lia (signOf s ∷ turn a p c ∷ turn p q x ∷ turn a p x ∷ turn p q c ∷ turn p c x ∷ turn p q a ∷ [])
-            (sector-turn a p c q x ≡× signOf s & e ≡× (turn a p c *ℤ signOf s) & right ≤×≤ before .side) (search linear depth 40) (omega arith)
+            (sector-turn a p c q x ≡× signOf s & e ≡× (turn a p c *ℤ signOf s) & right ≤×≤ before .side)
+            (search linear depth 40) (omega arith)
 
         near : turn p q c ≡ pos 0 → (value d c -ℤ value d p) ≤ℤ pos 0
         near f = lia (value d c ∷ value d p ∷ []) (after .near f) (search linear depth 40) (omega arith)
@@ -72,7 +75,8 @@ module _ {s : Bool} {d a p c q : Point} (x : Point) (t : Left a p c) (left : pos
       where
         flat : (signOf s *ℤ (turn p c x *ℤ turn p q a)) ≤ℤ pos 0
         flat = lia (signOf s ∷ turn a p c ∷ turn p q x ∷ turn a p x ∷ turn p q c ∷ turn p c x ∷ turn p q a ∷ [])
-            (sector-turn a p c q x ≡× signOf s & e ≡× (turn a p c *ℤ signOf s) & left ≤×≤ after .side) (search linear depth 40) (omega arith)
+            (sector-turn a p c q x ≡× signOf s & e ≡× (turn a p c *ℤ signOf s) & left ≤×≤ after .side)
+            (search linear depth 40) (omega arith)
 
         near : turn p q a ≡ pos 0 → (value d a -ℤ value d p) ≤ℤ pos 0
         near f = lia (value d a ∷ value d p ∷ []) (before .near f) (search linear depth 40) (omega arith)
@@ -137,7 +141,8 @@ better-moved {s} {ps} {i} {k} {q} h e = record {
   drawn = λ f. e;
 }
 
-pub better-rests : (s : Bool) (ps : List Point) → IsShape ps → (q : Point) → Facing ps q → (b i : ℕ) → b < length ps → next (length ps) b ≡ i
+pub better-rests : (s : Bool) (ps : List Point) → IsShape ps → (q : Point) → Facing ps q
+    → (b i : ℕ) → b < length ps → next (length ps) b ≡ i
     → draws s (corner ps i) q (corner ps b) ≡ false → draws s (corner ps i) q (corner ps (next (length ps) i)) ≡ false → Better s ps i q i
 better-rests s ps shape q facing b i h e before after = record {
   within = rests .within;

@@ -11,14 +11,14 @@ use mathlib.Core.List.{List, [], _∷_}
 use Prim.Native.Nat.{ℕ, _<_}
 use native.Mathlib.Omega.{arith}
 use borrow.Author.Tests.{not-true}
-use lib.IntN.{ℤ, pos, negℤ, _*ℤ_}
+use lib.IntN.{pos, _*ℤ_}
 use lib.ListN.{length}
-use lib.Signed.{_≤ℤ_, _<ℤ_, ltZ}
+use lib.Signed.{_≤ℤ_, ltZ}
 use Rattle.integer.specs.Linear.{linear, lia, _&_}
-use Rattle.integer.specs.Order.{_≡×_, weaken, le-leZ, leZ-true, lt-ltZ, le-ltZ, ltZ-true, ltZ-false, contra≤}
+use Rattle.integer.specs.Order.{_≡×_, weaken, le-leZ, leZ-true, lt-ltZ, le-ltZ, contra≤}
 use Rattle.plane.specs.Point.{Point, opposite, corner}
 use Rattle.plane.specs.Turn.{turn, turn-swap}
-use Rattle.plane.specs.Search.{some, every, first}
+use Rattle.plane.specs.Search.{some, first}
 use Rattle.plane.specs.Shape.{IsShape}
 use Rattle.plane.specs.Direction.{value}
 use Rattle.plane.specs.Measure.{squared}
@@ -28,7 +28,7 @@ use Rattle.plane.specs.theory.forms.Vector.{value-turned}
 use Rattle.plane.specs.theory.sum.Positions.{corner-injective}
 use Rattle.plane.specs.Separation.{apart}
 use Rattle.separation.specs.theory.Apart.{Separated, apart→direction, apart-sym}
-use Rattle.tangents.specs.Draws.{draws, Facing, Rests}
+use Rattle.tangents.specs.Draws.{Rests}
 use Rattle.tangents.specs.theory.Stays.{Rises, Stays, sign-not, draws→stays}
 use Rattle.tangents.specs.theory.Lines.{rise-back, one-line, nearest-same}
 use Rattle.tangents.specs.theory.Settled.{Settled, rises, settled-exists}
@@ -53,11 +53,14 @@ side-back t p q y h = lia (signOf t ∷ signOf (not t) ∷ turn p q y ∷ turn q
 
 module _ (s t : Bool) (A B : List Point) (i j : ℕ) where
   -- what touches has all corners on their sides
-  pub touches-first : touches s t A B i j ≡ true → (k : ℕ) → k < length A → pos 0 ≤ℤ (signOf s *ℤ turn (corner A i) (corner B j) (corner A k))
+  pub touches-first : touches s t A B i j ≡ true → (k : ℕ) → k < length A
+      → pos 0 ≤ℤ (signOf s *ℤ turn (corner A i) (corner B j) (corner A k))
   unfolding touches onSide
-  touches-first h k l = leZ-true (every-all (λ k. onSide s (corner A i) (corner B j) (corner A k)) (length A) (first-of-both _ _ h) k l)
+  touches-first h k l =
+      leZ-true (every-all (λ k. onSide s (corner A i) (corner B j) (corner A k)) (length A) (first-of-both _ _ h) k l)
 
-  pub touches-second : touches s t A B i j ≡ true → (k : ℕ) → k < length B → pos 0 ≤ℤ (signOf t *ℤ turn (corner A i) (corner B j) (corner B k))
+  pub touches-second : touches s t A B i j ≡ true → (k : ℕ) → k < length B
+      → pos 0 ≤ℤ (signOf t *ℤ turn (corner A i) (corner B j) (corner B k))
   unfolding touches onSide
   touches-second h k l = leZ-true (every-all (λ k. onSide t (corner A i) (corner B j) (corner B k)) (length B)
       (second-of-both (allOnSide s (corner A i) (corner B j) A) _ h) k l)
@@ -105,15 +108,16 @@ module _ {s t : Bool} {A B : List Point} (sep : Separated A B) {i j : ℕ} (w : 
       where
         end : value d q ≤ℤ value d (corner B l)
         end =
-            let back : turn q p (corner B l) ≡ pos 0 =
-            lia (turn p q (corner B l) ∷ turn q p (corner B l) ∷ []) (turn-swap p q (corner B l) & f) (search linear depth 40) (omega arith) in
+            let back : turn q p (corner B l) ≡ pos 0 = lia (turn p q (corner B l) ∷ turn q p (corner B l) ∷ [])
+            (turn-swap p q (corner B l) & f) (search linear depth 40) (omega arith) in
             lia (value d q ∷ value d (corner B l) ∷ value (opposite d) q ∷ value (opposite d) (corner B l) ∷ [])
             (stays-to l m .near back & value-turned d q & value-turned d (corner B l)) (search linear depth 40) (omega arith)
 
     pub settled-nearest : turn p q (corner A k) ≡ pos 0 → turn p q (corner B l) ≡ pos 0 → squared p q ≤ℤ squared (corner A k) (corner B l)
     settled-nearest e f = contra≤ (λ g.
         let same = as-near e f (weaken g) in
-        lia (squared (corner A k) (corner B l) ∷ squared p q ∷ []) (g & ap₂ squared (same .0) (same .1)) (search linear depth 40) (omega arith))
+        lia (squared (corner A k) (corner B l) ∷ squared p q ∷ []) (g & ap₂ squared (same .0) (same .1))
+        (search linear depth 40) (omega arith))
 
     module _ (touch : touches s t A B k l ≡ true) where
       pub touching-on-line : (turn p q (corner A k) ≡ pos 0) × (turn p q (corner B l) ≡ pos 0)

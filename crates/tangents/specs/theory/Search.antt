@@ -2,7 +2,7 @@
 --     Searching s t A B from to      the search has come to corner `to` of B, not past the tangent's end
 --     search-start, -more, -found    its moves
 --     search-below, ready-start, ready-end      what the two walks of a turn ask
-use mathlib.Core.Path.{_≡_, refl, sym, _∙_, ap, subst}
+use mathlib.Core.Path.{_≡_, sym, _∙_, ap, subst}
 use mathlib.Core.Bool.{Bool, true, false, not}
 use mathlib.Core.List.{List}
 use Prim.Native.Nat.{ℕ, _+_, _≤_, _<_, zero-le}

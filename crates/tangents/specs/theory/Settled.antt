@@ -4,15 +4,13 @@
 --     rest-trans, rest-exists  a walk from corner to corner that each draws ends, at a corner that rests
 --     rest-same                only one does
 --     settled-exists           so there is a settled pair
-use mathlib.Core.Path.{_≡_, refl, sym, _∙_, ap}
+use mathlib.Core.Path.{_≡_, refl, ap}
 use mathlib.Core.Bool.{Bool, true, false, not}
 use mathlib.Core.List.{List, [], _∷_}
 use Prim.Native.Nat.{ℕ, _<_}
 use native.Mathlib.Omega.{arith}
 use borrow.Author.Tests.{not-true}
-use lib.IntN.{ℤ, pos, negℤ}
 use lib.ListN.{length}
-use lib.Signed.{_≤ℤ_, _<ℤ_}
 use Rattle.integer.specs.Linear.{linear, lia, _&_}
 use Rattle.plane.specs.Point.{Point, origin, opposite, corner, _⊖_}
 use Rattle.plane.specs.Search.{some, first}
@@ -23,7 +21,8 @@ use Rattle.plane.specs.theory.forms.Vector.{value-origin}
 use Rattle.separation.specs.theory.Apart.{Separated}
 use Rattle.tangents.specs.Draws.{draws, Facing, Rests}
 use Rattle.tangents.specs.theory.Counted.{last-of}
-use Rattle.tangents.specs.theory.Stays.{Rises, Stays, draws→stays, draws→drawn, draws-self, draws-trans, stays-same}
+use Rattle.tangents.specs.theory.Stays.{Rises, draws→stays, draws→drawn}
+use Rattle.tangents.specs.theory.Walk.{draws-self, draws-trans, stays-same}
 use Rattle.tangents.specs.theory.Lines.{rise-back, value-back, start-rests}
 
 pub record Settled (s t : Bool) (A B : List Point) (i j : ℕ) : Type 0 where
@@ -101,7 +100,8 @@ module _ {A B : List Point} (sep : Separated A B) where
         let q = corner B j in
         record {
           up = lia (value d p ∷ value d q ∷ value (opposite d) (q ⊖ p) ∷ value (opposite d) origin ∷ [])
-              (rises (start j) j (rests j l .within) l .up & value-back d p q & value-origin (opposite d)) (search linear depth 40) (omega arith);
+              (rises (start j) j (rests j l .within) l .up & value-back d p q & value-origin (opposite d))
+              (search linear depth 40) (omega arith);
         }
 
     -- the corner of B whose step no other draws away

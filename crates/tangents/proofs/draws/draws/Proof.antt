@@ -40,7 +40,9 @@ turn-is c = result-is w64 (c .cross .ok)
 side-is : (c : tie.After-on-side) → let args = c .before .before .before .before .args in
     c .on-side .result ≡ onSide (args .s) (at (args .p)) (at (args .q)) (at (args .x))
 unfolding onSide
-side-is c = c .on-side .ensures ∙ ap (λ (z : ℤ). leZ (pos 0) (signOf (c .before .before .before .before .args .s) *ℤ z)) (turn-is (c .before))
+side-is c =
+    let start = c .before .before .before .before in
+    c .on-side .ensures ∙ ap (λ (z : ℤ). leZ (pos 0) (signOf (start .args .s) *ℤ z)) (turn-is (c .before))
 
 other-side-is : (c : tie.After-on-side2) → let args = c .before .before .before .before .before .before .args in
     c .on-side2 .result ≡ onSide (not (args .s)) (at (args .p)) (at (args .q)) (at (args .x))

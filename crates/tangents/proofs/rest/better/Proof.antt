@@ -23,11 +23,13 @@ drawn-requires : tie.Need-drawn-requires
 drawn-requires c κs = search needs
 
 -- what the two tests say
-after-is : (c : tie.After-drawn) → let args = c .before .before .before .args in let ps = points (args .list .now) in
+after-is : (c : tie.After-drawn) → let args = c .before .before .before .args in
+    let ps = points (args .list .now) in
     draws (args .s) (corner ps (args .i)) (at (args .q)) (corner ps (c .before .next .result)) ≡ c .drawn .result
 after-is c = sym (c .drawn .ensures)
 
-before-is : (c : tie.After-drawn2) → let args = c .before .before .before .before .before .before .args in let ps = points (args .list .now) in
+before-is : (c : tie.After-drawn2) → let args = c .before .before .before .before .before .before .args in
+    let ps = points (args .list .now) in
     draws (args .s) (corner ps (args .i)) (at (args .q)) (corner ps (c .before .previous .result)) ≡ c .drawn2 .result
 before-is c = sym (c .drawn2 .ensures)
 
@@ -51,7 +53,8 @@ returns-2 : tie.Need-returns-2
 returns-2 c = better-moved (below (c .before .before)) (before-is (c .before) ∙ c .if2 .taken)
 
 -- the corner after does not draw
-after : (c : tie.Else1) → let args = c .before .before .before .before .args in let ps = points (args .list .now) in
+after : (c : tie.Else1) → let args = c .before .before .before .before .args in
+    let ps = points (args .list .now) in
     draws (args .s) (corner ps (args .i)) (at (args .q)) (corner ps (next (length ps) (args .i))) ≡ false
 after c =
     let at-next = c .before .before in

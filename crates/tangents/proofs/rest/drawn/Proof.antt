@@ -17,7 +17,8 @@ corner-at-requires-2 c κs = search needs
 draws-requires : tie.Need-draws-requires
 draws-requires c κs =
     let pre = c .before .before .pre in
-    (small-corner _ (pre .2) _ (pre .0) (c .before .corner-at .ensures), pre .3, small-corner _ (pre .2) _ (pre .1) (c .corner-at2 .ensures))
+    let start = small-corner _ (pre .2) _ (pre .0) (c .before .corner-at .ensures) in
+    (start, pre .3, small-corner _ (pre .2) _ (pre .1) (c .corner-at2 .ensures))
 
 returns : tie.Need-returns
 returns c =

@@ -1,5 +1,5 @@
 -- `previous` meets its contract: before the first comes the last.
-use mathlib.Core.Path.{_≡_, refl, sym, _∙_}
+use mathlib.Core.Path.{_≡_, sym, _∙_}
 use Prim.Native.Nat.{ℕ, _+_, _-_}
 use native.Mathlib.Omega.{arith}
 use borrow.Author.Needs.{needs}
@@ -27,8 +27,10 @@ returns c =
 
 returns-2 : tie.Need-returns-2
 returns-2 c =
-    let i = c .before .args .i in
-    (omega (arith, c .if1 .left), next-of-other (c .before .args .n) (i - 1) (λ e. omega (arith, c .if1 .left)) ∙ omega (arith, c .if1 .left))
+    let start = c .before in
+    let i = start .args .i in
+    let other = c .if1 .left in
+    (omega (arith, other), next-of-other (start .args .n) (i - 1) (λ e. omega (arith, other)) ∙ omega (arith, other))
 
 pub previous-spec : {M : Type 1} → statement M
 previous-spec = tie.close (tie.spec sub-result sub-result-2 returns returns-2)

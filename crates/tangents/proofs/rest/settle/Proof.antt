@@ -1,13 +1,11 @@
 -- `settle` meets its contract. The invariant: the walk is at a corner of the list; the measure: how many corners draw away from it.
-use mathlib.Core.Path.{_≡_}
-use mathlib.Core.Bool.{true}
 use Prim.Native.Nat.{_<_}
 use lib.ListN.{length}
 use Rattle.plane.specs.Point.{points, corner}
 use Rattle.polygon.specs.Point.{at}
-use Rattle.tangents.specs.Draws.{draws, Ready}
+use Rattle.tangents.specs.Draws.{draws}
 use Rattle.tangents.specs.theory.Counted.{counted, counted-after}
-use Rattle.tangents.specs.theory.Stays.{draws-self}
+use Rattle.tangents.specs.theory.Walk.{draws-self}
 use Rattle.tangents.specs.theory.Settled.{rest-trans}
 use Rattle.tangents.proofs.rest.settle.Statement.{statement}
 use Rattle.tangents.proofs.rest.settle.Tie as tie
