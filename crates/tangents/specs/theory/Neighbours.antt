@@ -46,7 +46,8 @@ part {k} {z} s e some h flat near = go (lt-or-le (pos 0) k)
     go : (pos 0 <ℤ k) ⊎ (k ≤ℤ pos 0) → (k *ℤ e) ≤ℤ pos 0
     go (inr none) = lia (k ∷ e ∷ []) (le-antisym none some ≡× e) (search linear depth 40) (omega arith)
     go (inl more) =
-        let none : (signOf s *ℤ z) ≤ℤ pos 0 = contra≤ (λ g. lia (signOf s ∷ k ∷ z ∷ []) (more <×< g & flat) (search linear depth 40) (omega arith)) in
+        let none : (signOf s *ℤ z) ≤ℤ pos 0 =
+        contra≤ (λ g. lia (signOf s ∷ k ∷ z ∷ []) (more <×< g & flat) (search linear depth 40) (omega arith)) in
         let level = near (sign-zero s h none) in
         lia (k ∷ e ∷ []) (more <×≤ level) (search linear depth 40) (omega arith)
 

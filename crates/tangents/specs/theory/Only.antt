@@ -6,7 +6,7 @@
 --     settled-back                    the line turned round is settled, of the kind with both sides exchanged
 --     tangent-is-settled              so of shapes that are apart the tangent is settled; `tangent-back`: exchanging them turns it round
 use mathlib.Core.Path.{_≡_, refl, sym, _∙_, ap, ap₂, subst}
-use mathlib.Core.Bool.{Bool, true, false, not, _&&_}
+use mathlib.Core.Bool.{Bool, true, false, not, _&&_, and-eq-true-iff, Bool·not-not}
 use mathlib.Core.List.{List, [], _∷_}
 use Prim.Native.Nat.{ℕ, _<_}
 use native.Mathlib.Omega.{arith}
@@ -39,12 +39,10 @@ both-true : {x y : Bool} → x ≡ true → y ≡ true → (x && y) ≡ true
 both-true e f = ap₂ _&&_ e f
 
 first-of-both : (x y : Bool) → (x && y) ≡ true → x ≡ true
-first-of-both true y h = refl
-first-of-both false y h = h
+first-of-both x y h = and-eq-true-iff x y .0 h .0
 
 second-of-both : (x y : Bool) → (x && y) ≡ true → y ≡ true
-second-of-both true y h = h
-second-of-both false y h = true-not-false h refl
+second-of-both x y h = and-eq-true-iff x y .0 h .1
 
 -- the other end of the line, the other side
 side-back : (t : Bool) (p q y : Point) → pos 0 ≤ℤ (signOf (not t) *ℤ turn q p y) → pos 0 ≤ℤ (signOf t *ℤ turn p q y)
@@ -183,13 +181,9 @@ module _ {s t : Bool} {A B : List Point} (sep : Separated A B) {i j : ℕ} (w : 
 
 -- ---- the line turned round
 
-not-not : (s : Bool) → not (not s) ≡ s
-not-not true = refl
-not-not false = refl
-
 pub settled-back : {s t : Bool} {A B : List Point} {i j : ℕ} → Settled s t A B i j → Settled (not t) (not s) B A j i
 settled-back {s} {t} {A} {B} {i} {j} w =
-    record { from = w .to; to = subst (λ u. Rests u A i (corner B j)) (sym (not-not s)) (w .from) }
+    record { from = w .to; to = subst (λ u. Rests u A i (corner B j)) (sym (Bool·not-not s)) (w .from) }
 
 -- ---- of shapes that are apart
 
