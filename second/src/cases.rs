@@ -3,8 +3,7 @@
 
 use crate::answer::answer;
 use crate::make::dice::Dice;
-use crate::make::{line, long, numbers};
-use crate::question::Kind;
+use crate::make::{line, long, shape_text};
 use std::io::{self, Write};
 
 /// Words of 01, and the questions with their stated answers.
@@ -115,7 +114,7 @@ pub fn write_all(mut to: impl Write) -> io::Result<()> {
 pub fn check() -> (usize, Vec<String>) {
     let cases: Vec<_> = groups().into_iter().flat_map(|group| group.cases).collect();
     let report = |(question, stated): &(String, String)| {
-        let found = answer(question, &Kind::ALL);
+        let found = answer(question.as_bytes());
         let told = format!("{question}\n  stated {stated}\n  found  {found}");
         (found != *stated).then_some(told)
     };
@@ -139,7 +138,7 @@ fn spelled(stated: &[Stated]) -> Vec<Group> {
 
 fn corner_limit() -> Group {
     let mut dice = Dice::new(1);
-    let mut judged = |count| line(Kind::Judge, &[numbers(&long::of_corners(&mut dice, count))]);
+    let mut judged = |count| line("judge", &[shape_text(&long::of_corners(&mut dice, count))]);
     Group {
         words: "512 corners pass, 513 get 2".to_string(),
         cases: vec![
@@ -151,7 +150,7 @@ fn corner_limit() -> Group {
 
 fn sum_too_long() -> Group {
     let (a, b) = long::sharing(&mut Dice::new(2), (300, 300), 0);
-    let question = line(Kind::Sum, &[numbers(&a), numbers(&b)]);
+    let question = line("sum", &[shape_text(&a), shape_text(&b)]);
     Group {
         words: "Two shapes of 300 corners, no shared edge direction: 6".to_string(),
         cases: vec![(question, "no 6".to_string())],

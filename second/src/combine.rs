@@ -1,14 +1,14 @@
 //! Sum, merge and mirror of document 01, straight from their sets of points, with refusals 6, 7, 8.
 
-use crate::corners::shape_of;
+use crate::hull::hull_of;
 use crate::judge::in_range;
 use crate::plane::{Point, Shape};
 use crate::refusal::{MOST_CORNERS, Refusal};
 
 /// The shape of all corner-plus-corner points.
 pub fn sum(a: &[Point], b: &[Point]) -> Result<Shape, Refusal> {
-    let pairs = a.iter().flat_map(|&p| b.iter().map(move |&q| p.plus(q)));
-    let answer = not_too_many(shape_of(pairs.collect()))?;
+    let pairs = a.iter().flat_map(|&p| b.iter().map(move |&q| p + q));
+    let answer = not_too_many(hull_of(pairs.collect()))?;
     if !answer.iter().all(in_range) {
         return Err(Refusal::plain(7));
     }
@@ -17,12 +17,12 @@ pub fn sum(a: &[Point], b: &[Point]) -> Result<Shape, Refusal> {
 
 /// The shape of both corner lists taken together.
 pub fn merge(a: &[Point], b: &[Point]) -> Result<Shape, Refusal> {
-    not_too_many(shape_of([a, b].concat()))
+    not_too_many(hull_of([a, b].concat()))
 }
 
 /// The shape of all (-x, -y).
 pub fn mirror(shape: &[Point]) -> Shape {
-    shape_of(shape.iter().map(|c| c.negated()).collect())
+    hull_of(shape.iter().map(|&c| -c).collect())
 }
 
 /// The answer itself if the lent output, counted in numbers, holds it; no room named holds all.

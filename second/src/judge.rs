@@ -1,7 +1,7 @@
 //! Judging a list ("What makes a shape" of document 01): every edge against every corner.
 
 use crate::plane::{Point, Shape, edge_ends, point, turn};
-use crate::refusal::{MOST_CORNERS, REACH, Refusal};
+use crate::refusal::{MOST_COORDINATE, MOST_CORNERS, Refusal};
 
 /// The corners of the list, or its first refusal of 1 to 5. `shape` is 1 or 2, for the refusal.
 pub fn judge(list: &[i32], shape: usize) -> Result<Shape, Refusal> {
@@ -15,8 +15,8 @@ pub fn judge(list: &[i32], shape: usize) -> Result<Shape, Refusal> {
     if !corners.iter().all(in_range) {
         return Err(Refusal::of_shape(3, shape));
     }
-    if let Some(place) = broken_place(&corners) {
-        return Err(Refusal::left_rule(shape, place));
+    if let Some(broken) = broken_left_rule(&corners) {
+        return Err(Refusal::left_rule(shape, broken));
     }
     if !begins_standard(&corners) {
         return Err(Refusal::of_shape(5, shape));
@@ -25,7 +25,7 @@ pub fn judge(list: &[i32], shape: usize) -> Result<Shape, Refusal> {
 }
 
 pub fn in_range(corner: &Point) -> bool {
-    let within = |part: i64| (-REACH..=REACH).contains(&part);
+    let within = |part: i64| (-MOST_COORDINATE..=MOST_COORDINATE).contains(&part);
     within(corner.x) && within(corner.y)
 }
 
@@ -36,7 +36,7 @@ fn corners_in(list: &[i32]) -> Shape {
 }
 
 /// Refusal 4's edge and corner: 0 and 1 for two equal corners, else by the left rule.
-fn broken_place(corners: &[Point]) -> Option<(usize, usize)> {
+fn broken_left_rule(corners: &[Point]) -> Option<(usize, usize)> {
     match corners.len() {
         1 => None,
         2 => (corners[0] == corners[1]).then_some((0, 1)),

@@ -2,79 +2,102 @@
 //! of document 01 alone, and makes questions to hold the library against. It shares nothing with
 //! the library but the text form of questions and answers.
 //!
-//!     second make SEED COUNT [KINDS]    writes questions, the same ones for the same seed
-//!     second answer [KINDS]             answers the questions of standard input
-//!     second cases                      writes 01's cases as questions
-//!     second check                      answers 01's cases and compares with the stated answers
-//!
-//! KINDS is a list like `judge,furthest,sum`; without it all kinds are meant.
+//!     second make SEED COUNT                      writes questions, the same ones for the same seed
+//!     second answer                               answers the questions of standard input
+//!     second cases                                writes 01's cases as questions
+//!     second check                                answers 01's cases, compares with what 01 states
+//!     second compare LEAST QUESTIONS ANSWERS      compares another program's answers with its own:
+//!                                                 two files, and how many answers there must be
 
 mod answer;
+mod ask;
 mod cases;
 mod combine;
-mod corners;
+mod compare;
+mod hull;
 mod judge;
 mod make;
 mod measure;
-mod pair;
 mod plane;
-mod question;
+mod questions;
 mod refusal;
+mod separation;
+mod text;
 
-use question::Kind;
-use std::io::{self, BufWriter, Write};
+use std::error::Error;
+use std::fs;
+use std::io::{self, BufWriter, Read, Write};
 use std::process::ExitCode;
 
-const USAGE: &str = "second make SEED COUNT [KINDS] | answer [KINDS] | cases | check";
+const USAGE: &str =
+    "second make SEED COUNT | answer | cases | check | compare LEAST QUESTIONS ANSWERS";
+
+/// Whether all is as it should be; trouble is what kept the program from finding out.
+type Outcome = Result<bool, Box<dyn Error>>;
 
 fn main() -> ExitCode {
     let arguments: Vec<String> = std::env::args().skip(1).collect();
     let words: Vec<&str> = arguments.iter().map(String::as_str).collect();
     match run(&words) {
-        Ok(code) => code,
+        Ok(true) => ExitCode::SUCCESS,
+        Ok(false) => ExitCode::FAILURE,
         Err(trouble) => {
-            eprintln!("{trouble}");
+            eprintln!("second: {trouble}");
             ExitCode::from(2)
         }
     }
 }
 
-fn run(words: &[&str]) -> Result<ExitCode, String> {
+fn run(words: &[&str]) -> Outcome {
     let output = BufWriter::new(io::stdout().lock());
-    let done = match *words {
-        ["make", seed, count] => make_questions(seed, count, &Kind::ALL, output)?,
-        ["make", seed, count, kinds] => make_questions(seed, count, &kinds_in(kinds)?, output)?,
-        ["answer"] => answer::answer_all(&Kind::ALL, io::stdin().lock(), output),
-        ["answer", kinds] => answer::answer_all(&kinds_in(kinds)?, io::stdin().lock(), output),
-        ["cases"] => cases::write_all(output),
-        ["check"] => return Ok(check_cases()),
-        _ => return Err(USAGE.to_string()),
-    };
-    done.map(|()| ExitCode::SUCCESS)
-        .map_err(|trouble| trouble.to_string())
+    match *words {
+        ["make", seed, count] => make::write_all(number(seed)?, number(count)?, output)?,
+        ["answer"] => answer::write_all(&standard_input()?, output)?,
+        ["cases"] => cases::write_all(output)?,
+        ["check"] => return check_cases(output),
+        ["compare", least, questions, answers] => {
+            return compare_files(number(least)?, questions, answers, output);
+        }
+        _ => return Err(USAGE.into()),
+    }
+    Ok(true)
 }
 
-fn make_questions(
-    seed: &str,
-    count: &str,
-    kinds: &[Kind],
-    output: impl Write,
-) -> Result<io::Result<()>, String> {
-    let seed = seed.parse().map_err(|_| format!("no seed: {seed}"))?;
-    let count = count.parse().map_err(|_| format!("no count: {count}"))?;
-    Ok(make::write_all(seed, count, kinds, output))
+fn number<T: TryFrom<u64>>(text: &str) -> Result<T, String> {
+    let parsed = text.parse::<u64>().ok().and_then(|n| T::try_from(n).ok());
+    parsed.ok_or(format!("no count: {text}"))
 }
 
-fn kinds_in(text: &str) -> Result<Vec<Kind>, String> {
-    Kind::read_list(text).map_err(|word| format!("no kind of question: {word}"))
+fn standard_input() -> io::Result<Vec<u8>> {
+    let mut input = Vec::new();
+    io::stdin().lock().read_to_end(&mut input)?;
+    Ok(input)
 }
 
 /// Tells what differs, if anything; fails then.
-fn check_cases() -> ExitCode {
+fn check_cases(mut output: impl Write) -> Outcome {
     let (count, reports) = cases::check();
     for report in &reports {
-        println!("{report}");
+        writeln!(output, "{report}")?;
     }
-    println!("{} of {count} cases hold", count - reports.len());
-    ExitCode::from(u8::from(!reports.is_empty()))
+    writeln!(
+        output,
+        "second: {} of {count} cases hold",
+        count - reports.len()
+    )?;
+    output.flush()?;
+    Ok(reports.is_empty())
+}
+
+/// Fails as well where fewer answers than wanted were compared.
+fn compare_files(least: usize, questions: &str, answers: &str, mut output: impl Write) -> Outcome {
+    let read = |path: &str| fs::read(path).map_err(|trouble| format!("{path}: {trouble}"));
+    let comparison = compare::compare(&read(questions)?, &read(answers)?);
+    comparison.tell(&mut output)?;
+    let enough = comparison.compared >= least;
+    if !enough {
+        writeln!(output, "second: at least {least} were to be compared")?;
+    }
+    output.flush()?;
+    Ok(enough && comparison.different == 0)
 }

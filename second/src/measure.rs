@@ -1,11 +1,11 @@
 //! Furthest corner, length and width of one shape (document 01): every corner, pair and edge tried.
 
 use crate::plane::{Point, edge_ends, squared_distance, turn, value};
-use crate::refusal::{DIRECTION_REACH, Refusal};
+use crate::refusal::{MOST_DIRECTION, Refusal};
 
 /// The smallest position of the corner with the greatest value, and that value.
 pub fn furthest(shape: &[Point], direction: Point) -> Result<(usize, i128), Refusal> {
-    let within = |part: i64| (-DIRECTION_REACH..=DIRECTION_REACH).contains(&part);
+    let within = |part: i64| (-MOST_DIRECTION..=MOST_DIRECTION).contains(&part);
     let nowhere = direction.x == 0 && direction.y == 0;
     if nowhere || !within(direction.x) || !within(direction.y) {
         return Err(Refusal::plain(11));

@@ -6,6 +6,8 @@
 //!
 //! Coordinates are i64, products i128: nothing here comes near the end of either.
 
+use std::ops::{Add, Mul, Neg, Sub};
+
 /// A point, or the vector from the origin to it.
 #[derive(Clone, Copy, Debug, PartialEq, Eq)]
 pub struct Point {
@@ -26,25 +28,41 @@ impl Point {
         (self.y, self.x)
     }
 
-    pub fn plus(self, other: Point) -> Point {
-        point(self.x + other.x, self.y + other.y)
-    }
-
-    pub fn minus(self, other: Point) -> Point {
-        point(self.x - other.x, self.y - other.y)
-    }
-
-    pub fn negated(self) -> Point {
-        point(-self.x, -self.y)
-    }
-
-    pub fn times(self, factor: i64) -> Point {
-        point(self.x * factor, self.y * factor)
-    }
-
     /// The vector turned left by a quarter.
     pub fn quarter_turned(self) -> Point {
         point(-self.y, self.x)
+    }
+}
+
+impl Add for Point {
+    type Output = Point;
+
+    fn add(self, other: Point) -> Point {
+        point(self.x + other.x, self.y + other.y)
+    }
+}
+
+impl Sub for Point {
+    type Output = Point;
+
+    fn sub(self, other: Point) -> Point {
+        point(self.x - other.x, self.y - other.y)
+    }
+}
+
+impl Neg for Point {
+    type Output = Point;
+
+    fn neg(self) -> Point {
+        point(-self.x, -self.y)
+    }
+}
+
+impl Mul<i64> for Point {
+    type Output = Point;
+
+    fn mul(self, factor: i64) -> Point {
+        point(self.x * factor, self.y * factor)
     }
 }
 
@@ -58,7 +76,7 @@ pub fn dot(a: Point, b: Point) -> i128 {
 
 /// (bx-ax)(cy-ay) - (by-ay)(cx-ax)
 pub fn turn(a: Point, b: Point, c: Point) -> i128 {
-    cross(b.minus(a), c.minus(a))
+    cross(b - a, c - a)
 }
 
 pub fn value(direction: Point, p: Point) -> i128 {
@@ -66,7 +84,7 @@ pub fn value(direction: Point, p: Point) -> i128 {
 }
 
 pub fn squared_distance(a: Point, b: Point) -> i128 {
-    let d = b.minus(a);
+    let d = b - a;
     dot(d, d)
 }
 

@@ -1,17 +1,17 @@
-//! The table "When the map desk says no" of document 01: limits, and a refusal with its places.
+//! The table "When the map desk says no" of document 01: the limits, and a refusal with what it carries.
 
 use std::fmt;
 
 pub const MOST_CORNERS: usize = 512;
-pub const REACH: i64 = 1_000_000;
-pub const DIRECTION_REACH: i64 = 2_000_000;
+pub const MOST_COORDINATE: i64 = 1_000_000;
+pub const MOST_DIRECTION: i64 = 2_000_000;
 
 /// A number of the table. 1 to 5 say which shape; 4 also gives edge and corner.
 #[derive(Clone, Copy, Debug, PartialEq, Eq)]
 pub struct Refusal {
     pub number: u8,
     pub shape: Option<usize>,
-    pub place: Option<(usize, usize)>,
+    pub broken: Option<(usize, usize)>,
 }
 
 impl Refusal {
@@ -20,7 +20,7 @@ impl Refusal {
         Refusal {
             number,
             shape: None,
-            place: None,
+            broken: None,
         }
     }
 
@@ -29,16 +29,16 @@ impl Refusal {
         Refusal {
             number,
             shape: Some(shape),
-            place: None,
+            broken: None,
         }
     }
 
     /// 4 with the first edge, then the first corner, that breaks the left rule.
-    pub fn left_rule(shape: usize, place: (usize, usize)) -> Refusal {
+    pub fn left_rule(shape: usize, broken: (usize, usize)) -> Refusal {
         Refusal {
             number: 4,
             shape: Some(shape),
-            place: Some(place),
+            broken: Some(broken),
         }
     }
 }
@@ -49,7 +49,7 @@ impl fmt::Display for Refusal {
         if let Some(shape) = self.shape {
             write!(f, " shape {shape}")?;
         }
-        if let Some((edge, corner)) = self.place {
+        if let Some((edge, corner)) = self.broken {
             write!(f, " edge {edge} corner {corner}")?;
         }
         Ok(())

@@ -3,7 +3,7 @@
 --     sum-part       so that many steps from the beginning come to all of it
 --     sum-room       and there is room for it in the buffer
 --     sum-front      it stands at the front
-use mathlib.Core.Path.{_≡_, refl, sym, _∙_, ap, subst}
+use mathlib.Core.Path.{_≡_, sym, _∙_, ap, subst}
 use mathlib.Core.List.{List, [], _∷_}
 use Prim.Native.Nat.{ℕ, _+_, _≤_}
 use native.Mathlib.Omega.{arith}
@@ -22,9 +22,9 @@ use Rattle.plane.specs.theory.sum.Positions.{edges-at-most}
 use Rattle.polygon.specs.Front.{Front}
 use Rattle.polygon.specs.theory.Fronts.{overwritten-front}
 use Rattle.calipers.specs.declared.walk.Walk.{Walk}
-use Rattle.calipers.specs.declared.helping.Helping.{Helping}
+use Rattle.calipers.specs.declared.part.Part.{Part}
 use Rattle.calipers.specs.Walk.{begun, At}
-use Rattle.calipers.specs.Helping.{helping, Helped}
+use Rattle.calipers.specs.Part.{partOf, PartWritten}
 use Rattle.calipers.specs.theory.Steps.{remaining-begin, at-begin}
 
 -- a corner for each edge, and one where there is none
@@ -40,13 +40,13 @@ sum-few (a ∷ A) (b ∷ B) = path-few (a ⊕ b) (joinEdges (edges (a ∷ A)) (e
 
 module _ (a b : List ℤ) (v : Valid a) (w : Valid b) (n : ℕ) (all : n ≡ length (points a) + length (points b))
     (start : Walk) (begins : start ≡ begun) where
-  sum-part : helping a b start n ≡ vectorSum (points a) (points b)
-  sum-part = ap (λ (u : Walk). helping a b u n) begins
+  sum-part : partOf a b start n ≡ vectorSum (points a) (points b)
+  sum-part = ap (λ (u : Walk). partOf a b u n) begins
       ∙ ap (take n) (remaining-begin (points a) (points b) (v .shape .some) (w .shape .some))
       ∙ take-all n (vectorSum (points a) (points b)) (omega (arith, sum-few (points a) (points b)))
 
   pub sum-room : (buf : List ℤ) → length (points a) + length (points b) ≤ length (points buf)
-      → At a b start × (length (numbers (helping a b start n)) ≤ length buf)
+      → At a b start × (length (numbers (partOf a b start n)) ≤ length buf)
   sum-room buf room = (
     subst (At a b) (sym begins) (at-begin a b v w),
     omega (
@@ -58,9 +58,9 @@ module _ (a b : List ℤ) (v : Valid a) (w : Valid b) (n : ℕ) (all : n ≡ len
     ),
   )
 
-  pub sum-front : (old : List ℤ) (k : Helping) (out : List ℤ) → Helped a b start n old k out
+  pub sum-front : (old : List ℤ) (k : Part) (out : List ℤ) → PartWritten a b start n old k out
       → Front (shapeOf (sums (points a) (points b))) (k .count) out
   sum-front old k out h =
       let whole = sum-part ∙ vectorSum-shape (points a) (points b) (v .shape) (w .shape) in
       subst (λ (ps : List Point). Front ps (k .count) out) whole
-      (overwritten-front (helping a b start n) (k .count) old out (h .counted) (h .filled))
+      (overwritten-front (partOf a b start n) (k .count) old out (h .counted) (h .filled))

@@ -1,16 +1,19 @@
-// Edges of a list by the position of the corner that each leaves, and their order by direction.
+// Inner functions: edges of a list by the position of the corner that each leaves, and their order by direction.
 ghost use mathlib.Core.Path.{_≡_};
-ghost use Prim.Native.Nat.{_<_, _≤_};
+ghost use Prim.Native.Nat.{_^_, _<_, _≤_};
 ghost use lib.ListN.{length};
 ghost use Rattle.plane.specs.Point.{points};
 ghost use Rattle.plane.specs.Refusal.{InRange};
-ghost use Rattle.plane.specs.Turn.{cross as Turn·cross};
 ghost use Rattle.plane.specs.Forms.{up, before, edges};
 ghost use Rattle.plane.specs.Cycle.{round as Positions·round};
-ghost use Rattle.calipers.specs.Walk.{edge};
+ghost use Rattle.polygon.specs.Point.{at, Small};
+ghost use Rattle.calipers.specs.Walk.{edge as Walk·edge};
 use polygon::corners;
+use polygon::point;
+use polygon::point::Point;
 
 // The number of edges: a point has none, a segment two.
+// Ruled out: segment passed once.
 pub fn sides(list: &[i32]) -> usize
     ensures { λ r. ⌜ r ≡ length (edges (points (now (list .entry)))) ⌝ }
 {
@@ -27,47 +30,32 @@ pub fn round(list: &[i32], i: usize) -> usize
     if i == corners::count(list) { 0 } else { i }
 }
 
-// How far edge i goes to the right.
-pub fn run(list: &[i32], i: usize) -> i32
+// Edge i: the vector from its corner to the next on the way round.
+pub fn edge(list: &[i32], i: usize) -> Point
     requires { ⌜ (i < length (edges (points (now list)))) × InRange (now list) ⌝ }
-    ensures { λ r. ⌜ r ≡ edge (points (now (list .entry))) i .x ⌝ }
+    ensures { λ r. ⌜ at r ≡ Walk·edge (points (now (list .entry))) i ⌝ }
 {
-    corners::dx(list, i, round(list, i + 1))
+    let from = corners::corner_at(list, i);
+    point::step(from, corners::corner_at(list, round(list, i + 1)))
 }
 
-// How far edge i goes up.
-pub fn rise(list: &[i32], i: usize) -> i32
-    requires { ⌜ (i < length (edges (points (now list)))) × InRange (now list) ⌝ }
-    ensures { λ r. ⌜ r ≡ edge (points (now (list .entry))) i .y ⌝ }
+// Whether a vector points up, or level to the right.
+fn is_up(e: Point) -> bool
+    ensures { λ r. ⌜ r ≡ up (at e) ⌝ }
 {
-    corners::dy(list, i, round(list, i + 1))
+    point::precedes(Point { x: 0, y: 0 }, e)
 }
 
-// Whether edge i points up, or level to the right.
-pub fn is_up(list: &[i32], i: usize) -> bool
-    requires { ⌜ i < length (edges (points (now list))) ⌝ }
-    ensures { λ r. ⌜ r ≡ up (edge (points (now (list .entry))) i) ⌝ }
+// Whether e comes before f by its direction, from level to the right all the way round. Two that point the same
+// way: no.
+pub fn is_before(e: Point, f: Point) -> bool
+    requires { ⌜ Small (2 ^ 22) (at e) × Small (2 ^ 22) (at f) ⌝ }
+    ensures { λ r. ⌜ r ≡ before (at e) (at f) ⌝ }
 {
-    corners::precedes_at(list, i, round(list, i + 1))
-}
-
-// The cross product of edge i of a and edge j of b.
-pub fn cross(a: &[i32], i: usize, b: &[i32], j: usize) -> i64
-    requires { ⌜ (i < length (edges (points (now a)))) × (j < length (edges (points (now b)))) × InRange (now a) × InRange (now b) ⌝ }
-    ensures { λ r. ⌜ r ≡ Turn·cross (edge (points (now (a .entry))) i) (edge (points (now (b .entry))) j) ⌝ }
-{
-    (run(a, i) as i64) * (rise(b, j) as i64) - (rise(a, i) as i64) * (run(b, j) as i64)
-}
-
-// Whether edge i of a comes before edge j of b by its direction, from level to the right all the way round. Two that point the same way: no.
-pub fn is_before(a: &[i32], i: usize, b: &[i32], j: usize) -> bool
-    requires { ⌜ (i < length (edges (points (now a)))) × (j < length (edges (points (now b)))) × InRange (now a) × InRange (now b) ⌝ }
-    ensures { λ r. ⌜ r ≡ before (edge (points (now (a .entry))) i) (edge (points (now (b .entry))) j) ⌝ }
-{
-    let first = is_up(a, i);
-    let second = is_up(b, j);
+    let first = is_up(e);
+    let second = is_up(f);
     if first != second {
         return first;
     }
-    0 < cross(a, i, b, j)
+    0 < point::cross(e, f)
 }

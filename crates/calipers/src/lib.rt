@@ -1,6 +1,7 @@
-// Inner functions for the vector sum of two shapes by the caliper walk (document 01, "Sum"). Callers ask the crate `questions`.
+// Inner functions for the vector sum of two shapes by the caliper walk (document 01, "Sum"). Callers ask the crate
+// `questions`.
 pub mod edges;
-mod helping;
+mod part;
 pub mod walk;
 
 ghost use Prim.Native.Nat.{_+_, _≤_};
@@ -12,16 +13,16 @@ ghost use Rattle.polygon.specs.Front.{Front};
 use polygon::corners;
 use walk::Walk;
 
-// Writes the shape of all corner-plus-corner points at the front of the buffer, and says how many corners it has: at most as many as both
-// shapes together. Edges of equal direction make one step, so no three corners of the answer are in line. A point moves the other shape; a
-// segment's edge is passed twice.
-// Ruled out: both corners kept where parallel edges meet; the origin point for every sum; a made-up count.
+// Writes the shape of all corner-plus-corner points at the front of the buffer, and says how many corners it has: at
+// most as many as both shapes together. Edges of equal direction make one step, so no three corners of the answer are
+// in line. A point moves the other shape; a segment's edge is passed twice.
+// Ruled out: parallel corners kept; made up count.
 pub fn sum(a: &[i32], b: &[i32], buf: &mut [i32]) -> usize
     requires { ⌜ Valid (now a) × Valid (now b)
         × (length (points (now a)) + length (points (now b)) ≤ length (points (now buf))) ⌝ }
     ensures { λ r. ⌜ Front (shapeOf (sums (points (now (a .entry))) (points (now (b .entry))))) r (now (buf .exit)) ⌝ }
 {
     let all = corners::count(a) + corners::count(b);
-    let part = helping::write(a, b, Walk::begin(), all, buf);
+    let part = part::write(a, b, Walk::begin(), all, buf);
     part.count
 }

@@ -1,10 +1,12 @@
-// The caliper walk round two shapes: their edges, passed in the order of their directions.
+// Inner functions: the caliper walk round two shapes, their edges passed in the order of their directions.
+ghost use mathlib.Core.Bool.{_||_};
 ghost use mathlib.Core.Path.{_≡_};
 ghost use Rattle.plane.specs.Point.{points};
 ghost use Rattle.plane.specs.Refusal.{InRange};
+ghost use Rattle.polygon.specs.Point.{at};
 ghost use Rattle.calipers.specs.Walk.{
   At,
-  here,
+  here as Walk·here,
   begun,
   advanced,
   takes as Walk·takes,
@@ -13,9 +15,11 @@ ghost use Rattle.calipers.specs.Walk.{
 };
 use crate::edges;
 use polygon::corners;
+use polygon::point;
+use polygon::point::Point;
 
-// A place of the walk: i edges of the first shape and j of the second are passed. It is over when all corners are visited: two points have
-// no edge, and one corner to visit.
+// A place of the walk: i edges of the first shape and j of the second are passed. It is over when all corners
+// are visited: two points have no edge, and one corner to visit.
 pub struct Walk {
     pub i: usize,
     pub j: usize,
@@ -48,24 +52,19 @@ impl Walk {
         }
     }
 
-    // The x of the corner of the sum at which the walk stands.
-    pub fn x(self, a: &[i32], b: &[i32]) -> i32
+    // The corner of the sum at which the walk stands.
+    pub fn here(self, a: &[i32], b: &[i32]) -> Point
         requires { ⌜ At (now a) (now b) self ⌝ }
-        ensures { λ r. ⌜ r ≡ here (points (now (a .entry))) (points (now (b .entry))) self .x ⌝ }
+        ensures { λ r. ⌜ at r ≡ Walk·here (points (now (a .entry))) (points (now (b .entry))) self ⌝ }
     {
-        corners::x_at(a, edges::round(a, self.i)) + corners::x_at(b, edges::round(b, self.j))
-    }
-
-    // The y of the corner of the sum at which the walk stands.
-    pub fn y(self, a: &[i32], b: &[i32]) -> i32
-        requires { ⌜ At (now a) (now b) self ⌝ }
-        ensures { λ r. ⌜ r ≡ here (points (now (a .entry))) (points (now (b .entry))) self .y ⌝ }
-    {
-        corners::y_at(a, edges::round(a, self.i)) + corners::y_at(b, edges::round(b, self.j))
+        let p = corners::corner_at(a, edges::round(a, self.i));
+        let q = corners::corner_at(b, edges::round(b, self.j));
+        point::plus(p, q)
     }
 }
 
-// Whether edge i of a is passed next: there is one, and edge j of b is not before it. The same function asks it of either shape.
+// Whether edge i of a is passed next: there is one, and edge j of b is not before it. The same function asks it
+// of either shape.
 fn takes(a: &[i32], i: usize, b: &[i32], j: usize) -> bool
     requires { ⌜ InRange (now a) × InRange (now b) ⌝ }
     ensures { λ r. ⌜ r ≡ Walk·takes (points (now (a .entry))) i (points (now (b .entry))) j ⌝ }
@@ -76,7 +75,7 @@ fn takes(a: &[i32], i: usize, b: &[i32], j: usize) -> bool
     if edges::sides(b) <= j {
         return true;
     }
-    !edges::is_before(b, j, a, i)
+    !edges::is_before(edges::edge(b, j), edges::edge(a, i))
 }
 
 // How many edges of a are passed after the step.
@@ -92,4 +91,11 @@ fn finished(a: &[i32], i: usize, b: &[i32], j: usize) -> bool
     ensures { λ r. ⌜ r ≡ Walk·finished (points (now (a .entry))) i (points (now (b .entry))) j ⌝ }
 {
     i == edges::sides(a) && j == edges::sides(b)
+}
+
+// Whether one of the two holds: what a walk gathers of its places.
+pub fn either(x: bool, y: bool) -> bool
+    ensures { λ r. ⌜ r ≡ (x || y) ⌝ }
+{
+    x || y
 }

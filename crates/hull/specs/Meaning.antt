@@ -9,7 +9,7 @@ use Rattle.plane.specs.Refusal.{someOutside, Valid}
 use Rattle.plane.specs.Corner.{shapeOf}
 use Rattle.plane.specs.theory.lists.Members.{_∈_, position-member, member-position}
 use Rattle.plane.specs.theory.lists.Flat.{Near, points-near, numbers-inRange}
-use Rattle.plane.specs.theory.refusals.Accept.{inRange→inside}
+use Rattle.plane.specs.theory.refusals.Accept.{inRange→near}
 use Rattle.plane.specs.theory.hull.Hull.{shapeOf-member}
 
 corner-near : (l : List ℤ) → Valid l → {p : Point} → p ∈ points l → Near p
@@ -17,7 +17,7 @@ corner-near l v m = let r = member-position m in subst Near (r .2) (points-near 
 
 -- "a corner of the answer is out of range": never of a merge, since each corner of the answer is one of the two shapes'
 pub merge-in-range : (a b : List ℤ) → Valid a → Valid b → someOutside (numbers (shapeOf (points a ++ points b))) ≡ false
-merge-in-range a b v w = inRange→inside (numbers shape) (numbers-inRange shape (λ k h. near (shapeOf-member set (position-member shape k h))))
+merge-in-range a b v w = inRange→near (numbers shape) (numbers-inRange shape (λ k h. near (shapeOf-member set (position-member shape k h))))
   where
     set : List Point
     set = points a ++ points b
@@ -26,4 +26,5 @@ merge-in-range a b v w = inRange→inside (numbers shape) (numbers-inRange shape
     shape = shapeOf (points a ++ points b)
 
     near : {p : Point} → p ∈ set → Near p
-    near {p} m = ⊎-elim (λ (n : p ∈ points a). corner-near a v n) (λ (n : p ∈ points b). corner-near b w n) (List·Memᴰ·append-cases (points a) m)
+    near {p} m = ⊎-elim (λ (n : p ∈ points a). corner-near a v n) (λ (n : p ∈ points b). corner-near b w n)
+        (List·Memᴰ·append-cases (points a) m)

@@ -1,16 +1,16 @@
 -- Bounds on the size of an integer.
 --     Within n x      x is from -n to n
--- `beyond-size`: a bound as two tests. `within-le`, `within-ge` read it as two orders, `within-of` makes it of them; `within-widen` takes a larger bound.
-use mathlib.Core.Path.{_≡_, refl, sym, ap, subst}
+-- `beyond-size`: a bound as two tests. `within-le`, `within-ge` read it as two orders, `within-of` makes it of them; `within-widen` takes
+-- a larger bound.
+use mathlib.Core.Path.{_≡_, refl, sym, subst}
 use mathlib.Core.Bool.{Bool, true, false, _||_}
 use mathlib.Core.Logic.{_⊎_, inl, inr}
-use mathlib.Core.List.{List, [], _∷_}
-use Prim.Native.Nat.{ℕ, zero, suc, _+_, _*_, _≤_, _<_}
+use Prim.Native.Nat.{ℕ, zero, suc, _+_, _*_, _≤_}
 use native.Mathlib.Omega.{arith}
 use native.Mathlib.Nat.{mul-le-mul, le-trans}
 use borrow.Author.Tests.{lt-ltb, le-ltb}
 use lib.Dec.{ltb}
-use lib.IntN.{ℤ, pos, negsuc, negℤ, natAbs, _+ℤ_, _-ℤ_, _*ℤ_}
+use lib.IntN.{ℤ, pos, negsuc, negℤ, natAbs, _+ℤ_, _*ℤ_}
 use lib.Signed.{_≤ℤ_, _<ℤ_, ltZ}
 use Rattle.integer.specs.Order.{ltZ-true, ltZ-false}
 use Rattle.integer.specs.Parts.{above, below, le-parts, parts-le, lt-parts, differs-own, differs-add, differs-neg}
@@ -48,7 +48,8 @@ within-add {m} {n} {x} {y} v w = record { size = go (one-part (x +ℤ y)) (one-p
     same : above (x +ℤ y) + (below x + below y) ≡ below (x +ℤ y) + (above x + above y)
     same = differs-add (differs-own x) (differs-own y) .same
 
-    go : (above (x +ℤ y) ≡ 0) ⊎ (below (x +ℤ y) ≡ 0) → (above x ≡ 0) ⊎ (below x ≡ 0) → (above y ≡ 0) ⊎ (below y ≡ 0) → natAbs (x +ℤ y) ≤ m + n
+    go : (above (x +ℤ y) ≡ 0) ⊎ (below (x +ℤ y) ≡ 0) → (above x ≡ 0) ⊎ (below x ≡ 0) → (above y ≡ 0) ⊎ (below y ≡ 0)
+        → natAbs (x +ℤ y) ≤ m + n
     go (inl h) p q = omega (arith, size-parts x, size-parts y, size-parts (x +ℤ y), same, v .size, w .size)
     go (inr h) p q = omega (arith, size-parts x, size-parts y, size-parts (x +ℤ y), same, v .size, w .size)
 
@@ -71,8 +72,18 @@ pub within-of : {n : ℕ} {x : ℤ} → negℤ (pos n) ≤ℤ x → x ≤ℤ pos
 within-of {n} {x} h k = record { size = go (one-part x) }
   where
     go : (above x ≡ 0) ⊎ (below x ≡ 0) → natAbs x ≤ n
-    go (inl e) = omega (arith, size-parts x, le-parts (differs-neg (differs-own (pos n))) (differs-own x) h, le-parts (differs-own x) (differs-own (pos n)) k)
-    go (inr e) = omega (arith, size-parts x, le-parts (differs-neg (differs-own (pos n))) (differs-own x) h, le-parts (differs-own x) (differs-own (pos n)) k)
+    go (inl e) = omega (
+      arith,
+      size-parts x,
+      le-parts (differs-neg (differs-own (pos n))) (differs-own x) h,
+      le-parts (differs-own x) (differs-own (pos n)) k,
+    )
+    go (inr e) = omega (
+      arith,
+      size-parts x,
+      le-parts (differs-neg (differs-own (pos n))) (differs-own x) h,
+      le-parts (differs-own x) (differs-own (pos n)) k,
+    )
 
 -- ---- a bound as two tests, as code makes them
 

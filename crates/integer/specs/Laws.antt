@@ -4,8 +4,8 @@
 --     negℤ-*ℤ                       a sign moves out of a product
 --     +ℤ-swap                       the middle two of four summands change places
 -- The group laws of the sum, and that the product is commutative, are in `lib.IntN`.
-use mathlib.Core.Path.{_≡_, refl, sym, _∙_, ap, ap₂}
-use Prim.Native.Nat.{ℕ, zero, suc}
+use mathlib.Core.Path.{_≡_, sym, _∙_, ap, ap₂}
+use Prim.Native.Nat.{zero, suc}
 use lib.IntN.{
   ℤ,
   pos,
@@ -28,7 +28,6 @@ use lib.IntN.{
   predℤ-*ℤ,
   zero-*ℤ,
   *ℤ-comm,
-  negℤ-+ℤ,
 }
 
 -- what holds of 0 and is kept by one more and one less holds of every integer

@@ -5,17 +5,16 @@
 -- `Order.antt`) make it prove what is not linear.
 --     Says ρ A      a statement over ℕ that is equivalent to A; `search linear` finds it
 --     lia           A → C, from its statement over ℕ
-use mathlib.Core.Path.{_≡_, refl, sym, _∙_, ap, ap₂, subst}
+use mathlib.Core.Path.{_≡_, refl, _∙_, ap₂, subst}
 use mathlib.Core.List.{List, [], _∷_}
-use Prim.Native.Nat.{ℕ, zero, suc, _+_, _*_, _≤_, _<_}
+use Prim.Native.Nat.{ℕ, suc, _+_, _*_, _≤_, _<_}
 use native.Mathlib.Omega.{arith}
-use lib.IntN.{ℤ, pos, negsuc, negℤ, _+ℤ_, _-ℤ_, _*ℤ_}
+use lib.IntN.{ℤ, pos, negsuc, _+ℤ_, _-ℤ_, _*ℤ_}
 use lib.Signed.{_≤ℤ_, _<ℤ_}
-use Rattle.integer.specs.Polynomial.{Expr, add, neg, eval, Poly, none, term, value, product, norm, norm-sound}
+use Rattle.integer.specs.Polynomial.{add, neg, Poly, none, term, value, product, norm-sound}
 use Rattle.integer.specs.Ring.{
   Is,
   minus,
-  difference-zero,
   at0,
   at1,
   at2,

@@ -6,7 +6,7 @@
 -- `bounded h` for h : Within n x.
 use mathlib.Core.Path.{_≡_, refl, sym, _∙_, ap, ap₂, subst}
 use mathlib.Core.Bool.{Bool, true, false, _&&_}
-use Prim.Native.Nat.{ℕ, zero, suc, _+_, _*_, _^_, _≤_, _<_}
+use Prim.Native.Nat.{ℕ, suc, _+_, _*_, _^_, _≤_, _<_}
 use native.Mathlib.Nat.{le-refl, le-trans, le-suc, lt-of-le-of-lt}
 use lib.Dec.{T, ltb, ltb→lt}
 use lib.IntN.{ℤ, pos, negsuc, negℤ, natAbs, _+ℤ_, _-ℤ_, _*ℤ_}
@@ -91,7 +91,14 @@ machine-mul p q = record {
 }
 
 abbrev pub machine-neg : {x : ℤ} → Machine x → Machine (negℤ x)
-machine-neg p = record { value = negℤ (p .value); bound = p .bound; within = within-neg (p .within); good = p .good; is = λ t. ap negℤ (p .is t) }
+machine-neg p = record {
+  value = negℤ (p .value);
+  bound = p .bound;
+  within = within-neg (p .within);
+  good = p .good;
+  is = λ t. ap negℤ
+      (p .is t);
+}
 
 pub ruleset machine = (machine-read, machine-add, machine-mul, machine-neg, machine-pos, machine-negsuc)
 

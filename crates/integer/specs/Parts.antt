@@ -2,13 +2,13 @@
 --     above z, below z    the naturals by which z is above and below 0; one of them is 0
 --     Differs z a b       z is a - b
 -- How it goes through the operations (`differs-add`, `-neg`, `-scale`), and what it says of the order (`le-parts`, `lt-parts`, `eq-parts`).
-use mathlib.Core.Path.{_≡_, refl, sym, _∙_, ap, ap₂, subst}
+use mathlib.Core.Path.{_≡_, refl, sym, ap, subst}
 use mathlib.Core.Bool.{Bool, true, false, cond}
 use Prim.Native.Nat.{ℕ, zero, suc, _+_, _*_, _-_, _≤_, _<_}
 use native.Mathlib.Omega.{arith}
 use borrow.Author.Tests.{ltb-true, ltb-false}
-use lib.Dec.{T, leb, ltb, leb→le, le→leb, ltb→lt, lt→ltb}
-use lib.IntN.{ℤ, pos, negsuc, negℤ, _+ℤ_, _-ℤ_, _*ℤ_, subℕ}
+use lib.Dec.{T, ltb, leb→le, le→leb, ltb→lt, lt→ltb}
+use lib.IntN.{ℤ, pos, negsuc, negℤ, _+ℤ_, _*ℤ_, subℕ}
 use lib.Signed.{_≤ℤ_, _<ℤ_, leZ, ltZ}
 use Rattle.integer.specs.Laws.{negℤ-*ℤ}
 
@@ -64,7 +64,8 @@ differs-scale n {x} {a} {b} p = record { same = go x (p .same) }
     go (negsuc m) h = omega (arith, ap (λ k. n * k) h, negated (n * suc m) .same)
 
 pub differs-scale-neg : (n : ℕ) {x : ℤ} {a b : ℕ} → Differs x a b → Differs (negsuc n *ℤ x) (suc n * b) (suc n * a)
-differs-scale-neg n {x} {a} {b} p = subst (λ z. Differs z (suc n * b) (suc n * a)) (sym (negℤ-*ℤ (pos (suc n)) x)) (differs-neg (differs-scale (suc n) p))
+differs-scale-neg n {x} {a} {b} p = subst (λ z. Differs z (suc n * b) (suc n * a)) (sym (negℤ-*ℤ (pos (suc n)) x))
+    (differs-neg (differs-scale (suc n) p))
 
 -- ---- the order, read off the parts
 

@@ -11,7 +11,7 @@ use Prim.Native.Nat.{ℕ, zero, suc, compare, Ordering, Ordering·lt, Ordering·
 use lib.Dec.{T, isEq, eqb→eq, leb}
 use lib.ListN.{getD}
 use lib.IntN.{ℤ, pos, negsuc, negℤ, _+ℤ_, _*ℤ_, +ℤ-assoc, +ℤ-comm, +ℤ-idl, +ℤ-idr, zero-*ℤ, *ℤ-zero, *ℤ-comm}
-use Rattle.integer.specs.Laws.{+ℤ-swap, *ℤ-distrib-r, *ℤ-distrib-l, *ℤ-assoc, one-*ℤ, minus-one-*ℤ}
+use Rattle.integer.specs.Laws.{*ℤ-distrib-r, *ℤ-distrib-l, *ℤ-assoc, one-*ℤ, minus-one-*ℤ}
 
 pub data Expr : Type 0 where
   var : ℕ → Expr
@@ -145,14 +145,20 @@ module _ (ρ : List ℤ) where
   insert-value c m (term d k p) = go (insert-value c m p) (order m k) refl
     where
       go : value ρ (insert c m p) ≡ c *ℤ product ρ m +ℤ value ρ p → (o : Ordering) → order m k ≡ o
-          → value ρ (elim o [ Ordering·lt ↦ front c m (term d k p) | Ordering·eq ↦ front (c +ℤ d) k p | Ordering·gt ↦ term d k (insert c m p) ])
+          → value ρ (elim o [
+            | Ordering·lt ↦ front c m (term d k p)
+            | Ordering·eq ↦ front (c +ℤ d) k p
+            | Ordering·gt ↦ term d k
+                (insert c m p)
+          ])
           ≡ c *ℤ product ρ m +ℤ (d *ℤ product ρ k +ℤ value ρ p)
       go ih Ordering·lt e = front-value ρ c m (term d k p)
       go ih Ordering·eq e = front-value ρ (c +ℤ d) k p ∙ ap (λ x. x +ℤ value ρ p) (*ℤ-distrib-r c d (product ρ k))
           ∙ +ℤ-assoc (c *ℤ product ρ k) (d *ℤ product ρ k) (value ρ p)
           ∙ ap (λ (n : List ℕ). c *ℤ product ρ n +ℤ (d *ℤ product ρ k +ℤ value ρ p)) (sym (order-eq m k e))
       go ih Ordering·gt e = ap (λ x. d *ℤ product ρ k +ℤ x) ih ∙ sym (+ℤ-assoc (d *ℤ product ρ k) (c *ℤ product ρ m) (value ρ p))
-          ∙ ap (λ x. x +ℤ value ρ p) (+ℤ-comm (d *ℤ product ρ k) (c *ℤ product ρ m)) ∙ +ℤ-assoc (c *ℤ product ρ m) (d *ℤ product ρ k) (value ρ p)
+          ∙ ap (λ x. x +ℤ value ρ p) (+ℤ-comm (d *ℤ product ρ k) (c *ℤ product ρ m))
+          ∙ +ℤ-assoc (c *ℤ product ρ m) (d *ℤ product ρ k) (value ρ p)
 
   plus-value : (p q : Poly) → value ρ (plus p q) ≡ value ρ p +ℤ value ρ q
   plus-value none q = sym (+ℤ-idl (value ρ q))

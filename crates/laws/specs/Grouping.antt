@@ -2,16 +2,17 @@
 --     originPoint           the shape 0 0; AllValid L: every shape of the list L is valid
 --     Call                  a question on two shapes and a lent output: `sumWritten` or `mergeWritten`
 --     Gives w l             the call is answered, and l is the shape that stands in its output
+--     answeredWith l out    the whole of a call that is answered with the shape l: its count of corners; l, and what stood behind it in out
 --     Fits shape out        the shape keeps the limits, and the output has room for it
 --     Called call a b l     some call on a and b, in either order, gives l
 --     Grouping L            a way to bring the list L together: no call, or two groups and one call on their results
 --     Result call g l       every call of the grouping g is answered, and l is its result
 --     Refused call g        some call of the grouping is refused
---     sumOfAll L            the result of sums that 01 states; mergeOfAll L: that of merges, over all corners `together`
+--     sumOfAll L            the result of sums that 01 states; mergeOfAll L: that of merges
 -- `List·Permᴰ L M` is mathlib's: M is L in another order. Groups are never empty: `group-not-empty` of the laws.
 use mathlib.Core.Path.{_≡_}
 use mathlib.Core.Logic.{_⊎_}
-use mathlib.Core.List.{List, [], _∷_, _++_, map, List·Memᴰ, List·Permᴰ}
+use mathlib.Core.List.{List, [], _∷_, _++_, map, flatten, List·Memᴰ, List·Permᴰ}
 use Prim.Native.Nat.{ℕ, _*_, _≤_}
 use lib.IntN.{ℤ, pos}
 use lib.ListN.{length, take}
@@ -20,7 +21,7 @@ use Rattle.plane.specs.Point.{Point, points, numbers}
 use Rattle.plane.specs.Reply.{answered, refused}
 use Rattle.plane.specs.Refusal.{InRange, Valid}
 use Rattle.plane.specs.Corner.{shapeOf, sumsOf}
-use Rattle.plane.specs.Output.{Written}
+use Rattle.plane.specs.Output.{Written, overwritten}
 
 -- "The point at the origin is 0 0"
 abbrev pub originPoint : List ℤ
@@ -41,6 +42,10 @@ pub record Gives (w : Written) (l : List ℤ) : Type 0 where
   pub count : ℕ
   pub answer : w .reply ≡ answered (pos count ∷ [])
   pub counted : l ≡ take (2 * count) (w .output)
+
+-- "the answer says how many corners", and "only its first numbers are written"
+abbrev pub answeredWith : List ℤ → List ℤ → Written
+answeredWith l out = record { reply = answered (pos (length (points l)) ∷ []); output = overwritten l out }
 
 -- refusals 6, 7 and 8 have nothing against this shape in this output
 pub record Fits (shape : List Point) (out : List ℤ) : Type 0 where
@@ -83,11 +88,6 @@ Refused call (split order g h out) =
 abbrev pub sumOfAll : List (List ℤ) → List ℤ
 sumOfAll L = numbers (shapeOf (sumsOf (map points L)))
 
--- "the corners of all shapes in the list"
-abbrev pub together : List (List Point) → List Point
-together [] = []
-together (A ∷ L) = A ++ together L
-
 -- "the shape of the corners of all shapes in the list"
 abbrev pub mergeOfAll : List (List ℤ) → List ℤ
-mergeOfAll L = numbers (shapeOf (together (map points L)))
+mergeOfAll L = numbers (shapeOf (flatten (map points L)))

@@ -2,11 +2,12 @@
 --     ground           what valid, equal and answered say, over which the laws are stated
 --     whole lists      the result of sums, and of merges, whatever the order and the grouping
 --     two and three    the origin point, a shape merged with itself, a sum over a merge, taking a sum back
--- Every law speaks of calls that are answered, whatever is refused elsewhere, and of any outputs that they are lent.
+-- Every law speaks of calls that are answered, whatever is refused elsewhere, and of any outputs that they are lent; of the origin point,
+-- and of a shape with itself, it says that they are answered.
 use mathlib.Core.Path.{_≡_}
 use mathlib.Core.Logic.{_↔_}
 use mathlib.Core.List.{List, [], _∷_, _++_}
-use Prim.Native.Nat.{ℕ, _<_}
+use Prim.Native.Nat.{ℕ, _≤_, _<_}
 use native.Mathlib.Nat.{not-suc-le-zero}
 use native.Mathlib.Omega.{arith}
 use lib.IntN.{ℤ, pos}
@@ -20,25 +21,14 @@ use Rattle.plane.specs.Corner.{shapeOf, sums}
 use Rattle.plane.specs.Combine.{sumWritten, mergeWritten}
 use Rattle.plane.specs.Meaning.{accepted-is-valid, valid-is-accepted}
 use Rattle.plane.specs.theory.lists.Flat.{points-length}
-use Rattle.laws.specs.Grouping.{
-  originPoint,
-  AllValid,
-  Call,
-  Gives,
-  Fits,
-  Called,
-  Grouping,
-  Result,
-  Refused,
-  sumOfAll,
-  mergeOfAll,
-}
+use Rattle.laws.specs.Grouping.{originPoint, AllValid, Call, answeredWith, Gives, Fits, Called, Grouping, Result, Refused, sumOfAll}
+use Rattle.laws.specs.Grouping.{mergeOfAll}
 use Rattle.laws.specs.theory.Answer.{sum-combines, merge-combines}
 use Rattle.laws.specs.theory.Refused.{refused→no-result}
 use Rattle.laws.specs.theory.Fold.{result-valid}
 use Rattle.laws.specs.theory.Whole.{grouping-some, sums-whole, merges-whole, sums-result, merges-result}
 use Rattle.laws.specs.theory.Pair.{origin-neutral, merge-idem, call-comm, sum-distributes, sum-cancels}
-use Rattle.laws.specs.theory.Acceptance.{sum-accepted, merge-accepted, sum-answered, merge-answered}
+use Rattle.laws.specs.theory.Acceptance.{sum-accepted, merge-accepted, sum-answered, merge-answered, valid-gives}
 
 -- ---- ground
 
@@ -116,14 +106,19 @@ module _ (a b l m : List ℤ) where
   pub merge-either-order : Called mergeWritten a b l → Called mergeWritten b a m → l ≡ m
   merge-either-order s t = call-comm merge-combines s t
 
-module _ (a l : List ℤ) where
-  -- the origin point added to a shape, or a shape to it, is the shape
-  pub sum-origin : Called sumWritten originPoint a l → l ≡ a
-  sum-origin s = origin-neutral s
+module _ (a out : List ℤ) (v : Valid a) (room : length a ≤ length out) where
+  -- the origin point added to a shape, or a shape to it, is answered, and gives the shape: "without them the laws of demand 3 have no
+  -- neutral shape"
+  pub sum-origin : (sumWritten originPoint a out ≡ answeredWith a out) × (sumWritten a originPoint out ≡ answeredWith a out)
+  sum-origin = origin-neutral a out v room
 
-  -- a shape merged with itself is the shape
-  pub merge-self : Called mergeWritten a a l → l ≡ a
-  merge-self s = merge-idem s
+  -- a shape merged with itself is answered, and gives the shape
+  pub merge-self : mergeWritten a a out ≡ answeredWith a out
+  merge-self = merge-idem a out v room
+
+  -- "of an output, only the numbers that its answer counts are the shape": what is answered with a gives a
+  pub answered-with-gives : Gives (answeredWith a out) a
+  answered-with-gives = valid-gives a out v
 
 -- a plus (b merged with c) is (a plus b) merged with (a plus c), each call in either order
 pub sum-over-merge : (a b c bc ab ac l m : List ℤ) → Called mergeWritten b c bc → Called sumWritten a bc l

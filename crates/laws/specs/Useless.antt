@@ -9,11 +9,12 @@ use native.Mathlib.Omega.{arith}
 use lib.IntN.{ℤ, pos}
 use lib.ListN.{length, take}
 use Rattle.plane.specs.Limits.{maxCorners, maxCoordinate}
-use Rattle.plane.specs.Point.{points}
+use Rattle.plane.specs.Point.{points, samePoint}
 use Rattle.plane.specs.Turn.{turn}
 use Rattle.plane.specs.Shape.{breaks, precedes}
 use Rattle.plane.specs.Reply.{answered, refused}
-use Rattle.plane.specs.Refusal.{badCount, tooMany, outside, someOutside, equalPair, leftBroken, breakingEdge, breakingCorner, ruleBroken, brokenEdge, brokenCorner, badStart}
+use Rattle.plane.specs.Refusal.{badCount, tooMany, outside, someOutside, equalPair, leftBroken, breakingEdge, breakingCorner, ruleBroken}
+use Rattle.plane.specs.Refusal.{brokenEdge, brokenCorner, badStart}
 use Rattle.plane.specs.Corner.{shapeOf, sums}
 use Rattle.plane.specs.Output.{Written, noRoom, overwritten}
 use Rattle.plane.specs.Combine.{sumWritten}
@@ -41,7 +42,7 @@ fiveCorners = record {
 }
 
 pub square-plus-triangle : sumWritten square triangle room ≡ fiveCorners
-unfolding sumWritten shapeOf overwritten noRoom maxCorners maxCoordinate turn breaks precedes
+unfolding sumWritten shapeOf overwritten noRoom maxCorners maxCoordinate turn breaks precedes samePoint
     badCount tooMany outside someOutside equalPair leftBroken breakingEdge breakingCorner ruleBroken brokenEdge brokenCorner badStart
 square-plus-triangle = refl
 

@@ -11,15 +11,13 @@ use lib.ListN.{length}
 use Rattle.integer.specs.Order.{lt-ltZ}
 use Rattle.plane.specs.Point.{Point, points, corner}
 use Rattle.plane.specs.Refusal.{Valid}
-use Rattle.plane.specs.Measure.{squared, reach, edgeSquared, widthEdge, widthCorner, widthRounded}
+use Rattle.plane.specs.Measure.{squared, height, edgeSquared, widthEdge, widthCorner, widthRounded}
 use Rattle.measure.specs.theory.Longest.{length-longest}
-use Rattle.measure.specs.theory.Reach.{edgeSquared-positive}
+use Rattle.measure.specs.theory.Height.{edgeSquared-positive}
 use Rattle.measure.specs.theory.Rounded.{rounded-unique}
 use Rattle.measure.specs.theory.WidthScan.{width-done}
 use Rattle.measure.specs.Comparison.{Width as Comparison·Width, none, best}
 use Rattle.words.specs.Root.{RoundedRoot}
-use Rattle.measure.specs.declared.Length.{Length}
-use Rattle.measure.specs.declared.Width.{Width}
 use Rattle.measure.specs.declared.longest.Pair.{Pair}
 use Rattle.measure.specs.declared.narrowest.Across.{Across}
 use Rattle.measure.specs.Answer.{IsLength, IsWidth}
@@ -53,7 +51,7 @@ module _ (l : List ℤ) (v : Valid l) (three : 3 ≤ length (points l)) (r : Acr
   abbrev ps : List Point
   ps = points l
 
-  done : (widthEdge ps ≡ r .edge) × (widthCorner ps ≡ r .corner) × (reach ps (r .edge) ≡ pos (r .turn))
+  done : (widthEdge ps ≡ r .edge) × (widthCorner ps ≡ r .corner) × (height ps (r .edge) ≡ pos (r .turn))
       × (edgeSquared ps (r .edge) ≡ pos (r .squared))
   done = width-done (v .shape .some) b refl
 
@@ -64,7 +62,7 @@ module _ (l : List ℤ) (v : Valid l) (three : 3 ≤ length (points l)) (r : Acr
   pub width-found : (w : ℕ) → RoundedRoot (r .turn) (r .squared) w
       → IsWidth ps (record { edge = r .edge; corner = r .corner; turn = r .turn; squared = r .squared; rounded = w })
   width-found w root =
-      let turns : reach ps (widthEdge ps) ≡ pos (r .turn) = ap (reach ps) (done .0) ∙ done .2 in
+      let turns : height ps (widthEdge ps) ≡ pos (r .turn) = ap (height ps) (done .0) ∙ done .2 in
       let long : edgeSquared ps (widthEdge ps) ≡ pos (r .squared) = ap (edgeSquared ps) (done .0) ∙ done .3 in
       record {
         edge-is = sym (done .0);

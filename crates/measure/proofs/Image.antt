@@ -13,11 +13,11 @@ use Rattle.plane.specs.Point.{Point, points, numbers}
 use Rattle.plane.specs.Refusal.{someOutside, InRange, Valid}
 use Rattle.plane.specs.Output.{overwritten}
 use Rattle.plane.specs.theory.lists.Flat.{points-length, points-numbers, numbers-length}
-use Rattle.plane.specs.theory.refusals.Accept.{inside→inRange}
+use Rattle.plane.specs.theory.refusals.Accept.{near→inRange}
 use Rattle.plane.specs.Cycle.{turned}
 use Rattle.plane.specs.theory.lists.Turned.{turned-below}
 use Rattle.plane.specs.theory.mirror.Mirror.{Top, mirroredFrom, mirroredFrom-length, mirroredFrom-at, mirror-known}
-use Rattle.plane.specs.theory.mirror.MirrorWritten.{mirror-inside}
+use Rattle.plane.specs.theory.mirror.MirrorWritten.{mirror-near}
 use Rattle.measure.specs.Comparison.{Mirrors}
 use Rattle.measure.specs.theory.MirrorWalk.{mirrors-shapeOf}
 use Rattle.measure.specs.Scan.{Imaged}
@@ -42,8 +42,8 @@ module _ (l : List ℤ) (v : Valid l) where
         (λ k h. mirroredFrom-at (points l) t (top .within) k (omega (arith, count)))
 
     image-inRange : InRange (numbers image)
-    image-inRange = inside→inRange (numbers image)
-        (ap (λ (ps : List Point). someOutside (numbers ps)) (sym (mirror-known (points l) (v .shape) t top)) ∙ mirror-inside l v)
+    image-inRange = near→inRange (numbers image)
+        (ap (λ (ps : List Point). someOutside (numbers ps)) (sym (mirror-known (points l) (v .shape) t top)) ∙ mirror-near l v)
 
     front : (old : List ℤ) → take (length l) (overwritten (numbers image) old) ≡ numbers image
     unfolding overwritten

@@ -5,7 +5,7 @@ use mathlib.Core.Path.{_≡_}
 use mathlib.Core.List.{List}
 use lib.IntN.{pos, natAbs}
 use Rattle.plane.specs.Point.{Point}
-use Rattle.plane.specs.Measure.{lengthSquared, lengthFrom, lengthTo, reach, edgeSquared, widthEdge, widthCorner, widthRounded}
+use Rattle.plane.specs.Measure.{lengthSquared, lengthFrom, lengthTo, height, edgeSquared, widthEdge, widthCorner, widthRounded}
 use Rattle.measure.specs.declared.Length.{Length}
 use Rattle.measure.specs.declared.Width.{Width}
 
@@ -17,6 +17,6 @@ pub record IsLength (ps : List Point) (r : Length) : Type 0 where
 pub record IsWidth (ps : List Point) (r : Width) : Type 0 where
   pub edge-is : r .edge ≡ widthEdge ps
   pub corner-is : r .corner ≡ widthCorner ps
-  pub turn-is : pos (r .turn) ≡ reach ps (widthEdge ps)
+  pub turn-is : pos (r .turn) ≡ height ps (widthEdge ps)
   pub squared-is : pos (r .squared) ≡ edgeSquared ps (widthEdge ps)
-  pub rounded-is : r .rounded ≡ widthRounded (natAbs (reach ps (widthEdge ps))) (natAbs (edgeSquared ps (widthEdge ps)))
+  pub rounded-is : r .rounded ≡ widthRounded (natAbs (height ps (widthEdge ps))) (natAbs (edgeSquared ps (widthEdge ps)))

@@ -18,7 +18,7 @@ use Rattle.plane.specs.Point.{Point, corner, opposite}
 use Rattle.plane.specs.Shape.{IsShape}
 use Rattle.plane.specs.Direction.{support}
 use Rattle.plane.specs.Corner.{mirrored}
-use Rattle.plane.specs.Measure.{squared, edgeTurn, reach, edgeSquared, noWider}
+use Rattle.plane.specs.Measure.{squared, edgeTurn, height, edgeSquared, noWider}
 use Rattle.plane.specs.Cycle.{round}
 use Rattle.calipers.specs.Places.{Place}
 
@@ -48,8 +48,8 @@ pub record Stands (A M : List Point) (back : ℕ → ℕ) (p : Place) (k l : ℕ
 
 pub record Facing (ps : List Point) (e c : ℕ) : Type 0 where
   pub within : c < length ps
-  pub has : edgeTurn ps e c ≡ reach ps e
-  pub sole : (k : ℕ) → k < c → edgeTurn ps e k ≡ reach ps e → ⊥
+  pub has : edgeTurn ps e c ≡ height ps e
+  pub sole : (k : ℕ) → k < c → edgeTurn ps e k ≡ height ps e → ⊥
 
 pub record Narrowest (ps : List Point) (k e : ℕ) : Type 0 where
   pub seen : k ≤ length ps
@@ -59,7 +59,7 @@ pub record Narrowest (ps : List Point) (k e : ℕ) : Type 0 where
 
 pub record Measured (ps : List Point) (e c t q : ℕ) : Type 0 where
   pub facing : Facing ps e c
-  pub turns : reach ps e ≡ pos t
+  pub turns : height ps e ≡ pos t
   pub long : edgeSquared ps e ≡ pos q
 
 pub data Width (ps : List Point) : ℕ → ℕ → ℕ → ℕ → ℕ → Type 0 where

@@ -1,5 +1,7 @@
--- What is answered, what pairs and edges are compared by, and what the two searches know along the walk; then the theory behind it.
+-- What is answered, what pairs and edges are compared by, and what the two searches know along the walk; what length and width mean;
+-- then the theory behind it.
 pub mod Answer
 pub mod Comparison
 pub mod Scan
+pub mod Meaning
 pub mod theory

@@ -1,6 +1,6 @@
 -- The theory of length and width, which only proves: what stands at the places of the walk of a shape and its mirror image.
 pub mod Longest
-pub mod Reach
+pub mod Height
 pub mod Tied
 pub mod PlaceCut
 pub mod MirrorWalk

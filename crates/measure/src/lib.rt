@@ -1,4 +1,5 @@
-// Inner functions for length and width of a shape by rotating calipers (document 01, "Length" and "Width"). Callers ask the crate `questions`.
+// Inner functions for length and width of a shape by rotating calipers (document 01, "Length" and "Width"). Callers ask
+// the crate `questions`.
 mod longest;
 mod narrowest;
 mod place;
@@ -18,8 +19,8 @@ pub struct Length {
     pub to: usize,
 }
 
-// The edge that a shape is narrowest across, the corner furthest from it, the turn of that corner against the edge, the edge's squared length,
-// and the width rounded down.
+// The edge that a shape is narrowest across, the corner furthest from it, the turn of that corner against the edge, the
+// edge's squared length, and the width rounded down.
 pub struct Width {
     pub edge: usize,
     pub corner: usize,
@@ -28,9 +29,9 @@ pub struct Width {
     pub rounded: u64,
 }
 
-// The two corners of a shape that are furthest apart. Of several such pairs: the smallest first position, then the smallest second. A point
-// has 0 at 0, 0, and a segment its own two corners. Parallel edges are passed in one step, and the corners at the greatest distance are met
-// all the same.
+// The two corners of a shape that are furthest apart. Of several such pairs: the smallest first position, then the
+// smallest second. A point has 0 at 0, 0, and a segment its own two corners. Parallel edges are passed in one step, and
+// the corners at the greatest distance are met all the same.
 // Ruled out: ties to the larger position; first position given twice.
 pub fn furthest_pair(list: &[i32]) -> Length
     requires { ⌜ Valid (now list) ⌝ }
@@ -48,9 +49,10 @@ pub fn furthest_pair(list: &[i32]) -> Length
     }
 }
 
-// The edge across which a shape of three corners or more is narrowest. Edges compare by turn·turn/squared as exact fractions. Of several such
-// edges the smallest position; of two corners equally far from it, as where the opposite edge is parallel, the smallest position.
-// Ruled out: later edge on a tie; corner after the tie; rounded width one too large.
+// The edge across which a shape of three corners or more is narrowest. Edges compare by turn·turn/squared as exact
+// fractions. Of several such edges the smallest position; of two corners equally far from it, as where the opposite
+// edge is parallel, the smallest position.
+// Ruled out: later edge on a tie; corner after the tie; widths compared after rounding down.
 pub fn narrowest_edge(list: &[i32]) -> Width
     requires { ⌜ Valid (now list) × (2 < ListN·length (points (now list))) ⌝ }
     ensures { λ r. ⌜ IsWidth (points (now (list .entry))) r ⌝ }

@@ -1,4 +1,4 @@
-// The two corners of a shape that are furthest apart. The walk round the shape and its mirror image
+// Inner functions: the two corners of a shape that are furthest apart. The walk round the shape and its mirror image
 // comes to the one and to the opposite of the other at the same place.
 ghost use Prim.Native.Nat.{_<_};
 ghost use lib.ListN.{length};

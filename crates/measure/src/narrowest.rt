@@ -1,4 +1,4 @@
-// The edge across which a shape is narrowest. When the walk round the shape and its mirror image
+// Inner functions: the edge across which a shape is narrowest. When the walk round the shape and its mirror image
 // passes an edge of the shape, it stands at the opposite of the corner that is furthest from it.
 ghost use mathlib.Core.Path.{_≡_};
 ghost use Prim.Native.Nat.{_<_};

@@ -1,4 +1,4 @@
-// Positions of a list from positions of its mirror image, and the distance of two corners.
+// Inner functions: positions of a list from positions of its mirror image, and the distance of two corners.
 ghost use mathlib.Core.Path.{_≡_};
 ghost use Prim.Native.Nat.{_<_};
 ghost use lib.ListN.{length};
@@ -7,6 +7,7 @@ ghost use Rattle.plane.specs.Refusal.{InRange};
 ghost use Rattle.plane.specs.Measure.{squared};
 ghost use Rattle.plane.specs.Cycle.{turned};
 use polygon::corners;
+use polygon::point;
 
 // The position of the corner whose opposite is corner k of the image. The image begins at the top.
 pub fn opposite_of(list: &[i32], top: usize, k: usize) -> usize
@@ -24,7 +25,5 @@ pub fn squared_at(list: &[i32], a: usize, b: usize) -> i64
     ensures { λ r. ⌜ r ≡ squared (corner (points (now (list .entry))) a)
         (corner (points (now (list .entry))) b) ⌝ }
 {
-    let dx = corners::dx(list, b, a) as i64;
-    let dy = corners::dy(list, b, a) as i64;
-    dx * dx + dy * dy
+    point::squared(corners::corner_at(list, a), corners::corner_at(list, b))
 }

@@ -2,54 +2,42 @@
 -- The rows are quoted in 01's order; a row is what the definition gives and what 01 states.
 use mathlib.Core.Path.{_≡_, refl}
 use mathlib.Core.Bool.{cond}
-use mathlib.Core.List.{List, [], _∷_, map}
-use Prim.Native.Nat.{ℕ}
+use mathlib.Core.List.{List, [], _∷_, _++_, map}
+use Prim.Native.Nat.{ℕ, _+_}
 use lib.IntN.{ℤ, pos, negsuc}
 use lib.ListN.{length, replicate}
 use lib.Signed.{ltZ}
 use Rattle.plane.specs.Limits.{maxCorners, maxCoordinate, maxPart}
-use Rattle.plane.specs.Point.{points, corner}
+use Rattle.plane.specs.Point.{points, corner, samePoint}
 use Rattle.plane.specs.Turn.{turn}
 use Rattle.plane.specs.Shape.{next, breaks, precedes}
 use Rattle.plane.specs.Reply.{Reply, answered, refused}
-use Rattle.plane.specs.Refusal.{badCount, tooMany, outside, someOutside, equalPair, leftBroken, breakingEdge, breakingCorner, ruleBroken, brokenEdge, brokenCorner, badStart}
+use Rattle.plane.specs.Refusal.{badCount, tooMany, outside, someOutside, equalPair, leftBroken, breakingEdge, breakingCorner}
+use Rattle.plane.specs.Refusal.{ruleBroken, brokenEdge, brokenCorner, badStart}
 use Rattle.plane.specs.Judge.{judged}
 use Rattle.plane.specs.Direction.{max}
 use Rattle.plane.specs.Corner.{shapeOf}
 use Rattle.plane.specs.Output.{Written, noRoom, overwritten}
 use Rattle.plane.specs.Combine.{sumWritten, mergeWritten}
-use Rattle.plane.specs.Measure.{
-  squared,
-  lengthSquared,
-  furthestPair,
-  lengthFrom,
-  lengthTo,
-  lengthReply,
-  edgeTurn,
-  reach,
-  edgeSquared,
-  noWider,
-  widthEdge,
-  widthCorner,
-  widthRounded,
-  widthReply,
-}
+use Rattle.plane.specs.Measure.{squared, lengthSquared, furthestPair, lengthFrom, lengthTo, lengthReply, edgeTurn, height}
+use Rattle.plane.specs.Measure.{edgeSquared, noWider, widthEdge, widthCorner, widthRounded, widthReply}
 use Rattle.plane.specs.Separation.{inside, apart, notLeft, onRim, touching, relationReply}
 
+-- what the definition gives and what 01 states: each a reply and a whole output
 pub record Case : Type 0 where
-  pub reply : Reply
-  pub output : List ℤ
-  pub stated : Reply
-  pub numbers : List ℤ
+  pub given : Written
+  pub stated : Written
 
--- an answer alone, and an answer with the whole output, of as many numbers as the answer has
+-- a question that writes nothing
 abbrev says : Reply → Reply → Case
-says r s = record { reply = r; output = []; stated = s; numbers = [] }
+says r s = record { given = record { reply = r; output = [] }; stated = record { reply = s; output = [] } }
 
+-- a question that writes so many corners: it is lent an output full of 7s, two numbers longer than the answer, and these two stay
 abbrev writes : (List ℤ → Written) → ℕ → List ℤ → Case
-writes call n l =
-    let w = call (replicate (length l) (pos 0)) in
-    record { reply = w .reply; output = w .output; stated = answered (pos n ∷ []); numbers = l }
+writes call n l = record {
+  given = call (replicate (length l + 2) (pos 7));
+  stated = record { reply = answered (pos n ∷ []); output = l ++ (pos 7 ∷ pos 7 ∷ []) };
+}
 
 -- 0 0 2 0 2 2 0 2
 abbrev S : List ℤ
@@ -83,13 +71,16 @@ turnsLeft l e =
 pub rows : List Case
 rows =
     -- S plus T, whole output: 5 corners
-    writes (λ out. sumWritten S T out) 5 (pos 0 ∷ pos 0 ∷ pos 3 ∷ pos 0 ∷ pos 3 ∷ pos 2 ∷ pos 2 ∷ pos 3 ∷ pos 0 ∷ pos 3 ∷ [])
+    writes (λ out. sumWritten S T out) 5
+    (pos 0 ∷ pos 0 ∷ pos 3 ∷ pos 0 ∷ pos 3 ∷ pos 2 ∷ pos 2 ∷ pos 3 ∷ pos 0 ∷ pos 3 ∷ [])
     -- Segment 0 0 2 0 plus segment 0 0 1 0
     ∷ writes (λ out. sumWritten (segment 0 0 2 0) (segment 0 0 1 0) out) 2 (segment 0 0 3 0)
     -- Segment 0 0 2 0 plus segment 0 0 0 1
-    ∷ writes (λ out. sumWritten (segment 0 0 2 0) (segment 0 0 0 1) out) 4 (pos 0 ∷ pos 0 ∷ pos 2 ∷ pos 0 ∷ pos 2 ∷ pos 1 ∷ pos 0 ∷ pos 1 ∷ [])
+    ∷ writes (λ out. sumWritten (segment 0 0 2 0) (segment 0 0 0 1) out) 4
+    (pos 0 ∷ pos 0 ∷ pos 2 ∷ pos 0 ∷ pos 2 ∷ pos 1 ∷ pos 0 ∷ pos 1 ∷ [])
     -- S merged with point 5 1, with point 4 0, with point 1 1
-    ∷ writes (λ out. mergeWritten S (pair 5 1) out) 5 (pos 0 ∷ pos 0 ∷ pos 2 ∷ pos 0 ∷ pos 5 ∷ pos 1 ∷ pos 2 ∷ pos 2 ∷ pos 0 ∷ pos 2 ∷ [])
+    ∷ writes (λ out. mergeWritten S (pair 5 1) out) 5
+    (pos 0 ∷ pos 0 ∷ pos 2 ∷ pos 0 ∷ pos 5 ∷ pos 1 ∷ pos 2 ∷ pos 2 ∷ pos 0 ∷ pos 2 ∷ [])
     ∷ writes (λ out. mergeWritten S (pair 4 0) out) 4 (pos 0 ∷ pos 0 ∷ pos 4 ∷ pos 0 ∷ pos 2 ∷ pos 2 ∷ pos 0 ∷ pos 2 ∷ [])
     ∷ writes (λ out. mergeWritten S (pair 1 1) out) 4 S
     -- Points 3 1 and 0 1 merged
@@ -110,7 +101,11 @@ rows =
     ∷ says (judged star) (refused 4 (1 ∷ 0 ∷ 3 ∷ []))
     ∷ []
 
-pub rows-hold : (map (λ (r : Case). r .reply) rows ≡ map (λ (r : Case). r .stated) rows)
-    × (map (λ (r : Case). r .output) rows ≡ map (λ (r : Case). r .numbers) rows)
-unfolding rows turn breaks precedes maxCorners maxCoordinate maxPart badCount tooMany outside someOutside equalPair leftBroken breakingEdge breakingCorner ruleBroken brokenEdge brokenCorner badStart judged max shapeOf noRoom overwritten sumWritten mergeWritten squared lengthSquared furthestPair lengthFrom lengthTo lengthReply edgeTurn reach edgeSquared noWider widthEdge widthCorner widthRounded widthReply inside apart notLeft onRim touching relationReply
-rows-hold = (refl, refl)
+pub rows-hold : map (λ (r : Case). r .given) rows ≡ map (λ (r : Case). r .stated) rows
+unfolding rows maxCorners maxCoordinate maxPart turn breaks precedes samePoint max shapeOf
+    badCount tooMany outside someOutside equalPair leftBroken breakingEdge breakingCorner ruleBroken brokenEdge brokenCorner badStart judged
+    noRoom overwritten sumWritten mergeWritten
+    squared lengthSquared furthestPair lengthFrom lengthTo lengthReply
+    edgeTurn height edgeSquared noWider widthEdge widthCorner widthRounded widthReply
+    inside apart notLeft onRim touching relationReply
+rows-hold = refl

@@ -4,17 +4,16 @@
 --     ascending S      the different points of S by y, then by x
 --     push, scan       one point of an ascending (or descending) list is read, or all: what is kept stands last first and turns left
 --     side ps          the points kept of such a list, without its last: the right-hand chain up, or the left-hand chain down
---     around ps        up the right side of an ascending list, from the least point to the greatest, and down the left side
---     shapeOf S        the shape of the set: around its ascending points
+--     outline ps       up the right side of an ascending list, from the least point to the greatest, and down the left side
+--     shapeOf S        the shape of the set: the outline of its ascending points
 --     sums A B         all corner-plus-corner points of two lists; `sumsOf` of a list of lists, one corner of each, chosen separately
 --     mirrored A       all (-x, -y)
 -- What it means: shapeOf S is a shape, p is in it exactly if Corner S p, and every list with these two properties equals it
 -- (`Meaning.antt`).
-use mathlib.Core.Bool.{Bool, true, false}
-use mathlib.Core.List.{List, [], _∷_, _++_, map, reverse, List·Memᴰ}
+use mathlib.Core.Bool.{true, false}
+use mathlib.Core.List.{List, [], _∷_, _++_, map, tail, reverse, List·Memᴰ}
 use mathlib.Core.Path.{_≡_}
-use Prim.Native.Nat.{ℕ}
-use lib.IntN.{ℤ, pos}
+use lib.IntN.{pos}
 use lib.Signed.{ltZ, _<ℤ_}
 use Rattle.plane.specs.Point.{Point, origin, _⊕_, opposite}
 use Rattle.plane.specs.Turn.{turn}
@@ -49,21 +48,17 @@ abbrev pub scan : List Point → List Point → List Point
 scan kept [] = kept
 scan kept (p ∷ ps) = scan (push p kept) ps
 
--- from the first point of a sorted list up to, and without, its last
-abbrev pub withoutFirst : List Point → List Point
-withoutFirst [] = []
-withoutFirst (p ∷ ps) = ps
-
+-- from the first point of a sorted list up to, and without, its last, which the scan has put first
 abbrev pub side : List Point → List Point
-side ps = reverse (withoutFirst (scan [] ps))
+side ps = reverse (tail (scan [] ps))
 
-abbrev pub around : List Point → List Point
-around [] = []
-around (p ∷ []) = p ∷ []
-around (p ∷ (q ∷ ps)) = side (p ∷ q ∷ ps) ++ side (reverse (p ∷ q ∷ ps))
+abbrev pub outline : List Point → List Point
+outline [] = []
+outline (p ∷ []) = p ∷ []
+outline (p ∷ (q ∷ ps)) = side (p ∷ q ∷ ps) ++ side (reverse (p ∷ q ∷ ps))
 
 unfoldable pub shapeOf : List Point → List Point
-shapeOf S = around (ascending S)
+shapeOf S = outline (ascending S)
 
 -- ---- the sets of sum, merge and mirror
 

@@ -2,7 +2,7 @@
 --     maxCorners       "1 to 512 corners"
 --     maxCoordinate    "each coordinate from -1,000,000 to 1,000,000"
 --     maxPart          the parts of a direction, refusal 11: "-2,000,000 to 2,000,000"
-use Prim.Native.Nat.{ℕ, _≤_, _*_, _^_}
+use Prim.Native.Nat.{ℕ, _≤_, _^_}
 use lib.Dec.{lit≤}
 
 unfoldable pub maxCorners : ℕ

@@ -1,39 +1,46 @@
 -- What the definitions mean, in document 01's words. Each theorem is proved in the theory; here it is only cited.
---     judging        accepted and valid are the same; a refusal is given exactly when its row says; how large turns and values get
+--     judging        accepted and valid are the same; how large turns and values get; where row 4 finds the rules broken
+--     the table      of every question, a refusal is given exactly when its row says; what is written, and what is left untouched
 --     corners        the shape of a set is the standard list of its corners, and the only one
 --     forms          three ways to say that a list is a shape
 --     directions     how far sums, lists taken together and mirrored lists reach; a shape is known by how far it reaches
 --     mirror         refusals 6 and 7 cannot come of it
 use mathlib.Core.Path.{_≡_, refl}
-use mathlib.Core.Bool.{false}
+use mathlib.Core.Bool.{true, false}
 use mathlib.Core.List.{List, [], _∷_, _++_}
 use Prim.Native.Nat.{ℕ, _<_}
-use lib.ListN.{length}
+use lib.ListN.{length, drop}
 use lib.IntN.{ℤ, pos, _+ℤ_}
 use Rattle.integer.specs.Bound.{Within}
 use Rattle.plane.specs.Limits.{maxPart}
 use Rattle.plane.specs.Point.{Point, points, numbers, corner, opposite}
 use Rattle.plane.specs.Turn.{turn}
-use Rattle.plane.specs.Shape.{IsShape}
+use Rattle.plane.specs.Shape.{breaks, IsShape}
 use Rattle.plane.specs.Reply.{answered, refused, Row}
-use Rattle.plane.specs.Refusal.{tooMany, someOutside, shapeRows, InRange, Valid}
+use Rattle.plane.specs.Refusal.{tooMany, someOutside, equalPair, leftBroken, breakingEdge, breakingCorner, shapeRows, InRange, Valid}
 use Rattle.plane.specs.Judge.{judged}
 use Rattle.plane.specs.Direction.{value, support, max}
 use Rattle.plane.specs.Corner.{Corner, shapeOf, sums, mirrored}
 use Rattle.plane.specs.Forms.{Ordered, Sorted, edges}
+use Rattle.plane.specs.Output.{overwritten, written}
+use Rattle.plane.specs.Question.{Question, reply, table}
 use Rattle.plane.specs.theory.lists.Members.{_∈_, _⊆_}
-use Rattle.plane.specs.theory.refusals.Rows.{First, firstRow-given, firstRow-none, firstRow-answered, firstRow-refused}
+use Rattle.plane.specs.theory.refusals.Rows.{NoneApply, First, firstRow-none, firstRow-answered}
 use Rattle.plane.specs.theory.lists.Flat.{points-near}
+use Rattle.plane.specs.theory.refusals.Tests.{equalPair-equal, break-found, break-first-edge, break-first-corner}
 use Rattle.plane.specs.theory.refusals.Accept.{accepted→valid, valid→accepted}
+use Rattle.plane.specs.theory.refusals.Write.{refused-output, answered-output}
+use Rattle.plane.specs.theory.refusals.Tables.{table-given, table-refused, table-none, table-answered}
 use Rattle.plane.specs.theory.forms.Standard.{shape→sorted, sorted→ordered, ordered→shape}
 use Rattle.plane.specs.theory.support.Support.{support-append, support-sums, support-mirrored}
-use Rattle.plane.specs.theory.hull.ShapeOf.{shapeOf-support, shapeOf-shape, shapeOf-corner, corner-shapeOf, shapeOf-unique, shapeOf-same, shape-extensional, shape-known, shape-own}
+use Rattle.plane.specs.theory.hull.ShapeOf.{shapeOf-support, shapeOf-shape, shapeOf-corner, corner-shapeOf, shapeOf-unique}
+use Rattle.plane.specs.theory.hull.ShapeOf.{shapeOf-same, shape-extensional, shape-known, shape-own}
 use Rattle.plane.specs.theory.support.Bounds.{turn-size, value-size, support-size}
 use Rattle.plane.specs.theory.sum.Cut.{cutSum, cut-formula}
 use Rattle.plane.specs.VectorSum.{vectorSum}
 use Rattle.plane.specs.theory.sum.EdgeSum.{vectorSum-shape}
 use Rattle.plane.specs.theory.mirror.Mirror.{mirror-count}
-use Rattle.plane.specs.theory.mirror.MirrorWritten.{mirror-few, mirror-inside}
+use Rattle.plane.specs.theory.mirror.MirrorWritten.{mirror-few, mirror-near}
 
 -- ---- judging
 
@@ -52,17 +59,6 @@ module _ (l : List ℤ) where
   pub accepted-counts-corners : (v : List ℤ) → judged l ≡ answered v → v ≡ pos (length (points l)) ∷ []
   accepted-counts-corners v h = cc (valid-is-accepted (accepted-is-valid v h))
 
-  -- "Given exactly when", in number order: a row that applies, and none before it, refuses the list
-  pub first-row-refuses : {w : Row} → First w (shapeRows 1 l) → judged l ≡ refused (w .number) (w .carries)
-  unfolding judged
-  first-row-refuses f = firstRow-given _ f
-
-  -- and nothing else does
-  pub refused-by-first-row : (n : ℕ) (carries : List ℕ) → judged l ≡ refused n carries
-      → (w : Row) × First w (shapeRows 1 l) × (w .number ≡ n) × (w .carries ≡ carries)
-  unfolding judged
-  refused-by-first-row n carries h = firstRow-refused (shapeRows 1 l) _ n carries h
-
   module _ (r : InRange l) where
     -- "No turn exceeds 8,000,000,000,000 in size"
     pub turn-bounded : (a b c : ℕ) → a < length (points l) → b < length (points l) → c < length (points l)
@@ -77,6 +73,58 @@ module _ (l : List ℤ) where
       -- and so is the greatest, "that value (at most 4,000,000,000,000 in size)"
       pub support-bounded : 0 < length (points l) → Within 4_000_000_000_000 (support d (points l))
       support-bounded some = support-size l r u v some
+
+-- row 4, of the corners of a list
+module _ (ps : List Point) where
+  -- "two equal corners in a list of two"
+  pub equal-pair-is-equal : equalPair ps ≡ true → (length ps ≡ 2) × (corner ps 0 ≡ corner ps 1)
+  equal-pair-is-equal h = equalPair-equal ps h
+
+  -- "the first edge, then the first corner, that breaks the left rule": they are of the list, and break it
+  pub breaking-corner-breaks : leftBroken ps ≡ true → (breakingEdge ps < length ps) × (breakingCorner ps < length ps)
+      × (breaks ps (breakingEdge ps) (breakingCorner ps) ≡ true)
+  breaking-corner-breaks h = break-found ps h
+
+  -- no corner breaks it at an earlier edge
+  pub no-earlier-edge-broken : (e c : ℕ) → e < breakingEdge ps → c < length ps → breaks ps e c ≡ false
+  no-earlier-edge-broken e c h k = break-first-edge ps e c h k
+
+  -- and no earlier corner at that edge
+  pub no-earlier-corner-breaks : (c : ℕ) → c < breakingCorner ps → breaks ps (breakingEdge ps) c ≡ false
+  no-earlier-corner-breaks c h = break-first-corner ps c h
+
+-- ---- the table
+
+module _ (q : Question) where
+  -- "Given exactly when", "Several at once: ..": of any question, a row that applies, with none before it, gives its refusal
+  pub first-row-refuses : {w : Row} → First w (table q) → reply q ≡ refused (w .number) (w .carries)
+  first-row-refuses f = table-given q f
+
+  -- and nothing else does
+  pub refused-by-first-row : (n : ℕ) (carries : List ℕ) → reply q ≡ refused n carries
+      → (w : Row) × First w (table q) × (w .number ≡ n) × (w .carries ≡ carries)
+  refused-by-first-row n carries h = table-refused q n carries h
+
+  -- "Refusing everything fails .. the table's "exactly"": where no row applies, the question is answered
+  pub answered-if-none : NoneApply (table q) → (values : List ℤ) × (reply q ≡ answered values)
+  answered-if-none n = table-none q n
+
+  -- and only there
+  pub none-if-answered : (values : List ℤ) → reply q ≡ answered values → NoneApply (table q)
+  none-if-answered values h = table-answered q values h
+
+-- whatever the table and the shape of a question that writes
+module _ (rows : List Row) (shape : List Point) (out : List ℤ) where
+  -- "The output is untouched on refusal"
+  pub refused-leaves-output : (n : ℕ) (carries : List ℕ) → written rows shape out .reply ≡ refused n carries
+      → written rows shape out .output ≡ out
+  refused-leaves-output n carries h = refused-output rows shape out n carries h
+
+  -- "On success only its first numbers are written, and the answer says how many corners"
+  pub answered-writes-shape : (v : List ℤ) → written rows shape out .reply ≡ answered v
+      → (v ≡ pos (length shape) ∷ []) × (written rows shape out .output ≡ numbers shape ++ drop (length (numbers shape)) out)
+  unfolding overwritten
+  answered-writes-shape v h = answered-output rows shape out v h
 
 -- ---- corners
 
@@ -157,7 +205,8 @@ pub shapes-with-equal-reach : (A B : List Point) → IsShape A → IsShape B →
 shapes-with-equal-reach A B s t same = shape-extensional A B s t same
 
 -- a shape that reaches as far as a set in every direction is the shape of the set
-pub shape-with-reach-of-set : (ps S : List Point) → IsShape ps → 0 < length S → ((d : Point) → support d ps ≡ support d S) → ps ≡ shapeOf S
+pub shape-with-reach-of-set : (ps S : List Point) → IsShape ps → 0 < length S → ((d : Point) → support d ps ≡ support d S)
+    → ps ≡ shapeOf S
 shape-with-reach-of-set ps S s some same = shape-known ps S s some same
 
 -- ---- mirror
@@ -173,4 +222,4 @@ module _ (l : List ℤ) (v : Valid l) where
 
   -- nor 7, "a corner of the answer is out of range"
   pub mirror-is-never-out-of-range : someOutside (numbers (shapeOf (mirrored (points l)))) ≡ false
-  mirror-is-never-out-of-range = mirror-inside l v
+  mirror-is-never-out-of-range = mirror-near l v

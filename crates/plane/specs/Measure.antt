@@ -2,21 +2,21 @@
 --     greatest f n       the greatest of f 0, .., f (n-1), and least f n the least; 0 where n is 0
 --     squared p q        the squared distance of two corners
 --     lengthSquared ps   the greatest squared distance between two corners, had at positions lengthFrom ps ≤ lengthTo ps
---     reach ps e         "for each edge, the greatest turn t over the corners", and edgeSquared ps e "the edge's squared length q"
+--     height ps e        "for each edge, the greatest turn t over the corners", and edgeSquared ps e "the edge's squared length q"
 --     widthEdge ps       the edge with the least t·t/q; widthCorner ps the smallest corner position that has its greatest turn
 --     widthRounded t q   "w, the width rounded down: w·w·q ≤ t·t < (w+1)·(w+1)·q"
-use mathlib.Core.Bool.{Bool, not, _&&_}
+use mathlib.Core.Bool.{Bool, _&&_}
 use mathlib.Core.List.{List, [], _∷_, _++_}
 use Prim.Native.Nat.{ℕ, zero, suc, _+_, _*_}
 use lib.Dec.{leb, ltb}
-use lib.IntN.{ℤ, pos, negℤ, natAbs, _+ℤ_, _-ℤ_, _*ℤ_}
+use lib.IntN.{ℤ, pos, natAbs, _+ℤ_, _-ℤ_, _*ℤ_}
 use lib.ListN.{length}
 use lib.Signed.{leZ}
 use Rattle.plane.specs.Point.{Point, points, corner}
 use Rattle.plane.specs.Turn.{turn}
-use Rattle.plane.specs.Search.{first}
+use Rattle.plane.specs.Search.{some, every, first}
 use Rattle.plane.specs.Shape.{next}
-use Rattle.plane.specs.Direction.{max}
+use Rattle.plane.specs.Direction.{max, min}
 use Rattle.plane.specs.Reply.{Reply, answered, row, firstRow}
 use Rattle.plane.specs.Refusal.{shapeRows}
 
@@ -26,7 +26,9 @@ greatest f (suc zero) = f 0
 greatest f (suc (suc n)) = max (f 0) (greatest (λ i. f (suc i)) (suc n))
 
 abbrev pub least : (ℕ → ℤ) → ℕ → ℤ
-least f n = negℤ (greatest (λ i. negℤ (f i)) n)
+least f zero = pos 0
+least f (suc zero) = f 0
+least f (suc (suc n)) = min (f 0) (least (λ i. f (suc i)) (suc n))
 
 unfoldable pub squared : Point → Point → ℤ
 squared p q = (p .x -ℤ q .x) *ℤ (p .x -ℤ q .x) +ℤ (p .y -ℤ q .y) *ℤ (p .y -ℤ q .y)
@@ -41,7 +43,7 @@ unfoldable pub furthestPair : List Point → ℕ → ℕ → Bool
 furthestPair ps i j = leb i j && leZ (lengthSquared ps) (squared (corner ps i) (corner ps j))
 
 unfoldable pub lengthFrom : List Point → ℕ
-lengthFrom ps = first (λ i. ltb (first (furthestPair ps i) (length ps)) (length ps)) (length ps)
+lengthFrom ps = first (λ i. some (furthestPair ps i) (length ps)) (length ps)
 
 unfoldable pub lengthTo : List Point → ℕ
 lengthTo ps = first (furthestPair ps (lengthFrom ps)) (length ps)
@@ -56,23 +58,23 @@ lengthReply l =
 unfoldable pub edgeTurn : List Point → ℕ → ℕ → ℤ
 edgeTurn ps e c = turn (corner ps e) (corner ps (next (length ps) e)) (corner ps c)
 
-unfoldable pub reach : List Point → ℕ → ℤ
-reach ps e = greatest (edgeTurn ps e) (length ps)
+unfoldable pub height : List Point → ℕ → ℤ
+height ps e = greatest (edgeTurn ps e) (length ps)
 
 unfoldable pub edgeSquared : List Point → ℕ → ℤ
 edgeSquared ps e = squared (corner ps e) (corner ps (next (length ps) e))
 
 -- "Edges compare by t·t/q as exact fractions": edge e is no wider than edge f
 unfoldable pub noWider : List Point → ℕ → ℕ → Bool
-noWider ps e f = leZ (reach ps e *ℤ reach ps e *ℤ edgeSquared ps f) (reach ps f *ℤ reach ps f *ℤ edgeSquared ps e)
+noWider ps e f = leZ (height ps e *ℤ height ps e *ℤ edgeSquared ps f) (height ps f *ℤ height ps f *ℤ edgeSquared ps e)
 
 -- "The least wins, smallest edge position on a tie": the first edge that is no wider than any
 unfoldable pub widthEdge : List Point → ℕ
-widthEdge ps = first (λ e. leb (length ps) (first (λ f. not (noWider ps e f)) (length ps))) (length ps)
+widthEdge ps = first (λ e. every (noWider ps e) (length ps)) (length ps)
 
 -- "then the smallest corner position that has the greatest turn"
 unfoldable pub widthCorner : List Point → ℕ
-widthCorner ps = first (λ c. leZ (reach ps (widthEdge ps)) (edgeTurn ps (widthEdge ps) c)) (length ps)
+widthCorner ps = first (λ c. leZ (height ps (widthEdge ps)) (edgeTurn ps (widthEdge ps) c)) (length ps)
 
 -- the first w with t·t < (w+1)·(w+1)·q; where q is not 0 it is at most t
 unfoldable pub widthRounded : ℕ → ℕ → ℕ
@@ -84,5 +86,5 @@ widthReply l =
     let ps = points l in
     let e = widthEdge ps in
     firstRow (shapeRows 1 l ++ (row 10 (ltb (length ps) 3) [] ∷ []))
-    (answered (pos e ∷ pos (widthCorner ps) ∷ reach ps e ∷ edgeSquared ps e
-    ∷ pos (widthRounded (natAbs (reach ps e)) (natAbs (edgeSquared ps e))) ∷ []))
+    (answered (pos e ∷ pos (widthCorner ps) ∷ height ps e ∷ edgeSquared ps e
+    ∷ pos (widthRounded (natAbs (height ps e)) (natAbs (edgeSquared ps e))) ∷ []))

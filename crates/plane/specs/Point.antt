@@ -3,10 +3,13 @@
 --     points l      the corners that a list of numbers holds, in its order; an odd last number is left out
 --     numbers ps    the list of numbers that holds these corners
 --     corner ps i   the corner at position i, counted from 0; the origin past the end
+--     samePoint p q   p and q are the same point: eqZ of both coordinates
+use mathlib.Core.Bool.{Bool, false, _&&_}
 use mathlib.Core.List.{List, [], _∷_}
 use Prim.Native.Nat.{ℕ}
+use lib.Dec.{eqb}
 use lib.ListN.{getD}
-use lib.IntN.{ℤ, pos, negℤ, _+ℤ_, _-ℤ_}
+use lib.IntN.{ℤ, pos, negsuc, negℤ, _+ℤ_, _-ℤ_}
 
 pub record Point : Type 0 where
   pub x : ℤ
@@ -40,3 +43,13 @@ numbers (p ∷ ps) = p .x ∷ p .y ∷ numbers ps
 
 abbrev pub corner : List Point → ℕ → Point
 corner ps i = getD ps i origin
+
+-- two numbers are equal: the kit has this test for ℕ
+abbrev pub eqZ : ℤ → ℤ → Bool
+eqZ (pos m) (pos n) = eqb m n
+eqZ (pos m) (negsuc n) = false
+eqZ (negsuc m) (pos n) = false
+eqZ (negsuc m) (negsuc n) = eqb m n
+
+unfoldable pub samePoint : Point → Point → Bool
+samePoint p q = eqZ (p .x) (q .x) && eqZ (p .y) (q .y)

@@ -3,16 +3,16 @@
 --     InRange l            "each coordinate from -1,000,000 to 1,000,000"
 --     Valid l              l meets all that stands under "What makes a shape"
 -- What it means: `valid→accepted`, `accepted→valid`.
-use mathlib.Core.Bool.{Bool, true, false, not, cond, _&&_, _||_}
+use mathlib.Core.Bool.{Bool, false, cond, _&&_, _||_}
 use mathlib.Core.List.{List, [], _∷_}
 use mathlib.Core.Path.{_≡_}
-use Prim.Native.Nat.{ℕ, _%_, _+_, _≤_, _<_}
-use lib.Dec.{eqb, ltb, leb}
+use Prim.Native.Nat.{ℕ, _%_, _≤_, _<_}
+use lib.Dec.{eqb, ltb}
 use lib.ListN.{length, getD}
 use lib.IntN.{ℤ, pos, natAbs}
 use Rattle.integer.specs.Bound.{Within}
 use Rattle.plane.specs.Limits.{maxCorners, maxCoordinate}
-use Rattle.plane.specs.Point.{Point, points, corner}
+use Rattle.plane.specs.Point.{Point, points, corner, samePoint}
 use Rattle.plane.specs.Search.{some, first}
 use Rattle.plane.specs.Shape.{breaks, precedes, IsShape}
 use Rattle.plane.specs.Reply.{Row, row}
@@ -30,11 +30,12 @@ unfoldable pub outside : ℤ → Bool
 outside z = ltb maxCoordinate (natAbs z)
 
 unfoldable pub someOutside : List ℤ → Bool
-someOutside l = ltb (first (λ i. outside (getD l i (pos 0))) (length l)) (length l)
+someOutside [] = false
+someOutside (z ∷ l) = outside z || someOutside l
 
 -- "two equal corners in a list of two"
 unfoldable pub equalPair : List Point → Bool
-equalPair ps = eqb (length ps) 2 && (not (precedes (corner ps 0) (corner ps 1)) && not (precedes (corner ps 1) (corner ps 0)))
+equalPair ps = eqb (length ps) 2 && samePoint (corner ps 0) (corner ps 1)
 
 -- "the left rule broken": at some edge, by some corner
 unfoldable pub leftBroken : List Point → Bool
@@ -60,7 +61,7 @@ brokenCorner ps = cond (equalPair ps) 1 (breakingCorner ps)
 
 -- 5: "the corners pass, but the first is not the standard one"
 unfoldable pub badStart : List Point → Bool
-badStart ps = ltb (first (λ c. precedes (corner ps c) (corner ps 0)) (length ps)) (length ps)
+badStart ps = some (λ c. precedes (corner ps c) (corner ps 0)) (length ps)
 
 abbrev pub shapeRows : ℕ → List ℤ → List Row
 shapeRows which l =

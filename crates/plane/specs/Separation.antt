@@ -13,10 +13,10 @@ use lib.Dec.{ltb}
 use lib.IntN.{ℤ, pos}
 use lib.ListN.{length}
 use lib.Signed.{leZ}
-use Rattle.plane.specs.Point.{Point, origin, points, corner}
+use Rattle.plane.specs.Point.{Point, origin, points, corner, samePoint}
 use Rattle.plane.specs.Turn.{turn}
-use Rattle.plane.specs.Search.{first}
-use Rattle.plane.specs.Shape.{next, precedes}
+use Rattle.plane.specs.Search.{some}
+use Rattle.plane.specs.Shape.{next}
 use Rattle.plane.specs.Reply.{Reply, answered, firstRow}
 use Rattle.plane.specs.Refusal.{shapeRows}
 use Rattle.plane.specs.Corner.{shapeOf, sums, mirrored}
@@ -27,7 +27,7 @@ abbrev pub sameCorners : List Point → List Point → Bool
 sameCorners [] [] = true
 sameCorners [] (q ∷ qs) = false
 sameCorners (p ∷ ps) [] = false
-sameCorners (p ∷ ps) (q ∷ qs) = not (precedes p q) && (not (precedes q p) && sameCorners ps qs)
+sameCorners (p ∷ ps) (q ∷ qs) = samePoint p q && sameCorners ps qs
 
 unfoldable pub inside : List Point → List Point → Bool
 inside A B = sameCorners (shapeOf (A ++ B)) (shapeOf B)
@@ -44,7 +44,7 @@ notLeft ps e = leZ (turn (corner ps e) (corner ps (next (length ps) e)) origin) 
 
 -- a point or a segment, or a polygon with the origin on or outside an edge
 unfoldable pub onRim : List Point → Bool
-onRim ps = ltb (length ps) 3 || ltb (first (notLeft ps) (length ps)) (length ps)
+onRim ps = ltb (length ps) 3 || some (notLeft ps) (length ps)
 
 unfoldable pub touching : List Point → List Point → Bool
 touching A B = not (apart A B) && onRim (shapeOf (differences A B))

@@ -6,12 +6,12 @@
 --     IsShape ps      ps is a shape: a point, a segment of two different corners, or a polygon that keeps the left rule,
 --                     with no corner that precedes the first
 use mathlib.Core.Path.{_≡_}
-use mathlib.Core.Bool.{Bool, true, false, not, cond, _&&_, _||_}
+use mathlib.Core.Bool.{Bool, false, not, cond, _&&_, _||_}
 use mathlib.Core.List.{List}
 use Prim.Native.Nat.{ℕ, _+_, _<_}
 use lib.Dec.{eqb}
 use lib.ListN.{length}
-use lib.IntN.{ℤ, pos}
+use lib.IntN.{pos}
 use lib.Signed.{ltZ, leZ}
 use Rattle.plane.specs.Point.{Point, corner}
 use Rattle.plane.specs.Turn.{turn, Left}

@@ -4,11 +4,11 @@
 --     Left a b c    c lies strictly to the left
 -- What it means: `turn-cycle` (any edge of the triangle may be taken), `turn-swap` (an edge read backwards).
 use mathlib.Core.Path.{_≡_, refl}
-use mathlib.Core.List.{List, [], _∷_}
+use mathlib.Core.List.{[], _∷_}
 use lib.IntN.{ℤ, pos, negℤ, _-ℤ_, _*ℤ_}
 use lib.Signed.{_<ℤ_}
 use Rattle.integer.specs.Ring.{ring, reify}
-use Rattle.plane.specs.Point.{Point, point, _⊖_}
+use Rattle.plane.specs.Point.{Point, _⊖_}
 
 unfoldable pub cross : Point → Point → ℤ
 cross e f = e .x *ℤ f .y -ℤ e .y *ℤ f .x

@@ -1,4 +1,7 @@
--- What the functions of this crate promise, beside the plane's definitions; then the theory of the furthest corner and of fronts.
+-- The code's points and what the functions of this crate promise, beside the plane's definitions; what the furthest corner means; then the
+-- theory behind it.
+pub mod Point
 pub mod Broken
 pub mod Front
+pub mod Meaning
 pub mod theory

@@ -1,8 +1,9 @@
-// Inner functions on one list of corners, for the crates above: corners by position, the rules that make a shape, directions, the mirror
-// image, the limits. Callers ask the crate `questions`.
+// Inner functions on one list of corners, for the crates above: corners by position, the rules that make a shape,
+// directions, the mirror image, the limits. Callers ask the crate `questions`.
 pub mod corners;
 pub mod direction;
 pub mod limits;
 pub mod numbers;
 pub mod opposite;
+pub mod point;
 pub mod rules;

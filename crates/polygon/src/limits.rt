@@ -20,6 +20,7 @@ pub const SHAPE_NUMBERS: usize = 2 * MAX_CORNERS;
 pub const PAIR_NUMBERS: usize = 2 * SHAPE_NUMBERS;
 
 // Whether so many corners are more than a shape may have.
+// Ruled out: one corner more.
 pub fn exceeds_corners(n: usize) -> bool
     ensures { λ r. ⌜ r ≡ ltb maxCorners n ⌝ }
 {

@@ -1,24 +1,28 @@
-// Inner functions for the mirror image, corner by corner: the opposites of all corners, begun at the one that becomes the least.
+// Inner functions for the mirror image, corner by corner: the opposites of all corners, begun at the one that becomes
+// the least.
 ghost use mathlib.Core.Bool.{false};
 ghost use mathlib.Core.List.{_++_};
 ghost use mathlib.Core.Path.{_≡_};
 ghost use Prim.Native.Nat.{ℕ, _+_, _*_, _<_, _≤_};
-ghost use lib.IntN.{negℤ};
-ghost use lib.ListN.{length, take, drop, set};
-ghost use Rattle.plane.specs.Point.{points, numbers, corner};
+ghost use lib.ListN.{length, take, drop};
+ghost use Rattle.plane.specs.Point.{points, numbers, corner, opposite as Point·opposite};
 ghost use Rattle.plane.specs.Refusal.{InRange, Valid};
 ghost use Rattle.plane.specs.Shape.{precedes};
 ghost use Rattle.plane.specs.Corner.{shapeOf, mirrored};
 ghost use Rattle.plane.specs.Output.{overwritten};
+ghost use Rattle.polygon.specs.Point.{stored};
 use crate::corners;
+use crate::point;
 use crate::rules;
 
-// Writes the mirror image of a shape, the shape of all (-x, -y), at the front of the output; all behind it is kept. It has as many corners
-// as the shape. A point becomes a point and a segment a segment; the image begins at the opposite of the highest, rightmost corner.
-// Ruled out: mirror begun at the old start; output left alone; number written behind the answer.
+// Writes the mirror image of a shape, the shape of all (-x, -y), at the front of the output; all behind it is kept. It
+// has as many corners as the shape. A point becomes a point and a segment a segment; the image begins at the opposite
+// of the highest, rightmost corner.
+// Ruled out: mirror begun at the old start; output left alone.
 pub fn mirror(list: &[i32], out: &mut [i32])
     requires { ⌜ Valid (now list) × (2 * length (points (now list)) ≤ length (now out)) ⌝ }
-    ensures { λ r. ⌜ now (out .exit) ≡ overwritten (numbers (shapeOf (mirrored (points (now (list .entry)))))) (now (out .entry)) ⌝ }
+    ensures { λ r. ⌜ now (out .exit)
+        ≡ overwritten (numbers (shapeOf (mirrored (points (now (list .entry)))))) (now (out .entry)) ⌝ }
 {
     write_from(list, top(list), out);
 }
@@ -63,14 +67,8 @@ pub fn write_from(list: &[i32], start: usize, out: &mut [i32])
 fn write_opposite(list: &[i32], from: usize, out: &mut [i32], k: usize)
     requires { ⌜ (from < length (points (now list))) × InRange (now list)
         × (2 * k + 1 < length (now out)) ⌝ }
-    ensures { λ r. ⌜ now (out .exit) ≡ set
-        (set (now (out .entry)) (2 * k) (negℤ (corner (points (now (list .entry))) from .x)))
-        (2 * k + 1) (negℤ (corner (points (now (list .entry))) from .y)) ⌝ }
+    ensures { λ r. ⌜ now (out .exit)
+        ≡ stored (now (out .entry)) k (Point·opposite (corner (points (now (list .entry))) from)) ⌝ }
 {
-    corners::put(
-        out,
-        k,
-        -corners::x_at(list, from),
-        -corners::y_at(list, from),
-    );
+    corners::put(out, k, point::opposite(corners::corner_at(list, from)));
 }

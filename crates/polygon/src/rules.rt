@@ -10,6 +10,7 @@ use crate::corners;
 use crate::limits;
 
 // Refusal 1: an empty list, or an odd count of numbers.
+// Ruled out: everything refused.
 pub fn bad_count(list: &[i32]) -> bool
     ensures { λ r. ⌜ r ≡ badCount (now (list .entry)) ⌝ }
 {
@@ -81,6 +82,7 @@ pub enum Broken {
 }
 
 // The second part of refusal 4: the first edge, then the first corner, that breaks the left rule.
+// Ruled out: later corners only.
 fn left_break(list: &[i32]) -> Broken
     requires { ⌜ InRange (now list) ⌝ }
     ensures { λ r. ⌜ r ≡ leftBreak (points (now (list .entry))) ⌝ }

@@ -5,7 +5,7 @@ use crate::replies;
 use crate::table::Measure;
 use crate::table::Question;
 use crate::table::Written;
-use polygon::limits::SHAPE_NUMBERS;
+use questions::SHAPE_NUMBERS;
 use questions::answer::Answer;
 use questions::answer::Clearance;
 use questions::answer::Furthest;
@@ -131,7 +131,9 @@ fn width(out: &mut [u8], filled: usize, list: &[i32]) -> usize {
 // Whether two shapes are apart, touching or overlapping.
 fn relation(out: &mut [u8], filled: usize, a: &[i32], b: &[i32]) -> usize {
     match questions::relation(a, b) {
-        Relation::Is(place) => replies::place(out, filled, place),
+        Relation::Apart => answers::word(out, filled, b"ok apart"),
+        Relation::Touching => answers::word(out, filled, b"ok touching"),
+        Relation::Overlapping => answers::word(out, filled, b"ok overlapping"),
         Relation::No(refusal) => replies::refuse(out, filled, refusal),
     }
 }

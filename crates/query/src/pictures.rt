@@ -1,6 +1,6 @@
 // The questions that answer a picture: one shape, or two with the outline of their sum.
 use crate::replies;
-use polygon::limits::SHAPE_NUMBERS;
+use questions::SHAPE_NUMBERS;
 use questions::answer::Answer;
 use text::answers;
 

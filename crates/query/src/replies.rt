@@ -1,16 +1,6 @@
-// The replies that know the library's words, without their newlines; the others are in `text`.
+// Refusals, without their newlines; the other replies are in `text`.
 use questions::answer::Refusal;
-use separation::place::Place;
 use text::answers;
-
-// Adds `ok` and how two shapes stand to each other.
-pub fn place(out: &mut [u8], filled: usize, place: Place) -> usize {
-    match place {
-        Place::Apart => answers::word(out, filled, b"ok apart"),
-        Place::Touching => answers::word(out, filled, b"ok touching"),
-        Place::Overlapping => answers::word(out, filled, b"ok overlapping"),
-    }
-}
 
 // Adds a refusal: its number, which shape of the question it means, and where the left rule breaks.
 pub fn refuse(out: &mut [u8], filled: usize, refusal: Refusal) -> usize {

@@ -1,4 +1,5 @@
--- What judging the lists of a question says (document 01, "Several at once: the first shape by 1 to 5 in number order, then the second shape
+-- What judging the lists of a question says (document 01, "Several at once: the first shape by 1 to 5 in number order, then the second
+-- shape
 -- likewise"). Our own, not of document 01.
 --     Refuses rows r          r is given by these rows, whatever the answer would be
 --     Admitted which l r      the list is a shape, or its rows refuse it and blame the shape `which`

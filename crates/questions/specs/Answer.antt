@@ -1,11 +1,10 @@
 -- Document 01's number and values for each case of the enums ("Where an answer is an enum ..").
 --     ofRefusal r     the number of the table's row, and what it carries: 1 to 5 the shape, 4 also the edge and the corner
 --     ofAnswer r, ofFurthest r, ..     the reply of each question: its values, or a refusal
-use mathlib.Core.Bool.{Bool, cond}
+use mathlib.Core.Bool.{cond}
 use mathlib.Core.List.{[], _∷_}
 use lib.IntN.{pos}
 use Rattle.plane.specs.Reply.{Reply, answered, refused}
-use Rattle.separation.specs.Place.{placeNumber}
 use Rattle.questions.specs.declared.answer.Refusal.{Refusal}
 use Rattle.questions.specs.declared.answer.Refusal.the-variants as Refusal
 use Rattle.questions.specs.declared.answer.Answer.{Answer}
@@ -54,7 +53,9 @@ ofWidth (Width.No r) = ofRefusal r
 
 -- 0 apart, 1 touching, 2 overlapping
 abbrev pub ofRelation : Relation → Reply
-ofRelation (Relation.Is p) = answered (placeNumber p ∷ [])
+ofRelation Relation.Apart = answered (pos 0 ∷ [])
+ofRelation Relation.Touching = answered (pos 1 ∷ [])
+ofRelation Relation.Overlapping = answered (pos 2 ∷ [])
 ofRelation (Relation.No r) = ofRefusal r
 
 -- 1 yes, 0 no

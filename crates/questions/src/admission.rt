@@ -11,7 +11,7 @@ pub enum Admission {
 }
 
 // Judges a list that is the first or the second shape of a question: refusals 1 to 5 in their order.
-// Ruled out: everything refused; the start judged before the sides; the other shape blamed.
+// Ruled out: positions swapped; everything refused.
 pub fn admit(list: &[i32], shape: usize) -> Admission
     ensures { λ r. ⌜ Admitted shape (now (list .entry)) r ⌝ }
 {
@@ -38,6 +38,7 @@ pub fn admit(list: &[i32], shape: usize) -> Admission
 }
 
 // Judges the first list, then the second.
+// Ruled out: second shape judged first; other shape blamed.
 pub fn admit_pair(a: &[i32], b: &[i32]) -> Admission
     ensures { λ r. ⌜ AdmittedPair (now (a .entry)) (now (b .entry)) r ⌝ }
 {

@@ -1,8 +1,6 @@
 // What the questions answer.
-use separation::place::Place;
-
-// A row of document 01's table, and what it carries: 1 to 5 the shape that is blamed, the first or the second, and 4 the edge and the corner
-// that break the left rule.
+// A row of document 01's table, and what it carries: 1 to 5 the shape that is blamed, the first or the second, and 4
+// the edge and the corner that break the left rule.
 pub enum Refusal {
     // 1: an empty list, or an odd count of numbers
     Count {
@@ -60,8 +58,8 @@ pub enum Length {
     No(Refusal),
 }
 
-// The edge that the shape is narrowest across, the corner furthest from it, the turn of that corner against the edge, the edge's squared
-// length, and the width rounded down.
+// The edge that the shape is narrowest across, the corner furthest from it, the turn of that corner against the edge,
+// the edge's squared length, and the width rounded down.
 pub enum Width {
     Across {
         edge: usize,
@@ -75,7 +73,9 @@ pub enum Width {
 
 // How two shapes stand to each other.
 pub enum Relation {
-    Is(Place),
+    Apart,
+    Touching,
+    Overlapping,
     No(Refusal),
 }
 

@@ -11,9 +11,9 @@ use polygon::corners;
 use polygon::numbers;
 use polygon::rules;
 
-// Writes a shape's numbers at the front of the output, all behind them being kept, and answers how many corners it has; or refuses 6, 7 and 8
-// in their order, with the output as it was.
-// Ruled out: the tail of the output touched; the range refused before the count; a room for one number less.
+// Writes a shape's numbers at the front of the output, all behind them being kept, and answers how many corners it has;
+// or refuses 6, 7 and 8 in their order, with the output as it was.
+// Ruled out: count and range exchanged; exact room refused; tail cleared.
 pub fn deliver(shape: &[i32], out: &mut [i32]) -> Answer
     requires paired { ⌜ length (now shape) % 2 ≡ 0 ⌝ }
     ensures { λ r. ⌜ (ofAnswer r ≡ delivered (points (now (shape .entry))) (now (out .entry)) .reply)

@@ -1,17 +1,21 @@
-// The questions of document 01, and all that callers need of this library. Each judges its own lists, once each, gives its refusals in the
-// order of the table, and asks one inner function.
+// The questions of document 01, and all that callers need of this library. Each judges its own lists, once each, gives
+// its refusals in the order of the table, and asks one inner function.
 mod admission;
 pub mod answer;
 mod deliver;
 
 ghost use mathlib.Core.Path.{_≡_};
+ghost use mathlib.Core.List.{[], _∷_};
+ghost use Rattle.plane.specs.Reply.{answered};
+ghost use Rattle.separation.specs.Place.{placeNumber};
 ghost use Rattle.plane.specs.Point.{point};
 ghost use Rattle.plane.specs.Judge.{judged};
 ghost use Rattle.plane.specs.Furthest.{furthestReply};
 ghost use Rattle.plane.specs.Combine.{mirrorWritten, sumWritten, mergeWritten};
 ghost use Rattle.plane.specs.Measure.{lengthReply, widthReply};
 ghost use Rattle.plane.specs.Separation.{relationReply, insideReply, clearanceReply};
-ghost use Rattle.questions.specs.Answer.{ofAnswer, ofFurthest, ofLength, ofWidth, ofRelation, ofInside, ofClearance};
+ghost use Rattle.questions.specs.Answer.{ofAnswer, ofFurthest, ofLength, ofWidth};
+ghost use Rattle.questions.specs.Answer.{ofRelation, ofInside, ofClearance};
 use admission::Admission;
 use answer::Answer;
 use answer::Clearance;
@@ -24,14 +28,16 @@ use answer::Width;
 use polygon::corners;
 use polygon::direction;
 use polygon::limits;
+pub use polygon::limits::SHAPE_NUMBERS;
 use polygon::opposite;
 use separation::nearest;
 use separation::place::Place;
 
-// Whether the list is a shape, and how many corners it has. A point and a segment are shapes. Refused: an empty or odd list, too many corners,
-// a coordinate out of range, two equal corners or a broken left rule (with the first edge, then the first corner, that breaks it; three
-// corners in line do), and a list begun at another corner than the lowest, leftmost one.
-// Ruled out: only consecutive turns tested; one corner more allowed.
+// Whether the list is a shape, and how many corners it has. A point and a segment are shapes. Refused: an empty or odd
+// list, too many corners, a coordinate out of range, two equal corners or a broken left rule (with the first edge, then
+// the first corner, that breaks it; three corners in line do), and a list begun at another corner than the lowest,
+// leftmost one.
+// Ruled out: consecutive turns only; one corner more; positions swapped.
 pub fn judge(list: &[i32]) -> Answer
     ensures { λ r. ⌜ ofAnswer r ≡ judged (now (list .entry)) ⌝ }
 {
@@ -41,9 +47,9 @@ pub fn judge(list: &[i32]) -> Answer
     Answer::Corners(corners::count(list))
 }
 
-// The corner that is furthest in the direction (u, v): the smallest position of the greatest u·x + v·y, and that value. The one corner of a
-// point is furthest in every direction, and of a segment that lies across the direction the first. Refused: 1 to 5, then the direction (0, 0)
-// and one with a part out of range.
+// The corner that is furthest in the direction (u, v): the smallest position of the greatest u·x + v·y, and that value.
+// The one corner of a point is furthest in every direction, and of a segment that lies across the direction the first.
+// Refused: 1 to 5, then the direction (0, 0) and one with a part out of range.
 // Ruled out: last position on a tie; upright direction refused.
 pub fn furthest(list: &[i32], u: i32, v: i32) -> Furthest
     ensures { λ r. ⌜ ofFurthest r ≡ furthestReply (now (list .entry)) (point u v) ⌝ }
@@ -61,9 +67,10 @@ pub fn furthest(list: &[i32], u: i32, v: i32) -> Furthest
     }
 }
 
-// Writes the mirror image, the shape of all (-x, -y), at the front of the output, and answers how many corners it has: as many as the list. All
-// behind the image is kept. Refused, with the output as it was: 1 to 5, then an output that holds fewer numbers than the image.
-// Ruled out: mirror begun at the old start; output left alone.
+// Writes the mirror image, the shape of all (-x, -y), at the front of the output, and answers how many corners it has:
+// as many as the list. All behind the image is kept. Refused, with the output as it was: 1 to 5, then an output that
+// holds fewer numbers than the image.
+// Ruled out: mirror begun at the old start; output left alone; coordinates swapped; tail cleared.
 pub fn mirror(list: &[i32], out: &mut [i32]) -> Answer
     ensures { λ r. ⌜ (ofAnswer r ≡ mirrorWritten (now (list .entry)) (now (out .entry)) .reply)
         × (now (out .exit) ≡ mirrorWritten (now (list .entry)) (now (out .entry)) .output) ⌝ }
@@ -78,10 +85,11 @@ pub fn mirror(list: &[i32], out: &mut [i32]) -> Answer
     Answer::Corners(corners::count(list))
 }
 
-// Writes the shape of all corner-plus-corner points at the front of the output, and answers how many corners it has. Edges of equal direction
-// make one step, so no three corners of the answer are in line. Refused, with the output as it was: 1 to 5 of the first shape, then of the
-// second; then an answer of too many corners, one out of range, and too small an output. On success all behind the written numbers is kept.
-// Ruled out: both corners kept where parallel edges meet; the origin point for every sum; the second shape judged first.
+// Writes the shape of all corner-plus-corner points at the front of the output, and answers how many corners it has.
+// Edges of equal direction make one step, so no three corners of the answer are in line. Refused, with the output as it
+// was: 1 to 5 of the first shape, then of the second; then an answer of too many corners, one out of range, and too
+// small an output. On success all behind the written numbers is kept.
+// Ruled out: parallel corners kept; segment passed once; origin for every sum; second shape judged first.
 pub fn sum(a: &[i32], b: &[i32], out: &mut [i32]) -> Answer
     ensures { λ r. ⌜ (ofAnswer r ≡ sumWritten (now (a .entry)) (now (b .entry)) (now (out .entry)) .reply)
         × (now (out .exit) ≡ sumWritten (now (a .entry)) (now (b .entry)) (now (out .entry)) .output) ⌝ }
@@ -94,10 +102,11 @@ pub fn sum(a: &[i32], b: &[i32], out: &mut [i32]) -> Answer
     deliver::deliver(&shape[..2 * n], out)
 }
 
-// Writes the shape of both corner lists taken together at the front of the output, and answers how many corners it has. The shapes may overlap,
-// lie one in the other, share corners or edges. Refused, with the output as it was: 1 to 5 of the first shape, then of the second; then an
-// answer of too many corners, and too small an output. No corner of the answer is out of range, since each is a corner of one of the two.
-// Ruled out: points in line kept; the second shape forgotten.
+// Writes the shape of both corner lists taken together at the front of the output, and answers how many corners it has.
+// The shapes may overlap, lie one in the other, share corners or edges. Refused, with the output as it was: 1 to 5 of
+// the first shape, then of the second; then an answer of too many corners, and too small an output. No corner of the
+// answer is out of range, since each is a corner of one of the two.
+// Ruled out: points in line kept; second shape forgotten; count one more.
 pub fn merge(a: &[i32], b: &[i32], out: &mut [i32]) -> Answer
     ensures { λ r. ⌜ (ofAnswer r ≡ mergeWritten (now (a .entry)) (now (b .entry)) (now (out .entry)) .reply)
         × (now (out .exit) ≡ mergeWritten (now (a .entry)) (now (b .entry)) (now (out .entry)) .output) ⌝ }
@@ -110,9 +119,10 @@ pub fn merge(a: &[i32], b: &[i32], out: &mut [i32]) -> Answer
     deliver::deliver(&shape[..2 * n], out)
 }
 
-// The greatest squared distance between two corners, and the positions of two corners that are so far apart. Of several such pairs: the smallest
-// first position, then the smallest second. A point answers 0 at 0, 0, and a segment its own two corners. Refused: 1 to 5.
-// Ruled out: ties to the larger position; first position given twice.
+// The greatest squared distance between two corners, and the positions of two corners that are so far apart. Of several
+// such pairs: the smallest first position, then the smallest second. A point answers 0 at 0, 0, and a segment its own
+// two corners. Refused: 1 to 5.
+// Ruled out: ties to the larger position; first position given twice; search stopped where distance falls.
 pub fn length(list: &[i32]) -> Length
     ensures { λ r. ⌜ ofLength r ≡ lengthReply (now (list .entry)) ⌝ }
 {
@@ -127,10 +137,11 @@ pub fn length(list: &[i32]) -> Length
     }
 }
 
-// The edge across which the shape is narrowest, the corner furthest from it, that corner's turn, the edge's squared length, and the width
-// rounded down. Edges compare by turn·turn/squared as exact fractions. Of several such edges the smallest position; of two corners equally far
-// from it, as where the opposite edge is parallel, the smallest position. Refused: 1 to 5, then a point and a segment.
-// Ruled out: later edge on a tie; corner after the tie; rounded width one too large.
+// The edge across which the shape is narrowest, the corner furthest from it, that corner's turn, the edge's squared
+// length, and the width rounded down. Edges compare by turn·turn/squared as exact fractions. Of several such edges the
+// smallest position; of two corners equally far from it, as where the opposite edge is parallel, the smallest position.
+// Refused: 1 to 5, then a point and a segment.
+// Ruled out: later edge on a tie; widths compared after rounding down; rounded width one too large.
 pub fn width(list: &[i32]) -> Width
     ensures { λ r. ⌜ ofWidth r ≡ widthReply (now (list .entry)) ⌝ }
 {
@@ -150,23 +161,35 @@ pub fn width(list: &[i32]) -> Width
     }
 }
 
-// Whether the shapes are apart, touching or overlapping. Equal points touch, and so do segments in line that share a point; segments that cross
-// overlap. Of a shape and a point or a segment: touching if they meet on the shape's rim only, overlapping if inside it. A polygon overlaps
-// itself, and every polygon that is inside it. Refused: 1 to 5 of the first shape, then of the second.
-// Ruled out: touching read as apart; less or equal taken for less.
+// Whether the shapes are apart, touching or overlapping. Equal points touch, and so do segments in line that share a
+// point, and segments of which one ends on the other; segments that cross overlap. A point or a segment that meets a
+// polygon touches it if it meets the rim only, and overlaps it otherwise. A polygon overlaps itself and every polygon
+// that is inside it. Refused: 1 to 5 of the first shape, then of the second.
+// Ruled out: touching read as apart; less or equal for less; segments in line by normals only.
 pub fn relation(a: &[i32], b: &[i32]) -> Relation
     ensures { λ r. ⌜ ofRelation r ≡ relationReply (now (a .entry)) (now (b .entry)) ⌝ }
 {
     if let Admission::No(refusal) = admission::admit_pair(a, b) {
         return Relation::No(refusal);
     }
-    Relation::Is(separation::relation(a, b))
+    stand(separation::relation(a, b))
 }
 
-// Whether the first shape is inside the second: in no direction does it reach further. A shape is inside itself, and so is one that only
-// reaches the other's rim; inside a point is that point alone, inside a segment what lies on it. Refused: 1 to 5 of the first shape, then of
-// the second.
-// Ruled out: a shape not inside itself; the second shape asked to be inside the first.
+// How two shapes stand, as an answer.
+fn stand(place: Place) -> Relation
+    ensures { λ r. ⌜ ofRelation r ≡ answered (placeNumber place ∷ []) ⌝ }
+{
+    match place {
+        Place::Apart => Relation::Apart,
+        Place::Touching => Relation::Touching,
+        Place::Overlapping => Relation::Overlapping,
+    }
+}
+
+// Whether the first shape is inside the second: in no direction does it reach further. A shape is inside itself, and so
+// is one that only reaches the other's rim; inside a point is that point alone, inside a segment what lies on it.
+// Refused: 1 to 5 of the first shape, then of the second.
+// Ruled out: shape not inside itself; inside the other way round.
 pub fn inside(a: &[i32], b: &[i32]) -> Inside
     ensures { λ r. ⌜ ofInside r ≡ insideReply (now (a .entry)) (now (b .entry)) ⌝ }
 {
@@ -176,9 +199,10 @@ pub fn inside(a: &[i32], b: &[i32]) -> Inside
     Inside::Is(separation::inside(a, b))
 }
 
-// The clearance squared: 0 if the shapes are not apart, else the least squared distance between a corner of one and a corner of the other. Two
-// points have their own squared distance. Refused: 1 to 5 of the first shape, then of the second.
-// Ruled out: the nearest corner missed; a clearance where the shapes touch.
+// The clearance squared: 0 if the shapes are not apart, else the least squared distance between a corner of one and a
+// corner of the other. Two points have their own squared distance. Refused: 1 to 5 of the first shape, then of the
+// second.
+// Ruled out: nearest corner missed; clearance where shapes touch.
 pub fn clearance(a: &[i32], b: &[i32]) -> Clearance
     ensures { λ r. ⌜ ofClearance r ≡ clearanceReply (now (a .entry)) (now (b .entry)) ⌝ }
 {

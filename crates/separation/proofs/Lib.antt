@@ -1,4 +1,3 @@
 -- Lemmas that function proofs share.
-pub mod Corners
 pub mod Stops
 pub mod Passing

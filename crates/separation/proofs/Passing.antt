@@ -22,7 +22,8 @@ use Rattle.separation.specs.theory.Rim.{notLeft-cross}
 use Rattle.calipers.specs.declared.walk.Walk.{Walk}
 use Rattle.calipers.specs.Walk.{here, begun, advanced, stepped, At}
 use Rattle.calipers.specs.theory.Steps.{at-stepped}
-use Rattle.separation.specs.Around.{some, crossAt, rightOf, Passed}
+use Rattle.plane.specs.Search.{some}
+use Rattle.separation.specs.Around.{crossAt, rightOf, Passed}
 use Rattle.separation.proofs.Stops.{sum-length, on-below, over-end, corner-here, end, end-at, end-here}
 
 -- ---- the loop

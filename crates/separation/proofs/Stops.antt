@@ -17,7 +17,7 @@ use Rattle.plane.specs.VectorSum.{path}
 use Rattle.plane.specs.theory.sum.Path.{along-length}
 use Rattle.plane.specs.VectorSum.{vectorSum, joinEdges}
 use Rattle.plane.specs.theory.sum.EdgeSum.{joinEdges-length}
-use Rattle.plane.specs.theory.lists.Next.{Following, onward, around, following}
+use Rattle.plane.specs.theory.lists.Next.{Following, onward, closing, following}
 use Rattle.calipers.specs.declared.walk.Walk.{Walk}
 use Rattle.calipers.specs.Walk.{here, begun, stepped, remaining, At}
 use Rattle.plane.specs.theory.sum.Positions.{edges-at-most}
@@ -81,8 +81,9 @@ module _ (a b : List ℤ) (start : At a b begun) where
   end-here n h = go (stepped (points a) (points b) (suc n) begun .over) refl (following (length corners) n h)
     where
       go : (o : Bool) → stepped (points a) (points b) (suc n) begun .over ≡ o → Following (length corners) n
-          → here (points a) (points b) (cond o begun (stepped (points a) (points b) (suc n) begun)) ≡ corner corners (next (length corners) n)
+          → here (points a) (points b) (cond o begun (stepped (points a) (points b) (suc n) begun))
+          ≡ corner corners (next (length corners) n)
       go true e (onward k q) = absurd (omega (arith, over-end (suc n) (omega arith) e))
-      go true e (around k q) = corner-here 0 (omega arith) ∙ ap (corner corners) (sym q)
+      go true e (closing k q) = corner-here 0 (omega arith) ∙ ap (corner corners) (sym q)
       go false e (onward k q) = corner-here (suc n) k ∙ ap (corner corners) (sym q)
-      go false e (around k q) = absurd (omega (arith, on-below (suc n) (omega arith) e))
+      go false e (closing k q) = absurd (omega (arith, on-below (suc n) (omega arith) e))

@@ -1,5 +1,4 @@
 -- How two shapes stand, as a walk round the corners of their differences finds it: the origin against each edge.
---     some p n          the test p passes at some number below n
 --     crossAt D e       the cross product of the two corners of edge e: positive if the origin is to the left of it
 --     rightOf D e       the origin is to the right of edge e
 --     placed D          0 outside, 1 on the rim, 2 inside; `placedFew D` for a point or a segment on a line through the origin
@@ -7,23 +6,20 @@
 --     Passed D s        a walk saw s of D
 -- What it means: `placed-related` of the theory.
 use mathlib.Core.Path.{_≡_}
-use mathlib.Core.Bool.{Bool, false, cond, _||_}
+use mathlib.Core.Bool.{Bool, cond}
 use mathlib.Core.List.{List}
-use Prim.Native.Nat.{ℕ, zero, suc}
+use Prim.Native.Nat.{ℕ}
 use lib.Dec.{ltb}
 use lib.IntN.{ℤ, pos}
 use lib.ListN.{length}
 use lib.Signed.{ltZ, leZ}
 use Rattle.plane.specs.Point.{Point, corner}
 use Rattle.plane.specs.Turn.{cross}
+use Rattle.plane.specs.Search.{some}
 use Rattle.plane.specs.Shape.{next}
 use Rattle.plane.specs.Direction.{value}
 use Rattle.plane.specs.Separation.{notLeft, apart, touching}
 use Rattle.separation.specs.declared.around.Sides.{Sides}
-
-abbrev pub some : (ℕ → Bool) → ℕ → Bool
-some p zero = false
-some p (suc n) = some p n || p n
 
 unfoldable pub crossAt : List Point → ℕ → ℤ
 crossAt D e = cross (corner D e) (corner D (next (length D) e))

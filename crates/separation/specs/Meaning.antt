@@ -18,8 +18,11 @@ use Rattle.plane.specs.Corner.{shapeOf}
 use Rattle.plane.specs.Measure.{squared}
 use Rattle.plane.specs.Separation.{sameCorners, inside, apart, touching, clearance}
 use Rattle.plane.specs.theory.lists.Members.{_∈_}
-use Rattle.separation.specs.theory.Inside.{sameCorners→equal, equal→sameCorners, inside→reach, reach→inside, outside→direction, inside-refl, inside-trans, inside-antisym, inside→merge, merge→inside}
-use Rattle.separation.specs.theory.InsideShape.{inside→each, each→inside, polygon-inside→left, polygon-left→inside, segment-inside→between, segment-between→inside, point-inside→equal, point-equal→inside}
+use Rattle.separation.specs.theory.Inside.{sameCorners→equal, equal→sameCorners, inside→reach, reach→inside, outside→direction}
+use Rattle.separation.specs.theory.Inside.{inside-refl, inside-trans, inside-antisym, inside→merge, merge→inside}
+use Rattle.separation.specs.theory.InsideShape.{inside→each, each→inside, polygon-inside→left, polygon-left→inside}
+use Rattle.separation.specs.theory.InsideShape.{segment-inside→between, segment-between→inside}
+use Rattle.separation.specs.theory.InsideShape.{point-inside→equal, point-equal→inside}
 use Rattle.separation.specs.theory.Apart.{apart→direction, direction→apart, apart-sym, inside→not-apart}
 use Rattle.separation.specs.theory.Rim.{touching→direction, touching→not-apart, direction→touching, touching-sym, overlapping→crossed}
 use Rattle.separation.specs.theory.Clearance.{clearance-nearest, clearance-least, zero-clearance, clearance-zero, clearance-sym}

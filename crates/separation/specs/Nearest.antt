@@ -1,17 +1,12 @@
 -- The least squared distance between corners of two lists, as clearance is defined by it.
---     min x y            the lesser of two numbers
 --     nearestTo A B i    from corner i of A to a corner of B
 --     nearest A B        from any corner of A
 use mathlib.Core.List.{List}
 use Prim.Native.Nat.{ℕ}
-use lib.IntN.{ℤ, negℤ}
+use lib.IntN.{ℤ}
 use lib.ListN.{length}
 use Rattle.plane.specs.Point.{Point, corner}
-use Rattle.plane.specs.Direction.{max}
 use Rattle.plane.specs.Measure.{least, squared}
-
-abbrev pub min : ℤ → ℤ → ℤ
-min x y = negℤ (max (negℤ x) (negℤ y))
 
 unfoldable pub nearestTo : List Point → List Point → ℕ → ℤ
 nearestTo A B i = least (λ j. squared (corner A i) (corner B j)) (length B)

@@ -1,5 +1,5 @@
-// The origin against the corners of a sum, in one walk round them.
-ghost use mathlib.Core.Bool.{cond, _||_};
+// Inner functions: the origin against the corners of a sum, in one walk round them.
+ghost use mathlib.Core.Bool.{cond};
 ghost use mathlib.Core.Path.{_≡_};
 ghost use Rattle.plane.specs.Point.{points};
 ghost use Rattle.plane.specs.Turn.{cross};
@@ -10,8 +10,11 @@ ghost use Rattle.separation.specs.Place.{placeNumber};
 ghost use Rattle.separation.specs.Around.{Passed, placed, placedFew};
 use crate::place::Place;
 use calipers::walk::Walk;
+use calipers::walk::either;
+use polygon::point;
 
-// What a walk round all edges saw: how many there are, whether the origin is to the right of one, and whether it is not to the left of one.
+// What a walk round all edges saw: how many there are, whether the origin is to the right of one, and whether
+// it is not to the left of one.
 pub struct Sides {
     pub count: usize,
     pub outside: bool,
@@ -80,13 +83,14 @@ fn around_to(next: Walk) -> Walk
     if next.over { Walk::begin() } else { next }
 }
 
-// The cross product of the corners at two places of the walk: positive if the origin is to the left of the edge that joins them.
+// The cross product of the corners at two places of the walk: positive if the origin is to the left of the edge
+// that joins them.
 fn across(a: &[i32], b: &[i32], from: Walk, to: Walk) -> i64
     requires { ⌜ At (now a) (now b) from × At (now a) (now b) to ⌝ }
     ensures { λ r. ⌜ r ≡ cross (here (points (now (a .entry))) (points (now (b .entry))) from)
         (here (points (now (a .entry))) (points (now (b .entry))) to) ⌝ }
 {
-    (from.x(a, b) as i64) * (to.y(a, b) as i64) - (from.y(a, b) as i64) * (to.x(a, b) as i64)
+    point::cross(from.here(a, b), to.here(a, b))
 }
 
 // The value of one corner in the direction of the other: positive if they lie the same way from the origin.
@@ -95,11 +99,5 @@ fn along(a: &[i32], b: &[i32], from: Walk, to: Walk) -> i64
     ensures { λ r. ⌜ r ≡ value (here (points (now (a .entry))) (points (now (b .entry))) from)
         (here (points (now (a .entry))) (points (now (b .entry))) to) ⌝ }
 {
-    (from.x(a, b) as i64) * (to.x(a, b) as i64) + (from.y(a, b) as i64) * (to.y(a, b) as i64)
-}
-
-fn either(x: bool, y: bool) -> bool
-    ensures { λ r. ⌜ r ≡ (x || y) ⌝ }
-{
-    x || y
+    point::dot(from.here(a, b), to.here(a, b))
 }

@@ -1,4 +1,5 @@
-// Inner functions for how two shapes stand to each other (document 01, "Relation", "Inside" and "Clearance"). Callers ask the crate `questions`.
+// Inner functions for how two shapes stand to each other (document 01, "Relation", "Inside" and "Clearance"). Callers
+// ask the crate `questions`.
 mod around;
 mod merged;
 pub mod nearest;
@@ -15,9 +16,9 @@ use polygon::corners;
 use polygon::limits;
 use polygon::opposite;
 
-// Whether two shapes are apart, touching or overlapping, by a walk round their differences: the sum of the first and the mirror image of the
-// second, which has as many corners as the second.
-// Ruled out: touching read as apart; segments in line told apart by their normals only; less or equal taken for less.
+// Whether two shapes are apart, touching or overlapping, by a walk round their differences: the sum of the first and
+// the mirror image of the second, which has as many corners as the second.
+// Ruled out: touching read as apart; less or equal for less; segments in line by normals only.
 pub fn relation(a: &[i32], b: &[i32]) -> Place
     requires { ⌜ Valid (now a) × Valid (now b) ⌝ }
     ensures { λ r. ⌜ placeNumber r ≡ related (points (now (a .entry))) (points (now (b .entry))) ⌝ }
@@ -28,7 +29,7 @@ pub fn relation(a: &[i32], b: &[i32]) -> Place
 }
 
 // Whether the first shape is inside the second: the shape of both together is the second.
-// Ruled out: a shape not inside itself; the second shape asked to be inside the first.
+// Ruled out: shape not inside itself; inside the other way round.
 pub fn inside(a: &[i32], b: &[i32]) -> bool
     requires { ⌜ Valid (now a) × Valid (now b) ⌝ }
     ensures { λ r. ⌜ r ≡ Separation·inside (points (now (a .entry))) (points (now (b .entry))) ⌝ }

@@ -1,14 +1,16 @@
-// The least squared distance between a corner of one list and a corner of another.
+// Inner functions: the least squared distance between a corner of one list and a corner of another.
 ghost use mathlib.Core.Path.{_≡_};
 ghost use Prim.Native.Nat.{_<_};
 ghost use lib.ListN.{length};
-ghost use Rattle.plane.specs.Point.{points, corner};
-ghost use Rattle.plane.specs.Measure.{squared as Measure·squared};
-ghost use Rattle.plane.specs.Refusal.{Valid, InRange};
-ghost use Rattle.separation.specs.Nearest.{min, nearestTo, nearest as Nearest·nearest};
+ghost use Rattle.plane.specs.Point.{points};
+ghost use Rattle.plane.specs.Refusal.{Valid};
+ghost use Rattle.plane.specs.Direction.{min};
+ghost use Rattle.separation.specs.Nearest.{nearestTo, nearest as Nearest·nearest};
 use polygon::corners;
+use polygon::point;
 
 // The least over all corners of a.
+// Ruled out: nearest corner missed.
 pub fn nearest(a: &[i32], b: &[i32]) -> i64
     requires { ⌜ Valid (now a) × Valid (now b) ⌝ }
     ensures { λ r. ⌜ r ≡ Nearest·nearest (points (now (a .entry))) (points (now (b .entry))) ⌝ }
@@ -28,26 +30,18 @@ fn nearest_to(a: &[i32], i: usize, b: &[i32]) -> i64
     requires { ⌜ (i < length (points (now a))) × Valid (now a) × Valid (now b) ⌝ }
     ensures { λ r. ⌜ r ≡ nearestTo (points (now (a .entry))) (points (now (b .entry))) i ⌝ }
 {
+    let p = corners::corner_at(a, i);
     let n = corners::count(b);
-    let mut least = squared(a, i, b, 0);
+    let mut least = point::squared(p, corners::corner_at(b, 0));
     let mut j = 1;
     while j < n {
-        least = lesser(least, squared(a, i, b, j));
+        least = lesser(least, point::squared(p, corners::corner_at(b, j)));
         j += 1;
     }
     least
 }
 
-// The squared distance of corner i of a and corner j of b.
-fn squared(a: &[i32], i: usize, b: &[i32], j: usize) -> i64
-    requires { ⌜ (i < length (points (now a))) × (j < length (points (now b))) × InRange (now a) × InRange (now b) ⌝ }
-    ensures { λ r. ⌜ r ≡ Measure·squared (corner (points (now (a .entry))) i) (corner (points (now (b .entry))) j) ⌝ }
-{
-    let dx = (corners::x_at(a, i) as i64) - (corners::x_at(b, j) as i64);
-    let dy = (corners::y_at(a, i) as i64) - (corners::y_at(b, j) as i64);
-    dx * dx + dy * dy
-}
-
+// The less of two.
 fn lesser(x: i64, y: i64) -> i64
     ensures { λ r. ⌜ r ≡ min x y ⌝ }
 {

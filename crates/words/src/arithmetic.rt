@@ -1,4 +1,4 @@
-// Arithmetic on numbers of any count of words, the lowest word first. A number of no words is 0.
+// Inner functions: arithmetic on numbers of any count of words, the lowest word first. A number of no words is 0.
 ghost use mathlib.Core.Path.{_≡_};
 ghost use Prim.Native.Nat.{_+_, _*_, _/_, _%_, _<_, _≤_};
 ghost use lib.Dec.{ltb};
@@ -21,33 +21,6 @@ pub fn is_less(a: &[u32], b: &[u32]) -> bool
         }
     }
     false
-}
-
-// Adds b to the lowest words of a, and returns the carry into the word above them.
-pub fn add(a: &mut [u32], b: &[u32]) -> u32
-    requires room { ⌜ length (now b) ≤ length (now a) ⌝ }
-    ensures { λ r. ⌜
-        value (now (a .exit)) + weight (length (now (b .entry))) * r
-        ≡ value (now (a .entry)) + value (now (b .entry)) ⌝ }
-{
-    add_scaled(a, 0, b, 1)
-}
-
-// Multiplies a by the word w, adds the carry, and returns the carry into the word above a.
-pub fn scale(a: &mut [u32], w: u32, carry: u32) -> u32
-    ensures { λ r. ⌜
-        value (now (a .exit)) + weight (length (now (a .entry))) * r
-        ≡ value (now (a .entry)) * w + carry ⌝ }
-{
-    let mut over = carry;
-    let mut i = 0;
-    while i < a.len() {
-        let sum = multiply_add(a[i], w, 0, over);
-        a[i] = low_word(sum);
-        over = high_word(sum);
-        i += 1;
-    }
-    over
 }
 
 // The product of a and b; out has as many words as both, or more.

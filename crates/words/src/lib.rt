@@ -10,7 +10,7 @@ ghost use Rattle.words.specs.Root.{RoundedRoot};
 
 // Whether t1·t1/q1 is less than t2·t2/q2 as exact fractions, multiplied out, for numbers of any
 // size. Equal fractions are not less.
-// Ruled out: a carry dropped; the lowest word not compared.
+// Ruled out: carry dropped; lowest word not compared.
 pub fn fraction_less(t1: u64, q1: u64, t2: u64, q2: u64) -> bool
     ensures { λ r. ⌜ r ≡ ltb (t1 * t1 * q2) (t2 * t2 * q1) ⌝ }
 {
@@ -23,7 +23,7 @@ pub fn fraction_less(t1: u64, q1: u64, t2: u64, q2: u64) -> bool
 
 // The square root of t·t/q, rounded down; 0 where t·t is below q. The root lies between 0 and t,
 // and each turn halves what is left.
-// Ruled out: a root one too large.
+// Ruled out: root one too large.
 pub fn root_of_fraction(t: u64, q: u64) -> u64
     requires positive { ⌜ 0 < q ⌝ }
     ensures { λ w. ⌜ RoundedRoot t q w ⌝ }

@@ -5,7 +5,7 @@ use super::edges::closed_edges;
 use super::shapes::{self, vector};
 use super::{List, long, numbers};
 use crate::plane::{Point, Shape, point};
-use crate::refusal::REACH;
+use crate::refusal::MOST_COORDINATE;
 
 /// A list with one fault or two, in 32 bits; some near misses are good shapes still.
 pub fn damaged(dice: &mut Dice) -> List {
@@ -72,7 +72,7 @@ fn hurt_corners(dice: &mut Dice, list: &[i64], choice: usize) -> Vec<Point> {
 fn in_line(corners: &[Point], at: usize) -> Vec<Point> {
     let (a, b) = crate::plane::edge_ends(corners, at);
     let mut doubled = shapes::scaled(corners, 2);
-    doubled.insert(at + 1, a.plus(b));
+    doubled.insert(at + 1, a + b);
     doubled
 }
 
@@ -88,19 +88,19 @@ fn odd(dice: &mut Dice, mut list: List) -> List {
 fn out_of_range(dice: &mut Dice, mut list: List) -> List {
     let (low, high) = (i64::from(i32::MIN), i64::from(i32::MAX));
     let outside = [
-        REACH + 1,
-        -REACH - 1,
+        MOST_COORDINATE + 1,
+        -MOST_COORDINATE - 1,
         low,
         low + 1,
         high,
         1 << 20,
         -(1 << 20),
     ];
-    let inside = [REACH, -REACH];
+    let ends = [MOST_COORDINATE, -MOST_COORDINATE];
     let at = dice.below(list.len());
     if let Some(number) = list.get_mut(at) {
         *number = if dice.one_in(5) {
-            dice.pick(&inside)
+            dice.pick(&ends)
         } else {
             dice.pick(&outside)
         };
@@ -131,13 +131,21 @@ fn known_lists(dice: &mut Dice) -> List {
     ];
     let factor = dice.pick(&[1, 1, 3, 1000]);
     let by = dice.between(-5, 5);
-    let place = |n: &i64| n * factor + by;
-    dice.pick(&known).iter().map(place).collect()
+    let moved = |n: &i64| n * factor + by;
+    dice.pick(&known).iter().map(moved).collect()
 }
 
 /// Numbers without any order, few and small or of any size.
 fn random_list(dice: &mut Dice) -> List {
-    let size = dice.pick(&[1, 2, 3, 8, REACH, REACH + 2, i64::from(i32::MAX)]);
+    let size = dice.pick(&[
+        1,
+        2,
+        3,
+        8,
+        MOST_COORDINATE,
+        MOST_COORDINATE + 2,
+        i64::from(i32::MAX),
+    ]);
     let count = 2 * dice.between(1, 6) + i64::from(dice.one_in(9));
     (0..count).map(|_| dice.between(-size, size)).collect()
 }
@@ -151,7 +159,7 @@ fn winding_twice(dice: &mut Dice) -> Vec<Point> {
         .step_by(2)
         .chain(edges.iter().skip(1).step_by(2));
     let walk = |at: &mut Point, edge: &Point| {
-        *at = at.plus(*edge);
+        *at = *at + *edge;
         Some(*at)
     };
     rounds.scan(point(0, 0), walk).collect()
@@ -170,7 +178,7 @@ fn too_many(dice: &mut Dice) -> List {
     let count = dice.pick(&[513, 513, 514, 600]);
     let mut list = match dice.below(3) {
         0 => numbers(&long::of_corners(dice, count)),
-        1 => vec![dice.between(-2, 2) * REACH; 2 * count],
+        1 => vec![dice.between(-2, 2) * MOST_COORDINATE; 2 * count],
         _ => hurt_twice_at_times(dice, vec![7; 1026]),
     };
     if dice.one_in(5) {
@@ -182,7 +190,7 @@ fn too_many(dice: &mut Dice) -> List {
 /// Two corners: equal, the wrong way round, or out of range.
 fn segment_faults(dice: &mut Dice) -> List {
     let a = vector(dice, 2);
-    let b = a.plus(vector(dice, 1));
+    let b = a + vector(dice, 1);
     let list = numbers(&[a, b]);
     if dice.one_in(4) {
         out_of_range(dice, list)

@@ -9,7 +9,7 @@ pub fn shape_from_edges(vectors: &[Point]) -> Shape {
     let mut at = point(0, 0);
     let mut corners = vec![at];
     for edge in closed_edges(vectors) {
-        at = at.plus(edge);
+        at = at + edge;
         corners.push(at);
     }
     if corners.len() > 1 {
@@ -20,9 +20,9 @@ pub fn shape_from_edges(vectors: &[Point]) -> Shape {
 
 /// The same edges in order of angle, closed, one for each direction.
 pub fn closed_edges(vectors: &[Point]) -> Vec<Point> {
-    let total = vectors.iter().fold(point(0, 0), |sum, &v| sum.plus(v));
+    let total = vectors.iter().fold(point(0, 0), |sum, &v| sum + v);
     let mut edges = vectors.to_vec();
-    edges.push(total.negated());
+    edges.push(-total);
     edges.retain(|&v| v != point(0, 0));
     edges.sort_by(by_angle);
     join_equal_directions(&edges)
@@ -31,13 +31,13 @@ pub fn closed_edges(vectors: &[Point]) -> Vec<Point> {
 /// Every edge of a shape as a vector.
 pub fn edges_of(shape: &[Point]) -> Vec<Point> {
     let next = |i: usize| shape[(i + 1) % shape.len()];
-    (0..shape.len()).map(|i| next(i).minus(shape[i])).collect()
+    (0..shape.len()).map(|i| next(i) - shape[i]).collect()
 }
 
 /// The `count` shortest vectors of the upper half (and along x) that are no multiples of others.
 pub fn shortest_primitives(count: usize) -> Vec<Point> {
-    let reach = 2 + 2 * count.isqrt() as i64;
-    let grid = (0..=reach).flat_map(|y| (-reach..=reach).map(move |x| point(x, y)));
+    let size = 2 + 2 * count.isqrt() as i64;
+    let grid = (0..=size).flat_map(|y| (-size..=size).map(move |x| point(x, y)));
     let mut found: Vec<Point> = grid
         .filter(|&v| upper(v) && divisor(v.x, v.y) == 1)
         .collect();
@@ -65,7 +65,7 @@ fn join_equal_directions(edges: &[Point]) -> Vec<Point> {
     let mut joined: Vec<Point> = Vec::new();
     for &edge in edges {
         match joined.last_mut() {
-            Some(last) if by_angle(last, &edge) == Ordering::Equal => *last = last.plus(edge),
+            Some(last) if by_angle(last, &edge) == Ordering::Equal => *last = *last + edge,
             _ => joined.push(edge),
         }
     }

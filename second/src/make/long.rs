@@ -2,7 +2,7 @@
 
 use super::dice::Dice;
 use super::edges::{shape_from_edges, shortest_primitives};
-use crate::corners::standard_list;
+use crate::hull::standard_list;
 use crate::plane::{Point, Shape, point};
 
 /// A shape of exactly `count` corners, 3 or more: opposite edges in pairs, three more if odd.
@@ -71,8 +71,8 @@ fn shape_with(dice: &mut Dice, count: usize, directions: &[Point]) -> Shape {
     let factor = dice.pick(&[1, 1, 2, 9, 40]);
     let mut edges = Vec::new();
     for &direction in directions {
-        let edge = direction.times(dice.between(1, factor));
-        edges.extend([edge, edge.negated()]);
+        let edge = direction * dice.between(1, factor);
+        edges.extend([edge, -edge]);
     }
     if !count.is_multiple_of(2) {
         edges.extend([point(factor, 0), point(0, factor)]);

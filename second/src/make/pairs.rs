@@ -4,11 +4,11 @@ use super::dice::Dice;
 use super::edges::{edges_of, shape_from_edges};
 use super::long;
 use super::shapes::{self, moved, scaled, vector};
-use crate::corners::shape_of;
+use crate::hull::hull_of;
 use crate::plane::{Point, Shape, point};
-use crate::refusal::REACH;
+use crate::refusal::MOST_COORDINATE;
 
-/// Any two shapes, in either order; moved together to some place.
+/// Any two shapes, in either order.
 pub fn any(dice: &mut Dice) -> (Shape, Shape) {
     let (a, b) = match dice.below(100) {
         0..15 => return (shapes::any(dice), shapes::any(dice)),
@@ -26,10 +26,10 @@ pub fn any(dice: &mut Dice) -> (Shape, Shape) {
     together(dice, a, b)
 }
 
-/// Sums that just reach the range, just pass it, or have about 512 corners.
+/// Sums that end just within the range or just past it, or have about 512 corners.
 pub fn for_sum(dice: &mut Dice) -> (Shape, Shape) {
     match dice.below(100) {
-        0..15 => reaching(dice),
+        0..15 => at_the_range_end(dice),
         15..17 => {
             let total = dice.pick(&[510, 511, 512, 513, 514]);
             long::summing_to(dice, total)
@@ -70,8 +70,8 @@ fn together(dice: &mut Dice, a: Shape, b: Shape) -> (Shape, Shape) {
 
 fn neighbours(dice: &mut Dice) -> (Shape, Shape) {
     let (a, b) = (shapes::small(dice), shapes::small(dice));
-    let reach = dice.between(0, 9);
-    let by = vector(dice, reach);
+    let size = dice.between(0, 9);
+    let by = vector(dice, size);
     (a, moved(&b, by))
 }
 
@@ -85,8 +85,8 @@ fn moved_copy(dice: &mut Dice) -> (Shape, Shape) {
     let a = shapes::small(dice);
     let by = match dice.below(3) {
         0 => vector(dice, 2),
-        1 => dice.pick(&a).minus(dice.pick(&a)),
-        _ => dice.pick(&a).minus(dice.pick(&a)).plus(vector(dice, 1)),
+        1 => dice.pick(&a) - dice.pick(&a),
+        _ => dice.pick(&a) - dice.pick(&a) + vector(dice, 1),
     };
     let b = moved(&a, by);
     (a, b)
@@ -94,18 +94,14 @@ fn moved_copy(dice: &mut Dice) -> (Shape, Shape) {
 
 /// A shape and its mirror image at a corner or along an edge, sometimes one step off.
 fn flush(dice: &mut Dice) -> (Shape, Shape) {
-    let a = if dice.one_in(3) {
-        shapes::any(dice)
-    } else {
-        shapes::small(dice)
-    };
+    let a = shapes::mostly_small(dice);
     let at = dice.below(a.len());
     let other = (at + dice.below(2)) % a.len();
-    let mut by = a[at].plus(a[other]);
+    let mut by = a[at] + a[other];
     if dice.one_in(3) {
-        by = by.plus(vector(dice, 1));
+        by = by + vector(dice, 1);
     }
-    let b = moved(&shape_of(a.iter().map(|c| c.negated()).collect()), by);
+    let b = moved(&hull_of(a.iter().map(|&c| -c).collect()), by);
     (a, b)
 }
 
@@ -116,10 +112,10 @@ fn nested(dice: &mut Dice) -> (Shape, Shape) {
     let mut inner = match dice.below(3) {
         0 => {
             let count = dice.between(1, b.len() as i64) as usize;
-            shape_of(dice.draw(&outer, count))
+            hull_of(dice.draw(&outer, count))
         }
-        1 => moved(&b, dice.pick(&b).times(2)),
-        _ => moved(&b, dice.pick(&b).plus(dice.pick(&b))),
+        1 => moved(&b, dice.pick(&b) * 2),
+        _ => moved(&b, dice.pick(&b) + dice.pick(&b)),
     };
     if dice.one_in(4) {
         inner = moved(&inner, vector(dice, 1));
@@ -135,21 +131,21 @@ fn with_spot(dice: &mut Dice) -> (Shape, Shape) {
     if dice.one_in(2) {
         spots.push(spot(dice, &a));
     }
-    (a, shape_of(spots))
+    (a, hull_of(spots))
 }
 
 fn spot(dice: &mut Dice, shape: &[Point]) -> Point {
     let at = dice.below(shape.len());
     let (a, b) = crate::plane::edge_ends(shape, at);
-    let between = b.minus(a);
+    let between = b - a;
     let half = point(between.x / 2, between.y / 2);
     match dice.below(6) {
         0 => a,
-        1 => a.plus(half),
-        2 => b.plus(half),
-        3 => a.plus(half).plus(vector(dice, 1)),
-        4 => b.plus(vector(dice, 1)),
-        _ => a.plus(b.minus(dice.pick(shape))),
+        1 => a + half,
+        2 => b + half,
+        3 => a + half + vector(dice, 1),
+        4 => b + vector(dice, 1),
+        _ => a + b - dice.pick(shape),
     }
 }
 
@@ -158,7 +154,7 @@ fn on_one_line(dice: &mut Dice) -> (Shape, Shape) {
     let step = vector(dice, 3);
     let mut part = || {
         let (from, to) = (dice.between(-3, 3), dice.between(-3, 3));
-        shape_of(vec![step.times(from), step.times(to)])
+        hull_of(vec![step * from, step * to])
     };
     let (a, mut b) = (part(), part());
     if dice.one_in(5) {
@@ -169,16 +165,12 @@ fn on_one_line(dice: &mut Dice) -> (Shape, Shape) {
 
 /// The second has some of the first's edges, longer or shorter, or turned round.
 fn sharing_directions(dice: &mut Dice) -> (Shape, Shape) {
-    let a = if dice.one_in(3) {
-        shapes::any(dice)
-    } else {
-        shapes::small(dice)
-    };
+    let a = shapes::mostly_small(dice);
     let edges = edges_of(&a);
     let count = dice.between(1, edges.len().min(12) as i64) as usize;
     let mut chosen = dice.draw(&edges, count);
     if dice.one_in(3) {
-        chosen = chosen.iter().map(|e| e.negated()).collect();
+        chosen = chosen.iter().map(|&edge| -edge).collect();
     }
     if dice.one_in(2) {
         chosen.push(vector(dice, 3));
@@ -189,25 +181,24 @@ fn sharing_directions(dice: &mut Dice) -> (Shape, Shape) {
 
 /// Small shapes at opposite ends of the range.
 fn across_the_range(dice: &mut Dice) -> (Shape, Shape) {
-    let far = point(dice.pick(&[-REACH, 0, REACH - 90]), REACH - 90);
-    let a = moved(&shapes::small(dice), far.negated().minus(point(90, 90)));
-    let b = moved(&shapes::small(dice), far.plus(point(60, 60)));
+    let far = point(
+        dice.pick(&[-MOST_COORDINATE, 0, MOST_COORDINATE - 90]),
+        MOST_COORDINATE - 90,
+    );
+    let a = moved(&shapes::small(dice), -far - point(90, 90));
+    let b = moved(&shapes::small(dice), far + point(60, 60));
     (a, b)
 }
 
 /// Two shapes whose sum ends at the range's end, one before it or one behind.
-fn reaching(dice: &mut Dice) -> (Shape, Shape) {
+fn at_the_range_end(dice: &mut Dice) -> (Shape, Shape) {
     let a = shapes::any(dice);
-    let b = if dice.one_in(2) {
-        shapes::small(dice)
-    } else {
-        shapes::any(dice)
-    };
+    let b = shapes::mostly_small(dice);
     let top = |parts: &[i64]| parts.iter().copied().max().unwrap_or(0);
     let bottom = |parts: &[i64]| parts.iter().copied().min().unwrap_or(0);
     let xs = |s: &[Point]| s.iter().map(|c| c.x).collect::<Vec<i64>>();
     let ys = |s: &[Point]| s.iter().map(|c| c.y).collect::<Vec<i64>>();
-    let end = REACH + dice.between(-1, 1);
+    let end = MOST_COORDINATE + dice.between(-1, 1);
     let by = match dice.below(4) {
         0 => point(end - top(&xs(&a)) - top(&xs(&b)), 0),
         1 => point(-end - bottom(&xs(&a)) - bottom(&xs(&b)), 0),
@@ -223,8 +214,8 @@ fn longest_with_few(dice: &mut Dice) -> (Shape, Shape) {
     let a = long::of_corners(dice, count);
     let b = match dice.below(4) {
         0 => vec![dice.pick(&a)],
-        1 => shape_of(vec![point(0, 0), dice.pick(&edges_of(&a))]),
-        2 => vec![a[0].plus(vector(dice, 400))],
+        1 => hull_of(vec![point(0, 0), dice.pick(&edges_of(&a))]),
+        2 => vec![a[0] + vector(dice, 400)],
         _ => shapes::small(dice),
     };
     if dice.one_in(2) { (a, b) } else { (b, a) }

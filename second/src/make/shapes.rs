@@ -3,9 +3,9 @@
 use super::dice::Dice;
 use super::edges::{divisor, shape_from_edges};
 use super::long;
-use crate::corners::shape_of;
+use crate::hull::hull_of;
 use crate::plane::{Point, Shape, point};
-use crate::refusal::REACH;
+use crate::refusal::MOST_COORDINATE;
 
 /// Any shape, somewhere in range.
 pub fn any(dice: &mut Dice) -> Shape {
@@ -37,29 +37,35 @@ pub fn small(dice: &mut Dice) -> Shape {
     }
 }
 
-/// The shape moved to a place in range: near the middle, anywhere, or to an end of the range.
+/// Any shape in one case of three, else a small one.
+pub fn mostly_small(dice: &mut Dice) -> Shape {
+    if dice.one_in(3) {
+        any(dice)
+    } else {
+        small(dice)
+    }
+}
+
+/// The shape moved within the range: near the middle, anywhere, or to an end of the range.
 pub fn settled(dice: &mut Dice, shape: &[Point]) -> Shape {
     let xs: Vec<i64> = shape.iter().map(|c| c.x).collect();
     let ys: Vec<i64> = shape.iter().map(|c| c.y).collect();
-    let place = dice.below(8);
-    moved(
-        shape,
-        point(shift(dice, &xs, place), shift(dice, &ys, place)),
-    )
+    let way = dice.below(8);
+    moved(shape, point(shift(dice, &xs, way), shift(dice, &ys, way)))
 }
 
 pub fn moved(shape: &[Point], by: Point) -> Shape {
-    shape.iter().map(|c| c.plus(by)).collect()
+    shape.iter().map(|&c| c + by).collect()
 }
 
 pub fn scaled(shape: &[Point], factor: i64) -> Shape {
-    shape.iter().map(|c| c.times(factor)).collect()
+    shape.iter().map(|&c| c * factor).collect()
 }
 
 /// The shape of random points of a square.
 pub fn cloud(dice: &mut Dice, count: i64, size: i64) -> Shape {
     let points = (0..count).map(|_| point(dice.between(0, size), dice.between(0, size)));
-    shape_of(points.collect())
+    hull_of(points.collect())
 }
 
 /// A vector with parts up to `size`.
@@ -68,14 +74,14 @@ pub fn vector(dice: &mut Dice, size: i64) -> Point {
 }
 
 /// How far to move along one axis; 0 if the shape is wider than the range.
-fn shift(dice: &mut Dice, parts: &[i64], place: usize) -> i64 {
+fn shift(dice: &mut Dice, parts: &[i64], way: usize) -> i64 {
     let least = parts.iter().copied().min().unwrap_or(0);
     let greatest = parts.iter().copied().max().unwrap_or(0);
-    let (low, high) = (-REACH - least, REACH - greatest);
+    let (low, high) = (-MOST_COORDINATE - least, MOST_COORDINATE - greatest);
     if low > high {
         return 0;
     }
-    let wanted = match place {
+    let wanted = match way {
         0..2 => 0,
         2..6 => dice.between(-9, 9),
         6 => dice.between(low, high),
@@ -85,9 +91,9 @@ fn shift(dice: &mut Dice, parts: &[i64], place: usize) -> i64 {
 }
 
 fn segment(dice: &mut Dice) -> Shape {
-    let size = dice.pick(&[1, 3, 10, 1000, 2 * REACH]);
+    let size = dice.pick(&[1, 3, 10, 1000, 2 * MOST_COORDINATE]);
     let end = vector(dice, size);
-    shape_of(vec![point(0, 0), end])
+    hull_of(vec![point(0, 0), end])
 }
 
 /// Small whole steps: many parallel edges, edges made of several steps.
@@ -110,32 +116,40 @@ fn from_edges(dice: &mut Dice) -> Shape {
 fn from_cloud(dice: &mut Dice) -> Shape {
     let (count, size) = (
         dice.between(3, 16),
-        dice.pick(&[2, 4, 9, 100, 5000, 2 * REACH]),
+        dice.pick(&[2, 4, 9, 100, 5000, 2 * MOST_COORDINATE]),
     );
     cloud(dice, count, size)
 }
 
 /// Corners whose coordinates are mostly at the ends of the range.
 fn at_range_ends(dice: &mut Dice) -> Shape {
-    let ends = [-REACH, 1 - REACH, 0, REACH - 1, REACH, -REACH, REACH];
-    let inner = dice.between(-REACH, REACH);
+    let ends = [
+        -MOST_COORDINATE,
+        1 - MOST_COORDINATE,
+        0,
+        MOST_COORDINATE - 1,
+        MOST_COORDINATE,
+        -MOST_COORDINATE,
+        MOST_COORDINATE,
+    ];
+    let inner = dice.between(-MOST_COORDINATE, MOST_COORDINATE);
     let parts = [&ends[..], &[inner]].concat();
     let points = (0..dice.between(2, 10)).map(|_| point(dice.pick(&parts), dice.pick(&parts)));
-    shape_of(points.collect())
+    hull_of(points.collect())
 }
 
 /// A triangle of turn 1 on a long edge, or a fan of such.
 fn thin(dice: &mut Dice) -> Shape {
-    let size = dice.pick(&[5, 50, 1000, REACH]);
+    let size = dice.pick(&[5, 50, 1000, MOST_COORDINATE]);
     let (x, y) = (dice.between(1, size), dice.between(1, size));
     let common = divisor(x, y);
     let long = point(x / common, y / common);
     let near = partner(long.x, long.y);
     let mut points = vec![point(0, 0), long, near];
     if dice.one_in(2) {
-        points.push(long.minus(near));
+        points.push(long - near);
     }
-    shape_of(points)
+    hull_of(points)
 }
 
 /// A (u, v) with x·v - y·u = 1, for x, y of 0 or more without a common divisor.
@@ -166,8 +180,8 @@ fn tied(dice: &mut Dice) -> Shape {
 fn rectangle(dice: &mut Dice, size: i64) -> Vec<Point> {
     let side = vector(dice, size);
     let other = side.quarter_turned();
-    let nearly = dice.pick(&[other, other, other.times(2), other.plus(point(1, 0))]);
-    vec![side, nearly, side.negated(), nearly.negated()]
+    let nearly = dice.pick(&[other, other, other * 2, other + point(1, 0)]);
+    vec![side, nearly, -side, -nearly]
 }
 
 /// The same on turning by a quarter: every width stands four times.
@@ -176,7 +190,7 @@ fn quarter_turns(dice: &mut Dice, size: i64) -> Vec<Point> {
     for _ in 0..dice.between(1, 3) {
         let edge = vector(dice, size);
         let turned = edge.quarter_turned();
-        edges.extend([edge, turned, edge.negated(), turned.negated()]);
+        edges.extend([edge, turned, -edge, -turned]);
     }
     edges
 }
@@ -185,7 +199,7 @@ fn half_turns(dice: &mut Dice, size: i64) -> Vec<Point> {
     let mut edges = Vec::new();
     for _ in 0..dice.between(2, 5) {
         let edge = vector(dice, size);
-        edges.extend([edge, edge.negated()]);
+        edges.extend([edge, -edge]);
     }
     edges
 }
@@ -200,7 +214,7 @@ pub fn nearly_tied(dice: &mut Dice) -> Shape {
     for (x, y) in [(p + 1, 0), (p, 1), (0, 2 * p - 1)] {
         let edge = point(mirrored * x, y);
         let placed = if turned { edge.quarter_turned() } else { edge };
-        edges.extend([placed, placed.negated()]);
+        edges.extend([placed, -placed]);
     }
     shape_from_edges(&edges)
 }
@@ -218,7 +232,7 @@ fn cut_square(dice: &mut Dice, side: i64) -> Shape {
         point(0, side - cut()),
         point(0, cut()),
     ];
-    shape_of(points)
+    hull_of(points)
 }
 
 fn medium(dice: &mut Dice) -> Shape {

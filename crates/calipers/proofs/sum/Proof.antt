@@ -24,7 +24,14 @@ count-requires-2 c κs = search needs
 add-all : tie.Need-add-all
 add-all c =
     let start = c .before .before in
-    omega (arith, all c, points-length (start .args .a .now), points-length (start .args .b .now), start .pre .2, points-length (start .args .buf .now))
+    omega (
+      arith,
+      all c,
+      points-length (start .args .a .now),
+      points-length (start .args .b .now),
+      start .pre .2,
+      points-length (start .args .buf .now),
+    )
 
 begin-requires : tie.Need-begin-requires
 begin-requires c κs = search needs

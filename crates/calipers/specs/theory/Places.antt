@@ -22,8 +22,9 @@ use Rattle.plane.specs.Forms.{before, Before}
 use Rattle.plane.specs.theory.lists.Sought.{true-not-false}
 use Rattle.plane.specs.theory.forms.Angle.{before-reversed}
 use Rattle.calipers.specs.Places.{takes, passed}
-use Rattle.calipers.specs.theory.Standing.{takes-taken, passed-taken, passed-ended, passed-waits, Step, ended, left, right, both, step}
-use Rattle.calipers.specs.Places.{Place, place, stepsRight, stepsFrom, steps, placesFrom, places, finished}
+use Rattle.calipers.specs.theory.Standing.{takes-taken, passed-taken, passed-ended, passed-waits, Step}
+use Rattle.calipers.specs.theory.Standing.{ended, left, right, both, step}
+use Rattle.calipers.specs.Places.{Place, place, stepsFrom, steps, placesFrom, finished}
 
 -- ---- how they go on
 

@@ -1,7 +1,8 @@
 -- Where the caliper walk stands among two lists of edges in order, E and F, of which i and j are passed.
 --     takes E i F j       whether the next step passes edge i of E: there is one, and edge j of F is not before it
 --     passed E i F j      how many edges of E are passed after the step
---     Taken E i F j       the test as a fact; `takes-taken`, `taken-takes`, `not-takes`; `taken-same`: passed together, they point the same way
+--     Taken E i F j       the test as a fact; `takes-taken`, `taken-takes`, `not-takes`; `taken-same`: passed together, they point the
+--                         same way
 --     Step E F i j, step  the ways a step goes
 --     passed-taken, passed-left     the step passes edge i of E, or not; `passed-ended`, `passed-waits`: why not
 --     Standing E F i j    each edge passed of the one list is before the next of the other

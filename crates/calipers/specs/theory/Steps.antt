@@ -43,7 +43,8 @@ module _ (A B : List Point) where
   unfolding remaining ahead here
   remaining-ahead w = go (w .over)
     where
-      go : (o : Bool) → cond o [] (path (cornerRound A (w .i) ⊕ cornerRound B (w .j)) (joinEdges (drop (w .i) (edges A)) (drop (w .j) (edges B))))
+      go : (o : Bool) → cond o [] (path (cornerRound A (w .i) ⊕ cornerRound B (w .j))
+          (joinEdges (drop (w .i) (edges A)) (drop (w .j) (edges B))))
           ≡ map (cornerAt A B) (cond o [] (placesFrom (w .i) (w .j) (drop (w .i) (edges A)) (drop (w .j) (edges B))))
       go true = refl
       go false = sym (placesFrom-corners A B (w .i) (w .j))
@@ -112,7 +113,8 @@ module _ (a b : List ℤ) where
         → here A B (stepped A B n w) ∷ remaining A B (stepped A B (suc n) w) ≡ corner (remaining A B w) n ∷ drop (suc n) (remaining A B w)
     next-corner n h e =
         let some : 0 < length (remaining A B (stepped A B n w)) = omega (arith, ap length e, length-drop n (remaining A B w)) in
-        sym (remaining-here (stepped A B n w) (at-stepped n) (some-to-come (stepped A B n w) some)) ∙ e ∙ drop-cons (remaining A B w) n origin h
+        sym (remaining-here (stepped A B n w) (at-stepped n) (some-to-come (stepped A B n w) some)) ∙ e
+        ∙ drop-cons (remaining A B w) n origin h
 
     pub remaining-stepped : (n : ℕ) → n ≤ length (remaining A B w) → remaining A B (stepped A B n w) ≡ drop n (remaining A B w)
     remaining-stepped zero h = refl

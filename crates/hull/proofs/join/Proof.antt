@@ -1,5 +1,5 @@
 -- `join` meets its contract: two copies, one behind the other.
-use mathlib.Core.Path.{_≡_, _∙_, ap}
+use mathlib.Core.Path.{_∙_, ap}
 use mathlib.Core.List.{List}
 use Prim.Native.Nat.{_*_}
 use native.Mathlib.Omega.{arith}
@@ -17,8 +17,10 @@ mul-copy c = omega (arith, c .pre .0, points-length (c .args .right .now))
 
 copy-requires : tie.Need-copy-requires
 copy-requires c κs =
-    let start = c .before in
-    (omega (arith, start .pre .0, points-length (start .args .right .now)), omega (arith, start .pre .2, points-length (start .args .buf .now)))
+    let start = c .before in (
+      omega (arith, start .pre .0, points-length (start .args .right .now)),
+      omega (arith, start .pre .2, points-length (start .args .buf .now)),
+    )
 
 mul-copy-2 : tie.Need-mul-copy-2
 mul-copy-2 c = let start = c .before .before .before in omega (arith, start .pre .1, points-length (start .args .left .now))
@@ -49,7 +51,8 @@ returns c =
     let at-copy = c .before .before .before .before in
     let start = at-copy .before .before in
     fronts-joined _ _ _ _ (start .pre .0) (start .pre .1) (start .args .buf .now) _ (start .pre .2)
-    (c .before .copy2 .ensures ∙ ap (λ (l : List ℤ). paste l (2 * start .args .m) (start .args .left .now) (2 * start .args .n)) (at-copy .copy .ensures))
+    (c .before .copy2 .ensures ∙ ap (λ (l : List ℤ). paste l (2 * start .args .m) (start .args .left .now) (2 * start .args .n))
+    (at-copy .copy .ensures))
 
 pub join-spec : {M : Type 1} → statement M
 join-spec = tie.close (tie.spec mul-copy copy-requires mul-copy-2 mul-copy-3 copy-requires-2 add-result same-length returns)

@@ -1,10 +1,10 @@
 -- `merge` meets its contract: the two chains, joined, are the shape of both lists.
-use mathlib.Core.Path.{_≡_, refl, _∙_, ap, subst}
+use mathlib.Core.Path.{refl, subst}
 use mathlib.Core.List.{List, _++_}
-use Prim.Native.Nat.{_+_, _*_, _≤_, _<_}
+use Prim.Native.Nat.{_+_, _*_, _≤_}
 use native.Mathlib.Omega.{arith}
 use borrow.Author.Needs.{needs}
-use lib.ListN.{length, take, length-append}
+use lib.ListN.{length, length-append}
 use Rattle.plane.specs.Limits.{maxCorners}
 use Rattle.plane.specs.Point.{Point, points}
 use Rattle.polygon.specs.Front.{Front}
@@ -15,14 +15,16 @@ use Rattle.hull.proofs.merge.Tie as tie
 
 -- not more corners than both lists have
 few : (c : tie.After-both-chains) → let start = c .before .before .before in
-    c .both-chains .result .right + c .both-chains .result .left ≤ length (points (start .args .a .now)) + length (points (start .args .b .now))
+    c .both-chains .result .right + c .both-chains .result .left ≤ length (points (start .args .a .now)) + length
+    (points (start .args .b .now))
 few c =
     let start = c .before .before .before in
     let counts = length-append (points (start .args .a .now)) (points (start .args .b .now)) in
     omega (
       arith,
       counts,
-      sides-few (points (start .args .a .now) ++ points (start .args .b .now)) (omega (arith, counts, start .pre .0 .shape .some)) (c .both-chains .ensures),
+      sides-few (points (start .args .a .now) ++ points (start .args .b .now)) (omega (arith, counts, start .pre .0 .shape .some))
+          (c .both-chains .ensures),
     )
 
 slice-aggregate-both-chains : tie.Need-slice-aggregate-both-chains

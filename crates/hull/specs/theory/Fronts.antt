@@ -1,21 +1,15 @@
 -- Corners at the front of two buffers, copied one after the other.
 --     fronts-joined         copied one after the other they stand at the front of the output
-use mathlib.Core.Path.{_≡_, refl, sym, _∙_, ap, ap₂, subst}
-use mathlib.Core.Bool.{Bool, true, false}
+use mathlib.Core.Path.{_≡_, refl, sym, _∙_, ap, ap₂}
 use mathlib.Core.List.{List, [], _∷_, _++_}
-use Prim.Native.Nat.{ℕ, zero, suc, _+_, _-_, _*_, _≤_, _<_}
+use Prim.Native.Nat.{ℕ, zero, suc, _+_, _*_, _≤_}
 use native.Mathlib.Nat.{le-of-suc-le-suc}
 use native.Mathlib.Omega.{arith}
-use borrow.Author.Tests.{ltb-true, ltb-false}
-use lib.Dec.{ltb}
-use lib.IntN.{ℤ, pos}
-use lib.ListN.{length, getD, take, drop, length-append, List·getD-append}
-use lib.Seq.{paste, length-take-le, take-at, drop-append-add, drop-drop, getD-take, getD-append-add}
-use Rattle.integer.specs.Bound.{Within}
-use Rattle.plane.specs.Limits.{maxCorners, maxCoordinate}
+use lib.IntN.{ℤ}
+use lib.ListN.{length, take, drop, length-append}
+use lib.Seq.{paste, length-take-le, take-at, drop-append-add, drop-drop}
 use Rattle.plane.specs.Point.{Point, points, numbers}
-use Rattle.plane.specs.Refusal.{InRange, tooMany, someOutside}
-use Rattle.plane.specs.Output.{noRoom, overwritten}
+use Rattle.plane.specs.Output.{overwritten}
 use Rattle.plane.specs.theory.lists.Flat.{points-length, numbers-length}
 use Rattle.polygon.specs.Front.{Front}
 use Rattle.polygon.specs.theory.Fronts.{overwritten-front}
@@ -42,7 +36,8 @@ module _ (a : List ℤ) (m : ℕ) (b : List ℤ) (n : ℕ) (h : m ≤ length (po
   fronts-numbers = numbers-append (take m (points a)) (take n (points b)) ∙ ap₂ (λ x y. x ++ y) (numbers-front a m h) (numbers-front b n k)
 
   fronts-length : length fronts ≡ m + n
-  fronts-length = length-append (take m (points a)) (take n (points b)) ∙ ap₂ (λ x y. x + y) (length-take-le m (points a) h) (length-take-le n (points b) k)
+  fronts-length = length-append (take m (points a)) (take n (points b))
+      ∙ ap₂ (λ x y. x + y) (length-take-le m (points a) h) (length-take-le n (points b) k)
 
   fronts-pasted : (out : List ℤ) → 2 * m + 2 * n ≤ length out
       → paste (paste out 0 a (2 * m)) (2 * m) b (2 * n) ≡ overwritten (numbers fronts) out

@@ -36,7 +36,8 @@ module _ (A B old ps : List Point) (n e : ℕ) (first : take n old ≡ ascending
   held = both ∙ ap (λ l. l ++ ascending B) first
 
   all-count : e ≡ n + length (ascending B)
-  all-count = sym (length-take-le e ps e-le) ∙ ap length held ∙ length-append (ascending A) (ascending B) ∙ ap (λ k. k + length (ascending B)) first-count
+  all-count = sym (length-take-le e ps e-le) ∙ ap length held ∙ length-append (ascending A) (ascending B)
+      ∙ ap (λ k. k + length (ascending B)) first-count
 
   gathered-all : (n ≤ e) × (e ≤ length A + length B)
   gathered-all = (omega (arith, all-count), omega (arith, all-count, gathered-first, ascending-length B))

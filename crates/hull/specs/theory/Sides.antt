@@ -2,7 +2,7 @@
 --     UpToLast n k m     what is taken of a chain
 --     sides              what both scans leave of the ascending corners of a set, read upwards and downwards, joins to its shape
 use mathlib.Core.Path.{_≡_, refl, sym, _∙_, ap, ap₂, subst}
-use mathlib.Core.List.{List, [], _∷_, _++_, reverse}
+use mathlib.Core.List.{List, [], _∷_, _++_, tail, reverse}
 use Prim.Native.Nat.{ℕ, suc, _+_, _-_, _≤_, _<_}
 use native.Mathlib.Decide.{ℕ-discrete}
 use native.Mathlib.Numerals.{add-one}
@@ -11,7 +11,7 @@ use lib.IntN.{ℤ}
 use lib.ListN.{length, take, length-append}
 use lib.Seq.{length-take-le}
 use Rattle.plane.specs.Point.{Point, points}
-use Rattle.plane.specs.Corner.{ascending, scan, withoutFirst, around, shapeOf}
+use Rattle.plane.specs.Corner.{ascending, scan, outline, shapeOf}
 use Rattle.plane.specs.theory.lists.Flat.{points-length}
 use Rattle.hull.specs.theory.Few.{shapeOf-few}
 use Rattle.hull.specs.theory.Least.{ascending-some}
@@ -24,17 +24,18 @@ UpToLast n k m = (n ≡ 1 → m ≡ 1) × ((n ≡ 1 → ⊥) → m + 1 ≡ k)
 
 module _ (R L : List Point) where
   -- a chain without its last corner
-  side-take : (P : List Point) (k m : ℕ) (A : List Point) → m ≤ length P → m + 1 ≡ k → stack P k ≡ scan [] A → take m P ≡ reverse (withoutFirst (scan [] A))
+  side-take : (P : List Point) (k m : ℕ) (A : List Point) → m ≤ length P → m + 1 ≡ k → stack P k ≡ scan [] A → take m P
+      ≡ reverse (tail (scan [] A))
   side-take P k m A h e s =
-      take-stack P m h ∙ ap (λ l. reverse (withoutFirst l)) (go ∙ s)
+      take-stack P m h ∙ ap (λ l. reverse (tail l)) (go ∙ s)
     where
       go : stack P (suc m) ≡ stack P k
       go = ap (stack P) (sym (add-one m) ∙ e)
 
-  chains-around : (A : List Point) (u d m w : ℕ) → 0 < length A → m ≤ length R → w ≤ length L → UpToLast (length A) u m → w + 1 ≡ d
-      → stack R u ≡ scan [] A → stack L d ≡ scan [] (reverse A) → take m R ++ take w L ≡ around A
-  chains-around [] u d m w some a b c e s t = absurd (omega arith)
-  chains-around (p ∷ []) u d m w some a b c e s t =
+  chains-outline : (A : List Point) (u d m w : ℕ) → 0 < length A → m ≤ length R → w ≤ length L → UpToLast (length A) u m → w + 1 ≡ d
+      → stack R u ≡ scan [] A → stack L d ≡ scan [] (reverse A) → take m R ++ take w L ≡ outline A
+  chains-outline [] u d m w some a b c e s t = absurd (omega arith)
+  chains-outline (p ∷ []) u d m w some a b c e s t =
       ap₂ (λ x y. x ++ y) (ap (λ k. take k R) one ∙ take-stack R u (omega (arith, one)) ∙ ap reverse s) (ap (λ k. take k L) none)
     where
       one : m ≡ u
@@ -42,7 +43,7 @@ module _ (R L : List Point) where
 
       none : w ≡ 0
       none = let z = sym (stack-length L d) ∙ ap length t in omega (arith, z)
-  chains-around (p ∷ (q ∷ ps)) u d m w some a b c e s t =
+  chains-outline (p ∷ (q ∷ ps)) u d m w some a b c e s t =
       ap₂ (λ x y. x ++ y) (side-take R u m (p ∷ q ∷ ps) a (c .1 (λ z. omega arith)) s) (side-take L d w (reverse (p ∷ q ∷ ps)) b e t)
 
 module _ {right up-read up-kept left down-read down-kept : List ℤ} {n u d m : ℕ} (S : List Point) (some : 0 < length S)
@@ -71,7 +72,7 @@ module _ {right up-read up-kept left down-read down-kept : List ℤ} {n u d m : 
   pub sides : Sides S up-kept m down-kept (d - 1)
   unfolding shapeOf
   sides = record {
-    joined = chains-around (points up-kept) (points down-kept) (ascending S) u d m (d - 1) (ascending-some S some) right-room
+    joined = chains-outline (points up-kept) (points down-kept) (ascending S) u d m (d - 1) (ascending-some S some) right-room
         (omega (arith, down .few, turned .within, points-length down-read, points-length down-kept, down .same))
         (subst (λ k. UpToLast k u m) (sym count) taken) (omega (arith, down .some any)) right-chain left-chain;
     within-right = right-room;

@@ -18,7 +18,8 @@ use Rattle.plane.specs.Corner.{push, scan}
 use Rattle.plane.specs.Refusal.{InRange}
 use Rattle.plane.specs.theory.lists.Flat.{points-length, points-near}
 use Rattle.hull.specs.theory.Run.{run, run-more, run-take, run-set}
-use Rattle.hull.specs.Buffer.{stored, stack, Settled, Scanned}
+use Rattle.polygon.specs.Point.{stored}
+use Rattle.hull.specs.Buffer.{stack, Settled, Scanned}
 use Rattle.hull.specs.theory.Stored.{stored-points, stored-length, stored-near}
 
 -- ---- stacks
@@ -72,7 +73,8 @@ module _ {ps : List Point} {k i kept : ℕ} (c : Settling ps k i kept) where
     pub settle-keep : ltZ (pos 0) (turn (corner ps (kept - 2)) (corner ps (kept - 1)) (corner ps i)) ≡ true → Settled ps k i kept
     settle-keep e = record {
       few = c .few;
-      pushed = c .pushed ∙ ap (λ m. push (corner ps i) (stack ps m)) top ∙ go (rw under at e) ∙ ap (λ m. corner ps i ∷ stack ps m) (sym top);
+      pushed = c .pushed ∙ ap (λ m. push (corner ps i) (stack ps m)) top
+          ∙ go (rw under at e) ∙ ap (λ m. corner ps i ∷ stack ps m) (sym top);
     }
       where
         go : ltZ (pos 0) (turn (corner ps (kept - 2)) (corner ps (suc (kept - 2))) (corner ps i)) ≡ true
@@ -82,7 +84,8 @@ module _ {ps : List Point} {k i kept : ℕ} (c : Settling ps k i kept) where
     pub settle-drop : ltZ (pos 0) (turn (corner ps (kept - 2)) (corner ps (kept - 1)) (corner ps i)) ≡ false → Settling ps k i (kept - 1)
     settle-drop e = record {
       few = omega (arith, c .few);
-      pushed = c .pushed ∙ ap (λ m. push (corner ps i) (stack ps m)) top ∙ go (rw under at e) ∙ ap (λ m. push (corner ps i) (stack ps m)) (sym under);
+      pushed = c .pushed ∙ ap (λ m. push (corner ps i) (stack ps m)) top
+          ∙ go (rw under at e) ∙ ap (λ m. push (corner ps i) (stack ps m)) (sym under);
     }
       where
         go : ltZ (pos 0) (turn (corner ps (kept - 2)) (corner ps (suc (kept - 2))) (corner ps i)) ≡ false

@@ -7,7 +7,7 @@
 --     sum-combines, merge-combines     a sum adds, a merge takes the greater
 --     called-reaches                   also where the two shapes stand in the other order
 --     valid-same                       valid shapes that reach as far in every direction are equal
-use mathlib.Core.Path.{_≡_, refl, sym, _∙_, ap, subst}
+use mathlib.Core.Path.{_≡_, sym, _∙_, ap, subst}
 use mathlib.Core.List.{List, [], _∷_, _++_}
 use Prim.Native.Nat.{_*_, _≤_, _<_}
 use native.Mathlib.Omega.{arith}
@@ -24,9 +24,9 @@ use Rattle.plane.specs.Direction.{support, max}
 use Rattle.plane.specs.Corner.{shapeOf, sums}
 use Rattle.plane.specs.Output.{Written, written, answerRows, overwritten}
 use Rattle.plane.specs.Combine.{pairWritten, sumWritten, mergeWritten}
-use Rattle.plane.specs.theory.refusals.Rows.{NoneApply, firstRow-none, firstRow-answered}
-use Rattle.plane.specs.theory.refusals.Write.{none-output}
-use Rattle.plane.specs.theory.refusals.Accept.{few-corners, accepted→valid, inside→inRange}
+use Rattle.plane.specs.theory.refusals.Rows.{NoneApply, firstRow-answered}
+use Rattle.plane.specs.theory.refusals.Write.{answered-output}
+use Rattle.plane.specs.theory.refusals.Accept.{few-corners, accepted→valid, near→inRange}
 use Rattle.plane.specs.theory.lists.Flat.{points-numbers, numbers-points, numbers-length}
 use Rattle.plane.specs.theory.lists.Members.{sums-some}
 use Rattle.plane.specs.theory.lists.Max.{left-le-max, max-comm, max-assoc, max-idem}
@@ -44,19 +44,16 @@ none-append : (vs ws : List Row) → NoneApply (vs ++ ws) → NoneApply vs × No
 none-append [] ws n = (tt, n)
 none-append (v ∷ vs) ws n = let r = none-append vs ws (n .1) in ((n .0, r .0), r .1)
 
--- then the shape's numbers stand at the front of the output
-written-front : (rows : List Row) (shape : List Point) (out : List ℤ) → NoneApply rows
-    → take (2 * length shape) (written rows shape out .output) ≡ numbers shape
-unfolding overwritten
-written-front rows shape out none =
-    ap (take (2 * length shape)) (none-output rows out _ none) ∙ take-at (numbers shape) _ (2 * length shape) (numbers-length shape)
-
 pub written-answered : (rows : List Row) (shape : List Point) (out v : List ℤ) → written rows shape out .reply ≡ answered v
     → NoneApply rows × (v ≡ pos (length shape) ∷ []) × Gives (written rows shape out) (numbers shape)
+unfolding overwritten
 written-answered rows shape out v h =
-    let none = firstRow-answered rows (pos (length shape) ∷ []) v h in
-    let count = firstRow-none rows (answered (pos (length shape) ∷ [])) none in
-    (none, cc, record { count = length shape; answer = count; counted = sym (written-front rows shape out none) })
+    let (count, wrote) = answered-output rows shape out v h in
+    let front = take-at (numbers shape) _ (2 * length shape) (numbers-length shape) in (
+      firstRow-answered rows (pos (length shape) ∷ []) v h,
+      count,
+      record { count = length shape; answer = h ∙ ap answered count; counted = sym (ap (take (2 * length shape)) wrote ∙ front) },
+    )
 
 pub gives-unique : {w : Written} {l m : List ℤ} → Gives w l → Gives w m → l ≡ m
 gives-unique {w} g h = let same : g .count ≡ h .count = cc in g .counted ∙ ap (λ n. take (2 * n) (w .output)) same ∙ sym (h .counted)
@@ -97,7 +94,7 @@ module _ (c : ℤ → ℤ → ℤ) (a b : List ℤ) (S : List Point) (out l : Li
         first = v;
         second = w;
         valid = subst Valid (sym e)
-            (numbers-valid (shapeOf S) (shapeOf-shape S n) (few-corners _ (later .1 .0)) (inside→inRange _ (later .1 .1 .0)));
+            (numbers-valid (shapeOf S) (shapeOf-shape S n) (few-corners _ (later .1 .0)) (near→inRange _ (later .1 .1 .0)));
         reach = λ d. ap (λ m. support d (points m)) e ∙ ap (support d) (points-numbers (shapeOf S)) ∙ shapeOf-support S n d
             ∙ follows (v .shape .some) (w .shape .some) d;
       }

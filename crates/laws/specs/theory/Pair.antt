@@ -1,28 +1,58 @@
 -- Laws of one, two and three shapes: each is a line of arithmetic on how far the shapes reach.
---     origin-neutral     adding the origin changes nothing
---     merge-idem         merging a shape with itself changes nothing
+--     origin-neutral     adding the origin point to a valid shape, in either order, is answered with the shape
+--     merge-idem         so is merging a shape with itself
 --     call-comm          the order of the two shapes and the outputs make no difference
 --     sum-distributes    a sum over a merge is the merge of the sums
 --     sum-cancels        equal sums with c come of equal shapes
 use mathlib.Core.Path.{_≡_, sym, _∙_, ap}
-use mathlib.Core.List.{List, [], _∷_}
+use mathlib.Core.List.{List, [], _∷_, _++_}
+use Prim.Native.Nat.{_≤_}
 use native.Mathlib.Omega.{arith}
-use lib.IntN.{ℤ, _+ℤ_, +ℤ-idl}
+use lib.IntN.{ℤ, _+ℤ_, +ℤ-idl, +ℤ-idr}
+use lib.ListN.{length, length-append}
 use Rattle.integer.specs.Linear.{lia, linear}
+use Rattle.plane.specs.Point.{points}
+use Rattle.plane.specs.Refusal.{Valid}
+use Rattle.plane.specs.Corner.{shapeOf, sums}
 use Rattle.plane.specs.Combine.{sumWritten, mergeWritten}
 use Rattle.plane.specs.theory.lists.Max.{max-idem, plus-max}
-use Rattle.laws.specs.Grouping.{Call, Called, originPoint}
+use Rattle.plane.specs.theory.lists.Members.{sums-some}
+use Rattle.plane.specs.theory.support.Support.{support-append, support-sums}
+use Rattle.plane.specs.theory.hull.ShapeOf.{shape-known}
+use Rattle.laws.specs.Grouping.{originPoint, Call, answeredWith, Called}
 use Rattle.laws.specs.theory.Answer.{Combines, sum-combines, merge-combines, called-reaches, valid-same}
-use Rattle.laws.specs.theory.Fold.{far}
+use Rattle.laws.specs.theory.Acceptance.{sum-whole, merge-whole, origin-valid}
+use Rattle.laws.specs.theory.Fold.{reach}
 use Rattle.laws.specs.theory.Whole.{support-origin}
 
-pub origin-neutral : {a l : List ℤ} → Called sumWritten originPoint a l → l ≡ a
-origin-neutral {a} s =
-    let r = called-reaches sum-combines s in
-    valid-same (r .valid) (r .second) (λ d. r .reach d ∙ ap (λ x. x +ℤ far d a) (support-origin d) ∙ +ℤ-idl (far d a))
+-- ---- one shape, and an output with room for it
 
-pub merge-idem : {a l : List ℤ} → Called mergeWritten a a l → l ≡ a
-merge-idem {a} s = let r = called-reaches merge-combines s in valid-same (r .valid) (r .first) (λ d. r .reach d ∙ max-idem (far d a))
+module _ (a out : List ℤ) (v : Valid a) (room : length a ≤ length out) where
+  -- the set of the sums reaches as far as a
+  origin-left : points a ≡ shapeOf (sums (points originPoint) (points a))
+  origin-left = shape-known (points a) (sums (points originPoint) (points a)) (v .shape)
+      (sums-some (points originPoint) (points a) (omega arith) (v .shape .some))
+      (λ d. sym (support-sums d (points originPoint) (points a) (omega arith) (v .shape .some)
+      ∙ ap (λ x. x +ℤ reach d a) (support-origin d) ∙ +ℤ-idl (reach d a)))
+
+  origin-right : points a ≡ shapeOf (sums (points a) (points originPoint))
+  origin-right = shape-known (points a) (sums (points a) (points originPoint)) (v .shape)
+      (sums-some (points a) (points originPoint) (v .shape .some) (omega arith))
+      (λ d. sym (support-sums d (points a) (points originPoint) (v .shape .some) (omega arith)
+      ∙ ap (λ x. reach d a +ℤ x) (support-origin d) ∙ +ℤ-idr (reach d a)))
+
+  pub origin-neutral : (sumWritten originPoint a out ≡ answeredWith a out) × (sumWritten a originPoint out ≡ answeredWith a out)
+  origin-neutral = (
+    sum-whole originPoint a out a origin-valid v v origin-left room,
+    sum-whole a originPoint out a v origin-valid v origin-right room,
+  )
+
+  pub merge-idem : mergeWritten a a out ≡ answeredWith a out
+  merge-idem = merge-whole a a out a v v v (shape-known (points a) (points a ++ points a) (v .shape)
+      (omega (arith, length-append (points a) (points a), v .shape .some))
+      (λ d. sym (support-append d (points a) (points a) (v .shape .some) (v .shape .some) ∙ max-idem (reach d a)))) room
+
+-- ---- two shapes and three
 
 pub call-comm : {call : Call} {c : ℤ → ℤ → ℤ} → Combines call c → {a b l m : List ℤ} → Called call a b l → Called call b a m → l ≡ m
 call-comm k s t =
@@ -39,7 +69,7 @@ sum-distributes {a} {b} {c} u s p q t =
     let other = called-reaches sum-combines q in
     let parts = called-reaches merge-combines t in
     valid-same (whole .valid) (parts .valid) (λ d. whole .reach d ∙ rw (merged .reach d, parts .reach d, one .reach d, other .reach d)
-    (plus-max (far d a) (far d b) (far d c)))
+    (plus-max (reach d a) (reach d b) (reach d c)))
 
 plus-injective : (x y z : ℤ) → x +ℤ z ≡ y +ℤ z → x ≡ y
 plus-injective x y z h = lia (x ∷ y ∷ z ∷ []) h (search linear depth 40) (omega arith)
@@ -48,4 +78,4 @@ pub sum-cancels : {a b c l : List ℤ} → Called sumWritten a c l → Called su
 sum-cancels {a} {b} {c} s t =
     let r = called-reaches sum-combines s in
     let q = called-reaches sum-combines t in
-    valid-same (r .first) (q .first) (λ d. plus-injective (far d a) (far d b) (far d c) (sym (r .reach d) ∙ q .reach d))
+    valid-same (r .first) (q .first) (λ d. plus-injective (reach d a) (reach d b) (reach d c) (sym (r .reach d) ∙ q .reach d))

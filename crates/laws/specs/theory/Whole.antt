@@ -1,11 +1,11 @@
 -- The result of a grouping is the shape that document 01 states for its whole list.
 --     grouping-some                  a list that can be grouped has a shape
 --     support-origin                 the origin reaches 0
---     sumsOf-acts, together-acts     what all sums of corners, and all corners together, reach is the same fold
+--     sumsOf-acts, flatten-acts     what all sums of corners, and all corners together, reach is the same fold
 --     sums-whole, merges-whole       so the result is the shape of that set
 --     sums-result, merges-result     and a grouping of which no call is refused has it
 use mathlib.Core.Path.{_≡_, refl, sym, _∙_, ap, subst}
-use mathlib.Core.List.{List, [], _∷_, map, append-nil, List·Memᴰ·head, List·Memᴰ·tail, List·Permᴰ}
+use mathlib.Core.List.{List, [], _∷_, map, flatten, append-nil, List·Memᴰ·head, List·Memᴰ·tail, List·Permᴰ}
 use mathlib.Core.List.{List·Permᴰ·nil, List·Permᴰ·cons, List·Permᴰ·swap, List·Permᴰ·trans}
 use Prim.Native.Nat.{_<_}
 use native.Mathlib.Nat.{not-suc-le-zero}
@@ -22,11 +22,11 @@ use Rattle.plane.specs.theory.lists.Members.{sums-some}
 use Rattle.plane.specs.theory.lists.Max.{max-assoc}
 use Rattle.plane.specs.theory.support.Support.{support-append, support-sums}
 use Rattle.plane.specs.theory.hull.ShapeOf.{shape-known}
-use Rattle.laws.specs.Grouping.{Call, AllValid, Grouping, alone, split, Result, Refused, together, sumOfAll, mergeOfAll}
+use Rattle.laws.specs.Grouping.{Call, AllValid, Grouping, alone, split, Result, Refused, sumOfAll, mergeOfAll}
 use Rattle.laws.specs.theory.Answer.{Combines, sum-combines, merge-combines}
 use Rattle.laws.specs.theory.Acceptance.{sum-answered, merge-answered}
 use Rattle.laws.specs.theory.Refused.{unrefused→result}
-use Rattle.laws.specs.theory.Fold.{far, act, result-acts, result-valid}
+use Rattle.laws.specs.theory.Fold.{reach, act, result-acts, result-valid}
 
 -- ---- no group is empty
 
@@ -61,18 +61,20 @@ sumsOf-acts d [] v z = ap (λ x. x +ℤ z) (support-origin d) ∙ +ℤ-idl z
 sumsOf-acts d (a ∷ L) v z =
     let S = sumsOf (map points L) in
     ap (λ x. x +ℤ z) (support-sums d (points a) S (some-first v) (sumsOf-some L (valid-later v)))
-    ∙ +ℤ-assoc (far d a) (support d S) z ∙ ap (λ x. far d a +ℤ x) (sumsOf-acts d L (valid-later v) z)
+    ∙ +ℤ-assoc (reach d a) (support d S) z ∙ ap (λ x. reach d a +ℤ x) (sumsOf-acts d L (valid-later v) z)
 
-together-some : (a : List ℤ) (L : List (List ℤ)) → AllValid (a ∷ L) → 0 < length (together (map points (a ∷ L)))
-together-some a L v = omega (arith, some-first v, length-append (points a) (together (map points L)))
+flatten-some : (a : List ℤ) (L : List (List ℤ)) → AllValid (a ∷ L) → 0 < length (flatten (map points (a ∷ L)))
+unfolding flatten
+flatten-some a L v = omega (arith, some-first v, length-append (points a) (flatten (map points L)))
 
-together-acts : (d : Point) (a : List ℤ) (L : List (List ℤ)) → AllValid (a ∷ L)
-    → (z : ℤ) → max (support d (together (map points (a ∷ L)))) z ≡ act max d (a ∷ L) z
-together-acts d a [] v z = ap (λ S. max (support d S) z) (append-nil (points a))
-together-acts d a (b ∷ L) v z =
-    let S = together (map points (b ∷ L)) in
-    ap (λ x. max x z) (support-append d (points a) S (some-first v) (together-some b L (valid-later v)))
-    ∙ max-assoc (far d a) (support d S) z ∙ ap (max (far d a)) (together-acts d b L (valid-later v) z)
+flatten-acts : (d : Point) (a : List ℤ) (L : List (List ℤ)) → AllValid (a ∷ L)
+    → (z : ℤ) → max (support d (flatten (map points (a ∷ L)))) z ≡ act max d (a ∷ L) z
+unfolding flatten
+flatten-acts d a [] v z = ap (λ S. max (support d S) z) (append-nil (points a))
+flatten-acts d a (b ∷ L) v z =
+    let S = flatten (map points (b ∷ L)) in
+    ap (λ x. max x z) (support-append d (points a) S (some-first v) (flatten-some b L (valid-later v)))
+    ∙ max-assoc (reach d a) (support d S) z ∙ ap (max (reach d a)) (flatten-acts d b L (valid-later v) z)
 
 -- ---- the result
 
@@ -90,7 +92,7 @@ sums-whole L v g l r = result-known sum-combines v g l r (sumsOf (map points L))
 pub merges-whole : (L : List (List ℤ)) → AllValid L → (g : Grouping L) (l : List ℤ) → Result mergeWritten g l → l ≡ mergeOfAll L
 merges-whole [] v g l r = absurd (not-suc-le-zero (grouping-some g))
 merges-whole (a ∷ L) v g l r =
-    result-known merge-combines v g l r (together (map points (a ∷ L))) (together-some a L v) (λ d. together-acts d a L v)
+    result-known merge-combines v g l r (flatten (map points (a ∷ L))) (flatten-some a L v) (λ d. flatten-acts d a L v)
 
 -- ---- that it is there
 

@@ -20,7 +20,8 @@ is-top c = record { within = c .top .ensures .0; last = c .top .ensures .1 }
 
 squared-is : (c : tie.After-squared-at) → let start = c .before .before .before .before .before .before .before in
     let ps = points (start .args .list .now) in
-    toZ w64 (ofZ w64 (c .squared-at .result)) ≡ squared (corner ps (c .before .longest .result .from)) (corner ps (c .before .longest .result .to))
+    toZ w64 (ofZ w64 (c .squared-at .result))
+    ≡ squared (corner ps (c .before .longest .result .from)) (corner ps (c .before .longest .result .to))
 squared-is c = result-is w64 (c .squared-at .ok) (c .squared-at .ensures)
 
 top-requires : tie.Need-top-requires

@@ -13,7 +13,7 @@ use Prim.Native.Nat.{ℕ, _≤_, _<_}
 use native.Mathlib.Nat.{le-refl}
 use native.Mathlib.Omega.{arith}
 use lib.ListN.{length}
-use lib.Signed.{_≤ℤ_, _<ℤ_, clashℤ}
+use lib.Signed.{_<ℤ_, clashℤ}
 use Rattle.integer.specs.Order.{weaken, le-of-eq, le-trans, le-antisym}
 use Rattle.plane.specs.Point.{Point, corner}
 use Rattle.plane.specs.Measure.{squared, lengthSquared, lengthFrom, lengthTo}

@@ -5,28 +5,28 @@
 --     Longest ps i j       corners i ≤ j are that far apart; `longest-pair` makes it of two positions in either order
 --     NotAfter i j k l     the pair (i, j) stands no later than (k, l): smaller i, or the same i and no greater j; `-trans`, `-antisym`
 --     length-longest, length-least, length-unique      lengthFrom and lengthTo are the first such pair, and the only first one
+--     length-from-least, length-to-least               the smallest i, then the smallest j; `length-point`: of one corner
 use mathlib.Core.Path.{_≡_, refl, sym, _∙_, ap}
 use mathlib.Core.Bool.{Bool, true, false, _&&_, false≢true}
 use mathlib.Core.List.{List, [], _∷_}
 use mathlib.Core.Logic.{_⊎_, inl, inr}
 use Prim.Native.Nat.{ℕ, _≤_, _<_}
 use native.Mathlib.Omega.{arith}
-use borrow.Author.Tests.{ltb-true, ltb-false, lt-ltb, leb-true, leb-false, le-leb}
+use borrow.Author.Tests.{ltb-true, ltb-false, leb-true, leb-false, le-leb}
 use lib.Dec.{leb, ltb}
-use lib.IntN.{ℤ, pos, _+ℤ_, _-ℤ_, _*ℤ_}
+use lib.IntN.{pos, _+ℤ_, _-ℤ_}
 use lib.ListN.{length}
 use lib.Signed.{_≤ℤ_, _<ℤ_, leZ}
 use Rattle.integer.specs.Ring.{ring, reify}
 use Rattle.integer.specs.Linear.{lia, linear, _&_}
-use Rattle.integer.specs.Order.{Compared, is-below, is-equal, is-above, compared, _<×<_, square-nonneg}
 use Rattle.integer.specs.Order.{le-of-eq, le-trans, le-antisym, leZ-true, le-leZ}
 use Rattle.plane.specs.Point.{Point, corner, _⊕_, _⊖_}
-use Rattle.plane.specs.Search.{first}
+use Rattle.plane.specs.Search.{some}
 use Rattle.plane.specs.Direction.{value}
 use Rattle.plane.specs.Corner.{Corner, sums, mirrored}
 use Rattle.plane.specs.Measure.{greatest, squared, lengthSquared, furthestPair, lengthFrom, lengthTo}
-use Rattle.plane.specs.theory.lists.Members.{_∈_, point-path, sums-member, member-sums, SumOf, mirrored-member, member-mirrored}
-use Rattle.plane.specs.theory.lists.Sought.{first-true, first-at-most}
+use Rattle.plane.specs.theory.lists.Members.{_∈_, sums-member, member-sums, SumOf, mirrored-member, member-mirrored}
+use Rattle.plane.specs.theory.lists.Sought.{first-true, first-at-most, some-here, some-found}
 use Rattle.plane.specs.theory.lists.Greatest.{greatest-above, greatest-attained, greatest-le}
 use Rattle.plane.specs.theory.forms.Squared.{squared-sym, squared-positive}
 use Rattle.measure.specs.Comparison.{NotAfter, sooner, level}
@@ -140,37 +140,46 @@ module _ (ps : List Point) where
 
   -- some pair that starts at i is at the greatest distance
   row : ℕ → Bool
-  row i = ltb (first (furthestPair ps i) (length ps)) (length ps)
+  row i = some (furthestPair ps i) (length ps)
 
   longest-row : {i j : ℕ} → Longest ps i j → row i ≡ true
   unfolding row
-  longest-row {i} {j} p = lt-ltb (first (furthestPair ps i) (length ps)) (length ps)
-      (omega (arith, first-at-most (furthestPair ps i) (length ps) j (longest-passes p), p .within))
+  longest-row {i} {j} p = some-here (furthestPair ps i) (length ps) j (p .within) (longest-passes p)
 
-  from-at-most : {i j : ℕ} → Longest ps i j → lengthFrom ps ≤ i
+  pub length-from-least : {i j : ℕ} → Longest ps i j → lengthFrom ps ≤ i
   unfolding lengthFrom row
-  from-at-most {i} p = first-at-most row (length ps) i (longest-row p)
+  length-from-least {i} p = first-at-most row (length ps) i (longest-row p)
 
   pub length-longest : 0 < length ps → Longest ps (lengthFrom ps) (lengthTo ps)
   unfolding lengthFrom lengthTo row
   length-longest h =
       let p = some-longest h in
-      let found : lengthFrom ps < length ps = omega (arith, from-at-most (p .2), p .2 .ordered, p .2 .within) in
-      let ends : lengthTo ps < length ps = ltb-true (lengthTo ps) (length ps) (first-true row (length ps) found) in
+      let found : lengthFrom ps < length ps = omega (arith, length-from-least (p .2), p .2 .ordered, p .2 .within) in
+      let ends : lengthTo ps < length ps = some-found (furthestPair ps (lengthFrom ps)) (length ps) (first-true row (length ps) found) in
       passes-longest (lengthFrom ps) (lengthTo ps) ends (first-true (furthestPair ps (lengthFrom ps)) (length ps) ends)
 
-  pub length-least : {k l : ℕ} → Longest ps k l → NotAfter (lengthFrom ps) (lengthTo ps) k l
+  pub length-to-least : {l : ℕ} → Longest ps (lengthFrom ps) l → lengthTo ps ≤ l
   unfolding lengthTo
+  length-to-least {l} p = first-at-most (furthestPair ps (lengthFrom ps)) (length ps) l (longest-passes p)
+
+  pub length-least : {k l : ℕ} → Longest ps k l → NotAfter (lengthFrom ps) (lengthTo ps) k l
   length-least {k} {l} p = go (ltb (lengthFrom ps) k) refl
     where
-      to-at-most : lengthFrom ps ≡ k → lengthTo ps ≤ l
-      to-at-most e = first-at-most (furthestPair ps (lengthFrom ps)) (length ps) l (rw e (longest-passes p))
-
       go : (b : Bool) → ltb (lengthFrom ps) k ≡ b → NotAfter (lengthFrom ps) (lengthTo ps) k l
       go true q = sooner (ltb-true (lengthFrom ps) k q)
-      go false q = let e : lengthFrom ps ≡ k = omega (arith, ltb-false (lengthFrom ps) k q, from-at-most p) in level e (to-at-most e)
+      go false q =
+          let e : lengthFrom ps ≡ k = omega (arith, ltb-false (lengthFrom ps) k q, length-from-least p) in
+          level e (length-to-least (rw e p))
 
   pub length-unique : {i j : ℕ} → Longest ps i j → ((k l : ℕ) → Longest ps k l → NotAfter i j k l)
       → (lengthFrom ps ≡ i) × (lengthTo ps ≡ j)
   length-unique p least =
       notAfter-antisym (length-least p) (least (lengthFrom ps) (lengthTo ps) (length-longest (omega (arith, p .within))))
+
+pub length-point : (p : Point) → (lengthSquared (p ∷ []) ≡ pos 0) × (lengthFrom (p ∷ []) ≡ 0) × (lengthTo (p ∷ []) ≡ 0)
+unfolding lengthSquared squared
+length-point p =
+    let only = length-longest (p ∷ []) (omega arith) in
+    let from : lengthFrom (p ∷ []) ≡ 0 = omega (arith, only .ordered, only .within) in
+    let to : lengthTo (p ∷ []) ≡ 0 = omega (arith, only .within) in
+    (ring (p .x ∷ p .y ∷ []) (search reify depth 40) tt, from, to)

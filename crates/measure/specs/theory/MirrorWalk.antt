@@ -20,7 +20,7 @@ use Rattle.plane.specs.Point.{Point, corner, _⊕_, opposite}
 use Rattle.plane.specs.Shape.{IsShape}
 use Rattle.plane.specs.Direction.{value, support}
 use Rattle.plane.specs.Corner.{Corner, shapeOf, sums, mirrored}
-use Rattle.plane.specs.Measure.{squared, lengthSquared, edgeTurn, reach}
+use Rattle.plane.specs.Measure.{squared, lengthSquared, edgeTurn, height}
 use Rattle.plane.specs.Forms.{edges}
 use Rattle.plane.specs.theory.lists.Members.{_∈_, point-path, position-member, member-position}
 use Rattle.plane.specs.theory.lists.Members.{mirrored-member, member-mirrored, mirrored-some, sums-some}
@@ -30,10 +30,10 @@ use Rattle.plane.specs.theory.support.Support.{support-sums}
 use Rattle.plane.specs.theory.support.Corners.{corner-transfer, ordered→corners}
 use Rattle.plane.specs.theory.hull.ShapeOf.{shapeOf-support, shapeOf-shape}
 use Rattle.measure.specs.theory.Longest.{longest-corner, squared-le-length}
-use Rattle.measure.specs.theory.Reach.{quarterBack, quarter-quarterBack, furthest-reach, reach-furthest}
+use Rattle.measure.specs.theory.Height.{quarterBack, quarter-quarterBack, furthest-height, height-furthest}
 use Rattle.plane.specs.theory.sum.Positions.{edgeOf}
 use Rattle.measure.specs.Comparison.{Facing}
-use Rattle.measure.specs.theory.Reach.{facing-only, facing-either}
+use Rattle.measure.specs.theory.Height.{facing-only, facing-either}
 use Rattle.plane.specs.Cycle.{round, cornerRound}
 use Rattle.plane.specs.theory.sum.Positions.{round-within, edge-at, edges-at-most, corner-injective}
 use Rattle.calipers.specs.theory.Standing.{Taken}
@@ -134,21 +134,21 @@ module _ {A M : List Point} {back : ℕ → ℕ} (w : Mirrors A M back) where
     across = quarter-quarterBack (edgeOf A i) ∙ sym (edge-at A i (t .there))
 
     -- corner k of M is furthest out: then its opposite has the greatest turn
-    image-has : (k : ℕ) → k < length M → value out (corner M k) ≡ support out M → edgeTurn A i (back k) ≡ reach A i
+    image-has : (k : ℕ) → k < length M → value out (corner M k) ≡ support out M → edgeTurn A i (back k) ≡ height A i
     image-has k h e =
-        furthest-reach A i (w .own .some) (back k) (ap (value out) (sym (w .back-at k h)) ∙ e ∙ w .reaches out)
+        furthest-height A i (w .own .some) (back k) (ap (value out) (sym (w .back-at k h)) ∙ e ∙ w .reaches out)
 
     right-within : (k : ℕ) → k ≤ length (edges M) → round (length M) k < length M
     right-within k h = round-within (length M) k (w .image .some) (omega (arith, edges-at-most M))
 
-    pub width-has : edgeTurn A i (back (round (length M) j)) ≡ reach A i
+    pub width-has : edgeTurn A i (back (round (length M) j)) ≡ height A i
     width-has = image-has _ (right-within j (s .right-in)) (place-furthest (w .image) s t out across)
 
-    pub width-next : Taken (edges M) j (edges A) i → edgeTurn A i (back (round (length M) (j + 1))) ≡ reach A i
+    pub width-next : Taken (edges M) j (edges A) i → edgeTurn A i (back (round (length M) (j + 1))) ≡ height A i
     width-next u = image-has _ (right-within (j + 1) (omega (arith, u .there)))
         (place-next (w .image) s t out across (shape-in-order A (w .own)) u)
 
-    pub width-only : 1 < length A → (c : ℕ) → c < length A → edgeTurn A i c ≡ reach A i
+    pub width-only : 1 < length A → (c : ℕ) → c < length A → edgeTurn A i c ≡ height A i
         → (c ≡ back (round (length M) j)) ⊎ (Taken (edges M) j (edges A) i × (c ≡ back (round (length M) (j + 1))))
     width-only long c h e = go (mirror-position c h)
       where
@@ -160,7 +160,7 @@ module _ {A M : List Point} {back : ℕ → ℕ} (w : Mirrors A M back) where
         go : (k : ℕ) × (k < length M) × (back k ≡ c)
             → (c ≡ back (round (length M) j)) ⊎ (Taken (edges M) j (edges A) i × (c ≡ back (round (length M) (j + 1))))
         go (k, l, f) = named k f (place-only (w .image) s t out across (shape-in-order A (w .own)) (omega (arith, w .count)) k l
-            (ap (value out) (w .back-at k l ∙ ap (λ m. opposite (corner A m)) f) ∙ reach-furthest A i (w .own .some) c e
+            (ap (value out) (w .back-at k l ∙ ap (λ m. opposite (corner A m)) f) ∙ height-furthest A i (w .own .some) c e
             ∙ sym (w .reaches out)))
 
     module _ (long : 1 < length A) where
@@ -171,7 +171,7 @@ module _ {A M : List Point} {back : ℕ → ℕ} (w : Mirrors A M back) where
       abbrev after : ℕ
       after = back (round (length M) (j + 1))
 
-      one-of : (k : ℕ) → k < length A → edgeTurn A i k ≡ reach A i → (k ≡ here) ⊎ (k ≡ after)
+      one-of : (k : ℕ) → k < length A → edgeTurn A i k ≡ height A i → (k ≡ here) ⊎ (k ≡ after)
       one-of k h e = go (width-only long k h e)
         where
           go : (k ≡ here) ⊎ (Taken (edges M) j (edges A) i × (k ≡ after)) → (k ≡ here) ⊎ (k ≡ after)

@@ -1,14 +1,18 @@
 -- The width rounded down (document 01, "Width"): w·w·q ≤ t·t < (w+1)·(w+1)·q.
 --     rounded-low, rounded-high     widthRounded t q meets it, where q is not 0
 --     rounded-unique                and nothing else does
+--     positive-size                 the size of a number above 0 is not 0
 use mathlib.Core.Path.{_≡_, refl}
-use mathlib.Core.Bool.{Bool, true, false}
+use mathlib.Core.Bool.{Bool, true, false, false≢true}
 use Prim.Native.Nat.{ℕ, zero, suc, _+_, _*_, _≤_, _<_, zero-le}
 use native.Mathlib.Nat.{mul-le-mul, mul-le-mul-right, le-mul-of-pos-right, mul-suc, suc-mul, zero-mul}
 use native.Mathlib.Numerals.{add-one}
 use native.Mathlib.Omega.{arith}
 use borrow.Author.Tests.{ltb-true, ltb-false, lt-ltb, le-ltb}
 use lib.Dec.{ltb}
+use lib.IntN.{ℤ, pos, negsuc, natAbs}
+use lib.Signed.{_<ℤ_, ltZ}
+use Rattle.integer.specs.Order.{lt-ltZ}
 use Rattle.plane.specs.Search.{first}
 use Rattle.plane.specs.Measure.{widthRounded}
 use Rattle.plane.specs.theory.lists.Sought.{first-true, first-least, first-unique}
@@ -50,3 +54,10 @@ module _ (t q : ℕ) (some : 0 < q) where
       go true e = ltb-true (t * t) ((w + 1) * (w + 1) * q) (first-true (λ v. ltb (t * t) ((v + 1) * (v + 1) * q)) t (ltb-true w t e))
       go false e = let l : suc t ≤ w + 1 = omega (arith, ltb-false w t e) in
           omega (arith, square-grows t, mul-le-mul l l, le-mul-of-pos-right ((w + 1) * (w + 1)) some)
+
+pub positive-size : {z : ℤ} → pos 0 <ℤ z → 0 < natAbs z
+positive-size {z} h = go z (lt-ltZ h)
+  where
+    go : (z : ℤ) → ltZ (pos 0) z ≡ true → 0 < natAbs z
+    go (pos n) e = ltb-true 0 n e
+    go (negsuc n) e = absurd (false≢true e)

@@ -17,12 +17,10 @@ use lib.ListN.{length}
 use Rattle.integer.specs.Order.{lt-ltZ}
 use Rattle.plane.specs.Point.{Point}
 use Rattle.plane.specs.Shape.{IsShape}
-use Rattle.plane.specs.Measure.{reach, edgeSquared, widthEdge, widthCorner}
+use Rattle.plane.specs.Measure.{height, edgeSquared, widthEdge, widthCorner}
 use Rattle.plane.specs.theory.lists.Sought.{true-not-false}
-use Rattle.measure.specs.theory.Reach.{edgeSquared-positive, facing-width}
-use Rattle.measure.specs.Comparison.{Facing}
+use Rattle.measure.specs.theory.Height.{edgeSquared-positive, facing-width}
 use Rattle.measure.specs.theory.Narrowest.{noWider-fractions}
-use Rattle.measure.specs.Comparison.{Narrowest}
 use Rattle.measure.specs.theory.Narrowest.{narrowest-start, narrowest-keep, narrowest-replace, narrowest-done}
 use Rattle.measure.specs.Comparison.{Measured, Width, none, best}
 
@@ -45,6 +43,6 @@ module _ {ps : List Point} (s : IsShape ps) (three : 2 < length ps) where
       best (narrowest-keep n h (noWider-fractions ps e k (b .turns) (b .long) (m .turns) (m .long) ∙ ap not test)) b
 
 pub width-done : {ps : List Point} {k e c t q : ℕ} → 0 < length ps → Width ps k e c t q → k ≡ length ps
-    → (widthEdge ps ≡ e) × (widthCorner ps ≡ c) × (reach ps e ≡ pos t) × (edgeSquared ps e ≡ pos q)
+    → (widthEdge ps ≡ e) × (widthCorner ps ≡ c) × (height ps e ≡ pos t) × (edgeSquared ps e ≡ pos q)
 width-done some none all = absurd (omega arith)
 width-done some (best n b) all = let edge = narrowest-done (rw all at n) in (edge, facing-width edge (b .facing), b .turns, b .long)

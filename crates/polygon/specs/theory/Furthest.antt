@@ -2,6 +2,7 @@
 --     Greatest f i at z      of f's values below i, z is the greatest, and `at` the smallest position that has it
 --     greatest-start, greatest-keep, greatest-rise      the moves of the walk
 --     greatest-support, greatest-furthest               past the last corner: the support value, and the position of the furthest corner
+--     furthest-greatest      the furthest corner of a list, as it is defined, is what the walk finds
 --     direction-near         a direction that refusal 11 lets pass has its parts in range
 --     furthest-refused, furthest-answered       what is answered of a valid list
 use mathlib.Core.Path.{_≡_, refl, sym, _∙_, ap, subst}
@@ -17,7 +18,7 @@ use lib.ListN.{length}
 use lib.Signed.{_≤ℤ_, _<ℤ_, leZ}
 use Rattle.integer.specs.Bound.{Within}
 use Rattle.integer.specs.Linear.{lia, linear, _&_}
-use Rattle.integer.specs.Order.{weaken, le-of-eq, le-leZ, lt-leZ}
+use Rattle.integer.specs.Order.{weaken, le-of-eq, le-antisym, le-leZ, lt-leZ, leZ-true, leZ-false}
 use Rattle.plane.specs.Limits.{maxPart}
 use Rattle.plane.specs.Point.{Point, points, corner}
 use Rattle.plane.specs.Direction.{value, support, furthest}
@@ -27,8 +28,8 @@ use Rattle.plane.specs.Furthest.{badDirection, furthestReply}
 use Rattle.plane.specs.theory.refusals.Rows.{row-given, firstRow-append, firstRow-none}
 use Rattle.plane.specs.theory.refusals.Accept.{valid→accepted}
 use Rattle.plane.specs.theory.lists.Members.{position-member, member-position}
-use Rattle.plane.specs.theory.lists.Sought.{first-unique}
-use Rattle.plane.specs.theory.support.Support.{support-unique}
+use Rattle.plane.specs.theory.lists.Sought.{first-true, first-least, first-at-most, first-unique}
+use Rattle.plane.specs.theory.support.Support.{value-le-support, support-attained, support-unique}
 
 pub record Greatest (f : ℕ → ℤ) (i at : ℕ) (z : ℤ) : Type 0 where
   pub within : at < i
@@ -85,11 +86,36 @@ module _ (d : Point) (ps : List Point) {i at : ℕ} {z : ℤ} (g : Greatest (λ 
       (λ h. le-leZ (le-of-eq (sym greatest-support ∙ g .has)))
       (λ k h. lt-leZ (subst (λ s. value d (corner ps k) <ℤ s) greatest-support (g .earliest k h))))
 
+-- ---- the furthest corner is what such a walk finds
+
+pub furthest-greatest : (d : Point) (ps : List Point) → 0 < length ps
+    → Greatest (λ k. value d (corner ps k)) (length ps) (furthest d ps) (support d ps)
+unfolding furthest
+furthest-greatest d ps some = record {
+  within = found;
+  has = le-antisym (leZ-true (first-true passes (length ps) found)) (below (furthest d ps) found);
+  highest = below;
+  earliest = λ k h. leZ-false (first-least passes (length ps) k h);
+}
+  where
+    passes : ℕ → Bool
+    passes k = leZ (support d ps) (value d (corner ps k))
+
+    below : (k : ℕ) → k < length ps → value d (corner ps k) ≤ℤ support d ps
+    below k h = value-le-support d (position-member ps k h)
+
+    found : furthest d ps < length ps
+    found = let top = support-attained d ps some in
+        let at = member-position (top .at-in) in
+        let has : value d (corner ps (at .0)) ≡ support d ps = ap (value d) (at .2) ∙ top .at-value in
+        omega (arith, first-at-most passes (length ps) (at .0) (le-leZ (le-of-eq (sym has))), at .1)
+
 -- ---- the direction
 
 pub direction-near : (d : Point) → badDirection d ≡ false → Within maxPart (d .x) × Within maxPart (d .y)
 unfolding badDirection
-direction-near d h = go (eqb (natAbs (d .x)) 0 && eqb (natAbs (d .y)) 0) (ltb maxPart (natAbs (d .x))) refl (ltb maxPart (natAbs (d .y))) refl h
+direction-near d h = go (eqb (natAbs (d .x)) 0 && eqb (natAbs (d .y)) 0)
+    (ltb maxPart (natAbs (d .x))) refl (ltb maxPart (natAbs (d .y))) refl h
   where
     go : (z s : Bool) → ltb maxPart (natAbs (d .x)) ≡ s → (t : Bool) → ltb maxPart (natAbs (d .y)) ≡ t → (z || (s || t)) ≡ false
         → Within maxPart (d .x) × Within maxPart (d .y)

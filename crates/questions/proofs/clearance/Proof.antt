@@ -91,4 +91,7 @@ returns-3 c =
     ∙ pair-answer _ (both .0) _ (both .1) _
 
 pub clearance-spec : {M : Type 1} → statement M
-clearance-spec = tie.close (tie.spec admit-pair-requires enum-known-refusal returns enum-told relation-requires enum-told-2 returns-2 nearest-requires returns-3)
+clearance-spec =
+    tie.close
+    (tie.spec admit-pair-requires enum-known-refusal returns enum-told relation-requires enum-told-2 returns-2 nearest-requires
+    returns-3)

@@ -26,7 +26,8 @@ valid : (c : tie.After-enum-told) → Valid (c .before .before .before .args .li
 valid c = subst (Admitted 1 _) (c .enum-told .given .1) (c .before .before .admit .ensures)
 
 -- before it, the list is refused
-refusal : (c : tie.After-known-told) → Refuses (shapeRows 1 (c .before .before .before .before .args .list .now)) (ofRefusal (c .before .refusal .given .0 .0))
+refusal : (c : tie.After-known-told) → Refuses (shapeRows 1 (c .before .before .before .before .args .list .now))
+    (ofRefusal (c .before .refusal .given .0 .0))
 refusal c = subst (Admitted 1 _) (c .before .refusal .given .1) (c .before .before .before .admit .ensures)
 
 admit-requires : tie.Need-admit-requires
@@ -43,7 +44,8 @@ direction-is : (c : tie.Start) → point (toZ w32 (ofZ w32 (c .args .u))) (toZ w
 direction-is c = ap₂ point (toZ-ofZ (c .fits .u)) (toZ-ofZ (c .fits .v))
 
 bad-is : (c : tie.After-bad-direction)
-    → c .bad-direction .result ≡ badDirection (point (c .before .before .before .before .args .u) (c .before .before .before .before .args .v))
+    → c .bad-direction .result ≡ badDirection
+    (point (c .before .before .before .before .args .u) (c .before .before .before .before .args .v))
 bad-is c = c .bad-direction .ensures ∙ ap badDirection (direction-is (c .before .before .before .before))
 
 returns : tie.Need-returns
@@ -81,4 +83,6 @@ returns-3 c =
     ∙ furthest-answered _ v _ good
 
 pub furthest-spec : {M : Type 1} → statement M
-furthest-spec = tie.close (tie.spec admit-requires enum-known-refusal returns enum-told bad-direction-requires returns-2 greatest-requires returns-3)
+furthest-spec =
+    tie.close
+    (tie.spec admit-requires enum-known-refusal returns enum-told bad-direction-requires returns-2 greatest-requires returns-3)

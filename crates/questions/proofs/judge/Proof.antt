@@ -18,7 +18,8 @@ valid : (c : tie.After-enum-told) → Valid (c .before .before .before .args .li
 valid c = subst (Admitted 1 _) (c .enum-told .given .1) (c .before .before .admit .ensures)
 
 -- before it, the list is refused
-refusal : (c : tie.After-known-told) → Refuses (shapeRows 1 (c .before .before .before .before .args .list .now)) (ofRefusal (c .before .refusal .given .0 .0))
+refusal : (c : tie.After-known-told) → Refuses (shapeRows 1 (c .before .before .before .before .args .list .now))
+    (ofRefusal (c .before .refusal .given .0 .0))
 refusal c = subst (Admitted 1 _) (c .before .refusal .given .1) (c .before .before .before .admit .ensures)
 
 admit-requires : tie.Need-admit-requires

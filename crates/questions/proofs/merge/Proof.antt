@@ -1,12 +1,10 @@
 -- `merge` meets its contract: a list is refused, or the shape is made in a buffer and delivered.
 use mathlib.Core.Path.{sym, subst}
-use mathlib.Core.List.{List, _++_}
+use mathlib.Core.List.{_++_}
 use native.Mathlib.Omega.{arith}
-use lib.IntN.{ℤ}
-use lib.ListN.{length}
 use Rattle.plane.specs.Limits.{maxCorners}
 use Rattle.plane.specs.Point.{points}
-use Rattle.plane.specs.Corner.{shapeOf, sums}
+use Rattle.plane.specs.Corner.{shapeOf}
 use Rattle.plane.specs.Combine.{mergeWritten}
 use Rattle.polygon.specs.theory.Fronts.{front-length}
 use Rattle.questions.specs.theory.Delivery.{front-paired, pair-delivered, pair-refused}
@@ -74,4 +72,7 @@ returns-2 c =
     (c .before .deliver .ensures .0) (c .before .deliver .ensures .1)
 
 pub merge-spec : {M : Type 1} → statement M
-merge-spec = tie.close (tie.spec admit-pair-requires enum-known-refusal returns enum-told slice-aggregate-merge merge-requires mul-shape array-share-prefix-shape slice-aggregate-deliver deliver-requires same-length returns-2)
+merge-spec =
+    tie.close
+    (tie.spec admit-pair-requires enum-known-refusal returns enum-told slice-aggregate-merge merge-requires mul-shape
+    array-share-prefix-shape slice-aggregate-deliver deliver-requires same-length returns-2)

@@ -19,7 +19,8 @@ valid : (c : tie.After-enum-told) → Valid (c .before .before .before .args .li
 valid c = subst (Admitted 1 _) (c .enum-told .given .1) (c .before .before .admit .ensures)
 
 -- before it, the list is refused
-refusal : (c : tie.After-known-told) → Refuses (shapeRows 1 (c .before .before .before .before .args .list .now)) (ofRefusal (c .before .refusal .given .0 .0))
+refusal : (c : tie.After-known-told) → Refuses (shapeRows 1 (c .before .before .before .before .args .list .now))
+    (ofRefusal (c .before .refusal .given .0 .0))
 refusal c = subst (Admitted 1 _) (c .before .refusal .given .1) (c .before .before .before .admit .ensures)
 
 admit-requires : tie.Need-admit-requires
@@ -58,8 +59,11 @@ returns-3 c =
     let at-else = at-mirror .before .before in
     let at-told = at-else .before in
     let args = at-told .before .before .before .args in
-    mirror-answered (args .list .now) (valid at-told) (args .out .now) (omega (arith, at-else .if1 .left, doubled at-told)) (c .count .ensures)
+    mirror-answered (args .list .now) (valid at-told) (args .out .now) (omega (arith, at-else .if1 .left, doubled at-told))
+    (c .count .ensures)
     (at-mirror .mirror .ensures)
 
 pub mirror-spec : {M : Type 1} → statement M
-mirror-spec = tie.close (tie.spec admit-requires enum-known-refusal returns enum-told returns-2 mirror-requires count-requires same-length returns-3)
+mirror-spec =
+    tie.close
+    (tie.spec admit-requires enum-known-refusal returns enum-told returns-2 mirror-requires count-requires same-length returns-3)

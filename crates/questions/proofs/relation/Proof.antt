@@ -38,11 +38,17 @@ returns c = refusal c .whatever _
 relation-requires : tie.Need-relation-requires
 relation-requires c κs = shapes c
 
+stand-requires : tie.Need-stand-requires
+stand-requires c κs = search needs
+
 returns-2 : tie.Need-returns-2
 unfolding relationReply related
 returns-2 c =
-    let both = shapes (c .before) in
-    ap (λ (z : ℤ). answered (z ∷ [])) (c .relation .ensures) ∙ pair-answer _ (both .0) _ (both .1) _
+    let at-relation = c .before in
+    let both = shapes (at-relation .before) in
+    c .stand .ensures ∙ ap (λ (z : ℤ). answered (z ∷ [])) (at-relation .relation .ensures) ∙ pair-answer _ (both .0) _ (both .1) _
 
 pub relation-spec : {M : Type 1} → statement M
-relation-spec = tie.close (tie.spec admit-pair-requires enum-known-refusal returns enum-told relation-requires returns-2)
+relation-spec =
+    tie.close
+    (tie.spec admit-pair-requires enum-known-refusal returns enum-told relation-requires stand-requires returns-2)

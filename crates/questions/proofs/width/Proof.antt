@@ -17,7 +17,8 @@ valid : (c : tie.After-enum-told) → Valid (c .before .before .before .args .li
 valid c = subst (Admitted 1 _) (c .enum-told .given .1) (c .before .before .admit .ensures)
 
 -- before it, the list is refused
-refusal : (c : tie.After-known-told) → Refuses (shapeRows 1 (c .before .before .before .before .args .list .now)) (ofRefusal (c .before .refusal .given .0 .0))
+refusal : (c : tie.After-known-told) → Refuses (shapeRows 1 (c .before .before .before .before .args .list .now))
+    (ofRefusal (c .before .refusal .given .0 .0))
 refusal c = subst (Admitted 1 _) (c .before .refusal .given .1) (c .before .before .before .admit .ensures)
 
 admit-requires : tie.Need-admit-requires
@@ -49,4 +50,6 @@ returns-3 : tie.Need-returns-3
 returns-3 c = let at-else = c .before in width-answered _ (valid (at-else .before .before)) (three at-else) (c .narrowest-edge .ensures)
 
 pub width-spec : {M : Type 1} → statement M
-width-spec = tie.close (tie.spec admit-requires enum-known-refusal returns enum-told count-requires returns-2 narrowest-edge-requires returns-3)
+width-spec =
+    tie.close
+    (tie.spec admit-requires enum-known-refusal returns enum-told count-requires returns-2 narrowest-edge-requires returns-3)

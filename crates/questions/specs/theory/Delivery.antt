@@ -81,7 +81,8 @@ mirror-refused l old f =
     let shape = shapeOf (mirrored (points l)) in
     let w = refuses-written f (answerRows shape old) shape old in (w .reply-is, w .output-is)
 
-pub mirror-answered : (l : List ℤ) → Valid l → (old : List ℤ) → 2 * length (points l) ≤ length old → {n : ℕ} {out : List ℤ} → n ≡ length (points l)
+pub mirror-answered : (l : List ℤ) → Valid l → (old : List ℤ) → 2 * length (points l) ≤ length old → {n : ℕ} {out : List ℤ} → n
+    ≡ length (points l)
     → out ≡ overwritten (numbers (shapeOf (mirrored (points l)))) old
     → (answered (pos n ∷ []) ≡ mirrorWritten l old .reply) × (out ≡ mirrorWritten l old .output)
 mirror-answered l v old room e f =

@@ -8,10 +8,10 @@ use borrow.Author.Tests.{lt-ltb, le-ltb}
 use lib.Dec.{ltb}
 use lib.IntN.{ℤ, pos, natAbs}
 use lib.ListN.{length}
-use Rattle.plane.specs.Point.{Point, points}
+use Rattle.plane.specs.Point.{points}
 use Rattle.plane.specs.Reply.{Reply, answered, refused, Row, row, firstRow}
 use Rattle.plane.specs.Refusal.{shapeRows, Valid}
-use Rattle.plane.specs.Measure.{lengthReply, reach, edgeSquared, widthEdge, widthCorner, widthRounded, widthReply}
+use Rattle.plane.specs.Measure.{lengthReply, height, edgeSquared, widthEdge, widthCorner, widthRounded, widthReply}
 use Rattle.plane.specs.theory.refusals.Rows.{row-given, row-passed}
 use Rattle.measure.specs.declared.Length.{Length}
 use Rattle.measure.specs.declared.Width.{Width}
@@ -37,8 +37,8 @@ module _ (l : List ℤ) where
   flat = row 10 (ltb (length (points l)) 3) []
 
   abbrev values : Reply
-  values = let ps = points l in let e = widthEdge ps in answered (pos e ∷ pos (widthCorner ps) ∷ reach ps e ∷ edgeSquared ps e
-      ∷ pos (widthRounded (natAbs (reach ps e)) (natAbs (edgeSquared ps e))) ∷ [])
+  values = let ps = points l in let e = widthEdge ps in answered (pos e ∷ pos (widthCorner ps) ∷ height ps e ∷ edgeSquared ps e
+      ∷ pos (widthRounded (natAbs (height ps e)) (natAbs (edgeSquared ps e))) ∷ [])
 
   pub width-refused : {r : Reply} → Refuses (shapeRows 1 l) r → r ≡ widthReply l
   unfolding widthReply

@@ -5,7 +5,7 @@
 --     valid-passed, valid-answer      of a valid list the rows may be left out
 --     pair-passed, pair-answer        likewise of two
 --     valid-wrote, pair-wrote         likewise of a question that writes
-use mathlib.Core.Path.{_≡_, refl, sym, _∙_, ap, subst}
+use mathlib.Core.Path.{_≡_, sym, _∙_, subst}
 use mathlib.Core.List.{List, [], _++_}
 use Prim.Native.Nat.{ℕ}
 use native.Mathlib.Omega.{arith}

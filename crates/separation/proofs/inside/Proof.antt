@@ -2,7 +2,6 @@
 use mathlib.Core.Path.{sym}
 use native.Mathlib.Omega.{arith}
 use borrow.Author.Needs.{needs}
-use lib.ListN.{length}
 use Rattle.plane.specs.Limits.{maxCorners}
 use Rattle.polygon.specs.theory.Fronts.{front-length}
 use Rattle.separation.specs.theory.Merged.{merged-same}
@@ -34,7 +33,8 @@ returns : tie.Need-returns
 returns c =
     let at-merge = c .before .before .before in
     let start = at-merge .before .before in
-    merged-same (start .args .a .now) (start .args .b .now) (start .pre .1) (c .is-same .result) (at-merge .merge .ensures .front) (c .is-same .ensures)
+    merged-same (start .args .a .now) (start .args .b .now) (start .pre .1) (c .is-same .result) (at-merge .merge .ensures .front)
+    (c .is-same .ensures)
 
 pub inside-spec : {M : Type 1} → statement M
 inside-spec =

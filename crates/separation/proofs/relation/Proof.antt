@@ -1,13 +1,11 @@
 -- `relation` meets its contract: the mirror image stands at the front of the buffer, and the walk goes round its sum with the first shape.
-use mathlib.Core.Path.{_≡_, sym, _∙_, ap, subst}
+use mathlib.Core.Path.{sym, _∙_, ap, subst}
 use mathlib.Core.List.{List}
-use Prim.Native.Nat.{_*_, _≤_}
 use native.Mathlib.Omega.{arith}
 use borrow.Author.Needs.{needs}
 use lib.IntN.{ℤ}
-use lib.ListN.{length, take}
 use Rattle.plane.specs.Limits.{maxCorners}
-use Rattle.plane.specs.Point.{points, numbers}
+use Rattle.plane.specs.Point.{points}
 use Rattle.plane.specs.VectorSum.{vectorSum}
 use Rattle.plane.specs.theory.lists.Flat.{points-length}
 use Rattle.polygon.specs.Front.{Front}
@@ -19,7 +17,8 @@ use Rattle.separation.proofs.relation.Statement.{statement}
 use Rattle.separation.proofs.relation.Tie as tie
 
 -- the image, where it is known
-front : (c : tie.After-count) → Front (image (c .before .before .before .before .args .b .now)) (c .count .result) (c .before .before .mirror .last .1 .0)
+front : (c : tie.After-count) → Front (image (c .before .before .before .before .args .b .now)) (c .count .result)
+    (c .before .before .mirror .last .1 .0)
 front c = image-front _ (c .before .before .before .before .pre .1) _ _ (c .before .before .mirror .ensures) _ (c .count .ensures)
 
 slice-aggregate-mirror : tie.Need-slice-aggregate-mirror
@@ -44,7 +43,8 @@ slice-aggregate-around c = sym (front-length (front (c .before)))
 around-requires : tie.Need-around-requires
 around-requires c κs =
     let start = c .before .before .before .before .before in
-    subst (λ (m : List ℤ). At (start .args .a .now) m begun) (sym (front (c .before) .front)) (image-begun _ (start .pre .1) _ (start .pre .0))
+    subst (λ (m : List ℤ). At (start .args .a .now) m begun) (sym (front (c .before) .front))
+    (image-begun _ (start .pre .1) _ (start .pre .0))
 
 returns : tie.Need-returns
 returns c =

@@ -1,14 +1,12 @@
 -- How two shapes stand, by the origin against the edges of their differences.
---     some-first            a test that passes at some number is found by a search
 --     placed-origin         the numbers of `placed` say whether the origin is outside a shape, on its rim or inside
 --     placed-related        of the differences of two lists: the relation
-use mathlib.Core.Path.{_≡_, refl, sym, _∙_, ap}
-use mathlib.Core.Bool.{Bool, true, false, not, cond, _||_, _&&_, true≢false, false≢true}
+use mathlib.Core.Path.{_≡_, refl, _∙_, ap}
+use mathlib.Core.Bool.{Bool, true, false, not, cond, _||_, _&&_}
 use mathlib.Core.List.{List, [], _∷_}
-use Prim.Native.Nat.{ℕ, zero, suc, _<_}
+use Prim.Native.Nat.{ℕ, _<_}
 use native.Mathlib.Omega.{arith}
-use native.Mathlib.Decide.{ℕ-discrete}
-use borrow.Author.Tests.{ltb-true, ltb-false, lt-ltb}
+use borrow.Author.Tests.{ltb-true, ltb-false}
 use lib.Dec.{ltb}
 use lib.IntN.{ℤ, pos, natAbs}
 use lib.ListN.{length}
@@ -17,49 +15,20 @@ use Rattle.integer.specs.Linear.{linear, lia, _&_}
 use Rattle.integer.specs.Order.{ltZ-true, ltZ-false, leZ-true, leZ-false, le-of-eq}
 use Rattle.plane.specs.Point.{Point, origin, corner}
 use Rattle.plane.specs.Turn.{cross}
-use Rattle.plane.specs.Search.{first}
+use Rattle.plane.specs.Search.{some}
 use Rattle.plane.specs.Shape.{next, IsShape}
 use Rattle.plane.specs.Direction.{value}
 use Rattle.plane.specs.Corner.{shapeOf}
 use Rattle.plane.specs.Separation.{inside, differences, apart, notLeft, onRim, touching}
 use Rattle.plane.specs.theory.lists.Members.{point-discrete}
-use Rattle.plane.specs.theory.lists.Sought.{first-at-most, none-search}
+use Rattle.plane.specs.theory.lists.Sought.{some-witness, some-none}
 use Rattle.plane.specs.theory.forms.Vector.{cross-swap, value-origin}
 use Rattle.plane.specs.theory.hull.ShapeOf.{shapeOf-shape}
 use Rattle.separation.specs.theory.Apart.{differences-some, apart-shapeOf}
-use Rattle.separation.specs.theory.InsideShape.{polygon-origin→crosses, polygon-crosses→origin, segment-origin→opposed, segment-opposed→origin, point-inside→equal, point-equal→inside}
+use Rattle.separation.specs.theory.InsideShape.{polygon-origin→crosses, polygon-crosses→origin, segment-origin→opposed}
+use Rattle.separation.specs.theory.InsideShape.{segment-opposed→origin, point-inside→equal, point-equal→inside}
 use Rattle.separation.specs.theory.Sector.{square-positive}
-use Rattle.separation.specs.Around.{some, crossAt, rightOf, placedFew, placed, related}
-
--- ---- some number passes
-
-pub some-witness : (p : ℕ → Bool) (n : ℕ) → some p n ≡ true → (i : ℕ) × (i < n) × (p i ≡ true)
-some-witness p zero h = absurd (false≢true h)
-some-witness p (suc n) h = go (some p n) refl h (some-witness p n)
-  where
-    go : (t : Bool) → some p n ≡ t → (t || p n) ≡ true → (some p n ≡ true → (i : ℕ) × (i < n) × (p i ≡ true))
-        → (i : ℕ) × (i < suc n) × (p i ≡ true)
-    go true e k earlier = let r = earlier e in (r .0, omega (arith, r .1), r .2)
-    go false e k earlier = (n, omega arith, k)
-
-pub some-none : (p : ℕ → Bool) (n : ℕ) → some p n ≡ false → (i : ℕ) → i < n → p i ≡ false
-some-none p zero h i l = absurd (omega arith)
-some-none p (suc n) h i l = go (some p n) refl (p n) refl h (some-none p n) (ℕ-discrete i n)
-  where
-    go : (t : Bool) → some p n ≡ t → (u : Bool) → p n ≡ u → (t || u) ≡ false → (some p n ≡ false → (i : ℕ) → i < n → p i ≡ false)
-        → Dec (i ≡ n) → p i ≡ false
-    go true e u f k earlier d = absurd (true≢false k)
-    go false e true f k earlier d = absurd (true≢false k)
-    go false e false f k earlier (yes q) = rw q f
-    go false e false f k earlier (no q) = earlier e i (omega arith)
-
-pub some-first : (p : ℕ → Bool) (n : ℕ) → some p n ≡ ltb (first p n) n
-some-first p n = go (some p n) refl
-  where
-    go : (t : Bool) → some p n ≡ t → t ≡ ltb (first p n) n
-    go true e = let r = some-witness p n e in
-        sym (lt-ltb (first p n) n (omega (arith, first-at-most p n (r .0) (r .2), r .1)))
-    go false e = sym (none-search p n (some-none p n e))
+use Rattle.separation.specs.Around.{crossAt, rightOf, placedFew, placed, related}
 
 -- ---- the origin against a shape
 
@@ -116,11 +85,11 @@ placed-origin D s = go (some (rightOf D) (length D)) refl (ltb (length D) 3) ref
   where
     go : (t : Bool) → some (rightOf D) (length D) ≡ t → (u : Bool) → ltb (length D) 3 ≡ u
         → cond t (pos 0) (cond u (placedFew D) (cond (some (notLeft D) (length D)) (pos 1) (pos 2)))
-        ≡ cond (not (inside (origin ∷ []) D)) (pos 0) (cond (u || ltb (first (notLeft D) (length D)) (length D)) (pos 1) (pos 2))
+        ≡ cond (not (inside (origin ∷ []) D)) (pos 0) (cond (u || some (notLeft D) (length D)) (pos 1) (pos 2))
     go true e u f = rw (right→outside D s e)
     go false e true f = few-origin D s (no-right D s e) (ltb-true (length D) 3 f)
     go false e false f =
-        rw (polygon-crosses→origin D s (ltb-false (length D) 3 f) (no-right D s e), some-first (notLeft D) (length D))
+        rw (polygon-crosses→origin D s (ltb-false (length D) 3 f) (no-right D s e))
 
 -- ---- the relation
 

@@ -1,38 +1,26 @@
 -- Clearance: the least squared distance between corners of lists that are apart.
---     least-attained, least-below        of f 0, .., f (n-1)
 --     Nearest A B, clearance-nearest     apart: some two corners are at the clearance
 --     clearance-least                    apart: no two corners are nearer
 --     clearance-zero, zero-clearance     the clearance is 0 exactly if the lists are not apart
 --     clearance-sym                      it does not matter which is the first
 -- Lists have a point: 0 < length.
-use mathlib.Core.Path.{_≡_, refl, sym, _∙_, ap}
+use mathlib.Core.Path.{_≡_, refl, sym, _∙_}
 use mathlib.Core.Bool.{Bool, true, false}
-use mathlib.Core.Logic.{_⊎_, inl, inr}
 use mathlib.Core.List.{List, [], _∷_}
-use Prim.Native.Nat.{ℕ, zero, suc, _<_}
+use Prim.Native.Nat.{ℕ, _<_}
 use native.Mathlib.Omega.{arith}
-use lib.IntN.{ℤ, pos, negℤ, negℤ-negℤ}
+use lib.IntN.{ℤ, pos}
 use lib.ListN.{length}
-use lib.Signed.{_≤ℤ_, _<ℤ_, ≤ℤ-refl}
+use lib.Signed.{_≤ℤ_}
 use Rattle.integer.specs.Linear.{linear, lia, _&_}
 use Rattle.integer.specs.Order.{le-trans, le-antisym}
-use Rattle.plane.specs.Point.{Point, corner, _⊖_}
-use Rattle.plane.specs.Direction.{value, max}
-use Rattle.plane.specs.Measure.{greatest, least, squared}
+use Rattle.plane.specs.Point.{Point, corner}
+use Rattle.plane.specs.Measure.{least, squared}
 use Rattle.plane.specs.Separation.{apart, clearance}
 use Rattle.plane.specs.theory.lists.Members.{_∈_, position-member, member-position}
-use Rattle.plane.specs.theory.lists.Greatest.{greatest-above, greatest-attained}
+use Rattle.plane.specs.theory.lists.Greatest.{least-below, least-attained}
 use Rattle.plane.specs.theory.forms.Squared.{squared-sym, squared-positive}
 use Rattle.separation.specs.theory.Apart.{apart-sym, apart→different}
-
--- ---- the least of some numbers
-
-pub least-attained : (f : ℕ → ℤ) (n : ℕ) → 0 < n → (i : ℕ) × (i < n) × (least f n ≡ f i)
-least-attained f n h = let r = greatest-attained (λ i. negℤ (f i)) n h in (r .0, r .1, ap negℤ (r .2) ∙ negℤ-negℤ (f (r .0)))
-
-pub least-below : (f : ℕ → ℤ) (n i : ℕ) → i < n → least f n ≤ℤ f i
-least-below f n i h = lia (f i ∷ greatest (λ i. negℤ (f i)) n ∷ []) (greatest-above (λ i. negℤ (f i)) n i h)
-    (search linear depth 40) (omega arith)
 
 -- ---- clearance
 

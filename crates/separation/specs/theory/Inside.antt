@@ -8,7 +8,7 @@
 --     inside-shapeOf                           to be inside a set is to be inside its shape
 -- Lists have a point: 0 < length. The origin inside a point, a segment, a polygon is in `InsideShape.antt`.
 use mathlib.Core.Path.{_≡_, refl, sym, _∙_, ap₂}
-use mathlib.Core.Bool.{Bool, true, false, not, _&&_, true≢false, false≢true}
+use mathlib.Core.Bool.{Bool, true, false, _&&_, true≢false, false≢true}
 use mathlib.Core.Logic.{_⊎_, inl, inr}
 use mathlib.Core.List.{List, [], _∷_, _++_, List·Memᴰ·head, List·Memᴰ·tail, List·Memᴰ·not-nil, List·Memᴰ·cases-cons}
 use mathlib.Core.List.{List·Memᴰ·append-cases, Memᴰ·cast, Memᴰ·append-left, Memᴰ·append-right}
@@ -17,14 +17,13 @@ use native.Mathlib.Omega.{arith}
 use lib.ListN.{length, length-append}
 use lib.Signed.{_≤ℤ_, _<ℤ_, ≤ℤ-refl, clashℤ}
 use Rattle.integer.specs.Order.{le-trans, le-antisym}
-use Rattle.plane.specs.Point.{Point}
-use Rattle.plane.specs.Shape.{precedes, IsShape}
+use Rattle.plane.specs.Point.{Point, samePoint}
+use Rattle.plane.specs.Shape.{IsShape}
 use Rattle.plane.specs.Direction.{value, support}
 use Rattle.plane.specs.Corner.{Corner, shapeOf}
 use Rattle.plane.specs.Separation.{sameCorners, inside}
 use Rattle.plane.specs.theory.lists.Sought.{tests-agree}
-use Rattle.plane.specs.theory.lists.Members.{_∈_, _⊆_, point-discrete}
-use Rattle.plane.specs.theory.forms.Precedes.{precedes-irrefl, not-precedes, precedes-total}
+use Rattle.plane.specs.theory.lists.Members.{_∈_, _⊆_, point-discrete, samePoint-equal, samePoint-self}
 use Rattle.plane.specs.theory.support.Support.{value-le-support, support-attained, support-le, support-subset}
 use Rattle.plane.specs.theory.hull.Hull.{shapeOf-nonempty}
 use Rattle.plane.specs.theory.hull.ShapeOf.{shapeOf-support, shapeOf-shape, shapeOf-corner, shape-known, shape-own, shape-extensional}
@@ -36,19 +35,17 @@ equal→sameCorners A B e = rw (← e) (itself A)
   where
     itself : (ps : List Point) → sameCorners ps ps ≡ true
     itself [] = refl
-    itself (p ∷ ps) = rw (not-precedes p p precedes-irrefl) (itself ps)
+    itself (p ∷ ps) = rw (samePoint-self p) (itself ps)
 
 pub sameCorners→equal : (A B : List Point) → sameCorners A B ≡ true → A ≡ B
 sameCorners→equal [] [] h = refl
 sameCorners→equal [] (b ∷ B) h = absurd (false≢true h)
 sameCorners→equal (a ∷ A) [] h = absurd (false≢true h)
-sameCorners→equal (a ∷ A) (b ∷ B) h = go (precedes a b) refl (precedes b a) refl (sameCorners→equal A B) h
+sameCorners→equal (a ∷ A) (b ∷ B) h = go (samePoint a b) refl (sameCorners→equal A B) h
   where
-    go : (s : Bool) → precedes a b ≡ s → (t : Bool) → precedes b a ≡ t → (sameCorners A B ≡ true → A ≡ B)
-        → (not s && (not t && sameCorners A B)) ≡ true → a ∷ A ≡ b ∷ B
-    go true e t f later h = absurd (false≢true h)
-    go false e true f later h = absurd (false≢true h)
-    go false e false f later h = ap₂ (λ p ps. p ∷ ps) (precedes-total a b e f) (later h)
+    go : (t : Bool) → samePoint a b ≡ t → (sameCorners A B ≡ true → A ≡ B) → (t && sameCorners A B) ≡ true → a ∷ A ≡ b ∷ B
+    go true e later h = ap₂ (λ p ps. p ∷ ps) (samePoint-equal a b e) (later h)
+    go false e later h = absurd (false≢true h)
 
 -- ---- inside, by reach
 

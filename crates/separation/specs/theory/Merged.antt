@@ -16,7 +16,8 @@ abbrev merged : List ℤ → List ℤ → List Point
 merged a b = shapeOf (points a ++ points b)
 
 module _ (a b : List ℤ) (v : Valid b) where
-  pub merged-same : (t : Bool) {front : List ℤ} → front ≡ numbers (shapeOf (points a ++ points b)) → Same b front t → t ≡ inside (points a) (points b)
+  pub merged-same : (t : Bool) {front : List ℤ} → front ≡ numbers (shapeOf (points a ++ points b)) → Same b front t → t
+      ≡ inside (points a) (points b)
   merged-same true e s =
       sym (merge→inside (points a) (points b) (v .shape) (sym (points-numbers (merged a b)) ∙ ap points (sym (s ∙ e))))
   merged-same false e s = go (inside (points a) (points b)) refl

@@ -21,19 +21,20 @@ use Rattle.integer.specs.Linear.{linear, lia, _&_}
 use Rattle.integer.specs.Order.{lt-or-le, le-trans, leZ-true, leZ-false}
 use Rattle.plane.specs.Point.{Point, point, origin, corner, _⊕_, opposite}
 use Rattle.plane.specs.Turn.{cross, turn}
-use Rattle.plane.specs.Search.{first}
+use Rattle.plane.specs.Search.{some}
 use Rattle.plane.specs.Shape.{next, IsShape}
 use Rattle.plane.specs.Direction.{value, support}
 use Rattle.plane.specs.Corner.{shapeOf}
 use Rattle.plane.specs.Separation.{differences, apart, notLeft, onRim, touching}
 use Rattle.plane.specs.Forms.{NonZero}
 use Rattle.plane.specs.theory.lists.Members.{_∈_, point-path}
-use Rattle.plane.specs.theory.lists.Sought.{first-true, search-none}
+use Rattle.plane.specs.theory.lists.Sought.{some-witness, some-none}
 use Rattle.plane.specs.theory.forms.Vector.{outward, value-origin, value-turned, turn-level}
 use Rattle.plane.specs.theory.support.Support.{value-le-support, support-attained, support-le}
 use Rattle.plane.specs.theory.hull.ShapeOf.{shapeOf-support, shapeOf-shape}
 use Rattle.plane.specs.theory.lists.Sought.{tests-agree}
-use Rattle.separation.specs.theory.Apart.{value-difference, differences-some, difference-member, member-difference, DifferenceOf, apart-sym}
+use Rattle.separation.specs.theory.Apart.{value-difference, differences-some, difference-member, member-difference, DifferenceOf}
+use Rattle.separation.specs.theory.Apart.{apart-sym}
 use Rattle.separation.specs.theory.InsideShape.{turn-origin}
 use Rattle.separation.specs.theory.Sector.{value-outward, edge-outermost, edge-nonzero, left→passed}
 
@@ -119,19 +120,19 @@ few→below (p ∷ (q ∷ (r ∷ D))) s h = absurd (omega arith)
 
 pub rim→below : (D : List Point) → IsShape D → onRim D ≡ true → Below D
 unfolding onRim
-rim→below D s h = go (ltb (length D) 3) refl (ltb (first (notLeft D) (length D)) (length D)) refl h
+rim→below D s h = go (ltb (length D) 3) refl (some (notLeft D) (length D)) refl h
   where
-    go : (t : Bool) → ltb (length D) 3 ≡ t → (u : Bool) → ltb (first (notLeft D) (length D)) (length D) ≡ u → (t || u) ≡ true → Below D
+    go : (t : Bool) → ltb (length D) 3 ≡ t → (u : Bool) → some (notLeft D) (length D) ≡ u → (t || u) ≡ true → Below D
     go true e u f h = few→below D s (ltb-true (length D) 3 e)
     go false e false f h = absurd (false≢true h)
     go false e true f h =
-        let found = ltb-true (first (notLeft D) (length D)) (length D) f in
-        edge→below D s (ltb-false (length D) 3 e) (first (notLeft D) (length D)) found (first-true (notLeft D) (length D) found)
+        let found = some-witness (notLeft D) (length D) f in
+        edge→below D s (ltb-false (length D) 3 e) (found .0) (found .1) (found .2)
 
 -- with the origin to the left of all edges, the shape would pass it in the direction
 pub below→rim : (D : List Point) → IsShape D → Below D → onRim D ≡ true
 unfolding onRim notLeft
-below→rim D s b = go (ltb (length D) 3) refl (ltb (first (notLeft D) (length D)) (length D)) refl
+below→rim D s b = go (ltb (length D) 3) refl (some (notLeft D) (length D)) refl
   where
     d : Point
     d = b .direction
@@ -141,10 +142,10 @@ below→rim D s b = go (ltb (length D) 3) refl (ltb (first (notLeft D) (length D
         (left→passed D s three d origin (b .non-zero) (λ e h. leZ-false (f e h)) & support-le d D (s .some) (b .below) & value-origin d)
         (search linear depth 40) (omega arith)
 
-    go : (t : Bool) → ltb (length D) 3 ≡ t → (u : Bool) → ltb (first (notLeft D) (length D)) (length D) ≡ u → (t || u) ≡ true
+    go : (t : Bool) → ltb (length D) 3 ≡ t → (u : Bool) → some (notLeft D) (length D) ≡ u → (t || u) ≡ true
     go true e u f = refl
     go false e true f = refl
-    go false e false f = absurd (never (ltb-false (length D) 3 e) (search-none (notLeft D) (length D) f))
+    go false e false f = absurd (never (ltb-false (length D) 3 e) (some-none (notLeft D) (length D) f))
 
 -- ---- touching, by a direction
 
@@ -162,8 +163,8 @@ pub record Crossed (A B : List Point) (d : Point) : Type 0 where
   pub crosses : value d under <ℤ value d above
 
 module _ (A B : List Point) (a : 0 < length A) (b : 0 < length B) where
-  some : 0 < length (differences A B)
-  some = differences-some A B a b
+  any : 0 < length (differences A B)
+  any = differences-some A B a b
 
   -- the shape of the differences
   abbrev D : List Point
@@ -175,11 +176,11 @@ module _ (A B : List Point) (a : 0 < length A) (b : 0 < length B) where
 
   below→abutting : Below D → Abutting A B
   below→abutting r =
-      let reach = support-le (r .direction) D (shapeOf-shape (differences A B) some .some) (r .below) in
+      let reach = support-le (r .direction) D (shapeOf-shape (differences A B) any .some) (r .below) in
       record {
         direction = r .direction;
         non-zero = r .non-zero;
-        no-above = reach→no-above (r .direction) (rw (shapeOf-support (differences A B) some (r .direction)) at reach);
+        no-above = reach→no-above (r .direction) (rw (shapeOf-support (differences A B) any (r .direction)) at reach);
       }
 
   abutting→below : Abutting A B → Below D
@@ -194,8 +195,8 @@ module _ (A B : List Point) (a : 0 < length A) (b : 0 < length B) where
           & r .no-above (s .left) (s .right) (s .left-in) (s .right-in)) (search linear depth 40) (omega arith)
 
       reach : support d D ≤ℤ pos 0
-      reach = rw (shapeOf-support (differences A B) some d)
-          (support-le d (differences A B) some (λ q m. each q (member-difference A B m)))
+      reach = rw (shapeOf-support (differences A B) any d)
+          (support-le d (differences A B) any (λ q m. each q (member-difference A B m)))
 
   pub touching→not-apart : touching A B ≡ true → apart A B ≡ false
   unfolding touching
@@ -207,7 +208,7 @@ module _ (A B : List Point) (a : 0 < length A) (b : 0 < length B) where
 
   pub touching→direction : touching A B ≡ true → Abutting A B
   unfolding touching
-  touching→direction h = below→abutting (rim→below D (shapeOf-shape (differences A B) some) (go (apart A B) h))
+  touching→direction h = below→abutting (rim→below D (shapeOf-shape (differences A B) any) (go (apart A B) h))
     where
       go : (t : Bool) → (not t && onRim (shapeOf (differences A B))) ≡ true → onRim (shapeOf (differences A B)) ≡ true
       go true h = absurd (false≢true h)
@@ -215,7 +216,7 @@ module _ (A B : List Point) (a : 0 < length A) (b : 0 < length B) where
 
   pub direction→touching : apart A B ≡ false → Abutting A B → touching A B ≡ true
   unfolding touching
-  direction→touching h r = rw h (below→rim D (shapeOf-shape (differences A B) some) (abutting→below r))
+  direction→touching h r = rw h (below→rim D (shapeOf-shape (differences A B) any) (abutting→below r))
 
   -- in each direction but (0,0) some difference has a value above 0
   pub overlapping→crossed : apart A B ≡ false → touching A B ≡ false → (d : Point) → NonZero d → Crossed A B d
@@ -233,7 +234,7 @@ module _ (A B : List Point) (a : 0 < length A) (b : 0 < length B) where
 
       go : (pos 0 <ℤ support d (differences A B)) ⊎ (support d (differences A B) ≤ℤ pos 0) → Crossed A B d
       go (inl g) =
-          let top = support-attained d (differences A B) some in
+          let top = support-attained d (differences A B) any in
           crossed (top .at) (member-difference A B (top .at-in)) (rw (top .at-value) g)
       go (inr g) =
           let touch = direction→touching h (record { direction = d; non-zero = n; no-above = reach→no-above d g }) in

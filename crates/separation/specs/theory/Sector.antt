@@ -33,7 +33,7 @@ use Rattle.integer.specs.Order.{
   le-antisym,
   square-nonneg,
 }
-use Rattle.plane.specs.Point.{Point, point, origin, corner}
+use Rattle.plane.specs.Point.{Point, origin, corner}
 use Rattle.plane.specs.Turn.{turn, Left}
 use Rattle.plane.specs.Shape.{next, IsShape}
 use Rattle.plane.specs.Direction.{value, support}

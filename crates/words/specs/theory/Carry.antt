@@ -1,17 +1,15 @@
 -- Carrying: one word of a sum of products is stored, the rest goes on to the next word.
 --     Adding l₀ at a w l c i     the first i words of a·w are added to l₀ from word `at` on: l is what is stored, c the carry
---     Scaling l₀ w c₀ l c i      the first i words of l₀·w + c₀ are stored in l, c is the carry
---     adding-, scaling-start, -more, -end     the moves of their loops
---     row-fits, row-value                     the last carry goes into word k, where it is known that it fits
+--     adding-start, -more, -end  the moves of its loop
+--     row-fits, row-value        the last carry goes into word k, where it is known that it fits
 use mathlib.Core.Path.{_≡_, refl, sym, ap}
 use mathlib.Core.List.{List}
 use Prim.Native.Nat.{ℕ, _+_, _*_, _^_, _≤_, _<_}
 use native.Mathlib.Nat.{add-assoc, add-zero, lt-of-mul-lt-mul-left}
 use native.Mathlib.Omega.{arith}
 use lib.ListN.{length, getD, drop, set, length-set}
-use lib.Seq.{drop-set-lt}
 use Rattle.words.specs.Value.{value, weight}
-use Rattle.words.specs.theory.Laws.{weight-zero, weight-next, value-drop, value-drop-all, value-set, word-le-value}
+use Rattle.words.specs.theory.Laws.{weight-next, value-drop, value-drop-all, value-set, word-le-value}
 
 -- Word k of l becomes the low word r of x·w + y + c; the high word q is carried on, and h stands above x.
 carry-on : (l : List ℕ) (k r q c x y h w t : ℕ) → k < length l → r + 2 ^ 32 * q ≡ x * w + y + c
@@ -50,38 +48,6 @@ module _ {l₀ : List ℕ} {at : ℕ} {a : List ℕ} {w : ℕ} where
       let e : length a ≡ i = omega (arith, s .within) in
       let none : weight (at + i) * (c + value (drop i a) * w) ≡ weight (at + i) * c = rw (value-drop-all i a h) (omega arith) in
       rw e (omega (arith, s .sum))
-
--- ---- multiplying by w in place
-
-pub record Scaling (l₀ : List ℕ) (w c₀ : ℕ) (l : List ℕ) (c i : ℕ) : Type 0 where
-  pub within : i ≤ length l
-  pub long : length l ≡ length l₀
-  pub sum : value l + weight i * (c + value (drop i l) * w) ≡ value l₀ * w + c₀ + weight i * value (drop i l)
-
-module _ {l₀ : List ℕ} {w c₀ : ℕ} where
-  pub scaling-start : Scaling l₀ w c₀ l₀ c₀ 0
-  scaling-start = record { within = omega arith; long = refl; sum = rw weight-zero (omega arith) }
-
-  pub scaling-more : {l : List ℕ} {c i : ℕ} (r q : ℕ) → Scaling l₀ w c₀ l c i → i < length l → r + 2 ^ 32 * q ≡ getD l i 0 * w + 0 + c
-      → Scaling l₀ w c₀ (set l i r) q (i + 1)
-  scaling-more {l} {c} {i} r q s il e =
-      let t = value l₀ * w + c₀ in
-      let x = getD l i 0 in
-      let h = value (drop (i + 1) l) in
-      let split : value l + weight i * (c + (x + 2 ^ 32 * h) * w) ≡ t + weight i * (x + 2 ^ 32 * h) =
-      rw (sym (value-drop l i il)) (s .sum) in
-      let above : weight (i + 1) * h ≡ 2 ^ 32 * weight i * h = ap (λ (z : ℕ). z * h) (weight-next i) in
-      record {
-        within = rw length-set (omega arith);
-        long = rw length-set (s .long);
-        sum = rw (drop-set-lt (i + 1) l i r (omega arith)) (carry-on l i r q c x 0 h w (t + weight (i + 1) * h) il e (omega arith));
-      }
-
-  pub scaling-end : {l : List ℕ} {c i : ℕ} → Scaling l₀ w c₀ l c i → length l ≤ i → value l + weight (length l₀) * c ≡ value l₀ * w + c₀
-  scaling-end {l} {c} {i} s h =
-      let e : length l₀ ≡ i = omega (arith, s .within, s .long) in
-      let whole : value l + weight i * (c + 0 * w) ≡ value l₀ * w + c₀ + weight i * 0 = rw (sym (value-drop-all i l h)) (s .sum) in
-      rw e (omega arith)
 
 -- ---- the last carry
 

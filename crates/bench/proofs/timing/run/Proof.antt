@@ -4,10 +4,10 @@ use Rattle.bench.proofs.timing.run.Statement.{statement}
 use Rattle.bench.proofs.timing.run.Tie as tie
 
 abbrev Inv-loop : tie.InvT-loop
-Inv-loop question judging rounds asked₀ judged₀ seen₀ left₀ asked judged seen left = Unit
+Inv-loop question rounds asked₀ judged₀ left₀ asked judged left = Unit
 
 abbrev μ-loop : tie.MeasureT-loop
-μ-loop question judging rounds asked₀ judged₀ seen₀ left₀ asked judged seen left = left
+μ-loop question rounds asked₀ judged₀ left₀ asked judged left = left
 
 loop-holds : tie.Need-loop-holds Inv-loop μ-loop
 loop-holds c = tt
@@ -15,8 +15,8 @@ loop-holds c = tt
 pass-requires : tie.Need-pass-requires Inv-loop μ-loop
 pass-requires c κs = search needs
 
-wrapping-add-u64-requires : tie.Need-wrapping-add-u64-requires Inv-loop μ-loop
-wrapping-add-u64-requires c κs = search needs
+pass-requires-2 : tie.Need-pass-requires-2 Inv-loop μ-loop
+pass-requires-2 c κs = search needs
 
 sub-left : tie.Need-sub-left Inv-loop μ-loop
 sub-left c = search needs
@@ -38,7 +38,7 @@ run-spec =
     μ-loop
     loop-holds
     pass-requires
-    wrapping-add-u64-requires
+    pass-requires-2
     sub-left
     loop-less
     loop-again

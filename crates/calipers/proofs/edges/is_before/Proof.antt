@@ -24,15 +24,16 @@ equal false true h = absurd (true≢false h)
 equal false false h = refl
 
 is-up-requires : tie.Need-is-up-requires
-is-up-requires c κs = c .pre .0
+is-up-requires c κs = tt
 
 is-up-requires-2 : tie.Need-is-up-requires-2
-is-up-requires-2 c κs = c .before .pre .1
+is-up-requires-2 c κs = tt
 
 returns : tie.Need-returns
 returns c =
     let first = c .before .before in
-    first .is-up .ensures ∙ before-apart _ _ (λ e. unequal _ _ (c .if1 .taken) (first .is-up .ensures ∙ e ∙ sym (c .before .is-up2 .ensures)))
+    first .is-up .ensures
+    ∙ before-apart _ _ (λ e. unequal _ _ (c .if1 .taken) (first .is-up .ensures ∙ e ∙ sym (c .before .is-up2 .ensures)))
 
 cross-requires : tie.Need-cross-requires
 cross-requires c κs = c .before .before .before .pre

@@ -13,7 +13,8 @@ returns : tie.Need-returns
 returns c = sym (edges-few (points (c .before .before .args .list .now)) (omega (arith, c .before .count .ensures)))
 
 returns-2 : tie.Need-returns-2
-returns-2 c = c .before .count .ensures ∙ sym (edges-some (points (c .before .before .args .list .now)) (omega (arith, c .before .count .ensures)))
+returns-2 c = c .before .count .ensures ∙ sym
+    (edges-some (points (c .before .before .args .list .now)) (omega (arith, c .before .count .ensures)))
 
 pub sides-spec : {M : Type 1} → statement M
 sides-spec = tie.close (tie.spec count-requires returns returns-2)

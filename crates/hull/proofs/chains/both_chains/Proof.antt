@@ -54,7 +54,11 @@ up-to-last-requires c κs =
 sub-t20 : tie.Need-sub-t20
 sub-t20 c =
     let at-scan = c .before .before in
-    omega (arith, at-scan .scan2 .ensures .some (read (at-scan .before .before .before .before .before .before .before .before .before .before)))
+    omega (
+      arith,
+      at-scan .scan2 .ensures .some
+          (read (at-scan .before .before .before .before .before .before .before .before .before .before)),
+    )
 
 same-length : tie.Need-same-length
 same-length c = search needs
@@ -69,7 +73,8 @@ returns c =
     let at-turn = at-up .before .before .before in
     let at-read = at-turn .before .before .before .before in
     let start = at-read .before .before in
-    sides (points (start .args .a .now) ++ points (start .args .b .now)) (some start) (at-read .gather .ensures) (at-turn .turn-over .ensures)
+    sides (points (start .args .a .now) ++ points (start .args .b .now)) (some start) (at-read .gather .ensures)
+    (at-turn .turn-over .ensures)
     (at-up .scan .ensures) (at-down .scan2 .ensures) (c .up-to-last .ensures)
 
 pub both-chains-spec : {M : Type 1} → statement M

@@ -46,7 +46,8 @@ loop-again c =
     let list = at-loop .before .args .list .now in
     let less = c .before .before .before .loop-test .taken in (
       omega arith,
-      pour-one (at-loop .loop .inv .1) (stack-more (points list) less) (points-near list (at-loop .before .pre .2) _ (omega (arith, at-loop .before .pre .0)))
+      pour-one (at-loop .loop .inv .1) (stack-more (points list) less)
+          (points-near list (at-loop .before .pre .2) _ (omega (arith, at-loop .before .pre .0)))
           (c .before .copy-corner .ensures),
     )
 

@@ -9,8 +9,8 @@ use Rattle.integer.specs.Machine.{result-is}
 use Rattle.integer.specs.Order.{weaken}
 use Rattle.plane.specs.Point.{points, corner}
 use Rattle.plane.specs.Turn.{turn}
-use Rattle.plane.specs.Measure.{squared, edgeTurn, reach, edgeSquared}
-use Rattle.measure.specs.theory.Reach.{reach-positive, edgeSquared-positive}
+use Rattle.plane.specs.Measure.{squared, edgeTurn, height, edgeSquared}
+use Rattle.measure.specs.theory.Height.{height-positive, edgeSquared-positive}
 use Rattle.measure.proofs.Edges.{step-within}
 use Rattle.measure.proofs.narrowest.measured.Statement.{statement}
 use Rattle.measure.proofs.narrowest.measured.Tie as tie
@@ -18,7 +18,7 @@ use Rattle.measure.proofs.narrowest.measured.Tie as tie
 -- ---- the turn and the squared length, each where it is known
 
 turn-is : (c : tie.After-turn-at) → let args = c .before .before .before .args in
-    toZ w64 (ofZ w64 (c .turn-at .result)) ≡ reach (points (args .list .now)) (args .walk .i)
+    toZ w64 (ofZ w64 (c .turn-at .result)) ≡ height (points (args .list .now)) (args .walk .i)
 unfolding edgeTurn
 turn-is c =
     let args = c .before .before .before .args in
@@ -57,7 +57,7 @@ turn-at-requires c κs =
 magnitude-requires : tie.Need-magnitude-requires
 magnitude-requires c κs =
     let pre = c .before .before .before .pre in
-    rw (turn-is c) (weaken (reach-positive _ (pre .0 .imaged .mirrors .own) (pre .0 .three) _ (step-within (pre .0) (pre .1))))
+    rw (turn-is c) (weaken (height-positive _ (pre .0 .imaged .mirrors .own) (pre .0 .three) _ (step-within (pre .0) (pre .1))))
 
 squared-at-requires : tie.Need-squared-at-requires
 squared-at-requires c κs =

@@ -19,7 +19,8 @@ use Rattle.plane.specs.Point.{Point, origin, _⊖_, opposite}
 use Rattle.plane.specs.Turn.{cross}
 use Rattle.plane.specs.Forms.{Precedes, up, NonZero}
 use Rattle.plane.specs.theory.forms.Vector.{⊖-self, cross-opposite, cross-nonzero}
-use Rattle.plane.specs.theory.forms.Precedes.{Lower, lower, level, precedes-lower, lower-precedes, precedes-asym, precedes-reversed, Placed, ahead, same, behind, placed, precedes-opposite}
+use Rattle.plane.specs.theory.forms.Precedes.{Lower, lower, level, precedes-lower, lower-precedes, precedes-asym, precedes-reversed}
+use Rattle.plane.specs.theory.forms.Precedes.{Placed, ahead, same, behind, placed, precedes-opposite}
 
 -- ---- vectors up and down
 

@@ -3,33 +3,21 @@
 --     precedes-trans, precedes-irrefl, precedes-asym, precedes-different
 --     not-precedes     the test is false where the order is absurd; `precedes-reversed`: where the other way round holds
 --     Placed p q       p is ahead of q, the same, or behind; `placed` decides
---     precedes-total   where neither precedes the other they are equal
+--     precedes-total   where neither precedes the other they are equal; `samePoint-neither`: and so says the test
 --     precedes-below, precedes-above, precedes-level      by tests of the coordinates
 --     precedes-opposite  the order of the opposite points is the other way round
-use mathlib.Core.Path.{_≡_, refl, sym, _∙_, ap₂}
-use mathlib.Core.Bool.{Bool, true, false, _&&_, _||_, true≢false, false≢true}
+use mathlib.Core.Path.{_≡_, refl, sym, _∙_, ap₂, subst}
+use mathlib.Core.Bool.{Bool, true, false, not, _&&_, _||_, true≢false, false≢true}
 use mathlib.Core.List.{[], _∷_}
 use native.Mathlib.Omega.{arith}
 use lib.Signed.{_≤ℤ_, _<ℤ_, leZ, ltZ}
 use Rattle.integer.specs.Linear.{linear, lia, _&_}
-use Rattle.integer.specs.Order.{
-  Compared,
-  is-below,
-  is-equal,
-  is-above,
-  compared,
-  le-of-eq,
-  le-antisym,
-  ltZ-true,
-  ltZ-false,
-  leZ-true,
-  lt-ltZ,
-  le-ltZ,
-  le-leZ,
-}
-use Rattle.plane.specs.Point.{Point, point, opposite}
+use Rattle.integer.specs.Order.{Compared, is-below, is-equal, is-above, compared, le-of-eq, le-antisym, ltZ-true, ltZ-false, leZ-true}
+use Rattle.integer.specs.Order.{lt-ltZ, le-ltZ, le-leZ}
+use Rattle.plane.specs.Point.{Point, point, opposite, samePoint}
 use Rattle.plane.specs.Shape.{precedes}
 use Rattle.plane.specs.Forms.{Precedes}
+use Rattle.plane.specs.theory.lists.Members.{samePoint-self, samePoint-other}
 
 -- ---- what it says
 
@@ -114,6 +102,17 @@ precedes-total p q a b = go (placed p q)
     go (ahead h) = absurd (true≢false (sym (h .precedes-true) ∙ a))
     go (same e) = e
     go (behind h) = absurd (true≢false (sym (h .precedes-true) ∙ b))
+
+pub samePoint-neither : (p q : Point) → samePoint p q ≡ (not (precedes p q) && not (precedes q p))
+samePoint-neither p q = go (placed p q)
+  where
+    self : precedes p p ≡ false
+    self = not-precedes p p precedes-irrefl
+
+    go : Placed p q → samePoint p q ≡ (not (precedes p q) && not (precedes q p))
+    go (ahead h) = rw (h .precedes-true) (samePoint-other p q (precedes-different h))
+    go (same e) = subst (λ z. samePoint p z ≡ (not (precedes p z) && not (precedes z p))) e (rw (samePoint-self p, self))
+    go (behind h) = rw (h .precedes-true, precedes-reversed h) (samePoint-other p q (λ e. precedes-different h (sym e)))
 
 pub precedes-opposite : {p q : Point} → Precedes p q → Precedes (opposite q) (opposite p)
 precedes-opposite {p} {q} a = lower-precedes (go (precedes-lower a))

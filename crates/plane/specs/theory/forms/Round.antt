@@ -16,7 +16,8 @@ use Rattle.plane.specs.Turn.{cross, turn, Left, turn-cycle}
 use Rattle.plane.specs.Forms.{All, Precedes, up, Before, NonZero, edgesTo, From, Sorted}
 use Rattle.plane.specs.theory.forms.Precedes.{Placed, ahead, same, behind, placed, precedes-trans, precedes-asym, precedes-different}
 use Rattle.plane.specs.theory.forms.Vector.{⊖-self, ⊖-zero, cross-nonzero, turn-edges, turn-stay}
-use Rattle.plane.specs.theory.forms.HalfPlane.{precedes→up, up→precedes, precedes→down, down→precedes, up-clash, cross-trans, cross-trans-weak}
+use Rattle.plane.specs.theory.forms.HalfPlane.{precedes→up, up→precedes, precedes→down, down→precedes, up-clash, cross-trans}
+use Rattle.plane.specs.theory.forms.HalfPlane.{cross-trans-weak}
 use Rattle.plane.specs.theory.forms.Angle.{Earlier, apart, alike, before→earlier, earlier→before, before-cross}
 use Rattle.plane.specs.theory.forms.Fan.{Fan, Bends, Local}
 

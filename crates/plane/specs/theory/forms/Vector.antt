@@ -1,7 +1,7 @@
 -- Vectors: their sum, their cross product, and the value of a direction at them.
 --     ⊕-comm, ⊕-assoc, ⊕-zero, zero-⊕, ⊕-left-comm, ⊕-swap     the laws of the sum
 --     total E                             the sum of a list of vectors
---     step-back, step-to, ⊖-self, ⊖-zero  a step less its start; the step to a point; the step from a point to itself, and only that, is zero
+--     step-back, step-to, ⊖-self, ⊖-zero  a step less its start; the step to a point; only that from a point to itself is zero
 --     cross-self, cross-swap, cross-opposite, cross-turned     the laws of the cross product; `cross-nonzero`: above 0, of two not zero
 --     turn-edges                          the turn at a corner is the product of its two edges
 --     turn-stay, turn-back, turn-level    with two of three corners equal there is no turn

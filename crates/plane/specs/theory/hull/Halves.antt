@@ -1,6 +1,6 @@
 -- Steps up and steps down. A chain of points runs up (`true`, the right-hand one) or down (`false`, the left-hand one): what both need
 -- is said once, for the half as a Bool.
---     Onward half a b                   the step from a to b runs up, or down; Facing half d: the direction d looks right, or left
+--     Onward half a b                   the step from a to b runs up, or down; Sideways half d: the direction d looks right, or left
 --     onward-trans, onward-irrefl, onward-back, onward-precedes, onward-up, onward-nonzero      what a step says
 --     onward-before, onward-around      two steps that turn left are in order; so are one up and then one down
 --     value-between                     where a chain does not turn left, the middle point is no further than one of its neighbours
@@ -32,9 +32,9 @@ pub onward-precedes : {a b : Point} → Onward true a b → Precedes a b
 onward-precedes (upward p) = p
 
 -- the direction d looks right, or left; (0, v) both
-abbrev pub Facing : Bool → Point → Type 0
-Facing true d = pos 0 ≤ℤ d .x
-Facing false d = d .x ≤ℤ pos 0
+abbrev pub Sideways : Bool → Point → Type 0
+Sideways true d = pos 0 ≤ℤ d .x
+Sideways false d = d .x ≤ℤ pos 0
 
 pub onward-trans : {half : Bool} {a b c : Point} → Onward half a b → Onward half b c → Onward half a c
 onward-trans (upward p) (upward q) = upward (precedes-trans p q)
@@ -82,7 +82,7 @@ no-bump e f d e-up f-up turns right rises falls = go (precedes-lower f-up)
 
 -- the steps down are steps up read backwards, seen from the opposite direction
 pub value-between : {half : Bool} {a b c : Point} {N : ℤ} (d : Point) → Onward half a b → Onward half b c → turn a b c ≤ℤ pos 0
-    → Facing half d → value d a ≤ℤ N → value d c ≤ℤ N → value d b ≤ℤ N
+    → Sideways half d → value d a ≤ℤ N → value d c ≤ℤ N → value d b ≤ℤ N
 unfolding value turn cross
 value-between {a = a} {b = b} {c = c} {N = N} d (upward p) (upward q) t f h k = contra≤ (λ g.
     let ρ : List ℤ = a .x ∷ a .y ∷ b .x ∷ b .y ∷ c .x ∷ c .y ∷ d .x ∷ d .y ∷ N ∷ [] in

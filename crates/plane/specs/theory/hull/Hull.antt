@@ -11,22 +11,8 @@
 -- That its corners are the corners of the set is in `ShapeOf.antt`.
 use mathlib.Core.Path.{_≡_, refl, sym, _∙_, ap, subst}
 use mathlib.Core.Bool.{Bool, true, false}
-use mathlib.Core.List.{
-  List,
-  [],
-  _∷_,
-  _++_,
-  reverse,
-  reverseAux,
-  reverse-append,
-  List·Memᴰ·head,
-  List·Memᴰ·tail,
-  List·Memᴰ·not-nil,
-  List·Memᴰ·append-cases,
-  Memᴰ·append-left,
-  Memᴰ·append-right,
-  Memᴰ·cast,
-}
+use mathlib.Core.List.{List, [], _∷_, _++_, tail, reverse, reverseAux, reverse-append, List·Memᴰ·head, List·Memᴰ·tail, List·Memᴰ·not-nil}
+use mathlib.Core.List.{List·Memᴰ·append-cases, Memᴰ·append-left, Memᴰ·append-right, Memᴰ·cast}
 use mathlib.Core.Logic.{_⊎_, inl, inr, ⊎-elim}
 use Prim.Native.Nat.{_<_}
 use native.Mathlib.Omega.{arith}
@@ -36,11 +22,13 @@ use lib.Signed.{_≤ℤ_, _<ℤ_}
 use Rattle.integer.specs.Order.{weaken, lt-or-le}
 use Rattle.plane.specs.Point.{Point, _⊖_}
 use Rattle.plane.specs.Direction.{value}
-use Rattle.plane.specs.Corner.{ascending, scan, withoutFirst, around, shapeOf}
+use Rattle.plane.specs.Corner.{ascending, scan, outline, shapeOf}
 use Rattle.plane.specs.Forms.{Before, NonZero, edgesTo, From, InOrder, Sorted}
-use Rattle.plane.specs.theory.lists.Members.{_∈_, lastOf, last-member, member-reverse, reverse-member, all-member, member-all, all-subset}
-use Rattle.plane.specs.theory.hull.Halves.{Onward, Facing, onward-nonzero, onward-before, onward-around, onward-irrefl}
-use Rattle.plane.specs.theory.hull.Ascending.{Runs, Ends, ends, runs-last, reverse-runs, reverse-ends, ascending-runs, ascending-member, member-ascending}
+use Rattle.plane.specs.theory.lists.Members.{_∈_, lastOf, last-member, member-reverse, reverse-member, all-member, member-all}
+use Rattle.plane.specs.theory.lists.Members.{all-subset}
+use Rattle.plane.specs.theory.hull.Halves.{Onward, Sideways, onward-nonzero, onward-before, onward-around, onward-irrefl}
+use Rattle.plane.specs.theory.hull.Ascending.{Runs, Ends, ends, runs-last, reverse-runs, reverse-ends, ascending-runs}
+use Rattle.plane.specs.theory.hull.Ascending.{ascending-member, member-ascending}
 use Rattle.plane.specs.theory.hull.Scan.{Chain, Bounds, Kept, kept-reverse, scanned}
 
 -- ---- sorted edges of a way that is read backwards
@@ -63,7 +51,7 @@ closed-sorted c b (a ∷ K) acc F e back f from =
 -- ---- a chain up and a chain down
 
 abbrev pub circuit : List Point → List Point → List Point
-circuit K L = reverse (withoutFirst K) ++ reverse (withoutFirst L)
+circuit K L = reverse (tail K) ++ reverse (tail L)
 
 chain-backwards : {half : Bool} (c b : Point) (K : List Point) → Chain half (c ∷ b ∷ K) → Backwards c b K
 chain-backwards c b [] k = onward-nonzero (k .0)
@@ -104,12 +92,12 @@ module _ {s t : Point} (apart : s ≡ t → ⊥) where
 
   -- a direction that looks right is bounded by the chain up, one that looks left by the chain down
   pub circuit-bound-right : {seen seen′ K L : List Point} → Kept true s t seen K → Kept false t s seen′ L
-      → (d : Point) → Facing true d → (N : ℤ) → Bounds d N (circuit K L) → Bounds d N seen
+      → (d : Point) → Sideways true d → (N : ℤ) → Bounds d N (circuit K L) → Bounds d N seen
   circuit-bound-right {K = K} climb down d f N b =
       climb .bound d f N (all-subset (λ q. value d q ≤ℤ N) K (λ q m. right-circuit (climb .ends-at) (down .ends-at) m) b)
 
   pub circuit-bound-left : {seen seen′ K L : List Point} → Kept true s t seen K → Kept false t s seen′ L
-      → (d : Point) → Facing false d → (N : ℤ) → Bounds d N (circuit K L) → Bounds d N seen′
+      → (d : Point) → Sideways false d → (N : ℤ) → Bounds d N (circuit K L) → Bounds d N seen′
   circuit-bound-left {L = L} climb down d f N b =
       down .bound d f N (all-subset (λ q. value d q ≤ℤ N) L (λ q m. left-circuit (climb .ends-at) (down .ends-at) m) b)
 
@@ -122,13 +110,13 @@ module _ {s t : Point} (apart : s ≡ t → ⊥) where
       go (inr h) = circuit-bound-right climb down d h N b
 
 pub circuit-member : {p : Point} (K L : List Point) → p ∈ circuit K L → p ∈ K ⊎ p ∈ L
-circuit-member {p} K L m = go (List·Memᴰ·append-cases (reverse (withoutFirst K)) m)
+circuit-member {p} K L m = go (List·Memᴰ·append-cases (reverse (tail K)) m)
   where
-    under : (M : List Point) → p ∈ withoutFirst M → p ∈ M
+    under : (M : List Point) → p ∈ tail M → p ∈ M
     under [] n = n
     under (q ∷ M) n = List·Memᴰ·tail n
 
-    go : p ∈ reverse (withoutFirst K) ⊎ p ∈ reverse (withoutFirst L) → p ∈ K ⊎ p ∈ L
+    go : p ∈ reverse (tail K) ⊎ p ∈ reverse (tail L) → p ∈ K ⊎ p ∈ L
     go (inl n) = inl (under K (reverse-member _ n))
     go (inr n) = inr (under L (reverse-member _ n))
 
@@ -144,26 +132,26 @@ module _ (p q : Point) (ps : List Point) (runs : Runs true (p ∷ q ∷ ps)) whe
   ends-differ : p ≡ lastOf q ps → ⊥
   ends-differ e = onward-irrefl (subst (λ t. Onward true p t) (sym e) (runs-last ps (runs .0) (runs .1)))
 
-around-sorted : {x : Point} (ps : List Point) → Runs true ps → x ∈ ps → Sorted (around ps)
-around-sorted [] r m = List·Memᴰ·not-nil m
-around-sorted (p ∷ []) r m = tt
-around-sorted (p ∷ (q ∷ ps)) r m =
+outline-sorted : {x : Point} (ps : List Point) → Runs true ps → x ∈ ps → Sorted (outline ps)
+outline-sorted [] r m = List·Memᴰ·not-nil m
+outline-sorted (p ∷ []) r m = tt
+outline-sorted (p ∷ (q ∷ ps)) r m =
     let k = right-chain p q ps r in
     let l = left-chain p q ps r in
     circuit-sorted (ends-differ p q ps r) (k .ends-at) (l .ends-at) (k .chain) (l .chain)
 
-around-member : {x : Point} (ps : List Point) → Runs true ps → x ∈ around ps → x ∈ ps
-around-member [] r m = m
-around-member (p ∷ []) r m = m
-around-member {x} (p ∷ (q ∷ ps)) r m = ⊎-elim
+outline-member : {x : Point} (ps : List Point) → Runs true ps → x ∈ outline ps → x ∈ ps
+outline-member [] r m = m
+outline-member (p ∷ []) r m = m
+outline-member {x} (p ∷ (q ∷ ps)) r m = ⊎-elim
     (λ (n : x ∈ scan [] (p ∷ q ∷ ps)). right-chain p q ps r .member n)
     (λ (n : x ∈ scan [] (reverse (p ∷ q ∷ ps))). left-chain p q ps r .member n)
     (circuit-member (scan [] (p ∷ q ∷ ps)) (scan [] (reverse (p ∷ q ∷ ps))) m)
 
-around-bound : (ps : List Point) → Runs true ps → (d : Point) (N : ℤ) → Bounds d N (around ps) → Bounds d N ps
-around-bound [] r d N b = b
-around-bound (p ∷ []) r d N b = b
-around-bound (p ∷ (q ∷ ps)) r d N b = circuit-bound (ends-differ p q ps r) (right-chain p q ps r) (left-chain p q ps r) d N b
+outline-bound : (ps : List Point) → Runs true ps → (d : Point) (N : ℤ) → Bounds d N (outline ps) → Bounds d N ps
+outline-bound [] r d N b = b
+outline-bound (p ∷ []) r d N b = b
+outline-bound (p ∷ (q ∷ ps)) r d N b = circuit-bound (ends-differ p q ps r) (right-chain p q ps r) (left-chain p q ps r) d N b
 
 -- ---- the shape of a set
 
@@ -172,18 +160,18 @@ unfolding shapeOf
 shapeOf-sorted [] h = omega arith
 shapeOf-sorted (s ∷ S) h =
     let own : s ∈ (s ∷ S) = List·Memᴰ·head refl in
-    around-sorted (ascending (s ∷ S)) (ascending-runs (s ∷ S)) (member-ascending own)
+    outline-sorted (ascending (s ∷ S)) (ascending-runs (s ∷ S)) (member-ascending own)
 
 pub shapeOf-member : {p : Point} (S : List Point) → p ∈ shapeOf S → p ∈ S
 unfolding shapeOf
-shapeOf-member S m = ascending-member S (around-member (ascending S) (ascending-runs S) m)
+shapeOf-member S m = ascending-member S (outline-member (ascending S) (ascending-runs S) m)
 
 pub shapeOf-above : (S : List Point) (d q : Point) → q ∈ S → (N : ℤ)
     → ((p : Point) → p ∈ shapeOf S → value d p ≤ℤ N) → value d q ≤ℤ N
 unfolding shapeOf
 shapeOf-above S d q m N b =
-    let corners = member-all (λ p. value d p ≤ℤ N) (around (ascending S)) b in
-    all-member (λ p. value d p ≤ℤ N) (around-bound (ascending S) (ascending-runs S) d N corners) (member-ascending m)
+    let corners = member-all (λ p. value d p ≤ℤ N) (outline (ascending S)) b in
+    all-member (λ p. value d p ≤ℤ N) (outline-bound (ascending S) (ascending-runs S) d N corners) (member-ascending m)
 
 pub shapeOf-nonempty : (S : List Point) → 0 < length S → 0 < length (shapeOf S)
 shapeOf-nonempty S h = go (shapeOf S) (shapeOf-sorted S h)

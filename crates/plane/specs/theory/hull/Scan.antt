@@ -20,7 +20,7 @@ use Rattle.plane.specs.Direction.{value}
 use Rattle.plane.specs.Corner.{push, scan}
 use Rattle.plane.specs.Forms.{All}
 use Rattle.plane.specs.theory.lists.Members.{_∈_, lastOf, member-cons, member-reverse, reverse-member, all-subset}
-use Rattle.plane.specs.theory.hull.Halves.{Onward, Facing, onward-trans, value-between}
+use Rattle.plane.specs.theory.hull.Halves.{Onward, Sideways, onward-trans, value-between}
 use Rattle.plane.specs.theory.hull.Ascending.{Runs, Ends, ends}
 
 -- ---- chains, last first
@@ -50,13 +50,13 @@ pub record Scan (half : Bool) (s : Point) (seen : List Point) (p : Point) (kept 
   pub reaches : Reaches half p kept
   pub start : lastOf p kept ≡ s
   pub member : {q : Point} → q ∈ (p ∷ kept) → q ∈ seen
-  pub bound : (d : Point) → Facing half d → (N : ℤ) → Bounds d N (p ∷ kept) → Bounds d N seen
+  pub bound : (d : Point) → Sideways half d → (N : ℤ) → Bounds d N (p ∷ kept) → Bounds d N seen
 
 pub record Kept (half : Bool) (s t : Point) (seen kept : List Point) : Type 0 where
   pub chain : Chain half kept
   pub ends-at : Ends t s kept
   pub member : {q : Point} → q ∈ kept → q ∈ seen
-  pub bound : (d : Point) → Facing half d → (N : ℤ) → Bounds d N kept → Bounds d N seen
+  pub bound : (d : Point) → Sideways half d → (N : ℤ) → Bounds d N kept → Bounds d N seen
 
 pub scan-start : {half : Bool} {p : Point} → Scan half p (p ∷ []) p []
 scan-start = record { chain = tt; reaches = tt; start = refl; member = λ m. m; bound = λ d f N b. b }

@@ -28,12 +28,14 @@ filled-put {old} {answer} {out} {k} {v} f h l e = record {
   front =
       ap (λ (xs : List ℤ). set xs k v) (f .front ∙ ap (λ (xs : List ℤ). take k answer ++ xs) (drop-cons old k (pos 0) l))
       ∙ set-at (take k answer) _ (drop (suc k) old) v k (length-take-le k answer (omega arith))
-      ∙ ap (λ (z : ℤ). take k answer ++ z ∷ drop (suc k) old) e ∙ sym (append-snoc (take k answer) (getD answer k (pos 0)) (drop (suc k) old))
+      ∙ ap (λ (z : ℤ). take k answer ++ z ∷ drop (suc k) old) e
+      ∙ sym (append-snoc (take k answer) (getD answer k (pos 0)) (drop (suc k) old))
       ∙ ap (λ (xs : List ℤ). xs ++ drop (suc k) old) (sym (take-suc answer k (pos 0) h))
       ∙ ap (λ (n : ℕ). take n answer ++ drop n old) (sym (add-one k));
 }
 
-pub filled-length : {old answer out : List ℤ} {k : ℕ} → Filled old answer k out → k ≤ length answer → k ≤ length old → length out ≡ length old
+pub filled-length : {old answer out : List ℤ} {k : ℕ} → Filled old answer k out → k ≤ length answer → k ≤ length old
+    → length out ≡ length old
 filled-length {old} {answer} {out} {k} f h l =
     omega (arith, ap length (f .front) ∙ length-append (take k answer) (drop k old), length-take-le k answer h, length-drop k old)
 

@@ -2,18 +2,17 @@
 --     points-length           half as many corners as numbers
 --     points-x, points-y      the coordinates of corner i stand at 2·i and 2·i + 1
 --     Near p, points-near     both coordinates are in range; those of a list in range are
---     x-small, y-small, dx-small, dy-small      coordinates and their differences, bounded by powers of two
 --     points-numbers, numbers-points, numbers-length      there and back
 --     numbers-inRange         corners in range make numbers in range
 use mathlib.Core.Path.{_≡_, refl, sym, _∙_, ap, subst}
 use mathlib.Core.List.{List, [], _∷_}
-use Prim.Native.Nat.{ℕ, zero, suc, _+_, _*_, _/_, _%_, _^_, _<_, suc-le-suc}
+use Prim.Native.Nat.{ℕ, zero, suc, _+_, _*_, _/_, _%_, _<_, suc-le-suc}
 use native.Mathlib.Omega.{arith}
 use native.Mathlib.Nat.{le-of-suc-le-suc}
 use lib.ListN.{length, getD}
-use lib.IntN.{ℤ, pos, _-ℤ_}
-use Rattle.integer.specs.Bound.{Within, within-widen, within-add, within-neg}
-use Rattle.plane.specs.Limits.{maxCoordinate, coordinate-small}
+use lib.IntN.{ℤ, pos}
+use Rattle.integer.specs.Bound.{Within}
+use Rattle.plane.specs.Limits.{maxCoordinate}
 use Rattle.plane.specs.Point.{Point, points, numbers, corner}
 use Rattle.plane.specs.Refusal.{InRange}
 
@@ -73,19 +72,3 @@ numbers-inRange ps f = record { near = go ps f }
     go (p ∷ ps) f zero h = f 0 (omega arith) .near-x
     go (p ∷ ps) f (suc zero) h = f 0 (omega arith) .near-y
     go (p ∷ ps) f (suc (suc i)) h = go ps (λ k b. f (suc k) (suc-le-suc b)) i (omega arith)
-
--- ---- bounds as powers of two, in which machine arithmetic is proved
-
-module _ (l : List ℤ) (r : InRange l) (i : ℕ) (h : i < length (points l)) where
-  pub x-small : Within (2 ^ 20) (corner (points l) i .x)
-  x-small = within-widen coordinate-small (points-near l r i h .near-x)
-
-  pub y-small : Within (2 ^ 20) (corner (points l) i .y)
-  y-small = within-widen coordinate-small (points-near l r i h .near-y)
-
-module _ (l : List ℤ) (r : InRange l) (a b : ℕ) (p : a < length (points l)) (q : b < length (points l)) where
-  pub dx-small : Within (2 ^ 21) (corner (points l) b .x -ℤ corner (points l) a .x)
-  dx-small = within-add (x-small l r b q) (within-neg (x-small l r a p))
-
-  pub dy-small : Within (2 ^ 21) (corner (points l) b .y -ℤ corner (points l) a .y)
-  dy-small = within-add (y-small l r b q) (within-neg (y-small l r a p))

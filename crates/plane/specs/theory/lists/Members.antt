@@ -9,8 +9,10 @@
 --     position-member, member-position  the corner at a position is a member, and a member has a position
 --     member-some, sums-some, mirrored-some     lists with a point: 0 < length
 --     point-path, point-discrete        equal parts make equal points; equality of points is decided
+--     samePoint-equal, samePoint-self, samePoint-other     the test says whether they are equal
 -- Members of `++` and `map` are in `mathlib.Core.List`.
 use mathlib.Core.Path.{_≡_, refl, sym, ap, subst}
+use mathlib.Core.Bool.{Bool, true, false, _&&_, false≢true}
 use mathlib.Core.Logic.{_⊎_, inl, inr}
 use mathlib.Core.List.{List, [], _∷_, _++_, map, reverse, reverseAux, reverse-reverse}
 use mathlib.Core.List.{List·Memᴰ, List·Memᴰ·head, List·Memᴰ·tail, List·Memᴰ·not-nil}
@@ -18,9 +20,10 @@ use mathlib.Core.List.{List·Memᴰ·append-cases, Memᴰ·cast, Memᴰ·append-
 use Prim.Native.Nat.{ℕ, zero, suc, _<_}
 use native.Mathlib.Nat.{not-suc-le-zero}
 use native.Mathlib.Omega.{arith}
-use lib.IntN.{ℤ-discrete}
+use borrow.Author.Tests.{eqb-true, eq-eqb}
+use lib.IntN.{ℤ, pos, negsuc, ℤ-discrete}
 use lib.ListN.{length}
-use Rattle.plane.specs.Point.{Point, corner, _⊕_, opposite}
+use Rattle.plane.specs.Point.{Point, corner, _⊕_, opposite, eqZ, samePoint}
 use Rattle.plane.specs.Corner.{sums, mirrored}
 use Rattle.plane.specs.Forms.{All, Pairs}
 
@@ -43,6 +46,36 @@ point-discrete p q = go (ℤ-discrete (p .x) (q .x)) (ℤ-discrete (p .y) (q .y)
     go (yes e) (yes f) = yes (point-path e f)
     go (yes e) (no f) = no (λ r. f (ap (λ (z : Point). z .y) r))
     go (no e) f = no (λ r. e (ap (λ (z : Point). z .x) r))
+
+eqZ-true : (a b : ℤ) → eqZ a b ≡ true → a ≡ b
+eqZ-true (pos m) (pos n) h = ap pos (eqb-true m n h)
+eqZ-true (pos m) (negsuc n) h = absurd (false≢true h)
+eqZ-true (negsuc m) (pos n) h = absurd (false≢true h)
+eqZ-true (negsuc m) (negsuc n) h = ap negsuc (eqb-true m n h)
+
+eqZ-self : (a : ℤ) → eqZ a a ≡ true
+eqZ-self (pos n) = eq-eqb n n refl
+eqZ-self (negsuc n) = eq-eqb n n refl
+
+pub samePoint-equal : (p q : Point) → samePoint p q ≡ true → p ≡ q
+unfolding samePoint
+samePoint-equal p q h = go (eqZ (p .x) (q .x)) refl (eqZ (p .y) (q .y)) refl h
+  where
+    go : (s : Bool) → eqZ (p .x) (q .x) ≡ s → (t : Bool) → eqZ (p .y) (q .y) ≡ t → (s && t) ≡ true → p ≡ q
+    go true e true f k = point-path (eqZ-true _ _ e) (eqZ-true _ _ f)
+    go true e false f k = absurd (false≢true k)
+    go false e t f k = absurd (false≢true k)
+
+pub samePoint-self : (p : Point) → samePoint p p ≡ true
+unfolding samePoint
+samePoint-self p = rw (eqZ-self (p .x), eqZ-self (p .y))
+
+pub samePoint-other : (p q : Point) → (p ≡ q → ⊥) → samePoint p q ≡ false
+samePoint-other p q f = go (samePoint p q) refl
+  where
+    go : (t : Bool) → samePoint p q ≡ t → t ≡ false
+    go true h = absurd (f (samePoint-equal p q h))
+    go false h = refl
 
 -- ---- all and each
 

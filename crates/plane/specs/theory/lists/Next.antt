@@ -14,13 +14,13 @@ use Rattle.plane.specs.Shape.{next}
 
 pub data Following (n e : ℕ) : Type 0 where
   onward : suc e < n → next n e ≡ suc e → Following n e
-  around : suc e ≡ n → next n e ≡ 0 → Following n e
+  closing : suc e ≡ n → next n e ≡ 0 → Following n e
 
 pub following : (n e : ℕ) → e < n → Following n e
 following n e h = go (eqb (e + 1) n) refl
   where
     go : (t : Bool) → eqb (e + 1) n ≡ t → Following n e
-    go true q = around (omega (arith, eqb-true (e + 1) n q)) (rw q)
+    go true q = closing (omega (arith, eqb-true (e + 1) n q)) (rw q)
     go false q = onward (omega (arith, eqb-false (e + 1) n q)) (rw (q, add-one))
 
 pub next-below : (n e : ℕ) → e < n → next n e < n
@@ -28,7 +28,7 @@ next-below n e h = go (following n e h)
   where
     go : Following n e → next n e < n
     go (onward k q) = omega arith
-    go (around k q) = omega arith
+    go (closing k q) = omega arith
 
 -- the position before i
 pub preceding : (n i : ℕ) → i < n → (j : ℕ) × (j < n) × (next n j ≡ i)
@@ -36,18 +36,18 @@ preceding n zero h = (pred n, omega arith, go (following n (pred n) (omega arith
   where
     go : Following n (pred n) → next n (pred n) ≡ 0
     go (onward k q) = absurd (omega arith)
-    go (around k q) = q
+    go (closing k q) = q
 preceding n (suc j) h = (j, omega arith, go (following n j (omega arith)))
   where
     go : Following n j → next n j ≡ suc j
     go (onward k q) = q
-    go (around k q) = absurd (omega arith)
+    go (closing k q) = absurd (omega arith)
 
 pub two-steps : (n i : ℕ) → 2 < n → i < n → (next n (next n i) ≡ i → ⊥) × (next n (next n i) ≡ next n i → ⊥)
 two-steps n i h k = go (following n i k) (following n (next n i) (next-below n i k))
   where
     go : Following n i → Following n (next n i) → (next n (next n i) ≡ i → ⊥) × (next n (next n i) ≡ next n i → ⊥)
     go (onward k p) (onward l q) = ((λ r. omega arith), (λ r. omega arith))
-    go (onward k p) (around l q) = ((λ r. omega arith), (λ r. omega arith))
-    go (around k p) (onward l q) = ((λ r. omega arith), (λ r. omega arith))
-    go (around k p) (around l q) = ((λ r. omega arith), (λ r. omega arith))
+    go (onward k p) (closing l q) = ((λ r. omega arith), (λ r. omega arith))
+    go (closing k p) (onward l q) = ((λ r. omega arith), (λ r. omega arith))
+    go (closing k p) (closing l q) = ((λ r. omega arith), (λ r. omega arith))

@@ -5,20 +5,20 @@
 --     Sought p n i                           the search has come to i and found nothing
 --     sought-start, -more, -found, -none     the moves of the loop  while i < n { if p(i) { found } i += 1 }
 --     sought-yes, sought-no                  its ends, where only whether there is such a number is asked
---     some-witness, some-here, some-none, none-some      `some p n` passes exactly if the test does at a number below n
---     sought-some, sought-never              the loop's ends, for it
---     search-none, none-search               there is none exactly if the test fails at every number below n
+--     some-here, some-witness, none-some, some-none      `some p n`, exactly if the test passes at a number below n
+--     some-found                             then `first p n` is one of them
+--     all-every, every-all, not-every        `every p n`, exactly if it passes at all of them
 --     true-not-false, tests-agree            a test is not both; two tests that pass together are equal
 use mathlib.Core.Path.{_≡_, refl, sym, _∙_, ap}
-use mathlib.Core.Bool.{Bool, true, false, _||_, true≢false, false≢true}
+use mathlib.Core.Bool.{Bool, true, false, _&&_, _||_, true≢false, false≢true}
 use Prim.Native.Nat.{ℕ, zero, suc, _+_, _≤_, _<_, zero-le}
 use native.Mathlib.Omega.{arith}
-use native.Mathlib.Nat.{le-of-suc-le-suc, le-refl}
+use native.Mathlib.Nat.{le-of-suc-le-suc}
 use native.Mathlib.Decide.{ℕ-discrete}
 use borrow.Author.Count.{below-more}
-use borrow.Author.Tests.{lt-ltb, le-ltb, ltb-true, ltb-false}
+use borrow.Author.Tests.{ltb-true, ltb-false}
 use lib.Dec.{ltb}
-use Rattle.plane.specs.Search.{some, first}
+use Rattle.plane.specs.Search.{some, every, first}
 
 pub true-not-false {ℓ} : {X : Type ℓ} {b : Bool} → b ≡ true → b ≡ false → X
 true-not-false {b = true} p q = absurd (let z : _≡_ {A = ℕ} 0 1 = cc in let f : ⊥ = omega arith in f)
@@ -31,7 +31,8 @@ tests-agree false true f g = g refl
 tests-agree false false f g = refl
 
 -- the first step of a search: found at 0, or one further than the search from 1 on
-first-suc : (p : ℕ → Bool) (n : ℕ) (P : ℕ → Type 0) → (p 0 ≡ true → P 0) → (p 0 ≡ false → P (suc (first (λ i. p (suc i)) n))) → P (first p (suc n))
+first-suc : (p : ℕ → Bool) (n : ℕ) (P : ℕ → Type 0) → (p 0 ≡ true → P 0)
+    → (p 0 ≡ false → P (suc (first (λ i. p (suc i)) n))) → P (first p (suc n))
 first-suc p n P f g = go (p 0) f g
   where
     go : (b : Bool) → (b ≡ true → P 0) → (b ≡ false → P (suc (first (λ i. p (suc i)) n)))
@@ -104,6 +105,34 @@ some-here p n i l e = go (some p n) refl
     go true h = refl
     go false h = true-not-false e (some-none p n h i l)
 
+-- then the search finds it
+pub some-found : (p : ℕ → Bool) (n : ℕ) → some p n ≡ true → first p n < n
+some-found p n h = let r = some-witness p n h in omega (arith, first-at-most p n (r .0) (r .2), r .1)
+
+-- ---- whether it passes at all of them
+
+pub every-all : (p : ℕ → Bool) (n : ℕ) → every p n ≡ true → (i : ℕ) → i < n → p i ≡ true
+every-all p zero h i l = absurd (omega arith)
+every-all p (suc n) h i l = go (every p n) refl (p n) refl h (every-all p n) (ℕ-discrete i n)
+  where
+    go : (t : Bool) → every p n ≡ t → (u : Bool) → p n ≡ u → (t && u) ≡ true → (every p n ≡ true → (i : ℕ) → i < n → p i ≡ true)
+        → Dec (i ≡ n) → p i ≡ true
+    go false e u f k earlier d = absurd (false≢true k)
+    go true e false f k earlier d = absurd (false≢true k)
+    go true e true f k earlier (yes q) = rw q f
+    go true e true f k earlier (no q) = earlier e i (omega arith)
+
+pub all-every : (p : ℕ → Bool) (n : ℕ) → ((i : ℕ) → i < n → p i ≡ true) → every p n ≡ true
+all-every p zero f = refl
+all-every p (suc n) f = rw (all-every p n (λ i l. f i (omega arith))) (f n (omega arith))
+
+pub not-every : (p : ℕ → Bool) (n i : ℕ) → i < n → p i ≡ false → every p n ≡ false
+not-every p n i l e = go (every p n) refl
+  where
+    go : (t : Bool) → every p n ≡ t → t ≡ false
+    go true h = true-not-false (every-all p n h i l) e
+    go false h = refl
+
 -- ---- a loop that searches
 
 pub record Sought (p : ℕ → Bool) (n i : ℕ) : Type 0 where
@@ -123,22 +152,9 @@ module _ (p : ℕ → Bool) (n : ℕ) where
   pub sought-none : (i : ℕ) → Sought p n i → n ≤ i → first p n ≡ n
   sought-none i s h = first-unique p n i (s .within) (λ q. let f : ⊥ = omega arith in absurd f) (s .none) ∙ omega (arith, s .within)
 
-  -- whether there is such a number
-  pub sought-some : (i : ℕ) → i < n → p i ≡ true → some p n ≡ true
-  sought-some i h e = some-here p n i h e
-
-  pub sought-never : (i : ℕ) → Sought p n i → n ≤ i → some p n ≡ false
-  sought-never i s h = none-some p n (λ k l. s .none k (omega arith))
-
   -- the search as a test: whether there is such a number
-  pub sought-yes : (i : ℕ) → Sought p n i → i < n → p i ≡ true → ltb (first p n) n ≡ true
-  sought-yes i s h e = lt-ltb (first p n) n (omega (arith, sought-found i s h e))
+  pub sought-yes : (i : ℕ) → i < n → p i ≡ true → some p n ≡ true
+  sought-yes i h e = some-here p n i h e
 
-  pub sought-no : (i : ℕ) → Sought p n i → n ≤ i → ltb (first p n) n ≡ false
-  sought-no i s h = le-ltb (first p n) n (omega (arith, sought-none i s h))
-
-  pub search-none : ltb (first p n) n ≡ false → (i : ℕ) → i < n → p i ≡ false
-  search-none h i l = first-least p n i (omega (arith, ltb-false (first p n) n h))
-
-  pub none-search : ((i : ℕ) → i < n → p i ≡ false) → ltb (first p n) n ≡ false
-  none-search f = sought-no n (record { within = le-refl n; none = f }) (le-refl n)
+  pub sought-no : (i : ℕ) → Sought p n i → n ≤ i → some p n ≡ false
+  sought-no i s h = none-some p n (λ k l. s .none k (omega arith))

@@ -27,7 +27,8 @@ use Rattle.plane.specs.theory.lists.Members.{_∈_, point-path, mirrored
 use Rattle.plane.specs.theory.forms.Precedes.{precedes-irrefl, precedes-trans, precedes-opposite, not-precedes}
 use Rattle.plane.specs.theory.lists.Flat.{numbers-length}
 use Rattle.plane.specs.Cycle.{turned}
-use Rattle.plane.specs.theory.lists.Turned.{Turned, ahead, round, turned-cases, turned-below, turned-injective, turned-start, turned-next}
+use Rattle.plane.specs.theory.lists.Turned.{Turned, ahead, round, turned-cases, turned-below, turned-injective, turned-start}
+use Rattle.plane.specs.theory.lists.Turned.{turned-next}
 use Rattle.plane.specs.theory.lists.Next.{next-below}
 use Rattle.plane.specs.theory.support.Support.{support-same}
 use Rattle.plane.specs.theory.hull.ShapeOf.{shape-known}
@@ -61,9 +62,12 @@ module _ (ps : List Point) where
 
   top-of : (i : ℕ) → (t : ℕ) × Top ps (i + 1) t
   top-of zero = (0, top-start)
-  top-of (suc i) = let r = top-of i in subst (λ n. (t : ℕ) × Top ps (n + 1) t) (add-one i) (go r (precedes (corner ps (r .0)) (corner ps (i + 1))) refl)
+  top-of (suc i) =
+      let r = top-of i in
+      subst (λ n. (t : ℕ) × Top ps (n + 1) t) (add-one i) (go r (precedes (corner ps (r .0)) (corner ps (i + 1))) refl)
     where
-      go : (r : (t : ℕ) × Top ps (i + 1) t) → (b : Bool) → precedes (corner ps (r .0)) (corner ps (i + 1)) ≡ b → (t : ℕ) × Top ps (i + 1 + 1) t
+      go : (r : (t : ℕ) × Top ps (i + 1) t) → (b : Bool) → precedes (corner ps (r .0)) (corner ps (i + 1)) ≡ b
+          → (t : ℕ) × Top ps (i + 1 + 1) t
       go r true e = (i + 1, top-rise (r .1) e refl)
       go r false e = (r .0, top-keep (r .1) e refl)
 
@@ -90,7 +94,8 @@ module _ (ps : List Point) (t : ℕ) (h : t < length ps) where
     where
       go : Turned (length ps) t k → corner (rotated ps t) k ≡ corner ps (turned (length ps) t k)
       go (ahead l e) =
-          List·getD-append (drop t ps) (take t ps) origin k (omega (arith, length-drop t ps)) ∙ getD-drop t ps k origin ∙ ap (corner ps) (sym e)
+          List·getD-append (drop t ps) (take t ps) origin k (omega (arith, length-drop t ps))
+          ∙ getD-drop t ps k origin ∙ ap (corner ps) (sym e)
       go (round l e) =
           let place : k ≡ length (drop t ps) + (t + k - length ps) = omega (arith, length-drop t ps) in
           ap (corner (rotated ps t)) place
@@ -101,7 +106,8 @@ module _ (ps : List Point) (t : ℕ) (h : t < length ps) where
   mirroredFrom-at k b = List·getD-map opposite (rotated ps t) k origin ∙ ap opposite (rotated-at k b)
 
   same-members : (d : Point) → support d (mirroredFrom ps t) ≡ support d (mirrored ps)
-  same-members d = support-same d (mirroredFrom ps t) (mirrored ps) (λ p m. there p (member-mirrored (rotated ps t) m)) (λ p m. back p (member-mirrored ps m))
+  same-members d = support-same d (mirroredFrom ps t) (mirrored ps)
+      (λ p m. there p (member-mirrored (rotated ps t) m)) (λ p m. back p (member-mirrored ps m))
     where
       parts : take t ps ++ drop t ps ≡ ps
       parts = take-append-drop t ps
@@ -166,7 +172,8 @@ module _ (ps : List Point) (s : IsShape ps) (t : ℕ) (top : Top ps (length ps) 
   left : (e c : ℕ) → e < length M → c < length M → (c ≡ e → ⊥) → (c ≡ next (length M) e → ⊥)
       → Left (corner M e) (corner M (next (length M) e)) (corner M c)
   left e c p q i j =
-      rw (at e (omega arith), end e p, at c (omega arith), turn-opposite (corner ps (place e)) (corner ps (next (length ps) (place e))) (corner ps (place c)))
+      let there = turn-opposite (corner ps (place e)) (corner ps (next (length ps) (place e))) (corner ps (place c)) in
+      rw (at e (omega arith), end e p, at c (omega arith), there)
       (s .left (place e) (place c) (place-below e p) (place-below c q) (place-other q p i) (λ z. place-other q (next-below (length M) e p) j
       (z ∙ sym (ap (λ n. place (next n e)) same ∙ turned-next (length ps) t (top .within) e (omega arith)))))
 

@@ -1,17 +1,17 @@
 -- What the mirror question answers (document 01, "Mirror").
---     mirror-few, mirror-inside     rows 6 and 7 do not apply to the mirror image of a valid list
+--     mirror-few, mirror-near     rows 6 and 7 do not apply to the mirror image of a valid list
 --     mirror-room                   row 8 applies where the output holds fewer numbers than the list's corners
 --     mirror-written                else the opposites, begun at the top, are written
 use mathlib.Core.Path.{_≡_, sym, _∙_, ap, subst}
 use mathlib.Core.Bool.{true, false}
 use mathlib.Core.List.{List, [], _∷_}
-use Prim.Native.Nat.{ℕ, zero, suc, _*_, _≤_, _<_, suc-le-suc}
+use Prim.Native.Nat.{ℕ, _*_, _≤_, _<_}
 use native.Mathlib.Omega.{arith}
 use borrow.Author.Tests.{lt-ltb, le-ltb}
 use lib.IntN.{ℤ, pos}
-use lib.ListN.{length, getD}
-use Rattle.integer.specs.Bound.{Within, within-neg}
-use Rattle.plane.specs.Limits.{maxCorners, maxCoordinate}
+use lib.ListN.{length}
+use Rattle.integer.specs.Bound.{within-neg}
+use Rattle.plane.specs.Limits.{maxCorners}
 use Rattle.plane.specs.Point.{Point, points, numbers, corner, opposite}
 use Rattle.plane.specs.Reply.{answered, refused}
 use Rattle.plane.specs.Refusal.{tooMany, someOutside, InRange, Valid, shapeRows}
@@ -19,10 +19,11 @@ use Rattle.plane.specs.Corner.{shapeOf, mirrored}
 use Rattle.plane.specs.Output.{noRoom, overwritten}
 use Rattle.plane.specs.Combine.{mirrorWritten}
 use Rattle.plane.specs.theory.lists.Flat.{numbers-inRange, Near, points-near, numbers-length}
-use Rattle.plane.specs.theory.refusals.Accept.{inRange→inside, valid→accepted}
+use Rattle.plane.specs.theory.refusals.Accept.{inRange→near, valid→accepted}
 use Rattle.plane.specs.theory.refusals.Write.{wrote-passed, wrote-room, wrote-all}
 use Rattle.plane.specs.theory.lists.Turned.{turned-below}
-use Rattle.plane.specs.theory.mirror.Mirror.{Top, topmost, mirroredFrom, mirroredFrom-length, mirroredFrom-at, mirror-known, mirror-count}
+use Rattle.plane.specs.theory.mirror.Mirror.{Top, topmost, mirroredFrom, mirroredFrom-length, mirroredFrom-at, mirror-known}
+use Rattle.plane.specs.theory.mirror.Mirror.{mirror-count}
 
 -- ---- rows 6 and 7
 
@@ -45,11 +46,11 @@ module _ (l : List ℤ) (v : Valid l) where
   unfolding tooMany
   mirror-few = le-ltb maxCorners (length image) (omega (arith, mirror-count (points l) (v .shape), v .few))
 
-  pub mirror-inside : someOutside (numbers (shapeOf (mirrored (points l)))) ≡ false
-  mirror-inside =
+  pub mirror-near : someOutside (numbers (shapeOf (mirrored (points l)))) ≡ false
+  mirror-near =
       let top = topmost (points l) (v .shape) in
       ap (λ ps. someOutside (numbers ps)) (mirror-known (points l) (v .shape) (top .0) (top .1))
-      ∙ inRange→inside _ (mirroredFrom-inRange (top .0) (top .1 .within))
+      ∙ inRange→near _ (mirroredFrom-inRange (top .0) (top .1 .within))
 
   -- ---- row 8, or the answer
 
@@ -69,7 +70,7 @@ module _ (l : List ℤ) (v : Valid l) where
         → (refused 8 [] ≡ mirrorWritten l out .reply) × (out ≡ mirrorWritten l out .output)
     unfolding mirrorWritten
     mirror-room h =
-        let wrote = wrote-passed (shapeRows 1 l) (valid→accepted l 1 v) (wrote-room mirror-few mirror-inside (little h)) in
+        let wrote = wrote-passed (shapeRows 1 l) (valid→accepted l 1 v) (wrote-room mirror-few mirror-near (little h)) in
         (wrote .reply-is, wrote .output-is)
 
     pub mirror-written : (t : ℕ) → Top (points l) (length (points l)) t → 2 * length (points l) ≤ length out
@@ -77,7 +78,7 @@ module _ (l : List ℤ) (v : Valid l) where
         × (overwritten (numbers (mirroredFrom (points l) t)) out ≡ mirrorWritten l out .output)
     unfolding mirrorWritten
     mirror-written t top h =
-        let wrote = wrote-passed (shapeRows 1 l) (valid→accepted l 1 v) (wrote-all mirror-few mirror-inside (enough h)) in (
+        let wrote = wrote-passed (shapeRows 1 l) (valid→accepted l 1 v) (wrote-all mirror-few mirror-near (enough h)) in (
           ap (λ n. answered (pos n ∷ [])) (sym (mirror-count (points l) (v .shape))) ∙ wrote .reply-is,
           ap (λ ps. overwritten (numbers ps) out) (sym (mirror-known (points l) (v .shape) t top)) ∙ wrote .output-is,
         )

@@ -1,59 +1,47 @@
 -- The rows of refusals 1 to 5 against "What makes a shape".
---     inside→inRange, inRange→inside      row 3 does not apply exactly if every coordinate is in range
+--     near→inRange, inRange→near      row 3 does not apply exactly if every coordinate is in range
 --     few-corners, corners-few            row 2 does not apply exactly if there are few enough corners
 --     accepted→valid          no row applies: the list is valid
 --     valid→accepted          a valid list: no row applies
 use mathlib.Core.Path.{_≡_, refl, sym, _∙_, ap, ap₂}
-use mathlib.Core.Bool.{Bool, true, false, not, _&&_, _||_, true≢false}
+use mathlib.Core.Bool.{Bool, true, false, not, _||_, true≢false}
 use mathlib.Core.List.{List}
 use Prim.Native.Nat.{ℕ, _%_, _≤_, _<_}
 use native.Mathlib.Omega.{arith}
 use native.Mathlib.Decide.{ℕ-discrete}
 use borrow.Author.Tests.{ltb-false, le-ltb, eqb-false, ne-eqb, not-false}
-use lib.Dec.{ltb, eqb}
+use lib.Dec.{eqb}
 use lib.IntN.{ℤ, pos, natAbs}
 use lib.ListN.{length, getD}
 use Rattle.integer.specs.Bound.{Within}
 use Rattle.integer.specs.Order.{ltZ-true, lt-ltZ}
 use Rattle.plane.specs.Limits.{maxCorners, maxCoordinate}
-use Rattle.plane.specs.Point.{Point, points, corner}
+use Rattle.plane.specs.Point.{Point, points, corner, samePoint}
 use Rattle.plane.specs.Shape.{next, breaks, precedes, IsShape}
-use Rattle.plane.specs.Refusal.{
-  badCount,
-  tooMany,
-  outside,
-  someOutside,
-  equalPair,
-  leftBroken,
-  ruleBroken,
-  badStart,
-  shapeRows,
-  InRange,
-  Valid,
-}
+use Rattle.plane.specs.Refusal.{badCount, tooMany, outside, someOutside, equalPair, leftBroken, ruleBroken, badStart, shapeRows}
+use Rattle.plane.specs.Refusal.{InRange, Valid}
 use Rattle.plane.specs.theory.lists.Flat.{points-length}
-use Rattle.plane.specs.theory.forms.Precedes.{precedes-total, precedes-irrefl, not-precedes}
+use Rattle.plane.specs.theory.lists.Members.{samePoint-self, samePoint-other}
 use Rattle.plane.specs.theory.refusals.Rows.{NoneApply}
-use Rattle.plane.specs.theory.lists.Sought.{search-none, none-search, some-none, none-some}
-use Rattle.plane.specs.theory.refusals.Tests.{breaks-own, breaks-end, breaks-other, equalPair-other, equalPair-two}
+use Rattle.plane.specs.theory.lists.Sought.{some-none, none-some}
+use Rattle.plane.specs.theory.refusals.Tests.{breaks-own, breaks-end, breaks-other, equalPair-other, equalPair-two, outside-none}
+use Rattle.plane.specs.theory.refusals.Tests.{none-outside}
 
 -- ---- row 3
 
-inside→within : (z : ℤ) → outside z ≡ false → Within maxCoordinate z
+near→within : (z : ℤ) → outside z ≡ false → Within maxCoordinate z
 unfolding outside
-inside→within z h = record { size = ltb-false maxCoordinate (natAbs z) h }
+near→within z h = record { size = ltb-false maxCoordinate (natAbs z) h }
 
-within→inside : (z : ℤ) → Within maxCoordinate z → outside z ≡ false
+within→near : (z : ℤ) → Within maxCoordinate z → outside z ≡ false
 unfolding outside
-within→inside z w = le-ltb maxCoordinate (natAbs z) (w .size)
+within→near z w = le-ltb maxCoordinate (natAbs z) (w .size)
 
-pub inside→inRange : (l : List ℤ) → someOutside l ≡ false → InRange l
-unfolding someOutside
-inside→inRange l h = record { near = λ i b. inside→within (getD l i (pos 0)) (search-none _ (length l) h i b) }
+pub near→inRange : (l : List ℤ) → someOutside l ≡ false → InRange l
+near→inRange l h = record { near = λ i b. near→within (getD l i (pos 0)) (none-outside l h i b) }
 
-pub inRange→inside : (l : List ℤ) → InRange l → someOutside l ≡ false
-unfolding someOutside
-inRange→inside l r = none-search _ (length l) (λ i b. within→inside (getD l i (pos 0)) (r .near i b))
+pub inRange→near : (l : List ℤ) → InRange l → someOutside l ≡ false
+inRange→near l r = outside-none l (λ i b. within→near (getD l i (pos 0)) (r .near i b))
 
 -- ---- rows 1 and 2
 
@@ -85,21 +73,13 @@ corners-few ps h = le-ltb maxCorners (length ps) h
 -- ---- row 4
 
 pair-different : (ps : List Point) → equalPair ps ≡ false → length ps ≡ 2 → corner ps 0 ≡ corner ps 1 → ⊥
-pair-different ps h n e =
-    let self = not-precedes (corner ps 0) (corner ps 0) precedes-irrefl in
-    true≢false (sym (ap₂ (λ s t. not s && not t)
-    (ap (λ p. precedes (corner ps 0) p) (sym e) ∙ self) (ap (λ p. precedes p (corner ps 0)) (sym e) ∙ self)) ∙ sym (equalPair-two ps n) ∙ h)
+pair-different ps h n e = true≢false (sym (samePoint-self (corner ps 0)) ∙ ap (samePoint (corner ps 0)) e ∙ sym (equalPair-two ps n) ∙ h)
 
 different-pair : (ps : List Point) → (length ps ≡ 2 → corner ps 0 ≡ corner ps 1 → ⊥) → equalPair ps ≡ false
 different-pair ps f = go (ℕ-discrete (length ps) 2)
   where
-    neither : (a b : Bool) → (a ≡ false → b ≡ false → ⊥) → (not a && not b) ≡ false
-    neither true b g = refl
-    neither false true g = refl
-    neither false false g = absurd (g refl refl)
-
     go : Dec (length ps ≡ 2) → equalPair ps ≡ false
-    go (yes n) = equalPair-two ps n ∙ neither _ _ (λ p q. f n (precedes-total (corner ps 0) (corner ps 1) p q))
+    go (yes n) = equalPair-two ps n ∙ samePoint-other (corner ps 0) (corner ps 1) (f n)
     go (no g) = equalPair-other ps g
 
 kept→left : (ps : List Point) → leftBroken ps ≡ false → (e c : ℕ) → e < length ps → c < length ps → breaks ps e c ≡ false
@@ -123,11 +103,11 @@ parts→rule ps h k = ap₂ (λ a b. a || b) h k
 
 first-least : (ps : List Point) → badStart ps ≡ false → (c : ℕ) → c < length ps → precedes (corner ps c) (corner ps 0) ≡ false
 unfolding badStart
-first-least ps h = search-none _ (length ps) h
+first-least ps h = some-none _ (length ps) h
 
 least-first : (ps : List Point) → ((c : ℕ) → c < length ps → precedes (corner ps c) (corner ps 0) ≡ false) → badStart ps ≡ false
 unfolding badStart
-least-first ps f = none-search _ (length ps) f
+least-first ps f = none-some _ (length ps) f
 
 -- an edge's own ends do not break the rule, and what is left of the edge does not
 left-keeps : (ps : List Point) → IsShape ps → (e c : ℕ) → e < length ps → c < length ps → breaks ps e c ≡ false
@@ -143,7 +123,7 @@ module _ (l : List ℤ) where
   accepted→valid which n = let rule = rule→parts (points l) (n .1 .1 .1 .0) in record {
     paired = counted l (n .0) .1;
     few = few-corners (points l) (n .1 .0);
-    inRange = inside→inRange l (n .1 .1 .0);
+    inRange = near→inRange l (n .1 .1 .0);
     shape = record {
       some = counted l (n .0) .0;
       different = pair-different (points l) (rule .0);
@@ -159,7 +139,7 @@ module _ (l : List ℤ) where
         (
           corners-few (points l) (v .few),
           (
-            inRange→inside l (v .inRange),
+            inRange→near l (v .inRange),
             (
               parts→rule (points l) (different-pair (points l) (s .different)) (left→kept (points l) (left-keeps (points l) s)),
               (least-first (points l) (s .start), tt),

@@ -3,17 +3,20 @@
 --     wrote-given                          a row applies, and none before it: its refusal, and the output untouched
 --     wrote-passed                         rows that do not apply may be left out
 --     wrote-many, -far, -room, -all        refusals 6, 7 and 8, and none
+--     refused-output, answered-output      a refusal leaves the output untouched; an answer writes the shape at its front
 --     passed-output, none-output           the output alone: a table of which no row applies can be left out, and leaves what is new
 use mathlib.Core.Path.{_≡_, refl, sym, _∙_, ap}
 use mathlib.Core.Bool.{Bool, true, false, cond}
 use mathlib.Core.List.{List, [], _∷_, _++_}
+use Prim.Native.Nat.{ℕ}
 use lib.IntN.{ℤ, pos}
 use lib.ListN.{length}
 use Rattle.plane.specs.Point.{Point, numbers}
 use Rattle.plane.specs.Reply.{Reply, answered, refused, Row}
 use Rattle.plane.specs.Refusal.{tooMany, someOutside}
 use Rattle.plane.specs.Output.{noRoom, answerRows, overwritten, unlessRefused, written}
-use Rattle.plane.specs.theory.refusals.Rows.{NoneApply, First, here, later, row-given, row-passed}
+use Rattle.plane.specs.theory.refusals.Rows.{NoneApply, First, here, later, row-given, row-passed, firstRow-none, firstRow-answered}
+use Rattle.plane.specs.theory.refusals.Rows.{firstRow-refused}
 
 pub record Wrote (rows : List Row) (shape : List Point) (old : List ℤ) (reply : Reply) (out : List ℤ) : Type 0 where
   pub reply-is : reply ≡ written rows shape old .reply
@@ -30,17 +33,20 @@ module _ {shape : List Point} {old : List ℤ} where
   }
 
   -- one row that does not
-  row-passes : {v : Row} {ws : List Row} {r : Reply} {out : List ℤ} → v .applies ≡ false → Wrote ws shape old r out → Wrote (v ∷ ws) shape old r out
+  row-passes : {v : Row} {ws : List Row} {r : Reply} {out : List ℤ} → v .applies ≡ false → Wrote ws shape old r out
+      → Wrote (v ∷ ws) shape old r out
   row-passes {v} {ws} e s = record {
     reply-is = row-passed v ws _ e (s .reply-is);
     output-is = s .output-is ∙ ap (λ (b : Bool). cond b old (unlessRefused ws old (overwritten (numbers shape) old))) (sym e);
   }
 
-  pub wrote-given : {w : Row} {vs : List Row} (ws : List Row) → First w vs → Wrote (vs ++ ws) shape old (refused (w .number) (w .carries)) old
+  pub wrote-given : {w : Row} {vs : List Row} (ws : List Row) → First w vs
+      → Wrote (vs ++ ws) shape old (refused (w .number) (w .carries)) old
   wrote-given ws (here e) = row-gives e
   wrote-given ws (later e f) = row-passes e (wrote-given ws f)
 
-  pub wrote-passed : (vs : List Row) {ws : List Row} {r : Reply} {out : List ℤ} → NoneApply vs → Wrote ws shape old r out → Wrote (vs ++ ws) shape old r out
+  pub wrote-passed : (vs : List Row) {ws : List Row} {r : Reply} {out : List ℤ} → NoneApply vs → Wrote ws shape old r out
+      → Wrote (vs ++ ws) shape old r out
   wrote-passed [] n s = s
   wrote-passed (v ∷ vs) n s = row-passes (n .0) (wrote-passed vs (n .1) s)
 
@@ -71,3 +77,19 @@ passed-output (v ∷ vs) ws kept new n =
 pub none-output : (ws : List Row) (kept new : List ℤ) → NoneApply ws → unlessRefused ws kept new ≡ new
 none-output [] kept new n = refl
 none-output (w ∷ ws) kept new n = ap (λ (b : Bool). cond b kept (unlessRefused ws kept new)) (n .0) ∙ none-output ws kept new (n .1)
+
+-- ---- what is written, by the reply
+
+first-output : {w : Row} {ws : List Row} (kept new : List ℤ) → First w ws → unlessRefused ws kept new ≡ kept
+first-output kept new (here {ws = ws} e) = ap (λ (b : Bool). cond b kept (unlessRefused ws kept new)) e
+first-output kept new (later {ws = ws} e f) = ap (λ (b : Bool). cond b kept (unlessRefused ws kept new)) e ∙ first-output kept new f
+
+module _ (rows : List Row) (shape : List Point) (out : List ℤ) where
+  pub refused-output : (n : ℕ) (carries : List ℕ) → written rows shape out .reply ≡ refused n carries → written rows shape out .output ≡ out
+  refused-output n carries h = first-output out _ (firstRow-refused rows (pos (length shape) ∷ []) n carries h .1)
+
+  pub answered-output : (v : List ℤ) → written rows shape out .reply ≡ answered v
+      → (v ≡ pos (length shape) ∷ []) × (written rows shape out .output ≡ overwritten (numbers shape) out)
+  answered-output v h =
+      let none = firstRow-answered rows (pos (length shape) ∷ []) v h in
+      (cc (firstRow-none rows (answered (pos (length shape) ∷ [])) none), none-output rows out _ none)

@@ -22,7 +22,8 @@ use Rattle.plane.specs.Corner.{shapeOf, sums}
 use Rattle.plane.specs.Forms.{before, Before, From, InOrder, Sorted, edges}
 use Rattle.plane.specs.theory.forms.Vector.{total, quarter, value-⊕, ⊕-comm, ⊕-assoc, ⊕-left-comm, ⊕-swap, ⊕-zero, zero-⊕}
 use Rattle.plane.specs.theory.forms.Angle.{before-reversed}
-use Rattle.plane.specs.theory.forms.SameWay.{SameWay, neither-same, same-left, same-right, same-sum, sum-same, same-non-zero, from-same}
+use Rattle.plane.specs.theory.forms.SameWay.{SameWay, neither-same, same-left, same-right, same-sum, sum-same, same-non-zero}
+use Rattle.plane.specs.theory.forms.SameWay.{from-same}
 use Rattle.plane.specs.theory.lists.Members.{sums-some}
 use Rattle.plane.specs.theory.forms.Standard.{shape→sorted, sorted→shape}
 use Rattle.plane.specs.theory.support.Support.{support-sums}

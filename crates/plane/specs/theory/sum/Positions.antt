@@ -24,7 +24,7 @@ use Rattle.plane.specs.Point.{Point, corner, origin, _⊕_, _⊖_}
 use Rattle.plane.specs.Turn.{turn, Left}
 use Rattle.plane.specs.Shape.{next, IsShape}
 use Rattle.plane.specs.theory.sum.EdgeCount.{from-all}
-use Rattle.plane.specs.Forms.{Pairs, All, Ordered, Precedes, Before, NonZero, From, InOrder, edgesTo, edges}
+use Rattle.plane.specs.Forms.{Pairs, All, Ordered, Precedes, Before, NonZero, InOrder, edgesTo, edges}
 use Rattle.plane.specs.theory.forms.Precedes.{precedes-different}
 use Rattle.plane.specs.theory.forms.Vector.{total, turn-level, step-to, ⊕-assoc, ⊕-comm, ⊕-zero}
 use Rattle.plane.specs.theory.forms.Angle.{before-trans}

@@ -1,73 +1,50 @@
--- `turn_at` meets its contract: products of 32-bit differences, and their difference, fit 64 bits.
-use Rattle.integer.specs.Machine.{Machine, machine, known, machine-fits, machine-is}
-use Rattle.plane.specs.Turn.{turn}
-use Rattle.plane.specs.theory.lists.Flat.{dx-small, dy-small}
+-- `turn_at` meets its contract: the cross product of the two steps from corner a.
+use mathlib.Core.Path.{sym, _∙_, ap₂}
+use borrow.Author.Needs.{needs}
+use mir.Syntax.{w64}
+use Rattle.integer.specs.Machine.{result-is}
+use Rattle.plane.specs.Point.{_⊖_}
+use Rattle.plane.specs.Turn.{cross, turn-cross}
+use Rattle.polygon.specs.theory.Small.{small-corner, small-step}
 use Rattle.polygon.proofs.corners.turn_at.Statement.{statement}
 use Rattle.polygon.proofs.corners.turn_at.Tie as tie
 
--- ---- the four differences, each where it is known
+corner-at-requires : tie.Need-corner-at-requires
+corner-at-requires c κs = search needs
 
-abbrev ux : (c : tie.After-dx) → Machine (c .dx .result)
-ux c = let pre = c .before .pre in known (c .dx .ensures) (dx-small _ (pre .3) _ _ (pre .0) (pre .1))
+corner-at-requires-2 : tie.Need-corner-at-requires-2
+corner-at-requires-2 c κs = search needs
 
-abbrev vy : (c : tie.After-dy) → Machine (c .dy .result)
-vy c = let pre = c .before .before .pre in known (c .dy .ensures) (dy-small _ (pre .3) _ _ (pre .0) (pre .2))
+step-requires : tie.Need-step-requires
+step-requires c κs =
+    let pre = c .before .before .pre in
+    (small-corner _ (pre .3) _ (pre .0) (c .before .corner-at .ensures), small-corner _ (pre .3) _ (pre .1) (c .corner-at2 .ensures))
 
-abbrev uy : (c : tie.After-dy2) → Machine (c .dy2 .result)
-uy c = let pre = c .before .before .before .pre in known (c .dy2 .ensures) (dy-small _ (pre .3) _ _ (pre .0) (pre .1))
+corner-at-requires-3 : tie.Need-corner-at-requires-3
+corner-at-requires-3 c κs = search needs
 
-abbrev vx : (c : tie.After-dx2) → Machine (c .dx2 .result)
-vx c = let pre = c .before .before .before .before .pre in known (c .dx2 .ensures) (dx-small _ (pre .3) _ _ (pre .0) (pre .2))
+step-requires-2 : tie.Need-step-requires-2
+step-requires-2 c κs =
+    let first = c .before .before .before in
+    let pre = first .before .pre in
+    (small-corner _ (pre .3) _ (pre .0) (first .corner-at .ensures), small-corner _ (pre .3) _ (pre .2) (c .corner-at3 .ensures))
 
--- ---- the needs
-
-dx-requires : tie.Need-dx-requires
-dx-requires c κs = (c .pre .0, c .pre .1, c .pre .3)
-
-cast-result : tie.Need-cast-result
-cast-result c = let a = ux c in machine-fits (search machine depth 40) tt
-
-dy-requires : tie.Need-dy-requires
-dy-requires c κs = let pre = c .before .pre in (pre .0, pre .2, pre .3)
-
-cast-result-2 : tie.Need-cast-result-2
-cast-result-2 c = let b = vy c in machine-fits (search machine depth 40) tt
-
-mul-result : tie.Need-mul-result
-mul-result c = let a = ux (c .before) in let b = vy c in machine-fits (search machine depth 40) tt
-
-dy-requires-2 : tie.Need-dy-requires-2
-dy-requires-2 c κs = let pre = c .before .before .pre in (pre .0, pre .1, pre .3)
-
-cast-result-3 : tie.Need-cast-result-3
-cast-result-3 c = let a = uy c in machine-fits (search machine depth 40) tt
-
-dx-requires-2 : tie.Need-dx-requires-2
-dx-requires-2 c κs = let pre = c .before .before .before .pre in (pre .0, pre .2, pre .3)
-
-cast-result-4 : tie.Need-cast-result-4
-cast-result-4 c = let b = vx c in machine-fits (search machine depth 40) tt
-
-mul-result-2 : tie.Need-mul-result-2
-mul-result-2 c = let a = uy (c .before) in let b = vx c in machine-fits (search machine depth 40) tt
-
-sub-result : tie.Need-sub-result
-sub-result c =
-    let p = ux (c .before .before .before) in
-    let q = vy (c .before .before) in
-    let r = uy (c .before) in
-    let s = vx c in machine-fits (search machine depth 40) tt
+cross-requires : tie.Need-cross-requires
+cross-requires c κs =
+    let s = step-requires (c .before .before .before) κs in
+    let t = step-requires-2 (c .before) κs in
+    (small-step (s .0) (s .1) (c .before .before .step .ensures), small-step (t .0) (t .1) (c .step2 .ensures))
 
 returns : tie.Need-returns
-unfolding turn
 returns c =
-    let p = ux (c .before .before .before) in
-    let q = vy (c .before .before) in
-    let r = uy (c .before) in
-    let s = vx c in machine-is (search machine depth 40) tt
+    let at-c = c .before .before in
+    let at-b = at-c .before .before in
+    let from = at-b .before .corner-at .ensures in
+    result-is w64 (c .cross .ok) (c .cross .ensures
+    ∙ ap₂ cross (at-c .before .step .ensures ∙ ap₂ _⊖_ (at-b .corner-at2 .ensures) from)
+    (c .before .step2 .ensures ∙ ap₂ _⊖_ (at-c .corner-at3 .ensures) from) ∙ sym (turn-cross _ _ _))
 
 pub turn-at-spec : {M : Type 1} → statement M
 turn-at-spec =
     tie.close
-    (tie.spec dx-requires cast-result dy-requires cast-result-2 mul-result dy-requires-2 cast-result-3 dx-requires-2 cast-result-4
-    mul-result-2 sub-result returns)
+    (tie.spec corner-at-requires corner-at-requires-2 step-requires corner-at-requires-3 step-requires-2 cross-requires returns)

@@ -1,51 +1,57 @@
 -- `greatest` meets its contract. The invariant: of the values before i the greatest, at its smallest position; the measure is what is left.
-use mathlib.Core.Path.{_≡_, sym, _∙_, ap, ap₂}
+use mathlib.Core.Path.{_≡_, sym, _∙_, ap, ap₂, subst}
 use mathlib.Core.Logic.{⊎-elim}
-use Prim.Native.Nat.{_-_, _≤_}
+use Prim.Native.Nat.{_-_, _^_, _≤_}
 use native.Mathlib.Omega.{arith}
 use lib.ListN.{length}
 use lib.Signed.{ltZ}
 use mir.Syntax.{w32, w64}
 use mir.Val.{toZ, ofZ}
 use mir.Facts.{toZ-ofZ}
-use Rattle.integer.specs.Bound.{Within}
+use Rattle.integer.specs.Bound.{within-widen}
 use Rattle.integer.specs.Machine.{result-is}
 use Rattle.integer.specs.Order.{ltZ-true, ltZ-false}
-use Rattle.plane.specs.Limits.{maxPart}
+use Rattle.plane.specs.Limits.{part-small}
 use Rattle.plane.specs.Point.{point, points, corner}
 use Rattle.plane.specs.Direction.{value as Direction·value, support, furthest}
+use Rattle.polygon.specs.Point.{at, Small}
 use Rattle.polygon.specs.theory.Furthest.{Greatest, greatest-start, greatest-keep, greatest-rise, greatest-support, greatest-furthest}
 use Rattle.polygon.proofs.direction.greatest.Statement.{statement}
 use Rattle.polygon.proofs.direction.greatest.Tie as tie
 
 abbrev Inv-loop : tie.InvT-loop
-Inv-loop list u v n position₀ value₀ i₀ position value i =
-    Greatest (λ k. Direction·value (point (toZ w32 u) (toZ w32 v)) (corner (points list) k)) i position (toZ w64 value) × (i ≤ n)
+Inv-loop list u v d n position₀ value₀ i₀ position value i =
+    Greatest (λ k. Direction·value (at d) (corner (points list) k)) i position (toZ w64 value) × (i ≤ n)
 
 abbrev μ-loop : tie.MeasureT-loop
-μ-loop list u v n position₀ value₀ i₀ position value i = n - i
+μ-loop list u v d n position₀ value₀ i₀ position value i = n - i
 
 count-requires : tie.Need-count-requires Inv-loop μ-loop
 count-requires c κs = tt
 
--- the parts, read back from their bits
-u-near : (c : tie.Start Inv-loop μ-loop) → Within maxPart (toZ w32 (ofZ w32 (c .args .u)))
-u-near c = rw (toZ-ofZ (c .fits .u)) (c .pre .2)
+-- the direction, read back from the bits of its parts
+direction-is : (c : tie.Start Inv-loop μ-loop)
+    → point (toZ w32 (ofZ w32 (c .args .u))) (toZ w32 (ofZ w32 (c .args .v))) ≡ point (c .args .u) (c .args .v)
+direction-is c = ap₂ point (toZ-ofZ (c .fits .u)) (toZ-ofZ (c .fits .v))
 
-v-near : (c : tie.Start Inv-loop μ-loop) → Within maxPart (toZ w32 (ofZ w32 (c .args .v)))
-v-near c = rw (toZ-ofZ (c .fits .v)) (c .pre .3)
+direction-small : (c : tie.Start Inv-loop μ-loop) → Small (2 ^ 21) (point (toZ w32 (ofZ w32 (c .args .u))) (toZ w32 (ofZ w32 (c .args .v))))
+direction-small c =
+    subst (Small (2 ^ 21)) (sym (direction-is c))
+    (record { small-x = within-widen part-small (c .pre .2); small-y = within-widen part-small (c .pre .3) })
 
 value-at-requires : tie.Need-value-at-requires Inv-loop μ-loop
-value-at-requires c κs = let start = c .before in (start .pre .0, start .pre .1, u-near start, v-near start)
+value-at-requires c κs = let start = c .before in (start .pre .0, start .pre .1, direction-small start)
 
 loop-holds : tie.Need-loop-holds Inv-loop μ-loop
-loop-holds c =
-    (greatest-start _ _ (result-is w64 (c .value-at .ok) (c .value-at .ensures)), omega (arith, c .before .count .ensures, c .before .before .pre .0))
+loop-holds c = (
+  greatest-start _ _ (result-is w64 (c .value-at .ok) (c .value-at .ensures)),
+  omega (arith, c .before .count .ensures, c .before .before .pre .0),
+)
 
 value-at-requires-2 : tie.Need-value-at-requires-2 Inv-loop μ-loop
 value-at-requires-2 c κs =
     let start = c .before .before .before .before in
-    (omega (arith, c .before .before .before .count .ensures), start .pre .1, u-near start, v-near start)
+    (omega (arith, c .before .before .before .count .ensures), start .pre .1, direction-small start)
 
 add-i : tie.Need-add-i Inv-loop μ-loop
 add-i c = omega arith
@@ -67,7 +73,7 @@ returns : tie.Need-returns Inv-loop μ-loop
 returns c =
     let at-loop = c .before in
     let start = c .before .before .before .before in
-    let direction = ap₂ point (toZ-ofZ (start .fits .u)) (toZ-ofZ (start .fits .v)) in
+    let direction = direction-is start in
     let end : at-loop .loop .i ≡ length (points (start .args .list .now)) =
     omega (arith, at-loop .before .before .count .ensures, at-loop .loop .inv .1, c .loop-test .left) in (
       greatest-furthest _ _ (at-loop .loop .inv .0) end ∙ ap (λ d. furthest d (points (start .args .list .now))) direction,

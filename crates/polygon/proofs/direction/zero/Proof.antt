@@ -13,12 +13,14 @@ use Rattle.polygon.proofs.direction.zero.Tie as tie
 
 bits : (z : ℤ) → SFits w32 z → eqb (ofZ w32 z) 0 ≡ eqb (natAbs z) 0
 bits (pos n) f = refl
-bits (negsuc n) f = let below : n < 2 ^ 31 = f .sfits in ne-eqb (2 ^ 32 - suc n) 0 (λ e. omega arith) ∙ sym (ne-eqb (suc n) 0 (λ e. omega arith))
+bits (negsuc n) f = let below : n < 2 ^ 31 = f .sfits in ne-eqb (2 ^ 32 - suc n) 0 (λ e. omega arith)
+    ∙ sym (ne-eqb (suc n) 0 (λ e. omega arith))
 
 returns : tie.Need-returns
 returns c =
     let start = c .before in
-    bits _ (start .fits .v) ∙ sym (ap (λ (b : Bool). b && eqb (natAbs (start .args .v)) 0) (sym (bits _ (start .fits .u)) ∙ eq-eqb _ 0 (c .if1 .taken)))
+    bits _ (start .fits .v) ∙ sym (ap (λ (b : Bool). b && eqb (natAbs (start .args .v)) 0)
+    (sym (bits _ (start .fits .u)) ∙ eq-eqb _ 0 (c .if1 .taken)))
 
 returns-2 : tie.Need-returns-2
 returns-2 c =

@@ -21,7 +21,8 @@ returns : tie.Need-returns
 unfolding outside maxCoordinate
 returns c =
     c .beyond .ensures
-    ∙ ap (λ (z : ℤ). ltZ z (negℤ (pos maxCoordinate)) || ltZ (pos maxCoordinate) z) (toZ-ofZ (c .before .fits .z)) ∙ beyond-size maxCoordinate (c .before .args .z)
+    ∙ ap (λ (z : ℤ). ltZ z (negℤ (pos maxCoordinate)) || ltZ (pos maxCoordinate) z) (toZ-ofZ (c .before .fits .z))
+    ∙ beyond-size maxCoordinate (c .before .args .z)
 
 pub outside-spec : {M : Type 1} → statement M
 outside-spec = tie.close (tie.spec sub-beyond beyond-requires returns)

@@ -20,7 +20,8 @@ returns : tie.Need-returns
 unfolding maxPart
 returns c =
     c .beyond .ensures
-    ∙ ap (λ (z : ℤ). ltZ z (negℤ (pos maxPart)) || ltZ (pos maxPart) z) (toZ-ofZ (c .before .fits .z)) ∙ beyond-size maxPart (c .before .args .z)
+    ∙ ap (λ (z : ℤ). ltZ z (negℤ (pos maxPart)) || ltZ (pos maxPart) z) (toZ-ofZ (c .before .fits .z))
+    ∙ beyond-size maxPart (c .before .args .z)
 
 pub outside-part-spec : {M : Type 1} → statement M
 outside-part-spec = tie.close (tie.spec sub-beyond beyond-requires returns)

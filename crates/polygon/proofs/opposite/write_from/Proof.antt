@@ -68,7 +68,8 @@ loop-again c =
     let ps = points (start .args .list .now) in
     let from = at-loop .loop .inv .1 in
     let at = ap (λ (i : ℕ). opposite (corner ps i)) from ∙ sym (mirroredFrom-at ps _ (start .pre .0) _ (below in-loop)) in (
-      subst (λ (out : List ℤ). Filled (start .args .out .now) (numbers (mirroredFrom ps (start .args .start))) (2 * (at-loop .loop .k + 1)) out)
+      subst (λ (out : List ℤ). Filled (start .args .out .now) (numbers (mirroredFrom ps (start .args .start)))
+          (2 * (at-loop .loop .k + 1)) out)
           (sym (c .before .before .write-opposite .ensures))
           (filled-corner (mirroredFrom ps (start .args .start)) (at-loop .loop .k) (at-loop .loop .inv .0)
           (omega (arith, below in-loop, mirroredFrom-length ps (start .args .start) (start .pre .0)))
@@ -89,4 +90,5 @@ returns c =
 pub write-from-spec : {M : Type 1} → statement M
 write-from-spec =
     tie.close
-    (tie.spec Inv-loop μ-loop count-requires loop-holds write-opposite-requires next-requires add-k loop-less loop-again same-length returns)
+    (tie.spec Inv-loop μ-loop count-requires loop-holds write-opposite-requires next-requires add-k loop-less loop-again
+    same-length returns)

@@ -1,6 +1,4 @@
 -- `bad_count` meets its contract.
-use mathlib.Core.Path.{sym}
-use mathlib.Core.Bool.{_||_}
 use borrow.Author.Tests.{eq-eqb, ne-eqb}
 use Rattle.plane.specs.Refusal.{badCount}
 use Rattle.polygon.proofs.rules.bad_count.Statement.{statement}

@@ -1,9 +1,7 @@
 -- `bad_start` meets its contract. The invariant: no corner before c precedes the first; the measure is what is left.
-use mathlib.Core.Path.{_≡_, sym, _∙_, ap}
-use Prim.Native.Nat.{ℕ, _-_, _<_}
+use mathlib.Core.Path.{sym, _∙_}
+use Prim.Native.Nat.{_-_, _<_}
 use native.Mathlib.Omega.{arith}
-use borrow.Author.Tests.{lt-ltb, le-ltb}
-use lib.Dec.{ltb}
 use lib.ListN.{length}
 use Rattle.plane.specs.Point.{points, corner}
 use Rattle.plane.specs.Shape.{precedes}
@@ -35,7 +33,7 @@ returns : tie.Need-returns Inv-loop μ-loop
 unfolding badStart
 returns c =
     let at-loop = c .before .before .before in
-    sym (sought-yes _ _ (at-loop .loop .c) (at-loop .loop .inv) (below (c .before .before)) (sym (c .before .precedes-at .ensures) ∙ c .if1 .taken))
+    sym (sought-yes _ _ (at-loop .loop .c) (below (c .before .before)) (sym (c .before .precedes-at .ensures) ∙ c .if1 .taken))
 
 add-c : tie.Need-add-c Inv-loop μ-loop
 add-c c = omega arith
@@ -46,7 +44,8 @@ loop-less c = omega arith
 loop-again : tie.Need-loop-again Inv-loop μ-loop
 loop-again c =
     let at-loop = c .before .before .before in
-    sought-more _ _ (at-loop .loop .c) (at-loop .loop .inv) (below (c .before .before)) (sym (c .before .precedes-at .ensures) ∙ c .if1 .left)
+    sought-more _ _ (at-loop .loop .c) (at-loop .loop .inv) (below (c .before .before))
+    (sym (c .before .precedes-at .ensures) ∙ c .if1 .left)
 
 returns-2 : tie.Need-returns-2 Inv-loop μ-loop
 unfolding badStart

@@ -1,5 +1,5 @@
 -- `breaks_at` meets its contract: the three parts of the rule in turn.
-use mathlib.Core.Path.{_≡_, sym, _∙_, ap, ap₂, subst}
+use mathlib.Core.Path.{_≡_, sym, _∙_, ap, subst}
 use mathlib.Core.Bool.{not}
 use lib.IntN.{ℤ, pos}
 use lib.ListN.{length}
@@ -21,7 +21,8 @@ next-requires : tie.Need-next-requires
 next-requires c κs = rw (c .count .ensures) (c .before .pre .0)
 
 -- the edge's end, said of the corners
-end-is : (c : tie.After-next) → c .next .result ≡ next (length (points (c .before .before .args .list .now))) (c .before .before .args .edge)
+end-is : (c : tie.After-next)
+    → c .next .result ≡ next (length (points (c .before .before .args .list .now))) (c .before .before .args .edge)
 end-is c = c .next .ensures .0 ∙ ap (λ (n : ℕ). next n (c .before .before .args .edge)) (c .before .count .ensures)
 
 end-below : (c : tie.After-next) → c .next .result < length (points (c .before .before .args .list .now))
@@ -34,7 +35,9 @@ returns-2 : tie.Need-returns-2
 returns-2 c = sym (breaks-end _ _ _ (c .if2 .taken ∙ end-is (c .before .before)))
 
 turn-at-requires : tie.Need-turn-at-requires
-turn-at-requires c κs = let start = c .before .before .before .before in (start .pre .0, end-below (c .before .before), start .pre .1, start .pre .2)
+turn-at-requires c κs =
+    let start = c .before .before .before .before in
+    (start .pre .0, end-below (c .before .before), start .pre .1, start .pre .2)
 
 returns-3 : tie.Need-returns-3
 returns-3 c =

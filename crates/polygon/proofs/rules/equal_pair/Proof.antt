@@ -2,12 +2,10 @@
 use mathlib.Core.Path.{_≡_, sym, _∙_, ap}
 use mathlib.Core.Bool.{Bool, not, _&&_}
 use native.Mathlib.Omega.{arith}
-use borrow.Author.Tests.{eq-eqb, ne-eqb}
-use Prim.Native.Nat.{ℕ}
 use lib.ListN.{length}
 use Rattle.plane.specs.Point.{points, corner}
 use Rattle.plane.specs.Shape.{precedes}
-use Rattle.plane.specs.theory.refusals.Tests.{equalPair-other, equalPair-two}
+use Rattle.plane.specs.theory.refusals.Tests.{equalPair-other, equalPair-neither}
 use Rattle.polygon.proofs.rules.equal_pair.Statement.{statement}
 use Rattle.polygon.proofs.rules.equal_pair.Tie as tie
 
@@ -27,7 +25,7 @@ precedes-at-requires c κs = omega (arith, two c)
 returns-2 : tie.Need-returns-2
 returns-2 c =
     let start = c .before .before .before .before in
-    sym (equalPair-two _ (two (c .before .before))
+    sym (equalPair-neither _ (two (c .before .before))
     ∙ ap (λ (t : Bool). not t && not (precedes (corner (points (start .args .list .now)) 1) (corner (points (start .args .list .now)) 0)))
     (sym (c .before .precedes-at .ensures) ∙ c .if2 .taken))
 
@@ -36,9 +34,10 @@ precedes-at-requires-2 c κs = omega (arith, two (c .before .before))
 
 returns-3 : tie.Need-returns-3
 returns-3 c =
+    let start = c .before .before .before .before .before in
     ap not (c .precedes-at2 .ensures)
-    ∙ sym (equalPair-two _ (two (c .before .before .before))
-    ∙ ap (λ (t : Bool). not t && not (precedes (corner (points (c .before .before .before .before .before .args .list .now)) 1) (corner (points (c .before .before .before .before .before .args .list .now)) 0)))
+    ∙ sym (equalPair-neither _ (two (c .before .before .before))
+    ∙ ap (λ (t : Bool). not t && not (precedes (corner (points (start .args .list .now)) 1) (corner (points (start .args .list .now)) 0)))
     (sym (c .before .before .precedes-at .ensures) ∙ c .before .if2 .left))
 
 pub equal-pair-spec : {M : Type 1} → statement M

@@ -1,5 +1,5 @@
 -- `first_broken` meets its contract: the pair, or the left rule.
-use mathlib.Core.Path.{_≡_, sym, _∙_}
+use mathlib.Core.Path.{sym, _∙_}
 use Rattle.polygon.proofs.LeftRule.{broken-pair, broken-left}
 use Rattle.polygon.proofs.rules.first_broken.Statement.{statement}
 use Rattle.polygon.proofs.rules.first_broken.Tie as tie

@@ -1,15 +1,15 @@
 -- `left_break` meets its contract. The invariants: nothing was found, at no edge before this one, and at this edge at no corner before
 -- this one; the measures are what is left.
 use mathlib.Core.Path.{_≡_, refl, sym, _∙_}
-use Prim.Native.Nat.{ℕ, _-_, _<_}
+use Prim.Native.Nat.{_-_, _<_}
 use native.Mathlib.Omega.{arith}
 use lib.ListN.{length}
 use Rattle.plane.specs.Point.{points}
 use Rattle.plane.specs.Search.{some}
 use Rattle.plane.specs.Shape.{breaks}
-use Rattle.plane.specs.Refusal.{leftBroken, breakingEdge, breakingCorner}
-use Rattle.plane.specs.theory.lists.Sought.{Sought, sought-start, sought-more, sought-found, sought-some, sought-never}
-use Rattle.polygon.specs.declared.rules.Broken.the-variants.{At, Nowhere}
+use Rattle.plane.specs.Refusal.{leftBroken, breakingEdge}
+use Rattle.plane.specs.theory.lists.Sought.{Sought, sought-start, sought-more, sought-found, sought-yes, sought-no}
+use Rattle.polygon.specs.declared.rules.Broken.the-variants.{Nowhere}
 use Rattle.polygon.proofs.LeftRule.{left-break-at, left-break-nowhere}
 use Rattle.polygon.proofs.rules.left_break.Statement.{statement}
 use Rattle.polygon.proofs.rules.left_break.Tie as tie
@@ -37,7 +37,8 @@ loop-holds : tie.Need-loop-holds Inv-loop μ-loop Inv-edges μ-edges
 loop-holds c = (c .before .edges .inv .0, sought-start _ _)
 
 -- the loops' tests, said of the corners
-edge-below : (c : tie.In-edges Inv-loop μ-loop Inv-edges μ-edges) → c .before .edges .edge < length (points (c .before .before .before .args .list .now))
+edge-below : (c : tie.In-edges Inv-loop μ-loop Inv-edges μ-edges)
+    → c .before .edges .edge < length (points (c .before .before .before .args .list .now))
 edge-below c = omega (arith, c .before .before .count .ensures)
 
 corner-below : (c : tie.In-loop Inv-loop μ-loop Inv-edges μ-edges)
@@ -57,7 +58,8 @@ loop-again : tie.Need-loop-again Inv-loop μ-loop Inv-edges μ-edges
 loop-again c =
     let at-loop = c .before .before .before in (
       at-loop .loop .inv .0,
-      sought-more _ _ (at-loop .loop .corner) (at-loop .loop .inv .1) (corner-below (c .before .before)) (sym (c .before .breaks-at .ensures) ∙ c .if1 .left),
+      sought-more _ _ (at-loop .loop .corner) (at-loop .loop .inv .1) (corner-below (c .before .before))
+          (sym (c .before .breaks-at .ensures) ∙ c .if1 .left),
     )
 
 add-edge : tie.Need-add-edge Inv-loop μ-loop Inv-edges μ-edges
@@ -72,7 +74,7 @@ edges-again c =
     let at-edges = c .before .before .before in (
       at-loop .loop .inv .0,
       sought-more _ _ (at-edges .edges .edge) (at-edges .edges .inv .1) (edge-below (c .before .before))
-          (sought-never _ _ (at-loop .loop .corner) (at-loop .loop .inv .1) (omega (arith, at-edges .before .count .ensures))),
+          (sought-no _ _ (at-loop .loop .corner) (at-loop .loop .inv .1) (omega (arith, at-edges .before .count .ensures))),
     )
 
 returns : tie.Need-returns Inv-loop μ-loop Inv-edges μ-edges
@@ -80,7 +82,8 @@ unfolding leftBroken
 returns c =
     let at-edges = c .before in
     at-edges .edges .inv .0
-    ∙ left-break-nowhere (points (at-edges .before .before .args .list .now)) (sought-never _ _ (at-edges .edges .edge) (at-edges .edges .inv .1) (omega (arith, at-edges .before .count .ensures)))
+    ∙ left-break-nowhere (points (at-edges .before .before .args .list .now))
+    (sought-no _ _ (at-edges .edges .edge) (at-edges .edges .inv .1) (omega (arith, at-edges .before .count .ensures)))
 
 returns-2 : tie.Need-returns-2 Inv-loop μ-loop Inv-edges μ-edges
 unfolding leftBroken breakingEdge
@@ -90,9 +93,9 @@ returns-2 c =
     let here = sym (c .before .breaks-at .ensures) ∙ c .if1 .taken in
     let corner-in = corner-below (c .before .before) in
     let edge-in = edge-below (at-loop .before) in
-    let at-edge = sought-some _ _ (at-loop .loop .corner) corner-in here in
+    let at-edge = sought-yes _ _ (at-loop .loop .corner) corner-in here in
     left-break-at (points (at-edges .before .before .args .list .now)) (at-edges .edges .edge) (at-loop .loop .corner)
-    (sought-some _ _ (at-edges .edges .edge) edge-in at-edge)
+    (sought-yes _ _ (at-edges .edges .edge) edge-in at-edge)
     (sought-found _ _ (at-edges .edges .edge) (at-edges .edges .inv .1) edge-in at-edge)
     (sought-found _ _ (at-loop .loop .corner) (at-loop .loop .inv .1) corner-in here)
 

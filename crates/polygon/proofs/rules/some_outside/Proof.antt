@@ -1,15 +1,14 @@
 -- `some_outside` meets its contract. The invariant: no coordinate before i is out of range; the measure is what is left.
 use mathlib.Core.Path.{_≡_, sym, _∙_, ap}
-use Prim.Native.Nat.{ℕ, _-_}
+use Prim.Native.Nat.{_-_}
 use native.Mathlib.Omega.{arith}
 use borrow.Author.Needs.{sfits-of}
-use borrow.Author.Tests.{lt-ltb, le-ltb}
-use lib.Dec.{ltb}
 use lib.IntN.{pos}
 use lib.ListN.{length, getD}
 use mir.Facts.{toZ-ofZ}
-use Rattle.plane.specs.Refusal.{outside, someOutside}
-use Rattle.plane.specs.theory.lists.Sought.{Sought, sought-start, sought-more, sought-yes, sought-no}
+use Rattle.plane.specs.Refusal.{outside}
+use Rattle.plane.specs.theory.lists.Sought.{Sought, sought-start, sought-more}
+use Rattle.plane.specs.theory.refusals.Tests.{outside-found, outside-none}
 use Rattle.polygon.proofs.rules.some_outside.Statement.{statement}
 use Rattle.polygon.proofs.rules.some_outside.Tie as tie
 
@@ -37,8 +36,9 @@ told : (c : tie.After-outside Inv-loop μ-loop)
 told c = c .outside .ensures ∙ ap outside (toZ-ofZ (sfits-of (c .before .outside-arg .given)))
 
 returns : tie.Need-returns Inv-loop μ-loop
-unfolding someOutside
-returns c = let at-loop = c .before .before .before .before in sym (sought-yes _ _ (at-loop .loop .i) (at-loop .loop .inv) (c .before .before .before .loop-test .taken) (sym (told (c .before)) ∙ c .if1 .taken))
+returns c =
+    let at-loop = c .before .before .before .before in
+    sym (outside-found _ (at-loop .loop .i) (c .before .before .before .loop-test .taken) (sym (told (c .before)) ∙ c .if1 .taken))
 
 add-i : tie.Need-add-i Inv-loop μ-loop
 add-i c = omega arith
@@ -47,11 +47,13 @@ loop-less : tie.Need-loop-less Inv-loop μ-loop
 loop-less c = omega arith
 
 loop-again : tie.Need-loop-again Inv-loop μ-loop
-loop-again c = let at-loop = c .before .before .before .before in sought-more _ _ (at-loop .loop .i) (at-loop .loop .inv) (c .before .before .before .loop-test .taken) (sym (told (c .before)) ∙ c .if1 .left)
+loop-again c =
+    let at-loop = c .before .before .before .before in
+    let test = c .before .before .before .loop-test .taken in
+    sought-more _ _ (at-loop .loop .i) (at-loop .loop .inv) test (sym (told (c .before)) ∙ c .if1 .left)
 
 returns-2 : tie.Need-returns-2 Inv-loop μ-loop
-unfolding someOutside
-returns-2 c = sym (sought-no _ _ (c .before .loop .i) (c .before .loop .inv) (c .loop-test .left))
+returns-2 c = sym (outside-none _ (λ k h. c .before .loop .inv .none k (omega (arith, c .loop-test .left))))
 
 pub some-outside-spec : {M : Type 1} → statement M
 some-outside-spec =

@@ -1,14 +1,13 @@
 -- `admit` meets its contract: each test is a row of the table, and the rows before it did not apply.
 use mathlib.Core.Path.{_≡_, sym, _∙_, ap₂}
 use mathlib.Core.Bool.{false}
-use mathlib.Core.List.{List, [], _∷_}
+use mathlib.Core.List.{[], _∷_}
 use Prim.Native.Nat.{ℕ}
 use borrow.Author.Needs.{needs}
-use lib.IntN.{ℤ}
 use Rattle.plane.specs.Point.{points}
 use Rattle.plane.specs.Reply.{refused}
-use Rattle.plane.specs.Refusal.{badCount, tooMany, someOutside, ruleBroken, badStart}
-use Rattle.plane.specs.theory.refusals.Accept.{inside→inRange, accepted→valid}
+use Rattle.plane.specs.Refusal.{badCount, tooMany, someOutside, ruleBroken}
+use Rattle.plane.specs.theory.refusals.Accept.{near→inRange, accepted→valid}
 use Rattle.polygon.proofs.LeftRule.{broken-found, broken-none}
 use Rattle.questions.proofs.admission.admit.Statement.{statement}
 use Rattle.questions.proofs.admission.admit.Tie as tie
@@ -25,7 +24,8 @@ row-3 : (c : tie.Else3) → someOutside (c .before .before .before .before .befo
 row-3 c = sym (c .before .some-outside .ensures) ∙ c .if3 .left
 
 -- past the search for a broken edge there is none
-row-4 : (c : tie.After-enum-told) → ruleBroken (points (c .before .before .before .before .before .before .before .before .before .args .list .now)) ≡ false
+row-4 : (c : tie.After-enum-told) → ruleBroken
+    (points (c .before .before .before .before .before .before .before .before .before .args .list .now)) ≡ false
 row-4 c = broken-none _ (sym (c .before .before .first-broken .ensures) ∙ c .enum-told .given .1)
 
 -- ---- the needs
@@ -51,7 +51,7 @@ returns-3 c =
     record { whatever = λ x. rw (row-1 (at-2 .before .before), row-2 at-2, sym (c .before .some-outside .ensures) ∙ c .if3 .taken) }
 
 first-broken-requires : tie.Need-first-broken-requires
-first-broken-requires c κs = inside→inRange _ (row-3 c)
+first-broken-requires c κs = near→inRange _ (row-3 c)
 
 enum-known-edge : tie.Need-enum-known-edge
 enum-known-edge c = search needs
@@ -78,7 +78,16 @@ returns-5 c =
     let at-4 = c .before .before in
     let at-3 = at-4 .before .before .before in
     let at-2 = at-3 .before .before in
-    record { whatever = λ x. rw (row-1 (at-2 .before .before), row-2 at-2, row-3 at-3, row-4 at-4, sym (c .before .bad-start .ensures) ∙ c .if4 .taken) }
+    record {
+      whatever = λ x. rw (
+        row-1 (at-2 .before .before),
+        row-2 at-2,
+        row-3 at-3,
+        row-4 at-4,
+        sym (c .before .bad-start .ensures)
+            ∙ c .if4 .taken,
+      );
+    }
 
 returns-6 : tie.Need-returns-6
 returns-6 c =

@@ -1,8 +1,8 @@
 -- `admit_pair` meets its contract: the first list's refusal is given before the second's.
 use mathlib.Core.Path.{subst}
 use borrow.Author.Needs.{needs}
-use Rattle.plane.specs.Refusal.{shapeRows, Valid}
-use Rattle.questions.specs.Admission.{Admitted, AdmittedPair, Refuses}
+use Rattle.plane.specs.Refusal.{shapeRows}
+use Rattle.questions.specs.Admission.{Admitted}
 use Rattle.questions.specs.theory.Rows.{refuses-more, admitted-pair}
 use Rattle.questions.proofs.admission.admit_pair.Statement.{statement}
 use Rattle.questions.proofs.admission.admit_pair.Tie as tie
@@ -29,7 +29,9 @@ returns-2 : tie.Need-returns-2
 returns-2 c =
     let at-told = c .before in
     let start = at-told .before .before .before in
-    admitted-pair (start .args .a .now) (start .args .b .now) (subst (Admitted 1 _) (at-told .enum-told .given .1) (at-told .before .before .admit .ensures)) (c .admit2 .result) (c .admit2 .ensures)
+    admitted-pair (start .args .a .now) (start .args .b .now)
+    (subst (Admitted 1 _) (at-told .enum-told .given .1) (at-told .before .before .admit .ensures)) (c .admit2 .result)
+    (c .admit2 .ensures)
 
 pub admit-pair-spec : {M : Type 1} → statement M
 admit-pair-spec = tie.close (tie.spec admit-requires enum-known-refusal returns enum-told admit-requires-2 returns-2)

@@ -1,14 +1,9 @@
 -- `deliver` meets its contract: refusals 6, 7 and 8 in their order, and a copy makes the answer.
-use mathlib.Core.Path.{_≡_, sym, _∙_, ap}
+use mathlib.Core.Path.{_≡_, sym, _∙_}
 use mathlib.Core.Bool.{false}
-use mathlib.Core.List.{List, [], _∷_}
-use Prim.Native.Nat.{ℕ}
 use native.Mathlib.Omega.{arith}
 use borrow.Author.Needs.{needs}
-use lib.IntN.{ℤ, pos}
-use lib.ListN.{length}
 use Rattle.plane.specs.Point.{points, numbers}
-use Rattle.plane.specs.Reply.{answered}
 use Rattle.plane.specs.Refusal.{tooMany, someOutside}
 use Rattle.plane.specs.theory.refusals.Write.{wrote-many, wrote-far}
 use Rattle.questions.specs.theory.Delivery.{numbers-outside, little-room, all-delivered}
@@ -34,14 +29,16 @@ some-outside-requires c κs = search needs
 returns-2 : tie.Need-returns-2
 returns-2 c =
     let start = c .before .before .before .before in
-    let w = wrote-far (row-6 (c .before .before)) (numbers-outside _ (start .pre) (sym (c .before .some-outside .ensures) ∙ c .if2 .taken)) in
+    let w = wrote-far (row-6 (c .before .before))
+    (numbers-outside _ (start .pre) (sym (c .before .some-outside .ensures) ∙ c .if2 .taken)) in
     (w .reply-is, w .output-is)
 
 returns-3 : tie.Need-returns-3
 returns-3 c =
     let at-7 = c .before in
     let start = at-7 .before .before .before .before in
-    let w = little-room (start .args .shape .now) (start .pre) (start .args .out .now) (row-6 (at-7 .before .before)) (row-7 at-7) (c .if3 .taken) in (w .reply-is, w .output-is)
+    let w = little-room (start .args .shape .now) (start .pre) (start .args .out .now) (row-6 (at-7 .before .before)) (row-7 at-7)
+    (c .if3 .taken) in (w .reply-is, w .output-is)
 
 copy-requires : tie.Need-copy-requires
 copy-requires c κs = search needs

@@ -7,7 +7,8 @@ use lib.Dec.{ltb}
 use lib.ListN.{length}
 use Rattle.plane.specs.Point.{points}
 use Rattle.plane.specs.VectorSum.{vectorSum}
-use Rattle.separation.specs.Around.{some, rightOf, placed}
+use Rattle.plane.specs.Search.{some}
+use Rattle.separation.specs.Around.{rightOf, placed}
 use Rattle.separation.proofs.around.around.Statement.{statement}
 use Rattle.separation.proofs.around.around.Tie as tie
 

@@ -5,7 +5,7 @@ use mir.Syntax.{w64}
 use mir.Val.{toZ, ofZ}
 use mir.Facts.{toZ-ofZ}
 use Rattle.integer.specs.Order.{ltZ-true, ltZ-false}
-use Rattle.separation.specs.theory.Nearest.{min-left, min-right}
+use Rattle.plane.specs.theory.lists.Max.{min-left, min-right}
 use Rattle.separation.proofs.nearest.lesser.Statement.{statement}
 use Rattle.separation.proofs.nearest.lesser.Tie as tie
 

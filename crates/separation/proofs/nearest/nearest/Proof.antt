@@ -6,7 +6,8 @@ use mir.Syntax.{w64}
 use mir.Val.{toZ}
 use Rattle.integer.specs.Machine.{result-is}
 use Rattle.plane.specs.Point.{points}
-use Rattle.separation.specs.Nearest.{min, nearestTo, nearest}
+use Rattle.plane.specs.Direction.{min}
+use Rattle.separation.specs.Nearest.{nearestTo, nearest}
 use Rattle.separation.specs.theory.Nearest.{Running, running-start, running-more, running-end}
 use Rattle.separation.proofs.nearest.nearest.Statement.{statement}
 use Rattle.separation.proofs.nearest.nearest.Tie as tie

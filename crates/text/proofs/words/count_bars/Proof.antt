@@ -1,4 +1,5 @@
--- `count_bars` is safe and ends. The invariant: `i` is within the line, and no more bars than bytes are passed. The measure: what is left of the line.
+-- `count_bars` is safe and ends. The invariant: `i` is within the line, and no more bars than bytes are passed. The measure: what is left
+-- of the line.
 use Prim.Native.Nat.{_≤_, _-_}
 use lib.ListN.{length}
 use mathlib.Core.Logic.{⊎-elim}

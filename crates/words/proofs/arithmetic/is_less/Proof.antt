@@ -1,6 +1,6 @@
 -- `is_less` meets its contract. The invariant: from word i on the numbers agree; the measure is i.
 use mathlib.Core.Path.{_≡_}
-use Prim.Native.Nat.{_-_, _≤_}
+use Prim.Native.Nat.{_≤_}
 use native.Mathlib.Omega.{arith}
 use borrow.Author.Needs.{needs}
 use lib.ListN.{length, drop}

@@ -1,0 +1,183 @@
+-- The greatest turn against an edge, as a support: with d the direction out of the edge, the turn of a corner is the value of d at its
+-- opposite, up to a number that the edge alone fixes.
+--     quarterBack e, quarter-quarterBack      the direction out of the edge e; turned left by a quarter it is e
+--     edgeOf ps e                     the edge that leaves corner e
+--     edgeTurn-value, height-support   the turn, and the greatest turn, by values of the direction out of the edge
+--     height-above, height-had          no turn is above it; some corner has it
+--     furthest-height, height-furthest  a corner has the greatest turn exactly if its opposite is furthest in the mirror image
+--     height-positive, edgeSquared-positive     of a shape with three corners or more
+--     Facing ps e c                            c is the first corner of greatest turn; `facing-only`, `facing-either`: of one, or of two
+--     facing-width                             against the edge of the width it is widthCorner
+--     width-facing, width-earlier              and widthCorner is such a corner; before it all turns are less
+use mathlib.Core.Path.{_≡_, refl, sym, _∙_, ap}
+use mathlib.Core.Bool.{Bool, true, false, cond}
+use mathlib.Core.List.{List, [], _∷_}
+use mathlib.Core.Logic.{_⊎_, inl, inr}
+use Prim.Native.Nat.{ℕ, _+_, _≤_, _<_}
+use native.Mathlib.Omega.{arith}
+use borrow.Author.Tests.{eqb-true, eqb-false}
+use lib.Dec.{eqb}
+use lib.IntN.{ℤ, pos, negℤ, _+ℤ_}
+use lib.ListN.{length}
+use lib.Signed.{_≤ℤ_, _<ℤ_, leZ, clashℤ}
+use Rattle.integer.specs.Ring.{ring, reify}
+use Rattle.integer.specs.Linear.{lia, linear, _&_}
+use Rattle.integer.specs.Order.{le-of-eq, le-antisym, le-leZ, lt-leZ, leZ-true, leZ-false, contra<}
+use Rattle.plane.specs.Point.{Point, point, corner, _⊖_, opposite}
+use Rattle.plane.specs.Turn.{turn, Left}
+use Rattle.plane.specs.Shape.{next, IsShape}
+use Rattle.plane.specs.Direction.{value, support}
+use Rattle.plane.specs.Corner.{mirrored}
+use Rattle.plane.specs.Measure.{greatest, edgeTurn, height, edgeSquared, widthEdge, widthCorner}
+use Rattle.plane.specs.theory.lists.Members.{point-path, position-member, member-position, mirrored-member, member-mirrored, mirrored-some}
+use Rattle.plane.specs.theory.forms.Vector.{quarter, turn-stay}
+use Rattle.plane.specs.theory.support.Support.{value-le-support, support-attained}
+use Rattle.plane.specs.theory.lists.Sought.{first-true, first-least, first-at-most, first-unique}
+use Rattle.plane.specs.theory.lists.Greatest.{greatest-above, greatest-attained, greatest-le}
+use Rattle.plane.specs.theory.forms.Squared.{squared-positive}
+use Rattle.measure.specs.Comparison.{Facing}
+use Rattle.plane.specs.theory.sum.Positions.{edgeOf}
+
+-- the edge turned right by a quarter
+abbrev pub quarterBack : Point → Point
+quarterBack e = point (e .y) (negℤ (e .x))
+
+pub quarter-quarterBack : (e : Point) → quarter (quarterBack e) ≡ e
+quarter-quarterBack e = point-path (ring (e .x ∷ []) (search reify depth 40) tt) refl
+
+-- cross (b - a) (c - a), taken apart
+turn-value : (a b c : Point) → turn a b c ≡ value (quarterBack (b ⊖ a)) (opposite c) +ℤ value (quarterBack (b ⊖ a)) a
+unfolding turn value
+turn-value a b c = ring (a .x ∷ a .y ∷ b .x ∷ b .y ∷ c .x ∷ c .y ∷ []) (search reify depth 40) tt
+
+module _ (ps : List Point) (e : ℕ) where
+  pub edgeTurn-value : (c : ℕ)
+      → edgeTurn ps e c ≡ value (quarterBack (edgeOf ps e)) (opposite (corner ps c)) +ℤ value (quarterBack (edgeOf ps e)) (corner ps e)
+  unfolding edgeTurn
+  edgeTurn-value c = turn-value (corner ps e) (corner ps (next (length ps) e)) (corner ps c)
+
+  pub height-above : (c : ℕ) → c < length ps → edgeTurn ps e c ≤ℤ height ps e
+  unfolding height
+  height-above c h = greatest-above (edgeTurn ps e) (length ps) c h
+
+  pub height-had : 0 < length ps → (c : ℕ) × (c < length ps) × (height ps e ≡ edgeTurn ps e c)
+  unfolding height
+  height-had h = greatest-attained (edgeTurn ps e) (length ps) h
+
+  pub height-support : 0 < length ps
+      → height ps e ≡ support (quarterBack (edgeOf ps e)) (mirrored ps) +ℤ value (quarterBack (edgeOf ps e)) (corner ps e)
+  unfolding height
+  height-support some = le-antisym (greatest-le (edgeTurn ps e) (length ps) some below) above
+    where
+      d : Point
+      d = quarterBack (edgeOf ps e)
+
+      below : (c : ℕ) → c < length ps → edgeTurn ps e c ≤ℤ (support d (mirrored ps) +ℤ value d (corner ps e))
+      below c h = lia (edgeTurn ps e c ∷ value d (opposite (corner ps c)) ∷ support d (mirrored ps) ∷ value d (corner ps e) ∷ [])
+          (edgeTurn-value c & value-le-support d (mirrored-member (position-member ps c h))) (search linear depth 40) (omega arith)
+
+      above : (support d (mirrored ps) +ℤ value d (corner ps e)) ≤ℤ greatest (edgeTurn ps e) (length ps)
+      above =
+          let r = support-attained d (mirrored ps) (mirrored-some ps some) in
+          let a = member-mirrored ps (r .at-in) in
+          let c = member-position (a .1) in
+          let same : value d (opposite (corner ps (c .0))) ≡ support d (mirrored ps) =
+          ap (λ (p : Point). value d (opposite p)) (c .2) ∙ ap (value d) (a .2) ∙ r .at-value in
+          let k = c .0 in
+          let top = greatest (edgeTurn ps e) (length ps) in
+          lia (edgeTurn ps e k ∷ value d (opposite (corner ps k)) ∷ support d (mirrored ps) ∷ value d (corner ps e) ∷ top ∷ [])
+          (edgeTurn-value k & same & greatest-above (edgeTurn ps e) (length ps) k (c .1)) (search linear depth 40) (omega arith)
+
+  -- a corner has the greatest turn exactly if its opposite is furthest in the mirror image
+  module _ (some : 0 < length ps) (c : ℕ) where
+    -- what the two facts speak of
+    abbrev numbers : List ℤ
+    numbers = edgeTurn ps e c ∷ height ps e ∷ value (quarterBack (edgeOf ps e)) (opposite (corner ps c))
+        ∷ support (quarterBack (edgeOf ps e)) (mirrored ps) ∷ value (quarterBack (edgeOf ps e)) (corner ps e) ∷ []
+
+    pub furthest-height : value (quarterBack (edgeOf ps e)) (opposite (corner ps c)) ≡ support (quarterBack (edgeOf ps e)) (mirrored ps)
+        → edgeTurn ps e c ≡ height ps e
+    furthest-height h = lia numbers (h & edgeTurn-value c & height-support some) (search linear depth 40) (omega arith)
+
+    pub height-furthest : edgeTurn ps e c ≡ height ps e
+        → value (quarterBack (edgeOf ps e)) (opposite (corner ps c)) ≡ support (quarterBack (edgeOf ps e)) (mirrored ps)
+    height-furthest h = lia numbers (h & edgeTurn-value c & height-support some) (search linear depth 40) (omega arith)
+
+-- ---- a shape with three corners or more
+
+-- a corner that is no end of the edge: the one after its end, on the way round
+third : (n e : ℕ) → 2 < n → e < n → (c : ℕ) × (c < n) × (c ≡ e → ⊥) × (c ≡ next n e → ⊥)
+third n e h k = go (eqb (e + 1) n) refl (eqb (e + 2) n) refl
+  where
+    go : (s : Bool) → eqb (e + 1) n ≡ s → (t : Bool) → eqb (e + 2) n ≡ t
+        → (c : ℕ) × (c < n) × (c ≡ e → ⊥) × (c ≡ cond s 0 (e + 1) → ⊥)
+    go true p t q = (1, omega arith, λ r. omega (arith, eqb-true (e + 1) n p), λ r. omega arith)
+    go false p true q = (0, omega arith, λ r. omega (arith, eqb-true (e + 2) n q), λ r. omega arith)
+    go false p false q = (e + 2, omega (arith, eqb-false (e + 1) n p, eqb-false (e + 2) n q), λ r. omega arith, λ r. omega arith)
+
+module _ (ps : List Point) (s : IsShape ps) (long : 2 < length ps) (e : ℕ) (h : e < length ps) where
+  third-left : (c : ℕ) × (c < length ps) × Left (corner ps e) (corner ps (next (length ps) e)) (corner ps c)
+  third-left = let c = third (length ps) e long h in (c .0, c .1, s .left e (c .0) h (c .1) (c .2) (c .3))
+
+  pub height-positive : pos 0 <ℤ height ps e
+  unfolding edgeTurn
+  height-positive = let c = third-left in
+      lia (turn (corner ps e) (corner ps (next (length ps) e)) (corner ps (c .0)) ∷ height ps e ∷ [])
+      (c .2 & height-above ps e (c .0) (c .1)) (search linear depth 40) (omega arith)
+
+  pub edgeSquared-positive : pos 0 <ℤ edgeSquared ps e
+  unfolding edgeSquared
+  edgeSquared-positive = squared-positive (corner ps e) (corner ps (next (length ps) e)) (λ q. go q third-left)
+    where
+      go : corner ps e ≡ corner ps (next (length ps) e)
+          → (c : ℕ) × (c < length ps) × Left (corner ps e) (corner ps (next (length ps) e)) (corner ps c) → ⊥
+      go q c =
+          let a = corner ps e in
+          let b = corner ps (next (length ps) e) in
+          let flat : turn a b (corner ps (c .0)) ≡ pos 0 = rw q (turn-stay b (corner ps (c .0))) in
+          lia (turn a b (corner ps (c .0)) ∷ []) (c .2 & flat) (search linear depth 40) (omega arith)
+
+-- ---- the first corner of greatest turn
+
+module _ {ps : List Point} {e c : ℕ} (h : c < length ps) (has : edgeTurn ps e c ≡ height ps e) where
+  -- no other has it
+  pub facing-only : ((k : ℕ) → k < length ps → edgeTurn ps e k ≡ height ps e → k ≡ c) → Facing ps e c
+  facing-only only = record { within = h; has = has; sole = λ k l q. omega (arith, only k (omega arith) q) }
+
+  -- one other at most has it, and it stands no earlier
+  pub facing-either : (b : ℕ) → c ≤ b → ((k : ℕ) → k < length ps → edgeTurn ps e k ≡ height ps e → (k ≡ c) ⊎ (k ≡ b)) → Facing ps e c
+  facing-either b l two = record { within = h; has = has; sole = λ k m q. go k m (two k (omega arith) q) }
+    where
+      go : (k : ℕ) → k < c → (k ≡ c) ⊎ (k ≡ b) → ⊥
+      go k m (inl r) = omega arith
+      go k m (inr r) = omega arith
+
+pub facing-width : {ps : List Point} {e c : ℕ} → widthEdge ps ≡ e → Facing ps e c → widthCorner ps ≡ c
+unfolding widthCorner
+facing-width {ps} {e} {c} best f = rw best (first-unique (λ k. leZ (height ps e) (edgeTurn ps e k)) (length ps) c (omega (arith, f .within))
+    (λ q. le-leZ (le-of-eq (sym (f .has)))) (λ k l. lt-leZ (contra< (λ g. f .sole k l (le-antisym (height-above ps e k (below k l)) g)))))
+  where
+    below : (k : ℕ) → k < c → k < length ps
+    below k l = omega (arith, f .within)
+
+-- ---- widthCorner is that corner
+
+module _ (ps : List Point) where
+  tests : ℕ → Bool
+  tests c = leZ (height ps (widthEdge ps)) (edgeTurn ps (widthEdge ps) c)
+
+  pub width-earlier : (c : ℕ) → c < widthCorner ps → edgeTurn ps (widthEdge ps) c <ℤ height ps (widthEdge ps)
+  unfolding widthCorner tests
+  width-earlier c h = leZ-false (first-least tests (length ps) c h)
+
+  pub width-facing : 0 < length ps → Facing ps (widthEdge ps) (widthCorner ps)
+  unfolding widthCorner tests
+  width-facing some =
+      let top = height-had ps (widthEdge ps) some in
+      let found : widthCorner ps < length ps =
+      omega (arith, first-at-most tests (length ps) (top .0) (le-leZ (le-of-eq (top .2))), top .1) in
+      record {
+        within = found;
+        has = le-antisym (height-above ps (widthEdge ps) (widthCorner ps) found) (leZ-true (first-true tests (length ps) found));
+        sole = λ k l e. clashℤ (width-earlier k l) (le-of-eq (sym e));
+      }

@@ -1,0 +1,84 @@
+//! One function for each question: from what its line gave to the words behind `ok`, or a refusal.
+//! The shapes are judged first, in order; then the question itself may refuse, then the room.
+
+use crate::combine::{self, held_by};
+use crate::measure;
+use crate::plane::Shape;
+use crate::refusal::Refusal;
+use crate::separation::{self, Relation};
+use crate::text::given::Given;
+
+pub type Answer = Result<String, Refusal>;
+
+pub fn judge(given: &Given) -> Answer {
+    let [a] = given.shapes()?;
+    Ok(a.len().to_string())
+}
+
+pub fn furthest(given: &Given) -> Answer {
+    let [a] = given.shapes()?;
+    let (corner, value) = measure::furthest(&a, given.direction())?;
+    Ok(format!("{corner} {value}"))
+}
+
+pub fn mirror(given: &Given) -> Answer {
+    let [a] = given.shapes()?;
+    written(given, combine::mirror(&a))
+}
+
+pub fn sum(given: &Given) -> Answer {
+    let [a, b] = given.shapes()?;
+    written(given, combine::sum(&a, &b)?)
+}
+
+pub fn merge(given: &Given) -> Answer {
+    let [a, b] = given.shapes()?;
+    written(given, combine::merge(&a, &b)?)
+}
+
+pub fn length(given: &Given) -> Answer {
+    let [a] = given.shapes()?;
+    let (squared, i, j) = measure::length(&a);
+    Ok(format!("{squared} {i} {j}"))
+}
+
+pub fn width(given: &Given) -> Answer {
+    let [a] = given.shapes()?;
+    let found = measure::width(&a)?;
+    Ok(format!(
+        "{} {} {} {} {}",
+        found.edge, found.corner, found.t, found.q, found.w
+    ))
+}
+
+pub fn relation(given: &Given) -> Answer {
+    let [a, b] = given.shapes()?;
+    let word = match separation::relation(&a, &b) {
+        Relation::Apart => "apart",
+        Relation::Touching => "touching",
+        Relation::Overlapping => "overlapping",
+    };
+    Ok(word.to_string())
+}
+
+pub fn inside(given: &Given) -> Answer {
+    let [a, b] = given.shapes()?;
+    let word = if separation::inside(&a, &b) {
+        "yes"
+    } else {
+        "no"
+    };
+    Ok(word.to_string())
+}
+
+pub fn clearance(given: &Given) -> Answer {
+    let [a, b] = given.shapes()?;
+    Ok(separation::clearance(&a, &b).to_string())
+}
+
+/// The shape as it stands in the lent output, if that has the room.
+fn written(given: &Given, shape: Shape) -> Answer {
+    let shape = held_by(given.room(), shape)?;
+    let numbers: Vec<String> = shape.iter().map(|c| format!("{} {}", c.x, c.y)).collect();
+    Ok(format!("{} | {}", shape.len(), numbers.join(" ")))
+}

@@ -1,0 +1,120 @@
+//! Holds the answers of another program against this one's.
+
+use crate::answer::answer;
+use crate::text::lines;
+use std::io::{self, Write};
+
+/// So many differences are told; a long line is told up to so many characters.
+const MOST_TOLD: usize = 10;
+const MOST_SHOWN: usize = 400;
+
+#[derive(Debug, Default)]
+pub struct Comparison {
+    pub compared: usize,
+    pub different: usize,
+    told: Vec<String>,
+}
+
+impl Comparison {
+    /// Compares an answer line with what it should be; either may be missing.
+    fn add(&mut self, question: &str, expected: Option<&[u8]>, got: Option<&[u8]>) {
+        if expected == got {
+            return;
+        }
+        self.different += 1;
+        if self.told.len() < MOST_TOLD {
+            let (expected, got) = (shown(expected), shown(got));
+            self.told.push(format!(
+                "{question}\n  expected {expected}\n  got      {got}"
+            ));
+        }
+    }
+
+    pub fn tell(&self, mut to: impl Write) -> io::Result<()> {
+        for difference in &self.told {
+            writeln!(to, "{difference}")?;
+        }
+        let (compared, different) = (self.compared, self.different);
+        writeln!(
+            to,
+            "second: {compared} answers compared, {different} differ"
+        )
+    }
+}
+
+/// Answers the questions and compares; the answers stand in the questions' order, one a line.
+pub fn compare(questions: &[u8], answers: &[u8]) -> Comparison {
+    let mut comparison = Comparison::default();
+    let mut got = answers.split_inclusive(|&byte| byte == b'\n');
+    for (number, line) in lines::questions(questions) {
+        let question = format!("line {number}: {}", shown(Some(line)));
+        comparison.compared += 1;
+        let expected = answer(line) + "\n";
+        comparison.add(&question, Some(expected.as_bytes()), got.next());
+    }
+    for surplus in got {
+        comparison.add("behind the last question", None, Some(surplus));
+    }
+    comparison
+}
+
+fn shown(line: Option<&[u8]>) -> String {
+    let Some(line) = line else {
+        return "(nothing)".to_string();
+    };
+    let front = &line[..line.len().min(MOST_SHOWN)];
+    let rest = line.len() - front.len();
+    let text = front.escape_ascii();
+    if rest > 0 {
+        format!("{text} .. and {rest} characters more")
+    } else {
+        text.to_string()
+    }
+}
+
+#[cfg(test)]
+mod tests {
+    use super::*;
+
+    const QUESTIONS: &[u8] = b"\n# two\njudge | 0 0\nrelation | 0 0 | 1 0\n";
+
+    fn told(answers: &[u8]) -> (usize, String) {
+        let comparison = compare(QUESTIONS, answers);
+        let mut text = Vec::new();
+        comparison.tell(&mut text).expect("a vector takes all");
+        let text = String::from_utf8(text).expect("what is told is plain text");
+        (comparison.different, text)
+    }
+
+    #[test]
+    fn equal_answers_do_not_differ() {
+        let (different, text) = told(b"ok 1\nok apart\n");
+        assert_eq!(
+            (different, &text[..]),
+            (0, "second: 2 answers compared, 0 differ\n")
+        );
+    }
+
+    #[test]
+    fn a_difference_is_told_with_its_question() {
+        let (different, text) = told(b"ok 1\nok touching\n");
+        assert_eq!(different, 1);
+        let lines: Vec<&str> = text.lines().collect();
+        assert!(
+            lines[0].starts_with("line 4: relation | 0 0 | 1 0"),
+            "{text}"
+        );
+        assert!(
+            lines[1].contains("ok apart") && lines[2].contains("ok touching"),
+            "{text}"
+        );
+    }
+
+    #[test]
+    fn missing_and_surplus_answers_differ() {
+        assert_eq!(told(b"ok 1\n").0, 1);
+        assert_eq!(told(b"ok 1\nok apart").0, 1);
+        assert_eq!(told(b"ok 1\nok apart\nok 7\n").0, 1);
+        assert_eq!(told(b"").0, 2);
+    }
+}

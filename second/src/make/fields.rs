@@ -1,0 +1,83 @@
+//! The fields of random questions, a function for each row of the table or for several alike.
+
+use super::dice::Dice;
+use super::{List, damage, line, list_text, numbers, pairs, shapes, tails};
+use crate::answer::answer;
+use crate::plane::Shape;
+
+/// Of the lists to judge one in two is damaged.
+pub fn judge(dice: &mut Dice) -> Vec<String> {
+    let shape = shapes::any(dice);
+    texts(&damaged_at_times(dice, &[shape], 2))
+}
+
+pub fn one_shape(dice: &mut Dice) -> Vec<String> {
+    texts(&one_list(dice))
+}
+
+pub fn two_shapes(dice: &mut Dice) -> Vec<String> {
+    texts(&two_lists(dice, pairs::any))
+}
+
+pub fn furthest(dice: &mut Dice) -> Vec<String> {
+    let mut lists = one_list(dice);
+    let direction = tails::direction(dice, &lists[0]);
+    lists.push(numbers(&[direction]));
+    texts(&lists)
+}
+
+pub fn mirror(dice: &mut Dice) -> Vec<String> {
+    let lists = one_list(dice);
+    with_room(dice, "mirror", lists)
+}
+
+pub fn sum(dice: &mut Dice) -> Vec<String> {
+    let lists = two_lists(dice, pairs::for_sum);
+    with_room(dice, "sum", lists)
+}
+
+pub fn merge(dice: &mut Dice) -> Vec<String> {
+    let lists = two_lists(dice, pairs::for_merge);
+    with_room(dice, "merge", lists)
+}
+
+fn one_list(dice: &mut Dice) -> Vec<List> {
+    let shape = shapes::any(dice);
+    damaged_at_times(dice, &[shape], 16)
+}
+
+fn two_lists(dice: &mut Dice, pair: fn(&mut Dice) -> (Shape, Shape)) -> Vec<List> {
+    let (a, b) = pair(dice);
+    damaged_at_times(dice, &[a, b], 16)
+}
+
+/// One list in `share` is damaged, and at times all are.
+fn damaged_at_times(dice: &mut Dice, shapes: &[Shape], share: usize) -> Vec<List> {
+    let all = dice.one_in(30);
+    let mut list = |shape: &Shape| {
+        if all || dice.one_in(share) {
+            damage::damaged(dice)
+        } else {
+            numbers(shape)
+        }
+    };
+    shapes.iter().map(&mut list).collect()
+}
+
+/// Adds a room for the answer of this question, or leaves it out.
+fn with_room(dice: &mut Dice, word: &str, lists: Vec<List>) -> Vec<String> {
+    let mut fields = texts(&lists);
+    let need = numbers_of(&answer(line(word, &fields).as_bytes()));
+    fields.extend(tails::room(dice, need).map(|room| room.to_string()));
+    fields
+}
+
+/// How many numbers the shape of an answer has, if there is one.
+fn numbers_of(answer: &str) -> Option<i64> {
+    let corners = answer.strip_prefix("ok ")?.split(' ').next()?;
+    corners.parse::<i64>().ok().map(|count| 2 * count)
+}
+
+fn texts(lists: &[List]) -> Vec<String> {
+    lists.iter().map(|list| list_text(list)).collect()
+}

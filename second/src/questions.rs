@@ -1,0 +1,34 @@
+//! The table of questions. A new one is a row here, with a function that answers it (`ask`) and
+//! one that makes the fields of random questions of it (`make::fields`).
+
+use crate::ask::{self, Answer};
+use crate::make::dice::Dice;
+use crate::make::fields as make;
+use crate::text::fields::Field::{self, Direction, Room, Shape};
+use crate::text::given::Given;
+
+pub struct Row {
+    pub word: &'static str,
+    pub fields: &'static [Field],
+    pub ask: fn(&Given) -> Answer,
+    /// The text of each field.
+    pub make: fn(&mut Dice) -> Vec<String>,
+}
+
+#[rustfmt::skip]
+pub const TABLE: &[Row] = &[
+    Row { word: "judge", fields: &[Shape], ask: ask::judge, make: make::judge },
+    Row { word: "furthest", fields: &[Shape, Direction], ask: ask::furthest, make: make::furthest },
+    Row { word: "mirror", fields: &[Shape, Room], ask: ask::mirror, make: make::mirror },
+    Row { word: "sum", fields: &[Shape, Shape, Room], ask: ask::sum, make: make::sum },
+    Row { word: "merge", fields: &[Shape, Shape, Room], ask: ask::merge, make: make::merge },
+    Row { word: "length", fields: &[Shape], ask: ask::length, make: make::one_shape },
+    Row { word: "width", fields: &[Shape], ask: ask::width, make: make::one_shape },
+    Row { word: "relation", fields: &[Shape, Shape], ask: ask::relation, make: make::two_shapes },
+    Row { word: "inside", fields: &[Shape, Shape], ask: ask::inside, make: make::two_shapes },
+    Row { word: "clearance", fields: &[Shape, Shape], ask: ask::clearance, make: make::two_shapes },
+];
+
+pub fn find(word: &[u8]) -> Option<&'static Row> {
+    TABLE.iter().find(|row| row.word.as_bytes() == word)
+}

@@ -1,0 +1,159 @@
+//! The fields of a question. A new kind of field is one case of `Field` with its value, and one
+//! function that reads it.
+
+use super::given::Given;
+use super::lines::words;
+use super::unreadable::Unreadable;
+use crate::plane::{Point, point};
+
+/// The fields of a line may hold so many numbers together.
+pub const MOST_NUMBERS: usize = 16_384;
+
+#[derive(Clone, Copy, Debug, PartialEq, Eq)]
+pub enum Field {
+    Shape,
+    Direction,
+    /// How many numbers the lent output holds; may be left out, with its bar.
+    Room,
+}
+
+#[derive(Clone, Debug, PartialEq, Eq)]
+pub enum Value {
+    /// The list of a shape, not yet judged.
+    Shape(Vec<i32>),
+    Direction(Point),
+    Room(usize),
+}
+
+impl Field {
+    fn may_be_left_out(self) -> bool {
+        self == Field::Room
+    }
+
+    fn read(self, text: &[u8], numbers: &mut Numbers) -> Result<Value, Unreadable> {
+        match self {
+            Field::Shape => numbers.read(text).map(Value::Shape),
+            Field::Direction => direction(&numbers.read(text)?),
+            Field::Room => room(&numbers.read(text)?),
+        }
+    }
+}
+
+/// Reads the texts of a line's fields: first their count is settled, then all are read.
+pub fn read(fields: &[Field], texts: &[&[u8]]) -> Result<Given, Unreadable> {
+    check_count(fields, texts.len())?;
+    let mut numbers = Numbers { left: MOST_NUMBERS };
+    let read = |(field, text): (&Field, &&[u8])| field.read(text, &mut numbers);
+    let values: Vec<_> = fields.iter().zip(texts).map(read).collect();
+    let faults = || values.iter().filter_map(|value| value.as_ref().err());
+    match faults().find(|fault| fault.is_in_text()) {
+        Some(&fault) => Err(fault),
+        None => values.into_iter().collect::<Result<_, _>>().map(Given),
+    }
+}
+
+fn check_count(fields: &[Field], count: usize) -> Result<(), Unreadable> {
+    if count > fields.len() {
+        return Err(Unreadable::TooManyFields);
+    }
+    if !fields[count..].iter().all(|field| field.may_be_left_out()) {
+        return Err(Unreadable::MissingField);
+    }
+    Ok(())
+}
+
+fn direction(list: &[i32]) -> Result<Value, Unreadable> {
+    match *list {
+        [u, v] => Ok(Value::Direction(point(i64::from(u), i64::from(v)))),
+        _ => Err(Unreadable::WrongCount),
+    }
+}
+
+fn room(list: &[i32]) -> Result<Value, Unreadable> {
+    match *list {
+        [room] => match usize::try_from(room) {
+            Ok(room) => Ok(Value::Room(room)),
+            Err(_) => Err(Unreadable::NotACount),
+        },
+        _ => Err(Unreadable::WrongCount),
+    }
+}
+
+/// Reads numbers, as long as the line may hold more of them.
+struct Numbers {
+    left: usize,
+}
+
+impl Numbers {
+    fn read(&mut self, text: &[u8]) -> Result<Vec<i32>, Unreadable> {
+        words(text).map(|word| self.read_one(word)).collect()
+    }
+
+    fn read_one(&mut self, word: &[u8]) -> Result<i32, Unreadable> {
+        let number = number(word).ok_or(Unreadable::NotANumber)?;
+        self.left = self.left.checked_sub(1).ok_or(Unreadable::TooManyNumbers)?;
+        Ok(number)
+    }
+}
+
+/// Digits, with a minus before them or none: Rust itself would also take a plus.
+fn number(word: &[u8]) -> Option<i32> {
+    let text = str::from_utf8(word).ok()?;
+    if text.starts_with('+') {
+        return None;
+    }
+    text.parse().ok()
+}
+
+#[cfg(test)]
+mod tests {
+    use super::*;
+
+    #[test]
+    fn numbers_are_digits_with_at_most_a_minus() {
+        let good = [
+            ("-0", 0),
+            ("007", 7),
+            ("2147483647", i32::MAX),
+            ("-2147483648", i32::MIN),
+        ];
+        for (word, value) in good {
+            assert_eq!(number(word.as_bytes()), Some(value), "{word}");
+        }
+        for word in [
+            "",
+            "-",
+            "+5",
+            "--5",
+            "5-",
+            "1.5",
+            "2147483648",
+            "-2147483649",
+            "\u{665}",
+        ] {
+            assert_eq!(number(word.as_bytes()), None, "{word}");
+        }
+        assert_eq!(number(b"5\xFF"), None);
+    }
+
+    #[test]
+    fn faults_of_the_text_come_first() {
+        let fields = [Field::Direction, Field::Room];
+        let fault = |texts: [&[u8]; 2]| read(&fields, &texts).expect_err("a fault");
+        assert_eq!(fault([b"1", b"x"]), Unreadable::NotANumber);
+        assert_eq!(fault([b"1", b"-1"]), Unreadable::WrongCount);
+        assert_eq!(fault([b"1 2", b"-1"]), Unreadable::NotACount);
+    }
+
+    #[test]
+    fn the_first_fault_of_the_text_is_told() {
+        let many = " 0".repeat(MOST_NUMBERS);
+        let fault = |text: &str| read(&[Field::Shape], &[text.as_bytes()]).err();
+        assert_eq!(fault(&many), None);
+        assert_eq!(
+            fault(&(many.clone() + " 0 x")),
+            Some(Unreadable::TooManyNumbers)
+        );
+        assert_eq!(fault(&(many + " x 0")), Some(Unreadable::NotANumber));
+    }
+}

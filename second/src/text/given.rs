@@ -1,0 +1,39 @@
+//! What a line gave its question, by kind: a row that lists the kind has it.
+
+use super::fields::Value;
+use crate::judge::judge;
+use crate::plane::{Point, Shape};
+use crate::refusal::Refusal;
+
+/// The values of the fields, in order. Fields that were left out have none.
+#[derive(Debug, PartialEq, Eq)]
+pub struct Given(pub Vec<Value>);
+
+impl Given {
+    /// All shapes, or the first refusal of the first list that is none.
+    pub fn shapes<const COUNT: usize>(&self) -> Result<[Shape; COUNT], Refusal> {
+        let lists = self.0.iter().filter_map(|value| match value {
+            Value::Shape(list) => Some(list),
+            _ => None,
+        });
+        let judged = (1..).zip(lists).map(|(number, list)| judge(list, number));
+        let shapes: Vec<Shape> = judged.collect::<Result<_, _>>()?;
+        Ok(shapes.try_into().expect("the row has so many shapes"))
+    }
+
+    pub fn direction(&self) -> Point {
+        let found = self.0.iter().find_map(|value| match value {
+            Value::Direction(direction) => Some(*direction),
+            _ => None,
+        });
+        found.expect("the row has a direction")
+    }
+
+    /// The room in numbers, if the line names one.
+    pub fn room(&self) -> Option<usize> {
+        self.0.iter().find_map(|value| match value {
+            Value::Room(room) => Some(*room),
+            _ => None,
+        })
+    }
+}
