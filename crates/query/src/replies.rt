@@ -1,4 +1,4 @@
-// The replies that know the library's words, without their newlines; the others are in `text`.
+// Refusals, without their newlines; the other replies are in `text`.
 use questions::answer::Refusal;
 use text::answers;
 
