@@ -37,6 +37,7 @@ fn print_rows(rounds: u64) {
     row(b"relation", 7, 2, rounds);
     row(b"inside", 8, 2, rounds);
     row(b"clearance", 9, 2, rounds);
+    row(b"tangents", 10, 2, rounds);
 }
 
 // The time of a question's calls, and what is left of it without judging its shapes.
