@@ -1,4 +1,4 @@
--- `run` is safe and ends. The invariant: the times keep their length. The measure: the passes left.
+-- `run` is safe and ends. The invariant: the times keep their length. The measure: how many are left to take.
 use mathlib.Core.Path.{_≡_}
 use lib.ListN.{length}
 use borrow.Author.Needs.{needs}
@@ -11,14 +11,17 @@ Inv-loop rounds times₀ left₀ times left = length times ≡ length times₀
 abbrev μ-loop : tie.MeasureT-loop
 μ-loop rounds times₀ left₀ times left = left
 
+mul-left : tie.Need-mul-left Inv-loop μ-loop
+mul-left c = search needs
+
 loop-holds : tie.Need-loop-holds Inv-loop μ-loop
 loop-holds c = search needs
 
-pass-requires : tie.Need-pass-requires Inv-loop μ-loop
-pass-requires c κs = search needs
-
 sub-left : tie.Need-sub-left Inv-loop μ-loop
 sub-left c = search needs
+
+again-requires : tie.Need-again-requires Inv-loop μ-loop
+again-requires c κs = search needs
 
 loop-less : tie.Need-loop-less Inv-loop μ-loop
 loop-less c = search needs
@@ -38,9 +41,10 @@ run-spec =
     (tie.spec
     Inv-loop
     μ-loop
+    mul-left
     loop-holds
-    pass-requires
     sub-left
+    again-requires
     loop-less
     loop-again
     same-length
