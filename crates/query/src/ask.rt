@@ -165,9 +165,11 @@ fn tangents(out: &mut [u8], filled: usize, a: &[i32], b: &[i32]) -> usize {
             crossing,
             reverse,
         } => {
-            let now = answers::word(out, filled, b"ok");
-            let second = replies::line(out, replies::line(out, now, left), right);
-            replies::line(out, replies::line(out, second, crossing), reverse)
+            let mut now = answers::word(out, filled, b"ok");
+            now = replies::line(out, now, left);
+            now = replies::line(out, now, right);
+            now = replies::line(out, now, crossing);
+            replies::line(out, now, reverse)
         }
         Tangents::No(refusal) => replies::refuse(out, filled, refusal),
     }

@@ -46,8 +46,10 @@ fn lines(out: &mut [u8], filled: usize, a: &[i32], b: &[i32]) -> usize {
             crossing,
             reverse,
         } => {
-            let second = line(out, line(out, filled, a, b, left), a, b, right);
-            line(out, line(out, second, a, b, crossing), a, b, reverse)
+            let mut now = line(out, filled, a, b, left);
+            now = line(out, now, a, b, right);
+            now = line(out, now, a, b, crossing);
+            line(out, now, a, b, reverse)
         }
         Tangents::No(_) => filled,
     }
