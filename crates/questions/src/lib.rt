@@ -232,7 +232,8 @@ pub fn tangents(a: &[i32], b: &[i32]) -> Tangents
     if let Admission::No(refusal) = admission::admit_pair(a, b) {
         return Tangents::No(refusal);
     }
-    let Place::Apart = separation::relation(a, b) else {
+    let place = separation::relation(a, b);
+    let Place::Apart = place else {
         return Tangents::No(Refusal::NotApart);
     };
     Tangents::Lines {
