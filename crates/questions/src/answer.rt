@@ -99,8 +99,8 @@ pub struct Line {
     pub to: usize,
 }
 
-// The four lines that just touch both shapes: both on the left or on the line; both on the right; the first left and the
-// second right; the reverse.
+// The four lines that just touch both shapes: both on the left or on the line; both on the right; the first left and
+// the second right; the reverse.
 pub enum Tangents {
     Lines {
         left: Line,
