@@ -6,6 +6,7 @@ use crate::measure;
 use crate::plane::Shape;
 use crate::refusal::Refusal;
 use crate::separation::{self, Relation};
+use crate::tangents;
 use crate::text::given::Given;
 
 pub type Answer = Result<String, Refusal>;
@@ -74,6 +75,12 @@ pub fn inside(given: &Given) -> Answer {
 pub fn clearance(given: &Given) -> Answer {
     let [a, b] = given.shapes()?;
     Ok(separation::clearance(&a, &b).to_string())
+}
+
+pub fn tangents(given: &Given) -> Answer {
+    let [a, b] = given.shapes()?;
+    let lines = tangents::tangents(&a, &b)?;
+    Ok(lines.map(|(i, j)| format!("{i} {j}")).join(" "))
 }
 
 /// The shape as it stands in the lent output, if that has the room.

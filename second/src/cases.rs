@@ -1,4 +1,5 @@
-//! Document 01's "Cases to hold against", in its order, as questions with their stated answers.
+//! Document 01's "Cases to hold against", in its order, as questions with their stated answers, and
+//! behind them cases of document 02's requests, worked out by hand from its words.
 //! S and T stand for their numbers; positions that 01 leaves out with a 4 follow from its words.
 
 use crate::answer::answer;
@@ -6,7 +7,7 @@ use crate::make::dice::Dice;
 use crate::make::{line, long, shape_text};
 use std::io::{self, Write};
 
-/// Words of 01, and the questions with their stated answers.
+/// Words of 01 or 02, and the questions with their stated answers.
 type Stated = (&'static str, &'static [(&'static str, &'static str)]);
 
 #[rustfmt::skip]
@@ -84,12 +85,44 @@ const LEFT_RULE: &[Stated] = &[
     ]),
 ];
 
+#[rustfmt::skip]
+const TANGENTS: &[Stated] = &[
+    ("W1: two squares in a row, flush on both lines: the nearest pairs are meant", &[
+        ("tangents | S | 5 0 7 0 7 2 5 2", "ok 1 0 2 3 1 3 2 0"),
+        ("tangents | 5 0 7 0 7 2 5 2 | S", "ok 3 2 0 1 3 1 0 2"),
+    ]),
+    ("W1: flush on one line from its two sides, and facing each other", &[
+        ("tangents | S | 5 -2 7 -2 7 0 5 0", "ok 0 0 2 2 1 3 2 0"),
+        ("tangents | 0 0 2 0 | 0 3 2 3", "ok 1 1 0 0 1 0 0 1"),
+    ]),
+    ("W1: everything in one line gives the same line four times", &[
+        ("tangents | 0 0 | 3 1", "ok 0 0 0 0 0 0 0 0"),
+        ("tangents | 0 0 1 0 | 2 0 3 0", "ok 1 0 1 0 1 0 1 0"),
+        ("tangents | 2 0 3 0 | 0 0 1 0", "ok 0 1 0 1 0 1 0 1"),
+        ("tangents | 0 0 2 2 | 5 5", "ok 1 0 1 0 1 0 1 0"),
+    ]),
+    ("W1: a point is on either side of each line through it", &[
+        ("tangents | 0 0 | 2 -1 2 1", "ok 0 0 0 1 0 1 0 0"),
+        ("tangents | S | 3 1", "ok 1 0 2 0 1 0 2 0"),
+        ("tangents | S | 4 0", "ok 1 0 2 0 1 0 2 0"),
+    ]),
+    ("W1: 9 if touching or overlapping, after 1 to 5", &[
+        ("tangents | S | 2 0 4 0 4 2 2 2", "no 9"),
+        ("tangents | S | 2 2 3 3", "no 9"),
+        ("tangents | S | 1 1", "no 9"),
+        ("tangents | 1 1 | 1 1", "no 9"),
+        ("tangents | 0 0 2 0 | 1 0 3 0", "no 9"),
+        ("tangents | S | 1 1 0 0", "no 5 shape 2"),
+        ("tangents | 0 0 1 0 2 0 | 0", "no 4 shape 1 edge 0 corner 2"),
+    ]),
+];
+
 pub struct Group {
     pub words: String,
     pub cases: Vec<(String, String)>,
 }
 
-/// All cases, in the order of 01.
+/// All cases, in the order of 01 and 02.
 pub fn groups() -> Vec<Group> {
     let mut groups = spelled(STARRED);
     groups.extend(spelled(SEGMENTS_AND_RANGE));
@@ -97,6 +130,7 @@ pub fn groups() -> Vec<Group> {
     groups.extend(spelled(INSIDE_AND_SUMS));
     groups.push(sum_too_long());
     groups.extend(spelled(LEFT_RULE));
+    groups.extend(spelled(TANGENTS));
     groups
 }
 
@@ -160,8 +194,8 @@ fn sum_too_long() -> Group {
 #[cfg(test)]
 mod tests {
     #[test]
-    fn every_case_of_01_has_its_stated_answer() {
+    fn every_case_has_its_stated_answer() {
         let (count, reports) = super::check();
-        assert!(count >= 30 && reports.is_empty(), "{reports:#?}");
+        assert!(count >= 50 && reports.is_empty(), "{reports:#?}");
     }
 }

@@ -1,11 +1,11 @@
 //! The independent second program: answers the map desk's questions by brute force, from the words
-//! of document 01 alone, and makes questions to hold the library against. It shares nothing with
-//! the library but the text form of questions and answers.
+//! of documents 01 and 02 alone, and makes questions to hold the library against. It shares nothing
+//! with the library but the text form of questions and answers.
 //!
 //!     second make SEED COUNT                      writes questions, the same ones for the same seed
 //!     second answer                               answers the questions of standard input
-//!     second cases                                writes 01's cases as questions
-//!     second check                                answers 01's cases, compares with what 01 states
+//!     second cases                                writes the documents' cases as questions
+//!     second check                                answers these cases, compares with what is stated
 //!     second compare LEAST QUESTIONS ANSWERS      compares another program's answers with its own:
 //!                                                 two files, and how many answers there must be
 
@@ -22,6 +22,7 @@ mod plane;
 mod questions;
 mod refusal;
 mod separation;
+mod tangents;
 mod text;
 
 use std::error::Error;

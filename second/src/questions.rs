@@ -27,6 +27,7 @@ pub const TABLE: &[Row] = &[
     Row { word: "relation", fields: &[Shape, Shape], ask: ask::relation, make: make::two_shapes },
     Row { word: "inside", fields: &[Shape, Shape], ask: ask::inside, make: make::two_shapes },
     Row { word: "clearance", fields: &[Shape, Shape], ask: ask::clearance, make: make::two_shapes },
+    Row { word: "tangents", fields: &[Shape, Shape], ask: ask::tangents, make: make::tangents },
 ];
 
 pub fn find(word: &[u8]) -> Option<&'static Row> {

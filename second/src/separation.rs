@@ -79,7 +79,8 @@ fn axes() -> Vec<Point> {
     vec![point(1, 0), point(0, 1), point(-1, 0), point(0, -1)]
 }
 
-fn gap(a: &[Point], b: &[Point], d: Point) -> i128 {
+/// The least value of the second less the greatest value of the first.
+pub fn gap(a: &[Point], b: &[Point], d: Point) -> i128 {
     let greatest = a.iter().map(|&p| value(d, p)).max();
     let least = b.iter().map(|&q| value(d, q)).min();
     least.unwrap_or(0) - greatest.unwrap_or(0)

@@ -6,6 +6,7 @@ use questions::answer::Furthest;
 use questions::answer::Inside;
 use questions::answer::Length;
 use questions::answer::Relation;
+use questions::answer::Tangents;
 use questions::answer::Width;
 
 // The arm that only judges.
@@ -25,6 +26,7 @@ pub fn ask(question: usize, a: &[i32], b: &[i32], out: &mut [i32]) -> u64 {
         7 => relation(questions::relation(a, a)),
         8 => inside(questions::inside(a, a)),
         9 => clearance(questions::clearance(a, b)),
+        10 => tangents(questions::tangents(a, b)),
         _ => 0,
     }
 }
@@ -87,6 +89,18 @@ fn clearance(answer: Clearance) -> u64 {
     match answer {
         Clearance::Squared(squared) => size(squared),
         Clearance::No(_) => 0,
+    }
+}
+
+fn tangents(answer: Tangents) -> u64 {
+    match answer {
+        Tangents::Lines {
+            left,
+            right: _,
+            crossing: _,
+            reverse: _,
+        } => std::num::wrapping_add_u64(left.from as u64, 1),
+        Tangents::No(_) => 0,
     }
 }
 

@@ -20,32 +20,39 @@ fn main() {
     if rounds == 0 {
         io::write_all(STDOUT_FILENO, b"to measure: bench ROUNDS, as bench 100\n");
     } else {
-        table::head();
-        print_rows(rounds);
+        measure(rounds);
     }
 }
 
+// Measures, and prints the table.
+fn measure(rounds: u64) {
+    let mut times = [u64::MAX; timing::TIMES];
+    timing::run(rounds, &mut times);
+    table::head();
+    print_rows(&times);
+}
+
 // A row for each question: its word, its arm in `ask`, and how many shapes it judges.
-fn print_rows(rounds: u64) {
-    row(b"judge", 0, 1, rounds);
-    row(b"furthest", 1, 1, rounds);
-    row(b"mirror", 2, 1, rounds);
-    row(b"sum", 3, 2, rounds);
-    row(b"merge", 4, 2, rounds);
-    row(b"length", 5, 1, rounds);
-    row(b"width", 6, 1, rounds);
-    row(b"relation", 7, 2, rounds);
-    row(b"inside", 8, 2, rounds);
-    row(b"clearance", 9, 2, rounds);
+fn print_rows(times: &[u64]) {
+    row(b"judge", 0, 1, times);
+    row(b"furthest", 1, 1, times);
+    row(b"mirror", 2, 1, times);
+    row(b"sum", 3, 2, times);
+    row(b"merge", 4, 2, times);
+    row(b"length", 5, 1, times);
+    row(b"width", 6, 1, times);
+    row(b"relation", 7, 2, times);
+    row(b"inside", 8, 2, times);
+    row(b"clearance", 9, 2, times);
+    row(b"tangents", 10, 2, times);
 }
 
 // The time of a question's calls, and what is left of it without judging its shapes.
-fn row(word: &[u8], question: usize, shapes: usize, rounds: u64) {
-    let mut asked = [u64::MAX; 5];
-    let mut judged = [u64::MAX; 5];
-    timing::run(question, rounds, &mut asked, &mut judged);
+fn row(word: &[u8], question: usize, shapes: usize, times: &[u64]) {
+    let asked = timing::of(question, times);
     table::row(word, &asked);
     if question != ask::JUDGE {
+        let judged = timing::of(ask::JUDGE, times);
         let rest = timing::without(&asked, &judged, shapes);
         table::row(b"  without judging", &rest);
     }

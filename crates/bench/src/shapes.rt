@@ -10,9 +10,24 @@ pub const NUMBERS: usize = 1024;
 // How far the second shape lies to the right of the first, and above it.
 pub const MOVED: usize = 1000;
 
+// How many corners the shapes of a column have.
+pub fn size(column: usize) -> usize {
+    match column {
+        0 => 32,
+        1 => 64,
+        2 => 128,
+        3 => 256,
+        _ => 512,
+    }
+}
+
 // Whether every shape is accepted.
 pub fn all_accepted() -> bool {
-    accepted(32) && accepted(64) && accepted(128) && accepted(256) && accepted(512)
+    accepted(size(0))
+        && accepted(size(1))
+        && accepted(size(2))
+        && accepted(size(3))
+        && accepted(size(4))
 }
 
 // Whether both shapes of n corners are accepted, with n corners together.

@@ -1,21 +1,48 @@
-// Measuring a question beside judging. A pass goes over all sizes, and passes of both take turns, so that what slows
-// the machine down falls on all of them; the least time of all passes counts.
+// Measuring every question at every size. A pass goes over all of them, so that what slows the machine down for a while
+// falls on all; the least time of all passes counts.
 use crate::ask;
 use crate::number;
 use crate::shapes;
 
 // How many passes there are.
-const PASSES: usize = 25;
+const PASSES: usize = 50;
 
-// Measures a question at every size: `asked` and `judged` come down to the nanoseconds of a call of it, and of
-// judging a shape.
-pub fn run(question: usize, rounds: u64, asked: &mut [u64; 5], judged: &mut [u64; 5]) {
-    let mut left = PASSES;
+// How many times there are: five for each question, with room for 32. One that has no arm yet takes no time.
+pub const TIMES: usize = 160;
+
+// Brings the times down to the nanoseconds of a call.
+pub fn run(rounds: u64, times: &mut [u64]) {
+    let mut left = PASSES * TIMES;
     while left > 0 {
-        pass(question, rounds, asked);
-        pass(ask::JUDGE, rounds, judged);
         left -= 1;
+        again(left % TIMES, rounds, times);
     }
+}
+
+// Takes time i once more.
+fn again(i: usize, rounds: u64, times: &mut [u64]) {
+    if i < times.len() {
+        times[i] = number::least(times[i], block(i / 5, shapes::size(i % 5), rounds));
+    }
+}
+
+// The times of a question; 0 where there is no room for it.
+pub fn of(question: usize, times: &[u64]) -> [u64; 5] {
+    if question < TIMES {
+        let i = 5 * question;
+        return [
+            at(i, times),
+            at(i + 1, times),
+            at(i + 2, times),
+            at(i + 3, times),
+            at(i + 4, times),
+        ];
+    }
+    [0; 5]
+}
+
+fn at(i: usize, times: &[u64]) -> u64 {
+    if i < times.len() { times[i] } else { 0 }
 }
 
 // What is left of each time without judging so many shapes.
@@ -37,15 +64,6 @@ fn rest(asked: u64, judged: u64, shapes: usize) -> u64 {
     } else {
         number::less(once, judged)
     }
-}
-
-// One pass over all sizes.
-fn pass(question: usize, rounds: u64, times: &mut [u64; 5]) {
-    times[0] = number::least(times[0], block(question, 32, rounds));
-    times[1] = number::least(times[1], block(question, 64, rounds));
-    times[2] = number::least(times[2], block(question, 128, rounds));
-    times[3] = number::least(times[3], block(question, 256, rounds));
-    times[4] = number::least(times[4], block(question, 512, rounds));
 }
 
 // The nanoseconds of a call on shapes of n corners; 0 where it is refused.

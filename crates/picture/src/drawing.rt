@@ -22,14 +22,45 @@ pub fn one(out: &mut [u8], filled: usize, a: &[i32]) -> usize {
     answers::word(out, drawn, b"</svg>")
 }
 
-// Adds the picture of two shapes and the outline of their sum.
-pub fn pair(out: &mut [u8], filled: usize, a: &[i32], b: &[i32], sum: &[i32]) -> usize {
-    let own = frames::around(a);
-    let view = frames::joined(frames::joined(own, frames::around(b)), frames::around(sum));
-    let other = frames::second_frame(a, b);
+// What the picture of two shapes and the outline of their sum shows.
+fn view_of(a: &[i32], b: &[i32], sum: &[i32]) -> Frame {
+    frames::joined(
+        frames::joined(frames::around(a), frames::around(b)),
+        frames::around(sum),
+    )
+}
+
+// Adds the beginning of the picture of two shapes: the outline of their sum.
+pub fn begin_pair(out: &mut [u8], filled: usize, a: &[i32], b: &[i32], sum: &[i32]) -> usize {
+    let view = view_of(a, b, sum);
     let mut now = begin(out, filled, view);
     now = dashed(out, now, sum, view);
-    now = start(out, now, sum, view);
+    start(out, now, sum, view)
+}
+
+// Adds a line from a corner of the one shape to a corner of the other.
+pub fn tangent(
+    out: &mut [u8],
+    filled: usize,
+    a: &[i32],
+    from: usize,
+    b: &[i32],
+    to: usize,
+) -> usize {
+    let mut now = filled;
+    now = answers::word(out, now, b"<polyline stroke=\"#2e7d32\" points=\"");
+    now = place(out, now, frames::corner(a, from));
+    now = answers::word(out, now, b" ");
+    now = place(out, now, frames::corner(b, to));
+    answers::word(out, now, b"\"/>")
+}
+
+// Adds the rest of the picture of two shapes: the shapes themselves.
+pub fn end_pair(out: &mut [u8], filled: usize, a: &[i32], b: &[i32], sum: &[i32]) -> usize {
+    let own = frames::around(a);
+    let view = view_of(a, b, sum);
+    let other = frames::second_frame(a, b);
+    let mut now = filled;
     now = shape(
         out,
         now,

@@ -2,5 +2,7 @@
 mod drawing;
 mod frames;
 
+pub use drawing::begin_pair;
+pub use drawing::end_pair;
 pub use drawing::one;
-pub use drawing::pair;
+pub use drawing::tangent;

@@ -1,5 +1,5 @@
 -- Document 01's starred cases ("Cases to hold against"), as one table over the definitions and one fact about all its rows, by computing.
--- The rows are quoted in 01's order; a row is what the definition gives and what 01 states.
+-- The rows are quoted in 01's order; a row is what the definition gives and what 01 states. The last two are of document 02, request W1.
 use mathlib.Core.Path.{_≡_, refl}
 use mathlib.Core.Bool.{cond}
 use mathlib.Core.List.{List, [], _∷_, _++_, map}
@@ -22,6 +22,7 @@ use Rattle.plane.specs.Combine.{sumWritten, mergeWritten}
 use Rattle.plane.specs.Measure.{squared, lengthSquared, furthestPair, lengthFrom, lengthTo, lengthReply, edgeTurn, height}
 use Rattle.plane.specs.Measure.{edgeSquared, noWider, widthEdge, widthCorner, widthRounded, widthReply}
 use Rattle.plane.specs.Separation.{inside, apart, notLeft, onRim, touching, relationReply}
+use Rattle.plane.specs.Tangent.{onSide, touches, nearer, tangent, tangentFrom, tangentTo, tangentsReply}
 
 -- what the definition gives and what 01 states: each a reply and a whole output
 pub record Case : Type 0 where
@@ -42,6 +43,10 @@ writes call n l = record {
 -- 0 0 2 0 2 2 0 2
 abbrev S : List ℤ
 S = pos 0 ∷ pos 0 ∷ pos 2 ∷ pos 0 ∷ pos 2 ∷ pos 2 ∷ pos 0 ∷ pos 2 ∷ []
+
+-- 5 0 7 0 7 2 5 2
+abbrev square : List ℤ
+square = pos 5 ∷ pos 0 ∷ pos 7 ∷ pos 0 ∷ pos 7 ∷ pos 2 ∷ pos 5 ∷ pos 2 ∷ []
 
 -- 0 0 1 0 0 1
 abbrev T : List ℤ
@@ -99,6 +104,10 @@ rows =
     -- 0 0 5 4 -1 4 4 0 2 6 turns left at every corner yet is refused 4
     ∷ says (answered (map (turnsLeft star) (0 ∷ 1 ∷ 2 ∷ 3 ∷ 4 ∷ []))) (answered (pos 1 ∷ pos 1 ∷ pos 1 ∷ pos 1 ∷ pos 1 ∷ []))
     ∷ says (judged star) (refused 4 (1 ∷ 0 ∷ 3 ∷ []))
+    -- the lines that just touch S and the square 5 0 7 0 7 2 5 2; S and point 2 1 touch: 9
+    ∷ says (tangentsReply S square)
+    (answered (pos 1 ∷ pos 0 ∷ pos 2 ∷ pos 3 ∷ pos 1 ∷ pos 3 ∷ pos 2 ∷ pos 0 ∷ []))
+    ∷ says (tangentsReply S (pair 2 1)) (refused 9 [])
     ∷ []
 
 pub rows-hold : map (λ (r : Case). r .given) rows ≡ map (λ (r : Case). r .stated) rows
@@ -108,4 +117,5 @@ unfolding rows maxCorners maxCoordinate maxPart turn breaks precedes samePoint m
     squared lengthSquared furthestPair lengthFrom lengthTo lengthReply
     edgeTurn height edgeSquared noWider widthEdge widthCorner widthRounded widthReply
     inside apart notLeft onRim touching relationReply
+    onSide touches nearer tangent tangentFrom tangentTo tangentsReply
 rows-hold = refl

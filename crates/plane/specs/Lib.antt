@@ -17,6 +17,7 @@ pub mod Furthest
 pub mod Combine
 pub mod Measure
 pub mod Separation
+pub mod Tangent
 pub mod Question
 pub mod Cases
 pub mod Meaning

@@ -1,9 +1,10 @@
--- The ten questions, each with its reply and its table of refusals (document 01, "When the map desk says no": "Several at once: the first
+-- The questions, each with its reply and its table of refusals (document 01, "When the map desk says no": "Several at once: the first
 -- shape by 1 to 5 in number order, then the second shape likewise, then 10 or 11, then 6, 7, 8").
 --     Question     a question, and what it is lent
 --     reply q      what the public function promises to answer; what it promises to write is in `Output.antt`
 --     table q      its rows, in order
 -- What it means: `first-row-refuses`, `refused-by-first-row`, `answered-if-none`, `none-if-answered` of `Meaning.antt`.
+use mathlib.Core.Bool.{not}
 use mathlib.Core.List.{List, [], _∷_, _++_}
 use lib.Dec.{ltb}
 use lib.IntN.{ℤ}
@@ -17,7 +18,8 @@ use Rattle.plane.specs.Output.{answerRows}
 use Rattle.plane.specs.Furthest.{badDirection, furthestReply}
 use Rattle.plane.specs.Combine.{mirrorWritten, sumWritten, mergeWritten}
 use Rattle.plane.specs.Measure.{lengthReply, widthReply}
-use Rattle.plane.specs.Separation.{relationReply, insideReply, clearanceReply}
+use Rattle.plane.specs.Separation.{apart, relationReply, insideReply, clearanceReply}
+use Rattle.plane.specs.Tangent.{tangentsReply}
 
 -- the shapes, then the direction or the output
 pub data Question : Type 0 where
@@ -31,6 +33,7 @@ pub data Question : Type 0 where
   Relation : List ℤ → List ℤ → Question
   Inside : List ℤ → List ℤ → Question
   Clearance : List ℤ → List ℤ → Question
+  Tangents : List ℤ → List ℤ → Question
 
 abbrev pub reply : Question → Reply
 reply (Judge l) = judged l
@@ -43,6 +46,7 @@ reply (Width l) = widthReply l
 reply (Relation a b) = relationReply a b
 reply (Inside a b) = insideReply a b
 reply (Clearance a b) = clearanceReply a b
+reply (Tangents a b) = tangentsReply a b
 
 abbrev pub table : Question → List Row
 table (Judge l) = shapeRows 1 l
@@ -55,3 +59,4 @@ table (Width l) = shapeRows 1 l ++ (row 10 (ltb (length (points l)) 3) [] ∷ []
 table (Relation a b) = shapeRows 1 a ++ shapeRows 2 b
 table (Inside a b) = shapeRows 1 a ++ shapeRows 2 b
 table (Clearance a b) = shapeRows 1 a ++ shapeRows 2 b
+table (Tangents a b) = shapeRows 1 a ++ (shapeRows 2 b ++ (row 9 (not (apart (points a) (points b))) [] ∷ []))

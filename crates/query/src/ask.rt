@@ -12,6 +12,7 @@ use questions::answer::Furthest;
 use questions::answer::Inside;
 use questions::answer::Length;
 use questions::answer::Relation;
+use questions::answer::Tangents;
 use questions::answer::Width;
 use text::answers;
 use text::fields;
@@ -46,6 +47,7 @@ fn measure(out: &mut [u8], filled: usize, which: Measure, a: &[i32], b: &[i32]) 
         Measure::Relation => relation(out, filled, a, b),
         Measure::Inside => inside(out, filled, a, b),
         Measure::Clearance => clearance(out, filled, a, b),
+        Measure::Tangents => tangents(out, filled, a, b),
     }
 }
 
@@ -151,5 +153,24 @@ fn clearance(out: &mut [u8], filled: usize, a: &[i32], b: &[i32]) -> usize {
     match questions::clearance(a, b) {
         Clearance::Squared(squared) => answers::ok(out, filled, &[numbers::size(squared)]),
         Clearance::No(refusal) => replies::refuse(out, filled, refusal),
+    }
+}
+
+// The positions of the four lines that just touch both shapes, in the first and in the second.
+fn tangents(out: &mut [u8], filled: usize, a: &[i32], b: &[i32]) -> usize {
+    match questions::tangents(a, b) {
+        Tangents::Lines {
+            left,
+            right,
+            crossing,
+            reverse,
+        } => {
+            let mut now = answers::word(out, filled, b"ok");
+            now = replies::line(out, now, left);
+            now = replies::line(out, now, right);
+            now = replies::line(out, now, crossing);
+            replies::line(out, now, reverse)
+        }
+        Tangents::No(refusal) => replies::refuse(out, filled, refusal),
     }
 }

@@ -1,7 +1,10 @@
-// The questions that answer a picture: one shape, or two with the outline of their sum.
+// The questions that answer a picture: one shape, or two with the outline of their sum and, if they are apart, the four
+// lines that just touch both.
 use crate::replies;
 use questions::SHAPE_NUMBERS;
 use questions::answer::Answer;
+use questions::answer::Line;
+use questions::answer::Tangents;
 use text::answers;
 
 // Draws one shape, or two if a second is given.
@@ -21,11 +24,38 @@ fn one(out: &mut [u8], filled: usize, list: &[i32]) -> usize {
     }
 }
 
-// The picture of two shapes and the outline of their sum. It is refused as their sum is.
+// The picture of two shapes, the outline of their sum, and the lines that just touch both. It is refused as the sum is.
 fn pair(out: &mut [u8], filled: usize, a: &[i32], b: &[i32]) -> usize {
     let mut sum = [0i32; SHAPE_NUMBERS];
     match questions::sum(a, b, &mut sum) {
-        Answer::Corners(corners) => picture::pair(out, filled, a, b, answers::front(&sum, corners)),
+        Answer::Corners(corners) => {
+            let begun = picture::begin_pair(out, filled, a, b, answers::front(&sum, corners));
+            let lined = lines(out, begun, a, b);
+            picture::end_pair(out, lined, a, b, answers::front(&sum, corners))
+        }
         Answer::No(refusal) => replies::refuse(out, filled, refusal),
     }
+}
+
+// The lines that just touch both shapes; none if they are not apart.
+fn lines(out: &mut [u8], filled: usize, a: &[i32], b: &[i32]) -> usize {
+    match questions::tangents(a, b) {
+        Tangents::Lines {
+            left,
+            right,
+            crossing,
+            reverse,
+        } => {
+            let mut now = line(out, filled, a, b, left);
+            now = line(out, now, a, b, right);
+            now = line(out, now, a, b, crossing);
+            line(out, now, a, b, reverse)
+        }
+        Tangents::No(_) => filled,
+    }
+}
+
+// One of the lines.
+fn line(out: &mut [u8], filled: usize, a: &[i32], b: &[i32], line: Line) -> usize {
+    picture::tangent(out, filled, a, line.from, b, line.to)
 }

@@ -1,6 +1,13 @@
-// The replies that know the library's words, without their newlines; the others are in `text`.
+// Refusals, without their newlines; the other replies are in `text`.
+use questions::answer::Line;
 use questions::answer::Refusal;
 use text::answers;
+
+// Adds the two positions of a line.
+pub fn line(out: &mut [u8], filled: usize, line: Line) -> usize {
+    let now = answers::labelled(out, filled, b" ", line.from as u64);
+    answers::labelled(out, now, b" ", line.to as u64)
+}
 
 // Adds a refusal: its number, which shape of the question it means, and where the left rule breaks.
 pub fn refuse(out: &mut [u8], filled: usize, refusal: Refusal) -> usize {
@@ -38,6 +45,7 @@ fn number(refusal: Refusal) -> u64 {
         Refusal::LargeAnswer => 6,
         Refusal::FarAnswer => 7,
         Refusal::Room => 8,
+        Refusal::NotApart => 9,
         Refusal::Flat => 10,
         Refusal::Direction => 11,
     }

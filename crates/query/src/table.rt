@@ -19,6 +19,7 @@ pub enum Measure {
     Relation,
     Inside,
     Clearance,
+    Tangents,
 }
 
 // The questions that write a shape.
@@ -63,7 +64,8 @@ fn on_two(found: Entry, word: &[u8]) -> Entry {
     let mut entry = found;
     entry = measured(entry, word, b"relation", Measure::Relation, pair);
     entry = measured(entry, word, b"inside", Measure::Inside, pair);
-    measured(entry, word, b"clearance", Measure::Clearance, pair)
+    entry = measured(entry, word, b"clearance", Measure::Clearance, pair);
+    measured(entry, word, b"tangents", Measure::Tangents, pair)
 }
 
 // The shapes that are written.

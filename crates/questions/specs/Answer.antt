@@ -21,6 +21,9 @@ use Rattle.questions.specs.declared.answer.Inside.{Inside}
 use Rattle.questions.specs.declared.answer.Inside.the-variants as Inside
 use Rattle.questions.specs.declared.answer.Clearance.{Clearance}
 use Rattle.questions.specs.declared.answer.Clearance.the-variants as Clearance
+use Rattle.questions.specs.declared.answer.Line.{Line}
+use Rattle.questions.specs.declared.answer.Tangents.{Tangents}
+use Rattle.questions.specs.declared.answer.Tangents.the-variants as Tangents
 
 abbrev pub ofRefusal : Refusal → Reply
 ofRefusal (Refusal.Count shape) = refused 1 (shape ∷ [])
@@ -31,6 +34,7 @@ ofRefusal (Refusal.Start shape) = refused 5 (shape ∷ [])
 ofRefusal Refusal.LargeAnswer = refused 6 []
 ofRefusal Refusal.FarAnswer = refused 7 []
 ofRefusal Refusal.Room = refused 8 []
+ofRefusal Refusal.NotApart = refused 9 []
 ofRefusal Refusal.Flat = refused 10 []
 ofRefusal Refusal.Direction = refused 11 []
 
@@ -66,3 +70,10 @@ ofInside (Inside.No r) = ofRefusal r
 abbrev pub ofClearance : Clearance → Reply
 ofClearance (Clearance.Squared n) = answered (n ∷ [])
 ofClearance (Clearance.No r) = ofRefusal r
+
+-- of each line the position in the first shape, then in the second
+abbrev pub ofTangents : Tangents → Reply
+ofTangents (Tangents.Lines p q r s) =
+    answered (pos (p .from) ∷ pos (p .to) ∷ pos (q .from) ∷ pos (q .to)
+    ∷ pos (r .from) ∷ pos (r .to) ∷ pos (s .from) ∷ pos (s .to) ∷ [])
+ofTangents (Tangents.No r) = ofRefusal r

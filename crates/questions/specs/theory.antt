@@ -2,3 +2,4 @@
 pub mod Rows
 pub mod Delivery
 pub mod Measures
+pub mod Lines

@@ -30,6 +30,8 @@ pub enum Refusal {
     FarAnswer,
     // 8: an output that holds fewer numbers than the answer
     Room,
+    // 9: lines that just touch two shapes which are not apart
+    NotApart,
     // 10: the width of a shape of fewer than three corners
     Flat,
     // 11: a direction (0, 0), or with a part out of range
@@ -88,5 +90,23 @@ pub enum Inside {
 // The squared clearance.
 pub enum Clearance {
     Squared(i64),
+    No(Refusal),
+}
+
+// A line from a corner of the first shape to a corner of the second, by their positions.
+pub struct Line {
+    pub from: usize,
+    pub to: usize,
+}
+
+// The four lines that just touch both shapes: both on the left or on the line; both on the right; the first left and
+// the second right; the reverse.
+pub enum Tangents {
+    Lines {
+        left: Line,
+        right: Line,
+        crossing: Line,
+        reverse: Line,
+    },
     No(Refusal),
 }

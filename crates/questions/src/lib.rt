@@ -8,22 +8,27 @@ ghost use mathlib.Core.Path.{_≡_};
 ghost use mathlib.Core.List.{[], _∷_};
 ghost use Rattle.plane.specs.Reply.{answered};
 ghost use Rattle.separation.specs.Place.{placeNumber};
-ghost use Rattle.plane.specs.Point.{point};
+ghost use mathlib.Core.Bool.{true};
+ghost use Rattle.plane.specs.Point.{point, points};
+ghost use Rattle.plane.specs.Refusal.{Valid};
 ghost use Rattle.plane.specs.Judge.{judged};
 ghost use Rattle.plane.specs.Furthest.{furthestReply};
 ghost use Rattle.plane.specs.Combine.{mirrorWritten, sumWritten, mergeWritten};
 ghost use Rattle.plane.specs.Measure.{lengthReply, widthReply};
-ghost use Rattle.plane.specs.Separation.{relationReply, insideReply, clearanceReply};
+ghost use Rattle.plane.specs.Separation.{apart, relationReply, insideReply, clearanceReply};
+ghost use Rattle.plane.specs.Tangent.{tangentFrom, tangentTo, tangentsReply};
 ghost use Rattle.questions.specs.Answer.{ofAnswer, ofFurthest, ofLength, ofWidth};
-ghost use Rattle.questions.specs.Answer.{ofRelation, ofInside, ofClearance};
+ghost use Rattle.questions.specs.Answer.{ofRelation, ofInside, ofClearance, ofTangents};
 use admission::Admission;
 use answer::Answer;
 use answer::Clearance;
 use answer::Furthest;
 use answer::Inside;
 use answer::Length;
+use answer::Line;
 use answer::Refusal;
 use answer::Relation;
+use answer::Tangents;
 use answer::Width;
 use polygon::corners;
 use polygon::direction;
@@ -213,4 +218,41 @@ pub fn clearance(a: &[i32], b: &[i32]) -> Clearance
         return Clearance::Squared(0);
     };
     Clearance::Squared(nearest::nearest(a, b))
+}
+
+// The four lines that just touch both of two shapes that are apart, each from a corner of the first to a corner of the
+// second: both shapes on the left or on the line; both on the right; the first left and the second right; the reverse.
+// A corner on the line counts for either side, and of several pairs on a line the nearest is meant; shapes that all lie
+// in one line have four equal answers. Refused: 1 to 5 of the first shape, then of the second; then shapes that touch
+// or overlap.
+// Ruled out: far pair for the near one; sides taken strictly; crossing lines exchanged; touching shapes answered.
+pub fn tangents(a: &[i32], b: &[i32]) -> Tangents
+    ensures { λ r. ⌜ ofTangents r ≡ tangentsReply (now (a .entry)) (now (b .entry)) ⌝ }
+{
+    if let Admission::No(refusal) = admission::admit_pair(a, b) {
+        return Tangents::No(refusal);
+    }
+    let place = separation::relation(a, b);
+    let Place::Apart = place else {
+        return Tangents::No(Refusal::NotApart);
+    };
+    Tangents::Lines {
+        left: line(a, b, true, true),
+        right: line(a, b, false, false),
+        crossing: line(a, b, true, false),
+        reverse: line(a, b, false, true),
+    }
+}
+
+// The line that has the first shape on side s and the second on side t, true for the left.
+fn line(a: &[i32], b: &[i32], s: bool, t: bool) -> Line
+    requires { ⌜ Valid (now a) × Valid (now b) × (apart (points (now a)) (points (now b)) ≡ true) ⌝ }
+    ensures { λ r. ⌜ (r .from ≡ tangentFrom s t (points (now (a .entry))) (points (now (b .entry))))
+        × (r .to ≡ tangentTo s t (points (now (a .entry))) (points (now (b .entry)))) ⌝ }
+{
+    let found = tangents::tangent(a, b, s, t);
+    Line {
+        from: found.from,
+        to: found.to,
+    }
 }

@@ -1,7 +1,7 @@
 //! The fields of random questions, a function for each row of the table or for several alike.
 
 use super::dice::Dice;
-use super::{List, damage, line, list_text, numbers, pairs, shapes, tails};
+use super::{List, apart, damage, line, list_text, numbers, pairs, shapes, tails};
 use crate::answer::answer;
 use crate::plane::Shape;
 
@@ -17,6 +17,10 @@ pub fn one_shape(dice: &mut Dice) -> Vec<String> {
 
 pub fn two_shapes(dice: &mut Dice) -> Vec<String> {
     texts(&two_lists(dice, pairs::any))
+}
+
+pub fn tangents(dice: &mut Dice) -> Vec<String> {
+    texts(&two_lists(dice, apart::mostly))
 }
 
 pub fn furthest(dice: &mut Dice) -> Vec<String> {

@@ -3,11 +3,13 @@
 //!
 //!     fields                the fields of each question
 //!     shapes, pairs, long   good shapes, alone and in pairs; damage: lists that are refused
+//!     apart                 pairs of good shapes that are mostly apart
 //!     tails                 directions and rooms
 //!     spoil, layout         lines that are no questions; the same text with other spaces
 //!
 //! Nothing here decides an answer: every line is answered from its text alone.
 
+pub mod apart;
 mod damage;
 pub mod dice;
 pub mod edges;

@@ -22,6 +22,11 @@ pub fn any(dice: &mut Dice) -> (Shape, Shape) {
         90..98 => sharing_directions(dice),
         _ => across_the_range(dice),
     };
+    in_either_order(dice, a, b)
+}
+
+/// The two as they are or exchanged, both moved alike.
+pub fn in_either_order(dice: &mut Dice, a: Shape, b: Shape) -> (Shape, Shape) {
     let (a, b) = if dice.one_in(2) { (a, b) } else { (b, a) };
     together(dice, a, b)
 }

@@ -51,9 +51,9 @@ fn every_sort_of_answer_comes_up_often() {
     for (_, line) in lines::questions(&input) {
         *seen.entry(sort_of(line, &answer(line))).or_default() += 1;
     }
-    let often = "no 1,no 2,no 3,no 4,no 5,no 6,no 7,no 8,no 10,no 11,judge ok,furthest ok,\
+    let often = "no 1,no 2,no 3,no 4,no 5,no 6,no 7,no 8,no 9,no 10,no 11,judge ok,furthest ok,\
                  mirror ok,sum ok,merge ok,length ok,width ok,relation apart,relation touching,\
-                 relation overlapping,inside yes,inside no,clearance ok,\
+                 relation overlapping,inside yes,inside no,clearance ok,tangents ok,\
                  unreadable: line too long,unreadable: unknown word,unreadable: missing field,\
                  unreadable: too many fields,unreadable: not a number of 32 bits,\
                  unreadable: too many numbers,unreadable: wrong count of numbers,\

@@ -1,30 +1,22 @@
 -- `clearance` meets its contract: a list is refused, or the shapes are placed, and the nearest corners sought if they are apart.
-use mathlib.Core.Path.{_≡_, sym, _∙_, ap, subst}
-use mathlib.Core.Bool.{false}
-use mathlib.Core.List.{List, [], _∷_, _++_}
-use mathlib.Core.Logic.{inl, inr}
-use native.Mathlib.Omega.{arith}
-use types.Run.{OneOf}
-use denote.Enum.Declared.{tagOf}
+use mathlib.Core.Path.{sym, _∙_, ap, subst}
+use mathlib.Core.List.{[], _∷_, _++_}
 use lib.IntN.{ℤ}
 use mir.Syntax.{w64}
 use Rattle.integer.specs.Machine.{result-is}
-use Rattle.plane.specs.Point.{Point, points}
+use Rattle.plane.specs.Point.{points}
 use Rattle.plane.specs.Reply.{answered}
-use Rattle.plane.specs.Separation.{apart, clearanceReply}
-use Rattle.separation.specs.declared.place.Place.{Place}
-use Rattle.separation.specs.declared.place.Place.the-variants.{Apart, Touching, Overlapping}
+use Rattle.plane.specs.Separation.{clearanceReply}
 use Rattle.separation.specs.Place.{placeNumber}
-use Rattle.separation.specs.Around.{related}
-use Rattle.separation.specs.theory.Around.{related-apart, related-not-apart}
+use Rattle.separation.specs.theory.Around.{related-apart}
 use Rattle.separation.specs.theory.Clearance.{zero-clearance}
 use Rattle.separation.specs.theory.Nearest.{clearance-nearest-apart}
-use Rattle.separation.proofs.place.Place.{the-type}
 use Rattle.questions.specs.theory.Rows.{pair-answer}
 use borrow.Author.Needs.{needs}
 use Rattle.plane.specs.Refusal.{shapeRows, Valid}
 use Rattle.questions.specs.Answer.{ofRefusal}
 use Rattle.questions.specs.Admission.{Refuses, AdmittedPair}
+use Rattle.questions.proofs.Placed.{not-apart}
 use Rattle.questions.proofs.clearance.Statement.{statement}
 use Rattle.questions.proofs.clearance.Tie as tie
 
@@ -45,16 +37,6 @@ enum-known-refusal c = search needs
 
 enum-told : tie.Need-enum-told
 enum-told c = search needs
-
--- a place that is not the first is not apart
-not-apart : (A B : List Point) (p : Place) → OneOf (1 ∷ 2 ∷ []) (tagOf the-type p) → placeNumber p ≡ related A B → apart A B ≡ false
-not-apart A B Apart k h = absurd (neither k)
-  where
-    neither : OneOf (1 ∷ 2 ∷ []) 0 → ⊥
-    neither (inl e) = omega arith
-    neither (inr e) = omega arith
-not-apart A B Touching k h = related-not-apart A B (omega arith) h
-not-apart A B Overlapping k h = related-not-apart A B (omega arith) h
 
 returns : tie.Need-returns
 unfolding clearanceReply

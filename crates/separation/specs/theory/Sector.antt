@@ -1,6 +1,9 @@
 -- Round a shape: the outer normal of an edge, and the sector between the two edges at a corner.
+--     zero-factor                      a product that is 0, of a positive number and another
 --     square-positive                  the value of a vector, not zero, in its own direction
 --     value-outward                    in the direction that an edge faces outwards a point's value falls by its turn
+--     edge-turn, next-left             no corner is right of an edge; the corner after it is left of it
+--     sector                           the step from a corner to a point, written by the two edges at the corner
 --     edge-outermost, edge-nonzero     in it no corner is further than the edge; in a polygon it is not zero
 --     left→reached                     a point that is right of no edge of a polygon is in every direction no further than the polygon
 --     left→passed                      left of all edges: the polygon is further in every direction other than (0,0)
@@ -45,7 +48,7 @@ use Rattle.plane.specs.theory.support.Support.{value-le-support, support-attain
 
 -- ---- vectors
 
-zero-factor : {t z : ℤ} → pos 0 <ℤ t → t *ℤ z ≡ pos 0 → z ≡ pos 0
+pub zero-factor : {t z : ℤ} → pos 0 <ℤ t → t *ℤ z ≡ pos 0 → z ≡ pos 0
 zero-factor {t} {z} h e = go (compared z (pos 0))
   where
     go : Compared z (pos 0) → z ≡ pos 0
@@ -83,7 +86,7 @@ outward-nonzero a b c h = record {
 -- ---- edges and corners of a shape
 
 module _ (ps : List Point) (s : IsShape ps) where
-  edge-turn : (e c : ℕ) → e < length ps → c < length ps → pos 0 ≤ℤ turn (corner ps e) (corner ps (next (length ps) e)) (corner ps c)
+  pub edge-turn : (e c : ℕ) → e < length ps → c < length ps → pos 0 ≤ℤ turn (corner ps e) (corner ps (next (length ps) e)) (corner ps c)
   edge-turn e c h k = go (ℕ-discrete c e) (ℕ-discrete c (next (length ps) e))
     where
       a : Point
@@ -113,7 +116,7 @@ module _ (ps : List Point) (s : IsShape ps) where
           (value-outward a b q & rw (r .2) at (edge-turn e (r .0) h (r .1))) (search linear depth 40) (omega arith)
 
   module _ (three : 2 < length ps) where
-    next-left : (e : ℕ) → e < length ps
+    pub next-left : (e : ℕ) → e < length ps
         → Left (corner ps e) (corner ps (next (length ps) e)) (corner ps (next (length ps) (next (length ps) e)))
     next-left e h =
         let below = next-below (length ps) e h in
@@ -125,18 +128,18 @@ module _ (ps : List Point) (s : IsShape ps) where
 
 -- ---- the sector at a corner p between the edges from a and to c
 
-module _ (d a p c x : Point) (t : Left a p c) (before : value d a ≤ℤ value d p) (after : value d c ≤ℤ value d p) where
-  -- x - p, written by the two edges
-  sector : turn a p c *ℤ (value d x -ℤ value d p)
-      ≡ turn a p x *ℤ (value d c -ℤ value d p) -ℤ turn p c x *ℤ (value d p -ℤ value d a)
-  unfolding value turn
-  sector = ring (d .x ∷ d .y ∷ a .x ∷ a .y ∷ p .x ∷ p .y ∷ c .x ∷ c .y ∷ x .x ∷ x .y ∷ []) (search reify depth 40) tt
+-- x - p, written by the two edges
+pub sector : (d a p c x : Point) → turn a p c *ℤ (value d x -ℤ value d p)
+    ≡ turn a p x *ℤ (value d c -ℤ value d p) -ℤ turn p c x *ℤ (value d p -ℤ value d a)
+unfolding value turn
+sector d a p c x = ring (d .x ∷ d .y ∷ a .x ∷ a .y ∷ p .x ∷ p .y ∷ c .x ∷ c .y ∷ x .x ∷ x .y ∷ []) (search reify depth 40) tt
 
+module _ (d a p c x : Point) (t : Left a p c) (before : value d a ≤ℤ value d p) (after : value d c ≤ℤ value d p) where
   -- both parts of the right side are at most 0
   sector-weak : pos 0 ≤ℤ turn a p x → pos 0 ≤ℤ turn p c x → value d x ≤ℤ value d p
   sector-weak h k = contra≤ (λ g. lia
       (turn a p c ∷ turn a p x ∷ turn p c x ∷ value d x ∷ value d p ∷ value d a ∷ value d c ∷ [])
-      (sector & t <×< g & h ≤×≤ after & k ≤×≤ before) (search linear depth 40) (omega arith))
+      (sector d a p c x & t <×< g & h ≤×≤ after & k ≤×≤ before) (search linear depth 40) (omega arith))
 
   -- a direction in which both edges are level is zero
   level-zero : value d a ≡ value d p → value d c ≡ value d p → d ≡ origin
@@ -158,9 +161,9 @@ module _ (d a p c x : Point) (t : Left a p c) (before : value d a ≤ℤ value d
       go : value d p ≤ℤ value d x → (value d a <ℤ value d p) ⊎ (value d p ≤ℤ value d a)
           → (value d c <ℤ value d p) ⊎ (value d p ≤ℤ value d c) → ⊥
       go g (inl l) r = lia (turn a p c ∷ turn a p x ∷ turn p c x ∷ value d x ∷ value d p ∷ value d a ∷ value d c ∷ [])
-          (sector & t <×≤ g & h <×≤ after & k <×< l) (search linear depth 40) (omega arith)
+          (sector d a p c x & t <×≤ g & h <×≤ after & k <×< l) (search linear depth 40) (omega arith)
       go g (inr l) (inl r) = lia (turn a p c ∷ turn a p x ∷ turn p c x ∷ value d x ∷ value d p ∷ value d a ∷ value d c ∷ [])
-          (sector & t <×≤ g & h <×< r & k <×≤ before) (search linear depth 40) (omega arith)
+          (sector d a p c x & t <×≤ g & h <×< r & k <×≤ before) (search linear depth 40) (omega arith)
       go g (inr l) (inr r) = n .non-zero (level-zero (le-antisym before l) (le-antisym after r))
 
 -- ---- a polygon, at the corner that is furthest

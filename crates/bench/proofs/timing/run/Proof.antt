@@ -1,31 +1,36 @@
--- `run` is safe and ends. The invariant says nothing. The measure: the passes left.
+-- `run` is safe and ends. The invariant: the times keep their length. The measure: how many are left to take.
+use mathlib.Core.Path.{_≡_}
+use lib.ListN.{length}
 use borrow.Author.Needs.{needs}
 use Rattle.bench.proofs.timing.run.Statement.{statement}
 use Rattle.bench.proofs.timing.run.Tie as tie
 
 abbrev Inv-loop : tie.InvT-loop
-Inv-loop question rounds asked₀ judged₀ left₀ asked judged left = Unit
+Inv-loop rounds times₀ left₀ times left = length times ≡ length times₀
 
 abbrev μ-loop : tie.MeasureT-loop
-μ-loop question rounds asked₀ judged₀ left₀ asked judged left = left
+μ-loop rounds times₀ left₀ times left = left
+
+mul-left : tie.Need-mul-left Inv-loop μ-loop
+mul-left c = search needs
 
 loop-holds : tie.Need-loop-holds Inv-loop μ-loop
-loop-holds c = tt
-
-pass-requires : tie.Need-pass-requires Inv-loop μ-loop
-pass-requires c κs = search needs
-
-pass-requires-2 : tie.Need-pass-requires-2 Inv-loop μ-loop
-pass-requires-2 c κs = search needs
+loop-holds c = search needs
 
 sub-left : tie.Need-sub-left Inv-loop μ-loop
 sub-left c = search needs
+
+again-requires : tie.Need-again-requires Inv-loop μ-loop
+again-requires c κs = search needs
 
 loop-less : tie.Need-loop-less Inv-loop μ-loop
 loop-less c = search needs
 
 loop-again : tie.Need-loop-again Inv-loop μ-loop
-loop-again c = tt
+loop-again c = search needs
+
+same-length : tie.Need-same-length Inv-loop μ-loop
+same-length c = search needs
 
 returns : tie.Need-returns Inv-loop μ-loop
 returns c = search needs
@@ -36,10 +41,11 @@ run-spec =
     (tie.spec
     Inv-loop
     μ-loop
+    mul-left
     loop-holds
-    pass-requires
-    pass-requires-2
     sub-left
+    again-requires
     loop-less
     loop-again
+    same-length
     returns)

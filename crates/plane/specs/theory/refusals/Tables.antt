@@ -11,12 +11,14 @@ use Rattle.plane.specs.Furthest.{furthestReply}
 use Rattle.plane.specs.Combine.{mirrorWritten, sumWritten, mergeWritten}
 use Rattle.plane.specs.Measure.{lengthReply, widthReply}
 use Rattle.plane.specs.Separation.{relationReply, insideReply, clearanceReply}
-use Rattle.plane.specs.Question.{Question, Judge, Furthest, Mirror, Sum, Merge, Length, Width, Relation, Inside, Clearance, reply}
-use Rattle.plane.specs.Question.{table}
+use Rattle.plane.specs.Tangent.{tangentsReply}
+use Rattle.plane.specs.Question.{Question, Judge, Furthest, Mirror, Sum, Merge, Length, Width, Relation, Inside, Clearance, Tangents}
+use Rattle.plane.specs.Question.{reply, table}
 use Rattle.plane.specs.theory.refusals.Rows.{NoneApply, First, firstRow-given, firstRow-none, firstRow-answered, firstRow-refused}
 
 pub follows : (q : Question) → (values : List ℤ) × (reply q ≡ firstRow (table q) (answered values))
 unfolding judged furthestReply mirrorWritten sumWritten mergeWritten lengthReply widthReply relationReply insideReply clearanceReply
+    tangentsReply
 follows (Judge l) = (_, refl)
 follows (Furthest l d) = (_, refl)
 follows (Mirror l out) = (_, refl)
@@ -27,6 +29,7 @@ follows (Width l) = (_, refl)
 follows (Relation a b) = (_, refl)
 follows (Inside a b) = (_, refl)
 follows (Clearance a b) = (_, refl)
+follows (Tangents a b) = (_, refl)
 
 module _ (q : Question) where
   pub table-given : {w : Row} → First w (table q) → reply q ≡ refused (w .number) (w .carries)

@@ -1,4 +1,5 @@
--- `take_all` is safe and ends. The invariant: no more fields are passed than there are, and both buffers keep their length. The measure: the fields left.
+-- `take_all` is safe and ends. The invariant: no more fields are passed than there are, and both buffers keep their length.
+-- The measure: the fields left.
 use mathlib.Core.Path.{_≡_}
 use Prim.Native.Nat.{_≤_, _-_}
 use lib.ListN.{length}
@@ -7,7 +8,8 @@ use Rattle.text.proofs.fields.take_all.Statement.{statement}
 use Rattle.text.proofs.fields.take_all.Tie as tie
 
 abbrev Inv-loop : tie.InvT-loop
-Inv-loop line kinds count values₀ marks₀ bar₀ held₀ k₀ values marks bar held k = (k ≤ count) × ((length values ≡ length values₀) × (length marks ≡ length marks₀))
+Inv-loop line kinds count values₀ marks₀ bar₀ held₀ k₀ values marks bar held k =
+    (k ≤ count) × ((length values ≡ length values₀) × (length marks ≡ length marks₀))
 
 abbrev μ-loop : tie.MeasureT-loop
 μ-loop line kinds count values₀ marks₀ bar₀ held₀ k₀ values marks bar held k = count - k
