@@ -9,8 +9,9 @@ ghost use Rattle.plane.specs.Shape.{IsShape};
 use crate::edges;
 use polygon::corners;
 
-// Whether each edge of the list comes before the next by its direction, the last being the one back to the first corner.
-// If so the list is a shape; every shape passes, though that is not promised here. The last edge is carried along.
+// Whether each edge of the list comes before the next by its direction, the last being the one back to the first
+// corner. If so the list is a shape; every shape passes, though that is not promised here. The last edge is carried
+// along.
 // Ruled out: closing edge left unchecked; list that winds twice passed; weak for strict.
 pub fn is_sorted(list: &[i32]) -> bool
     requires { ⌜ InRange (now list) × (0 < length (points (now list))) ⌝ }

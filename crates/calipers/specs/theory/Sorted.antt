@@ -60,7 +60,8 @@ pub passed-shape : (ps : List Point) (i : ℕ) → 1 < length ps → i + 1 ≡ l
 passed-shape [] i h e p l = absurd (omega arith)
 passed-shape (a ∷ []) i h e p l = absurd (omega arith)
 passed-shape (a ∷ (b ∷ ps)) i h e p l = sorted→shape (a ∷ b ∷ ps)
-    (passed-from (b ⊖ a) (edgesTo a b ps) (λ k g. p .ordered k (omega (arith, size))) (subst (λ k. NonZero (corner (edges (a ∷ b ∷ ps)) k)) (sym size) last))
+    (passed-from (b ⊖ a) (edgesTo a b ps) (λ k g. p .ordered k (omega (arith, size)))
+    (subst (λ k. NonZero (corner (edges (a ∷ b ∷ ps)) k)) (sym size) last))
   where
     count : length (edges (a ∷ b ∷ ps)) ≡ length (a ∷ b ∷ ps)
     count = edges-some (a ∷ b ∷ ps) h
@@ -74,4 +75,7 @@ passed-shape (a ∷ (b ∷ ps)) i h e p l = sorted→shape (a ∷ b ∷ ps)
         ∙ ap (λ t. corner (a ∷ b ∷ ps) (cond t 0 (i + 1)) ⊖ corner (a ∷ b ∷ ps) i) (eq-eqb (i + 1) (length (a ∷ b ∷ ps)) e)
 
     last : NonZero (corner (edges (a ∷ b ∷ ps)) i)
-    last = record { non-zero = λ z. precedes-different (record { precedes-true = l }) (sym (⊖-zero (corner (a ∷ b ∷ ps) i) a (sym home ∙ z))) }
+    last = record {
+      non-zero = λ z. precedes-different (record { precedes-true = l })
+          (sym (⊖-zero (corner (a ∷ b ∷ ps) i) a (sym home ∙ z)));
+    }

@@ -1,5 +1,5 @@
--- `is_sorted` meets its contract. The invariant: each edge up to the carried one, edge i, is before the one after it; the measure is what is
--- left.
+-- `is_sorted` meets its contract. The invariant: each edge up to the carried one, edge i, is before the one after it; the measure is
+-- what is left.
 use mathlib.Core.Path.{_≡_, sym, _∙_, ap, ap₂}
 use mathlib.Core.Bool.{Bool, true, false, false≢true}
 use Prim.Native.Nat.{ℕ, _+_, _-_, _<_}

@@ -67,5 +67,5 @@ returns c =
 pub some-outside-spec : {M : Type 1} → statement M
 some-outside-spec =
     tie.close
-    (tie.spec Inv-loop μ-loop loop-holds mul-outside shared-slice-copy-out-outside outside-requires either-requires add-i loop-less loop-again
-    returns)
+    (tie.spec Inv-loop μ-loop loop-holds mul-outside shared-slice-copy-out-outside outside-requires either-requires add-i loop-less
+    loop-again returns)
