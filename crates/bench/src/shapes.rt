@@ -14,9 +14,9 @@ pub const MOVED: usize = 1000;
 pub fn size(column: usize) -> usize {
     match column {
         0 => 32,
-        1 => 64,
+        1 => 100,
         2 => 128,
-        3 => 256,
+        3 => 400,
         _ => 512,
     }
 }

@@ -1,4 +1,4 @@
-// The table on standard output: a name, a column for each size, and a ratio.
+// The table on standard output: a name, a column for each size, and two ratios.
 use crate::number;
 use libc::STDOUT_FILENO;
 
@@ -11,7 +11,7 @@ const WHOLE: usize = 6;
 pub fn head() {
     write(b"microseconds a call, by corners\n");
     write(b"                    ");
-    write(b"        32        64       128       256       512   512/128\n");
+    write(b"        32       100       128       400       512   400/100   512/128\n");
 }
 
 // A line of the table, from times in nanoseconds.
@@ -23,6 +23,7 @@ pub fn row(name: &[u8], times: &[u64; 5]) {
     thousandths(times[2]);
     thousandths(times[3]);
     thousandths(times[4]);
+    thousandths(number::ratio(times[3], times[1]));
     thousandths(number::ratio(times[4], times[2]));
     write(b"\n");
 }

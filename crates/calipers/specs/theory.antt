@@ -8,3 +8,4 @@ pub mod Pass
 pub mod Steps
 pub mod Directions
 pub mod Visits
+pub mod Sorted

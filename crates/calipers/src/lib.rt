@@ -2,6 +2,7 @@
 // `questions`.
 pub mod edges;
 mod part;
+pub mod sorted;
 pub mod walk;
 
 ghost use Prim.Native.Nat.{_+_, _≤_};

@@ -1,5 +1,4 @@
 // Inner functions: the caliper walk round two shapes, their edges passed in the order of their directions.
-ghost use mathlib.Core.Bool.{_||_};
 ghost use mathlib.Core.Path.{_≡_};
 ghost use Rattle.plane.specs.Point.{points};
 ghost use Rattle.plane.specs.Refusal.{InRange};
@@ -91,11 +90,4 @@ fn finished(a: &[i32], i: usize, b: &[i32], j: usize) -> bool
     ensures { λ r. ⌜ r ≡ Walk·finished (points (now (a .entry))) i (points (now (b .entry))) j ⌝ }
 {
     i == edges::sides(a) && j == edges::sides(b)
-}
-
-// Whether one of the two holds: what a walk gathers of its places.
-pub fn either(x: bool, y: bool) -> bool
-    ensures { λ r. ⌜ r ≡ (x || y) ⌝ }
-{
-    x || y
 }

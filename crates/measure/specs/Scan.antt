@@ -6,7 +6,7 @@
 --     LengthAt ps r           r is the first pair of corners at the greatest distance
 --     Moving a m t w next     one step of the walk round a shape of three corners or more
 --     Best a k b              b is the narrowest of the first k edges
--- What they mean: `Leads` and `Width` of the plane's theory.
+-- What they mean: `Comparison.antt`, and `LengthScan` of the theory.
 use mathlib.Core.Path.{_≡_}
 use mathlib.Core.List.{List}
 use Prim.Native.Nat.{ℕ, _≤_, _<_}

@@ -1,5 +1,5 @@
 -- Relation, inside and clearance (document 01, "What each question asks", last three paragraphs), as tests that compute. That they are the
--- paper's sentences about all whole-number directions is proved (`MeaningSeparation.antt`).
+-- paper's sentences about all whole-number directions is proved (`Meaning.antt` of separation).
 --     inside A B        the shape of both together is that of B: "in every whole-number direction the first's greatest value is at most
 --                       the second's"
 --     differences A B   all points a - b: A and B are apart in a direction exactly if all of these have a value below 0 in it

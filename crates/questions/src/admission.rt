@@ -1,6 +1,7 @@
 // Inner functions: lists judged, each once, before a question is asked of them.
 ghost use Rattle.questions.specs.Admission.{Admitted, AdmittedPair};
 use crate::answer::Refusal;
+use calipers::sorted;
 use polygon::rules;
 use polygon::rules::Broken;
 
@@ -10,7 +11,8 @@ pub enum Admission {
     No(Refusal),
 }
 
-// Judges a list that is the first or the second shape of a question: refusals 1 to 5 in their order.
+// Judges a list that is the first or the second shape of a question: refusals 1 to 5 in their order. A shape is told in
+// one pass round its corners; only a list that fails the pass has its edges compared with all corners.
 // Ruled out: positions swapped; everything refused.
 pub fn admit(list: &[i32], shape: usize) -> Admission
     ensures { λ r. ⌜ Admitted shape (now (list .entry)) r ⌝ }
@@ -23,6 +25,9 @@ pub fn admit(list: &[i32], shape: usize) -> Admission
     }
     if rules::some_outside(list) {
         return Admission::No(Refusal::Range { shape });
+    }
+    if sorted::is_sorted(list) {
+        return Admission::Valid;
     }
     if let Broken::At { edge, corner } = rules::first_broken(list) {
         return Admission::No(Refusal::Side {

@@ -1,5 +1,5 @@
-// The questions of document 01, and all that callers need of this library. Each judges its own lists, once each, gives
-// its refusals in the order of the table, and asks one inner function.
+// The questions of documents 01 and 02, and all that callers need of this library. Each judges its own lists, once
+// each, gives its refusals in the order of the table, and asks one inner function.
 mod admission;
 pub mod answer;
 mod deliver;

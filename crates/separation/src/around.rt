@@ -10,8 +10,8 @@ ghost use Rattle.separation.specs.Place.{placeNumber};
 ghost use Rattle.separation.specs.Around.{Passed, placed, placedFew};
 use crate::place::Place;
 use calipers::walk::Walk;
-use calipers::walk::either;
 use polygon::point;
+use polygon::rules::either;
 
 // What a walk round all edges saw: how many there are, whether the origin is to the right of one, and whether
 // it is not to the left of one.

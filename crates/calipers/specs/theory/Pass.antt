@@ -1,7 +1,7 @@
 -- What one step of the walk passes: how the test is decided.
 --     takes-none, takes-alone, takes-asked     there is no edge; there is one and none of the other list; the edges are compared
 --     passed-le                                no more edges are passed than there are
--- How the walk goes on by its places is in `Standing` and `Places` of the plane.
+-- How the walk goes on by its places is in `Standing` and `Places`.
 use mathlib.Core.Path.{_≡_}
 use mathlib.Core.Bool.{true, false, not}
 use mathlib.Core.List.{List}

@@ -1,7 +1,8 @@
 -- The rows of refusals 1 to 5 against "What makes a shape".
 --     near→inRange, inRange→near      row 3 does not apply exactly if every coordinate is in range
 --     few-corners, corners-few            row 2 does not apply exactly if there are few enough corners
---     accepted→valid          no row applies: the list is valid
+--     counted                 row 1 does not apply: there is a corner, and an even count of numbers
+--     accepted→valid          no row applies: the list is valid; `shape→valid`: rows 1 to 3 do not, and the corners are a shape
 --     valid→accepted          a valid list: no row applies
 use mathlib.Core.Path.{_≡_, refl, sym, _∙_, ap, ap₂}
 use mathlib.Core.Bool.{Bool, true, false, not, _||_, true≢false}
@@ -49,7 +50,7 @@ either-false : (a b : Bool) → (a || b) ≡ false → (a ≡ false) × (b ≡ f
 either-false true b h = absurd (true≢false h)
 either-false false b h = (refl, h)
 
-counted : (l : List ℤ) → badCount l ≡ false → (0 < length (points l)) × (length l % 2 ≡ 0)
+pub counted : (l : List ℤ) → badCount l ≡ false → (0 < length (points l)) × (length l % 2 ≡ 0)
 unfolding badCount
 counted l h =
     let tests = either-false (eqb (length l) 0) (eqb (length l % 2) 1) h in
@@ -147,3 +148,12 @@ module _ (l : List ℤ) where
           ),
         ),
       )
+
+-- rows 1 to 3 do not apply, and the corners are known to be a shape: then 4 and 5 do not either
+pub shape→valid : (l : List ℤ) → badCount l ≡ false → tooMany (points l) ≡ false → someOutside l ≡ false → IsShape (points l) → Valid l
+shape→valid l count few near s = record {
+  paired = counted l count .1;
+  few = few-corners (points l) few;
+  inRange = near→inRange l near;
+  shape = s;
+}

@@ -4,6 +4,7 @@
 --     equalPair-equal                           what the test of a pair says
 --     equalPair-other, equalPair-two            a list of another length than two; a list of two, also by the order of its corners
 --     outside-found, outside-none, none-outside               a list with a number outside its range; a list with none, by position
+--     outside-some                              the test of all numbers, one after the other
 use mathlib.Core.Path.{_≡_, refl, sym, _∙_}
 use mathlib.Core.Bool.{Bool, true, false, not, _&&_, _||_}
 use mathlib.Core.List.{List, [], _∷_}
@@ -21,7 +22,7 @@ use Rattle.plane.specs.Turn.{turn}
 use Rattle.plane.specs.Search.{some}
 use Rattle.plane.specs.Shape.{next, breaks, precedes}
 use Rattle.plane.specs.Refusal.{outside, someOutside, equalPair, leftBroken, breakingEdge, breakingCorner}
-use Rattle.plane.specs.theory.lists.Sought.{true-not-false, first-true, first-least, some-none, some-found}
+use Rattle.plane.specs.theory.lists.Sought.{true-not-false, first-true, first-least, some-witness, some-none, some-found}
 use Rattle.plane.specs.theory.lists.Members.{samePoint-equal}
 use Rattle.plane.specs.theory.forms.Precedes.{samePoint-neither}
 
@@ -109,3 +110,10 @@ none-outside l h i b = go (outside (getD l i (pos 0))) refl
     go : (t : Bool) → outside (getD l i (pos 0)) ≡ t → t ≡ false
     go true e = true-not-false (outside-found l i b e) h
     go false e = refl
+
+pub outside-some : (l : List ℤ) → some (λ k. outside (getD l k (pos 0))) (length l) ≡ someOutside l
+outside-some l = go (some (λ k. outside (getD l k (pos 0))) (length l)) refl
+  where
+    go : (t : Bool) → some (λ k. outside (getD l k (pos 0))) (length l) ≡ t → t ≡ someOutside l
+    go true e = let r = some-witness _ (length l) e in sym (outside-found l (r .0) (r .1) (r .2))
+    go false e = sym (outside-none l (some-none _ (length l) e))

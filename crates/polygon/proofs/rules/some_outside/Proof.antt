@@ -1,62 +1,71 @@
--- `some_outside` meets its contract. The invariant: no coordinate before i is out of range; the measure is what is left.
-use mathlib.Core.Path.{_≡_, sym, _∙_, ap}
-use Prim.Native.Nat.{_-_}
+-- `some_outside` meets its contract. The invariant: what is gathered is the test of the first i numbers; the measure is what is left.
+use mathlib.Core.Path.{_≡_, refl, sym, _∙_, ap, ap₂}
+use mathlib.Core.Bool.{Bool, _||_}
+use Prim.Native.Nat.{ℕ, _-_, _≤_}
+use native.Mathlib.Numerals.{add-one}
 use native.Mathlib.Omega.{arith}
-use borrow.Author.Needs.{sfits-of}
+use borrow.Author.Needs.{needs, sfits-of}
 use lib.IntN.{pos}
 use lib.ListN.{length, getD}
 use mir.Facts.{toZ-ofZ}
+use Rattle.plane.specs.Search.{some}
 use Rattle.plane.specs.Refusal.{outside}
-use Rattle.plane.specs.theory.lists.Sought.{Sought, sought-start, sought-more}
-use Rattle.plane.specs.theory.refusals.Tests.{outside-found, outside-none}
+use Rattle.plane.specs.theory.refusals.Tests.{outside-some}
 use Rattle.polygon.proofs.rules.some_outside.Statement.{statement}
 use Rattle.polygon.proofs.rules.some_outside.Tie as tie
 
 abbrev Inv-loop : tie.InvT-loop
-Inv-loop list i₀ i = Sought (λ k. outside (getD list k (pos 0))) (length list) i
+Inv-loop list far₀ i₀ far i = (i ≤ length list) × (far ≡ some (λ k. outside (getD list k (pos 0))) i)
 
 abbrev μ-loop : tie.MeasureT-loop
-μ-loop list i₀ i = length list - i
-
-loop-holds : tie.Need-loop-holds Inv-loop μ-loop
-loop-holds c = sought-start _ _
-
-mul-outside : tie.Need-mul-outside Inv-loop μ-loop
-mul-outside c = omega arith
-
-shared-slice-copy-out-outside : tie.Need-shared-slice-copy-out-outside Inv-loop μ-loop
-shared-slice-copy-out-outside c = omega arith
-
-outside-requires : tie.Need-outside-requires Inv-loop μ-loop
-outside-requires c κs = tt
+μ-loop list far₀ i₀ far i = length list - i
 
 -- the test's result is that of the coordinate, which was read back from its bits
 told : (c : tie.After-outside Inv-loop μ-loop)
     → c .outside .result ≡ outside (getD (c .before .before .before .before .args .list .now) (c .before .before .before .loop .i) (pos 0))
 told c = c .outside .ensures ∙ ap outside (toZ-ofZ (sfits-of (c .before .outside-arg .given)))
 
-returns : tie.Need-returns Inv-loop μ-loop
-returns c =
-    let at-loop = c .before .before .before .before in
-    sym (outside-found _ (at-loop .loop .i) (c .before .before .before .loop-test .taken) (sym (told (c .before)) ∙ c .if1 .taken))
+loop-holds : tie.Need-loop-holds Inv-loop μ-loop
+loop-holds c = (omega arith, refl)
+
+mul-outside : tie.Need-mul-outside Inv-loop μ-loop
+mul-outside c = search needs
+
+shared-slice-copy-out-outside : tie.Need-shared-slice-copy-out-outside Inv-loop μ-loop
+shared-slice-copy-out-outside c = search needs
+
+outside-requires : tie.Need-outside-requires Inv-loop μ-loop
+outside-requires c κs = search needs
+
+either-requires : tie.Need-either-requires Inv-loop μ-loop
+either-requires c κs = search needs
 
 add-i : tie.Need-add-i Inv-loop μ-loop
 add-i c = omega arith
 
 loop-less : tie.Need-loop-less Inv-loop μ-loop
-loop-less c = omega arith
+loop-less c = let in-loop = c .before .before .before in omega (arith, in-loop .loop-test .taken)
 
 loop-again : tie.Need-loop-again Inv-loop μ-loop
 loop-again c =
-    let at-loop = c .before .before .before .before in
-    let test = c .before .before .before .loop-test .taken in
-    sought-more _ _ (at-loop .loop .i) (at-loop .loop .inv) test (sym (told (c .before)) ∙ c .if1 .left)
+    let in-loop = c .before .before .before in
+    let at-loop = in-loop .before in
+    let list = at-loop .before .args .list .now in (
+      omega (arith, in-loop .loop-test .taken),
+      c .either .ensures ∙ ap₂ (λ (s t : Bool). s || t) (at-loop .loop .inv .1) (told (c .before))
+          ∙ ap (some (λ (k : ℕ). outside (getD list k (pos 0)))) (sym (add-one (at-loop .loop .i))),
+    )
 
-returns-2 : tie.Need-returns-2 Inv-loop μ-loop
-returns-2 c = sym (outside-none _ (λ k h. c .before .loop .inv .none k (omega (arith, c .loop-test .left))))
+returns : tie.Need-returns Inv-loop μ-loop
+returns c =
+    let at-loop = c .before in
+    let list = at-loop .before .args .list .now in
+    let all : at-loop .loop .i ≡ length list = omega (arith, c .loop-test .left, at-loop .loop .inv .0) in
+    at-loop .loop .inv .1 ∙ ap (some (λ (k : ℕ). outside (getD list k (pos 0)))) all
+    ∙ outside-some list
 
 pub some-outside-spec : {M : Type 1} → statement M
 some-outside-spec =
     tie.close
-    (tie.spec Inv-loop μ-loop loop-holds mul-outside shared-slice-copy-out-outside outside-requires returns add-i loop-less loop-again
-    returns-2)
+    (tie.spec Inv-loop μ-loop loop-holds mul-outside shared-slice-copy-out-outside outside-requires either-requires add-i loop-less
+    loop-again returns)

@@ -7,7 +7,7 @@ use borrow.Author.Needs.{needs}
 use Rattle.plane.specs.Point.{points}
 use Rattle.plane.specs.Reply.{refused}
 use Rattle.plane.specs.Refusal.{badCount, tooMany, someOutside, ruleBroken}
-use Rattle.plane.specs.theory.refusals.Accept.{near→inRange, accepted→valid}
+use Rattle.plane.specs.theory.refusals.Accept.{near→inRange, counted, accepted→valid, shape→valid}
 use Rattle.polygon.proofs.LeftRule.{broken-found, broken-none}
 use Rattle.questions.proofs.admission.admit.Statement.{statement}
 use Rattle.questions.proofs.admission.admit.Tie as tie
@@ -25,7 +25,7 @@ row-3 c = sym (c .before .some-outside .ensures) ∙ c .if3 .left
 
 -- past the search for a broken edge there is none
 row-4 : (c : tie.After-enum-told) → ruleBroken
-    (points (c .before .before .before .before .before .before .before .before .before .args .list .now)) ≡ false
+    (points (c .before .before .before .before .before .before .before .before .before .before .before .args .list .now)) ≡ false
 row-4 c = broken-none _ (sym (c .before .before .first-broken .ensures) ∙ c .enum-told .given .1)
 
 -- ---- the needs
@@ -50,15 +50,26 @@ returns-3 c =
     let at-2 = c .before .before in
     record { whatever = λ x. rw (row-1 (at-2 .before .before), row-2 at-2, sym (c .before .some-outside .ensures) ∙ c .if3 .taken) }
 
+is-sorted-requires : tie.Need-is-sorted-requires
+is-sorted-requires c κs =
+    let at-2 = c .before .before in
+    (near→inRange _ (row-3 c), counted _ (row-1 (at-2 .before .before)) .0)
+
+returns-4 : tie.Need-returns-4
+returns-4 c =
+    let at-3 = c .before .before in
+    let at-2 = at-3 .before .before in
+    shape→valid _ (row-1 (at-2 .before .before)) (row-2 at-2) (row-3 at-3) (c .before .is-sorted .ensures (c .if4 .taken))
+
 first-broken-requires : tie.Need-first-broken-requires
-first-broken-requires c κs = near→inRange _ (row-3 c)
+first-broken-requires c κs = near→inRange _ (row-3 (c .before .before))
 
 enum-known-edge : tie.Need-enum-known-edge
 enum-known-edge c = search needs
 
-returns-4 : tie.Need-returns-4
-returns-4 c =
-    let at-3 = c .before .before .before .before in
+returns-5 : tie.Need-returns-5
+returns-5 c =
+    let at-3 = c .before .before .before .before .before .before in
     let at-2 = at-3 .before .before in
     let start = at-2 .before .before .before .before in
     let found = broken-found _ _ _ (sym (c .before .before .before .first-broken .ensures) ∙ c .before .edge .given .1) in
@@ -73,10 +84,10 @@ enum-told c = search needs
 bad-start-requires : tie.Need-bad-start-requires
 bad-start-requires c κs = search needs
 
-returns-5 : tie.Need-returns-5
-returns-5 c =
+returns-6 : tie.Need-returns-6
+returns-6 c =
     let at-4 = c .before .before in
-    let at-3 = at-4 .before .before .before in
+    let at-3 = at-4 .before .before .before .before .before in
     let at-2 = at-3 .before .before in
     record {
       whatever = λ x. rw (
@@ -85,21 +96,22 @@ returns-5 c =
         row-3 at-3,
         row-4 at-4,
         sym (c .before .bad-start .ensures)
-            ∙ c .if4 .taken,
+            ∙ c .if5 .taken,
       );
     }
 
-returns-6 : tie.Need-returns-6
-returns-6 c =
+returns-7 : tie.Need-returns-7
+returns-7 c =
     let at-4 = c .before .before in
-    let at-3 = at-4 .before .before .before in
+    let at-3 = at-4 .before .before .before .before .before in
     let at-2 = at-3 .before .before in
     let start = at-2 .before .before .before .before in
     accepted→valid _ (start .args .shape)
-    (row-1 (at-2 .before .before), (row-2 at-2, (row-3 at-3, (row-4 at-4, (sym (c .before .bad-start .ensures) ∙ c .if4 .left, tt)))))
+    (row-1 (at-2 .before .before), (row-2 at-2, (row-3 at-3, (row-4 at-4, (sym (c .before .bad-start .ensures) ∙ c .if5 .left, tt)))))
 
 pub admit-spec : {M : Type 1} → statement M
 admit-spec =
     tie.close
-    (tie.spec bad-count-requires returns too-many-requires returns-2 some-outside-requires returns-3 first-broken-requires enum-known-edge
-    returns-4 enum-told bad-start-requires returns-5 returns-6)
+    (tie.spec bad-count-requires returns too-many-requires returns-2 some-outside-requires returns-3 is-sorted-requires returns-4
+    first-broken-requires enum-known-edge
+    returns-5 enum-told bad-start-requires returns-6 returns-7)
