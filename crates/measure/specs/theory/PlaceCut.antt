@@ -22,7 +22,7 @@ use Rattle.plane.specs.Direction.{value, support}
 use Rattle.plane.specs.Forms.{before, NonZero, InOrder, edges}
 use Rattle.plane.specs.theory.lists.Sought.{true-not-false}
 use Rattle.plane.specs.theory.forms.Vector.{total, quarter, value-cross, value-⊕}
-use Rattle.plane.specs.theory.forms.SameWay.{SameWay, same-right}
+use Rattle.plane.specs.theory.forms.SameWay.{SameWay, same-right, same-flat, same-not-before}
 use Rattle.plane.specs.theory.forms.Standard.{shape→sorted}
 use Rattle.plane.specs.theory.sum.Cut.{toCut, toCut-take, toCut-leave, value-toCut, cut-formula}
 use Rattle.plane.specs.theory.sum.Positions.{edgeOf}
@@ -31,7 +31,7 @@ use Rattle.plane.specs.theory.sum.Positions.{round-inner, round-within, round-s
 use Rattle.plane.specs.theory.sum.Positions.{edge-at, edges-some, in-order-at, in-order-non-zero}
 use Rattle.calipers.specs.theory.Standing.{Taken, taken-same, taken-before, taken-after}
 use Rattle.calipers.specs.Places.{Standing}
-use Rattle.measure.specs.theory.Tied.{same-flat, same-not-before, Tied, after, behind, tied}
+use Rattle.measure.specs.theory.Tied.{Tied, after, behind, tied}
 
 -- the edges before the cut, by their number
 toCut-at : (d : Point) (F : List Point) (j : ℕ) → j ≤ length F → ((k : ℕ) → k < j → before (corner F k) (quarter d) ≡ true)
