@@ -57,7 +57,8 @@ fn high_word(x: u64, w: u64, carry: u64) -> u64
     }
 }
 
-// The low word of x·y. Written by halves, as is the high word: the compiler makes one multiplication of each.
+// The low word of x·y. It is written by halves of words, as the high word is: a product of two words fits no type. The
+// compiler makes one multiplication of either; a function that gave both would be left as it is.
 fn low_product(x: u64, y: u64) -> u64
     ensures { λ r. ⌜ r ≡ x * y % 2 ^ 64 ⌝ }
 {

@@ -3,7 +3,7 @@ pub mod arithmetic;
 mod root;
 
 ghost use mathlib.Core.Path.{_≡_};
-ghost use Prim.Native.Nat.{_*_, _<_, _≤_};
+ghost use Prim.Native.Nat.{_*_, _<_};
 ghost use lib.Dec.{ltb};
 ghost use lib.ListN.{length};
 ghost use Rattle.words.specs.Value.{value};
@@ -22,9 +22,8 @@ pub fn fraction_less(t1: u64, q1: u64, t2: u64, q2: u64) -> bool
     arithmetic::is_less(&left, &right)
 }
 
-// The square root of t·t/q, rounded down; 0 where t·t is below q. The root lies between 0 and t. A number near the root
-// is tried first, then numbers further and further away, until the root is between two of them; then each turn halves
-// what is left.
+// The square root of t·t/q, rounded down; 0 where t·t is below q. The root lies between 0 and t. A number near it is
+// tried first, then others, each further off, until it lies between two; then each turn halves what is left.
 // Ruled out: root one too large.
 pub fn root_of_fraction(t: u64, q: u64) -> u64
     requires positive { ⌜ 0 < q ⌝ }

@@ -57,5 +57,5 @@ returns c = between-end (c .before .loop .inv) (c .loop-test .left)
 pub root-of-fraction-spec : {M : Type 1} → statement M
 root-of-fraction-spec =
     tie.close
-    (tie.spec Inv-loop μ-loop near-root-requires loop-holds between-requires fraction-less-requires sub-high wrapping-sub-u64-requires loop-less
-    loop-again wrapping-add-u64-requires loop-less-2 loop-again-2 returns)
+    (tie.spec Inv-loop μ-loop near-root-requires loop-holds between-requires fraction-less-requires sub-high wrapping-sub-u64-requires
+    loop-less loop-again wrapping-add-u64-requires loop-less-2 loop-again-2 returns)

@@ -1,7 +1,9 @@
 -- Carrying: one word of a product is stored, the rest goes on to the next word.
+--     high-kept, high-raised        the high word of p + c: that of p, or one more where the sum of the low words wraps
+--     high-room                     one more is a word still
 --     Scaling a w l c i             the first i words of a·w are stored in l, and c is the carry
 --     scaling-start, -more, -end    the moves of its loop; the last carry is the highest word
-use mathlib.Core.Path.{_≡_, refl, sym, _∙_, ap}
+use mathlib.Core.Path.{_≡_, sym, _∙_, ap}
 use mathlib.Core.List.{List}
 use Prim.Native.Nat.{ℕ, _+_, _-_, _*_, _/_, _%_, _^_, _≤_, _<_}
 use native.Mathlib.Nat.{mod-add-div, lt-of-le-of-lt, mul-le-mul-right, mul-lt-mul-of-pos-left, div-lt-iff-lt-mul}
@@ -9,10 +11,10 @@ use native.Mathlib.Omega.{arith}
 use lib.ListN.{length, getD, take, set, length-set}
 use lib.Pow.{pow-pos}
 use lib.Seq.{take-all}
-use Rattle.words.specs.Value.{value, weight}
-use Rattle.words.specs.theory.Laws.{weight-zero, weight-next, value-take, value-store}
+use Rattle.words.specs.Value.{value}
+use Rattle.words.specs.theory.Laws.{weight, weight-next, value-take, value-store}
 
--- ---- the high word of p + c, from that of p
+-- ---- the high word
 
 module _ (p : ℕ) {c high low : ℕ} (h : high ≡ p / 2 ^ 64) (l : low ≡ (p + c) % 2 ^ 64) (word : c < 2 ^ 64) where
   pub high-kept : c ≤ low → high ≡ (p + c) / 2 ^ 64
@@ -42,7 +44,7 @@ module _ {a : List ℕ} {w : ℕ} where
   unfolding value
   scaling-start h = record { within = omega arith; long = h; sum = omega arith }
 
-  pub scaling-more : {l : List ℕ} {c i : ℕ} {r q : ℕ} → Scaling a w l c i → i < length a → r ≡ (getD a i 0 * w + c) % 2 ^ 64
+  pub scaling-more : {l : List ℕ} {c i r q : ℕ} → Scaling a w l c i → i < length a → r ≡ (getD a i 0 * w + c) % 2 ^ 64
       → q ≡ (getD a i 0 * w + c) / 2 ^ 64 → Scaling a w (set l i r) q (i + 1)
   scaling-more {l} {c} {i} {r} {q} s h low high =
       let e : r + 2 ^ 64 * q ≡ getD a i 0 * w + c = rw (low, high) (mod-add-div (getD a i 0 * w + c) (2 ^ 64)) in
@@ -56,5 +58,5 @@ module _ {a : List ℕ} {w : ℕ} where
 
   pub scaling-end : {l : List ℕ} {c i : ℕ} → Scaling a w l c i → length a ≤ i → value (set l i c) ≡ value a * w
   scaling-end {l} {c} {i} s h =
-      let whole : value (take (i + 1) (set l i c)) ≡ value (set l i c) = ap value (take-all (i + 1) (set l i c) (rw length-set (omega (arith, s .long)))) in
-      sym whole ∙ value-store l i c (omega (arith, s .within, s .long)) ∙ s .sum ∙ ap (λ z. value z * w) (take-all i a h)
+      let whole = take-all (i + 1) (set l i c) (rw length-set (omega (arith, s .long))) in
+      ap value (sym whole) ∙ value-store l i c (omega (arith, s .within, s .long)) ∙ s .sum ∙ ap (λ z. value z * w) (take-all i a h)

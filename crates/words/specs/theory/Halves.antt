@@ -7,7 +7,7 @@ use Prim.Native.Nat.{ℕ, _+_, _-_, _*_, _/_, _%_, _^_, _≤_, _<_}
 use native.Mathlib.Nat.{mul-le-mul, div-add-mod', mul-add-mod-self-right}
 use native.Mathlib.Omega.{arith}
 
--- x·y, at most the product of the greatest halves
+-- x·y and the two greatest halves are a word
 abbrev Room : ℕ → ℕ → Type 0
 Room x y = x * y + 2 * (2 ^ 32 - 1) < 2 ^ 64
 
@@ -31,7 +31,11 @@ module _ (x y : ℕ) where
 
   pub halves-fit : x < 2 ^ 64 → y < 2 ^ 64 → Room x₀ y₀ × Room x₀ y₁ × Room x₁ y₀ × Room x₁ y₁
   halves-fit hx hy =
-      (room x₀ y₀ (omega arith) (omega arith), room x₀ y₁ (omega arith) (omega arith), room x₁ y₀ (omega arith) (omega arith), room x₁ y₁ (omega arith) (omega arith))
+      let x₀-fits : x₀ < 2 ^ 32 = omega arith in
+      let x₁-fits : x₁ < 2 ^ 32 = omega arith in
+      let y₀-fits : y₀ < 2 ^ 32 = omega arith in
+      let y₁-fits : y₁ < 2 ^ 32 = omega arith in
+      (room x₀ y₀ x₀-fits y₀-fits, room x₀ y₁ x₀-fits y₁-fits, room x₁ y₀ x₁-fits y₀-fits, room x₁ y₁ x₁-fits y₁-fits)
 
   -- the four products of halves, each at its place
   by-halves : x * y ≡ x₁ * y₁ * 2 ^ 64 + (x₀ * y₁ + x₁ * y₀) * 2 ^ 32 + x₀ * y₀

@@ -1,10 +1,10 @@
 -- The laws of the value of a list of words.
---     weight-zero, -next, -pos     the weights of the places
---     value-word                   a number of one word
---     value-split                  a number in a low and a high part
---     value-drop, value-take       one word less above, one more below; value-drop-all: none left above
---     value-store                  one word more below, where it is stored
---     Words, low-lt-weight         each element is a word; n words make less than the weight of place n
+--     weight i, weight-next      what a one in word i counts for: 2 ^ (64 · i)
+--     value-word                 a number of one word
+--     value-split                a number in a low and a high part
+--     value-drop, value-take     one word less above, one more below; value-drop-all: none left above
+--     value-store                one word more below, where it is stored
+--     Words, low-lt-weight       each element is a word; n words make less than the weight of place n
 use mathlib.Core.Path.{_≡_, refl, sym}
 use mathlib.Core.List.{List, [], _∷_}
 use Prim.Native.Nat.{ℕ, zero, suc, _+_, _*_, _^_, _≤_, _<_}
@@ -13,11 +13,15 @@ use native.Mathlib.Numerals.{add-one}
 use native.Mathlib.Omega.{arith}
 use lib.ListN.{length, getD, take, drop, set, drop-of-length-le}
 use lib.Pow.{pow-add, pow-pos}
-use Rattle.words.specs.Value.{value, weight}
+use lib.Seq.{set-getD}
+use Rattle.words.specs.Value.{value}
 
 -- ---- weights
 
-pub weight-zero : weight 0 ≡ 1
+unfoldable pub weight : ℕ → ℕ
+weight i = 2 ^ (64 * i)
+
+weight-zero : weight 0 ≡ 1
 unfolding weight
 weight-zero = refl
 
@@ -25,7 +29,7 @@ pub weight-next : (n : ℕ) → weight (n + 1) ≡ 2 ^ 64 * weight n
 unfolding weight
 weight-next n = let e : 2 ^ (64 * (n + 1)) ≡ 2 ^ (64 * n) * 2 ^ 64 = rw mul-add (pow-add 2 (64 * n) 64) in omega arith
 
-pub weight-pos : (n : ℕ) → 0 < weight n
+weight-pos : (n : ℕ) → 0 < weight n
 unfolding weight
 weight-pos n = pow-pos (64 * n)
 
@@ -68,14 +72,8 @@ store-suc (x ∷ l) (suc i) w h = rw (weight-suc i) (omega (arith, store-suc l i
 pub value-store : (l : List ℕ) (i w : ℕ) → i < length l → value (take (i + 1) (set l i w)) ≡ value (take i l) + weight i * w
 value-store l i w h = rw (add-one i) (store-suc l i w h)
 
-take-suc : (l : List ℕ) (i : ℕ) → i < length l → value (take (suc i) l) ≡ value (take i l) + weight i * getD l i 0
-unfolding value
-take-suc [] i h = let f : ⊥ = omega arith in absurd f
-take-suc (w ∷ l) zero h = rw weight-zero (omega arith)
-take-suc (w ∷ l) (suc i) h = rw (weight-suc i) (omega (arith, take-suc l i (le-of-suc-le-suc h)))
-
 pub value-take : (l : List ℕ) (i : ℕ) → i < length l → value (take (i + 1) l) ≡ value (take i l) + weight i * getD l i 0
-value-take l i h = rw (add-one i) (take-suc l i h)
+value-take l i h = rw (set-getD l i 0) at (value-store l i (getD l i 0) h)
 
 -- ---- bounds
 

@@ -5,31 +5,31 @@ use Rattle.words.proofs.arithmetic.high_product.Statement.{statement}
 use Rattle.words.proofs.arithmetic.high_product.Tie as tie
 
 mul-second : tie.Need-mul-second
-mul-second c = omega (arith, halves-fit (c .args .x) (c .args .y) (c .fits .x .fits) (c .fits .y .fits))
+mul-second c = omega (arith, halves-fit _ _ (c .fits .x .fits) (c .fits .y .fits))
 
 mul-second-2 : tie.Need-mul-second-2
-mul-second-2 c = omega (arith, halves-fit (c .args .x) (c .args .y) (c .fits .x .fits) (c .fits .y .fits))
+mul-second-2 c = omega (arith, halves-fit _ _ (c .fits .x .fits) (c .fits .y .fits))
 
 add-second : tie.Need-add-second
-add-second c = omega (arith, halves-fit (c .args .x) (c .args .y) (c .fits .x .fits) (c .fits .y .fits))
+add-second c = omega (arith, halves-fit _ _ (c .fits .x .fits) (c .fits .y .fits))
 
 mul-third : tie.Need-mul-third
-mul-third c = omega (arith, halves-fit (c .args .x) (c .args .y) (c .fits .x .fits) (c .fits .y .fits))
+mul-third c = omega (arith, halves-fit _ _ (c .fits .x .fits) (c .fits .y .fits))
 
 add-third : tie.Need-add-third
-add-third c = omega (arith, halves-fit (c .args .x) (c .args .y) (c .fits .x .fits) (c .fits .y .fits))
+add-third c = omega (arith, halves-fit _ _ (c .fits .x .fits) (c .fits .y .fits))
 
 mul-result : tie.Need-mul-result
-mul-result c = omega (arith, halves-fit (c .args .x) (c .args .y) (c .fits .x .fits) (c .fits .y .fits))
+mul-result c = omega (arith, halves-fit _ _ (c .fits .x .fits) (c .fits .y .fits))
 
 add-result : tie.Need-add-result
-add-result c = omega (arith, halves-fit (c .args .x) (c .args .y) (c .fits .x .fits) (c .fits .y .fits))
+add-result c = omega (arith, halves-fit _ _ (c .fits .x .fits) (c .fits .y .fits))
 
 add-result-2 : tie.Need-add-result-2
-add-result-2 c = omega (arith, halves-fit (c .args .x) (c .args .y) (c .fits .x .fits) (c .fits .y .fits))
+add-result-2 c = omega (arith, halves-fit _ _ (c .fits .x .fits) (c .fits .y .fits))
 
 returns : tie.Need-returns
-returns c = high-by-halves (c .args .x) (c .args .y)
+returns c = high-by-halves _ _
 
 pub high-product-spec : {M : Type 1} → statement M
 high-product-spec =

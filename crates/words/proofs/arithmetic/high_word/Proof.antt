@@ -12,8 +12,8 @@ low-word-requires c κs = search needs
 
 add-result : tie.Need-add-result
 add-result c =
-    let start = c .before .before .before in
-    record { fits = rw (c .before .before .high-product .ensures) (high-room (start .args .x) _ (start .fits .x .fits) (start .fits .w .fits)) }
+    let high = c .before .before in
+    record { fits = rw (high .high-product .ensures) (high-room _ _ (high .before .fits .x .fits) (high .before .fits .w .fits)) }
 
 returns : tie.Need-returns
 returns c =
