@@ -9,7 +9,8 @@ const THREE: u64 = 0xc000_0000_0000_0000;
 const START: u64 = 0x1333_3333_3333_3333;
 
 // A number near t/√q. Of a root below 2^22 it is all but always the root or the next number; then two comparisons do.
-// q is moved up by an even count of places, so that x, where a one is 2^64, is 1/4 or more. 1/√x begins at 2.15 - 1.25·x.
+// q is moved up by an even count of places, so that x, where a one is 2^64, is 1/4 or more; 1/√x begins at
+// 2.15 - 1.25·x.
 pub fn near_root(t: u64, q: u64) -> u64 {
     let half = u64::leading_zeros(q) / 2 % 32;
     let x = q << (2 * half);
