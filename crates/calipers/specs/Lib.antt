@@ -1,5 +1,6 @@
 -- The caliper walk, and what is taken from it; then their meaning, and the theory behind it.
 pub mod Places
+pub mod Side
 pub mod Walk
 pub mod Part
 pub mod Meaning

@@ -2,6 +2,7 @@
 // `questions`.
 pub mod edges;
 mod part;
+pub mod side;
 pub mod sorted;
 pub mod walk;
 

@@ -20,7 +20,7 @@ use Rattle.plane.specs.Direction.{value, support}
 use Rattle.plane.specs.Forms.{NonZero, InOrder, edges}
 use Rattle.plane.specs.theory.lists.Sought.{true-not-false}
 use Rattle.plane.specs.theory.forms.Vector.{quarter, value-cross, value-⊕}
-use Rattle.plane.specs.theory.forms.SameWay.{SameWay, same-right}
+use Rattle.plane.specs.theory.forms.SameWay.{SameWay, same-right, same-flat, same-not-before}
 use Rattle.plane.specs.theory.sum.Positions.{edgeOf}
 use Rattle.plane.specs.Cycle.{round, cornerRound}
 use Rattle.plane.specs.theory.sum.Positions.{round-inner, round-within, round-step}
@@ -28,7 +28,7 @@ use Rattle.plane.specs.theory.sum.Positions.{edge-at, edges-some, in-order-at, 
 use Rattle.calipers.specs.theory.Standing.{Taken, taken-same, taken-before, taken-after}
 use Rattle.calipers.specs.Places.{Standing}
 pub use Rattle.calipers.specs.theory.Furthest.{shape-in-order, place-furthest}
-use Rattle.measure.specs.theory.Tied.{same-flat, same-not-before, Tied, after, behind, tied}
+use Rattle.measure.specs.theory.Tied.{Tied, after, behind, tied}
 
 module _ {E B : List Point} {i j : ℕ} (sB : IsShape B) (s : Standing E (edges B) i j) (t : Taken E i (edges B) j)
     (d : Point) (across : quarter d ≡ corner E i) where

@@ -1,6 +1,5 @@
 -- When two corners of a shape are furthest in one direction: they are the ends of an edge that points across it.
 --     parallel-same       vectors with no turn between them point the same way, or one and the other's opposite do
---     same-flat, same-not-before      there is no turn between vectors that point the same way; neither is before the other
 --     Tied ps d r k       corner k ends the edge from r, or r the edge from k, and the edge points the way of `quarter d`
 --     tied                so stand two furthest corners
 use mathlib.Core.Path.{_≡_, refl, sym, _∙_, ap}
@@ -59,22 +58,6 @@ parallel-same v t nv nt h = go (up v) refl (up t) refl
     go false p false q = inl (alike-same v t (p ∙ sym q) nv nt h)
     go true p false q = inr (turned (ap not p ∙ sym q))
     go false p true q = inr (turned (ap not p ∙ sym q))
-
-not-before-self : (e : Point) → before e e ≡ false
-not-before-self e = go (before e e) refl
-  where
-    go : (b : Bool) → before e e ≡ b → b ≡ false
-    go true h = absurd (before-irrefl {e = e} (record { before-true = h }))
-    go false h = refl
-
-pub same-not-before : {e f : Point} → SameWay e f → (before e f ≡ false) × (before f e ≡ false)
-same-not-before {e} {f} s = (same-left s f ∙ not-before-self f, same-right s f ∙ not-before-self f)
-
-pub same-flat : {e f : Point} → SameWay e f → cross e f ≡ pos 0
-same-flat {e} {f} s =
-    let a = ltZ-false {x = pos 0} {y = cross e f} (sym (before-alike e f (same-up s)) ∙ same-not-before s .0) in
-    let b = ltZ-false {x = pos 0} {y = cross f e} (sym (before-alike f e (sym (same-up s))) ∙ same-not-before s .1) in
-    lia (cross e f ∷ cross f e ∷ []) (a & b & cross-swap e f) (search linear depth 40) (omega arith)
 
 -- what is left of v is left of all that point the same way
 same-positive : {v t : Point} → SameWay v t → (w : Point) → pos 0 <ℤ cross w v → pos 0 <ℤ cross w t
