@@ -16,6 +16,7 @@ use Rattle.plane.specs.theory.lists.Flat.{numbers-length}
 use Rattle.plane.specs.theory.lists.Filled.{Filled, filled-start, filled-corner, filled-length, filled-done}
 use Rattle.polygon.specs.Point.{stored}
 use Rattle.calipers.specs.declared.walk.Walk.{Walk}
+use Rattle.calipers.specs.declared.part.Part.{Part}
 use Rattle.calipers.specs.Walk.{here, advanced, stepped, At}
 use Rattle.calipers.specs.Part.{coming, partOf, PartWritten}
 use Rattle.calipers.specs.theory.Steps.{remaining-here, remaining-over, at-stepped, remaining-stepped, here-stepped}
@@ -47,9 +48,13 @@ module _ {a b : List ℤ} {from : Walk} {k : ℕ} {old : List ℤ} where
         (omega (arith, p .within, p .room, numbers-length (partOf a b from k)))
 
     -- the part ends where k corners are written, or where the walk is over
-    pub progress-stop : count ≡ length (partOf a b from k) → PartWritten a b from k old (record { walk = walk; count = count }) out
-    progress-stop e =
-        record { counted = e; moved = p .moved; filled = filled-done (p .front) (omega (arith, numbers-length (partOf a b from k))) }
+    pub progress-stop : count ≡ length (partOf a b from k) → (r : Part) → r .walk ≡ walk → r .count ≡ count
+        → PartWritten a b from k old r out
+    progress-stop e r w n = record {
+      counted = n ∙ e;
+      moved = w ∙ p .moved ∙ ap (λ (m : ℕ). stepped (points a) (points b) m from) (sym n);
+      filled = filled-done (p .front) (omega (arith, numbers-length (partOf a b from k)));
+    }
 
     pub progress-over : walk .over ≡ true → count ≡ length (partOf a b from k)
     progress-over o =

@@ -7,19 +7,21 @@
 --     advanced A B w    one step further; stepped A B n w: n steps
 --     ahead A B w       the places still to come, the present one first
 --     remaining A B w   the corners of the sum that are still to come
---     At a b w          the walk stands at edges of these two lists, whose coordinates are in range
+--     At a b w          the walk stands at a place of these two lists, which are shapes with coordinates in range
 -- What it means: `Meaning.antt`; `Steps` of the theory.
 use mathlib.Core.Bool.{Bool, false, cond}
 use mathlib.Core.List.{List, []}
-use Prim.Native.Nat.{ℕ, zero, suc, _≤_, _<_}
+use Prim.Native.Nat.{ℕ, zero, suc}
 use lib.IntN.{ℤ}
-use lib.ListN.{length, drop}
+use lib.ListN.{drop}
 use Rattle.plane.specs.Point.{Point, points, corner, _⊕_}
 use Rattle.plane.specs.Refusal.{InRange}
+use Rattle.plane.specs.Shape.{IsShape}
 use Rattle.plane.specs.Forms.{edges}
 use Rattle.plane.specs.VectorSum.{path, joinEdges}
 use Rattle.plane.specs.Cycle.{cornerRound}
-use Rattle.calipers.specs.Places.{takes as Standing·takes, passed as Standing·passed, Place, placesFrom, finished as Places·finished}
+use Rattle.calipers.specs.Places.{takes as Standing·takes, passed as Standing·passed, Standing, Place, placesFrom}
+use Rattle.calipers.specs.Places.{finished as Places·finished}
 use Rattle.calipers.specs.declared.walk.Walk.{Walk}
 
 abbrev pub edge : List Point → ℕ → Point
@@ -60,7 +62,6 @@ remaining A B w = cond (w .over) [] (path (here A B w) (joinEdges (drop (w .i) (
 pub record At (a b : List ℤ) (w : Walk) : Type 0 where
   pub first-near : InRange a
   pub second-near : InRange b
-  pub first-some : 0 < length (points a)
-  pub second-some : 0 < length (points b)
-  pub i-in : w .i ≤ length (edges (points a))
-  pub j-in : w .j ≤ length (edges (points b))
+  pub first-shape : IsShape (points a)
+  pub second-shape : IsShape (points b)
+  pub standing : Standing (edges (points a)) (edges (points b)) (w .i) (w .j)

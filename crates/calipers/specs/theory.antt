@@ -8,6 +8,7 @@ pub mod Visited
 pub mod EdgeAt
 pub mod Sides
 pub mod Pass
+pub mod Carry
 pub mod Steps
 pub mod Directions
 pub mod Visits

@@ -86,7 +86,7 @@ fn passed(a: &[i32], i: usize, b: &[i32], j: usize) -> usize
 }
 
 // Whether all edges of both are passed.
-fn finished(a: &[i32], i: usize, b: &[i32], j: usize) -> bool
+pub fn finished(a: &[i32], i: usize, b: &[i32], j: usize) -> bool
     ensures { λ r. ⌜ r ≡ Walk·finished (points (now (a .entry))) i (points (now (b .entry))) j ⌝ }
 {
     i == edges::sides(a) && j == edges::sides(b)

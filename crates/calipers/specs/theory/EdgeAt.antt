@@ -31,8 +31,8 @@ edge-small l r i h q =
 pub here-small : {a b : List ℤ} {w : Walk} → At a b w → {p : Point} → p ≡ here (points a) (points b) w → Small (2 ^ 22) p
 unfolding here
 here-small {a} {b} {w} t e =
-    let first = round-within (length (points a)) (w .i) (t .first-some) (omega (arith, edges-at-most (points a), t .i-in)) in
-    let second = round-within (length (points b)) (w .j) (t .second-some) (omega (arith, edges-at-most (points b), t .j-in)) in
+    let first = round-within (length (points a)) (w .i) (t .first-shape .some) (omega (arith, edges-at-most (points a), t .standing .left-in)) in
+    let second = round-within (length (points b)) (w .j) (t .second-shape .some) (omega (arith, edges-at-most (points b), t .standing .right-in)) in
     small-plus (small-corner a (t .first-near) _ first refl) (small-corner b (t .second-near) _ second refl) e
 
 pub before-apart : (e f : Point) → (up e ≡ up f → ⊥) → up e ≡ before e f

@@ -1,6 +1,5 @@
 -- What one step of the walk passes: how the test is decided.
 --     takes-none, takes-alone, takes-asked     there is no edge; there is one and none of the other list; the edges are compared
---     passed-le                                no more edges are passed than there are
 -- How the walk goes on by its places is in `Standing` and `Places`.
 use mathlib.Core.Path.{_≡_}
 use mathlib.Core.Bool.{true, false, not}
@@ -10,8 +9,7 @@ use borrow.Author.Tests.{lt-ltb, le-ltb}
 use lib.ListN.{length}
 use Rattle.plane.specs.Point.{Point}
 use Rattle.plane.specs.Forms.{before, edges}
-use Rattle.calipers.specs.theory.Places.{passed-within}
-use Rattle.calipers.specs.Walk.{edge, takes, passed}
+use Rattle.calipers.specs.Walk.{edge, takes}
 
 module _ (A : List Point) (i : ℕ) (B : List Point) (j : ℕ) where
   pub takes-none : length (edges A) ≤ i → takes A i B j ≡ false
@@ -25,7 +23,3 @@ module _ (A : List Point) (i : ℕ) (B : List Point) (j : ℕ) where
   pub takes-asked : i < length (edges A) → j < length (edges B) → takes A i B j ≡ not (before (edge B j) (edge A i))
   unfolding takes
   takes-asked h k = rw (lt-ltb i (length (edges A)) h, lt-ltb j (length (edges B)) k)
-
-  pub passed-le : i ≤ length (edges A) → passed A i B j ≤ length (edges A)
-  unfolding passed
-  passed-le h = passed-within (edges A) i (edges B) j h

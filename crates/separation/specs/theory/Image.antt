@@ -38,10 +38,9 @@ module _ (b : List ℤ) (v : Valid b) where
     image-begun = record {
       first-near = u .inRange;
       second-near = near→inRange (numbers (image b)) (mirror-near b v);
-      first-some = u .shape .some;
-      second-some = omega (arith, v .shape .some, mirror-count (points b) (v .shape), ap length (points-numbers (image b)));
-      i-in = omega arith;
-      j-in = omega arith;
+      first-shape = u .shape;
+      second-shape = subst IsShape (sym (points-numbers (image b))) image-shape;
+      standing = standing-start (edges (points a)) (edges (points (numbers (image b))));
     }
 
     pub image-related : placed (vectorSum (points a) (points (numbers (image b)))) ≡ related (points a) (points b)

@@ -1,7 +1,16 @@
--- `write` meets its contract. The invariant: so many corners stand at the front of the output, and the walk is as far; the measure
--- is what is left of k.
-use Prim.Native.Nat.{_-_}
+-- `write` meets its contract. The invariant: so many corners stand at the front of the output, and the walk with these two sides is
+-- as far; the measure is what is left of k.
+use mathlib.Core.Path.{_≡_, refl, sym, _∙_, ap, subst}
+use Prim.Native.Nat.{ℕ, _-_}
 use native.Mathlib.Omega.{arith}
+use mir.Syntax.{w64}
+use Rattle.integer.specs.Machine.{result-is}
+use Rattle.plane.specs.Point.{points}
+use Rattle.calipers.specs.declared.side.Side.{Side}
+use Rattle.calipers.specs.declared.walk.Walk.{Walk}
+use Rattle.calipers.specs.Side.{Carried, walkOf}
+use Rattle.calipers.specs.theory.Sides.{edge-fits, corner-fits}
+use Rattle.calipers.specs.theory.Carry.{sides-walk, sides-here, sides-advanced}
 use Rattle.calipers.proofs.Progress.{
   Progress,
   progress-start,
@@ -17,52 +26,109 @@ use Rattle.calipers.proofs.part.write.Statement.{statement}
 use Rattle.calipers.proofs.part.write.Tie as tie
 
 abbrev Inv-loop : tie.InvT-loop
-Inv-loop a b k out₀ walk₀ count₀ out walk count = Progress a b walk₀ k out₀ count walk out
+Inv-loop a b k out₀ s₀ t₀ over₀ count₀ out s t over count =
+    Progress a b (walkOf s₀ t₀ over₀) k out₀ count (walkOf s t over) out × Carried a s × Carried b t
 
 abbrev μ-loop : tie.MeasureT-loop
-μ-loop a b k out₀ walk₀ count₀ out walk count = k - count
+μ-loop a b k out₀ s₀ t₀ over₀ count₀ out s t over count = k - count
+
+side-at-requires : tie.Need-side-at-requires Inv-loop μ-loop
+side-at-requires c κs = let p = c .pre .0 in (p .standing .left-in, p .first-near, p .first-shape .some)
+
+side-at-requires-2 : tie.Need-side-at-requires-2 Inv-loop μ-loop
+side-at-requires-2 c κs = let p = c .before .pre .0 in (p .standing .right-in, p .second-near, p .second-shape .some)
+
+-- the two sides stand where the part begins
+begins : (c : tie.After-side-at2 Inv-loop μ-loop)
+    → walkOf (c .before .side-at .result) (c .side-at2 .result) (c .before .before .args .from .over) ≡ c .before .before .args .from
+begins c = sides-walk _ (c .before .side-at .result) (c .side-at2 .result) (c .before .side-at .ensures .0) (c .side-at2 .ensures .0)
 
 loop-holds : tie.Need-loop-holds Inv-loop μ-loop
-loop-holds c = progress-start (c .pre .0) (c .pre .1)
+loop-holds c =
+    let pre = c .before .before .pre in
+    (rw (begins c) (progress-start (pre .0) (pre .1)), c .before .side-at .ensures .1, c .side-at2 .ensures .1)
+
+part-of-requires : tie.Need-part-of-requires Inv-loop μ-loop
+part-of-requires c κs = tt
 
 same-length : tie.Need-same-length Inv-loop μ-loop
-same-length c = progress-length (c .before .before .loop .inv)
+same-length c = progress-length (c .before .before .before .loop .inv .0)
 
 returns : tie.Need-returns Inv-loop μ-loop
-returns c = let inv = c .before .before .loop .inv in progress-stop inv (progress-over inv (c .if1 .taken))
+returns c =
+    let at-loop = c .before .before .before in
+    let inv = at-loop .loop .inv .0 in
+    rw (← begins (at-loop .before)) (progress-stop inv (progress-over inv (c .before .if1 .taken)) _ (c .part-of .ensures .0) (c .part-of .ensures .1))
 
-here-requires : tie.Need-here-requires Inv-loop μ-loop
-here-requires c κs = progress-at (c .before .before .before .loop .inv)
+plus-requires : tie.Need-plus-requires Inv-loop μ-loop
+plus-requires c κs =
+    let inv = c .before .before .before .loop .inv in
+    let p = progress-at (inv .0) in
+    (corner-fits (p .first-near) (p .first-shape .some) (inv .1), corner-fits (p .second-near) (p .second-shape .some) (inv .2))
 
 put-requires : tie.Need-put-requires Inv-loop μ-loop
 put-requires c κs =
     let at-else = c .before .before in
-    progress-room (at-else .before .before .loop .inv) (at-else .before .loop-test .taken) (at-else .if1 .left)
+    progress-room (at-else .before .before .loop .inv .0) (at-else .before .loop-test .taken) (at-else .if1 .left)
 
-advance-requires : tie.Need-advance-requires Inv-loop μ-loop
-advance-requires c κs = progress-at (c .before .before .before .before .before .before .loop .inv)
+order-requires : tie.Need-order-requires Inv-loop μ-loop
+order-requires c κs =
+    let inv = c .before .before .before .before .before .before .loop .inv in
+    let p = progress-at (inv .0) in
+    (edge-fits (p .first-near) (p .first-shape .some) (inv .1), edge-fits (p .second-near) (p .second-shape .some) (inv .2))
+
+next-requires : tie.Need-next-requires Inv-loop μ-loop
+next-requires c κs =
+    let inv = c .before .before .before .before .before .before .before .loop .inv in
+    let p = progress-at (inv .0) in
+    (inv .1, p .first-near, p .first-shape .some)
+
+next-requires-2 : tie.Need-next-requires-2 Inv-loop μ-loop
+next-requires-2 c κs =
+    let inv = c .before .before .before .before .before .before .before .before .loop .inv in
+    let p = progress-at (inv .0) in
+    (inv .2, p .second-near, p .second-shape .some)
+
+finished-requires : tie.Need-finished-requires Inv-loop μ-loop
+finished-requires c κs = tt
 
 add-count : tie.Need-add-count Inv-loop μ-loop
-add-count c = omega arith
+add-count c =
+    let at-test = c .before .before .before .before .before .before .before .before .before in
+    omega (arith, at-test .loop-test .taken, at-test .before .before .before .before .fits .k)
 
 loop-less : tie.Need-loop-less Inv-loop μ-loop
-loop-less c = omega (arith, c .before .before .before .before .before .before .loop-test .taken)
+loop-less c = omega (arith, c .before .before .before .before .before .before .before .before .before .loop-test .taken)
 
 loop-again : tie.Need-loop-again Inv-loop μ-loop
 loop-again c =
-    let at-put = c .before .before in
+    let at-next = c .before .before in
+    let at-put = at-next .before .before .before in
     let at-else = at-put .before .before .before in
-    progress-more (at-else .before .before .loop .inv) (at-else .before .loop-test .taken) (at-else .if1 .left)
-    (at-put .before .here .ensures) (c .advance .ensures) (at-put .put .ensures)
+    let inv = at-else .before .before .loop .inv in
+    let p = progress-at (inv .0) in
+    let on = sides-advanced p (inv .1) (inv .2) (result-is w64 (at-next .before .order .ok) (at-next .before .order .ensures))
+    (at-next .next .result) (c .before .next2 .result) (at-next .next .ensures .0) (c .before .next2 .ensures .0) (c .finished .ensures) in (
+      progress-more (inv .0) (at-else .before .loop-test .taken) (at-else .if1 .left)
+          (at-put .before .plus .ensures ∙ sides-here p (inv .1) (inv .2)) on (at-put .put .ensures),
+      at-next .next .ensures .1,
+      c .before .next2 .ensures .1,
+    )
+
+part-of-requires-2 : tie.Need-part-of-requires-2 Inv-loop μ-loop
+part-of-requires-2 c κs = tt
 
 same-length-2 : tie.Need-same-length-2 Inv-loop μ-loop
-same-length-2 c = progress-length (c .before .loop .inv)
+same-length-2 c = progress-length (c .before .before .loop .inv .0)
 
 returns-2 : tie.Need-returns-2 Inv-loop μ-loop
-returns-2 c = let inv = c .before .loop .inv in progress-stop inv (progress-all inv (c .loop-test .left))
+returns-2 c =
+    let at-loop = c .before .before in
+    let inv = at-loop .loop .inv .0 in
+    rw (← begins (at-loop .before)) (progress-stop inv (progress-all inv (c .before .loop-test .left)) _ (c .part-of2 .ensures .0) (c .part-of2 .ensures .1))
 
 pub write-spec : {M : Type 1} → statement M
 write-spec =
     tie.close
-    (tie.spec Inv-loop μ-loop loop-holds same-length returns here-requires put-requires advance-requires add-count loop-less
-    loop-again same-length-2 returns-2)
+    (tie.spec Inv-loop μ-loop side-at-requires side-at-requires-2 loop-holds part-of-requires same-length returns plus-requires put-requires
+    order-requires next-requires next-requires-2 finished-requires add-count loop-less loop-again part-of-requires-2 same-length-2 returns-2)

@@ -6,7 +6,7 @@
 --     round-step                      the corner after edge i
 --     round-total                     the corner at i is the first plus the edges before it
 --     round-within, round-inner       its position is one of the list; short of the end it is i itself
---     in-order-at, in-order-non-zero  edges in order, at their positions
+--     in-order-at, in-order-non-zero  edges in order, at their positions; `shape-in-order`: those of a shape are
 --     corner-injective                a shape's corners are pairwise different
 --     edge-turn                       no corner is right of an edge
 use mathlib.Core.Path.{_≡_, refl, sym, _∙_, ap}
@@ -32,7 +32,7 @@ use Rattle.plane.specs.Forms.{Pairs, All, Ordered, Precedes, Before, Non
 use Rattle.plane.specs.theory.forms.Precedes.{precedes-different}
 use Rattle.plane.specs.theory.forms.Vector.{total, turn-back, turn-level, step-to, ⊕-assoc, ⊕-comm, ⊕-zero}
 use Rattle.plane.specs.theory.forms.Angle.{before-trans}
-use Rattle.plane.specs.theory.forms.Standard.{all-at, pairs-at, shape→ordered}
+use Rattle.plane.specs.theory.forms.Standard.{all-at, pairs-at, shape→ordered, shape→sorted}
 use Rattle.plane.specs.theory.sum.Path.{next-in-order}
 use Rattle.plane.specs.Cycle.{round, cornerRound}
 
@@ -139,6 +139,10 @@ pub in-order-non-zero : (E : List Point) → InOrder E → (i : ℕ) → i < len
 in-order-non-zero [] o i h = absurd (not-suc-le-zero h)
 in-order-non-zero (e ∷ E) o zero h = o .0
 in-order-non-zero (e ∷ E) o (suc i) h = in-order-non-zero E (next-in-order e E (o .1)) i (omega arith)
+
+pub shape-in-order : (ps : List Point) → IsShape ps → InOrder (edges ps)
+shape-in-order [] s = tt
+shape-in-order (p ∷ ps) s = shape→sorted (p ∷ ps) s
 
 -- ---- a shape's corners are pairwise different
 

@@ -10,7 +10,7 @@ use Rattle.calipers.proofs.walk.Walk.here.Statement.{statement}
 use Rattle.calipers.proofs.walk.Walk.here.Tie as tie
 
 round-requires : tie.Need-round-requires
-round-requires c κs = (omega (arith, edges-at-most (points (c .args .a .now)), c .pre .i-in), c .pre .first-some)
+round-requires c κs = (omega (arith, edges-at-most (points (c .args .a .now)), c .pre .standing .left-in), c .pre .first-shape .some)
 
 corner-at-requires : tie.Need-corner-at-requires
 corner-at-requires c κs = search needs
@@ -18,7 +18,7 @@ corner-at-requires c κs = search needs
 round-requires-2 : tie.Need-round-requires-2
 round-requires-2 c κs =
     let start = c .before .before in
-    (omega (arith, edges-at-most (points (start .args .b .now)), start .pre .j-in), start .pre .second-some)
+    (omega (arith, edges-at-most (points (start .args .b .now)), start .pre .standing .right-in), start .pre .second-shape .some)
 
 corner-at-requires-2 : tie.Need-corner-at-requires-2
 corner-at-requires-2 c κs = search needs

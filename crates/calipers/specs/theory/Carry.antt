@@ -1,0 +1,68 @@
+-- A walk with carried sides goes as the walk of its definition: the recipe for the invariant of a loop that walks.
+-- An invariant of the walk's place w becomes that of `walkOf s t over`, and with it stand `Carried a s` and `Carried b t`.
+--     sides-walk          sides at a walk's positions have its place
+--     sides-here          the corner of the sum is the sum of the two corners
+--     sides-advanced      after each side went on by the sign of the product, the place is one step further
+use mathlib.Core.Path.{_≡_, refl, sym, _∙_, ap, ap₂}
+use mathlib.Core.Bool.{Bool, cond}
+use mathlib.Core.List.{List, [], _∷_}
+use Prim.Native.Nat.{ℕ, _+_}
+use native.Mathlib.Omega.{arith}
+use lib.Dec.{ltb}
+use lib.IntN.{ℤ, pos}
+use lib.ListN.{length}
+use lib.Signed.{_<ℤ_, ltZ}
+use Rattle.integer.specs.Linear.{lia, linear, _&_}
+use Rattle.integer.specs.Order.{lt-ltZ, ltZ-true}
+use Rattle.plane.specs.Point.{Point, points, corner, _⊕_}
+use Rattle.plane.specs.Turn.{cross}
+use Rattle.plane.specs.Forms.{edges}
+use Rattle.plane.specs.theory.forms.Vector.{cross-swap}
+use Rattle.plane.specs.theory.lists.Sought.{tests-agree}
+use Rattle.plane.specs.theory.sum.Positions.{shape-in-order}
+use Rattle.polygon.specs.Point.{at}
+use Rattle.calipers.specs.declared.side.Side.{Side}
+use Rattle.calipers.specs.declared.walk.Walk.{Walk}
+use Rattle.calipers.specs.Side.{onward, Carried, walkOf}
+use Rattle.calipers.specs.Walk.{here, passed, finished, advanced, At}
+use Rattle.calipers.specs.theory.Standing.{standing-swap}
+use Rattle.calipers.specs.theory.Led.{shape-gentle, led-passed}
+
+-- the sign of the product read the other way round
+sign-swap : (e f : Point) → ltZ (cross f e) (pos 0) ≡ ltZ (pos 0) (cross e f)
+sign-swap e f = tests-agree _ _ (λ h. lt-ltZ {x = pos 0} {y = cross e f} (above (ltZ-true h))) (λ h. lt-ltZ (below (ltZ-true h)))
+  where
+    above : cross f e <ℤ pos 0 → pos 0 <ℤ cross e f
+    above h = lia (cross e f ∷ cross f e ∷ []) (h & cross-swap e f) (search linear depth 40) (omega arith)
+
+    below : pos 0 <ℤ cross e f → cross f e <ℤ pos 0
+    below h = lia (cross e f ∷ cross f e ∷ []) (h & cross-swap e f) (search linear depth 40) (omega arith)
+
+pub sides-walk : (w : Walk) (s t : Side) → s .at ≡ w .i → t .at ≡ w .j → walkOf s t (w .over) ≡ w
+sides-walk w s t h k = ap₂ (λ (i j : ℕ). record { i = i; j = j; over = w .over }) h k
+
+module _ {a b : List ℤ} {s t : Side} {over : Bool} (p : At a b (walkOf s t over)) (u : Carried a s) (v : Carried b t) where
+  pub sides-here : at (s .corner) ⊕ at (t .corner) ≡ here (points a) (points b) (walkOf s t over)
+  unfolding here
+  sides-here = ap₂ _⊕_ (u .corner-is) (v .corner-is)
+
+  module _ {c : ℤ} (is : c ≡ cross (at (s .edge)) (at (t .edge))) where
+    product : c ≡ cross (corner (edges (points a)) (s .at)) (corner (edges (points b)) (t .at))
+    product = is ∙ ap₂ cross (u .edge-is) (v .edge-is)
+
+    first-passed : passed (points a) (s .at) (points b) (t .at) ≡ cond (ltZ c (pos 0)) (s .at) (onward (points a) (s .at))
+    unfolding passed
+    first-passed = rw product (led-passed (shape-in-order (points a) (p .first-shape)) (shape-in-order (points b) (p .second-shape))
+        (shape-gentle (points a) (p .first-shape)) (shape-gentle (points b) (p .second-shape)) (p .standing))
+
+    second-passed : passed (points b) (t .at) (points a) (s .at) ≡ cond (ltZ (pos 0) c) (t .at) (onward (points b) (t .at))
+    unfolding passed
+    second-passed = rw (product, ← sign-swap (corner (edges (points a)) (s .at)) (corner (edges (points b)) (t .at)))
+        (led-passed (shape-in-order (points b) (p .second-shape)) (shape-in-order (points a) (p .first-shape))
+        (shape-gentle (points b) (p .second-shape)) (shape-gentle (points a) (p .first-shape)) (standing-swap (p .standing)))
+
+    pub sides-advanced : (m n : Side) {end : Bool} → m .at ≡ cond (ltZ c (pos 0)) (s .at) (onward (points a) (s .at))
+        → n .at ≡ cond (ltZ (pos 0) c) (t .at) (onward (points b) (t .at)) → end ≡ finished (points a) (m .at) (points b) (n .at)
+        → walkOf m n end ≡ advanced (points a) (points b) (walkOf s t over)
+    unfolding advanced
+    sides-advanced m n i j o = cc (i, j, o, first-passed, second-passed)
