@@ -8,8 +8,8 @@ pub mod Visited
 pub mod EdgeAt
 pub mod Sides
 pub mod Pass
-pub mod Carry
 pub mod Steps
+pub mod Carry
 pub mod Directions
 pub mod Visits
 pub mod Sorted

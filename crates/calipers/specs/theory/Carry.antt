@@ -2,13 +2,14 @@
 -- An invariant of the walk's place w becomes that of `walkOf s t over`, and with it stand `Carried a s` and `Carried b t`.
 --     sides-walk          sides at a walk's positions have its place
 --     sides-here          the corner of the sum is the sum of the two corners
+--     first-next, second-next, corners-fit, edges-fit      what the functions on sides ask for
 --     sides-advanced      after each side went on by the sign of the product, the place is one step further
-use mathlib.Core.Path.{_≡_, refl, sym, _∙_, ap, ap₂}
+--     sides-at            and the walk stands there
+use mathlib.Core.Path.{_≡_, _∙_, ap₂}
 use mathlib.Core.Bool.{Bool, cond}
 use mathlib.Core.List.{List, [], _∷_}
-use Prim.Native.Nat.{ℕ, _+_}
+use Prim.Native.Nat.{ℕ, _^_, _<_}
 use native.Mathlib.Omega.{arith}
-use lib.Dec.{ltb}
 use lib.IntN.{ℤ, pos}
 use lib.ListN.{length}
 use lib.Signed.{_<ℤ_, ltZ}
@@ -16,16 +17,19 @@ use Rattle.integer.specs.Linear.{lia, linear, _&_}
 use Rattle.integer.specs.Order.{lt-ltZ, ltZ-true}
 use Rattle.plane.specs.Point.{Point, points, corner, _⊕_}
 use Rattle.plane.specs.Turn.{cross}
+use Rattle.plane.specs.Refusal.{InRange}
 use Rattle.plane.specs.Forms.{edges}
 use Rattle.plane.specs.theory.forms.Vector.{cross-swap}
 use Rattle.plane.specs.theory.lists.Sought.{tests-agree}
 use Rattle.plane.specs.theory.sum.Positions.{shape-in-order}
-use Rattle.polygon.specs.Point.{at}
+use Rattle.polygon.specs.Point.{at, Small}
 use Rattle.calipers.specs.declared.side.Side.{Side}
 use Rattle.calipers.specs.declared.walk.Walk.{Walk}
 use Rattle.calipers.specs.Side.{onward, Carried, walkOf}
 use Rattle.calipers.specs.Walk.{here, passed, finished, advanced, At}
 use Rattle.calipers.specs.theory.Standing.{standing-swap}
+use Rattle.calipers.specs.theory.Steps.{at-advanced}
+use Rattle.calipers.specs.theory.Sides.{corner-fits, edge-fits}
 use Rattle.calipers.specs.theory.Led.{shape-gentle, led-passed}
 
 -- the sign of the product read the other way round
@@ -45,6 +49,19 @@ module _ {a b : List ℤ} {s t : Side} {over : Bool} (p : At a b (walkOf s t ove
   pub sides-here : at (s .corner) ⊕ at (t .corner) ≡ here (points a) (points b) (walkOf s t over)
   unfolding here
   sides-here = ap₂ _⊕_ (u .corner-is) (v .corner-is)
+
+  -- what the functions on sides ask for
+  pub first-next : Carried a s × InRange a × (0 < length (points a))
+  first-next = (u, p .first-near, p .first-shape .some)
+
+  pub second-next : Carried b t × InRange b × (0 < length (points b))
+  second-next = (v, p .second-near, p .second-shape .some)
+
+  pub corners-fit : Small (2 ^ 21) (at (s .corner)) × Small (2 ^ 21) (at (t .corner))
+  corners-fit = (corner-fits (p .first-near) (p .first-shape .some) u, corner-fits (p .second-near) (p .second-shape .some) v)
+
+  pub edges-fit : Small (2 ^ 22) (at (s .edge)) × Small (2 ^ 22) (at (t .edge))
+  edges-fit = (edge-fits (p .first-near) (p .first-shape .some) u, edge-fits (p .second-near) (p .second-shape .some) v)
 
   module _ {c : ℤ} (is : c ≡ cross (at (s .edge)) (at (t .edge))) where
     product : c ≡ cross (corner (edges (points a)) (s .at)) (corner (edges (points b)) (t .at))
@@ -66,3 +83,16 @@ module _ {a b : List ℤ} {s t : Side} {over : Bool} (p : At a b (walkOf s t ove
         → walkOf m n end ≡ advanced (points a) (points b) (walkOf s t over)
     unfolding advanced
     sides-advanced m n i j o = cc (i, j, o, first-passed, second-passed)
+
+    pub sides-at : (m n : Side) {end : Bool} → m .at ≡ cond (ltZ c (pos 0)) (s .at) (onward (points a) (s .at))
+        → n .at ≡ cond (ltZ (pos 0) c) (t .at) (onward (points b) (t .at)) → At a b (walkOf m n end)
+    unfolding advanced
+    sides-at m n i j =
+        let q = at-advanced a b (walkOf s t over) p in
+        record {
+          first-near = p .first-near;
+          second-near = p .second-near;
+          first-shape = p .first-shape;
+          second-shape = p .second-shape;
+          standing = rw (i, j, ← first-passed, ← second-passed) (q .standing);
+        }

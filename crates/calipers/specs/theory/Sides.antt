@@ -1,6 +1,7 @@
 -- A side of a walk: how it is made, and that its numbers are small.
 --     carried-end, carried-inner      past the last edge, and short of it
 --     edge-fits, corner-fits          its edge may be multiplied, its corner added and then multiplied
+--     round-end                       behind the last edge stands the first corner again
 --     onward-end, onward-inner        one edge on where none is left, and where one is
 use mathlib.Core.Path.{_≡_, refl, sym, _∙_, ap, subst}
 use mathlib.Core.Bool.{Bool, true, false, cond}
@@ -28,8 +29,7 @@ onward-end A i h = rw (le-ltb i (length (edges A)) h)
 pub onward-inner : (A : List Point) (i : ℕ) → i < length (edges A) → onward A i ≡ i + 1
 onward-inner A i h = rw (lt-ltb i (length (edges A)) h)
 
--- behind the last edge stands the first corner again
-round-end : (A : List Point) → 0 < length A → round (length A) (length (edges A)) ≡ 0
+pub round-end : (A : List Point) → 0 < length A → round (length A) (length (edges A)) ≡ 0
 round-end A some = go (ltb 1 (length A)) refl
   where
     go : (b : Bool) → ltb 1 (length A) ≡ b → round (length A) (length (edges A)) ≡ 0

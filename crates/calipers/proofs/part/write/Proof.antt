@@ -1,16 +1,12 @@
 -- `write` meets its contract. The invariant: so many corners stand at the front of the output, and the walk with these two sides is
 -- as far; the measure is what is left of k.
-use mathlib.Core.Path.{_≡_, refl, sym, _∙_, ap, subst}
-use Prim.Native.Nat.{ℕ, _-_}
+use mathlib.Core.Path.{_≡_, _∙_}
+use Prim.Native.Nat.{_-_}
 use native.Mathlib.Omega.{arith}
 use mir.Syntax.{w64}
 use Rattle.integer.specs.Machine.{result-is}
-use Rattle.plane.specs.Point.{points}
-use Rattle.calipers.specs.declared.side.Side.{Side}
-use Rattle.calipers.specs.declared.walk.Walk.{Walk}
 use Rattle.calipers.specs.Side.{Carried, walkOf}
-use Rattle.calipers.specs.theory.Sides.{edge-fits, corner-fits}
-use Rattle.calipers.specs.theory.Carry.{sides-walk, sides-here, sides-advanced}
+use Rattle.calipers.specs.theory.Carry.{sides-walk, sides-here, sides-advanced, first-next, second-next, corners-fit, edges-fit}
 use Rattle.calipers.proofs.Progress.{
   Progress,
   progress-start,
@@ -63,8 +59,7 @@ returns c =
 plus-requires : tie.Need-plus-requires Inv-loop μ-loop
 plus-requires c κs =
     let inv = c .before .before .before .loop .inv in
-    let p = progress-at (inv .0) in
-    (corner-fits (p .first-near) (p .first-shape .some) (inv .1), corner-fits (p .second-near) (p .second-shape .some) (inv .2))
+    corners-fit (progress-at (inv .0)) (inv .1) (inv .2)
 
 put-requires : tie.Need-put-requires Inv-loop μ-loop
 put-requires c κs =
@@ -74,20 +69,17 @@ put-requires c κs =
 order-requires : tie.Need-order-requires Inv-loop μ-loop
 order-requires c κs =
     let inv = c .before .before .before .before .before .before .loop .inv in
-    let p = progress-at (inv .0) in
-    (edge-fits (p .first-near) (p .first-shape .some) (inv .1), edge-fits (p .second-near) (p .second-shape .some) (inv .2))
+    edges-fit (progress-at (inv .0)) (inv .1) (inv .2)
 
 next-requires : tie.Need-next-requires Inv-loop μ-loop
 next-requires c κs =
     let inv = c .before .before .before .before .before .before .before .loop .inv in
-    let p = progress-at (inv .0) in
-    (inv .1, p .first-near, p .first-shape .some)
+    first-next (progress-at (inv .0)) (inv .1) (inv .2)
 
 next-requires-2 : tie.Need-next-requires-2 Inv-loop μ-loop
 next-requires-2 c κs =
     let inv = c .before .before .before .before .before .before .before .before .loop .inv in
-    let p = progress-at (inv .0) in
-    (inv .2, p .second-near, p .second-shape .some)
+    second-next (progress-at (inv .0)) (inv .1) (inv .2)
 
 finished-requires : tie.Need-finished-requires Inv-loop μ-loop
 finished-requires c κs = tt
