@@ -1,7 +1,6 @@
 -- The corner at hand: when the walk of two lists of edges passes an edge of the one, the other's corner there is furthest in the direction
 -- out of that edge, since the edges before that direction's quarter turn are those passed.
---     shape-in-order      the edges of a shape are in order
---     place-furthest      the corner at hand, for edges E and a shape B
+--     place-furthest      for edges E and a shape B
 use mathlib.Core.Path.{_≡_, refl, sym, _∙_, ap}
 use mathlib.Core.Bool.{true, false}
 use mathlib.Core.List.{List, [], _∷_}
@@ -13,12 +12,12 @@ use lib.ListN.{length, take}
 use Rattle.plane.specs.Point.{Point, corner, _⊕_}
 use Rattle.plane.specs.Shape.{IsShape}
 use Rattle.plane.specs.Direction.{value, support}
-use Rattle.plane.specs.Forms.{before, InOrder, edges}
+use Rattle.plane.specs.Forms.{before, edges}
 use Rattle.plane.specs.Cycle.{cornerRound}
 use Rattle.plane.specs.theory.forms.Vector.{total, quarter, value-⊕}
 use Rattle.plane.specs.theory.forms.Standard.{shape→sorted}
 use Rattle.plane.specs.theory.sum.Cut.{toCut, toCut-take, toCut-leave, value-toCut, cut-formula}
-use Rattle.plane.specs.theory.sum.Positions.{round-total}
+use Rattle.plane.specs.theory.sum.Positions.{shape-in-order, round-total}
 use Rattle.calipers.specs.Places.{Standing}
 use Rattle.calipers.specs.theory.Standing.{Taken, taken-before, taken-after}
 
@@ -31,10 +30,6 @@ toCut-at d (e ∷ F) zero h f g = toCut-leave d e F (g 0 (omega arith) (omega ar
     ∙ toCut-at d F 0 (omega arith) (λ k l. absurd (omega arith)) (λ k l m. g (suc k) (omega arith) (omega arith))
 toCut-at d (e ∷ F) (suc j) h f g = toCut-take d e F (f 0 (omega arith)) ∙ ap (λ (q : Point). e ⊕ q)
     (toCut-at d F j (omega arith) (λ k l. f (suc k) (omega arith)) (λ k l m. g (suc k) (omega arith) (omega arith)))
-
-pub shape-in-order : (ps : List Point) → IsShape ps → InOrder (edges ps)
-shape-in-order [] s = tt
-shape-in-order (p ∷ ps) s = shape→sorted (p ∷ ps) s
 
 cut-value : (d : Point) (B : List Point) → IsShape B → support d B ≡ value d (corner B 0) +ℤ value d (toCut d (edges B))
 cut-value d [] s = absurd (not-suc-le-zero (s .some))

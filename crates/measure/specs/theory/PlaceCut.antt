@@ -1,6 +1,6 @@
 -- What the caliper walk knows of the second shape when it passes an edge of the first. Let d be the direction out of that edge: the corner
 -- at hand is furthest in d, and where an edge of the second is passed in the same step, so is the corner after it; no other is.
---     shape-in-order, place-furthest      the corner at hand, of `Furthest` of the calipers: passed on
+--     place-furthest      the corner at hand: from the calipers, passed on; so is shape-in-order
 --     place-next          the one after it, on a common step
 --     place-only          there is no third, for two corners or more
 use mathlib.Core.Path.{_≡_, refl, sym, _∙_, ap}
@@ -27,7 +27,8 @@ use Rattle.plane.specs.theory.sum.Positions.{round-inner, round-within, round-s
 use Rattle.plane.specs.theory.sum.Positions.{edge-at, edges-some, in-order-at, in-order-non-zero}
 use Rattle.calipers.specs.theory.Standing.{Taken, taken-same, taken-before, taken-after}
 use Rattle.calipers.specs.Places.{Standing}
-pub use Rattle.calipers.specs.theory.Furthest.{shape-in-order, place-furthest}
+pub use Rattle.plane.specs.theory.sum.Positions.{shape-in-order}
+pub use Rattle.calipers.specs.theory.Furthest.{place-furthest}
 use Rattle.measure.specs.theory.Tied.{Tied, after, behind, tied}
 
 module _ {E B : List Point} {i j : ℕ} (sB : IsShape B) (s : Standing E (edges B) i j) (t : Taken E i (edges B) j)
