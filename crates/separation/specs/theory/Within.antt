@@ -1,13 +1,13 @@
 -- Inside, as the code decides it: in a polygon by a walk round both shapes, in a point or a segment corner by corner.
---     LeftUpTo A B j          no corner of A is to the right of one of the first j edges of B
---     left-start, left-more   the moves of the walk: where it passes an edge, the corner of A at hand is least to its left
---     left-all, right-outside   past all edges A is inside; a corner to the right of an edge is not
---     cross-edge              what the code tests is the turn
---     corners-inside, corner-outside     A is inside D if all its corners are, and not if one is not
+--     LeftUpTo A B j                     no corner of A is to the right of one of the first j edges of B
+--     left-start, left-more              the moves of the walk: where it passes an edge, the corner of A at hand is least to its left
+--     left-all, right-outside            past all edges A is inside; with a corner to the right of an edge it is not
+--     cross-edge                         what the code tests is the turn
+--     corners-inside, corner-outside     A is inside if all its corners are, and not if one is not
 --     segment-off, segment-level         a point that is not on the line of a segment; one that is
---     ends-inside             a point or a segment by its first corner and its last
+--     ends-inside                        a point or a segment is given by its first corner and its last
 use mathlib.Core.Path.{_≡_, refl, sym, _∙_}
-use mathlib.Core.Bool.{Bool, true, false}
+use mathlib.Core.Bool.{true, false}
 use mathlib.Core.List.{List, [], _∷_, List·Memᴰ·head, List·Memᴰ·tail}
 use Prim.Native.Nat.{ℕ, _+_, _-_, _≤_, _<_}
 use native.Mathlib.Omega.{arith}
@@ -33,15 +33,11 @@ use Rattle.plane.specs.theory.support.Support.{value-le-support, support-same}
 use Rattle.calipers.specs.Places.{Standing}
 use Rattle.calipers.specs.theory.Standing.{Taken, standing-swap}
 use Rattle.calipers.specs.theory.Furthest.{place-furthest}
+use Rattle.separation.specs.theory.Around.{refuted}
 use Rattle.separation.specs.theory.Inside.{inside→reach, reach→inside}
 use Rattle.separation.specs.theory.InsideShape.{inside→each, each→inside, polygon-inside→left, polygon-left→inside}
 use Rattle.separation.specs.theory.InsideShape.{segment-inside→between, segment-between→inside}
 use Rattle.separation.specs.theory.Sector.{value-outward}
-
--- a test that cannot pass
-refuted : (t : Bool) → (t ≡ true → ⊥) → t ≡ false
-refuted true f = absurd (f refl)
-refuted false f = refl
 
 -- ---- corner by corner
 
