@@ -1,10 +1,11 @@
 -- A side of a walk: how it is made, and that its numbers are small.
---     carried-end, carried-inner      past the last edge, and short of it
---     edge-fits, corner-fits          its edge may be multiplied, its corner added and then multiplied
+--     edge-to, edge-none              the edge that leaves a corner, and past the last one
+--     along-edge                      the corner where it ends
+--     corner-fits, edge-adds          its corner and its edge may be added; `edge-fits`: its edge may be multiplied
 --     round-end                       behind the last edge stands the first corner again
 --     onward-end, onward-inner        one edge on where none is left, and where one is
-use mathlib.Core.Path.{_≡_, refl, sym, _∙_, ap, subst}
-use mathlib.Core.Bool.{Bool, true, false, cond}
+use mathlib.Core.Path.{_≡_, refl, sym, _∙_, ap₂, subst}
+use mathlib.Core.Bool.{Bool, true, false}
 use mathlib.Core.List.{List}
 use Prim.Native.Nat.{ℕ, _+_, _^_, _≤_, _<_}
 use native.Mathlib.Omega.{arith}
@@ -12,16 +13,18 @@ use borrow.Author.Tests.{ltb-true, ltb-false, lt-ltb, le-ltb, eq-eqb}
 use lib.Dec.{ltb, lit≤}
 use lib.IntN.{ℤ}
 use lib.ListN.{length, List·getD-eq-default}
-use Rattle.plane.specs.Point.{Point, points, corner, origin}
+use Rattle.plane.specs.Point.{Point, points, corner, origin, _⊕_, _⊖_}
+use Rattle.plane.specs.Shape.{next}
 use Rattle.plane.specs.Refusal.{InRange}
 use Rattle.plane.specs.Forms.{edges}
 use Rattle.plane.specs.Cycle.{round, cornerRound}
-use Rattle.plane.specs.theory.sum.Positions.{round-inner, round-within, edges-at-most, edges-some, edges-few}
+use Rattle.plane.specs.theory.lists.Next.{next-below}
+use Rattle.plane.specs.theory.sum.Positions.{round-inner, round-within, round-step, edge-at, edge-corners, edges-at-most, edges-some, edges-few}
 use Rattle.polygon.specs.Point.{at, Small}
-use Rattle.polygon.specs.theory.Small.{small-corner, small-wide}
+use Rattle.polygon.specs.theory.Small.{small-corner, small-edge, small-wide}
 use Rattle.calipers.specs.declared.side.Side.{Side}
 use Rattle.calipers.specs.Side.{onward, Carried}
-use Rattle.calipers.specs.theory.EdgeAt.{edge-start, edge-small}
+use Rattle.calipers.specs.theory.EdgeAt.{edge-start}
 
 pub onward-end : (A : List Point) (i : ℕ) → length (edges A) ≤ i → onward A i ≡ i
 onward-end A i h = rw (le-ltb i (length (edges A)) h)
@@ -36,32 +39,39 @@ round-end A some = go (ltb 1 (length A)) refl
     go true e = rw (eq-eqb (length (edges A)) (length A) (edges-some A (ltb-true 1 (length A) e)))
     go false e = let few = edges-few A (ltb-false 1 (length A) e) in rw few (round-inner (length A) 0 some)
 
-module _ {l : List ℤ} {s : Side} where
-  pub carried-end : 0 < length (points l) → s .at ≡ length (edges (points l)) → at (s .corner) ≡ corner (points l) 0
-      → at (s .edge) ≡ origin → Carried l s
-  carried-end some i c e = record {
-    at-in = omega (arith, i);
-    corner-is = c ∙ ap (corner (points l)) (sym (ap (round (length (points l))) i ∙ round-end (points l) some));
-    edge-is = e ∙ sym (List·getD-eq-default (edges (points l)) origin (omega (arith, i)));
-  }
+-- the edge from the corner at hand to the next on the way round
+pub edge-to : (A : List Point) (n i : ℕ) → n ≡ length (edges A) → i < n
+    → corner A (next n i) ⊖ cornerRound A i ≡ corner (edges A) i
+edge-to A n i e h =
+    let all = edge-corners A i (omega arith) in
+    ap₂ (λ (m k : ℕ). corner A (next m i) ⊖ corner A k) (e ∙ all) (round-inner (length A) i (omega arith))
+    ∙ sym (edge-at A i (omega arith))
 
-  pub carried-inner : s .at < length (edges (points l)) → at (s .corner) ≡ corner (points l) (s .at)
-      → at (s .edge) ≡ corner (edges (points l)) (s .at) → Carried l s
-  carried-inner h c e = record {
-    at-in = omega arith;
-    corner-is = c ∙ ap (corner (points l)) (sym (round-inner (length (points l)) (s .at) (edge-start (points l) (s .at) h)));
-    edge-is = e;
-  }
+pub edge-none : (A : List Point) (n i : ℕ) → n ≡ length (edges A) → i ≡ n → corner (edges A) i ≡ origin
+edge-none A n i e h = List·getD-eq-default (edges A) origin (omega arith)
 
 module _ {l : List ℤ} {s : Side} (r : InRange l) (some : 0 < length (points l)) (c : Carried l s) where
   pub corner-fits : Small (2 ^ 21) (at (s .corner))
   corner-fits = small-corner l r (round (length (points l)) (s .at))
       (round-within (length (points l)) (s .at) some (omega (arith, c .at-in, edges-at-most (points l)))) (c .corner-is)
 
-  pub edge-fits : Small (2 ^ 22) (at (s .edge))
-  edge-fits = go (ltb (s .at) (length (edges (points l)))) refl
+  pub edge-adds : Small (2 ^ 21) (at (s .edge))
+  edge-adds = go (ltb (s .at) (length (edges (points l)))) refl
     where
-      go : (b : Bool) → ltb (s .at) (length (edges (points l))) ≡ b → Small (2 ^ 22) (at (s .edge))
-      go true e = edge-small l r (s .at) (ltb-true (s .at) _ e) (c .edge-is)
-      go false e = subst (Small (2 ^ 22)) (sym (c .edge-is ∙ List·getD-eq-default (edges (points l)) origin (ltb-false (s .at) _ e)))
+      go : (b : Bool) → ltb (s .at) (length (edges (points l))) ≡ b → Small (2 ^ 21) (at (s .edge))
+      go true e =
+          let h = ltb-true (s .at) (length (edges (points l))) e in
+          let i = edge-start (points l) (s .at) h in
+          small-edge l r (s .at) (next (length (points l)) (s .at)) i (next-below (length (points l)) (s .at) i)
+          (c .edge-is ∙ edge-at (points l) (s .at) h)
+      go false e = subst (Small (2 ^ 21))
+          (sym (c .edge-is ∙ List·getD-eq-default (edges (points l)) origin (ltb-false (s .at) (length (edges (points l))) e)))
           (record { small-x = record { size = lit≤ tt }; small-y = record { size = lit≤ tt } })
+
+  pub edge-fits : Small (2 ^ 22) (at (s .edge))
+  edge-fits = small-wide edge-adds
+
+-- along the edge to the next corner
+pub along-edge : {l : List ℤ} {s : Side} → Carried l s → s .at < length (edges (points l))
+    → at (s .corner) ⊕ at (s .edge) ≡ cornerRound (points l) (s .at + 1)
+along-edge {l} {s} c h = ap₂ _⊕_ (c .corner-is) (c .edge-is) ∙ sym (round-step (points l) (s .at) h)

@@ -1,35 +1,36 @@
 -- `side_at` meets its contract.
-use mathlib.Core.Path.{refl, _∙_}
-use borrow.Author.Needs.{needs}
+use mathlib.Core.Path.{refl, _∙_, ap}
 use native.Mathlib.Omega.{arith}
-use Rattle.plane.specs.Point.{points}
-use Rattle.calipers.specs.theory.EdgeAt.{edge-start}
-use Rattle.calipers.specs.theory.Sides.{carried-end, carried-inner}
+use borrow.Author.Needs.{needs}
+use Rattle.plane.specs.Point.{points, corner}
+use Rattle.plane.specs.theory.sum.Positions.{edges-at-most}
 use Rattle.calipers.proofs.side.side_at.Statement.{statement}
 use Rattle.calipers.proofs.side.side_at.Tie as tie
 
-sides-requires : tie.Need-sides-requires
-sides-requires c κs = search needs
+round-requires : tie.Need-round-requires
+round-requires c κs = (omega (arith, c .pre .0, edges-at-most (points (c .args .list .now))), c .pre .2)
 
 corner-at-requires : tie.Need-corner-at-requires
 corner-at-requires c κs = search needs
 
+edge-from-requires : tie.Need-edge-from-requires
+edge-from-requires c κs =
+    let start = c .before .before in
+    let ps = points (start .args .list .now) in
+    (start .pre .0, start .pre .1, start .pre .2, c .corner-at .ensures ∙ ap (corner ps) (c .before .round .ensures .0))
+
 returns : tie.Need-returns
 returns c =
-    (refl, carried-end (c .before .before .before .pre .2) (c .before .if1 .taken ∙ c .before .before .sides .ensures) (c .corner-at .ensures) refl)
-
-corner-at-requires-2 : tie.Need-corner-at-requires-2
-corner-at-requires-2 c κs = edge-start (points (c .before .before .args .list .now)) _
-    (omega (arith, c .before .before .pre .0, c .if1 .left, c .before .sides .ensures))
-
-edge-requires : tie.Need-edge-requires
-edge-requires c κs = search needs
-
-returns-2 : tie.Need-returns-2
-returns-2 c =
-    let at-else = c .before .before in
-    let start = at-else .before .before in
-    (refl, carried-inner (omega (arith, start .pre .0, at-else .if1 .left, at-else .before .sides .ensures)) (c .before .corner-at2 .ensures) (c .edge .ensures))
+    let at-corner = c .before in
+    let start = at-corner .before .before in
+    let ps = points (start .args .list .now) in (
+      refl,
+      record {
+        at-in = start .pre .0;
+        corner-is = at-corner .corner-at .ensures ∙ ap (corner ps) (at-corner .before .round .ensures .0);
+        edge-is = c .edge-from .ensures;
+      },
+    )
 
 pub side-at-spec : {M : Type 1} → statement M
-side-at-spec = tie.close (tie.spec sides-requires corner-at-requires returns corner-at-requires-2 edge-requires returns-2)
+side-at-spec = tie.close (tie.spec round-requires corner-at-requires edge-from-requires returns)
