@@ -1,5 +1,6 @@
 -- The theory of the walk, which only proves: where it stands, the places it visits, the corners there.
 pub mod Standing
+pub mod Furthest
 pub mod Led
 pub mod Places
 pub mod PlaceCorners

@@ -1,68 +1,40 @@
 -- What the caliper walk knows of the second shape when it passes an edge of the first. Let d be the direction out of that edge: the corner
 -- at hand is furthest in d, and where an edge of the second is passed in the same step, so is the corner after it; no other is.
---     shape-in-order      the edges of a shape are in order
---     place-furthest      the corner at hand
+--     place-furthest      the corner at hand: from the calipers, passed on; so is shape-in-order
 --     place-next          the one after it, on a common step
 --     place-only          there is no third, for two corners or more
 use mathlib.Core.Path.{_≡_, refl, sym, _∙_, ap}
 use mathlib.Core.Bool.{Bool, true, false, cond}
 use mathlib.Core.List.{List, [], _∷_}
 use mathlib.Core.Logic.{_⊎_, inl, inr}
-use Prim.Native.Nat.{ℕ, zero, suc, _+_, _≤_, _<_}
-use native.Mathlib.Nat.{not-suc-le-zero}
+use Prim.Native.Nat.{ℕ, _+_, _≤_, _<_}
 use native.Mathlib.Omega.{arith}
 use borrow.Author.Tests.{eqb-true, eqb-false, ltb-true, ltb-false}
 use lib.Dec.{eqb, ltb}
-use lib.IntN.{pos, _+ℤ_}
-use lib.ListN.{length, take}
+use lib.IntN.{pos}
+use lib.ListN.{length}
 use Rattle.integer.specs.Linear.{lia, linear, _&_}
-use Rattle.plane.specs.Point.{Point, corner, _⊕_}
+use Rattle.plane.specs.Point.{Point, corner}
 use Rattle.plane.specs.Shape.{next, IsShape}
 use Rattle.plane.specs.Direction.{value, support}
-use Rattle.plane.specs.Forms.{before, NonZero, InOrder, edges}
+use Rattle.plane.specs.Forms.{NonZero, InOrder, edges}
 use Rattle.plane.specs.theory.lists.Sought.{true-not-false}
-use Rattle.plane.specs.theory.forms.Vector.{total, quarter, value-cross, value-⊕}
+use Rattle.plane.specs.theory.forms.Vector.{quarter, value-cross, value-⊕}
 use Rattle.plane.specs.theory.forms.SameWay.{SameWay, same-right, same-flat, same-not-before}
-use Rattle.plane.specs.theory.forms.Standard.{shape→sorted}
-use Rattle.plane.specs.theory.sum.Cut.{toCut, toCut-take, toCut-leave, value-toCut, cut-formula}
 use Rattle.plane.specs.theory.sum.Positions.{edgeOf}
 use Rattle.plane.specs.Cycle.{round, cornerRound}
-use Rattle.plane.specs.theory.sum.Positions.{round-inner, round-within, round-step, round-total}
+use Rattle.plane.specs.theory.sum.Positions.{round-inner, round-within, round-step}
 use Rattle.plane.specs.theory.sum.Positions.{edge-at, edges-some, in-order-at, in-order-non-zero}
 use Rattle.calipers.specs.theory.Standing.{Taken, taken-same, taken-before, taken-after}
 use Rattle.calipers.specs.Places.{Standing}
+pub use Rattle.plane.specs.theory.sum.Positions.{shape-in-order}
+pub use Rattle.calipers.specs.theory.Furthest.{place-furthest}
 use Rattle.measure.specs.theory.Tied.{Tied, after, behind, tied}
-
--- the edges before the cut, by their number
-toCut-at : (d : Point) (F : List Point) (j : ℕ) → j ≤ length F → ((k : ℕ) → k < j → before (corner F k) (quarter d) ≡ true)
-    → ((k : ℕ) → j ≤ k → k < length F → before (corner F k) (quarter d) ≡ false) → toCut d F ≡ total (take j F)
-toCut-at d [] zero h f g = refl
-toCut-at d [] (suc j) h f g = absurd (not-suc-le-zero h)
-toCut-at d (e ∷ F) zero h f g = toCut-leave d e F (g 0 (omega arith) (omega arith))
-    ∙ toCut-at d F 0 (omega arith) (λ k l. absurd (omega arith)) (λ k l m. g (suc k) (omega arith) (omega arith))
-toCut-at d (e ∷ F) (suc j) h f g = toCut-take d e F (f 0 (omega arith)) ∙ ap (λ (q : Point). e ⊕ q)
-    (toCut-at d F j (omega arith) (λ k l. f (suc k) (omega arith)) (λ k l m. g (suc k) (omega arith) (omega arith)))
-
-pub shape-in-order : (ps : List Point) → IsShape ps → InOrder (edges ps)
-shape-in-order [] s = tt
-shape-in-order (p ∷ ps) s = shape→sorted (p ∷ ps) s
-
-cut-value : (d : Point) (B : List Point) → IsShape B → support d B ≡ value d (corner B 0) +ℤ value d (toCut d (edges B))
-cut-value d [] s = absurd (not-suc-le-zero (s .some))
-cut-value d (b ∷ B) s =
-    cut-formula d b B (shape→sorted (b ∷ B) s) ∙ ap (λ z. value d b +ℤ z) (sym (value-toCut d (edges (b ∷ B))))
 
 module _ {E B : List Point} {i j : ℕ} (sB : IsShape B) (s : Standing E (edges B) i j) (t : Taken E i (edges B) j)
     (d : Point) (across : quarter d ≡ corner E i) where
   oB : InOrder (edges B)
   oB = shape-in-order B sB
-
-  pub place-furthest : value d (cornerRound B j) ≡ support d B
-  place-furthest =
-      let cut : toCut d (edges B) ≡ total (take j (edges B)) = toCut-at d (edges B) j (s .right-in)
-      (λ k h. rw across (taken-before oB s t k h)) (λ k h l. rw across (taken-after oB s t k h l)) in
-      ap (value d) (round-total B j (sB .some) (s .right-in)) ∙ value-⊕ d (corner B 0) (total (take j (edges B)))
-      ∙ ap (λ (q : Point). value d (corner B 0) +ℤ value d q) (sym cut) ∙ sym (cut-value d B sB)
 
   module _ (oE : InOrder E) where
     -- the edge passed with e goes across d, so its two ends are equally far
@@ -71,7 +43,7 @@ module _ {E B : List Point} {i j : ℕ} (sB : IsShape B) (s : Standing E (edges 
         let f = corner (edges B) j in
         let level : value d f ≡ pos 0 = value-cross d f ∙ rw across (same-flat (taken-same oB oE u t)) in
         lia (value d (cornerRound B (j + 1)) ∷ value d (cornerRound B j) ∷ value d f ∷ support d B ∷ [])
-        (ap (value d) (round-step B j (u .there)) ∙ value-⊕ d (cornerRound B j) f & level & place-furthest)
+        (ap (value d) (round-step B j (u .there)) ∙ value-⊕ d (cornerRound B j) f & level & place-furthest sB s t d across)
         (search linear depth 40) (omega arith)
 
     module _ (wide : 1 < length B) where
@@ -131,4 +103,4 @@ module _ {E B : List Point} {i j : ℕ} (sB : IsShape B) (s : Standing E (edges 
           here : (b : Bool) → eqb k r ≡ b → (k ≡ r) ⊎ (Taken (edges B) j E i × (k ≡ round (length B) (j + 1)))
           here true p = inl (eqb-true k r p)
           here false p = let some : NonZero (quarter d) = rw across (in-order-non-zero E oE i (t .there)) in
-              inr (there (tied B sB d r k some r-in h (eqb-false k r p) place-furthest also))
+              inr (there (tied B sB d r k some r-in h (eqb-false k r p) (place-furthest sB s t d across) also))
