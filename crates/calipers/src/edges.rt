@@ -40,7 +40,7 @@ pub fn edge(list: &[i32], i: usize) -> Point
 }
 
 // Whether a vector points up, or level to the right.
-fn is_up(e: Point) -> bool
+pub fn is_up(e: Point) -> bool
     ensures { λ r. ⌜ r ≡ up (at e) ⌝ }
 {
     point::precedes(Point { x: 0, y: 0 }, e)
