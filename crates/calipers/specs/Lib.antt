@@ -3,6 +3,5 @@ pub mod Stretch
 pub mod Places
 pub mod Side
 pub mod Walk
-pub mod Part
 pub mod Meaning
 pub mod theory

@@ -1,27 +1,31 @@
 // Inner functions: one shape on a walk. What the walk compares is carried along, so that a step reads the list only for
-// the edge that comes next.
+// the corner that comes next.
 ghost use mathlib.Core.Bool.{cond};
 ghost use mathlib.Core.Path.{_≡_};
-ghost use Prim.Native.Nat.{_^_, _<_, _≤_};
+ghost use Prim.Native.Nat.{_+_, _^_, _<_, _≤_};
 ghost use lib.ListN.{length};
-ghost use Rattle.plane.specs.Point.{points, corner};
+ghost use Rattle.plane.specs.Point.{points, origin, _⊕_, _⊖_};
 ghost use Rattle.plane.specs.Refusal.{InRange};
 ghost use Rattle.plane.specs.Turn.{cross};
+ghost use Rattle.plane.specs.Measure.{squared as Measure·squared};
 ghost use Rattle.plane.specs.Forms.{edges};
-ghost use Rattle.plane.specs.Cycle.{cornerRound};
 ghost use Rattle.polygon.specs.Point.{at, Small};
-ghost use Rattle.calipers.specs.Side.{onward, Carried};
+ghost use Rattle.calipers.specs.Side.{cornerOf, nextOf, onward, Stands, Carried};
 use crate::edges;
 use polygon::corners;
-use polygon::point;
 use polygon::point::Point;
 use polygon::rules;
 
-// How many edges of a shape are passed, the corner there, and the next edge, which is (0, 0) where none is left.
+// How many edges of a shape are passed, of how many, the corner (x, y) there, and the next edge (run, rise), which is
+// (0, 0) where none is left. The parts have the width of their products, and are no points: each has a register of its
+// own in a loop.
 pub struct Side {
     pub at: usize,
-    pub corner: Point,
-    pub edge: Point,
+    pub end: usize,
+    pub x: i64,
+    pub y: i64,
+    pub run: i64,
+    pub rise: i64,
 }
 
 // The side with i edges passed.
@@ -30,12 +34,7 @@ pub fn side_at(list: &[i32], i: usize) -> Side
     ensures { λ r. ⌜ (r .at ≡ i) × Carried (now (list .entry)) r ⌝ }
 {
     let corner = corners::corner_at(list, edges::round(list, i));
-    let edge = edge_from(list, i, corner);
-    Side {
-        at: i,
-        corner,
-        edge,
-    }
+    onto(list, standing(i, edges::sides(list), corner))
 }
 
 // One edge on, unless the side waits or has none left. The corner there is reached along the edge, and not read.
@@ -47,33 +46,86 @@ pub fn next(list: &[i32], s: Side, waits: bool) -> Side
     if waits {
         return s;
     }
-    if s.at == edges::sides(list) {
+    if s.at == s.end {
         return s;
     }
-    let at = s.at + 1;
-    let corner = point::plus(s.corner, s.edge);
-    let edge = edge_from(list, at, corner);
-    Side { at, corner, edge }
+    onto(list, arrived(s))
 }
 
-// The edge that leaves the corner after i edges, or (0, 0) where none is left.
-fn edge_from(list: &[i32], i: usize, from: Point) -> Point
-    requires { ⌜ (i ≤ length (edges (points (now list)))) × InRange (now list) × (0 < length (points (now list)))
-        × (at from ≡ cornerRound (points (now list)) i) ⌝ }
-    ensures { λ r. ⌜ at r ≡ corner (edges (points (now (list .entry)))) i ⌝ }
+// A side that stands at a corner and knows no edge yet, with its next edge.
+fn onto(list: &[i32], s: Side) -> Side
+    requires { ⌜ Stands (now list) s × InRange (now list) × (0 < length (points (now list))) ⌝ }
+    ensures { λ r. ⌜ (r .at ≡ s .at) × Carried (now (list .entry)) r ⌝ }
 {
-    let n = edges::sides(list);
-    if i == n {
-        return Point { x: 0, y: 0 };
+    if s.at == s.end {
+        return s;
     }
-    point::step(from, corners::corner_at(list, rules::next(n, i)))
+    facing(s, corners::corner_at(list, rules::next(s.end, s.at)))
+}
+
+// At a corner, with no edge.
+fn standing(i: usize, end: usize, p: Point) -> Side
+    requires { ⌜ Small (2 ^ 21) (at p) ⌝ }
+    ensures { λ r. ⌜ (r .at ≡ i) × (r .end ≡ end) × (cornerOf r ≡ at p) × (nextOf r ≡ origin) ⌝ }
+{
+    Side {
+        at: i,
+        end,
+        x: p.x as i64,
+        y: p.y as i64,
+        run: 0,
+        rise: 0,
+    }
+}
+
+// At the end of its edge, with no edge.
+fn arrived(s: Side) -> Side
+    requires { ⌜ (s .at < 2 ^ 63) × Small (2 ^ 21) (cornerOf s) × Small (2 ^ 21) (nextOf s) ⌝ }
+    ensures { λ r. ⌜ (r .at ≡ s .at + 1) × (r .end ≡ s .end) × (cornerOf r ≡ cornerOf s ⊕ nextOf s)
+        × (nextOf r ≡ origin) ⌝ }
+{
+    Side {
+        at: s.at + 1,
+        end: s.end,
+        x: s.x + s.run,
+        y: s.y + s.rise,
+        run: 0,
+        rise: 0,
+    }
+}
+
+// With the edge to a corner.
+fn facing(s: Side, to: Point) -> Side
+    requires { ⌜ Small (2 ^ 21) (cornerOf s) × Small (2 ^ 21) (at to) ⌝ }
+    ensures { λ r. ⌜ (r .at ≡ s .at) × (r .end ≡ s .end) × (cornerOf r ≡ cornerOf s)
+        × (nextOf r ≡ at to ⊖ cornerOf s) ⌝ }
+{
+    Side {
+        at: s.at,
+        end: s.end,
+        x: s.x,
+        y: s.y,
+        run: to.x as i64 - s.x,
+        rise: to.y as i64 - s.y,
+    }
 }
 
 // The cross product of the next edges: positive if the first side's comes first by direction, negative if the other's
 // does, 0 if they point the same way or a side has none left. That it says so is a fact of the places of a walk.
 pub fn order(s: Side, t: Side) -> i64
-    requires { ⌜ Small (2 ^ 22) (at (s .edge)) × Small (2 ^ 22) (at (t .edge)) ⌝ }
-    ensures { λ r. ⌜ r ≡ cross (at (s .edge)) (at (t .edge)) ⌝ }
+    requires { ⌜ Small (2 ^ 22) (nextOf s) × Small (2 ^ 22) (nextOf t) ⌝ }
+    ensures { λ r. ⌜ r ≡ cross (nextOf s) (nextOf t) ⌝ }
 {
-    point::cross(s.edge, t.edge)
+    s.run * t.rise - s.rise * t.run
+}
+
+// The corner of the sum at which two sides stand.
+pub fn here(s: Side, t: Side) -> Point
+    requires { ⌜ Small (2 ^ 21) (cornerOf s) × Small (2 ^ 21) (cornerOf t) ⌝ }
+    ensures { λ r. ⌜ at r ≡ cornerOf s ⊕ cornerOf t ⌝ }
+{
+    Point {
+        x: (s.x + t.x) as i32,
+        y: (s.y + t.y) as i32,
+    }
 }

@@ -1,14 +1,16 @@
 -- A walk with carried sides goes as the walk of its definition: the recipe for the invariant of a loop that walks.
 -- An invariant of the walk's place w becomes that of `walkOf s t over`, and with it stand `Carried a s` and `Carried b t`.
+--     all-passed, some-left      whether all edges are passed, by the count of those that are
 --     sides-walk          sides at a walk's positions have its place
 --     sides-here          the corner of the sum is the sum of the two corners
 --     first-next, second-next, corners-fit, edges-fit      what the functions on sides ask for
 --     sides-advanced      after each side went on by the sign of the product, the place is one step further
 --     sides-at            and the walk stands there
-use mathlib.Core.Path.{_≡_, _∙_, ap₂}
-use mathlib.Core.Bool.{Bool, cond}
+use mathlib.Core.Path.{_≡_, refl, _∙_, ap₂}
+use mathlib.Core.Bool.{Bool, true, false, cond}
 use mathlib.Core.List.{List, [], _∷_}
-use Prim.Native.Nat.{ℕ, _^_, _<_}
+use Prim.Native.Nat.{ℕ, _+_, _^_, _≤_, _<_}
+use borrow.Author.Tests.{eq-eqb}
 use native.Mathlib.Omega.{arith}
 use lib.IntN.{ℤ, pos}
 use lib.ListN.{length}
@@ -22,11 +24,12 @@ use Rattle.plane.specs.Forms.{edges}
 use Rattle.plane.specs.theory.forms.Vector.{cross-swap}
 use Rattle.plane.specs.theory.lists.Sought.{tests-agree}
 use Rattle.plane.specs.theory.sum.Positions.{shape-in-order}
-use Rattle.polygon.specs.Point.{at, Small}
+use Rattle.polygon.specs.Point.{Small}
 use Rattle.calipers.specs.declared.side.Side.{Side}
 use Rattle.calipers.specs.declared.walk.Walk.{Walk}
-use Rattle.calipers.specs.Side.{onward, Carried, walkOf}
+use Rattle.calipers.specs.Side.{cornerOf, nextOf, onward, Carried, walkOf}
 use Rattle.calipers.specs.Walk.{here, passed, finished, advanced, At}
+use Rattle.calipers.specs.theory.Places.{finished-all}
 use Rattle.calipers.specs.theory.Standing.{standing-swap}
 use Rattle.calipers.specs.theory.Steps.{at-advanced}
 use Rattle.calipers.specs.theory.Sides.{corner-fits, edge-fits}
@@ -42,11 +45,26 @@ sign-swap e f = tests-agree _ _ (λ h. lt-ltZ {x = pos 0} {y = cross e f} (above
     below : pos 0 <ℤ cross e f → cross f e <ℤ pos 0
     below h = lia (cross e f ∷ cross f e ∷ []) (h & cross-swap e f) (search linear depth 40) (omega arith)
 
+module _ (A B : List Point) where
+  -- whether all edges are passed, by their count
+  pub all-passed : (i j : ℕ) → i ≤ length (edges A) → j ≤ length (edges B) → i + j ≡ length (edges A) + length (edges B)
+      → finished A i B j ≡ true
+  unfolding finished
+  all-passed i j h k l = rw (eq-eqb i (length (edges A)) (omega arith), eq-eqb j (length (edges B)) (omega arith))
+
+  pub some-left : (i j : ℕ) → (i + j ≡ length (edges A) + length (edges B) → ⊥) → finished A i B j ≡ false
+  unfolding finished
+  some-left i j l = go (finished A i B j) refl
+    where
+      go : (b : Bool) → finished A i B j ≡ b → b ≡ false
+      go true e = let r = finished-all (edges A) (edges B) i j e in absurd (l (omega (arith, r .0, r .1)))
+      go false e = refl
+
 pub sides-walk : (w : Walk) (s t : Side) → s .at ≡ w .i → t .at ≡ w .j → walkOf s t (w .over) ≡ w
 sides-walk w s t h k = ap₂ (λ (i j : ℕ). record { i = i; j = j; over = w .over }) h k
 
 module _ {a b : List ℤ} {s t : Side} {over : Bool} (p : At a b (walkOf s t over)) (u : Carried a s) (v : Carried b t) where
-  pub sides-here : at (s .corner) ⊕ at (t .corner) ≡ here (points a) (points b) (walkOf s t over)
+  pub sides-here : cornerOf s ⊕ cornerOf t ≡ here (points a) (points b) (walkOf s t over)
   unfolding here
   sides-here = ap₂ _⊕_ (u .corner-is) (v .corner-is)
 
@@ -57,13 +75,13 @@ module _ {a b : List ℤ} {s t : Side} {over : Bool} (p : At a b (walkOf s t ove
   pub second-next : Carried b t × InRange b × (0 < length (points b))
   second-next = (v, p .second-near, p .second-shape .some)
 
-  pub corners-fit : Small (2 ^ 21) (at (s .corner)) × Small (2 ^ 21) (at (t .corner))
+  pub corners-fit : Small (2 ^ 21) (cornerOf s) × Small (2 ^ 21) (cornerOf t)
   corners-fit = (corner-fits (p .first-near) (p .first-shape .some) u, corner-fits (p .second-near) (p .second-shape .some) v)
 
-  pub edges-fit : Small (2 ^ 22) (at (s .edge)) × Small (2 ^ 22) (at (t .edge))
+  pub edges-fit : Small (2 ^ 22) (nextOf s) × Small (2 ^ 22) (nextOf t)
   edges-fit = (edge-fits (p .first-near) (p .first-shape .some) u, edge-fits (p .second-near) (p .second-shape .some) v)
 
-  module _ {c : ℤ} (is : c ≡ cross (at (s .edge)) (at (t .edge))) where
+  module _ {c : ℤ} (is : c ≡ cross (nextOf s) (nextOf t)) where
     product : c ≡ cross (corner (edges (points a)) (s .at)) (corner (edges (points b)) (t .at))
     product = is ∙ ap₂ cross (u .edge-is) (v .edge-is)
 

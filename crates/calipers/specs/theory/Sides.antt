@@ -20,10 +20,10 @@ use Rattle.plane.specs.Forms.{edges}
 use Rattle.plane.specs.Cycle.{round, cornerRound}
 use Rattle.plane.specs.theory.lists.Next.{next-below}
 use Rattle.plane.specs.theory.sum.Positions.{round-inner, round-within, round-step, edge-at, edge-corners, edges-at-most, edges-some, edges-few}
-use Rattle.polygon.specs.Point.{at, Small}
+use Rattle.polygon.specs.Point.{Small}
 use Rattle.polygon.specs.theory.Small.{small-corner, small-edge, small-wide}
 use Rattle.calipers.specs.declared.side.Side.{Side}
-use Rattle.calipers.specs.Side.{onward, Carried}
+use Rattle.calipers.specs.Side.{cornerOf, nextOf, onward, Stands, Carried}
 use Rattle.calipers.specs.theory.EdgeAt.{edge-start}
 
 pub onward-end : (A : List Point) (i : ℕ) → length (edges A) ≤ i → onward A i ≡ i
@@ -51,14 +51,14 @@ pub edge-none : (A : List Point) (n i : ℕ) → n ≡ length (edges A) → i �
 edge-none A n i e h = List·getD-eq-default (edges A) origin (omega arith)
 
 module _ {l : List ℤ} {s : Side} (r : InRange l) (some : 0 < length (points l)) (c : Carried l s) where
-  pub corner-fits : Small (2 ^ 21) (at (s .corner))
+  pub corner-fits : Small (2 ^ 21) (cornerOf s)
   corner-fits = small-corner l r (round (length (points l)) (s .at))
       (round-within (length (points l)) (s .at) some (omega (arith, c .at-in, edges-at-most (points l)))) (c .corner-is)
 
-  pub edge-adds : Small (2 ^ 21) (at (s .edge))
+  pub edge-adds : Small (2 ^ 21) (nextOf s)
   edge-adds = go (ltb (s .at) (length (edges (points l)))) refl
     where
-      go : (b : Bool) → ltb (s .at) (length (edges (points l))) ≡ b → Small (2 ^ 21) (at (s .edge))
+      go : (b : Bool) → ltb (s .at) (length (edges (points l))) ≡ b → Small (2 ^ 21) (nextOf s)
       go true e =
           let h = ltb-true (s .at) (length (edges (points l))) e in
           let i = edge-start (points l) (s .at) h in
@@ -68,10 +68,15 @@ module _ {l : List ℤ} {s : Side} (r : InRange l) (some : 0 < length (points l)
           (sym (c .edge-is ∙ List·getD-eq-default (edges (points l)) origin (ltb-false (s .at) (length (edges (points l))) e)))
           (record { small-x = record { size = lit≤ tt }; small-y = record { size = lit≤ tt } })
 
-  pub edge-fits : Small (2 ^ 22) (at (s .edge))
+  pub edge-fits : Small (2 ^ 22) (nextOf s)
   edge-fits = small-wide edge-adds
+
+-- the corner at which a side stands may be added
+pub stands-fits : {l : List ℤ} {s : Side} → InRange l → 0 < length (points l) → Stands l s → Small (2 ^ 21) (cornerOf s)
+stands-fits {l} {s} r some c = small-corner l r (round (length (points l)) (s .at))
+    (round-within (length (points l)) (s .at) some (omega (arith, c .at-in, edges-at-most (points l)))) (c .corner-is)
 
 -- along the edge to the next corner
 pub along-edge : {l : List ℤ} {s : Side} → Carried l s → s .at < length (edges (points l))
-    → at (s .corner) ⊕ at (s .edge) ≡ cornerRound (points l) (s .at + 1)
+    → cornerOf s ⊕ nextOf s ≡ cornerRound (points l) (s .at + 1)
 along-edge {l} {s} c h = ap₂ _⊕_ (c .corner-is) (c .edge-is) ∙ sym (round-step (points l) (s .at) h)
