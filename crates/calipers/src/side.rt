@@ -3,10 +3,12 @@
 ghost use mathlib.Core.Bool.{cond};
 ghost use mathlib.Core.Path.{_≡_};
 ghost use Prim.Native.Nat.{_+_, _^_, _<_, _≤_};
+ghost use lib.IntN.{_-ℤ_};
 ghost use lib.ListN.{length};
 ghost use Rattle.plane.specs.Point.{points, origin, _⊕_, _⊖_};
 ghost use Rattle.plane.specs.Refusal.{InRange};
 ghost use Rattle.plane.specs.Turn.{cross};
+ghost use Rattle.plane.specs.Direction.{value};
 ghost use Rattle.plane.specs.Measure.{squared as Measure·squared};
 ghost use Rattle.plane.specs.Forms.{edges};
 ghost use Rattle.polygon.specs.Point.{at, Small};
@@ -128,4 +130,46 @@ pub fn here(s: Side, t: Side) -> Point
         x: (s.x + t.x) as i32,
         y: (s.y + t.y) as i32,
     }
+}
+
+// The turn of the corner of t against the next edge of s.
+pub fn turn(s: Side, t: Side) -> i64
+    requires { ⌜ Small (2 ^ 21) (cornerOf s) × Small (2 ^ 21) (cornerOf t) × Small (2 ^ 22) (nextOf s) ⌝ }
+    ensures { λ r. ⌜ r ≡ cross (nextOf s) (cornerOf t ⊖ cornerOf s) ⌝ }
+{
+    s.run * above(s, t) - s.rise * beyond(s, t)
+}
+
+// By how much the corner of t is to the right of that of s.
+fn beyond(s: Side, t: Side) -> i64
+    requires { ⌜ Small (2 ^ 21) (cornerOf s) × Small (2 ^ 21) (cornerOf t) ⌝ }
+    ensures { λ r. ⌜ r ≡ t .x -ℤ s .x ⌝ }
+{
+    t.x - s.x
+}
+
+// By how much it is above it.
+fn above(s: Side, t: Side) -> i64
+    requires { ⌜ Small (2 ^ 21) (cornerOf s) × Small (2 ^ 21) (cornerOf t) ⌝ }
+    ensures { λ r. ⌜ r ≡ t .y -ℤ s .y ⌝ }
+{
+    t.y - s.y
+}
+
+// The squared distance of the two corners.
+pub fn squared(s: Side, t: Side) -> i64
+    requires { ⌜ Small (2 ^ 21) (cornerOf s) × Small (2 ^ 21) (cornerOf t) ⌝ }
+    ensures { λ r. ⌜ r ≡ Measure·squared (cornerOf s) (cornerOf t) ⌝ }
+{
+    let dx = beyond(t, s);
+    let dy = above(t, s);
+    dx * dx + dy * dy
+}
+
+// The squared length of the next edge.
+pub fn span(s: Side) -> i64
+    requires { ⌜ Small (2 ^ 22) (nextOf s) ⌝ }
+    ensures { λ r. ⌜ r ≡ value (nextOf s) (nextOf s) ⌝ }
+{
+    s.run * s.run + s.rise * s.rise
 }

@@ -26,7 +26,7 @@ use Rattle.polygon.specs.Point.{at}
 use Rattle.calipers.specs.declared.side.Side.{Side}
 use Rattle.calipers.specs.declared.walk.Walk.{Walk}
 use Rattle.calipers.specs.Places.{takes, passed}
-use Rattle.calipers.specs.Side.{onward, Carried, walkOf}
+use Rattle.calipers.specs.Side.{cornerOf, nextOf, onward, Carried, walkOf}
 use Rattle.calipers.specs.Walk as Walk
 use Rattle.calipers.specs.Walk.{begun, advanced, At}
 use Rattle.calipers.specs.theory.Standing.{Taken, takes-taken, passed-taken, passed-waits, Step, ended, left, right, both, step}
@@ -53,7 +53,7 @@ beside-start {a} {b} {s} {t} v w three h k f g = record {
 }
 
 abbrev pub isRight : Side → Side → Bool
-isRight s t = ltZ (cross (at (t .edge)) (at (s .corner) ⊖ at (t .corner))) (pos 0)
+isRight s t = ltZ (cross (nextOf t) (cornerOf s ⊖ cornerOf t)) (pos 0)
 
 -- a step that goes on by one passes the edge
 onward-taken : (E : List Point) (i : ℕ) (F : List Point) (j : ℕ) → passed E i F j ≡ i + 1 → Taken E i F j
@@ -86,7 +86,7 @@ module _ {a b : List ℤ} {s t : Side} (p : Beside a b s t) where
     beside-right h = right-outside A B (p .place .first-shape) (p .place .second-shape) (s .at) (t .at)
         (omega (arith, p .first-side .at-in, edges-at-most A)) there (ltZ-true (sym turned ∙ h))
 
-    module _ (m n : Side) {c : ℤ} (is : c ≡ cross (at (s .edge)) (at (t .edge)))
+    module _ (m n : Side) {c : ℤ} (is : c ≡ cross (nextOf s) (nextOf t))
         (i : m .at ≡ cond (ltZ c (pos 0)) (s .at) (onward A (s .at))) (j : n .at ≡ cond (ltZ (pos 0) c) (t .at) (onward B (t .at))) where
       steps : walkOf m n (Walk.finished A (m .at) B (n .at)) ≡ advanced A B (walkOf s t false)
       steps = sides-advanced (p .place) (p .first-side) (p .second-side) is m n i j refl

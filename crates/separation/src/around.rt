@@ -7,7 +7,6 @@ ghost use Rattle.separation.specs.Place.{placeNumber};
 ghost use Rattle.separation.specs.Around.{Passed, placed, placedFew};
 use crate::place::Place;
 use calipers::side;
-use calipers::walk;
 use polygon::point;
 use polygon::rules::either;
 
@@ -47,10 +46,7 @@ fn around_few(a: &[i32], b: &[i32]) -> Place
     let c = side::order(s, t);
     let m = side::next(a, s, c < 0);
     let n = side::next(b, t, 0 < c);
-    let along = point::dot(
-        point::plus(s.corner, t.corner),
-        point::plus(m.corner, n.corner),
-    );
+    let along = point::dot(side::here(s, t), side::here(m, n));
     if along <= 0 {
         return Place::Touching;
     }
@@ -65,16 +61,14 @@ fn pass(a: &[i32], b: &[i32]) -> Sides
 {
     let mut s = side::side_at(a, 0);
     let mut t = side::side_at(b, 0);
-    let mut here = point::plus(s.corner, t.corner);
+    let all = s.end + t.end;
     let mut count = 0;
     let mut rim = false;
-    let mut over = false;
-    while !over {
+    loop {
         let c = side::order(s, t);
-        s = side::next(a, s, c < 0);
-        t = side::next(b, t, 0 < c);
-        let to = point::plus(s.corner, t.corner);
-        let turn = point::cross(here, to);
+        let m = side::next(a, s, c < 0);
+        let n = side::next(b, t, 0 < c);
+        let turn = point::cross(side::here(s, t), side::here(m, n));
         if turn < 0 {
             return Sides {
                 count,
@@ -83,13 +77,15 @@ fn pass(a: &[i32], b: &[i32]) -> Sides
             };
         }
         rim = either(rim, turn <= 0);
-        here = to;
-        over = walk::finished(a, s.at, b, t.at);
         count += 1;
-    }
-    Sides {
-        count,
-        outside: false,
-        rim,
+        if m.at + n.at == all {
+            return Sides {
+                count,
+                outside: false,
+                rim,
+            };
+        }
+        s = m;
+        t = n;
     }
 }

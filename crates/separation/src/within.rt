@@ -2,16 +2,12 @@
 ghost use mathlib.Core.List.{[], _∷_};
 ghost use mathlib.Core.Path.{_≡_};
 ghost use Prim.Native.Nat.{_^_, _<_};
-ghost use lib.IntN.{pos};
 ghost use lib.ListN.{length};
-ghost use lib.Signed.{ltZ};
-ghost use Rattle.plane.specs.Point.{points, _⊖_};
-ghost use Rattle.plane.specs.Turn.{cross};
+ghost use Rattle.plane.specs.Point.{points};
 ghost use Rattle.plane.specs.Refusal.{Valid};
 ghost use Rattle.plane.specs.Separation.{inside};
 ghost use Rattle.polygon.specs.Point.{at, Small};
 use calipers::side;
-use calipers::side::Side;
 use polygon::corners;
 use polygon::point;
 use polygon::point::Point;
@@ -28,7 +24,7 @@ pub fn in_polygon(a: &[i32], b: &[i32]) -> bool
     while t.at < n {
         let c = side::order(s, t);
         if c <= 0 {
-            if right_of(s, t) {
+            if side::turn(t, s) < 0 {
                 return false;
             }
         }
@@ -36,14 +32,6 @@ pub fn in_polygon(a: &[i32], b: &[i32]) -> bool
         t = side::next(b, t, 0 < c);
     }
     true
-}
-
-// Whether the first side's corner is to the right of the second side's edge.
-fn right_of(s: Side, t: Side) -> bool
-    requires { ⌜ Small (2 ^ 21) (at (s .corner)) × Small (2 ^ 21) (at (t .corner)) × Small (2 ^ 22) (at (t .edge)) ⌝ }
-    ensures { λ r. ⌜ r ≡ ltZ (cross (at (t .edge)) (at (s .corner) ⊖ at (t .corner))) (pos 0) ⌝ }
-{
-    point::cross(t.edge, point::step(t.corner, s.corner)) < 0
 }
 
 // Whether a is inside the segment from p to q, which are a point if they are equal: each corner of a is on it.

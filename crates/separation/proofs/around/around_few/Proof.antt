@@ -47,8 +47,8 @@ next-requires-2 c κs =
     let at-sides = c .before .before in
     second-next (stands at-sides) (at-sides .before .side-at .ensures .1) (at-sides .side-at2 .ensures .1)
 
-plus-requires : tie.Need-plus-requires
-plus-requires c κs =
+here-requires : tie.Need-here-requires
+here-requires c κs =
     let at-sides = c .before .before .before in
     corners-fit (stands at-sides) (at-sides .before .side-at .ensures .1) (at-sides .side-at2 .ensures .1)
 
@@ -62,8 +62,8 @@ steps c end =
     (result-is w64 (at-order .order .ok) (at-order .order .ensures)) (c .before .next .result) (c .next2 .result) (c .before .next .ensures .0)
     (c .next2 .ensures .0)
 
-plus-requires-2 : tie.Need-plus-requires-2
-plus-requires-2 c κs =
+here-requires-2 : tie.Need-here-requires-2
+here-requires-2 c κs =
     let at-next = c .before in corners-fit (steps at-next false) (at-next .before .next .ensures .1) (at-next .next2 .ensures .1)
 
 dot-requires : tie.Need-dot-requires
@@ -72,7 +72,7 @@ dot-requires c κs =
     let at-sides = at-next .before .before .before in
     let first = corners-fit (stands at-sides) (at-sides .before .side-at .ensures .1) (at-sides .side-at2 .ensures .1) in
     let second = corners-fit (steps at-next false) (at-next .before .next .ensures .1) (at-next .next2 .ensures .1) in
-    (small-plus (first .0) (first .1) (c .before .plus .ensures), small-plus (second .0) (second .1) (c .plus2 .ensures))
+    (small-plus (first .0) (first .1) (c .before .here .ensures), small-plus (second .0) (second .1) (c .here2 .ensures))
 
 -- what is tested, by the corners of the sum
 tested : (c : tie.After-dot) → let start = c .before .before .before .before .before .before .before .before in
@@ -87,8 +87,8 @@ tested c =
     let second = at-sides .side-at2 .ensures .1 in
     let on = sides-advanced (stands at-sides) first second (result-is w64 (at-order .order .ok) (at-order .order .ensures))
     (at-next .before .next .result) (at-next .next2 .result) (at-next .before .next .ensures .0) (at-next .next2 .ensures .0) refl in
-    result-is w64 (c .dot .ok) (c .dot .ensures ∙ ap₂ value (at-plus .before .plus .ensures ∙ sides-here (stands at-sides) first second)
-    (at-plus .plus2 .ensures ∙ sides-here (steps at-next _) (at-next .before .next .ensures .1) (at-next .next2 .ensures .1))
+    result-is w64 (c .dot .ok) (c .dot .ensures ∙ ap₂ value (at-plus .before .here .ensures ∙ sides-here (stands at-sides) first second)
+    (at-plus .here2 .ensures ∙ sides-here (steps at-next _) (at-next .before .next .ensures .1) (at-next .next2 .ensures .1))
     ∙ passing-corners (passing-start (at-sides .before .before .pre) (begins at-sides)) refl on value)
 
 returns : tie.Need-returns
@@ -104,5 +104,5 @@ returns-2 c = ap (λ (t : Bool). cond t (pos 1) (pos 0)) (sym (c .if1 .left))
 pub around-few-spec : {M : Type 1} → statement M
 around-few-spec =
     tie.close
-    (tie.spec side-at-requires side-at-requires-2 order-requires next-requires next-requires-2 plus-requires plus-requires-2 dot-requires
+    (tie.spec side-at-requires side-at-requires-2 order-requires next-requires next-requires-2 here-requires here-requires-2 dot-requires
     returns returns-2)
