@@ -1,15 +1,15 @@
 -- `in_polygon` meets its contract. The invariant: no corner of a is to the right of an edge of b that is passed; the measure: the edges
 -- that are left.
-use mathlib.Core.Bool.{true, false}
+use mathlib.Core.Bool.{Bool, true, false}
 use mathlib.Core.Logic.{inl, inr}
-use mathlib.Core.Path.{_≡_, sym, _∙_}
-use Prim.Native.Nat.{_+_, _-_, _<_}
+use mathlib.Core.Path.{_≡_, sym, _∙_, ap}
+use Prim.Native.Nat.{_+_, _-_, _^_, _<_}
 use native.Mathlib.Omega.{arith}
-use lib.IntN.{pos}
+use lib.IntN.{ℤ, pos}
 use lib.ListN.{length}
-use lib.Signed.{leZ}
+use lib.Signed.{mag, ltZ, leZ}
 use mir.Syntax.{w64}
-use mir.Val.{toZ, ofZ}
+use mir.Val.{hbits, toZ, ofZ}
 use Rattle.integer.specs.Machine.{result-is}
 use Rattle.plane.specs.Point.{points}
 use Rattle.plane.specs.Forms.{edges}
@@ -51,17 +51,21 @@ order-requires c κs =
     let inv = c .before .before .loop .inv in
     edges-fit (inv .place) (inv .first-side) (inv .second-side)
 
-right-of-requires : tie.Need-right-of-requires Inv-loop μ-loop
-right-of-requires c κs =
+turn-requires : tie.Need-turn-requires Inv-loop μ-loop
+turn-requires c κs =
     let inv = c .before .before .before .before .loop .inv in
     let corners = corners-fit (inv .place) (inv .first-side) (inv .second-side) in
-    (corners .0, corners .1, edges-fit (inv .place) (inv .first-side) (inv .second-side) .1)
+    (corners .1, corners .0, edges-fit (inv .place) (inv .first-side) (inv .second-side) .1)
+
+-- what the test of a call's result says
+told : {x v : ℤ} {u : Bool} → mag x < 2 ^ hbits w64 → x ≡ v → ltZ (toZ w64 (ofZ w64 x)) (pos 0) ≡ u → ltZ v (pos 0) ≡ u
+told ok e h = ap (λ (z : ℤ). ltZ z (pos 0)) (sym (result-is w64 ok e)) ∙ h
 
 returns : tie.Need-returns Inv-loop μ-loop
 returns c =
     let at-right = c .before in
     let then = at-right .before .before .before in
-    sym (beside-right (then .before .before .loop .inv) (there then) (sym (at-right .right-of .ensures) ∙ c .if3 .taken))
+    sym (beside-right (then .before .before .loop .inv) (there then) (told (at-right .turn .ok) (at-right .turn .ensures) (c .if3 .taken)))
 
 next-requires : tie.Need-next-requires Inv-loop μ-loop
 next-requires c κs =
@@ -83,7 +87,7 @@ loop-less c =
 -- where the edge is passed, the corner at hand is not to its right
 asked : (c : tie.Joined2 Inv-loop μ-loop) → let at-loop = c .before .before .before .before in
     leZ (toZ w64 (ofZ w64 (c .before .order .result))) (pos 0) ≡ true → isRight (at-loop .loop .s) (at-loop .loop .t) ≡ false
-asked c e = elim (c .if2 .came) [ inl q ↦ sym (q .1 .ensures) ∙ q .2 .left | inr q ↦ true-not-false e (q .left) ]
+asked c e = elim (c .if2 .came) [ inl q ↦ told (q .1 .ok) (q .1 .ensures) (q .2 .left) | inr q ↦ true-not-false e (q .left) ]
 
 loop-again : tie.Need-loop-again Inv-loop μ-loop
 loop-again c =
@@ -109,7 +113,7 @@ in-polygon-spec =
     side-at-requires-2
     loop-holds
     order-requires
-    right-of-requires
+    turn-requires
     returns
     next-requires
     next-requires-2
