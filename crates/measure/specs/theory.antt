@@ -3,6 +3,8 @@ pub mod Longest
 pub mod Height
 pub mod Tied
 pub mod PlaceCut
+pub mod CutCorner
+pub mod HalfWalk
 pub mod MirrorWalk
 pub mod LengthScan
 pub mod Narrowest
