@@ -1,5 +1,4 @@
--- What the two searches leave is what the questions ask for.
---     length-within     the pair's positions are positions; `length-found`: it is the length
+-- What the search for the width leaves is what the question asks for.
 --     some-squared      the edge has a length; `width-found`: it is the width
 use mathlib.Core.Path.{_≡_, refl, sym, _∙_, ap, ap₂}
 use mathlib.Core.List.{List}
@@ -9,45 +8,24 @@ use borrow.Author.Tests.{ltb-true}
 use lib.IntN.{ℤ, pos, natAbs}
 use lib.ListN.{length}
 use Rattle.integer.specs.Order.{lt-ltZ}
-use Rattle.plane.specs.Point.{Point, points, corner}
+use Rattle.plane.specs.Point.{Point, points}
 use Rattle.plane.specs.Refusal.{Valid}
-use Rattle.plane.specs.Measure.{squared, height, edgeSquared, widthEdge, widthCorner, widthRounded}
-use Rattle.measure.specs.theory.Longest.{length-longest}
+use Rattle.plane.specs.Measure.{height, edgeSquared, widthEdge, widthCorner, widthRounded}
 use Rattle.measure.specs.theory.Height.{edgeSquared-positive}
 use Rattle.measure.specs.theory.Rounded.{rounded-unique}
 use Rattle.measure.specs.theory.WidthScan.{width-done}
 use Rattle.measure.specs.Comparison.{Width as Comparison·Width, none, best}
 use Rattle.words.specs.Root.{RoundedRoot}
-use Rattle.measure.specs.declared.longest.Pair.{Pair}
 use Rattle.measure.specs.declared.narrowest.Across.{Across}
-use Rattle.measure.specs.Answer.{IsLength, IsWidth}
-use Rattle.measure.specs.Scan.{LengthAt, Best}
-
--- ---- length
-
-pub length-within : (l : List ℤ) → Valid l → (r : Pair) → LengthAt (points l) r
-    → (r .from < length (points l)) × (r .to < length (points l))
-length-within l v r f =
-    let pair = length-longest (points l) (v .shape .some) in
-    (omega (arith, f .from-is, pair .ordered, pair .within), omega (arith, f .to-is, pair .within))
-
-pub length-found : (l : List ℤ) → Valid l → (r : Pair) {n : ℕ} → LengthAt (points l) r
-    → pos n ≡ squared (corner (points l) (r .from)) (corner (points l) (r .to))
-    → IsLength (points l) (record { squared = n; from = r .from; to = r .to })
-length-found l v r {n} f e = record {
-  squared-is = e ∙ rw (f .from-is, f .to-is) (length-longest (points l) (v .shape .some) .longest);
-  from-is = f .from-is;
-  to-is = f .to-is;
-}
-
--- ---- width
+use Rattle.measure.specs.Answer.{IsWidth}
+use Rattle.measure.specs.Scan.{Best}
 
 -- after the last edge, the best one is an edge
-best-within : {ps : List Point} {k e c t q : ℕ} → 0 < length ps → Comparison·Width ps k e c t q → k ≡ length ps → e < length ps
+best-within : {ps : List Point} {k e c t q : ℕ} → 0 < length ps → Comparison·Width ps 0 k e c t q → k ≡ length ps → e < length ps
 best-within some none all = absurd (omega arith)
 best-within some (best n b) all = omega (arith, n .within)
 
-module _ (l : List ℤ) (v : Valid l) (three : 3 ≤ length (points l)) (r : Across) (b : Best l (length (points l)) r) where
+module _ (l : List ℤ) (v : Valid l) (three : 3 ≤ length (points l)) (r : Across) (b : Best l r) where
   abbrev ps : List Point
   ps = points l
 

@@ -4,7 +4,8 @@
 --     Chains A t             t is the top: the edges before it point up, and those from it on do not
 --     Antipodal A t i m      corners i and m are antipodal: edges of the left-hand chain turned round, each passed edge of one chain comes
 --                            before the next of the other
---     halfOrder A t i m      what the next step goes by: below 0 edge i is passed, above 0 edge m, and at 0 both, which are parallel
+--     halfOrder t n i m c    what the next step goes by, for top t, n edges, and the product c of edges i and m: below 0 edge i is passed,
+--                            above 0 edge m, and at 0 both, which are parallel
 --     HalfStep A t i m k l   the step from place (i, m) leads to (k, l)
 -- What it means: `HalfWalk` of the theory.
 use mathlib.Core.Path.{_≡_}
@@ -32,9 +33,8 @@ pub record Antipodal (A : List Point) (t i m : ℕ) : Type 0 where
   pub left-passed : (k : ℕ) → t ≤ k → k < m → i < t → pos 0 <ℤ cross (corner (edges A) i) (corner (edges A) k)
 
 -- a chain that is passed waits for the other
-abbrev pub halfOrder : List Point → ℕ → ℕ → ℕ → ℤ
-halfOrder A t i m =
-    cond (eqb i t) (pos 1) (cond (eqb m (length (edges A))) (negsuc 0) (cross (corner (edges A) i) (corner (edges A) m)))
+abbrev pub halfOrder : ℕ → ℕ → ℕ → ℕ → ℤ → ℤ
+halfOrder t n i m c = cond (eqb i t) (pos 1) (cond (eqb m n) (negsuc 0) c)
 
 pub data HalfStep (A : List Point) (t i m : ℕ) : ℕ → ℕ → Type 0 where
   right : i < t → (m < length (edges A) → cross (corner (edges A) i) (corner (edges A) m) <ℤ pos 0) → HalfStep A t i m (i + 1) m

@@ -4,6 +4,7 @@
 use mathlib.Core.Path.{_≡_}
 use mathlib.Core.List.{List, [], _∷_}
 use Prim.Native.Nat.{ℕ, _+_, _*_, _≤_, _<_}
+use native.Mathlib.Omega.{arith}
 use lib.IntN.{ℤ, pos, natAbs, _*ℤ_}
 use lib.ListN.{length}
 use lib.Signed.{_≤ℤ_, _<ℤ_}
@@ -79,11 +80,11 @@ module _ (ps : List Point) (shape : IsShape ps) (three : 2 < length ps) where
 
   -- "Edges compare by t·t/q as exact fractions. The least wins": t·t/q of the edge is at most that of any
   pub none-is-narrower : (f : ℕ) → f < length ps → (t e *ℤ t e *ℤ q f) ≤ℤ (t f *ℤ t f *ℤ q e)
-  none-is-narrower f h = noWider-le ps e f (width-narrowest shape three .least f h)
+  none-is-narrower f h = noWider-le ps e f (width-narrowest shape three .least f (omega arith) h)
 
   -- "smallest edge position on a tie": and less than that of any earlier one
   pub earlier-is-wider : (f : ℕ) → f < e → (t e *ℤ t e *ℤ q f) <ℤ (t f *ℤ t f *ℤ q e)
-  earlier-is-wider f h = wider-lt ps f e (width-narrowest shape three .sole f h)
+  earlier-is-wider f h = wider-lt ps f e (width-narrowest shape three .sole f (omega arith) h)
 
   -- "then the smallest corner position that has the greatest turn": the corner is one of the shape
   pub width-corner-is-position : widthCorner ps < length ps

@@ -1,17 +1,18 @@
-// Inner functions: the edge across which a shape is narrowest. When the walk round the shape and its mirror image
-// passes an edge of the shape, it stands at the opposite of the corner that is furthest from it.
+// Inner functions: the edge across which a shape is narrowest. When the half walk passes an edge of one chain, it
+// stands at the corner of the other that is furthest from it.
+ghost use mathlib.Core.Bool.{cond};
 ghost use mathlib.Core.Path.{_≡_};
-ghost use Prim.Native.Nat.{_<_};
-ghost use lib.IntN.{pos};
+ghost use Prim.Native.Nat.{_^_, _<_};
 ghost use lib.ListN.{length};
-ghost use lib.Signed.{_≤ℤ_};
 ghost use Rattle.plane.specs.Point.{points};
-ghost use Rattle.measure.specs.Comparison.{Facing, Measured};
-ghost use Rattle.measure.specs.Scan.{Imaged, Moving, Best};
-use crate::place;
+ghost use Rattle.plane.specs.Refusal.{Valid};
+ghost use Rattle.measure.specs.Scan.{Fits, measuredAt, narrowerOf, firstMet, Best};
+use crate::half;
+use crate::magnitude;
 use calipers::edges;
-use calipers::walk::Walk;
-use polygon::corners;
+use calipers::side;
+use calipers::side::Side;
+use polygon::point;
 
 // An edge, the first corner that is furthest from it, that corner's turn and the edge's squared
 // length.
@@ -22,76 +23,80 @@ pub struct Across {
     pub squared: u64,
 }
 
-// The first of all edges with the least width. Before any is measured, the width stands at 1/0.
-pub fn narrowest(list: &[i32], image: &[i32], top: usize) -> Across
-    requires { ⌜ Imaged (now list) (now image) top × (2 < length (points (now list))) ⌝ }
-    ensures { λ r. ⌜ Best (now (list .entry)) (length (points (now (list .entry)))) r ⌝ }
+// The first of all edges with the least width. Each chain has a best edge of its own, since its edges are passed in the
+// order of their positions; before any is measured, the width stands at 1/0.
+pub fn narrowest(list: &[i32]) -> Across
+    requires { ⌜ Valid (now list) × (2 < length (points (now list))) ⌝ }
+    ensures { λ r. ⌜ Best (now (list .entry)) r ⌝ }
 {
-    let mut walk = Walk::begin();
-    let mut best = Across {
+    let top = half::top(list);
+    let end = edges::sides(list);
+    let mut s = side::side_at(list, 0);
+    let mut t = side::side_at(list, top);
+    let mut right = unmeasured();
+    let mut left = unmeasured();
+    while s.at + t.at < top + end {
+        let c = half::order(top, end, s, t);
+        let next = side::next(list, t, c < 0);
+        right = passed(right, s, t, first_met(end, t, next), 0 < c);
+        left = passed(left, t, s, s.at, c < 0);
+        s = side::next(list, s, 0 < c);
+        t = next;
+    }
+    narrower(right, left)
+}
+
+// No edge: wider than any.
+fn unmeasured() -> Across
+    ensures { λ r. ⌜ r ≡ record { edge = 0; corner = 0; turn = 1; squared = 0 } ⌝ }
+{
+    Across {
         edge: 0,
         corner: 0,
         turn: 1,
         squared: 0,
-    };
-    while !walk.over {
-        let next = walk.advance(list, image);
-        best = narrower(list, image, top, walk, next, best);
-        walk = next;
     }
-    best
 }
 
-// The best edge after a step: as before, unless an edge of the shape is passed and is narrower.
-fn narrower(list: &[i32], image: &[i32], top: usize, walk: Walk, next: Walk, best: Across) -> Across
-    requires { ⌜ Moving (now list) (now image) top walk next × Best (now list) (walk .i) best ⌝ }
-    ensures { λ r. ⌜ Best (now (list .entry)) (next .i) r ⌝ }
+// The best edge of a chain after a step: as before, unless the step passes the edge of s and it is narrower. The corner
+// that is furthest from it is at t, and its first position is given.
+fn passed(best: Across, s: Side, t: Side, corner: usize, waits: bool) -> Across
+    requires { ⌜ Fits s t ⌝ }
+    ensures { λ r. ⌜ r ≡ cond waits best (narrowerOf best (measuredAt s t corner)) ⌝ }
 {
-    if next.i <= walk.i {
+    if waits {
         return best;
     }
-    let found = measured(list, image, top, walk, next);
-    let less = words::fraction_less(found.turn, found.squared, best.turn, best.squared);
-    if less { found } else { best }
+    narrower(best, measured(s, t, corner))
 }
 
-// The edge of the shape that the step passes, measured.
-fn measured(list: &[i32], image: &[i32], top: usize, walk: Walk, next: Walk) -> Across
-    requires { ⌜ Moving (now list) (now image) top walk next × (walk .i < next .i) ⌝ }
-    ensures { λ r. ⌜ (r .edge ≡ walk .i)
-        × Measured (points (now (list .entry))) (walk .i) (r .corner) (r .turn) (r .squared) ⌝ }
+// The edge of s, measured at the corner of t.
+fn measured(s: Side, t: Side, corner: usize) -> Across
+    requires { ⌜ Fits s t ⌝ }
+    ensures { λ r. ⌜ r ≡ measuredAt s t corner ⌝ }
 {
-    let edge = walk.i;
-    let end = edges::round(list, edge + 1);
-    let corner = furthest_corner(list, image, top, walk, next);
-    let turn = magnitude(corners::turn_at(list, edge, end, corner));
-    let squared = magnitude(place::squared_at(list, edge, end));
+    let turn = magnitude::magnitude(point::cross(s.edge, point::step(s.corner, t.corner)));
+    let squared = magnitude::magnitude(point::dot(s.edge, s.edge));
     Across {
-        edge,
+        edge: s.at,
         corner,
         turn,
         squared,
     }
 }
 
-// The first corner that is furthest from the edge that the step passes. Where a parallel edge of
-// the image is passed with it, two are: the corner before and the corner after that edge.
-fn furthest_corner(list: &[i32], image: &[i32], top: usize, walk: Walk, next: Walk) -> usize
-    requires { ⌜ Moving (now list) (now image) top walk next × (walk .i < next .i) ⌝ }
-    ensures { λ r. ⌜ Facing (points (now (list .entry))) (walk .i) r ⌝ }
+// The narrower of two edges; of two that are as wide the first.
+fn narrower(best: Across, found: Across) -> Across
+    ensures { λ r. ⌜ r ≡ narrowerOf best found ⌝ }
 {
-    let here = place::opposite_of(list, top, edges::round(image, walk.j));
-    if next.j <= walk.j {
-        return here;
-    }
-    let after = place::opposite_of(list, top, edges::round(image, next.j));
-    if after < here { after } else { here }
+    let less = words::fraction_less(found.turn, found.squared, best.turn, best.squared);
+    if less { found } else { best }
 }
 
-// A number that is not negative, as an unsigned one.
-pub fn magnitude(z: i64) -> u64
-    requires { ⌜ pos 0 ≤ℤ z ⌝ }
-    ensures { λ r. ⌜ z ≡ pos r ⌝ }
+// The first position of the corners that are furthest from an edge of the right-hand chain: that of t, and where a
+// parallel edge is passed with it the next one's as well. After the last comes the first again.
+fn first_met(end: usize, t: Side, next: Side) -> usize
+    ensures { λ r. ⌜ r ≡ firstMet end (t .at) (next .at) ⌝ }
 {
-    z as u64
+    if next.at == end { 0 } else { t.at }
 }

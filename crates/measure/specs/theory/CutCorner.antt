@@ -24,14 +24,14 @@ use Rattle.plane.specs.Forms.{before, NonZero, InOrder, edges}
 use Rattle.plane.specs.theory.lists.Sought.{true-not-false}
 use Rattle.plane.specs.theory.forms.Vector.{total, quarter, value-cross, value-⊕}
 use Rattle.plane.specs.theory.forms.Angle.{before-trans}
-use Rattle.plane.specs.theory.forms.SameWay.{SameWay, same-right}
+use Rattle.plane.specs.theory.forms.SameWay.{SameWay, same-right, same-flat, same-not-before}
 use Rattle.plane.specs.theory.forms.Standard.{shape→sorted}
 use Rattle.plane.specs.theory.sum.Cut.{toCut, toCut-take, toCut-leave, value-toCut, cut-formula}
 use Rattle.plane.specs.theory.sum.Positions.{edgeOf}
 use Rattle.plane.specs.Cycle.{round, cornerRound}
 use Rattle.plane.specs.theory.sum.Positions.{round-inner, round-within, round-step, round-total}
 use Rattle.plane.specs.theory.sum.Positions.{edge-at, edges-some, in-order-at, in-order-non-zero}
-use Rattle.measure.specs.theory.Tied.{same-flat, same-not-before, Tied, after, behind, tied}
+use Rattle.measure.specs.theory.Tied.{Tied, after, behind, tied}
 
 -- the edges before the cut, by their number
 toCut-at : (d : Point) (F : List Point) (j : ℕ) → j ≤ length F → ((k : ℕ) → k < j → before (corner F k) (quarter d) ≡ true)

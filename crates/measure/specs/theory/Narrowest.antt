@@ -1,19 +1,19 @@
--- Width: which edge has the least t·t/q, found by keeping the best so far and replacing it only by a narrower one.
+-- Width: which edge has the least t·t/q, found by keeping the best so far and replacing it only by a narrower one that comes later.
 --     fraction-trans                 fractions with positive denominators, compared by products, are in a transitive order
 --     noWider-refl, noWider-trans    an edge is no wider than itself; no wider than what is no wider than a third
 --     wider-noWider                  of two edges one is no wider than the other
 --     noWider-le, wider-lt           the test as a fact
 --     noWider-fractions              the test on numbers of ℕ, as the fractions are compared in code
---     Narrowest ps k e               of the first k edges, e is the first with the least t·t/q
---     narrowest-start, -keep, -replace    the moves of the loop; `narrowest-done`: all edges seen, it is widthEdge
+--     Narrowest ps j k e             of the edges from j on and before k, e is the first with the least t·t/q
+--     narrowest-one                  of one edge it is that edge
+--     narrowest-first, -second       of two rows of edges, one after the other; `narrowest-done`: of all edges it is widthEdge
 --     width-narrowest                there is one, so widthEdge is it
 use mathlib.Core.Path.{_≡_, refl, sym, subst}
 use mathlib.Core.Bool.{Bool, true, false, not}
 use mathlib.Core.List.{List, [], _∷_}
-use Prim.Native.Nat.{ℕ, zero, suc, pred, _+_, _*_, _<_}
+use Prim.Native.Nat.{ℕ, zero, suc, pred, _+_, _*_, _≤_, _<_}
 use native.Mathlib.Numerals.{add-one}
 use native.Mathlib.Omega.{arith}
-use borrow.Author.Count.{below-more}
 use borrow.Author.Tests.{le-leb, lt-leb, ltb-true, ltb-false}
 use lib.Dec.{leb, ltb}
 use lib.IntN.{ℤ, pos, _*ℤ_}
@@ -76,73 +76,85 @@ noWider-fractions ps e f {t} {q} {u} {r} h i k l = rw (h, i, k, l) (go (ltb (u *
     go true p = lt-leb (t * t * r) (u * u * q) (ltb-true (u * u * q) (t * t * r) p)
     go false p = le-leb (t * t * r) (u * u * q) (ltb-false (u * u * q) (t * t * r) p)
 
--- ---- the best so far
+-- ---- the best of some edges in a row
 
-pub narrowest-start : (ps : List Point) → 0 < length ps → Narrowest ps 1 0
-narrowest-start ps some = record {
+pub narrowest-one : (ps : List Point) {e : ℕ} → e < length ps → Narrowest ps e (e + 1) e
+narrowest-one ps {e} h = record {
   seen = omega arith;
+  from = omega arith;
   within = omega arith;
-  least = λ f h. let z : f ≡ 0 = omega arith in rw z (noWider-refl ps 0);
-  sole = λ f h. absurd (omega arith);
+  least = λ f k l. let z : f ≡ e = omega arith in rw z (noWider-refl ps e);
+  sole = λ f k l. absurd (omega arith);
 }
 
-pub narrowest-keep : {ps : List Point} {k e : ℕ} → Narrowest ps k e → k < length ps → noWider ps e k ≡ true → Narrowest ps (k + 1) e
-narrowest-keep {ps} {k} {e} n h test = record {
-  seen = omega arith;
-  within = omega (arith, n .within);
-  least = below-more (λ f. noWider ps e f ≡ true) k (n .least) test;
-  sole = n .sole;
-}
+-- e is the best of one row, and f of the row after it
+module _ {ps : List Point} (s : IsShape ps) (long : 2 < length ps) {i j k e f : ℕ} (n : Narrowest ps i j e) (o : Narrowest ps j k f) where
+  e-in : e < length ps
+  e-in = omega (arith, n .within, n .seen)
 
-module _ {ps : List Point} (s : IsShape ps) (long : 2 < length ps) where
-  -- k is narrower than e, and e is no wider than any before k: so is k, and each of them is wider than k
-  pub narrowest-replace : {k e : ℕ} → Narrowest ps k e → k < length ps → noWider ps e k ≡ false → Narrowest ps (k + 1) k
-  narrowest-replace {k} {e} n h test = record {
-    seen = omega arith;
-    within = omega arith;
-    least = below-more (λ f. noWider ps k f ≡ true) k earlier (noWider-refl ps k);
-    sole = wider;
+  f-in : f < length ps
+  f-in = omega (arith, o .within, o .seen)
+
+  -- what holds of both rows
+  of-both : (P : ℕ → Type 0) (m : ℕ) → ((g : ℕ) → i ≤ g → g < j → P g) → ((g : ℕ) → j ≤ g → g < m → P g) → (g : ℕ) → i ≤ g → g < m → P g
+  of-both P m a b g h l = go (ltb g j) refl
+    where
+      go : (c : Bool) → ltb g j ≡ c → P g
+      go true q = a g h (ltb-true g j q)
+      go false q = b g (ltb-false g j q) l
+
+  pub narrowest-first : noWider ps e f ≡ true → Narrowest ps i k e
+  narrowest-first test = record {
+    seen = o .seen;
+    from = n .from;
+    within = omega (arith, n .within, o .from, o .within);
+    least = of-both (λ g. noWider ps e g ≡ true) k (n .least)
+        (λ g h l. noWider-trans ps s long e f g e-in f-in (omega (arith, o .seen)) test (o .least g h l));
+    sole = n .sole;
+  }
+
+  -- f is narrower than e, and e is no wider than any of the first row: so is f, and each of them is wider than f
+  pub narrowest-second : noWider ps e f ≡ false → Narrowest ps i k f
+  narrowest-second test = record {
+    seen = o .seen;
+    from = omega (arith, n .from, n .within, o .from);
+    within = o .within;
+    least = of-both (λ g. noWider ps f g ≡ true) k
+        (λ g h l. noWider-trans ps s long f e g f-in e-in (omega (arith, n .seen)) (wider-noWider ps e f test) (n .least g h l)) (o .least);
+    sole = of-both (λ g. noWider ps g f ≡ false) f (λ g h l. wider g h l (noWider ps g f) refl) (o .sole);
   }
     where
-      e-in : e < length ps
-      e-in = omega (arith, n .within)
+      wider : (g : ℕ) → i ≤ g → g < j → (b : Bool) → noWider ps g f ≡ b → b ≡ false
+      wider g h l true q =
+          true-not-false (noWider-trans ps s long e g f e-in (omega (arith, n .seen)) f-in (n .least g h l) q) test
+      wider g h l false q = refl
 
-      earlier : (f : ℕ) → f < k → noWider ps k f ≡ true
-      earlier f l = noWider-trans ps s long k e f h e-in (omega arith) (wider-noWider ps e k test) (n .least f l)
-
-      wider : (f : ℕ) → f < k → noWider ps f k ≡ false
-      wider f l = go (noWider ps f k) refl
-        where
-          go : (b : Bool) → noWider ps f k ≡ b → b ≡ false
-          go true q = true-not-false (noWider-trans ps s long e f k e-in (omega arith) h (n .least f l) q) test
-          go false q = refl
-
-pub narrowest-done : {ps : List Point} {e : ℕ} → Narrowest ps (length ps) e → widthEdge ps ≡ e
+pub narrowest-done : {ps : List Point} {e : ℕ} → Narrowest ps 0 (length ps) e → widthEdge ps ≡ e
 unfolding widthEdge
 narrowest-done {ps} {e} n = first-unique (λ k. every (noWider ps k) (length ps)) (length ps) e
-    (omega (arith, n .within)) (λ h. all-every (noWider ps e) (length ps) (n .least))
-    (λ k l. not-every (noWider ps k) (length ps) e (n .within) (n .sole k l))
+    (omega (arith, n .within)) (λ h. all-every (noWider ps e) (length ps) (λ f l. n .least f (omega arith) l))
+    (λ k l. not-every (noWider ps k) (length ps) e (n .within) (n .sole k (omega arith) l))
 
 -- ---- there is one
 
 module _ {ps : List Point} (s : IsShape ps) (long : 2 < length ps) where
-  best-of : (k : ℕ) → k < length ps → (e : ℕ) × Narrowest ps (k + 1) e
-  best-of zero h = (0, narrowest-start ps h)
+  best-of : (k : ℕ) → k < length ps → (e : ℕ) × Narrowest ps 0 (k + 1) e
+  best-of zero h = (0, narrowest-one ps h)
   best-of (suc k) h = go (best-of k (omega arith))
     where
-      keep : (e : ℕ) → Narrowest ps (suc k) e → (b : Bool) → noWider ps e (suc k) ≡ b → (e : ℕ) × Narrowest ps (suc k + 1) e
-      keep e n true q = (e, narrowest-keep n h q)
-      keep e n false q = (suc k, narrowest-replace s long n h q)
+      keep : (e : ℕ) → Narrowest ps 0 (suc k) e → (b : Bool) → noWider ps e (suc k) ≡ b → (e : ℕ) × Narrowest ps 0 (suc k + 1) e
+      keep e n true q = (e, narrowest-first s long n (narrowest-one ps h) q)
+      keep e n false q = (suc k, narrowest-second s long n (narrowest-one ps h) q)
 
-      go : (e : ℕ) × Narrowest ps (k + 1) e → (e : ℕ) × Narrowest ps (suc k + 1) e
+      go : (e : ℕ) × Narrowest ps 0 (k + 1) e → (e : ℕ) × Narrowest ps 0 (suc k + 1) e
       go r = keep (r .0) (rw add-one at (r .1)) (noWider ps (r .0) (suc k)) refl
 
   -- of all edges, the edge of the width is the first with the least t·t/q
-  pub width-narrowest : Narrowest ps (length ps) (widthEdge ps)
+  pub width-narrowest : Narrowest ps 0 (length ps) (widthEdge ps)
   width-narrowest = go (best-of (pred (length ps)) (omega arith))
     where
       all : pred (length ps) + 1 ≡ length ps
       all = omega arith
 
-      go : (e : ℕ) × Narrowest ps (pred (length ps) + 1) e → Narrowest ps (length ps) (widthEdge ps)
-      go (e, n) = let last = subst (λ k. Narrowest ps k e) all n in subst (Narrowest ps (length ps)) (sym (narrowest-done last)) last
+      go : (e : ℕ) × Narrowest ps 0 (pred (length ps) + 1) e → Narrowest ps 0 (length ps) (widthEdge ps)
+      go (e, n) = let last = subst (λ k. Narrowest ps 0 k e) all n in subst (Narrowest ps 0 (length ps)) (sym (narrowest-done last)) last
