@@ -2,18 +2,17 @@
 --     half-start                     they begin at antipodal corners
 --     half-edges, half-corners       their edges may be multiplied, their corners subtracted
 --     half-room                      their positions may be added
---     half-moved, half-next          a step by the code's number leads on, to antipodal corners
+--     half-moved, half-next          a step by `goesRight` leads on, to antipodal corners
 --     half-less                      and fewer steps are to come
-use mathlib.Core.Path.{_≡_, sym, _∙_, ap₂, subst}
-use mathlib.Core.Bool.{cond}
+use mathlib.Core.Path.{_≡_, _∙_, ap₂}
+use mathlib.Core.Bool.{Bool, not, cond}
 use mathlib.Core.List.{List}
 use Prim.Native.Nat.{ℕ, _+_, _-_, _^_, _≤_, _<_}
 use native.Mathlib.Omega.{arith}
-use lib.IntN.{ℤ, pos}
+use lib.IntN.{ℤ}
 use lib.ListN.{length}
-use lib.Signed.{ltZ}
-use Rattle.plane.specs.Limits.{maxCorners, corners-small}
-use Rattle.plane.specs.Point.{Point, points, corner}
+use Rattle.plane.specs.Limits.{corners-small}
+use Rattle.plane.specs.Point.{points}
 use Rattle.plane.specs.Refusal.{Valid}
 use Rattle.plane.specs.Turn.{cross}
 use Rattle.plane.specs.Forms.{edges}
@@ -22,7 +21,7 @@ use Rattle.polygon.specs.Point.{at, Small}
 use Rattle.calipers.specs.declared.side.Side.{Side}
 use Rattle.calipers.specs.Side.{onward, Carried}
 use Rattle.calipers.specs.theory.Sides.{corner-fits, edge-fits}
-use Rattle.measure.specs.Half.{Chains, Antipodal, halfOrder, HalfStep, right, left, both}
+use Rattle.measure.specs.Half.{Chains, goesRight, HalfStep, right, left}
 use Rattle.measure.specs.Scan.{HalfAt}
 use Rattle.measure.specs.theory.Chains.{chains-in}
 use Rattle.measure.specs.theory.HalfWalk.{antipodal-start, antipodal-step, half-step}
@@ -51,14 +50,14 @@ module _ {l : List ℤ} {n : ℕ} {s t : Side} (h : HalfAt l n s t) where
     omega (arith, chains-in (h .chains), edges-at-most (points l), h .valid .few, corners-small),
   )
 
-  -- both sides have moved, unless told to wait
-  module _ {m : ℕ} (all : m ≡ length (edges (points l))) (on : s .at + t .at < n + m) {c : ℤ}
-      (told : c ≡ halfOrder n m (s .at) (t .at) (cross (at (s .edge)) (at (t .edge)))) {s′ t′ : Side}
-      (a : (s′ .at ≡ cond (ltZ (pos 0) c) (s .at) (onward (points l) (s .at))) × Carried l s′)
-      (b : (t′ .at ≡ cond (ltZ c (pos 0)) (t .at) (onward (points l) (t .at))) × Carried l t′) where
+  -- the side of the right-hand chain has moved, or that of the left-hand one
+  module _ {m : ℕ} (all : m ≡ length (edges (points l))) (on : s .at + t .at < n + m) {w : Bool}
+      (told : w ≡ goesRight n m (s .at) (t .at) (cross (at (s .edge)) (at (t .edge)))) {s′ t′ : Side}
+      (a : (s′ .at ≡ cond (not w) (s .at) (onward (points l) (s .at))) × Carried l s′)
+      (b : (t′ .at ≡ cond w (t .at) (onward (points l) (t .at))) × Carried l t′) where
     pub half-moved : HalfStep (points l) n (s .at) (t .at) (s′ .at) (t′ .at)
     half-moved = rw (a .0, b .0) (half-step (chains-in (h .chains)) (h .antipodal .right-in) (h .antipodal .left-in) (omega arith)
-        (told ∙ ap₂ (λ (k : ℕ) (x : ℤ). halfOrder n k (s .at) (t .at) x) all (ap₂ cross (h .right-side .edge-is) (h .left-side .edge-is))))
+        (told ∙ ap₂ (λ (k : ℕ) (x : ℤ). goesRight n k (s .at) (t .at) x) all (ap₂ cross (h .right-side .edge-is) (h .left-side .edge-is))))
 
     pub half-next : HalfAt l n s′ t′
     half-next = record {
@@ -75,4 +74,3 @@ module _ {l : List ℤ} {n : ℕ} {s t : Side} (h : HalfAt l n s t) where
         go : {k l′ : ℕ} → HalfStep (points l) n (s .at) (t .at) k l′ → n + m - (k + l′) < n + m - (s .at + t .at)
         go (right g x) = omega arith
         go (left g x) = omega arith
-        go (both g x y) = omega arith

@@ -1,46 +1,53 @@
 -- The search for the width: the invariant of the loop, and its moves.
---     Sweep l top end s t right left       the best edge of each chain so far, at a place of the half walk
---     sweep-start, -next                   its moves
---     sweep-fits                           what the next step measures can be multiplied
---     sweep-done                           at the end: the best of all edges
+--     Sweep l top end s t best       the best of the edges passed so far, at a place of the half walk
+--     sweep-start, -next             its moves
+--     sweep-fits                     what a step measures can be multiplied
+--     sweep-done                     at the end: the best of all edges
 use mathlib.Core.Path.{_≡_, refl, sym, _∙_, ap, ap₂, subst}
-use mathlib.Core.Bool.{Bool, true, false, cond}
+use mathlib.Core.Bool.{Bool, true, false, not, cond}
 use mathlib.Core.List.{List, [], _∷_}
-use Prim.Native.Nat.{ℕ, _+_, _*_, _≤_, _<_}
+use mathlib.Core.Logic.{_⊎_, inl, inr}
+use Prim.Native.Nat.{ℕ, _+_, _≤_, _<_}
 use native.Mathlib.Omega.{arith}
 use borrow.Author.Tests.{ltb-true, ltb-false}
 use lib.Dec.{ltb}
-use lib.IntN.{ℤ, pos, natAbs}
+use lib.IntN.{ℤ, pos}
 use lib.ListN.{length, List·getD-eq-default}
-use lib.Signed.{_≤ℤ_, ltZ, yes-nonNeg, pos-natAbs}
+use lib.Signed.{_≤ℤ_, yes-nonNeg, pos-natAbs}
 use Rattle.integer.specs.Ring.{ring, reify}
 use Rattle.integer.specs.Order.{le-of-eq}
 use Rattle.plane.specs.Point.{Point, points, corner, origin, _⊖_}
-use Rattle.plane.specs.Turn.{cross, turn, turn-cross}
+use Rattle.plane.specs.Turn.{cross, turn-cross}
 use Rattle.plane.specs.Shape.{next, IsShape}
 use Rattle.plane.specs.Direction.{value}
-use Rattle.plane.specs.Measure.{edgeTurn, height, edgeSquared}
+use Rattle.plane.specs.Measure.{edgeTurn, height}
 use Rattle.plane.specs.Forms.{edges}
 use Rattle.plane.specs.Cycle.{round, cornerRound}
-use Rattle.plane.specs.theory.sum.Positions.{edgeOf, edge-at, edges-at-most, edges-some, edge-corners, edge-turn, round-inner, round-within}
+use Rattle.plane.specs.theory.sum.Positions.{edge-at, edges-at-most, edges-some, edge-turn, round-inner, round-within}
 use Rattle.polygon.specs.Point.{at}
 use Rattle.calipers.specs.declared.side.Side.{Side}
 use Rattle.calipers.specs.Side.{onward, Carried}
 use Rattle.calipers.specs.theory.Sides.{onward-inner}
 use Rattle.measure.specs.declared.narrowest.Across.{Across}
-use Rattle.measure.specs.Comparison.{Facing, Measured, Width, none}
-use Rattle.measure.specs.Half.{halfOrder, HalfStep}
-use Rattle.measure.specs.Scan.{HalfAt, Fits, measuredAt, narrowerOf, firstMet, Best}
-use Rattle.measure.specs.theory.HalfWalk.{half-left}
-use Rattle.measure.specs.theory.Chains.{chains-in}
+use Rattle.measure.specs.Comparison.{Measured, Width, none}
+use Rattle.measure.specs.Half.{goesRight, HalfStep, right, left}
+use Rattle.measure.specs.Scan.{HalfAt, Fits, measuredAt, isNarrower, narrowerOf, Best}
 use Rattle.measure.specs.theory.Height.{value-nonneg, edgeSquared-value}
-use Rattle.measure.specs.theory.Passed.{turn-right, turn-left, facing-right, facing-left}
-use Rattle.measure.specs.theory.WidthScan.{width-one, width-first, width-second}
+use Rattle.measure.specs.theory.Passed.{turn-right, turn-left}
+use Rattle.measure.specs.theory.Narrowest.{More}
+use Rattle.measure.specs.theory.WidthScan.{width-keep, width-replace, width-level, width-same}
 use Rattle.measure.proofs.Stepped.{half-edges, half-corners, half-moved, half-next}
 
--- the best of the edges from j on and before k
-abbrev pub BestOf : List Point → ℕ → ℕ → Across → Type 0
-BestOf A j k b = Width A j k (b .edge) (b .corner) (b .turn) (b .squared)
+-- the edges passed at place (i, m), for top t
+abbrev pub passedAt : ℕ → ℕ → ℕ → ℕ → Type 0
+passedAt t i m f = (f < i) ⊎ ((t ≤ f) × (f < m))
+
+-- the best of some edges, and a measured one
+abbrev pub BestOf : List Point → (ℕ → Type 0) → Across → Type 0
+BestOf A P b = Width A P (b .edge) (b .corner) (b .turn) (b .squared)
+
+abbrev MeasuredAt : List Point → Across → Type 0
+MeasuredAt A b = Measured A (b .edge) (b .corner) (b .turn) (b .squared)
 
 -- ---- what is measured
 
@@ -72,125 +79,153 @@ module _ {l : List ℤ} {s t : Side} (shape : IsShape (points l)) (a : Carried l
       go false e = le-of-eq (sym (ap (λ (v : Point). cross v (at (t .corner) ⊖ at (s .corner)))
           (a .edge-is ∙ List·getD-eq-default (edges A) origin (ltb-false (s .at) (length (edges A)) e)) ∙ cross-origin _))
 
-  measured : {c : ℕ} → s .at < length (edges A) → edgeTurn A (s .at) (round (length A) (t .at)) ≡ height A (s .at) → Facing A (s .at) c
-      → BestOf A (s .at) (s .at + 1) (measuredAt s t c)
+  measured : s .at < length (edges A) → edgeTurn A (s .at) (round (length A) (t .at)) ≡ height A (s .at) → MeasuredAt A (measuredAt s t)
   unfolding measuredAt
-  measured {c} h tall facing = width-one (omega (arith, edges-at-most A)) (record {
-    facing = facing;
+  measured h tall = record {
+    corner-in = omega (arith, b .at-in, edges-at-most A);
+    has = tall;
     turns = sym tall ∙ sym (turns h) ∙ sym (pos-natAbs _ (yes-nonNeg not-right));
     long = edgeSquared-value A (s .at) ∙ sym (ap (λ (v : Point). value v v) (a .edge-is ∙ edge-at A (s .at) h))
         ∙ sym (pos-natAbs _ (yes-nonNeg (value-nonneg (at (s .edge)))));
-  })
+  }
 
 -- ---- the narrower of two
 
-module _ {A : List Point} (shape : IsShape A) (three : 2 < length A) {i j k : ℕ} {best found : Across} where
-  narrower-best : BestOf A i j best → BestOf A j k found → BestOf A i k (narrowerOf best found)
+module _ {A : List Point} (shape : IsShape A) (three : 2 < length A) {P Q : ℕ → Type 0} {best found : Across} (h : found .edge < length A)
+    (more : More P Q (found .edge)) (w : BestOf A P best) (m : MeasuredAt A found) where
+  narrower-best : BestOf A Q (narrowerOf best found)
   unfolding narrowerOf
-  narrower-best a b = go (ltb (found .turn * found .turn * best .squared) (best .turn * best .turn * found .squared)) refl
+  narrower-best = go (isNarrower best found) refl (isNarrower found best) refl (ltb (found .edge) (best .edge)) refl
     where
-      go : (c : Bool) → ltb (found .turn * found .turn * best .squared) (best .turn * best .turn * found .squared) ≡ c
-          → BestOf A i k (cond c found best)
-      go true e = width-second shape three a b e
-      go false e = width-first shape three a b e
+      go : (x : Bool) → isNarrower best found ≡ x → (y : Bool) → isNarrower found best ≡ y → (z : Bool) → ltb (found .edge) (best .edge) ≡ z
+          → BestOf A Q (cond x best (cond y found (cond z found best)))
+      go true e y f z g = width-keep shape three h more w m e
+      go false e true f z g = width-replace shape three h more w m f
+      go false e false f true g = width-level shape three h more w m e f .0 (ltb-true (found .edge) (best .edge) g)
+      go false e false f false g = width-level shape three h more w m e f .1 (ltb-false (found .edge) (best .edge) g)
+
+-- ---- the edges passed
+
+right-more : (t i m : ℕ) → More (passedAt t i m) (passedAt t (i + 1) m) i
+right-more t i m = record { new = inl (omega arith); old = λ f p. old f p; only = λ f q. only f q }
+  where
+    old : (f : ℕ) → passedAt t i m f → passedAt t (i + 1) m f
+    old f (inl p) = inl (omega arith)
+    old f (inr p) = inr p
+
+    only : (f : ℕ) → passedAt t (i + 1) m f → passedAt t i m f ⊎ (f ≡ i)
+    only f (inl p) = go (ltb f i) refl
+      where
+        go : (b : Bool) → ltb f i ≡ b → passedAt t i m f ⊎ (f ≡ i)
+        go true e = inl (inl (ltb-true f i e))
+        go false e = inr (omega (arith, ltb-false f i e))
+    only f (inr p) = inl (inr p)
+
+left-more : (t i m : ℕ) → t ≤ m → More (passedAt t i m) (passedAt t i (m + 1)) m
+left-more t i m l = record { new = inr (l, omega arith); old = λ f p. old f p; only = λ f q. only f q }
+  where
+    old : (f : ℕ) → passedAt t i m f → passedAt t i (m + 1) f
+    old f (inl p) = inl p
+    old f (inr p) = inr (p .0, omega (arith, p .1))
+
+    only : (f : ℕ) → passedAt t i (m + 1) f → passedAt t i m f ⊎ (f ≡ m)
+    only f (inl p) = inl (inl p)
+    only f (inr p) = go (ltb f m) refl
+      where
+        go : (b : Bool) → ltb f m ≡ b → passedAt t i m f ⊎ (f ≡ m)
+        go true e = inl (inr (p .0, ltb-true f m e))
+        go false e = inr (omega (arith, ltb-false f m e, p .1))
+
+-- where the right-hand chain stays, the left-hand one has an edge to pass
+left-inside : {A : List Point} {t i m k l : ℕ} → HalfStep A t i m k l → k ≡ i → m < length (edges A)
+left-inside (right g c) e = absurd (omega arith)
+left-inside (left g c) e = g
 
 -- ---- the loop
 
-pub record Sweep (l : List ℤ) (top end : ℕ) (s t : Side) (right left : Across) : Type 0 where
+pub record Sweep (l : List ℤ) (top end : ℕ) (s t : Side) (best : Across) : Type 0 where
   pub half : HalfAt l top s t
   pub three : 2 < length (points l)
   pub sides : end ≡ length (edges (points l))
-  pub right-best : BestOf (points l) 0 (s .at) right
-  pub left-best : BestOf (points l) top (t .at) left
+  pub best-so-far : BestOf (points l) (passedAt top (s .at) (t .at)) best
 
 module _ {l : List ℤ} {top end : ℕ} where
-  pub sweep-start : {s t : Side} {right left : Across} → HalfAt l top s t → 2 < length (points l) → end ≡ length (edges (points l))
-      → s .at ≡ 0 → t .at ≡ top → right ≡ record { edge = 0; corner = 0; turn = 1; squared = 0 }
-      → left ≡ record { edge = 0; corner = 0; turn = 1; squared = 0 } → Sweep l top end s t right left
-  sweep-start {s} {t} h three sides a b p q = record {
-    half = h;
-    three = three;
-    sides = sides;
-    right-best = subst (BestOf (points l) 0 (s .at)) (sym p) (rw a none);
-    left-best = subst (BestOf (points l) top (t .at)) (sym q) (rw b none);
-  }
+  pub sweep-start : {s t : Side} → HalfAt l top s t → 2 < length (points l) → end ≡ length (edges (points l)) → s .at ≡ 0 → t .at ≡ top
+      → Sweep l top end s t (record { edge = 0; corner = 0; turn = 1; squared = 0 })
+  sweep-start {s} {t} h three sides a b = record { half = h; three = three; sides = sides; best-so-far = none nothing }
+    where
+      nothing : (f : ℕ) → passedAt top (s .at) (t .at) f → ⊥
+      nothing f (inl p) = omega (arith, a)
+      nothing f (inr p) = omega (arith, b, p .0, p .1)
 
-  module _ {s t : Side} {right left : Across} (g : Sweep l top end s t right left) where
-    pub sweep-fits : Fits s t × Fits t s
-    sweep-fits =
-        let shape = g .half .valid .shape in
-        let edges-fit = half-edges (g .half) in
-        let corners-fit = half-corners (g .half) in (
-          record {
-            edge-fits = edges-fit .0;
-            corner-fits = corners-fit .0;
-            other-fits = corners-fit .1;
-            not-right = not-right shape (g .half .right-side) (g .half .left-side);
-          },
-          record {
-            edge-fits = edges-fit .1;
-            corner-fits = corners-fit .1;
-            other-fits = corners-fit .0;
-            not-right = not-right shape (g .half .left-side) (g .half .right-side);
-          },
-        )
+  module _ {s t : Side} {best : Across} (g : Sweep l top end s t best) where
+    shape : IsShape (points l)
+    shape = g .half .valid .shape
 
     all : length (edges (points l)) ≡ length (points l)
     all = edges-some (points l) (omega (arith, g .three))
 
-    module _ (on : s .at + t .at < top + end) {c : ℤ}
-        (told : c ≡ halfOrder top end (s .at) (t .at) (cross (at (s .edge)) (at (t .edge)))) {s′ t′ : Side}
-        (a : (s′ .at ≡ cond (ltZ (pos 0) c) (s .at) (onward (points l) (s .at))) × Carried l s′)
-        (b : (t′ .at ≡ cond (ltZ c (pos 0)) (t .at) (onward (points l) (t .at))) × Carried l t′) where
-      step : HalfStep (points l) top (s .at) (t .at) (s′ .at) (t′ .at)
-      step = half-moved (g .half) (g .sides) on told a b
+    -- the passed edge and the other side, whichever they are
+    module _ (w : Bool) {x y : Side} (p : x ≡ cond w s t) (q : y ≡ cond w t s) where
+      pub sweep-fits : Fits x y
+      sweep-fits = rw (p, q) (go w)
+        where
+          go : (w : Bool) → Fits (cond w s t) (cond w t s)
+          go true = record {
+            edge-fits = half-edges (g .half) .0;
+            corner-fits = half-corners (g .half) .0;
+            other-fits = half-corners (g .half) .1;
+            not-right = not-right shape (g .half .right-side) (g .half .left-side);
+          }
+          go false = record {
+            edge-fits = half-edges (g .half) .1;
+            corner-fits = half-corners (g .half) .1;
+            other-fits = half-corners (g .half) .0;
+            not-right = not-right shape (g .half .left-side) (g .half .right-side);
+          }
 
-      wide : 1 < length (points l)
-      wide = omega (arith, g .three)
+      module _ (on : s .at + t .at < top + end) (told : w ≡ goesRight top end (s .at) (t .at) (cross (at (s .edge)) (at (t .edge))))
+          {s′ t′ : Side} (a : (s′ .at ≡ cond (not w) (s .at) (onward (points l) (s .at))) × Carried l s′)
+          (b : (t′ .at ≡ cond w (t .at) (onward (points l) (t .at))) × Carried l t′) where
+        step : HalfStep (points l) top (s .at) (t .at) (s′ .at) (t′ .at)
+        step = half-moved (g .half) (g .sides) on told a b
 
-      -- the right-hand chain waits, or passes its edge
-      right-next : (w : Bool) → ltZ (pos 0) c ≡ w
-          → BestOf (points l) 0 (s′ .at) (cond w right (narrowerOf right (measuredAt s t (firstMet end (t .at) (t′ .at)))))
-      right-next true e = let still : s′ .at ≡ s .at = rw e at (a .0) in rw still (g .right-best)
-      right-next false e =
-          let shape = g .half .valid .shape in
-          let inside : s .at < length (edges (points l)) = omega (arith, all, g .half .antipodal .right-in, g .half .chains .within) in
-          let more : s′ .at ≡ s .at + 1 = rw e at (a .0) ∙ onward-inner (points l) (s .at) inside in
-          let less : s .at < s′ .at = omega (arith, more) in
-          let first : Facing (points l) (s .at) (firstMet end (t .at) (t′ .at)) =
-          rw (g .sides, all) (facing-right shape (g .half .chains) wide (g .half .antipodal) step less) in
-          rw more (narrower-best shape (g .three) (g .right-best) (measured shape (g .half .right-side) (g .half .left-side) inside
-          (turn-right shape (g .half .chains) wide (g .half .antipodal) step less) first))
+        passed : (v : Bool) → w ≡ v
+            → BestOf (points l) (passedAt top (s′ .at) (t′ .at)) (narrowerOf best (measuredAt (cond v s t) (cond v t s)))
+        unfolding measuredAt
+        passed true e =
+            let inside : s .at < length (edges (points l)) = omega (arith, all, g .half .antipodal .right-in, g .half .chains .within) in
+            let more : s′ .at ≡ s .at + 1 = rw e at (a .0) ∙ onward-inner (points l) (s .at) inside in
+            let still : t′ .at ≡ t .at = rw e at (b .0) in
+            rw (more, still) (narrower-best shape (g .three) (omega (arith, all)) (right-more top (s .at) (t .at)) (g .best-so-far)
+            (measured shape (g .half .right-side) (g .half .left-side) inside
+            (turn-right shape (g .half .chains) (g .half .antipodal) step (omega (arith, more)))))
+        passed false e =
+            let still : s′ .at ≡ s .at = rw e at (a .0) in
+            let inside = left-inside step still in
+            let more : t′ .at ≡ t .at + 1 = rw e at (b .0) ∙ onward-inner (points l) (t .at) inside in
+            rw (more, still) (narrower-best shape (g .three) (omega (arith, all)) (left-more top (s .at) (t .at) (g .half .antipodal .left-from))
+            (g .best-so-far) (measured shape (g .half .left-side) (g .half .right-side) inside
+            (turn-left shape (g .half .chains) (g .half .antipodal) step (omega (arith, more)))))
 
-      left-next : (w : Bool) → ltZ c (pos 0) ≡ w
-          → BestOf (points l) top (t′ .at) (cond w left (narrowerOf left (measuredAt t s (s .at))))
-      left-next true e = let still : t′ .at ≡ t .at = rw e at (b .0) in rw still (g .left-best)
-      left-next false e =
-          let shape = g .half .valid .shape in
-          let end-in : t .at ≤ end = omega (arith, g .sides, g .half .left-side .at-in) in
-          let inside : t .at < length (edges (points l)) = omega (arith, g .sides, half-left top end (s .at) (t .at) _ end-in on told e) in
-          let more : t′ .at ≡ t .at + 1 = rw e at (b .0) ∙ onward-inner (points l) (t .at) inside in
-          let less : t .at < t′ .at = omega (arith, more) in
-          rw more (narrower-best shape (g .three) (g .left-best) (measured shape (g .half .left-side) (g .half .right-side) inside
-          (turn-left shape (g .half .chains) wide (g .half .antipodal) step less)
-          (facing-left shape (g .half .chains) wide (g .half .antipodal) step less)))
+        pub sweep-next : {found r : Across} → found ≡ measuredAt x y → r ≡ narrowerOf best found → Sweep l top end s′ t′ r
+        sweep-next u v = record {
+          half = half-next (g .half) (g .sides) on told a b;
+          three = g .three;
+          sides = g .sides;
+          best-so-far = subst (BestOf (points l) _) (sym (v ∙ ap (narrowerOf best) (u ∙ ap₂ measuredAt p q))) (passed w refl);
+        }
 
-      pub sweep-next : {right′ left′ : Across} {k : ℕ} → k ≡ firstMet end (t .at) (t′ .at)
-          → right′ ≡ cond (ltZ (pos 0) c) right (narrowerOf right (measuredAt s t k))
-          → left′ ≡ cond (ltZ c (pos 0)) left (narrowerOf left (measuredAt t s (s .at))) → Sweep l top end s′ t′ right′ left′
-      sweep-next f p q = record {
-        half = half-next (g .half) (g .sides) on told a b;
-        three = g .three;
-        sides = g .sides;
-        right-best = subst (BestOf (points l) 0 (s′ .at)) (sym p) (rw f (right-next (ltZ (pos 0) c) refl));
-        left-best = subst (BestOf (points l) top (t′ .at)) (sym q) (left-next (ltZ c (pos 0)) refl);
-      }
+    pub sweep-done : top + end ≤ s .at + t .at → Best l best
+    sweep-done h = width-same from to (g .best-so-far)
+      where
+        from : (f : ℕ) → passedAt top (s .at) (t .at) f → f < length (points l)
+        from f (inl p) = omega (arith, g .half .antipodal .right-in, g .half .chains .within)
+        from f (inr p) = omega (arith, p .1, g .half .left-side .at-in, all)
 
-    pub sweep-done : {r : Across} → top + end ≤ s .at + t .at → r ≡ narrowerOf right left → Best l r
-    sweep-done h e =
-        let top-in = g .half .antipodal .right-in in
-        let end-in = g .half .left-side .at-in in
-        let right-all : s .at ≡ top = omega (arith, g .sides) in
-        let left-all : t .at ≡ length (points l) = omega (arith, g .sides, all) in
-        subst (Best l) (sym e) (narrower-best (g .half .valid .shape) (g .three) (rw right-all at (g .right-best))
-        (rw left-all at (g .left-best)))
+        to : (f : ℕ) → f < length (points l) → passedAt top (s .at) (t .at) f
+        to f q = go (ltb f top) refl
+          where
+            go : (b : Bool) → ltb f top ≡ b → passedAt top (s .at) (t .at) f
+            go true e = inl (omega (arith, ltb-true f top e, g .sides, g .half .left-side .at-in))
+            go false e = inr (ltb-false f top e, omega (arith, g .sides, all, g .half .antipodal .right-in))

@@ -3,9 +3,9 @@
 --     NoBetter ps k l i j     the pair (k, l) is no better than (i, j): not further apart, and if as far, not earlier
 --     Stands ps i m k l       at place (i, m) of the half walk stand the corners k and l, in the order of their positions
 --     Facing ps e c           c is the first corner that has the greatest turn against edge e
---     Narrowest ps j k e      of the edges from j on and before k, e is the first with the least t·t/q
---     Measured ps e c t q     edge e is measured: corner c, greatest turn t, squared length q
---     Width ps j k e c t q    the best of the edges from j on and before k, or none yet
+--     Narrowest ps P e        of the edges of which P holds, e is the first with the least t·t/q
+--     Measured ps e c t q     edge e is measured: corner c on the way round has the greatest turn t, and q is the squared length
+--     Width ps P e c t q      the best of the edges of which P holds, so measured; where there is none t·t/q stands at 1/0, wider than any
 use mathlib.Core.Path.{_≡_}
 use mathlib.Core.Bool.{true, false, cond}
 use mathlib.Core.List.{List}
@@ -15,6 +15,7 @@ use lib.IntN.{pos}
 use lib.ListN.{length}
 use lib.Signed.{_≤ℤ_}
 use Rattle.plane.specs.Point.{Point, corner}
+use Rattle.plane.specs.Cycle.{round}
 use Rattle.plane.specs.Measure.{squared, edgeTurn, height, edgeSquared, noWider}
 
 -- ---- length
@@ -39,18 +40,18 @@ pub record Facing (ps : List Point) (e c : ℕ) : Type 0 where
   pub has : edgeTurn ps e c ≡ height ps e
   pub sole : (k : ℕ) → k < c → edgeTurn ps e k ≡ height ps e → ⊥
 
-pub record Narrowest (ps : List Point) (j k e : ℕ) : Type 0 where
-  pub seen : k ≤ length ps
-  pub from : j ≤ e
-  pub within : e < k
-  pub least : (f : ℕ) → j ≤ f → f < k → noWider ps e f ≡ true
-  pub sole : (f : ℕ) → j ≤ f → f < e → noWider ps f e ≡ false
+pub record Narrowest (ps : List Point) (P : ℕ → Type 0) (e : ℕ) : Type 0 where
+  pub edges-in : (f : ℕ) → P f → f < length ps
+  pub among : P e
+  pub least : (f : ℕ) → P f → noWider ps e f ≡ true
+  pub sole : (f : ℕ) → P f → f < e → noWider ps f e ≡ false
 
 pub record Measured (ps : List Point) (e c t q : ℕ) : Type 0 where
-  pub facing : Facing ps e c
+  pub corner-in : c ≤ length ps
+  pub has : edgeTurn ps e (round (length ps) c) ≡ height ps e
   pub turns : height ps e ≡ pos t
   pub long : edgeSquared ps e ≡ pos q
 
-pub data Width (ps : List Point) : ℕ → ℕ → ℕ → ℕ → ℕ → ℕ → Type 0 where
-  none : {j e c : ℕ} → Width ps j j e c 1 0
-  best : {j k e c t q : ℕ} → Narrowest ps j k e → Measured ps e c t q → Width ps j k e c t q
+pub data Width (ps : List Point) (P : ℕ → Type 0) (e c : ℕ) : ℕ → ℕ → Type 0 where
+  none : ((f : ℕ) → P f → ⊥) → Width ps P e c 1 0
+  best : {t q : ℕ} → Narrowest ps P e → Measured ps e c t q → Width ps P e c t q

@@ -2,20 +2,19 @@
 -- both at once. At place (i, m) the edges before i of the right-hand chain and before m of the left-hand one are passed. Our own, not of
 -- document 01.
 --     Chains A t             t is the top: the edges before it point up, and those from it on do not
---     Antipodal A t i m      corners i and m are antipodal: edges of the left-hand chain turned round, each passed edge of one chain comes
---                            before the next of the other
---     halfOrder t n i m c    what the next step goes by, for top t, n edges, and the product c of edges i and m: below 0 edge i is passed,
---                            above 0 edge m, and at 0 both, which are parallel
---     HalfStep A t i m k l   the step from place (i, m) leads to (k, l)
+--     Antipodal A t i m      corners i and m are antipodal: edges of the left-hand chain turned round, each passed edge of the right-hand chain
+--                            comes before the next of the left-hand one, and no passed edge of that after the next of the right-hand one
+--     goesRight t n i m c    whether the next step passes edge i, and not edge m, for top t, n edges, and the product c of the two
+--     HalfStep A t i m k l   the step from place (i, m) leads to (k, l). Of two parallel edges that of the left-hand chain is passed first
 -- What it means: `HalfWalk` of the theory.
 use mathlib.Core.Path.{_≡_}
-use mathlib.Core.Bool.{true, false, cond}
+use mathlib.Core.Bool.{Bool, true, false, cond}
 use mathlib.Core.List.{List}
 use Prim.Native.Nat.{ℕ, _+_, _≤_, _<_}
 use lib.Dec.{eqb}
-use lib.IntN.{ℤ, pos, negsuc}
+use lib.IntN.{ℤ, pos}
 use lib.ListN.{length}
-use lib.Signed.{_<ℤ_}
+use lib.Signed.{_≤ℤ_, _<ℤ_, ltZ}
 use Rattle.plane.specs.Point.{Point, corner}
 use Rattle.plane.specs.Turn.{cross}
 use Rattle.plane.specs.Forms.{up, edges}
@@ -30,13 +29,12 @@ pub record Antipodal (A : List Point) (t i m : ℕ) : Type 0 where
   pub left-from : t ≤ m
   pub left-in : m ≤ length (edges A)
   pub right-passed : (k : ℕ) → k < i → m < length (edges A) → pos 0 <ℤ cross (corner (edges A) m) (corner (edges A) k)
-  pub left-passed : (k : ℕ) → t ≤ k → k < m → i < t → pos 0 <ℤ cross (corner (edges A) i) (corner (edges A) k)
+  pub left-passed : (k : ℕ) → t ≤ k → k < m → i < t → pos 0 ≤ℤ cross (corner (edges A) i) (corner (edges A) k)
 
 -- a chain that is passed waits for the other
-abbrev pub halfOrder : ℕ → ℕ → ℕ → ℕ → ℤ → ℤ
-halfOrder t n i m c = cond (eqb i t) (pos 1) (cond (eqb m n) (negsuc 0) c)
+abbrev pub goesRight : ℕ → ℕ → ℕ → ℕ → ℤ → Bool
+goesRight t n i m c = cond (eqb i t) false (cond (eqb m n) true (ltZ c (pos 0)))
 
 pub data HalfStep (A : List Point) (t i m : ℕ) : ℕ → ℕ → Type 0 where
   right : i < t → (m < length (edges A) → cross (corner (edges A) i) (corner (edges A) m) <ℤ pos 0) → HalfStep A t i m (i + 1) m
-  left : m < length (edges A) → (i < t → pos 0 <ℤ cross (corner (edges A) i) (corner (edges A) m)) → HalfStep A t i m i (m + 1)
-  both : i < t → m < length (edges A) → cross (corner (edges A) i) (corner (edges A) m) ≡ pos 0 → HalfStep A t i m (i + 1) (m + 1)
+  left : m < length (edges A) → (i < t → pos 0 ≤ℤ cross (corner (edges A) i) (corner (edges A) m)) → HalfStep A t i m i (m + 1)

@@ -69,7 +69,7 @@ module _ (ps : List Point) (shape : IsShape ps) (three : 2 < length ps) where
 
   -- "Answered: edge, corner, t, q and w": the edge is one of the shape
   pub width-edge-is-position : e < length ps
-  width-edge-is-position = width-narrowest shape three .within
+  width-edge-is-position = width-narrowest shape three .among
 
   -- of every edge t and q are above 0, so that "t·t/q" is a fraction
   pub height-is-positive : (f : ℕ) → f < length ps → pos 0 <ℤ t f
@@ -80,11 +80,11 @@ module _ (ps : List Point) (shape : IsShape ps) (three : 2 < length ps) where
 
   -- "Edges compare by t·t/q as exact fractions. The least wins": t·t/q of the edge is at most that of any
   pub none-is-narrower : (f : ℕ) → f < length ps → (t e *ℤ t e *ℤ q f) ≤ℤ (t f *ℤ t f *ℤ q e)
-  none-is-narrower f h = noWider-le ps e f (width-narrowest shape three .least f (omega arith) h)
+  none-is-narrower f h = noWider-le ps e f (width-narrowest shape three .least f h)
 
   -- "smallest edge position on a tie": and less than that of any earlier one
   pub earlier-is-wider : (f : ℕ) → f < e → (t e *ℤ t e *ℤ q f) <ℤ (t f *ℤ t f *ℤ q e)
-  earlier-is-wider f h = wider-lt ps f e (width-narrowest shape three .sole f (omega arith) h)
+  earlier-is-wider f h = let first = width-narrowest shape three in wider-lt ps f e (first .sole f (omega (arith, first .among)) h)
 
   -- "then the smallest corner position that has the greatest turn": the corner is one of the shape
   pub width-corner-is-position : widthCorner ps < length ps

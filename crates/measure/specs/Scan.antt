@@ -5,15 +5,16 @@
 --     Earlier best next r     r is the pair of the two that comes first, by its first position and then by its second
 --     Kept best next r        r is the better of two pairs: further apart, then earlier
 --     Fits s t                the edge of s and the corner of t can be multiplied, and the corner is not right of the edge
---     measuredAt s t c          the edge of s, measured at the corner of t, whose position is c
---     narrowerOf best found   the narrower of two measured edges, the first of two that are as wide
---     firstMet n j k          the first of the positions j to k on the way round n corners, for j = k and j + 1 = k
---     Best l b                b is the narrowest of all edges
+--     measuredAt s t          the edge of s, measured at the corner of t
+--     isNarrower a b          t·t/q of the measured edge a is less than that of b
+--     narrowerOf best found   the narrower of two measured edges, and the earlier of two that are as wide
+--     Best l b                b is the first of all edges with the least width
+--     Opposed l e c           corner c on the way round is furthest from edge e
 -- What they mean: `Comparison.antt`, and `LengthScan` and `WidthScan` of the theory.
 use mathlib.Core.Path.{_≡_}
-use mathlib.Core.Bool.{cond}
+use mathlib.Core.Bool.{Bool, cond}
 use mathlib.Core.List.{List}
-use Prim.Native.Nat.{ℕ, _*_, _^_, _≤_}
+use Prim.Native.Nat.{ℕ, _*_, _^_, _≤_, _<_}
 use lib.Dec.{eqb, ltb}
 use lib.IntN.{ℤ, pos, natAbs}
 use lib.ListN.{length}
@@ -22,7 +23,8 @@ use Rattle.plane.specs.Point.{Point, points, _⊖_}
 use Rattle.plane.specs.Refusal.{Valid}
 use Rattle.plane.specs.Turn.{cross}
 use Rattle.plane.specs.Direction.{value}
-use Rattle.plane.specs.Measure.{squared}
+use Rattle.plane.specs.Cycle.{round}
+use Rattle.plane.specs.Measure.{squared, edgeTurn, height}
 use Rattle.polygon.specs.Point.{at, Small}
 use Rattle.calipers.specs.declared.side.Side.{Side}
 use Rattle.calipers.specs.Side.{Carried}
@@ -67,20 +69,28 @@ pub record Fits (s t : Side) : Type 0 where
   pub other-fits : Small (2 ^ 21) (at (t .corner))
   pub not-right : pos 0 ≤ℤ cross (at (s .edge)) (at (t .corner) ⊖ at (s .corner))
 
-unfoldable pub measuredAt : Side → Side → ℕ → Across
-measuredAt s t c = record {
+unfoldable pub measuredAt : Side → Side → Across
+measuredAt s t = record {
   edge = s .at;
-  corner = c;
+  corner = t .at;
   turn = natAbs (cross (at (s .edge)) (at (t .corner) ⊖ at (s .corner)));
   squared = natAbs (value (at (s .edge)) (at (s .edge)));
 }
 
+-- t·t/q of the first edge is less than that of the second
+abbrev pub isNarrower : Across → Across → Bool
+isNarrower a b = ltb (a .turn * a .turn * b .squared) (b .turn * b .turn * a .squared)
+
 unfoldable pub narrowerOf : Across → Across → Across
 narrowerOf best found =
-    cond (ltb (found .turn * found .turn * best .squared) (best .turn * best .turn * found .squared)) found best
-
-abbrev pub firstMet : ℕ → ℕ → ℕ → ℕ
-firstMet n j k = cond (eqb k n) 0 j
+    cond (isNarrower best found) best (cond (isNarrower found best) found (cond (ltb (found .edge) (best .edge)) found best))
 
 abbrev pub Best : List ℤ → Across → Type 0
-Best l b = Width (points l) 0 (length (points l)) (b .edge) (b .corner) (b .turn) (b .squared)
+Best l b = Width (points l) (λ f. f < length (points l)) (b .edge) (b .corner) (b .turn) (b .squared)
+
+pub record Opposed (l : List ℤ) (e c : ℕ) : Type 0 where
+  pub valid : Valid l
+  pub three : 2 < length (points l)
+  pub edge-in : e < length (points l)
+  pub corner-in : c ≤ length (points l)
+  pub has : edgeTurn (points l) e (round (length (points l)) c) ≡ height (points l) e

@@ -6,7 +6,7 @@ ghost use Rattle.plane.specs.Point.{points};
 ghost use Rattle.plane.specs.Turn.{cross};
 ghost use Rattle.plane.specs.Shape.{IsShape};
 ghost use Rattle.polygon.specs.Point.{at, Small};
-ghost use Rattle.measure.specs.Half.{Chains, halfOrder};
+ghost use Rattle.measure.specs.Half.{Chains, goesRight};
 use calipers::side;
 use calipers::side::Side;
 use polygon::corners;
@@ -27,18 +27,18 @@ pub fn top(list: &[i32]) -> usize
     i
 }
 
-// What the next step passes: below 0 the edge of s, on the right-hand chain, above 0 the edge of t, on the left-hand
-// one, and at 0 both, which are parallel. A chain that is passed, at the top or at the end, leaves the step to the
-// other.
-pub fn order(top: usize, end: usize, s: Side, t: Side) -> i64
+// Whether the next step passes the edge of s, on the right-hand chain, and not that of t, on the left-hand one: s has
+// it to the right. Of two parallel edges the left-hand one is passed first. A chain that is passed, at the top or at
+// the end, waits for the other.
+pub fn goes_right(top: usize, end: usize, s: Side, t: Side) -> bool
     requires { ⌜ Small (2 ^ 22) (at (s .edge)) × Small (2 ^ 22) (at (t .edge)) ⌝ }
-    ensures { λ r. ⌜ r ≡ halfOrder top end (s .at) (t .at) (cross (at (s .edge)) (at (t .edge))) ⌝ }
+    ensures { λ r. ⌜ r ≡ goesRight top end (s .at) (t .at) (cross (at (s .edge)) (at (t .edge))) ⌝ }
 {
     if s.at == top {
-        return 1;
+        return false;
     }
     if t.at == end {
-        return -1;
+        return true;
     }
-    side::order(s, t)
+    side::order(s, t) < 0
 }

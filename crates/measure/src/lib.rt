@@ -50,7 +50,7 @@ pub fn narrowest_edge(list: &[i32]) -> Width
     let best = narrowest::narrowest(list);
     Width {
         edge: best.edge,
-        corner: best.corner,
+        corner: narrowest::first_facing(list, best.edge, best.corner),
         turn: best.turn,
         squared: best.squared,
         rounded: words::root_of_fraction(best.turn, best.squared),

@@ -28,9 +28,9 @@ pub fn longest(list: &[i32]) -> Length
     let mut t = side::side_at(list, top);
     let mut best = apart(n, s, t);
     while s.at + t.at < top + end {
-        let c = half::order(top, end, s, t);
-        s = side::next(list, s, 0 < c);
-        t = side::next(list, t, c < 0);
+        let right = half::goes_right(top, end, s, t);
+        s = side::next(list, s, !right);
+        t = side::next(list, t, right);
         best = better(best, apart(n, s, t));
     }
     best

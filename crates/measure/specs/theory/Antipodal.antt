@@ -11,10 +11,10 @@ use borrow.Author.Tests.{eqb-true, eqb-false, ltb-true, ltb-false, eq-eqb, ne-eq
 use lib.Dec.{eqb, ltb}
 use lib.IntN.{pos, _-ℤ_}
 use lib.ListN.{length}
-use lib.Signed.{_≤ℤ_, _<ℤ_, ltZ, clashℤ}
+use lib.Signed.{_≤ℤ_, _<ℤ_, ltZ}
 use Rattle.integer.specs.Ring.{ring, reify}
 use Rattle.integer.specs.Linear.{lia, linear, _&_}
-use Rattle.integer.specs.Order.{contra<, ltZ-true, ltZ-false, lt-ltZ, le-ltZ}
+use Rattle.integer.specs.Order.{weaken, ltZ-true, ltZ-false, lt-ltZ, le-ltZ}
 use Rattle.plane.specs.Point.{Point, corner, origin, _⊖_, opposite}
 use Rattle.plane.specs.Turn.{cross}
 use Rattle.plane.specs.Search.{first}
@@ -26,25 +26,18 @@ use Rattle.plane.specs.Cycle.{round, cornerRound}
 use Rattle.plane.specs.theory.lists.Members.{point-path, position-member}
 use Rattle.plane.specs.theory.lists.Sought.{first-le, first-true, first-least}
 use Rattle.plane.specs.theory.forms.Squared.{squared-positive}
-use Rattle.plane.specs.theory.forms.Vector.{quarter, cross-swap, cross-turned, value-turned, ⊖-zero}
-use Rattle.plane.specs.theory.forms.HalfPlane.{Up, up-opposite, cross-trans-weak}
+use Rattle.plane.specs.theory.forms.Vector.{quarter, cross-turned, value-turned, ⊖-zero}
+use Rattle.plane.specs.theory.forms.HalfPlane.{Up, up-opposite}
 use Rattle.plane.specs.theory.support.Support.{value-le-support}
 use Rattle.plane.specs.theory.sum.Positions.{edges-at-most, round-inner, round-within, corner-injective}
 use Rattle.measure.specs.Half.{Chains, Antipodal}
 use Rattle.measure.specs.Comparison.{Stands}
 use Rattle.measure.specs.theory.CutCorner.{Cut, cut-furthest}
-use Rattle.measure.specs.theory.Chains.{chains-in, up-right, up-left, cross-facing, cut-right, cut-left}
+use Rattle.measure.specs.theory.Chains.{chains-in, up-right, up-left, cross-facing, late-cross, cut-right, cut-left}
 use Rattle.measure.specs.theory.HalfWalk.{antipodal-start}
 use Rattle.measure.specs.theory.Longest.{longest-strict, squared-le-length, Longest}
 
 -- ---- corners that are furthest alone
-
--- x comes before q, and y does not
-late-cross : {x y q : Point} → Up x → Up y → Up q → pos 0 <ℤ cross x q → cross y q ≤ℤ pos 0 → pos 0 <ℤ cross x y
-late-cross {x} {y} {q} ux uy uq h k = contra< (λ g. clashℤ (cross-trans-weak uy ux uq (turned g) h) k)
-  where
-    turned : cross x y ≤ℤ pos 0 → pos 0 ≤ℤ cross y x
-    turned g = lia (cross x y ∷ cross y x ∷ []) (g & cross-swap x y) (search linear depth 40) (omega arith)
 
 module _ {A : List Point} (s : IsShape A) {d : Point} {j : ℕ} (c : Cut A d j) where
   -- a corner that alone is furthest stands at the cut
@@ -126,8 +119,8 @@ module _ {A : List Point} {t : ℕ} (s : IsShape A) (h : Chains A t) (z : Point)
     left-in = left-le;
     right-passed = λ k l m. rw cross-facing at (late-cross (up-right h k (omega (arith, right-le))) (up-left h s at-left left-ge m)
         up-quarter (right-early k l) (rw cross-turned (left-late m)));
-    left-passed = λ k l m n. rw cross-turned at (late-cross (up-left h s k l (omega (arith, left-le))) (up-right h at-right n)
-        up-quarter (rw cross-turned (left-early k l m)) (right-late n));
+    left-passed = λ k l m n. weaken (rw cross-turned at (late-cross (up-left h s k l (omega (arith, left-le))) (up-right h at-right n)
+        up-quarter (rw cross-turned (left-early k l m)) (right-late n)));
   }
 
   pub strict-antipodal : (k l : ℕ) → k < length A → l < length A

@@ -3,6 +3,7 @@
 --     chains-in        the top is a place of the half walk
 --     up-right         an edge of the right-hand chain points up; `up-left`: one of the left-hand chain, turned round
 --     cross-facing     the product with a vector turned round
+--     late-cross       of up vectors, one that comes before a third comes before one that does not
 --     cut-right        where the cut of a direction stands whose quarter is up: on the right-hand chain
 --     cut-left         and where it is the opposite of such a one: on the left-hand chain
 use mathlib.Core.Path.{_≡_, refl, sym, _∙_, ap}
@@ -14,17 +15,18 @@ use borrow.Author.Tests.{eqb-true, eqb-false, ne-eqb, ltb-true, ltb-false}
 use lib.Dec.{eqb, ltb}
 use lib.IntN.{pos}
 use lib.ListN.{length}
-use lib.Signed.{_≤ℤ_, _<ℤ_, ltZ}
+use lib.Signed.{_≤ℤ_, _<ℤ_, ltZ, clashℤ}
 use Rattle.integer.specs.Ring.{ring, reify}
-use Rattle.integer.specs.Order.{lt-ltZ, le-ltZ}
+use Rattle.integer.specs.Linear.{lia, linear, _&_}
+use Rattle.integer.specs.Order.{contra<, lt-ltZ, le-ltZ}
 use Rattle.plane.specs.Point.{Point, corner, origin, _⊖_, opposite}
 use Rattle.plane.specs.Turn.{cross}
 use Rattle.plane.specs.Shape.{next, precedes, IsShape}
 use Rattle.plane.specs.Forms.{up, before, Before, NonZero, edges}
 use Rattle.plane.specs.theory.lists.Sought.{true-not-false}
 use Rattle.plane.specs.theory.forms.Precedes.{precedes-irrefl}
-use Rattle.plane.specs.theory.forms.Vector.{quarter}
-use Rattle.plane.specs.theory.forms.HalfPlane.{Up, precedes→up, up→precedes, up-opposite, down-up}
+use Rattle.plane.specs.theory.forms.Vector.{quarter, cross-swap}
+use Rattle.plane.specs.theory.forms.HalfPlane.{Up, precedes→up, up→precedes, up-opposite, down-up, cross-trans-weak}
 use Rattle.plane.specs.theory.forms.Angle.{Earlier, apart, alike, before→earlier, earlier→before, later→not-before, before-alike}
 use Rattle.plane.specs.theory.sum.Positions.{edge-at, edges-some, edge-corners, in-order-at, in-order-non-zero}
 use Rattle.measure.specs.Half.{Chains}
@@ -93,6 +95,13 @@ module _ {A : List Point} {t : ℕ} (h : Chains A t) where
 pub cross-facing : (e f : Point) → cross e (opposite f) ≡ cross f e
 unfolding cross
 cross-facing e f = ring (e .x ∷ e .y ∷ f .x ∷ f .y ∷ []) (search reify depth 40) tt
+
+-- x comes before q, and y does not
+pub late-cross : {x y q : Point} → Up x → Up y → Up q → pos 0 <ℤ cross x q → cross y q ≤ℤ pos 0 → pos 0 <ℤ cross x y
+late-cross {x} {y} {q} ux uy uq h k = contra< (λ g. clashℤ (cross-trans-weak uy ux uq (turned g) h) k)
+  where
+    turned : cross x y ≤ℤ pos 0 → pos 0 ≤ℤ cross y x
+    turned g = lia (cross x y ∷ cross y x ∷ []) (g & cross-swap x y) (search linear depth 40) (omega arith)
 
 up-non-zero : {q : Point} → up q ≡ true → NonZero q
 up-non-zero u = record { non-zero = λ e. precedes-irrefl {p = origin} (record { precedes-true = ap up (sym e) ∙ u }) }

@@ -1,20 +1,20 @@
 -- The half walk of a shape: where it stands, and what it comes to.
 --     antipodal-start, -step    it begins at antipodal corners, and each step leads to such
---     half-step, half-left      a step by `halfOrder`; the left-hand chain does not go on past its end
+--     half-step                 a step by `goesRight`
 --     antipodal-ahead           no step goes beyond antipodal corners, so the walk comes to all of them
 use mathlib.Core.Path.{_≡_, refl, sym, _∙_}
-use mathlib.Core.Bool.{Bool, true, false, cond, false≢true}
+use mathlib.Core.Bool.{Bool, true, false, not, cond}
 use mathlib.Core.List.{List, [], _∷_}
 use Prim.Native.Nat.{ℕ, _+_, _≤_, _<_}
 use native.Mathlib.Omega.{arith}
 use borrow.Author.Count.{below-more}
-use borrow.Author.Tests.{eqb-true, eqb-false, ltb-true, ltb-false, lt-ltb}
+use borrow.Author.Tests.{eqb-true, eqb-false, ltb-true, ltb-false}
 use lib.Dec.{eqb, ltb}
-use lib.IntN.{ℤ, pos, negsuc}
+use lib.IntN.{pos}
 use lib.ListN.{length}
 use lib.Signed.{_≤ℤ_, _<ℤ_, ltZ, clashℤ}
 use Rattle.integer.specs.Linear.{lia, linear, _&_}
-use Rattle.integer.specs.Order.{weaken, le-of-eq, le-antisym, ltZ-true, ltZ-false}
+use Rattle.integer.specs.Order.{weaken, ltZ-true, ltZ-false}
 use Rattle.plane.specs.Point.{Point, corner, opposite}
 use Rattle.plane.specs.Turn.{cross}
 use Rattle.plane.specs.Shape.{IsShape}
@@ -24,7 +24,8 @@ use Rattle.plane.specs.theory.forms.HalfPlane.{cross-trans-weak}
 use Rattle.plane.specs.theory.forms.Angle.{before-alike}
 use Rattle.plane.specs.theory.sum.Positions.{in-order-at}
 use Rattle.calipers.specs.Side.{onward}
-use Rattle.measure.specs.Half.{Chains, Antipodal, halfOrder, HalfStep, right, left, both}
+use Rattle.calipers.specs.theory.Sides.{onward-inner}
+use Rattle.measure.specs.Half.{Chains, Antipodal, goesRight, HalfStep, right, left}
 use Rattle.measure.specs.theory.CutCorner.{shape-in-order}
 use Rattle.measure.specs.theory.Chains.{chains-in, up-right, up-left, cross-facing}
 
@@ -40,46 +41,27 @@ module _ {A : List Point} {t : ℕ} (h : Chains A t) where
     left-passed = λ k l m n. absurd (omega arith);
   }
 
--- the two sides step by a number of `halfOrder`: one edge on, unless it says to wait
-module _ {A : List Point} {t i m : ℕ} (top : t ≤ length (edges A)) (a : i ≤ t) (b : m ≤ length (edges A))
-    (on : i + m < t + length (edges A)) where
-  -- neither chain is passed
-  inner-step : i < t → m < length (edges A) → (p : Bool) → ltZ (pos 0) (cross (corner (edges A) i) (corner (edges A) m)) ≡ p
-      → (q : Bool) → ltZ (cross (corner (edges A) i) (corner (edges A) m)) (pos 0) ≡ q
-      → HalfStep A t i m (cond p i (i + 1)) (cond q m (m + 1))
-  inner-step k l true u true v = absurd (clashℤ (ltZ-true {x = pos 0} {y = cross (corner (edges A) i) (corner (edges A) m)} u)
-      (weaken (ltZ-true {x = cross (corner (edges A) i) (corner (edges A) m)} {y = pos 0} v)))
-  inner-step k l true u false v = left l (λ n. ltZ-true u)
-  inner-step k l false u true v = right k (λ n. ltZ-true v)
-  inner-step k l false u false v = both k l (le-antisym (ltZ-false {x = pos 0} u) (ltZ-false {y = pos 0} v))
-
-  pub half-step : {c : ℤ} → c ≡ halfOrder t (length (edges A)) i m (cross (corner (edges A) i) (corner (edges A) m))
-      → HalfStep A t i m (cond (ltZ (pos 0) c) i (onward A i)) (cond (ltZ c (pos 0)) m (onward A m))
-  half-step {c} e = go (eqb i t) refl (eqb m (length (edges A))) refl e
-    where
-      go : (p : Bool) → eqb i t ≡ p → (q : Bool) → eqb m (length (edges A)) ≡ q
-          → c ≡ cond p (pos 1) (cond q (negsuc 0) (cross (corner (edges A) i) (corner (edges A) m)))
-          → HalfStep A t i m (cond (ltZ (pos 0) c) i (onward A i)) (cond (ltZ c (pos 0)) m (onward A m))
-      go true p q r f =
-          let same = eqb-true i t p in
-          let l : m < length (edges A) = omega arith in rw (f, lt-ltb m (length (edges A)) l) (left l (λ g. absurd (omega arith)))
-      go false p true q f =
-          let l : i < t = omega (arith, eqb-false i t p) in
-          let end = eqb-true m (length (edges A)) q in
-          rw (f, lt-ltb i (length (edges A)) (omega (arith, top))) (right l (λ g. absurd (omega arith)))
-      go false p false q f =
-          let k : i < t = omega (arith, eqb-false i t p) in
-          let l : m < length (edges A) = omega (arith, eqb-false m (length (edges A)) q) in
-          rw (f, lt-ltb i (length (edges A)) (omega (arith, top)), lt-ltb m (length (edges A)) l) (inner-step k l _ refl _ refl)
-
--- where the left-hand chain does not wait, it has an edge to pass
-pub half-left : (t n i m : ℕ) (x : ℤ) {c : ℤ} → m ≤ n → i + m < t + n → c ≡ halfOrder t n i m x → ltZ c (pos 0) ≡ false → m < n
-half-left t n i m x {c} h on e goes = go (eqb i t) refl (eqb m n) refl e
+-- the two sides step by `goesRight`: one edge on, unless it says to wait
+pub half-step : {A : List Point} {t i m : ℕ} {w : Bool} → t ≤ length (edges A) → i ≤ t → m ≤ length (edges A) → i + m < t + length (edges A)
+    → w ≡ goesRight t (length (edges A)) i m (cross (corner (edges A) i) (corner (edges A) m))
+    → HalfStep A t i m (cond (not w) i (onward A i)) (cond w m (onward A m))
+half-step {A} {t} {i} {m} {w} top a b on e =
+    go (eqb i t) refl (eqb m n) refl (ltZ (cross (corner (edges A) i) (corner (edges A) m)) (pos 0)) refl e
   where
-    go : (p : Bool) → eqb i t ≡ p → (q : Bool) → eqb m n ≡ q → c ≡ cond p (pos 1) (cond q (negsuc 0) x) → m < n
-    go true p q r f = omega (arith, eqb-true i t p)
-    go false p true q f = absurd (false≢true (sym (rw f at goes)))
-    go false p false q f = omega (arith, eqb-false m n q)
+    n : ℕ
+    n = length (edges A)
+
+    go : (p : Bool) → eqb i t ≡ p → (q : Bool) → eqb m n ≡ q
+        → (r : Bool) → ltZ (cross (corner (edges A) i) (corner (edges A) m)) (pos 0) ≡ r → w ≡ cond p false (cond q true r)
+        → HalfStep A t i m (cond (not w) i (onward A i)) (cond w m (onward A m))
+    go true p q f r g h = let same = eqb-true i t p in let l : m < n = omega arith in
+        rw (h, onward-inner A m l) (left l (λ k. absurd (omega arith)))
+    go false p true q r g h = let l : i < t = omega (arith, eqb-false i t p) in let end = eqb-true m n q in
+        rw (h, onward-inner A i (omega arith)) (right l (λ k. absurd (omega arith)))
+    go false p false q true g h = let l : i < t = omega (arith, eqb-false i t p) in
+        rw (h, onward-inner A i (omega arith)) (right l (λ k. ltZ-true g))
+    go false p false q false g h = let l : m < n = omega (arith, eqb-false m n q) in
+        rw (h, onward-inner A m l) (left l (λ k. ltZ-false g))
 
 -- ---- each place is antipodal
 
@@ -112,7 +94,7 @@ module _ {A : List Point} {t : ℕ} (s : IsShape A) (h : Chains A t) where
     left-in = z .left-in;
     right-passed = λ k l n. below-more (λ k. pos 0 <ℤ cross (corner (edges A) m) (corner (edges A) k)) i (λ k l. z .right-passed k l n)
         (above (c n)) k l;
-    left-passed = λ k l n f. right-on i k f l (omega (arith, z .left-in)) (weaken (z .left-passed k l n g));
+    left-passed = λ k l n f. weaken (right-on i k f l (omega (arith, z .left-in)) (z .left-passed k l n g));
   }
     where
       above : cross (corner (edges A) i) (corner (edges A) m) <ℤ pos 0 → pos 0 <ℤ cross (corner (edges A) m) (corner (edges A) i)
@@ -126,38 +108,14 @@ module _ {A : List Point} {t : ℕ} (s : IsShape A) (h : Chains A t) where
     left-passed = λ k l n f. passed f k n l;
   }
     where
-      passed : i < t → (k : ℕ) → k < m + 1 → t ≤ k → pos 0 <ℤ cross (corner (edges A) i) (corner (edges A) k)
-      passed f = below-more (λ k. t ≤ k → pos 0 <ℤ cross (corner (edges A) i) (corner (edges A) k)) m (λ k l n. z .left-passed k n l f)
+      passed : i < t → (k : ℕ) → k < m + 1 → t ≤ k → pos 0 ≤ℤ cross (corner (edges A) i) (corner (edges A) k)
+      passed f = below-more (λ k. t ≤ k → pos 0 ≤ℤ cross (corner (edges A) i) (corner (edges A) k)) m (λ k l n. z .left-passed k n l f)
           (λ n. c f)
-  antipodal-step {i} {m} z (both g c e) = record {
-    right-in = omega arith;
-    left-from = omega (arith, z .left-from);
-    left-in = omega arith;
-    right-passed = λ k l n. left-on m k (z .left-from) n (omega arith) (back k l);
-    left-passed = λ k l n f. right-on i k f l (omega arith) (ahead k n l);
-  }
-    where
-      level : pos 0 ≤ℤ cross (corner (edges A) m) (corner (edges A) i)
-      level = lia (cross (corner (edges A) i) (corner (edges A) m) ∷ cross (corner (edges A) m) (corner (edges A) i) ∷ [])
-          (e & cross-swap (corner (edges A) i) (corner (edges A) m)) (search linear depth 40) (omega arith)
-
-      back : (k : ℕ) → k < i + 1 → pos 0 ≤ℤ cross (corner (edges A) m) (corner (edges A) k)
-      back = below-more (λ k. pos 0 ≤ℤ cross (corner (edges A) m) (corner (edges A) k)) i (λ k l. weaken (z .right-passed k l c)) level
-
-      ahead : (k : ℕ) → k < m + 1 → t ≤ k → pos 0 ≤ℤ cross (corner (edges A) i) (corner (edges A) k)
-      ahead = below-more (λ k. t ≤ k → pos 0 ≤ℤ cross (corner (edges A) i) (corner (edges A) k)) m
-          (λ k l n. weaken (z .left-passed k n l g)) (λ n. le-of-eq (sym e))
 
 -- ---- it comes to all antipodal corners
 
 module _ {A : List Point} {t a b : ℕ} (z : Antipodal A t a b) where
-  -- edge m is passed at (a, b), and edge a is not; edge i is passed, and edge b is not
-  left-behind : {i m : ℕ} → i ≡ a → t ≤ m → m < b → i < t → pos 0 <ℤ cross (corner (edges A) i) (corner (edges A) m)
-  left-behind {i} {m} e h k l = rw e (z .left-passed m h k (omega arith))
-
-  right-behind : {i m : ℕ} → m ≡ b → i < a → m < length (edges A) → pos 0 <ℤ cross (corner (edges A) m) (corner (edges A) i)
-  right-behind {i} {m} e h k = rw e (z .right-passed i h (omega arith))
-
+  -- a chain that stays at its corner of the pair would wait for the other
   pub antipodal-ahead : {i m k l : ℕ} → HalfStep A t i m k l → t ≤ m → i ≤ a → m ≤ b → i + m < a + b → (k ≤ a) × (l ≤ b)
   antipodal-ahead {i} {m} (right g c) f x y on = (go (ltb i a) refl, y)
     where
@@ -166,29 +124,14 @@ module _ {A : List Point} {t a b : ℕ} (z : Antipodal A t a b) where
       go false e =
           let same : i ≡ a = omega (arith, ltb-false i a e) in
           let inside : m < length (edges A) = omega (arith, z .left-in) in
-          absurd (clashℤ (left-behind same f (omega arith) g) (weaken (c inside)))
+          absurd (clashℤ (c inside) (rw same (z .left-passed m f (omega arith) (omega arith))))
   antipodal-ahead {i} {m} (left g c) f x y on = (x, go (ltb m b) refl)
     where
       go : (p : Bool) → ltb m b ≡ p → m + 1 ≤ b
       go true e = omega (arith, ltb-true m b e)
       go false e =
           let same : m ≡ b = omega (arith, ltb-false m b e) in
-          let back = right-behind {i = i} same (omega arith) g in
+          let back : pos 0 <ℤ cross (corner (edges A) m) (corner (edges A) i) = rw same (z .right-passed i (omega arith) (omega arith)) in
           let inside : i < t = omega (arith, z .right-in) in
           absurd (lia (cross (corner (edges A) i) (corner (edges A) m) ∷ cross (corner (edges A) m) (corner (edges A) i) ∷ [])
           (back & c inside & cross-swap (corner (edges A) i) (corner (edges A) m)) (search linear depth 40) (omega arith))
-  antipodal-ahead {i} {m} (both g c e) f x y on = (on-right (ltb i a) refl, on-left (ltb m b) refl)
-    where
-      on-right : (p : Bool) → ltb i a ≡ p → i + 1 ≤ a
-      on-right true p = omega (arith, ltb-true i a p)
-      on-right false p =
-          let same : i ≡ a = omega (arith, ltb-false i a p) in
-          absurd (clashℤ (left-behind same f (omega arith) g) (le-of-eq e))
-
-      on-left : (p : Bool) → ltb m b ≡ p → m + 1 ≤ b
-      on-left true p = omega (arith, ltb-true m b p)
-      on-left false p =
-          let same : m ≡ b = omega (arith, ltb-false m b p) in
-          let back = right-behind {i = i} same (omega arith) c in
-          absurd (lia (cross (corner (edges A) i) (corner (edges A) m) ∷ cross (corner (edges A) m) (corner (edges A) i) ∷ [])
-          (back & e & cross-swap (corner (edges A) i) (corner (edges A) m)) (search linear depth 40) (omega arith))

@@ -1,14 +1,7 @@
 -- `longest` meets its contract. The invariant: the best pair of the places passed; the measure is how many steps are to come at most.
-use mathlib.Core.Path.{_≡_}
 use Prim.Native.Nat.{_+_, _-_}
 use native.Mathlib.Omega.{arith}
 use borrow.Author.Needs.{needs}
-use mir.Syntax.{w64}
-use mir.Val.{toZ, ofZ}
-use Rattle.integer.specs.Machine.{result-is}
-use Rattle.plane.specs.Turn.{cross}
-use Rattle.polygon.specs.Point.{at}
-use Rattle.measure.specs.Half.{halfOrder}
 use Rattle.measure.specs.Scan.{HalfAt}
 use Rattle.measure.specs.theory.Chains.{chains-in}
 use Rattle.measure.proofs.Stepped.{half-start, half-edges, half-corners, half-room, half-moved, half-next, half-less}
@@ -60,8 +53,8 @@ add-if1 c = omega (arith, half-room (c .before .before .loop .inv .half) .0)
 add-if1-2 : tie.Need-add-if1-2 Inv-loop μ-loop
 add-if1-2 c = let inv = c .before .before .loop .inv in omega (arith, half-room (inv .half) .1, inv .sides)
 
-order-requires : tie.Need-order-requires Inv-loop μ-loop
-order-requires c κs = half-edges (c .before .before .before .loop .inv .half)
+goes-right-requires : tie.Need-goes-right-requires Inv-loop μ-loop
+goes-right-requires c κs = half-edges (c .before .before .before .loop .inv .half)
 
 next-requires : tie.Need-next-requires Inv-loop μ-loop
 next-requires c κs =
@@ -71,13 +64,6 @@ next-requires-2 : tie.Need-next-requires-2 Inv-loop μ-loop
 next-requires-2 c κs =
     let half = c .before .before .before .before .before .loop .inv .half in (half .left-side, half .valid .inRange, half .valid .shape .some)
 
--- the number that the step goes by
-told : (c : tie.After-order Inv-loop μ-loop) → let at-loop = c .before .before .before .before in
-    let at-sides = at-loop .before .before .before .before in
-    toZ w64 (ofZ w64 (c .order .result)) ≡ halfOrder (at-sides .before .top .result) (at-sides .sides .result) (at-loop .loop .s .at)
-    (at-loop .loop .t .at) (cross (at (at-loop .loop .s .edge)) (at (at-loop .loop .t .edge)))
-told c = result-is w64 (c .order .ok) (c .order .ensures)
-
 -- the two sides after the step
 goes-on : (c : tie.After-next2 Inv-loop μ-loop) → let at-loop = c .before .before .before .before .before .before in
     let start = at-loop .before .before .before .before .before .before .before in
@@ -85,7 +71,7 @@ goes-on : (c : tie.After-next2 Inv-loop μ-loop) → let at-loop = c .before .be
 goes-on c =
     let at-order = c .before .before in
     let inv = at-order .before .before .before .before .loop .inv in
-    half-next (inv .half) (inv .sides) (omega (arith, at-order .before .if1 .taken)) (told at-order) (c .before .next .ensures)
+    half-next (inv .half) (inv .sides) (omega (arith, at-order .before .if1 .taken)) (at-order .goes-right .ensures) (c .before .next .ensures)
     (c .next2 .ensures)
 
 apart-requires-2 : tie.Need-apart-requires-2 Inv-loop μ-loop
@@ -99,7 +85,7 @@ loop-less c =
     let at-next = c .before .before in
     let at-order = at-next .before .before in
     let inv = at-order .before .before .before .before .loop .inv in
-    half-less (inv .half) (inv .sides) (omega (arith, at-order .before .if1 .taken)) (told at-order) (at-next .before .next .ensures)
+    half-less (inv .half) (inv .sides) (omega (arith, at-order .before .if1 .taken)) (at-order .goes-right .ensures) (at-next .before .next .ensures)
     (at-next .next2 .ensures)
 
 loop-again : tie.Need-loop-again Inv-loop μ-loop
@@ -108,7 +94,7 @@ loop-again c =
     let at-order = at-next .before .before in
     let inv = at-order .before .before .before .before .loop .inv in
     search-next inv (goes-on at-next)
-    (half-moved (inv .half) (inv .sides) (omega (arith, at-order .before .if1 .taken)) (told at-order) (at-next .before .next .ensures)
+    (half-moved (inv .half) (inv .sides) (omega (arith, at-order .before .if1 .taken)) (at-order .goes-right .ensures) (at-next .before .next .ensures)
     (at-next .next2 .ensures)) (c .before .apart2 .ensures) (c .better .ensures)
 
 returns : tie.Need-returns Inv-loop μ-loop
@@ -118,4 +104,4 @@ pub longest-spec : {M : Type 1} → statement M
 longest-spec =
     tie.close
     (tie.spec Inv-loop μ-loop count-requires top-requires sides-requires side-at-requires side-at-requires-2 apart-requires loop-holds
-    add-if1 add-if1-2 order-requires next-requires next-requires-2 apart-requires-2 better-requires loop-less loop-again returns)
+    add-if1 add-if1-2 goes-right-requires next-requires next-requires-2 apart-requires-2 better-requires loop-less loop-again returns)

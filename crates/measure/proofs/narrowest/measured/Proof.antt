@@ -48,7 +48,7 @@ unfolding measuredAt
 returns c =
     let at-turn = c .before .before in
     let args = at-turn .before .before .before .args in
-    ap₂ (λ (t q : ℕ). record { edge = args .s .at; corner = args .corner; turn = t; squared = q })
+    ap₂ (λ (t q : ℕ). record { edge = args .s .at; corner = args .t .at; turn = t; squared = q })
     (ap natAbs (sym (at-turn .magnitude .ensures) ∙ turn-is (at-turn .before)))
     (ap natAbs (sym (c .magnitude2 .ensures) ∙ squared-is (c .before)))
 

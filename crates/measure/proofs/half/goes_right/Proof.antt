@@ -1,10 +1,13 @@
--- `order` meets its contract.
+-- `goes_right` meets its contract.
+use mathlib.Core.Path.{ap}
 use borrow.Author.Needs.{needs}
 use borrow.Author.Tests.{eq-eqb, ne-eqb}
+use lib.IntN.{ℤ, pos}
+use lib.Signed.{ltZ}
 use mir.Syntax.{w64}
 use Rattle.integer.specs.Machine.{result-is}
-use Rattle.measure.proofs.half.order.Statement.{statement}
-use Rattle.measure.proofs.half.order.Tie as tie
+use Rattle.measure.proofs.half.goes_right.Statement.{statement}
+use Rattle.measure.proofs.half.goes_right.Tie as tie
 
 returns : tie.Need-returns
 returns c = let args = c .before .before .args in rw (eq-eqb (args .s .at) (args .top) (c .if1 .taken))
@@ -19,7 +22,7 @@ order-requires c κs = search needs
 returns-3 : tie.Need-returns-3
 returns-3 c = let args = c .before .before .before .before .before .args in
     rw (ne-eqb (args .s .at) (args .top) (c .before .before .before .if1 .left), ne-eqb (args .t .at) (args .end) (c .before .if2 .left))
-    (result-is w64 (c .order .ok) (c .order .ensures))
+    (ap (λ (z : ℤ). ltZ z (pos 0)) (result-is w64 (c .order .ok) (c .order .ensures)))
 
-pub order-spec : {M : Type 1} → statement M
-order-spec = tie.close (tie.spec returns returns-2 order-requires returns-3)
+pub goes-right-spec : {M : Type 1} → statement M
+goes-right-spec = tie.close (tie.spec returns returns-2 order-requires returns-3)
