@@ -36,7 +36,7 @@ alike-same v t e nv nt h =
     let back : cross t v ≤ℤ pos 0 = lia (cross v t ∷ cross t v ∷ []) (h & cross-swap v t) (search linear depth 40) (omega arith) in
     neither-same v t (before-alike v t e ∙ le-ltZ (le-of-eq h)) (before-alike t v (sym e) ∙ le-ltZ back) nv nt
 
-opposite-non-zero : {v : Point} → NonZero v → NonZero (opposite v)
+pub opposite-non-zero : {v : Point} → NonZero v → NonZero (opposite v)
 opposite-non-zero {v} n = record {
   non-zero = λ e. n .non-zero (point-path
       (lia (v .x ∷ []) (ap (λ (p : Point). p .x) e) (search linear depth 40) (omega arith))

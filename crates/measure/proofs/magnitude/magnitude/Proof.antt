@@ -4,8 +4,8 @@ use lib.Signed.{yes-nonNeg, pos-natAbs}
 use mir.Syntax.{w64}
 use mir.Val.{toZ, ofZ}
 use mir.Facts.{toZ-ofZ, fits-natAbs}
-use Rattle.measure.proofs.narrowest.magnitude.Statement.{statement}
-use Rattle.measure.proofs.narrowest.magnitude.Tie as tie
+use Rattle.measure.proofs.magnitude.magnitude.Statement.{statement}
+use Rattle.measure.proofs.magnitude.magnitude.Tie as tie
 
 -- the number, read back from its bits
 back : (c : tie.Start) → toZ w64 (ofZ w64 (c .args .z)) ≡ c .args .z
