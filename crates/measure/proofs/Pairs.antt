@@ -19,8 +19,8 @@ use Rattle.plane.specs.Forms.{edges}
 use Rattle.plane.specs.Cycle.{round, cornerRound}
 use Rattle.plane.specs.theory.forms.Squared.{squared-nonneg, squared-sym}
 use Rattle.plane.specs.theory.sum.Positions.{round-inner, edges-at-most}
-use Rattle.polygon.specs.Point.{at}
 use Rattle.calipers.specs.declared.side.Side.{Side}
+use Rattle.calipers.specs.Side.{cornerOf}
 use Rattle.measure.specs.declared.Length.{Length}
 use Rattle.measure.specs.Answer.{IsLength}
 use Rattle.measure.specs.Comparison.{NoBetter, Stands}
@@ -60,7 +60,7 @@ module _ {l : List ℤ} {top n : ℕ} {s t : Side} (h : HalfAt l top s t) (count
 
   carried : pos (apartAt n s t .squared) ≡ squared (corner A (s .at)) (cornerRound A (t .at))
   unfolding apartAt
-  carried = pos-natAbs _ (yes-nonNeg (squared-nonneg (at (s .corner)) (at (t .corner))))
+  carried = pos-natAbs _ (yes-nonNeg (squared-nonneg (cornerOf s) (cornerOf t)))
       ∙ ap₂ squared (h .right-side .corner-is ∙ ap (corner A) (round-inner (length A) (s .at) right-in)) (h .left-side .corner-is)
 
   module _ {p : Length} (e : p ≡ apartAt n s t) where

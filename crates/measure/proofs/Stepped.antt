@@ -17,9 +17,9 @@ use Rattle.plane.specs.Refusal.{Valid}
 use Rattle.plane.specs.Turn.{cross}
 use Rattle.plane.specs.Forms.{edges}
 use Rattle.plane.specs.theory.sum.Positions.{edges-at-most}
-use Rattle.polygon.specs.Point.{at, Small}
+use Rattle.polygon.specs.Point.{Small}
 use Rattle.calipers.specs.declared.side.Side.{Side}
-use Rattle.calipers.specs.Side.{onward, Carried}
+use Rattle.calipers.specs.Side.{cornerOf, nextOf, onward, Carried}
 use Rattle.calipers.specs.theory.Sides.{corner-fits, edge-fits}
 use Rattle.measure.specs.Half.{Chains, goesRight, HalfStep, right, left}
 use Rattle.measure.specs.Scan.{HalfAt}
@@ -37,10 +37,10 @@ half-start {l} {n} v h a b = record {
 }
 
 module _ {l : List ℤ} {n : ℕ} {s t : Side} (h : HalfAt l n s t) where
-  pub half-edges : Small (2 ^ 22) (at (s .edge)) × Small (2 ^ 22) (at (t .edge))
+  pub half-edges : Small (2 ^ 22) (nextOf s) × Small (2 ^ 22) (nextOf t)
   half-edges = (edge-fits (h .valid .inRange) (h .valid .shape .some) (h .right-side), edge-fits (h .valid .inRange) (h .valid .shape .some) (h .left-side))
 
-  pub half-corners : Small (2 ^ 21) (at (s .corner)) × Small (2 ^ 21) (at (t .corner))
+  pub half-corners : Small (2 ^ 21) (cornerOf s) × Small (2 ^ 21) (cornerOf t)
   half-corners = (corner-fits (h .valid .inRange) (h .valid .shape .some) (h .right-side), corner-fits (h .valid .inRange) (h .valid .shape .some) (h .left-side))
 
   -- a shape has few corners
@@ -52,7 +52,7 @@ module _ {l : List ℤ} {n : ℕ} {s t : Side} (h : HalfAt l n s t) where
 
   -- the side of the right-hand chain has moved, or that of the left-hand one
   module _ {m : ℕ} (all : m ≡ length (edges (points l))) (on : s .at + t .at < n + m) {w : Bool}
-      (told : w ≡ goesRight n m (s .at) (t .at) (cross (at (s .edge)) (at (t .edge)))) {s′ t′ : Side}
+      (told : w ≡ goesRight n m (s .at) (t .at) (cross (nextOf s) (nextOf t))) {s′ t′ : Side}
       (a : (s′ .at ≡ cond (not w) (s .at) (onward (points l) (s .at))) × Carried l s′)
       (b : (t′ .at ≡ cond w (t .at) (onward (points l) (t .at))) × Carried l t′) where
     pub half-moved : HalfStep (points l) n (s .at) (t .at) (s′ .at) (t′ .at)

@@ -24,9 +24,8 @@ use Rattle.plane.specs.Measure.{edgeTurn, height}
 use Rattle.plane.specs.Forms.{edges}
 use Rattle.plane.specs.Cycle.{round, cornerRound}
 use Rattle.plane.specs.theory.sum.Positions.{edge-at, edges-at-most, edges-some, edge-turn, round-inner, round-within}
-use Rattle.polygon.specs.Point.{at}
 use Rattle.calipers.specs.declared.side.Side.{Side}
-use Rattle.calipers.specs.Side.{onward, Carried}
+use Rattle.calipers.specs.Side.{cornerOf, nextOf, onward, Carried}
 use Rattle.calipers.specs.theory.Sides.{onward-inner}
 use Rattle.measure.specs.declared.narrowest.Across.{Across}
 use Rattle.measure.specs.Comparison.{Measured, Width, none}
@@ -63,20 +62,20 @@ module _ {l : List ℤ} {s t : Side} (shape : IsShape (points l)) (a : Carried l
   other-in = round-within (length A) (t .at) (shape .some) (omega (arith, b .at-in, edges-at-most A))
 
   -- the turn that is measured is the corner's turn against the edge
-  turns : s .at < length (edges A) → cross (at (s .edge)) (at (t .corner) ⊖ at (s .corner)) ≡ edgeTurn A (s .at) (round (length A) (t .at))
+  turns : s .at < length (edges A) → cross (nextOf s) (cornerOf t ⊖ cornerOf s) ≡ edgeTurn A (s .at) (round (length A) (t .at))
   unfolding edgeTurn
   turns h = ap₂ cross (a .edge-is ∙ edge-at A (s .at) h) (ap₂ (λ (p q : Point). p ⊖ q) (b .corner-is)
       (a .corner-is ∙ ap (corner A) (round-inner (length A) (s .at) (omega (arith, edges-at-most A)))))
       ∙ sym (turn-cross (corner A (s .at)) (corner A (next (length A) (s .at))) (cornerRound A (t .at)))
 
-  not-right : pos 0 ≤ℤ cross (at (s .edge)) (at (t .corner) ⊖ at (s .corner))
+  not-right : pos 0 ≤ℤ cross (nextOf s) (cornerOf t ⊖ cornerOf s)
   unfolding edgeTurn
   not-right = go (ltb (s .at) (length (edges A))) refl
     where
-      go : (c : Bool) → ltb (s .at) (length (edges A)) ≡ c → pos 0 ≤ℤ cross (at (s .edge)) (at (t .corner) ⊖ at (s .corner))
+      go : (c : Bool) → ltb (s .at) (length (edges A)) ≡ c → pos 0 ≤ℤ cross (nextOf s) (cornerOf t ⊖ cornerOf s)
       go true e = let h = ltb-true (s .at) (length (edges A)) e in
           rw (turns h) (edge-turn A shape (s .at) (round (length A) (t .at)) (omega (arith, edges-at-most A)) other-in)
-      go false e = le-of-eq (sym (ap (λ (v : Point). cross v (at (t .corner) ⊖ at (s .corner)))
+      go false e = le-of-eq (sym (ap (λ (v : Point). cross v (cornerOf t ⊖ cornerOf s))
           (a .edge-is ∙ List·getD-eq-default (edges A) origin (ltb-false (s .at) (length (edges A)) e)) ∙ cross-origin _))
 
   measured : s .at < length (edges A) → edgeTurn A (s .at) (round (length A) (t .at)) ≡ height A (s .at) → MeasuredAt A (measuredAt s t)
@@ -86,7 +85,7 @@ module _ {l : List ℤ} {s t : Side} (shape : IsShape (points l)) (a : Carried l
     has = tall;
     turns = sym tall ∙ sym (turns h) ∙ sym (pos-natAbs _ (yes-nonNeg not-right));
     long = edgeSquared-value A (s .at) ∙ sym (ap (λ (v : Point). value v v) (a .edge-is ∙ edge-at A (s .at) h))
-        ∙ sym (pos-natAbs _ (yes-nonNeg (value-nonneg (at (s .edge)))));
+        ∙ sym (pos-natAbs _ (yes-nonNeg (value-nonneg (nextOf s))));
   }
 
 -- ---- the narrower of two
@@ -184,7 +183,7 @@ module _ {l : List ℤ} {top end : ℕ} where
             not-right = not-right shape (g .half .left-side) (g .half .right-side);
           }
 
-      module _ (on : s .at + t .at < top + end) (told : w ≡ goesRight top end (s .at) (t .at) (cross (at (s .edge)) (at (t .edge))))
+      module _ (on : s .at + t .at < top + end) (told : w ≡ goesRight top end (s .at) (t .at) (cross (nextOf s) (nextOf t)))
           {s′ t′ : Side} (a : (s′ .at ≡ cond (not w) (s .at) (onward (points l) (s .at))) × Carried l s′)
           (b : (t′ .at ≡ cond w (t .at) (onward (points l) (t .at))) × Carried l t′) where
         step : HalfStep (points l) top (s .at) (t .at) (s′ .at) (t′ .at)

@@ -25,9 +25,9 @@ use Rattle.plane.specs.Turn.{cross}
 use Rattle.plane.specs.Direction.{value}
 use Rattle.plane.specs.Cycle.{round}
 use Rattle.plane.specs.Measure.{squared, edgeTurn, height}
-use Rattle.polygon.specs.Point.{at, Small}
+use Rattle.polygon.specs.Point.{Small}
 use Rattle.calipers.specs.declared.side.Side.{Side}
-use Rattle.calipers.specs.Side.{Carried}
+use Rattle.calipers.specs.Side.{cornerOf, nextOf, Carried}
 use Rattle.measure.specs.Half.{Chains, Antipodal}
 use Rattle.measure.specs.Comparison.{NotAfter, Width}
 use Rattle.measure.specs.declared.Length.{Length}
@@ -44,7 +44,7 @@ pub record HalfAt (l : List ℤ) (n : ℕ) (s t : Side) : Type 0 where
 
 unfoldable pub apartAt : ℕ → Side → Side → Length
 apartAt n s t = record {
-  squared = natAbs (squared (at (s .corner)) (at (t .corner)));
+  squared = natAbs (squared (cornerOf s) (cornerOf t));
   from = cond (eqb (t .at) n) 0 (s .at);
   to = cond (eqb (t .at) n) (s .at) (t .at);
 }
@@ -64,17 +64,17 @@ pub data Kept (best next r : Length) : Type 0 where
 -- ---- width
 
 pub record Fits (s t : Side) : Type 0 where
-  pub edge-fits : Small (2 ^ 22) (at (s .edge))
-  pub corner-fits : Small (2 ^ 21) (at (s .corner))
-  pub other-fits : Small (2 ^ 21) (at (t .corner))
-  pub not-right : pos 0 ≤ℤ cross (at (s .edge)) (at (t .corner) ⊖ at (s .corner))
+  pub edge-fits : Small (2 ^ 22) (nextOf s)
+  pub corner-fits : Small (2 ^ 21) (cornerOf s)
+  pub other-fits : Small (2 ^ 21) (cornerOf t)
+  pub not-right : pos 0 ≤ℤ cross (nextOf s) (cornerOf t ⊖ cornerOf s)
 
 unfoldable pub measuredAt : Side → Side → Across
 measuredAt s t = record {
   edge = s .at;
   corner = t .at;
-  turn = natAbs (cross (at (s .edge)) (at (t .corner) ⊖ at (s .corner)));
-  squared = natAbs (value (at (s .edge)) (at (s .edge)));
+  turn = natAbs (cross (nextOf s) (cornerOf t ⊖ cornerOf s));
+  squared = natAbs (value (nextOf s) (nextOf s));
 }
 
 -- t·t/q of the first edge is less than that of the second

@@ -5,7 +5,8 @@ ghost use Prim.Native.Nat.{_^_};
 ghost use Rattle.plane.specs.Point.{points};
 ghost use Rattle.plane.specs.Turn.{cross};
 ghost use Rattle.plane.specs.Shape.{IsShape};
-ghost use Rattle.polygon.specs.Point.{at, Small};
+ghost use Rattle.polygon.specs.Point.{Small};
+ghost use Rattle.calipers.specs.Side.{nextOf};
 ghost use Rattle.measure.specs.Half.{Chains, goesRight};
 use calipers::side;
 use calipers::side::Side;
@@ -31,8 +32,8 @@ pub fn top(list: &[i32]) -> usize
 // it to the right. Of two parallel edges the left-hand one is passed first. A chain that is passed, at the top or at
 // the end, waits for the other.
 pub fn goes_right(top: usize, end: usize, s: Side, t: Side) -> bool
-    requires { ⌜ Small (2 ^ 22) (at (s .edge)) × Small (2 ^ 22) (at (t .edge)) ⌝ }
-    ensures { λ r. ⌜ r ≡ goesRight top end (s .at) (t .at) (cross (at (s .edge)) (at (t .edge))) ⌝ }
+    requires { ⌜ Small (2 ^ 22) (nextOf s) × Small (2 ^ 22) (nextOf t) ⌝ }
+    ensures { λ r. ⌜ r ≡ goesRight top end (s .at) (t .at) (cross (nextOf s) (nextOf t)) ⌝ }
 {
     if s.at == top {
         return false;

@@ -4,7 +4,8 @@ ghost use mathlib.Core.Path.{_≡_};
 ghost use Prim.Native.Nat.{_^_};
 ghost use Rattle.plane.specs.Point.{points};
 ghost use Rattle.plane.specs.Refusal.{Valid};
-ghost use Rattle.polygon.specs.Point.{at, Small};
+ghost use Rattle.polygon.specs.Point.{Small};
+ghost use Rattle.calipers.specs.Side.{cornerOf};
 ghost use Rattle.measure.specs.Answer.{IsLength};
 ghost use Rattle.measure.specs.Scan.{apartAt, Earlier, Kept};
 use crate::Length;
@@ -14,7 +15,6 @@ use calipers::edges;
 use calipers::side;
 use calipers::side::Side;
 use polygon::corners;
-use polygon::point;
 
 // The first of all pairs at the greatest distance. The best so far is carried with its distance.
 pub fn longest(list: &[i32]) -> Length
@@ -39,10 +39,10 @@ pub fn longest(list: &[i32]) -> Length
 // The pair at which two sides of n corners stand, s on the right-hand chain and t on the left-hand one. After the last
 // corner comes the first again, which then stands first.
 fn apart(n: usize, s: Side, t: Side) -> Length
-    requires { ⌜ Small (2 ^ 21) (at (s .corner)) × Small (2 ^ 21) (at (t .corner)) ⌝ }
+    requires { ⌜ Small (2 ^ 21) (cornerOf s) × Small (2 ^ 21) (cornerOf t) ⌝ }
     ensures { λ r. ⌜ r ≡ apartAt n s t ⌝ }
 {
-    let squared = magnitude::magnitude(point::squared(s.corner, t.corner));
+    let squared = magnitude::magnitude(side::squared(s, t));
     if t.at == n {
         return Length {
             squared,

@@ -14,7 +14,6 @@ use calipers::edges;
 use calipers::side;
 use calipers::side::Side;
 use polygon::corners;
-use polygon::point;
 
 // An edge, a corner on the way round that is furthest from it, that corner's turn and the edge's squared length.
 pub struct Across {
@@ -60,8 +59,8 @@ fn measured(s: Side, t: Side) -> Across
     requires { ⌜ Fits s t ⌝ }
     ensures { λ r. ⌜ r ≡ measuredAt s t ⌝ }
 {
-    let turn = magnitude::magnitude(point::cross(s.edge, point::step(s.corner, t.corner)));
-    let squared = magnitude::magnitude(point::dot(s.edge, s.edge));
+    let turn = magnitude::magnitude(side::turn(s, t));
+    let squared = magnitude::magnitude(side::span(s));
     Across {
         edge: s.at,
         corner: t.at,

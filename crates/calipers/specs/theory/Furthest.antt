@@ -1,6 +1,7 @@
 -- The corner at hand: when the walk of two lists of edges passes an edge of the one, the other's corner there is furthest in the direction
 -- out of that edge, since the edges before that direction's quarter turn are those passed.
---     place-furthest      for edges E and a shape B
+--     toCut-at, cut-value      the edges before the cut, by their number, and the value that they make
+--     place-furthest           for edges E and a shape B
 use mathlib.Core.Path.{_≡_, refl, sym, _∙_, ap}
 use mathlib.Core.Bool.{true, false}
 use mathlib.Core.List.{List, [], _∷_}
@@ -22,7 +23,7 @@ use Rattle.calipers.specs.Places.{Standing}
 use Rattle.calipers.specs.theory.Standing.{Taken, taken-before, taken-after}
 
 -- the edges before the cut, by their number
-toCut-at : (d : Point) (F : List Point) (j : ℕ) → j ≤ length F → ((k : ℕ) → k < j → before (corner F k) (quarter d) ≡ true)
+pub toCut-at : (d : Point) (F : List Point) (j : ℕ) → j ≤ length F → ((k : ℕ) → k < j → before (corner F k) (quarter d) ≡ true)
     → ((k : ℕ) → j ≤ k → k < length F → before (corner F k) (quarter d) ≡ false) → toCut d F ≡ total (take j F)
 toCut-at d [] zero h f g = refl
 toCut-at d [] (suc j) h f g = absurd (not-suc-le-zero h)
@@ -31,7 +32,7 @@ toCut-at d (e ∷ F) zero h f g = toCut-leave d e F (g 0 (omega arith) (omega ar
 toCut-at d (e ∷ F) (suc j) h f g = toCut-take d e F (f 0 (omega arith)) ∙ ap (λ (q : Point). e ⊕ q)
     (toCut-at d F j (omega arith) (λ k l. f (suc k) (omega arith)) (λ k l m. g (suc k) (omega arith) (omega arith)))
 
-cut-value : (d : Point) (B : List Point) → IsShape B → support d B ≡ value d (corner B 0) +ℤ value d (toCut d (edges B))
+pub cut-value : (d : Point) (B : List Point) → IsShape B → support d B ≡ value d (corner B 0) +ℤ value d (toCut d (edges B))
 cut-value d [] s = absurd (not-suc-le-zero (s .some))
 cut-value d (b ∷ B) s =
     cut-formula d b B (shape→sorted (b ∷ B) s) ∙ ap (λ z. value d b +ℤ z) (sym (value-toCut d (edges (b ∷ B))))

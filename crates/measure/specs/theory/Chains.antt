@@ -30,7 +30,8 @@ use Rattle.plane.specs.theory.forms.HalfPlane.{Up, precedes→up, up→precedes
 use Rattle.plane.specs.theory.forms.Angle.{Earlier, apart, alike, before→earlier, earlier→before, later→not-before, before-alike}
 use Rattle.plane.specs.theory.sum.Positions.{edge-at, edges-some, edge-corners, in-order-at, in-order-non-zero}
 use Rattle.measure.specs.Half.{Chains}
-use Rattle.measure.specs.theory.CutCorner.{shape-in-order, Cut, cut-made}
+use Rattle.plane.specs.theory.sum.Positions.{shape-in-order}
+use Rattle.measure.specs.theory.CutCorner.{Cut, cut-made}
 
 -- ---- the top is found
 

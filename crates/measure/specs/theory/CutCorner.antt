@@ -1,6 +1,5 @@
 -- Where the corner of a shape that is furthest in a direction d stands. Turn d left by a quarter: the edges before that vector lead to the
 -- corner. Where the next edge points its way, the corner after is as far; no other is.
---     shape-in-order      the edges of a shape are in order
 --     Cut B d j           the edges of B before the quarter of d are the first j; `cut-made`: by those and the next
 --     cut-furthest        corner j is furthest in d
 --     cut-next            and the one after it, if edge j points the way of the quarter
@@ -25,32 +24,13 @@ use Rattle.plane.specs.theory.lists.Sought.{true-not-false}
 use Rattle.plane.specs.theory.forms.Vector.{total, quarter, value-cross, value-⊕}
 use Rattle.plane.specs.theory.forms.Angle.{before-trans}
 use Rattle.plane.specs.theory.forms.SameWay.{SameWay, same-right, same-flat, same-not-before}
-use Rattle.plane.specs.theory.forms.Standard.{shape→sorted}
 use Rattle.plane.specs.theory.sum.Cut.{toCut, toCut-take, toCut-leave, value-toCut, cut-formula}
 use Rattle.plane.specs.theory.sum.Positions.{edgeOf}
 use Rattle.plane.specs.Cycle.{round, cornerRound}
 use Rattle.plane.specs.theory.sum.Positions.{round-inner, round-within, round-step, round-total}
-use Rattle.plane.specs.theory.sum.Positions.{edge-at, edges-some, in-order-at, in-order-non-zero}
+use Rattle.plane.specs.theory.sum.Positions.{edge-at, edges-some, in-order-at, in-order-non-zero, shape-in-order}
+use Rattle.calipers.specs.theory.Furthest.{toCut-at, cut-value}
 use Rattle.measure.specs.theory.Tied.{Tied, after, behind, tied}
-
--- the edges before the cut, by their number
-toCut-at : (d : Point) (F : List Point) (j : ℕ) → j ≤ length F → ((k : ℕ) → k < j → before (corner F k) (quarter d) ≡ true)
-    → ((k : ℕ) → j ≤ k → k < length F → before (corner F k) (quarter d) ≡ false) → toCut d F ≡ total (take j F)
-toCut-at d [] zero h f g = refl
-toCut-at d [] (suc j) h f g = absurd (not-suc-le-zero h)
-toCut-at d (e ∷ F) zero h f g = toCut-leave d e F (g 0 (omega arith) (omega arith))
-    ∙ toCut-at d F 0 (omega arith) (λ k l. absurd (omega arith)) (λ k l m. g (suc k) (omega arith) (omega arith))
-toCut-at d (e ∷ F) (suc j) h f g = toCut-take d e F (f 0 (omega arith)) ∙ ap (λ (q : Point). e ⊕ q)
-    (toCut-at d F j (omega arith) (λ k l. f (suc k) (omega arith)) (λ k l m. g (suc k) (omega arith) (omega arith)))
-
-pub shape-in-order : (ps : List Point) → IsShape ps → InOrder (edges ps)
-shape-in-order [] s = tt
-shape-in-order (p ∷ ps) s = shape→sorted (p ∷ ps) s
-
-cut-value : (d : Point) (B : List Point) → IsShape B → support d B ≡ value d (corner B 0) +ℤ value d (toCut d (edges B))
-cut-value d [] s = absurd (not-suc-le-zero (s .some))
-cut-value d (b ∷ B) s =
-    cut-formula d b B (shape→sorted (b ∷ B) s) ∙ ap (λ z. value d b +ℤ z) (sym (value-toCut d (edges (b ∷ B))))
 
 -- ---- the cut
 

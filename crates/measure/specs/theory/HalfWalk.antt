@@ -26,7 +26,7 @@ use Rattle.plane.specs.theory.sum.Positions.{in-order-at}
 use Rattle.calipers.specs.Side.{onward}
 use Rattle.calipers.specs.theory.Sides.{onward-inner}
 use Rattle.measure.specs.Half.{Chains, Antipodal, goesRight, HalfStep, right, left}
-use Rattle.measure.specs.theory.CutCorner.{shape-in-order}
+use Rattle.plane.specs.theory.sum.Positions.{shape-in-order}
 use Rattle.measure.specs.theory.Chains.{chains-in, up-right, up-left, cross-facing}
 
 -- ---- the beginning, and a step

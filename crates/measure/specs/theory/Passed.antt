@@ -30,7 +30,8 @@ use Rattle.plane.specs.theory.sum.Positions.{edgeOf, edge-at, edges-some, in-or
 use Rattle.measure.specs.Comparison.{Facing}
 use Rattle.measure.specs.Half.{Chains, Antipodal, HalfStep, right, left}
 use Rattle.measure.specs.theory.Tied.{opposite-non-zero, Tied, after, behind, tied}
-use Rattle.measure.specs.theory.CutCorner.{shape-in-order, Cut, cut-furthest, cut-next}
+use Rattle.plane.specs.theory.sum.Positions.{shape-in-order}
+use Rattle.measure.specs.theory.CutCorner.{Cut, cut-furthest, cut-next}
 use Rattle.measure.specs.theory.Chains.{chains-in, up-right, up-left, cross-facing, late-cross, cut-right, cut-left}
 use Rattle.measure.specs.theory.Height.{furthest-height, height-furthest}
 

@@ -9,7 +9,7 @@ use mir.Val.{toZ, ofZ}
 use Rattle.integer.specs.Machine.{result-is}
 use Rattle.plane.specs.Measure.{squared}
 use Rattle.plane.specs.theory.forms.Squared.{squared-nonneg}
-use Rattle.polygon.specs.Point.{at}
+use Rattle.calipers.specs.Side.{cornerOf}
 use Rattle.measure.specs.Scan.{apartAt}
 use Rattle.measure.proofs.longest.apart.Statement.{statement}
 use Rattle.measure.proofs.longest.apart.Tie as tie
@@ -18,14 +18,14 @@ squared-requires : tie.Need-squared-requires
 squared-requires c κs = search needs
 
 squared-is : (c : tie.After-squared) → let args = c .before .args in
-    toZ w64 (ofZ w64 (c .squared .result)) ≡ squared (at (args .s .corner)) (at (args .t .corner))
+    toZ w64 (ofZ w64 (c .squared .result)) ≡ squared (cornerOf (args .s)) (cornerOf (args .t))
 squared-is c = result-is w64 (c .squared .ok) (c .squared .ensures)
 
 magnitude-requires : tie.Need-magnitude-requires
 magnitude-requires c κs = rw (squared-is c) (squared-nonneg _ _)
 
 size : (c : tie.After-magnitude) → let args = c .before .before .args in
-    c .magnitude .result ≡ natAbs (squared (at (args .s .corner)) (at (args .t .corner)))
+    c .magnitude .result ≡ natAbs (squared (cornerOf (args .s)) (cornerOf (args .t)))
 size c = ap natAbs (sym (c .magnitude .ensures) ∙ squared-is (c .before))
 
 returns : tie.Need-returns
