@@ -6,33 +6,35 @@ use lib.Signed.{ltZ}
 use mir.Syntax.{w64}
 use Rattle.integer.specs.Machine.{result-is}
 use Rattle.plane.specs.Point.{points}
+use Rattle.polygon.specs.Point.{at}
 use Rattle.hull.specs.theory.Stack.{Settling, settle-short, settle-keep, settle-drop}
 use Rattle.hull.proofs.chains.settle.Statement.{statement}
 use Rattle.hull.proofs.chains.settle.Tie as tie
 
 abbrev Inv-loop : tie.InvT-loop
-Inv-loop list k i kept₀ kept = Settling (points list) k i kept
+Inv-loop list k p kept₀ kept = Settling (points list) k (at p) kept
 
 abbrev μ-loop : tie.MeasureT-loop
-μ-loop list k i kept₀ kept = kept
+μ-loop list k p kept₀ kept = kept
 
 loop-holds : tie.Need-loop-holds Inv-loop μ-loop
 loop-holds c = record { few = omega arith; pushed = refl }
 
-sub-turn-at : tie.Need-sub-turn-at Inv-loop μ-loop
-sub-turn-at c = omega arith
-
-turn-at-requires : tie.Need-turn-at-requires Inv-loop μ-loop
-turn-at-requires c κs =
+turn-on-requires : tie.Need-turn-on-requires Inv-loop μ-loop
+turn-on-requires c κs =
     let start = c .before .before in
-    let few = c .before .loop .inv .few in
-    (omega (arith, start .pre .0), omega (arith, start .pre .0), start .pre .1, start .pre .2)
+    let few = c .before .loop .inv .few in (
+      c .loop-test .taken,
+      omega (arith, start .pre .0),
+      record { small = λ i h. start .pre .1 .small i (omega arith) },
+      start .pre .2,
+    )
 
 returns : tie.Need-returns Inv-loop μ-loop
 returns c =
     let at-loop = c .before .before .before in
     settle-keep (at-loop .loop .inv) (c .before .before .loop-test .taken)
-    (sym (ap (λ (t : ℤ). ltZ (pos 0) t) (result-is w64 (c .before .turn-at .ok) (c .before .turn-at .ensures))) ∙ c .if1 .taken)
+    (sym (ap (λ (t : ℤ). ltZ (pos 0) t) (result-is w64 (c .before .turn-on .ok) (c .before .turn-on .ensures))) ∙ c .if1 .taken)
 
 sub-kept : tie.Need-sub-kept Inv-loop μ-loop
 sub-kept c = omega arith
@@ -44,7 +46,7 @@ loop-again : tie.Need-loop-again Inv-loop μ-loop
 loop-again c =
     let at-loop = c .before .before .before in
     settle-drop (at-loop .loop .inv) (c .before .before .loop-test .taken)
-    (sym (ap (λ (t : ℤ). ltZ (pos 0) t) (result-is w64 (c .before .turn-at .ok) (c .before .turn-at .ensures))) ∙ c .if1 .left)
+    (sym (ap (λ (t : ℤ). ltZ (pos 0) t) (result-is w64 (c .before .turn-on .ok) (c .before .turn-on .ensures))) ∙ c .if1 .left)
 
 returns-2 : tie.Need-returns-2 Inv-loop μ-loop
 returns-2 c = settle-short (c .before .loop .inv) (c .loop-test .left)
@@ -52,4 +54,4 @@ returns-2 c = settle-short (c .before .loop .inv) (c .loop-test .left)
 pub settle-spec : {M : Type 1} → statement M
 settle-spec =
     tie.close
-    (tie.spec Inv-loop μ-loop loop-holds sub-turn-at turn-at-requires returns sub-kept loop-less loop-again returns-2)
+    (tie.spec Inv-loop μ-loop loop-holds turn-on-requires returns sub-kept loop-less loop-again returns-2)
