@@ -10,5 +10,7 @@ pub mod Stack
 pub mod Peak
 pub mod Trimmed
 pub mod Chains
+pub mod Counted
 pub mod Spread
+pub mod Same
 pub mod Written

@@ -5,7 +5,8 @@ pub mod chains;
 pub mod order;
 mod rows;
 
-ghost use Prim.Native.Nat.{_+_, _≤_};
+ghost use mathlib.Core.Bool.{false, true};
+ghost use Prim.Native.Nat.{suc, _+_, _≤_};
 ghost use lib.ListN.{length};
 ghost use mathlib.Core.List.{_++_};
 ghost use Rattle.plane.specs.Point.{points};
@@ -13,7 +14,8 @@ ghost use Rattle.plane.specs.Refusal.{Valid};
 ghost use Rattle.plane.specs.Corner.{shapeOf};
 ghost use Rattle.polygon.specs.Front.{Front};
 ghost use Rattle.polygon.specs.Point.{at};
-ghost use Rattle.hull.specs.Chain.{Spread};
+ghost use Rattle.hull.specs.Buffer.{Chained};
+ghost use Rattle.hull.specs.Chain.{rightRows, leftRows, Spread};
 use polygon::corners;
 use polygon::point;
 use polygon::point::Point;
@@ -40,9 +42,8 @@ pub fn merge(a: &[i32], b: &[i32], buf: &mut [i32]) -> usize
     1
 }
 
-// Writes the right-hand chain up from the bottom of both shapes, and behind it the left-hand chain down from their top:
-// each without its last corner, which is the first of the other. The shapes' own tops are at positions i and j. Every
-// corner of the two is in at most one of the rows that the chains are made of: so there is room for both chains.
+// Writes the right-hand chain of both shapes, and behind it the left-hand one. The shapes' own tops are at positions i
+// and j. Every corner is in a row of one of the chains at most: so there is room for both.
 fn both_chains(
     a: &[i32],
     i: usize,
@@ -57,12 +58,56 @@ fn both_chains(
         × (length (points (now a)) + length (points (now b)) ≤ length (points (now buf))) ⌝ }
     ensures { λ r. ⌜ Front (shapeOf (points (now (a .entry)) ++ points (now (b .entry)))) r (now (buf .exit)) ⌝ }
 {
-    let a_right = rows::trimmed(a, 0, i, bottom, top);
-    let b_right = rows::trimmed(b, 0, j, bottom, top);
-    let right = chains::chain(a, a_right, b, b_right, bottom, top, true, buf);
-    let a_left = rows::trimmed(a, i, rows::home(a, i), top, bottom);
-    let b_left = rows::trimmed(b, j, rows::home(b, j), top, bottom);
+    let right = right_chain(a, i, b, j, bottom, top, buf);
     let start = 2 * right;
-    let left = chains::chain(a, a_left, b, b_left, top, bottom, false, &mut buf[start..]);
+    let left = left_chain(a, i, b, j, bottom, top, &mut buf[start..]);
     right + left
+}
+
+// Writes the chain up from the bottom to the top, without the top, at the front of the buffer; says how many corners it
+// has.
+fn right_chain(
+    a: &[i32],
+    i: usize,
+    b: &[i32],
+    j: usize,
+    bottom: Point,
+    top: Point,
+    buf: &mut [i32],
+) -> usize
+    requires { ⌜ Valid (now a) × Valid (now b)
+        × Spread (points (now a)) i (points (now b)) j (at bottom) (at top)
+        × (suc (length (rightRows (points (now a)) i (points (now b)) j (at bottom) (at top)))
+        ≤ length (points (now buf))) ⌝ }
+    ensures { λ r. ⌜ Chained true
+        (rightRows (points (now (a .entry))) i (points (now (b .entry))) j (at bottom) (at top))
+        (at bottom) (at top) (now (buf .entry)) (now (buf .exit)) r ⌝ }
+{
+    let row = rows::trimmed(a, 0, i, bottom, top);
+    let other = rows::trimmed(b, 0, j, bottom, top);
+    chains::chain(a, row, b, other, bottom, top, true, buf)
+}
+
+// Writes the chain down from the top to the bottom, without the bottom, at the front of the buffer; says how many
+// corners it has.
+fn left_chain(
+    a: &[i32],
+    i: usize,
+    b: &[i32],
+    j: usize,
+    bottom: Point,
+    top: Point,
+    buf: &mut [i32],
+) -> usize
+    requires { ⌜ Valid (now a) × Valid (now b)
+        × Spread (points (now a)) i (points (now b)) j (at bottom) (at top)
+        × (suc (length (leftRows (points (now a)) i (points (now b)) j (at bottom) (at top)))
+        ≤ length (points (now buf))) ⌝ }
+    ensures { λ r. ⌜ Chained false
+        (leftRows (points (now (a .entry))) i (points (now (b .entry))) j (at bottom) (at top))
+        (at top) (at bottom) (now (buf .entry)) (now (buf .exit)) r ⌝ }
+{
+    let row = rows::trimmed(a, i, rows::home(a, i), top, bottom);
+    let other = rows::trimmed(b, j, rows::home(b, j), top, bottom);
+    chains::chain(a, row, b, other, top, bottom, false, buf)
 }

@@ -1,13 +1,12 @@
 -- The two chains of two shapes together.
 --     chain-kept       the corners that a scan of both shapes' rows keeps, from s to t, are a chain that bounds both shapes to that side
 --     circuit-shape    a chain up and a chain down that do so for the same set are its shape
-use mathlib.Core.Path.{_≡_, refl, sym, _∙_, ap, subst}
+use mathlib.Core.Path.{_≡_, refl, sym, subst}
 use mathlib.Core.Bool.{Bool, true, false}
 use mathlib.Core.List.{List, [], _∷_, _++_, List·Memᴰ·head, List·Memᴰ·tail, List·Memᴰ·append-cases, Memᴰ·append-left, Memᴰ·append-right}
 use mathlib.Core.List.{List·Memᴰ·cases-cons, List·Memᴰ·not-nil}
 use mathlib.Core.Logic.{_⊎_, inl, inr, ⊎-elim}
-use Prim.Native.Nat.{ℕ, _-_, _<_}
-use native.Mathlib.Omega.{arith}
+use Prim.Native.Nat.{ℕ, _<_}
 use lib.IntN.{ℤ, pos}
 use lib.ListN.{length}
 use lib.Signed.{_≤ℤ_, _<ℤ_}
@@ -20,12 +19,12 @@ use Rattle.plane.specs.theory.lists.Members.{_∈_, _⊆_, lastOf, all-member, 
 use Rattle.plane.specs.theory.forms.Standard.{sorted→shape}
 use Rattle.plane.specs.theory.support.Support.{value-le-support, support-le, support-subset}
 use Rattle.plane.specs.theory.hull.Halves.{Onward, Sideways}
-use Rattle.plane.specs.theory.hull.Ascending.{Runs, Ends, ends}
+use Rattle.plane.specs.theory.hull.Ascending.{Runs, ends}
 use Rattle.plane.specs.theory.hull.Scan.{Bounds, Kept, scanned}
 use Rattle.plane.specs.theory.hull.Hull.{circuit, circuit-sorted, circuit-member, circuit-bound-right, circuit-bound-left}
 use Rattle.plane.specs.theory.hull.ShapeOf.{shape-known}
-use Rattle.hull.specs.Order.{Ahead, inOrder, closed, run, leftOver}
-use Rattle.hull.specs.Chain.{rowFirst, rowEnd}
+use Rattle.hull.specs.Order.{Ahead, inOrder, closed}
+use Rattle.hull.specs.Chain.{taken}
 use Rattle.hull.specs.theory.Ahead.{ahead→onward}
 use Rattle.hull.specs.theory.Least.{inOrder-runs, inOrder-member, member-inOrder}
 use Rattle.hull.specs.theory.Trimmed.{Spans, row-between, row-bound}
@@ -54,24 +53,17 @@ last-more s (q ∷ L) z = last-more q L z
 module _ {half : Bool} {A B : List Point} {low high low′ high′ : ℕ} {s t : Point} (a : Spans half A low high s t)
     (b : Spans half B low′ high′ s t) (apart : Ahead half s t) (s-in : s ∈ (A ++ B)) (t-in : t ∈ (A ++ B)) where
   rows : List Point
-  rows = leftOver (closed A) (rowFirst (closed A) low s t) (rowEnd (closed A) high s t)
-      (closed B) (rowFirst (closed B) low′ s t) (rowEnd (closed B) high′ s t)
-
-  first-row : List Point
-  first-row = run (closed A) (rowFirst (closed A) low s t) (rowEnd (closed A) high s t - rowFirst (closed A) low s t)
-
-  second-row : List Point
-  second-row = run (closed B) (rowFirst (closed B) low′ s t) (rowEnd (closed B) high′ s t - rowFirst (closed B) low′ s t)
+  rows = taken (closed A) low high s t ++ taken (closed B) low′ high′ s t
 
   way : List Point
   way = s ∷ (inOrder half rows ++ (t ∷ []))
 
   -- the corners of the rows lie between s and t
   between : (q : Point) → q ∈ rows → (q ∈ (A ++ B)) × Ahead half s q × Ahead half q t
-  unfolding rows first-row second-row
-  between q m = go (List·Memᴰ·append-cases (run (closed A) (rowFirst (closed A) low s t) (rowEnd (closed A) high s t - rowFirst (closed A) low s t)) m)
+  unfolding rows
+  between q m = go (List·Memᴰ·append-cases (taken (closed A) low high s t) m)
     where
-      go : (q ∈ first-row) ⊎ (q ∈ second-row) → (q ∈ (A ++ B)) × Ahead half s q × Ahead half q t
+      go : (q ∈ taken (closed A) low high s t) ⊎ (q ∈ taken (closed B) low′ high′ s t) → (q ∈ (A ++ B)) × Ahead half s q × Ahead half q t
       go (inl n) = let r = row-between a q n in (Memᴰ·append-left B (r .0), r .1, r .2)
       go (inr n) = let r = row-between b q n in (Memᴰ·append-right A (r .0), r .1, r .2)
 
@@ -96,10 +88,10 @@ module _ {half : Bool} {A B : List Point} {low high low′ high′ : ℕ} {s t :
 
   -- all of both shapes is bounded by what is seen
   way-bound : (d : Point) → Sideways half d → (N : ℤ) → Bounds d N way → Bounds d N (A ++ B)
-  unfolding way rows first-row second-row
+  unfolding way rows
   way-bound d g N bound = member-all (λ q. value d q ≤ℤ N) (A ++ B) (λ q m. ⊎-elim
-      (λ (n : q ∈ A). row-bound a d g N first last (λ p k. of-rows p (Memᴰ·append-left second-row k)) q n)
-      (λ (n : q ∈ B). row-bound b d g N first last (λ p k. of-rows p (Memᴰ·append-right first-row k)) q n)
+      (λ (n : q ∈ A). row-bound a d g N first last (λ p k. of-rows p (Memᴰ·append-left (taken (closed B) low′ high′ s t) k)) q n)
+      (λ (n : q ∈ B). row-bound b d g N first last (λ p k. of-rows p (Memᴰ·append-right (taken (closed A) low high s t) k)) q n)
       (List·Memᴰ·append-cases A m))
     where
       seen : (q : Point) → q ∈ way → value d q ≤ℤ N
@@ -114,9 +106,8 @@ module _ {half : Bool} {A B : List Point} {low high low′ high′ : ℕ} {s t :
       of-rows : (q : Point) → q ∈ rows → value d q ≤ℤ N
       of-rows q m = seen q (List·Memᴰ·tail (Memᴰ·append-left (t ∷ []) (member-inOrder half m)))
 
-  pub chain-kept : Kept half s t (A ++ B) (push t (scan (s ∷ []) (inOrder half (leftOver
-      (closed A) (rowFirst (closed A) low s t) (rowEnd (closed A) high s t)
-      (closed B) (rowFirst (closed B) low′ s t) (rowEnd (closed B) high′ s t)))))
+  pub chain-kept : Kept half s t (A ++ B) (push t (scan (s ∷ [])
+      (inOrder half (taken (closed A) low high s t ++ taken (closed B) low′ high′ s t))))
   unfolding way rows
   chain-kept = subst (λ k. Kept half s t (A ++ B) k) (scan-append (s ∷ []) (inOrder half rows) (t ∷ [])) (record {
     chain = way-kept .chain;

@@ -1,24 +1,25 @@
 -- The two chains of a shape: its corners rise to the peak and fall from there back to the first.
 --     closed-within, closed-last, closed-member, closed-small      the corners on the way round
+--     home-behind, home-corner    the chain down ends at the first corner
 --     peak-first, peak-between    the peak of more than a point is not the first corner; every corner lies between the two
 --     Half half A low high        the corners from low to high on the way round are A's chain of that half: no other corner is further in
 --                                 a direction to that side
 --     right-half, left-half       the chains up to the peak and down from it are that
 use mathlib.Core.Path.{_≡_, refl, sym, _∙_, ap, subst}
 use mathlib.Core.Bool.{Bool, true, false, true≢false}
-use mathlib.Core.List.{List, [], _∷_, _++_}
+use mathlib.Core.List.{List, [], _∷_}
 use mathlib.Core.Logic.{inl, inr}
 use Prim.Native.Nat.{ℕ, zero, suc, _+_, _-_, _^_, _≤_, _<_}
 use native.Mathlib.Decide.{ℕ-discrete, decLt}
 use native.Mathlib.Omega.{arith}
-use borrow.Author.Tests.{ne-eqb}
+use borrow.Author.Tests.{eq-eqb, ne-eqb}
 use lib.IntN.{ℤ, pos}
 use lib.ListN.{length, List·getD-append}
 use lib.Seq.{getD-append-add}
 use lib.Signed.{_≤ℤ_}
 use Rattle.integer.specs.Linear.{lia, linear}
 use Rattle.plane.specs.Point.{Point, origin, points, corner}
-use Rattle.plane.specs.Turn.{turn, Left, turn-swap, turn-cycle}
+use Rattle.plane.specs.Turn.{turn, Left, turn-cycle}
 use Rattle.plane.specs.Direction.{value}
 use Rattle.plane.specs.Shape.{precedes, IsShape}
 use Rattle.plane.specs.Forms.{Precedes, Ordered}
@@ -141,6 +142,13 @@ module _ (ps : List Point) (shape : IsShape ps) where
 pub home-behind : (ps : List Point) (t : ℕ) → (t ≡ 0 → ⊥) → home ps t ≡ length ps
 home-behind ps t f = rw (ne-eqb t 0 f)
 
+pub home-corner : (ps : List Point) (t : ℕ) → 0 < length ps → corner (closed ps) (home ps t) ≡ corner ps 0
+home-corner ps t some = go (ℕ-discrete t 0)
+  where
+    go : Dec (t ≡ 0) → corner (closed ps) (home ps t) ≡ corner ps 0
+    go (yes e) = rw (eq-eqb t 0 e) (closed-within ps 0 some)
+    go (no f) = ap (corner (closed ps)) (home-behind ps t f) ∙ closed-last ps
+
 pub record Half (half : Bool) (A : List Point) (low high : ℕ) : Type 0 where
   pub order : low ≤ high
   pub within : high ≤ length A
@@ -159,7 +167,7 @@ module _ (ps : List Point) (shape : IsShape ps) (t : ℕ) (peak : Peak ps t) whe
   on-way half j k h l u = subst (λ p. Ahead half p (corner (closed ps) k)) (sym (closed-within ps j h))
       (subst (λ p. Ahead half (corner ps j) p) (sym (closed-within ps k l)) u)
 
-  pub peak-first : 1 < length ps → 0 < t
+  peak-first : 1 < length ps → 0 < t
   peak-first h = go (ℕ-discrete t 0)
     where
       go : Dec (t ≡ 0) → 0 < t

@@ -1,12 +1,13 @@
 -- The corners of a shape's chain that may stand on the chain from s to t.
+--     right-first, right-last, one-most     neither s nor t lies to the right; a test counts for 0 or 1
 --     Spans half A low high s t     A's chain of that half lies between s and t
---     row-rises        what is taken of it rises
+--     row-within, row-rises      what is taken of it is on the way round, and rises
 --     row-between      each corner taken lies strictly between s and t
 --     row-bound        what s, t and the corners taken do not exceed in a direction to that side, no corner exceeds
-use mathlib.Core.Path.{_≡_, refl, sym, _∙_, ap, subst}
-use mathlib.Core.Bool.{Bool, true, false, true≢false}
+use mathlib.Core.Path.{_≡_, refl, sym, subst}
+use mathlib.Core.Bool.{Bool, true, false}
 use mathlib.Core.List.{List, [], _∷_}
-use mathlib.Core.Logic.{_⊎_, inl, inr}
+use mathlib.Core.Logic.{inl, inr}
 use Prim.Native.Nat.{ℕ, suc, _+_, _-_, _≤_, _<_}
 use native.Mathlib.Decide.{ℕ-discrete, decLe, decLt}
 use native.Mathlib.Omega.{arith}
@@ -20,8 +21,8 @@ use Rattle.plane.specs.Turn.{turn}
 use Rattle.plane.specs.Direction.{value}
 use Rattle.plane.specs.theory.lists.Members.{_∈_}
 use Rattle.plane.specs.theory.hull.Halves.{Sideways, value-between}
-use Rattle.hull.specs.Order.{Ahead, closed, run, Rises}
-use Rattle.hull.specs.Chain.{isRight, one, rowFirst, rowEnd}
+use Rattle.hull.specs.Order.{Ahead, closed, Rises}
+use Rattle.hull.specs.Chain.{isRight, one, rowFirst, rowEnd, taken}
 use Rattle.hull.specs.theory.Ahead.{NotBehind, reaches-on, reaches-to, ahead→onward}
 use Rattle.hull.specs.theory.Run.{Position, run-member, member-run}
 use Rattle.hull.specs.theory.Peak.{Half, closed-member}
@@ -35,11 +36,11 @@ pub record Spans (half : Bool) (A : List Point) (low high : ℕ) (s t : Point) :
 -- ---- the side of the line from s to t
 
 -- neither s nor t lies to its right
-right-first : (s t : Point) → turn s t s <ℤ pos 0 → ⊥
+pub right-first : (s t : Point) → turn s t s <ℤ pos 0 → ⊥
 unfolding turn
 right-first s t h = lia (s .x ∷ s .y ∷ t .x ∷ t .y ∷ []) h (search linear depth 40) (omega arith)
 
-right-last : (s t : Point) → turn s t t <ℤ pos 0 → ⊥
+pub right-last : (s t : Point) → turn s t t <ℤ pos 0 → ⊥
 unfolding turn
 right-last s t h = lia (s .x ∷ s .y ∷ t .x ∷ t .y ∷ []) h (search linear depth 40) (omega arith)
 
@@ -75,7 +76,7 @@ one-false : {b : Bool} → one b < 1 → b ≡ false
 one-false {b = true} h = absurd (omega arith)
 one-false {b = false} h = refl
 
-one-most : (b : Bool) → one b ≤ 1
+pub one-most : (b : Bool) → one b ≤ 1
 one-most true = omega arith
 one-most false = omega arith
 
@@ -125,8 +126,7 @@ module _ {half : Bool} {A : List Point} {low high : ℕ} {s t : Point} (c : Span
           (before-last x (omega arith) above)
       to (no f) = reaches-to (c .chain .rises .rises x high (omega arith) (omega (arith, f, above)) (omega arith)) (c .before)
 
-  pub row-between : (q : Point) → q ∈ run (closed A) (rowFirst (closed A) low s t) (rowEnd (closed A) high s t - rowFirst (closed A) low s t)
-      → (q ∈ A) × Ahead half s q × Ahead half q t
+  pub row-between : (q : Point) → q ∈ taken (closed A) low high s t → (q ∈ A) × Ahead half s q × Ahead half q t
   row-between q m = go (run-member (closed A) (rowFirst (closed A) low s t) (rowEnd (closed A) high s t - rowFirst (closed A) low s t) m)
     where
       go : Position (closed A) (rowFirst (closed A) low s t)
@@ -141,9 +141,7 @@ module _ {half : Bool} {A : List Point} {low high : ℕ} {s t : Point} (c : Span
           )
 
   pub row-bound : (d : Point) → Sideways half d → (N : ℤ) → value d s ≤ℤ N → value d t ≤ℤ N
-      → ((q : Point) → q ∈ run (closed A) (rowFirst (closed A) low s t) (rowEnd (closed A) high s t - rowFirst (closed A) low s t)
-      → value d q ≤ℤ N)
-      → (q : Point) → q ∈ A → value d q ≤ℤ N
+      → ((q : Point) → q ∈ taken (closed A) low high s t → value d q ≤ℤ N) → (q : Point) → q ∈ A → value d q ≤ℤ N
   row-bound d g N h k row = c .chain .bound d g N (λ x l m. here x l m (decLe (rowFirst (closed A) low s t) x)
       (decLt x (rowEnd (closed A) high s t)))
     where

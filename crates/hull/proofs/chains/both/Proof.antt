@@ -2,10 +2,10 @@
 -- measure is what is left.
 use mathlib.Core.Path.{_≡_, refl, sym, _∙_, ap, ap₂, subst}
 use mathlib.Core.Bool.{Bool, true, false, cond}
+use mathlib.Core.List.{List}
 use Prim.Native.Nat.{ℕ, _+_, _-_, _^_, _≤_}
 use native.Mathlib.Omega.{arith}
 use lib.IntN.{ℤ, pos}
-use lib.ListN.{length}
 use lib.Signed.{leZ}
 use mir.Syntax.{w32}
 use mir.Val.{toZ, ofZ}
@@ -22,11 +22,14 @@ use Rattle.hull.specs.theory.Stack.{Scanning, scanning-start, scanning-a
 use Rattle.hull.proofs.chains.both.Statement.{statement}
 use Rattle.hull.proofs.chains.both.Tie as tie
 
+-- the corners from i up to n and from j up to e, in order
+abbrev left : Bool → List ℤ → ℕ → ℕ → List ℤ → ℕ → ℕ → List Point
+left up a i n b j e = inOrder up (leftOver (closed (points a)) i n (closed (points b)) j e)
+
 abbrev Inv-loop : tie.InvT-loop
 Inv-loop a row b other up buf₀ i₀ j₀ k₀ buf i j k =
     (row .first ≤ i) × (other .first ≤ j)
-    × Scanning buf₀ 1 (inOrder up (leftOver (closed (points a)) (row .first) (row .end) (closed (points b)) (other .first) (other .end)))
-    (inOrder up (leftOver (closed (points a)) i (row .end) (closed (points b)) j (other .end))) buf k
+    × Scanning buf₀ 1 (left up a (row .first) (row .end) b (other .first) (other .end)) (left up a i (row .end) b j (other .end)) buf k
 
 abbrev μ-loop : tie.MeasureT-loop
 μ-loop a row b other up buf₀ i₀ j₀ k₀ buf i j k = (row .end - i) + (other .end - j)
@@ -109,11 +112,9 @@ loop-holds c =
 first-rest : (c : tie.Then2 Inv-loop μ-loop)
     → let at-loop = c .before .before .before .before in
     let args = at-loop .before .args in
-    let P = closed (points (args .a .now)) in
     Scanning (args .buf .now) 1
-    (inOrder (args .up) (leftOver P (args .row .first) (args .row .end) (closed (points (args .b .now))) (args .other .first)
-    (args .other .end)))
-    (run P (at-loop .loop .i) (args .row .end - at-loop .loop .i)) (at-loop .loop .buf) (at-loop .loop .k)
+    (left (args .up) (args .a .now) (args .row .first) (args .row .end) (args .b .now) (args .other .first) (args .other .end))
+    (run (closed (points (args .a .now))) (at-loop .loop .i) (args .row .end - at-loop .loop .i)) (at-loop .loop .buf) (at-loop .loop .k)
 first-rest c =
     let at-loop = c .before .before .before .before in
     let args = at-loop .before .args in
@@ -124,11 +125,9 @@ first-rest c =
 second-rest : (c : tie.Else1 Inv-loop μ-loop)
     → let at-loop = c .before .before in
     let args = at-loop .before .args in
-    let Q = closed (points (args .b .now)) in
     Scanning (args .buf .now) 1
-    (inOrder (args .up) (leftOver (closed (points (args .a .now))) (args .row .first) (args .row .end) Q (args .other .first)
-    (args .other .end)))
-    (run Q (at-loop .loop .j) (args .other .end - at-loop .loop .j)) (at-loop .loop .buf) (at-loop .loop .k)
+    (left (args .up) (args .a .now) (args .row .first) (args .row .end) (args .b .now) (args .other .first) (args .other .end))
+    (run (closed (points (args .b .now))) (at-loop .loop .j) (args .other .end - at-loop .loop .j)) (at-loop .loop .buf) (at-loop .loop .k)
 second-rest c =
     let at-loop = c .before .before in
     let args = at-loop .before .args in

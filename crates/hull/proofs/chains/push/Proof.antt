@@ -1,5 +1,4 @@
 -- `push` meets its contract: the point is written behind what stays under it.
-use mathlib.Core.Path.{_∙_, ap}
 use native.Mathlib.Omega.{arith}
 use borrow.Author.Needs.{needs}
 use Rattle.plane.specs.theory.lists.Flat.{points-length}

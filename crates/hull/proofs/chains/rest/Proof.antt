@@ -2,11 +2,10 @@
 -- what is left.
 use mathlib.Core.Path.{_≡_, sym, ap, subst}
 use mathlib.Core.List.{_∷_}
-use Prim.Native.Nat.{_+_, _-_, _^_, _≤_}
+use Prim.Native.Nat.{_+_, _-_, _^_}
 use native.Mathlib.Numerals.{add-one}
 use native.Mathlib.Omega.{arith}
-use lib.ListN.{length}
-use Rattle.plane.specs.Point.{points, corner}
+use Rattle.plane.specs.Point.{points}
 use Rattle.polygon.specs.Point.{at, Small}
 use Rattle.hull.specs.Order.{closed, run}
 use Rattle.hull.specs.theory.Peak.{closed-small}

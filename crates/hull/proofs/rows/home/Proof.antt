@@ -1,5 +1,4 @@
 -- `home` meets its contract.
-use mathlib.Core.Path.{refl}
 use borrow.Author.Needs.{needs}
 use borrow.Author.Tests.{eq-eqb, ne-eqb}
 use Rattle.hull.proofs.rows.home.Statement.{statement}

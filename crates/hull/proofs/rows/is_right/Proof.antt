@@ -6,7 +6,6 @@ use lib.IntN.{ℤ, pos}
 use lib.Signed.{ltZ}
 use mir.Syntax.{w64}
 use Rattle.integer.specs.Machine.{result-is}
-use Rattle.plane.specs.Point.{Point, points}
 use Rattle.polygon.specs.Point.{at, Small}
 use Rattle.hull.specs.Chain.{isRight}
 use Rattle.hull.specs.theory.Peak.{closed-small}
