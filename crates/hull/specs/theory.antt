@@ -7,6 +7,7 @@ pub mod Unite
 pub mod Stored
 pub mod Pour
 pub mod Stack
+pub mod Reading
 pub mod Peak
 pub mod Trimmed
 pub mod Chains

@@ -1,17 +1,14 @@
-// Inner functions: the scan. The corners that it keeps stand at the front of a buffer, and every three neighbours of
-// them turn strictly left.
-ghost use mathlib.Core.Path.{_≡_};
-ghost use mathlib.Core.List.{[], _∷_};
-ghost use Prim.Native.Nat.{_+_, _-_, _^_, _<_, _≤_};
+// Inner functions: a chain of two shapes, from the rows of their corners that may stand on it.
+ghost use Prim.Native.Nat.{_+_, _-_, _^_, _≤_};
 ghost use lib.ListN.{length};
-ghost use Rattle.plane.specs.Point.{points, corner};
-ghost use Rattle.plane.specs.Turn.{turn};
+ghost use Rattle.plane.specs.Point.{points};
 ghost use Rattle.polygon.specs.Point.{at, Small};
-ghost use Rattle.hull.specs.Buffer.{SmallTo, Settled, Scanned, Chained};
+ghost use Rattle.hull.specs.Buffer.{SmallTo, Scanned, Chained};
 ghost use Rattle.hull.specs.Order.{closed, run, leftOver, inOrder, Line, Rising};
 use crate::order;
 use crate::rows;
 use crate::rows::Row;
+use crate::scan;
 use polygon::corners;
 use polygon::point::Point;
 
@@ -36,7 +33,7 @@ pub fn chain(
 {
     corners::put(buf, 0, from);
     let kept = both(a, row, b, other, up, buf);
-    settle(buf, kept, to)
+    scan::settle(buf, kept, to)
 }
 
 // Pushes the corners of two rows, in order, equal ones once, on the one corner at the front of the buffer; answers how
@@ -58,7 +55,7 @@ fn both(a: &[i32], row: Row, b: &[i32], other: Row, up: bool, buf: &mut [i32]) -
         let p = rows::closed_at(a, i);
         let q = rows::closed_at(b, j);
         let c = rows::order(up, p, q);
-        k = push(buf, k, rows::pick(c <= 0, p, q));
+        k = scan::push(buf, k, rows::pick(c <= 0, p, q));
         i = order::after(c <= 0, i);
         j = order::after(0 <= c, j);
     }
@@ -75,48 +72,8 @@ fn rest(list: &[i32], from: usize, end: usize, buf: &mut [i32], k: usize) -> usi
     let mut kept = k;
     let mut i = from;
     while i < end {
-        kept = push(buf, kept, rows::closed_at(list, i));
+        kept = scan::push(buf, kept, rows::closed_at(list, i));
         i += 1;
     }
     kept
-}
-
-// Pushes a point on the first k corners of the buffer: those at which it does not turn left are dropped, and it is
-// written behind the others. Answers how many stand there then.
-pub fn push(buf: &mut [i32], k: usize, p: Point) -> usize
-    requires { ⌜ (k < length (points (now buf))) × SmallTo (now buf) k × Small (2 ^ 21) (at p) ⌝ }
-    ensures { λ r. ⌜ Scanned (now (buf .entry)) k (at p ∷ []) (now (buf .exit)) r ⌝ }
-{
-    let under = settle(buf, k, p);
-    corners::put(buf, under, p);
-    under + 1
-}
-
-// How many of the first k corners stay under a point: the last is dropped as long as the point does not turn strictly
-// left there.
-fn settle(list: &[i32], k: usize, p: Point) -> usize
-    requires { ⌜ (k ≤ length (points (now list))) × SmallTo (now list) k × Small (2 ^ 21) (at p) ⌝ }
-    ensures { λ r. ⌜ Settled (points (now (list .entry))) k (at p) r ⌝ }
-{
-    let mut kept = k;
-    while 2 <= kept {
-        if 0 < turn_on(list, kept, p) {
-            return kept;
-        }
-        kept -= 1;
-    }
-    kept
-}
-
-// The turn of a point against the edge between the last two of the first k corners.
-fn turn_on(list: &[i32], k: usize, p: Point) -> i64
-    requires { ⌜ (2 ≤ k) × (k ≤ length (points (now list))) × SmallTo (now list) k × Small (2 ^ 21) (at p) ⌝ }
-    ensures { λ r. ⌜ r ≡ turn (corner (points (now (list .entry))) (k - 2)) (corner (points (now (list .entry))) (k - 1))
-        (at p) ⌝ }
-{
-    rows::turn(
-        corners::corner_at(list, k - 2),
-        corners::corner_at(list, k - 1),
-        p,
-    )
 }

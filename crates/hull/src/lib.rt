@@ -1,9 +1,10 @@
 // Inner functions for the shape of two shapes together, chain by chain (document 01, "Merge"). Callers ask the crate
 // `questions`.
 mod buffer;
-pub mod chains;
+mod chains;
 pub mod order;
 mod rows;
+pub mod scan;
 
 ghost use mathlib.Core.Bool.{false, true};
 ghost use Prim.Native.Nat.{suc, _+_, _≤_};

@@ -6,11 +6,11 @@ ghost use Prim.Native.Nat.{_+_, _^_, _<_, _≤_};
 ghost use lib.ListN.{length};
 ghost use Rattle.plane.specs.Point.{points, corner};
 ghost use Rattle.plane.specs.Refusal.{InRange};
-ghost use Rattle.plane.specs.Turn.{turn as Turn·turn};
 ghost use Rattle.polygon.specs.Point.{at, Small};
 ghost use Rattle.hull.specs.Order.{closed, Line, order as Order·order, foremost as Order·foremost};
 ghost use Rattle.hull.specs.Chain.{rowFirst, rowEnd, Peak, home as Chain·home, isRight as Chain·isRight};
 use crate::order;
+use crate::scan;
 use polygon::corners;
 use polygon::point;
 use polygon::point::Point;
@@ -41,15 +41,7 @@ fn is_right(list: &[i32], i: usize, from: Point, to: Point) -> bool
         × Small (2 ^ 21) (at from) × Small (2 ^ 21) (at to) ⌝ }
     ensures { λ r. ⌜ r ≡ Chain·isRight (at from) (at to) (corner (closed (points (now (list .entry)))) i) ⌝ }
 {
-    turn(from, to, closed_at(list, i)) < 0
-}
-
-// The turn of c against the edge from a to b.
-pub fn turn(a: Point, b: Point, c: Point) -> i64
-    requires { ⌜ Small (2 ^ 21) (at a) × Small (2 ^ 21) (at b) × Small (2 ^ 21) (at c) ⌝ }
-    ensures { λ r. ⌜ r ≡ Turn·turn (at a) (at b) (at c) ⌝ }
-{
-    point::cross(point::step(a, b), point::step(a, c))
+    scan::turn(from, to, closed_at(list, i)) < 0
 }
 
 // The corner at a position on the way round: behind the last one stands the first again.
@@ -90,7 +82,8 @@ pub fn home(list: &[i32], top: usize) -> usize
 // The one of two corners that comes first on the way up, or down.
 pub fn foremost(up: bool, a: &[i32], i: usize, b: &[i32], j: usize) -> Point
     requires { ⌜ (i < length (points (now a))) × (j < length (points (now b))) ⌝ }
-    ensures { λ r. ⌜ at r ≡ Order·foremost up (corner (points (now (a .entry))) i) (corner (points (now (b .entry))) j) ⌝ }
+    ensures { λ r. ⌜ at r ≡ Order·foremost up (corner (points (now (a .entry))) i)
+        (corner (points (now (b .entry))) j) ⌝ }
 {
     let p = corners::corner_at(a, i);
     let q = corners::corner_at(b, j);

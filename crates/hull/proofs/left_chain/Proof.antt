@@ -18,14 +18,16 @@ use Rattle.hull.proofs.left_chain.Tie as tie
 
 -- the ends of the rows, by the definition of where the chains end
 first-end : (c : tie.After-trimmed) → let args = c .before .before .args in
-    c .trimmed .result .end ≡ rowEnd (closed (points (args .a .now))) (home (points (args .a .now)) (args .i)) (at (args .top)) (at (args .bottom))
+    let A = points (args .a .now) in
+    c .trimmed .result .end ≡ rowEnd (closed A) (home A (args .i)) (at (args .top)) (at (args .bottom))
 first-end c =
     let args = c .before .before .args in
     c .trimmed .ensures .1
     ∙ ap (λ (k : ℕ). rowEnd (closed (points (args .a .now))) k (at (args .top)) (at (args .bottom))) (c .before .home .ensures)
 
 second-end : (c : tie.After-trimmed2) → let args = c .before .before .before .before .args in
-    c .trimmed2 .result .end ≡ rowEnd (closed (points (args .b .now))) (home (points (args .b .now)) (args .j)) (at (args .top)) (at (args .bottom))
+    let B = points (args .b .now) in
+    c .trimmed2 .result .end ≡ rowEnd (closed B) (home B (args .j)) (at (args .top)) (at (args .bottom))
 second-end c =
     let args = c .before .before .before .before .args in
     c .trimmed2 .ensures .1
@@ -101,8 +103,9 @@ returns : tie.Need-returns
 returns c =
     let at-rows = c .before .before .before in
     let args = at-rows .before .before .before .before .args in
-    subst (λ (S : List Point). Chained false S (at (args .top)) (at (args .bottom)) (args .buf .now) (c .before .chain .last .1 .1 .1 .1 .1 .1 .1 .0)
-    (c .before .chain .result)) (rows at-rows) (c .before .chain .ensures)
+    let after = c .before .chain .last .1 .1 .1 .1 .1 .1 .1 .0 in
+    subst (λ (S : List Point). Chained false S (at (args .top)) (at (args .bottom)) (args .buf .now) after (c .before .chain .result))
+    (rows at-rows) (c .before .chain .ensures)
 
 pub left-chain-spec : {M : Type 1} → statement M
 left-chain-spec =

@@ -65,8 +65,9 @@ returns : tie.Need-returns
 returns c =
     let at-rows = c .before .before .before in
     let args = at-rows .before .before .args in
-    subst (λ (S : List Point). Chained true S (at (args .bottom)) (at (args .top)) (args .buf .now) (c .before .chain .last .1 .1 .1 .1 .1 .1 .1 .0)
-    (c .before .chain .result)) (rows at-rows) (c .before .chain .ensures)
+    let after = c .before .chain .last .1 .1 .1 .1 .1 .1 .1 .0 in
+    subst (λ (S : List Point). Chained true S (at (args .bottom)) (at (args .top)) (args .buf .now) after (c .before .chain .result))
+    (rows at-rows) (c .before .chain .ensures)
 
 pub right-chain-spec : {M : Type 1} → statement M
 right-chain-spec = tie.close (tie.spec trimmed-requires trimmed-requires-2 chain-requires same-length returns)

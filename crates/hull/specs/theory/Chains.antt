@@ -39,7 +39,8 @@ runs-cons : {half : Bool} (p : Point) (L : List Point) → Runs half L → ((q :
 runs-cons p [] r f = (tt, tt)
 runs-cons p (q ∷ L) r f = (f q (List·Memᴰ·head refl), r)
 
-runs-last-more : {half : Bool} (L : List Point) (z : Point) → Runs half L → ((q : Point) → q ∈ L → Onward half q z) → Runs half (L ++ (z ∷ []))
+runs-last-more : {half : Bool} (L : List Point) (z : Point) → Runs half L → ((q : Point) → q ∈ L → Onward half q z)
+    → Runs half (L ++ (z ∷ []))
 runs-last-more [] z r f = (tt, tt)
 runs-last-more (p ∷ []) z r f = (f p (List·Memᴰ·head refl), (tt, tt))
 runs-last-more (p ∷ (q ∷ L)) z r f = (r .0, runs-last-more (q ∷ L) z (r .1) (λ x m. f x (List·Memᴰ·tail m)))

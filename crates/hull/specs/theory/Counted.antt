@@ -99,7 +99,8 @@ module _ {A : List Point} {a : ℕ} (shape : IsShape A) (peak : Peak A a) (s t :
       go : Dec (a ≡ 0) → places A a s t + (e + f) ≤ length A
       go (yes z) =
           let low = flat e z bottom in
-          let high = flat f z (subst (λ k. f + (one (isRight s t (corner (closed A) k)) + one (isRight t s (corner (closed A) k))) ≤ 1) z top) in
+          let high = flat f z
+          (subst (λ k. f + (one (isRight s t (corner (closed A) k)) + one (isRight t s (corner (closed A) k))) ≤ 1) z top) in
           omega (arith, low, high, apart-ends z (decLt 0 e) (decLt 0 f), shape .some)
       go (no n) =
           let h = home-behind A a n in

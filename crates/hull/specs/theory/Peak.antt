@@ -1,7 +1,7 @@
 -- The two chains of a shape: its corners rise to the peak and fall from there back to the first.
 --     closed-within, closed-last, closed-member, closed-small      the corners on the way round
 --     home-behind, home-corner    the chain down ends at the first corner
---     peak-first, peak-between    the peak of more than a point is not the first corner; every corner lies between the two
+--     peak-between                every corner lies between the first and the peak
 --     Half half A low high        the corners from low to high on the way round are A's chain of that half: no other corner is further in
 --                                 a direction to that side
 --     right-half, left-half       the chains up to the peak and down from it are that
@@ -227,7 +227,8 @@ module _ (ps : List Point) (shape : IsShape ps) (t : ℕ) (peak : Peak ps t) whe
         rises = record { rises = λ j k h i l. absurd (omega arith) };
         bound = λ d f N h q m. (let at = member-position m in
             let first : at .0 ≡ 0 = alone (at .0) (at .1) (decLt 1 (length ps)) in
-            subst (λ p. value d p ≤ℤ N) (closed-within ps 0 (shape .some) ∙ ap (corner ps) (sym first) ∙ at .2) (h 0 (omega arith) (omega arith)));
+            subst (λ p. value d p ≤ℤ N) (closed-within ps 0 (shape .some) ∙ ap (corner ps) (sym first) ∙ at .2)
+            (h 0 (omega arith) (omega arith)));
       })
         where
           alone : (k : ℕ) → k < length ps → Dec (1 < length ps) → k ≡ 0

@@ -17,7 +17,8 @@ use Rattle.hull.specs.Chain.{Peak}
 use Rattle.hull.specs.theory.Ahead.{NotBehind, reaches-on, reaches-to, turned-up, foremost-le}
 use Rattle.hull.specs.theory.Peak.{peak-between}
 
-module _ {A B : List Point} {a b : ℕ} {s t : Point} (shape : IsShape A) (other : IsShape B) (start : s ≡ foremost true (corner A 0) (corner B 0))
+module _ {A B : List Point} {a b : ℕ} {s t : Point} (shape : IsShape A) (other : IsShape B)
+    (start : s ≡ foremost true (corner A 0) (corner B 0))
     (end : t ≡ foremost false (corner A a) (corner B b)) (peak : Peak A a) (second-peak : Peak B b) (same : precedes s t ≡ false) where
   between-same : {p q r : Point} → NotBehind true s p → NotBehind true p q → NotBehind true q r → NotBehind true r t → q ≡ s
   between-same {p} {q} {r} i j k l = go i j k l

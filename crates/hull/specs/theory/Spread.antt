@@ -1,5 +1,5 @@
 -- Two shapes, their least corner s and their greatest t: what both chains are made of, and that they are the shape of both.
---     right-spans, left-spans      each shape's own chains lie between s and t
+--     first-right, second-right, first-left, second-left      each shape's own chains lie between s and t
 --     row-line, row-rising, rows-as      what is taken of such a chain is a row that rises; by the code's numbers
 --     rows-few         no corner is taken for both chains, and s and t for none: so there is room for both
 --     spread-shape     both chains together are the shape of both

@@ -156,9 +156,11 @@ module _ {old l : List ℤ} {k r : ℕ} {all rest : List Point} (c : Scanning ol
 
 -- ---- a chain
 
-pub first-scanned : {l now : List ℤ} {p : Point} → 0 < length (points l) → Small (2 ^ 21) p → now ≡ stored l 0 p → Scanned l 0 (p ∷ []) now 1
+pub first-scanned : {l now : List ℤ} {p : Point} → 0 < length (points l) → Small (2 ^ 21) p → now ≡ stored l 0 p
+    → Scanned l 0 (p ∷ []) now 1
 first-scanned room own is =
-    settled-scanned {k = 0} {r = 0} room (record { small = λ i h. absurd (omega arith) }) own (record { few = omega arith; pushed = refl }) is
+    settled-scanned {k = 0} {r = 0} room (record { small = λ i h. absurd (omega arith) }) own
+    (record { few = omega arith; pushed = refl }) is
 
 pub chained : {half : Bool} {S : List Point} {s t : Point} {old began l : List ℤ} {k r : ℕ} → Scanned old 0 (s ∷ []) began 1
     → Scanned began 1 (inOrder half S) l k → Settled (points l) k t r → Chained half S s t old l r

@@ -8,9 +8,8 @@ use Rattle.plane.specs.Point.{points}
 use Rattle.plane.specs.theory.lists.Flat.{points-length}
 use Rattle.polygon.specs.Point.{at}
 use Rattle.hull.specs.Buffer.{Scanned}
-use Rattle.hull.specs.Order.{closed, leftOver}
-use Rattle.hull.specs.theory.Least.{inOrder-length}
-use Rattle.hull.specs.theory.Unite.{leftOver-length}
+use Rattle.hull.specs.Order.{closed}
+use Rattle.hull.specs.theory.Reading.{left-few}
 use Rattle.hull.specs.theory.Stack.{first-scanned, chained}
 use Rattle.hull.proofs.chains.chain.Statement.{statement}
 use Rattle.hull.proofs.chains.chain.Tie as tie
@@ -53,8 +52,7 @@ settle-requires c κs =
         rows .few,
         rows .same,
         first .same,
-        inOrder-length (args .up) (leftOver P (args .row .first) (args .row .end) Q (args .other .first) (args .other .end)),
-        leftOver-length P (args .row .first) (args .row .end) Q (args .other .first) (args .other .end),
+        left-few (args .up) P (args .row .first) (args .row .end) Q (args .other .first) (args .other .end),
         points-length (args .buf .now),
         points-length (at-both .both .last .1 .1 .1 .1 .1 .0),
       ),

@@ -33,7 +33,10 @@ next c =
     rw (c .closed-at .ensures, add-one (at-loop .loop .i)) (run-more ps (c .before .before .loop-test .taken))
 
 loop-holds : tie.Need-loop-holds Inv-loop μ-loop
-loop-holds c = scanning-start (c .pre .2) (omega (arith, c .pre .1, run-length (closed (points (c .args .list .now))) (c .args .from) (c .args .end - c .args .from)))
+loop-holds c =
+    let args = c .args in
+    scanning-start (c .pre .2)
+    (omega (arith, c .pre .1, run-length (closed (points (args .list .now))) (args .from) (args .end - args .from)))
 
 closed-at-requires : tie.Need-closed-at-requires Inv-loop μ-loop
 closed-at-requires c κs =

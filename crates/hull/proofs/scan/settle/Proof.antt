@@ -8,8 +8,8 @@ use Rattle.integer.specs.Machine.{result-is}
 use Rattle.plane.specs.Point.{points}
 use Rattle.polygon.specs.Point.{at}
 use Rattle.hull.specs.theory.Stack.{Settling, settle-short, settle-keep, settle-drop}
-use Rattle.hull.proofs.chains.settle.Statement.{statement}
-use Rattle.hull.proofs.chains.settle.Tie as tie
+use Rattle.hull.proofs.scan.settle.Statement.{statement}
+use Rattle.hull.proofs.scan.settle.Tie as tie
 
 abbrev Inv-loop : tie.InvT-loop
 Inv-loop list k p kept₀ kept = Settling (points list) k (at p) kept

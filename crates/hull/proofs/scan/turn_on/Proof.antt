@@ -8,8 +8,8 @@ use Rattle.integer.specs.Machine.{result-is}
 use Rattle.plane.specs.Point.{Point}
 use Rattle.plane.specs.Turn.{turn}
 use Rattle.polygon.specs.Point.{at, Small}
-use Rattle.hull.proofs.chains.turn_on.Statement.{statement}
-use Rattle.hull.proofs.chains.turn_on.Tie as tie
+use Rattle.hull.proofs.scan.turn_on.Statement.{statement}
+use Rattle.hull.proofs.scan.turn_on.Tie as tie
 
 sub-corner-at : tie.Need-sub-corner-at
 sub-corner-at c = search needs

@@ -5,8 +5,8 @@ use mir.Syntax.{w64}
 use Rattle.integer.specs.Machine.{result-is}
 use Rattle.plane.specs.Turn.{cross, turn-cross}
 use Rattle.polygon.specs.theory.Small.{small-step}
-use Rattle.hull.proofs.rows.turn.Statement.{statement}
-use Rattle.hull.proofs.rows.turn.Tie as tie
+use Rattle.hull.proofs.scan.turn.Statement.{statement}
+use Rattle.hull.proofs.scan.turn.Tie as tie
 
 step-requires : tie.Need-step-requires
 step-requires c κs = search needs

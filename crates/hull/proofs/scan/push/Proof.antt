@@ -3,8 +3,8 @@ use native.Mathlib.Omega.{arith}
 use borrow.Author.Needs.{needs}
 use Rattle.plane.specs.theory.lists.Flat.{points-length}
 use Rattle.hull.specs.theory.Stack.{settled-scanned}
-use Rattle.hull.proofs.chains.push.Statement.{statement}
-use Rattle.hull.proofs.chains.push.Tie as tie
+use Rattle.hull.proofs.scan.push.Statement.{statement}
+use Rattle.hull.proofs.scan.push.Tie as tie
 
 settle-requires : tie.Need-settle-requires
 settle-requires c κs = (omega (arith, c .before .pre .0), c .before .pre .1, c .before .pre .2)
