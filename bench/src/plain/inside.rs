@@ -1,0 +1,54 @@
+//! Inside: for each edge of the second shape, the corner of the first that is least to its left.
+use super::corner::{Corner, cross, edge};
+use super::judge::admitted;
+use crate::reply::Numbers;
+
+/// 1 if the first shape is inside the second, else 0.
+#[inline(never)]
+pub fn inside(a: &[i32], b: &[i32]) -> Numbers {
+    let a = match admitted(a, 1) {
+        Ok(shape) => shape.corners,
+        Err(refusal) => return refusal,
+    };
+    let b = match admitted(b, 2) {
+        Ok(shape) => shape.corners,
+        Err(refusal) => return refusal,
+    };
+    let yes = match b {
+        [point] => a == [*point],
+        [from, to] => a.iter().all(|&p| on_segment(p, *from, *to)),
+        _ => around(a, b),
+    };
+    Numbers::one(yes as u64)
+}
+
+/// Whether p lies on the segment, ends included.
+fn on_segment(p: Corner, from: Corner, to: Corner) -> bool {
+    let between = |k: usize| from[k].min(to[k]) <= p[k] && p[k] <= from[k].max(to[k]);
+    cross(edge(from, to), edge(from, p)) == 0 && between(0) && between(1)
+}
+
+/// Walks the edges of both in one order: the edges of the first that come before an edge of the
+/// second lead to the corner that is least to its left.
+#[inline(always)]
+fn around(a: &[Corner], b: &[Corner]) -> bool {
+    let n = a.len();
+    let at = |i: usize| a[if i < n { i } else { i - n }];
+    let mut i = 0;
+    let mut corner = a[0];
+    let mut e = edge(corner, at(1));
+    let mut from = b[0];
+    for &to in b[1..].iter().chain(&b[..1]) {
+        let f = edge(from, to);
+        while i < n && cross(e, f) > 0 {
+            i += 1;
+            corner = at(i);
+            e = edge(corner, at(i + 1));
+        }
+        if cross(f, edge(from, corner)) < 0 {
+            return false;
+        }
+        from = to;
+    }
+    true
+}

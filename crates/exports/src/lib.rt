@@ -1,0 +1,93 @@
+// The questions for a host in Rust or C. A list is lent as a pointer and a length, and an answer comes back as a struct of
+// numbers: what `crossed` makes of the reply that the question's own contract states.
+mod reply;
+
+ghost use mathlib.Core.Path.{_≡_};
+ghost use Rattle.plane.specs.Point.{point};
+ghost use Rattle.plane.specs.Judge.{judged};
+ghost use Rattle.plane.specs.Furthest.{furthestReply};
+ghost use Rattle.plane.specs.Combine.{mirrorWritten, sumWritten, mergeWritten};
+ghost use Rattle.plane.specs.Measure.{lengthReply, widthReply};
+ghost use Rattle.plane.specs.Separation.{relationReply, insideReply, clearanceReply};
+ghost use Rattle.plane.specs.Tangent.{tangentsReply};
+ghost use Rattle.exports.specs.Crossing.{crossed, crossedBehind};
+ghost use Rattle.exports.specs.Numbers.{numbers, signedNumbers, lineNumbers};
+use reply::Lines;
+use reply::Numbers;
+use reply::Signed;
+
+#[no_mangle]
+pub extern "C" fn cocklesway_judge(list: &[i32]) -> Numbers
+    ensures { λ r. ⌜ numbers r ≡ crossed 5 (judged (now (list .entry))) ⌝ }
+{
+    reply::of_answer(questions::judge(list))
+}
+
+#[no_mangle]
+pub extern "C" fn cocklesway_furthest(list: &[i32], u: i32, v: i32) -> Signed {
+    reply::of_furthest(questions::furthest(list, u, v))
+}
+
+#[no_mangle]
+pub extern "C" fn cocklesway_mirror(list: &[i32], out: &mut [i32]) -> Numbers
+    ensures { λ r. ⌜ (numbers r ≡ crossed 5 (mirrorWritten (now (list .entry)) (now (out .entry)) .reply))
+        × (now (out .exit) ≡ mirrorWritten (now (list .entry)) (now (out .entry)) .output) ⌝ }
+{
+    reply::of_answer(questions::mirror(list, out))
+}
+
+#[no_mangle]
+pub extern "C" fn cocklesway_sum(a: &[i32], b: &[i32], out: &mut [i32]) -> Numbers
+    ensures { λ r. ⌜ (numbers r ≡ crossed 5 (sumWritten (now (a .entry)) (now (b .entry)) (now (out .entry)) .reply))
+        × (now (out .exit) ≡ sumWritten (now (a .entry)) (now (b .entry)) (now (out .entry)) .output) ⌝ }
+{
+    reply::of_answer(questions::sum(a, b, out))
+}
+
+#[no_mangle]
+pub extern "C" fn cocklesway_merge(a: &[i32], b: &[i32], out: &mut [i32]) -> Numbers
+    ensures { λ r. ⌜ (numbers r ≡ crossed 5 (mergeWritten (now (a .entry)) (now (b .entry)) (now (out .entry)) .reply))
+        × (now (out .exit) ≡ mergeWritten (now (a .entry)) (now (b .entry)) (now (out .entry)) .output) ⌝ }
+{
+    reply::of_answer(questions::merge(a, b, out))
+}
+
+#[no_mangle]
+pub extern "C" fn cocklesway_length(list: &[i32]) -> Numbers
+    ensures { λ r. ⌜ numbers r ≡ crossed 5 (lengthReply (now (list .entry))) ⌝ }
+{
+    reply::of_length(questions::length(list))
+}
+
+#[no_mangle]
+pub extern "C" fn cocklesway_width(list: &[i32]) -> Numbers
+    ensures { λ r. ⌜ numbers r ≡ crossed 5 (widthReply (now (list .entry))) ⌝ }
+{
+    reply::of_width(questions::width(list))
+}
+
+#[no_mangle]
+pub extern "C" fn cocklesway_relation(a: &[i32], b: &[i32]) -> Numbers
+    ensures { λ r. ⌜ numbers r ≡ crossed 5 (relationReply (now (a .entry)) (now (b .entry))) ⌝ }
+{
+    reply::of_relation(questions::relation(a, b))
+}
+
+#[no_mangle]
+pub extern "C" fn cocklesway_inside(a: &[i32], b: &[i32]) -> Numbers
+    ensures { λ r. ⌜ numbers r ≡ crossed 5 (insideReply (now (a .entry)) (now (b .entry))) ⌝ }
+{
+    reply::of_inside(questions::inside(a, b))
+}
+
+#[no_mangle]
+pub extern "C" fn cocklesway_clearance(a: &[i32], b: &[i32]) -> Signed {
+    reply::of_clearance(questions::clearance(a, b))
+}
+
+#[no_mangle]
+pub extern "C" fn cocklesway_tangents(a: &[i32], b: &[i32]) -> Lines
+    ensures { λ r. ⌜ lineNumbers r ≡ crossed 8 (tangentsReply (now (a .entry)) (now (b .entry))) ⌝ }
+{
+    reply::of_tangents(questions::tangents(a, b))
+}
