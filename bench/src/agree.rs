@@ -38,7 +38,13 @@ fn ask_one(tally: &mut Tally, a: &[i32]) -> Result<(), String> {
 
 /// The questions of two shapes that write nothing.
 fn ask_two(tally: &mut Tally, a: &[i32], b: &[i32]) -> Result<(), String> {
-    tally.add("relation", a, b, plain::relation(a, b), proved::relation(a, b))?;
+    tally.add(
+        "relation",
+        a,
+        b,
+        plain::relation(a, b),
+        proved::relation(a, b),
+    )?;
     tally.add("inside", a, b, plain::inside(a, b), proved::inside(a, b))
 }
 
@@ -46,8 +52,10 @@ fn ask_two(tally: &mut Tally, a: &[i32], b: &[i32]) -> Result<(), String> {
 /// written, so that rims meet.
 fn ask_written(tally: &mut Tally, random: &mut Random, a: &[i32], b: &[i32]) -> Result<(), String> {
     type Writes = fn(&[i32], &[i32], &mut [i32]) -> Numbers;
-    let both: [(&'static str, Writes, Writes); 2] =
-        [("sum", plain::sum, proved::sum), ("merge", plain::merge, proved::merge)];
+    let both: [(&'static str, Writes, Writes); 2] = [
+        ("sum", plain::sum, proved::sum),
+        ("merge", plain::merge, proved::merge),
+    ];
     for (word, by_hand, by_proof) in both {
         let (room, answer) = (room(random, a, b, by_hand), random.bits() as i32);
         let (mut out, mut other): (List, List) = (vec![answer; room], vec![answer; room]);
@@ -60,14 +68,25 @@ fn ask_written(tally: &mut Tally, random: &mut Random, a: &[i32], b: &[i32]) -> 
             let written = &out[..2 * one.values[0] as usize];
             ask_two(tally, a, written)?;
             ask_two(tally, written, b)?;
-            tally.add("width", written, &[], plain::width(written), proved::width(written))?;
+            tally.add(
+                "width",
+                written,
+                &[],
+                plain::width(written),
+                proved::width(written),
+            )?;
         }
     }
     Ok(())
 }
 
 /// How many numbers are lent: enough, as many as are needed, or fewer.
-fn room(random: &mut Random, a: &[i32], b: &[i32], ask: fn(&[i32], &[i32], &mut [i32]) -> Numbers) -> usize {
+fn room(
+    random: &mut Random,
+    a: &[i32],
+    b: &[i32],
+    ask: fn(&[i32], &[i32], &mut [i32]) -> Numbers,
+) -> usize {
     let needed = 2 * ask(a, b, &mut [0; 1024]).values[0] as usize;
     match random.below(8) {
         0 => needed,
@@ -80,9 +99,18 @@ fn room(random: &mut Random, a: &[i32], b: &[i32], ask: fn(&[i32], &[i32], &mut 
 
 impl Tally {
     /// Counts one answer, or says that it differs.
-    fn add(&mut self, word: &'static str, a: &[i32], b: &[i32], plain: Numbers, proved: Numbers) -> Result<(), String> {
+    fn add(
+        &mut self,
+        word: &'static str,
+        a: &[i32],
+        b: &[i32],
+        plain: Numbers,
+        proved: Numbers,
+    ) -> Result<(), String> {
         if plain != proved {
-            return Err(format!("{word} of {a:?} and {b:?}: plain {plain:?}, proved {proved:?}"));
+            return Err(format!(
+                "{word} of {a:?} and {b:?}: plain {plain:?}, proved {proved:?}"
+            ));
         }
         let kind = match (plain.refusal, word) {
             (0, "relation" | "inside") => format!("ok {}", plain.values[0]),
@@ -99,10 +127,11 @@ impl Tally {
         self.0.values().sum()
     }
 
-    /// A line for each question: how often each answer was given.
+    /// How often each question was answered in each way, and all together.
     pub fn print(&self) {
         for ((word, kind), count) in &self.0 {
             println!("{word:9} {kind:14} {count:8}");
         }
+        println!("{} plain and proved answers agree", self.asked());
     }
 }

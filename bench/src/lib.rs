@@ -1,11 +1,13 @@
 //! The proved questions beside plain ones: written by hand for speed, with the same checks and the
-//! same answers. `agree` compares them, the program measures them.
+//! same answers. `agree` compares what they answer, `table` how long they take.
 pub mod agree;
-pub mod cases;
-pub mod lists;
+mod lists;
+mod pairs;
 pub mod plain;
 pub mod proved;
-pub mod random;
+mod random;
 pub mod reply;
-pub mod shapes;
-pub mod timing;
+mod rows;
+mod shapes;
+pub mod table;
+mod timing;

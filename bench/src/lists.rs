@@ -52,7 +52,11 @@ pub fn beside(random: &mut Random, a: &[i32]) -> List {
     let (x, y) = (p.0.wrapping_sub(q.0), p.1.wrapping_sub(q.1));
     match random.below(8) {
         0..3 => moved(&b, x, y),
-        3 => moved(&b, x.wrapping_add(random.between(-2, 2)), y.wrapping_add(random.between(-2, 2))),
+        3 => moved(
+            &b,
+            x.wrapping_add(random.between(-2, 2)),
+            y.wrapping_add(random.between(-2, 2)),
+        ),
         4 => moved(&b, x / 2, y / 2),
         _ => b,
     }
@@ -100,6 +104,9 @@ fn swap(list: &mut List, k: usize, other: usize) {
 fn between(list: &mut List, k: usize) {
     let next = if k + 2 < list.len() { k + 2 } else { 0 };
     let middle = |p: i32, q: i32| ((p as i64 + q as i64) / 2) as i32;
-    let (x, y) = (middle(list[k], list[next]), middle(list[k + 1], list[next + 1]));
+    let (x, y) = (
+        middle(list[k], list[next]),
+        middle(list[k + 1], list[next + 1]),
+    );
     list.splice(k + 2..k + 2, [x, y]);
 }

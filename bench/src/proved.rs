@@ -12,8 +12,22 @@ mod archive {
         pub fn cocklesway_judge(list: List, n: usize) -> Numbers;
         pub fn cocklesway_furthest(list: List, n: usize, u: i32, v: i32) -> Signed;
         pub fn cocklesway_mirror(list: List, n: usize, out: Output, room: usize) -> Numbers;
-        pub fn cocklesway_sum(a: List, n: usize, b: List, m: usize, out: Output, room: usize) -> Numbers;
-        pub fn cocklesway_merge(a: List, n: usize, b: List, m: usize, out: Output, room: usize) -> Numbers;
+        pub fn cocklesway_sum(
+            a: List,
+            n: usize,
+            b: List,
+            m: usize,
+            out: Output,
+            room: usize,
+        ) -> Numbers;
+        pub fn cocklesway_merge(
+            a: List,
+            n: usize,
+            b: List,
+            m: usize,
+            out: Output,
+            room: usize,
+        ) -> Numbers;
         pub fn cocklesway_length(list: List, n: usize) -> Numbers;
         pub fn cocklesway_width(list: List, n: usize) -> Numbers;
         pub fn cocklesway_relation(a: List, n: usize, b: List, m: usize) -> Numbers;
@@ -39,11 +53,29 @@ pub fn mirror(list: &[i32], out: &mut [i32]) -> Numbers {
 }
 
 pub fn sum(a: &[i32], b: &[i32], out: &mut [i32]) -> Numbers {
-    unsafe { archive::cocklesway_sum(a.as_ptr(), a.len(), b.as_ptr(), b.len(), out.as_mut_ptr(), out.len()) }
+    unsafe {
+        archive::cocklesway_sum(
+            a.as_ptr(),
+            a.len(),
+            b.as_ptr(),
+            b.len(),
+            out.as_mut_ptr(),
+            out.len(),
+        )
+    }
 }
 
 pub fn merge(a: &[i32], b: &[i32], out: &mut [i32]) -> Numbers {
-    unsafe { archive::cocklesway_merge(a.as_ptr(), a.len(), b.as_ptr(), b.len(), out.as_mut_ptr(), out.len()) }
+    unsafe {
+        archive::cocklesway_merge(
+            a.as_ptr(),
+            a.len(),
+            b.as_ptr(),
+            b.len(),
+            out.as_mut_ptr(),
+            out.len(),
+        )
+    }
 }
 
 pub fn length(list: &[i32]) -> Numbers {

@@ -20,7 +20,11 @@ impl Numbers {
     /// An answer.
     #[inline]
     pub fn all(values: [u64; 5]) -> Numbers {
-        Numbers { refusal: 0, shape: 0, values }
+        Numbers {
+            refusal: 0,
+            shape: 0,
+            values,
+        }
     }
 
     /// A refusal that blames no shape.
@@ -32,7 +36,11 @@ impl Numbers {
     /// A refusal of one of the shapes.
     #[inline]
     pub fn blamed(refusal: u64, shape: u64) -> Numbers {
-        Numbers { refusal, shape, values: [0; 5] }
+        Numbers {
+            refusal,
+            shape,
+            values: [0; 5],
+        }
     }
 }
 

@@ -4,6 +4,12 @@ use crate::random::Random;
 /// A list of numbers, x y x y.
 pub type List = Vec<i32>;
 
+/// The lists that a question is asked of: one shape, or two.
+pub struct Case {
+    pub a: List,
+    pub b: List,
+}
+
 /// How far an edge goes across and up.
 type Edge = (i64, i64);
 
@@ -96,7 +102,10 @@ fn laid(edges: &[Edge], x: i32, y: i32) -> List {
         (all.clone().min().unwrap_or(0) + all.max().unwrap_or(0)) / 2
     };
     let (dx, dy) = (x as i64 - middle(|p| p.0), y as i64 - middle(|p| p.1));
-    corners.iter().flat_map(|p| [(p.0 + dx) as i32, (p.1 + dy) as i32]).collect()
+    corners
+        .iter()
+        .flat_map(|p| [(p.0 + dx) as i32, (p.1 + dy) as i32])
+        .collect()
 }
 
 /// The list moved by (x, y).

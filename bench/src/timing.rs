@@ -1,88 +1,67 @@
-//! Times: small blocks of calls on inputs that change from call to call, the proved and the plain
-//! question by turns, many rounds over, the least time of each block counted.
-use crate::cases::{Case, Question, Row, ask_plain, ask_proved};
-use crate::random::Random;
+//! Times: small blocks of calls on inputs that change from call to call, the ways of answering by
+//! turns, many rounds over, the least time of each block counted.
+use crate::shapes::Case;
 use std::hint::black_box;
 use std::time::Instant;
 
-/// Numbers of all inputs of a row: too many branches for a processor to learn by heart.
+/// Asks a question of each case, one after the other, and says how many nanoseconds it took.
+pub type Run = fn(&[Case]) -> u64;
+
+/// Corners of all cases of a meter: too many branches for a processor to learn by heart.
 const POOL: usize = 32_768;
 
-/// Corners in a block of calls, which then takes some ten microseconds at least.
+/// Corners of a block of calls, which then takes some microseconds.
 const BLOCK: usize = 4_000;
 
-/// Nanoseconds of a call, proved and plain.
-#[derive(Clone, Copy)]
-pub struct Times {
-    pub proved: f64,
-    pub plain: f64,
-}
-
-/// A row at one size: its inputs, and the least time of each block of them so far.
-pub struct Meter {
-    question: Question,
-    cases: Vec<Case>,
-    block: usize,
-    least: Vec<[u64; 2]>,
-}
-
-impl Meter {
-    pub fn new(row: &Row, n: usize, seed: u64) -> Meter {
-        let mut random = Random::new(seed);
-        let block = (BLOCK / n).max(4);
-        let blocks = (POOL / n).max(64).div_ceil(block);
-        let cases = (0..blocks * block).map(|_| (row.make)(&mut random, n)).collect();
-        Meter { question: row.question, cases, block, least: vec![[u64::MAX; 2]; blocks] }
-    }
-
-    /// One time more for each block; who goes first changes from round to round.
-    pub fn round(&mut self, even: bool) {
-        for (cases, least) in self.cases.chunks(self.block).zip(&mut self.least) {
-            for proved in [even, !even] {
-                let took = if proved { run_proved(self.question, cases) } else { run_plain(self.question, cases) };
-                let slot = &mut least[!proved as usize];
-                *slot = took.min(*slot);
-            }
-        }
-    }
-
-    /// The time of a call, over all blocks.
-    pub fn times(&self) -> Times {
-        let of = |which: usize| {
-            let all: u64 = self.least.iter().map(|block| block[which]).sum();
-            all as f64 / self.cases.len() as f64
-        };
-        Times { proved: of(0), plain: of(1) }
-    }
-}
-
-/// Asks one after the other, and says how many nanoseconds it took.
-macro_rules! runner {
-    ($name:ident, $ask:ident) => {
-        fn $name(question: Question, cases: &[Case]) -> u64 {
-            match question {
-                Question::Judge => block(cases, |case, out| $ask(Question::Judge, case, out)),
-                Question::Sum => block(cases, |case, out| $ask(Question::Sum, case, out)),
-                Question::Merge => block(cases, |case, out| $ask(Question::Merge, case, out)),
-                Question::Length => block(cases, |case, out| $ask(Question::Length, case, out)),
-                Question::Width => block(cases, |case, out| $ask(Question::Width, case, out)),
-                Question::Relation => block(cases, |case, out| $ask(Question::Relation, case, out)),
-                Question::Inside => block(cases, |case, out| $ask(Question::Inside, case, out)),
-            }
-        }
-    };
-}
-
-runner!(run_proved, ask_proved);
-runner!(run_plain, ask_plain);
-
-/// A loop for each question of its own, so that nothing but the call is in it.
+/// The body of a `Run`: a loop with nothing in it but the call.
 #[inline(always)]
-fn block<T>(cases: &[Case], ask: impl Fn(&Case, &mut [i32]) -> T) -> u64 {
+pub fn block<T>(cases: &[Case], ask: impl Fn(&Case, &mut [i32]) -> T) -> u64 {
     let mut out = [0; 1024];
     let start = Instant::now();
     for case in cases {
         black_box(ask(case, &mut out));
     }
     start.elapsed().as_nanos() as u64
+}
+
+/// One question at one size: its cases, the ways of answering it, and the least time of each for
+/// each block of cases so far.
+pub struct Meter {
+    cases: Vec<Case>,
+    block: usize,
+    runs: Vec<Run>,
+    least: Vec<Vec<u64>>,
+}
+
+impl Meter {
+    /// Cases of n corners.
+    pub fn new(n: usize, runs: &[Run], mut make: impl FnMut() -> Case) -> Meter {
+        let block = (BLOCK / n).max(4);
+        let blocks = (POOL / n).max(64).div_ceil(block);
+        Meter {
+            cases: (0..blocks * block).map(|_| make()).collect(),
+            block,
+            runs: runs.to_vec(),
+            least: vec![vec![u64::MAX; runs.len()]; blocks],
+        }
+    }
+
+    /// One time more for each block and run; who goes first changes from round to round.
+    pub fn round(&mut self, round: usize) {
+        let ways = self.runs.len();
+        for (cases, least) in self.cases.chunks(self.block).zip(&mut self.least) {
+            for way in (0..ways).map(|k| (k + round) % ways) {
+                least[way] = least[way].min((self.runs[way])(cases));
+            }
+        }
+    }
+
+    /// The microseconds of a call, in the order of the runs.
+    pub fn microseconds(&self) -> Vec<f64> {
+        let of = |way: usize| {
+            let all: u64 = self.least.iter().map(|block| block[way]).sum();
+            all as f64 / self.cases.len() as f64 / 1000.0
+        };
+        (0..self.runs.len()).map(of).collect()
+    }
 }

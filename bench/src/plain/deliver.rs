@@ -14,7 +14,10 @@ impl Buffer {
     /// Nothing yet.
     #[inline(always)]
     pub fn empty() -> Buffer {
-        Buffer { corners: [MaybeUninit::uninit(); 2 * MOST + 2], length: 0 }
+        Buffer {
+            corners: [MaybeUninit::uninit(); 2 * MOST + 2],
+            length: 0,
+        }
     }
 
     /// One corner more.
@@ -49,7 +52,11 @@ impl Buffer {
     pub unsafe fn back(&self, so_many: usize) -> Corner {
         debug_assert!(so_many < self.length);
         // SAFETY: all below the length were written, and the caller promises that this one is.
-        unsafe { self.corners.get_unchecked(self.length - 1 - so_many).assume_init() }
+        unsafe {
+            self.corners
+                .get_unchecked(self.length - 1 - so_many)
+                .assume_init()
+        }
     }
 
     /// The corners.

@@ -1,25 +1,25 @@
 //! Inside: for each edge of the second shape, the corner of the first that is least to its left.
 use super::corner::{Corner, cross, edge};
-use super::judge::admitted;
+use super::judge::admitted_pair;
 use crate::reply::Numbers;
 
 /// 1 if the first shape is inside the second, else 0.
 #[inline(never)]
 pub fn inside(a: &[i32], b: &[i32]) -> Numbers {
-    let a = match admitted(a, 1) {
-        Ok(shape) => shape.corners,
-        Err(refusal) => return refusal,
-    };
-    let b = match admitted(b, 2) {
-        Ok(shape) => shape.corners,
-        Err(refusal) => return refusal,
-    };
-    let yes = match b {
+    match admitted_pair(a, b) {
+        Ok((a, b)) => Numbers::one(is_inside(a.corners, b.corners) as u64),
+        Err(refusal) => refusal,
+    }
+}
+
+/// Inside a point or a segment is what lies on it.
+#[inline(always)]
+fn is_inside(a: &[Corner], b: &[Corner]) -> bool {
+    match b {
         [point] => a == [*point],
         [from, to] => a.iter().all(|&p| on_segment(p, *from, *to)),
         _ => around(a, b),
-    };
-    Numbers::one(yes as u64)
+    }
 }
 
 /// Whether p lies on the segment, ends included.

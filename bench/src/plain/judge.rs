@@ -41,10 +41,18 @@ pub fn admitted(list: &[i32], which: u64) -> Result<Shape<'_>, Numbers> {
     }
 }
 
+/// Both lists as shapes, or the first refusal.
+#[inline(always)]
+pub fn admitted_pair<'a>(a: &'a [i32], b: &'a [i32]) -> Result<(Shape<'a>, Shape<'a>), Numbers> {
+    Ok((admitted(a, 1)?, admitted(b, 2)?))
+}
+
 /// Whether a number is out of range: a fold without an exit, which compiles to vectors.
 #[inline(always)]
 pub fn some_outside(list: &[i32]) -> bool {
-    list.iter().fold(false, |far, &z| far | (z.wrapping_add(1_000_000) as u32 > 2_000_000))
+    list.iter().fold(false, |far, &z| {
+        far | (z.wrapping_add(1_000_000) as u32 > 2_000_000)
+    })
 }
 
 /// The corner at which edges begin to go down, if the list is a shape: first edges that go up, then
@@ -52,7 +60,9 @@ pub fn some_outside(list: &[i32]) -> bool {
 #[inline(always)]
 fn top(corners: &[Corner]) -> Option<usize> {
     let (&first, rest) = corners.split_first()?;
-    let Some((&second, rest)) = rest.split_first() else { return Some(0) };
+    let Some((&second, rest)) = rest.split_first() else {
+        return Some(0);
+    };
     let mut last = edge(first, second);
     if !is_up(last) {
         return None;

@@ -1,36 +1,32 @@
-//! Length: the calipers once round the shape.
-use super::corner::{Corner, cross, edge, squared};
-use super::judge::{admitted};
+//! Length: the furthest pair is one that two parallel lines can hold between them.
+use super::calipers::calipers;
+use super::corner::{Corner, edge, squared};
+use super::judge::admitted;
 use crate::reply::Numbers;
 
 /// The greatest squared distance of two corners, and their positions.
 #[inline(never)]
 pub fn length(list: &[i32]) -> Numbers {
     match admitted(list, 1) {
-        Ok(shape) => calipers(shape.corners),
+        Ok(shape) => longest(shape.corners),
         Err(refusal) => refusal,
     }
 }
 
-/// The first corner that is furthest from each edge, with the corner that the edge leaves: these are
-/// all pairs that two parallel lines can hold, and the furthest pair is one.
+/// Every pair that two parallel lines can hold is the corner that some edge leaves and the first
+/// corner that is furthest from this edge.
 #[inline(always)]
-fn calipers(corners: &[Corner]) -> Numbers {
-    let n = corners.len();
-    if n < 3 {
-        let last = n - 1;
-        return Numbers::all([squared(edge(corners[0], corners[last])), 0, last as u64, 0, 0]);
-    }
-    let mut best = Pair { squared: 0, from: 0, to: 0 };
-    let mut far = 1;
-    let mut beyond = edge(corners[1], corners[2]);
-    for i in 0..n {
-        let e = edge(corners[i], corners[if i + 1 < n { i + 1 } else { 0 }]);
-        while cross(e, beyond) > 0 {
-            far = if far + 1 < n { far + 1 } else { 0 };
-            beyond = edge(corners[far], corners[if far + 1 < n { far + 1 } else { 0 }]);
-        }
-        best.meet(squared(edge(corners[i], corners[far])), i, far);
+fn longest(corners: &[Corner]) -> Numbers {
+    let last = corners.len() - 1;
+    let mut best = Pair {
+        squared: squared(edge(corners[0], corners[last])),
+        from: 0,
+        to: last,
+    };
+    if last >= 2 {
+        calipers(corners, |met| {
+            best.meet(squared(met.across), met.from, met.far)
+        });
     }
     Numbers::all([best.squared, best.from as u64, best.to as u64, 0, 0])
 }

@@ -1,31 +1,82 @@
 //! The merge: a monotone scan of the right-hand chains upwards, then of the left-hand ones down.
 use super::corner::{Corner, cross, edge};
 use super::deliver::{Buffer, deliver_near};
-use super::judge::admitted;
+use super::judge::{Shape, admitted_pair};
 use crate::reply::Numbers;
 
 /// The shape of both corner lists together.
 #[inline(never)]
 pub fn merge(a: &[i32], b: &[i32], out: &mut [i32]) -> Numbers {
-    let a = match admitted(a, 1) {
-        Ok(shape) => shape,
-        Err(refusal) => return refusal,
-    };
-    let b = match admitted(b, 2) {
-        Ok(shape) => shape,
-        Err(refusal) => return refusal,
-    };
-    let mut hull = Hull { answer: Buffer::empty(), floor: 0 };
-    hull.scan::<true>(&a.corners[..=a.top], None, &b.corners[..=b.top], None);
-    hull.turn();
-    hull.scan::<false>(
-        &a.corners[a.top..],
-        (a.top > 0).then_some(a.corners[0]),
-        &b.corners[b.top..],
-        (b.top > 0).then_some(b.corners[0]),
-    );
-    hull.close();
-    deliver_near(&hull.answer, out)
+    match admitted_pair(a, b) {
+        Ok((a, b)) => {
+            let mut hull = Hull {
+                answer: Buffer::empty(),
+                floor: 0,
+            };
+            hull.scan::<true>(Chain::right(a), Chain::right(b));
+            hull.turn();
+            hull.scan::<false>(Chain::left(a), Chain::left(b));
+            hull.close();
+            deliver_near(&hull.answer, out)
+        }
+        Err(refusal) => refusal,
+    }
+}
+
+/// One side of a shape: the corners from a position to another, one behind the last being the first.
+struct Chain<'a> {
+    corners: &'a [Corner],
+    at: usize,
+    end: usize,
+    corner: Corner,
+}
+
+impl<'a> Chain<'a> {
+    /// From the first corner up.
+    #[inline(always)]
+    fn right(shape: Shape<'a>) -> Chain<'a> {
+        Chain {
+            corners: shape.corners,
+            at: 0,
+            end: shape.top,
+            corner: shape.corners[0],
+        }
+    }
+
+    /// From the topmost corner down to the first. A point has only itself.
+    #[inline(always)]
+    fn left(shape: Shape<'a>) -> Chain<'a> {
+        let end = if shape.top == 0 {
+            0
+        } else {
+            shape.corners.len()
+        };
+        Chain {
+            corners: shape.corners,
+            at: shape.top,
+            end,
+            corner: shape.corners[shape.top],
+        }
+    }
+
+    /// Whether there is a corner.
+    #[inline(always)]
+    fn more(&self) -> bool {
+        self.at <= self.end
+    }
+
+    /// On to the next corner, if there is one.
+    #[inline(always)]
+    fn step(&mut self) {
+        self.at += 1;
+        let at = if self.at < self.corners.len() {
+            self.at
+        } else {
+            0
+        };
+        // SAFETY: it is below the length.
+        self.corner = unsafe { *self.corners.get_unchecked(at) };
+    }
 }
 
 /// The corners kept so far; none below the floor is dropped any more.
@@ -35,32 +86,30 @@ struct Hull {
 }
 
 impl Hull {
-    /// Adds two chains in one order, corners that both have once. A chain is a list and perhaps one
-    /// corner more: the left-hand one ends at the first corner of the shape.
+    /// Adds two chains in one order, a corner that both have once.
     #[inline(always)]
-    fn scan<const UP: bool>(&mut self, a: &[Corner], end: Option<Corner>, b: &[Corner], close: Option<Corner>) {
-        let (mut a, mut b) = (a.iter().copied().chain(end), b.iter().copied().chain(close));
-        let (mut p, mut q) = (a.next(), b.next());
-        while let (Some(x), Some(y)) = (p, q) {
-            let (first, second) = if UP { (key(x), key(y)) } else { (key(y), key(x)) };
+    fn scan<const UP: bool>(&mut self, mut a: Chain, mut b: Chain) {
+        while a.more() && b.more() {
+            let (p, q) = (key(a.corner), key(b.corner));
+            let (first, second) = if UP { (p, q) } else { (q, p) };
             if first <= second {
-                self.add(x);
-                p = a.next();
+                self.add(a.corner);
+                a.step();
                 if first == second {
-                    q = b.next();
+                    b.step();
                 }
             } else {
-                self.add(y);
-                q = b.next();
+                self.add(b.corner);
+                b.step();
             }
         }
-        while let Some(x) = p {
-            self.add(x);
-            p = a.next();
+        while a.more() {
+            self.add(a.corner);
+            a.step();
         }
-        while let Some(y) = q {
-            self.add(y);
-            q = b.next();
+        while b.more() {
+            self.add(b.corner);
+            b.step();
         }
     }
 

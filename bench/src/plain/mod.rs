@@ -1,8 +1,10 @@
 //! The questions of document 01, written plainly and for speed: the judged floor that the proved
 //! ones are measured against. Each judges its lists first.
 mod blame;
+mod calipers;
 mod corner;
 mod deliver;
+mod edges;
 mod inside;
 mod judge;
 mod length;

@@ -1,6 +1,7 @@
 //! Relation: the origin against the edges of the difference, which is walked as a sum is.
 use super::corner::{Corner, cross, edge};
-use super::judge::{Shape, admitted};
+use super::edges::Edges;
+use super::judge::{Shape, admitted_pair};
 use crate::reply::Numbers;
 
 const APART: u64 = 0;
@@ -10,54 +11,93 @@ const OVERLAPPING: u64 = 2;
 /// 0 if the shapes are apart, 1 if they touch, 2 if they overlap.
 #[inline(never)]
 pub fn relation(a: &[i32], b: &[i32]) -> Numbers {
-    let a = match admitted(a, 1) {
-        Ok(shape) => shape,
-        Err(refusal) => return refusal,
-    };
-    let b = match admitted(b, 2) {
-        Ok(shape) => shape,
-        Err(refusal) => return refusal,
-    };
-    Numbers::one(stand(a, b))
+    match admitted_pair(a, b) {
+        Ok((a, b)) => Numbers::one(stand(a, b)),
+        Err(refusal) => refusal,
+    }
 }
 
-/// Each edge of the difference a - b leaves corner p of a minus corner q of b. The origin is outside
-/// as soon as it is right of one; on the rim if it is on the line of some; else inside. If it is on
-/// the line of all, the difference is flat.
+/// Walks the edges of the difference, those of a and those of b turned round, in their order; each
+/// leaves a corner of a minus a corner of b. It stops at the first that has the origin outside.
 #[inline(always)]
 fn stand(a: Shape, b: Shape) -> u64 {
-    let (mut left, mut right) = (Edges::of(a.corners, 0), Edges::of(b.corners, b.top));
-    let (mut met, mut flat) = (false, true);
-    while left.left > 0 || right.left > 0 {
-        let turn = cross(left.edge, [-right.edge[0], -right.edge[1]]);
-        let (takes, gives) = (
-            right.left == 0 || (left.left > 0 && turn >= 0),
-            left.left == 0 || (right.left > 0 && turn <= 0),
-        );
-        let e = if takes { left.edge } else { [-right.edge[0], -right.edge[1]] };
-        let side = cross(e, edge(left.corner, right.corner));
-        if side < 0 {
+    let (mut p, mut q) = (Edges::of(a.corners, 0), Edges::of(b.corners, b.top));
+    let mut origin = Origin {
+        on_some: false,
+        on_all: true,
+    };
+    while p.more() && q.more() {
+        let back = opposite(q.edge);
+        let turn = cross(p.edge, back);
+        let e = if turn >= 0 { p.edge } else { back };
+        if origin.is_outside(e, edge(p.corner, q.corner)) {
             return APART;
         }
-        met |= side == 0;
-        flat &= side == 0;
-        if takes {
-            left.step();
+        if turn >= 0 {
+            p.step();
         }
-        if gives {
-            right.step();
+        if turn <= 0 {
+            q.step();
         }
     }
-    if flat && !between(a.corners, b.corners) {
-        return APART;
+    while p.more() {
+        if origin.is_outside(p.edge, edge(p.corner, q.corner)) {
+            return APART;
+        }
+        p.step();
     }
-    if met || flat { TOUCHING } else { OVERLAPPING }
+    while q.more() {
+        if origin.is_outside(opposite(q.edge), edge(p.corner, q.corner)) {
+            return APART;
+        }
+        q.step();
+    }
+    origin.stands(a, b)
 }
 
-/// Whether two points or segments in one line meet.
+/// The edge turned round.
+#[inline(always)]
+fn opposite(e: Corner) -> Corner {
+    [-e[0], -e[1]]
+}
+
+/// How the origin lies to the edges so far: on the line of some, on the line of all, else left.
+struct Origin {
+    on_some: bool,
+    on_all: bool,
+}
+
+impl Origin {
+    /// Whether it is right of an edge, being so far from the corner that the edge leaves.
+    #[inline(always)]
+    fn is_outside(&mut self, e: Corner, from: Corner) -> bool {
+        let turn = cross(e, from);
+        self.on_some |= turn == 0;
+        self.on_all &= turn == 0;
+        turn < 0
+    }
+
+    /// What follows if it is outside no edge. On the line of all the difference is flat.
+    #[inline(always)]
+    fn stands(&self, a: Shape, b: Shape) -> u64 {
+        match (self.on_all, self.on_some) {
+            (true, _) => {
+                if meet(a.corners, b.corners) {
+                    TOUCHING
+                } else {
+                    APART
+                }
+            }
+            (_, true) => TOUCHING,
+            (_, false) => OVERLAPPING,
+        }
+    }
+}
+
+/// Whether two points or segments in one line have a point in common.
 #[cold]
-fn between(a: &[Corner], b: &[Corner]) -> bool {
-    let meet = |axis: usize| {
+fn meet(a: &[Corner], b: &[Corner]) -> bool {
+    let along = |axis: usize| {
         let span = |c: &[Corner]| {
             let (p, q) = (c[0][axis], c[c.len() - 1][axis]);
             (p.min(q), p.max(q))
@@ -65,34 +105,5 @@ fn between(a: &[Corner], b: &[Corner]) -> bool {
         let ((low, high), (least, most)) = (span(a), span(b));
         low <= most && least <= high
     };
-    meet(0) && meet(1)
-}
-
-/// The edges of a shape from some corner on, once round, the next one carried.
-struct Edges<'a> {
-    corners: &'a [Corner],
-    next: usize,
-    left: usize,
-    corner: Corner,
-    edge: Corner,
-}
-
-impl<'a> Edges<'a> {
-    /// From that corner on. A point has no edge.
-    #[inline(always)]
-    fn of(corners: &'a [Corner], start: usize) -> Edges<'a> {
-        let n = corners.len();
-        let next = if start + 1 < n { start + 1 } else { 0 };
-        let (corner, end) = (corners[start], corners[next]);
-        Edges { corners, next, left: if n > 1 { n } else { 0 }, corner, edge: edge(corner, end) }
-    }
-
-    /// On to the next corner.
-    #[inline(always)]
-    fn step(&mut self) {
-        self.left -= 1;
-        self.corner = self.corners[self.next];
-        self.next = if self.next + 1 < self.corners.len() { self.next + 1 } else { 0 };
-        self.edge = edge(self.corner, self.corners[self.next]);
-    }
+    along(0) && along(1)
 }

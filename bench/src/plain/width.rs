@@ -1,41 +1,59 @@
-//! Width: the calipers once round the shape, edges compared as exact fractions.
+//! Width: the calipers, edges compared as exact fractions.
+use super::calipers::{after, calipers};
 use super::corner::{Corner, cross, edge, squared};
 use super::judge::admitted;
 use crate::reply::Numbers;
+
+/// More than any turn, 4·10^12 at most; all edges are narrower than one that has it at length 1.
+const ABOVE: u64 = 1 << 42;
 
 /// The edge across which the shape is narrowest, its corner, turn, squared length, and the width.
 #[inline(never)]
 pub fn width(list: &[i32]) -> Numbers {
     match admitted(list, 1) {
         Ok(shape) if shape.corners.len() < 3 => Numbers::refused(10),
-        Ok(shape) => calipers(shape.corners),
+        Ok(shape) => narrowest(shape.corners),
         Err(refusal) => refusal,
     }
 }
 
 /// The first edge of the least turn·turn / squared length.
 #[inline(always)]
-fn calipers(corners: &[Corner]) -> Numbers {
+fn narrowest(corners: &[Corner]) -> Numbers {
+    let mut best = Across {
+        edge: 0,
+        corner: 0,
+        turn: ABOVE,
+        squared: 1,
+    };
+    calipers(corners, |met| {
+        let turn = cross(met.edge, met.across) as u64;
+        best.meet(Across {
+            edge: met.from,
+            corner: met.far,
+            turn,
+            squared: squared(met.edge),
+        });
+    });
+    let corner = first_as_far(corners, best.edge, best.corner);
+    Numbers::all([
+        best.edge as u64,
+        corner as u64,
+        best.turn,
+        best.squared,
+        best.rounded(),
+    ])
+}
+
+/// The corner after the furthest is as far if the edge between them is parallel; the smaller
+/// position counts.
+#[inline(always)]
+fn first_as_far(corners: &[Corner], i: usize, far: usize) -> usize {
     let n = corners.len();
-    let after = |i: usize| if i + 1 < n { i + 1 } else { 0 };
-    let mut best = Across { edge: 0, corner: 0, turn: 1, squared: 0 };
-    let mut far = 1;
-    let mut beyond = edge(corners[1], corners[2]);
-    for i in 0..n {
-        let e = edge(corners[i], corners[after(i)]);
-        while cross(e, beyond) > 0 {
-            far = after(far);
-            beyond = edge(corners[far], corners[after(far)]);
-        }
-        let turn = cross(e, edge(corners[i], corners[far])) as u64;
-        best.meet(Across { edge: i, corner: far, turn, squared: squared(e) });
-    }
-    // the corner after it is as far if the edge between them is parallel
-    let e = edge(corners[best.edge], corners[after(best.edge)]);
-    let next = after(best.corner);
-    let level = cross(e, edge(corners[best.corner], corners[next])) == 0;
-    let corner = if level { best.corner.min(next) } else { best.corner };
-    Numbers::all([best.edge as u64, corner as u64, best.turn, best.squared, best.rounded()])
+    let e = edge(corners[i], corners[after(i, n)]);
+    let next = after(far, n);
+    let level = cross(e, edge(corners[far], corners[next])) == 0;
+    if level { far.min(next) } else { far }
 }
 
 /// An edge, the corner furthest from it, that corner's turn, and the edge's squared length.
@@ -47,12 +65,12 @@ struct Across {
 }
 
 impl Across {
-    /// Takes an edge that is narrower. No turn passes 4·10^12, so the products fit 127 bits.
+    /// Takes an edge that is narrower. No squared length passes 2^43, so the products have 127 bits.
     #[inline(always)]
     fn meet(&mut self, other: Across) {
         let ours = self.turn as u128 * self.turn as u128;
         let theirs = other.turn as u128 * other.turn as u128;
-        if self.squared == 0 || theirs * (self.squared as u128) < ours * other.squared as u128 {
+        if theirs * (self.squared as u128) < ours * other.squared as u128 {
             *self = other;
         }
     }
