@@ -10,6 +10,16 @@ pub struct Case {
     pub b: List,
 }
 
+impl Case {
+    /// Reads all its numbers, for a number that hangs on them.
+    pub fn read(&self) -> i32 {
+        self.a
+            .iter()
+            .chain(&self.b)
+            .fold(0, |sum, z| sum.wrapping_add(*z))
+    }
+}
+
 /// How far an edge goes across and up.
 type Edge = (i64, i64);
 

@@ -10,13 +10,15 @@ pub type Run = fn(&[Case]) -> u64;
 /// Corners of all cases of a meter: too many branches for a processor to learn by heart.
 const POOL: usize = 32_768;
 
-/// Corners of a block of calls, which then takes some microseconds.
-const BLOCK: usize = 4_000;
+/// Corners of a block of calls: they fit into the nearest cache, and a block takes some microseconds.
+const BLOCK: usize = 2_000;
 
-/// The body of a `Run`: a loop with nothing in it but the call.
+/// The body of a `Run`: a loop with nothing in it but the call. The lists are read first, so that no
+/// way of answering waits for them.
 #[inline(always)]
 pub fn block<T>(cases: &[Case], ask: impl Fn(&Case, &mut [i32]) -> T) -> u64 {
     let mut out = [0; 1024];
+    black_box(cases.iter().map(Case::read).fold(0, i32::wrapping_add));
     let start = Instant::now();
     for case in cases {
         black_box(ask(case, &mut out));
