@@ -1,15 +1,15 @@
 -- A refusal carries at most three numbers, so whatever the answer would have, it crosses as the same four numbers and 0s.
-use mathlib.Core.Path.{_≡_, refl, _∙_, ap, sym}
+use mathlib.Core.Path.{_≡_, refl}
 use mathlib.Core.List.{[], _∷_, _++_}
 use Prim.Native.Nat.{ℕ}
-use lib.IntN.{ℤ, pos}
+use lib.IntN.{pos}
 use lib.ListN.{take}
 use Rattle.questions.specs.Answer.{ofRefusal}
 use Rattle.questions.specs.declared.answer.Refusal.{Refusal}
 use Rattle.questions.specs.declared.answer.Refusal.the-variants as Refusal
 use Rattle.exports.specs.Crossing.{crossed, crossedBehind}
 
-pub refusal-behind : (j : ℕ) (x : Refusal) → crossedBehind j 2 (ofRefusal x) ≡ take 4 (crossed 5 (ofRefusal x)) ++ pos 0 ∷ []
+pub refusal-behind : (j : ℕ) (x : Refusal) → crossedBehind j (ofRefusal x) ≡ take 4 (crossed 5 (ofRefusal x)) ++ pos 0 ∷ []
 refusal-behind j (Refusal.Count s) = refl
 refusal-behind j (Refusal.Corners s) = refl
 refusal-behind j (Refusal.Range s) = refl

@@ -3,13 +3,11 @@ ghost use mathlib.Core.Path.{_≡_};
 ghost use mathlib.Core.List.{[], _∷_, _++_};
 ghost use lib.IntN.{pos};
 ghost use lib.ListN.{take};
-ghost use Rattle.questions.specs.Answer.{ofRefusal, ofAnswer, ofFurthest, ofLength, ofWidth};
-ghost use Rattle.questions.specs.Answer.{ofRelation, ofInside, ofClearance, ofTangents};
-ghost use Rattle.exports.specs.Crossing.{crossed, crossedBehind};
+ghost use Rattle.questions.specs.Answer.{ofRefusal, ofAnswer, ofLength, ofWidth};
+ghost use Rattle.questions.specs.Answer.{ofRelation, ofInside, ofTangents};
+ghost use Rattle.exports.specs.Crossing.{crossed};
 ghost use Rattle.exports.specs.Numbers.{numbers, signedNumbers, lineNumbers};
 use questions::answer::Answer;
-use questions::answer::Clearance;
-use questions::answer::Furthest;
 use questions::answer::Inside;
 use questions::answer::Length;
 use questions::answer::Refusal;
@@ -30,7 +28,7 @@ pub struct Numbers {
     pub fifth: u64,
 }
 
-// The same for an answer whose last value may be below 0: that one stands behind the others.
+// As `Numbers`, for an answer whose last value may be below 0: that one stands behind the others.
 #[repr(C)]
 pub struct Signed {
     pub refusal: u64,
@@ -47,7 +45,7 @@ pub struct Line {
     pub to: u64,
 }
 
-// The same for four lines; the first one holds 4's edge and corner.
+// As `Numbers`, for an answer of four lines; of refusal 4 the first line holds the edge and the corner.
 #[repr(C)]
 pub struct Lines {
     pub refusal: u64,
@@ -150,6 +148,7 @@ pub fn of_width(answer: Width) -> Numbers
 }
 
 // 0 apart, 1 touching, 2 overlapping.
+// Ruled out: touching told as overlapping.
 pub fn of_relation(answer: Relation) -> Numbers
     ensures { λ r. ⌜ numbers r ≡ crossed 5 (ofRelation answer) ⌝ }
 {
@@ -176,7 +175,7 @@ pub fn of_inside(answer: Inside) -> Numbers
 }
 
 // A refusal where an answer would have a signed value.
-fn signed_refusal(refusal: Refusal) -> Signed
+pub fn signed_refusal(refusal: Refusal) -> Signed
     ensures { λ r. ⌜ signedNumbers r ≡ take 4 (crossed 5 (ofRefusal refusal)) ++ pos 0 ∷ [] ⌝ }
 {
     let told = refused(refusal);
@@ -186,34 +185,6 @@ fn signed_refusal(refusal: Refusal) -> Signed
         first: told.first,
         second: told.second,
         value: 0,
-    }
-}
-
-// Position and value.
-pub fn of_furthest(answer: Furthest) -> Signed {
-    match answer {
-        Furthest::At { position, value } => Signed {
-            refusal: 0,
-            shape: 0,
-            first: position as u64,
-            second: 0,
-            value,
-        },
-        Furthest::No(refusal) => signed_refusal(refusal),
-    }
-}
-
-// The squared clearance.
-pub fn of_clearance(answer: Clearance) -> Signed {
-    match answer {
-        Clearance::Squared(squared) => Signed {
-            refusal: 0,
-            shape: 0,
-            first: 0,
-            second: 0,
-            value: squared,
-        },
-        Clearance::No(refusal) => signed_refusal(refusal),
     }
 }
 

@@ -16,7 +16,9 @@ same-length : tie.Need-same-length
 same-length c = search needs
 
 returns : tie.Need-returns
-returns c = (c .of-answer .ensures ∙ ap (λ (x : Reply). crossed 5 x) (c .before .before .merge .ensures .0), c .before .before .merge .ensures .1)
+returns c =
+    let asked = c .before .before .merge .ensures in
+    (c .of-answer .ensures ∙ ap (λ (x : Reply). crossed 5 x) (asked .0), asked .1)
 
 pub cocklesway-merge-spec : {M : Type 1} → statement M
 cocklesway-merge-spec = tie.close (tie.spec merge-requires of-answer-requires same-length returns)

@@ -16,8 +16,9 @@ same-length : tie.Need-same-length
 same-length c = search needs
 
 returns : tie.Need-returns
-returns c = (c .of-answer .ensures ∙ ap (λ (x : Reply). crossed 5 x) (c .before .before .mirror .ensures .0), c .before .before .mirror .ensures .1)
+returns c =
+    let asked = c .before .before .mirror .ensures in
+    (c .of-answer .ensures ∙ ap (λ (x : Reply). crossed 5 x) (asked .0), asked .1)
 
 pub cocklesway-mirror-spec : {M : Type 1} → statement M
-cocklesway-mirror-spec =
-    tie.close (tie.spec mirror-requires of-answer-requires same-length returns)
+cocklesway-mirror-spec = tie.close (tie.spec mirror-requires of-answer-requires same-length returns)

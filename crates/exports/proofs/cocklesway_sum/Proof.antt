@@ -16,7 +16,9 @@ same-length : tie.Need-same-length
 same-length c = search needs
 
 returns : tie.Need-returns
-returns c = (c .of-answer .ensures ∙ ap (λ (x : Reply). crossed 5 x) (c .before .before .sum .ensures .0), c .before .before .sum .ensures .1)
+returns c =
+    let asked = c .before .before .sum .ensures in
+    (c .of-answer .ensures ∙ ap (λ (x : Reply). crossed 5 x) (asked .0), asked .1)
 
 pub cocklesway-sum-spec : {M : Type 1} → statement M
 cocklesway-sum-spec = tie.close (tie.spec sum-requires of-answer-requires same-length returns)

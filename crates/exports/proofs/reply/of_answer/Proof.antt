@@ -26,12 +26,4 @@ returns-2 : tie.Need-returns-2
 returns-2 c = c .refused .ensures ∙ ap (λ (x : Answer). crossed 5 (ofAnswer x)) (sym (c .before .before .answer2 .given .1))
 
 pub of-answer-spec : {M : Type 1} → statement M
-of-answer-spec =
-    tie.close
-    (tie.spec
-    enum-known-answer
-    pair-requires
-    enum-known-answer-2
-    refused-requires
-    returns
-    returns-2)
+of-answer-spec = tie.close (tie.spec enum-known-answer pair-requires enum-known-answer-2 refused-requires returns returns-2)

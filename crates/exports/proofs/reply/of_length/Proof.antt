@@ -23,5 +23,4 @@ returns-2 : tie.Need-returns-2
 returns-2 c = c .refused .ensures ∙ ap (λ (x : Length). crossed 5 (ofLength x)) (sym (c .before .before .answer2 .given .1))
 
 pub of-length-spec : {M : Type 1} → statement M
-of-length-spec =
-    tie.close (tie.spec enum-known-answer enum-known-answer-2 refused-requires returns returns-2)
+of-length-spec = tie.close (tie.spec enum-known-answer enum-known-answer-2 refused-requires returns returns-2)

@@ -46,16 +46,5 @@ returns-4 c = c .refused .ensures ∙ ap (λ (x : Relation). crossed 5 (ofRelati
 pub of-relation-spec : {M : Type 1} → statement M
 of-relation-spec =
     tie.close
-    (tie.spec
-    enum-told
-    pair-requires
-    enum-told-2
-    pair-requires-2
-    enum-told-3
-    pair-requires-3
-    enum-known-answer
-    refused-requires
-    returns
-    returns-2
-    returns-3
-    returns-4)
+    (tie.spec enum-told pair-requires enum-told-2 pair-requires-2 enum-told-3 pair-requires-3 enum-known-answer refused-requires returns
+    returns-2 returns-3 returns-4)

@@ -23,6 +23,4 @@ returns-2 : tie.Need-returns-2
 returns-2 c = c .lines-refusal .ensures ∙ ap (λ (x : Tangents). crossed 8 (ofTangents x)) (sym (c .before .before .answer2 .given .1))
 
 pub of-tangents-spec : {M : Type 1} → statement M
-of-tangents-spec =
-    tie.close
-    (tie.spec enum-known-answer enum-known-answer-2 lines-refusal-requires returns returns-2)
+of-tangents-spec = tie.close (tie.spec enum-known-answer enum-known-answer-2 lines-refusal-requires returns returns-2)

@@ -23,5 +23,4 @@ returns-2 : tie.Need-returns-2
 returns-2 c = c .refused .ensures ∙ ap (λ (x : Width). crossed 5 (ofWidth x)) (sym (c .before .before .answer2 .given .1))
 
 pub of-width-spec : {M : Type 1} → statement M
-of-width-spec =
-    tie.close (tie.spec enum-known-answer enum-known-answer-2 refused-requires returns returns-2)
+of-width-spec = tie.close (tie.spec enum-known-answer enum-known-answer-2 refused-requires returns returns-2)

@@ -112,37 +112,7 @@ returns-11 c = c .pair11 .ensures ∙ told (c .before .enum-told6 .given .1)
 pub refused-spec : {M : Type 1} → statement M
 refused-spec =
     tie.close
-    (tie.spec
-    enum-known-refusal
-    pair-requires
-    enum-known-refusal-2
-    pair-requires-2
-    enum-known-refusal-3
-    pair-requires-3
-    enum-known-refusal-4
-    pair-requires-4
-    enum-known-refusal-5
-    pair-requires-5
-    enum-told
-    pair-requires-6
-    enum-told-2
-    pair-requires-7
-    enum-told-3
-    pair-requires-8
-    enum-told-4
-    pair-requires-9
-    enum-told-5
-    pair-requires-10
-    enum-told-6
-    pair-requires-11
-    returns
-    returns-2
-    returns-3
-    returns-4
-    returns-5
-    returns-6
-    returns-7
-    returns-8
-    returns-9
-    returns-10
-    returns-11)
+    (tie.spec enum-known-refusal pair-requires enum-known-refusal-2 pair-requires-2 enum-known-refusal-3 pair-requires-3
+    enum-known-refusal-4 pair-requires-4 enum-known-refusal-5 pair-requires-5 enum-told pair-requires-6 enum-told-2 pair-requires-7
+    enum-told-3 pair-requires-8 enum-told-4 pair-requires-9 enum-told-5 pair-requires-10 enum-told-6 pair-requires-11 returns returns-2
+    returns-3 returns-4 returns-5 returns-6 returns-7 returns-8 returns-9 returns-10 returns-11)
