@@ -4,16 +4,44 @@ use crate::random::Random;
 use crate::reply::Numbers;
 use crate::shapes::List;
 use crate::{plain, proved};
-use std::collections::BTreeMap;
+use std::collections::BTreeSet;
 
-/// How often each question was answered, by its word and what was answered.
-pub struct Tally(BTreeMap<(&'static str, String), u64>);
+/// What must have been compared at least once: a question, and a refusal or the first value.
+const KINDS: [(&str, &str); 19] = [
+    ("judge", "no 1"),
+    ("judge", "no 2"),
+    ("judge", "no 3"),
+    ("judge", "no 4"),
+    ("judge", "no 5"),
+    ("sum", "ok"),
+    ("sum", "no 6"),
+    ("sum", "no 7"),
+    ("sum", "no 8"),
+    ("merge", "ok"),
+    ("merge", "no 6"),
+    ("merge", "no 8"),
+    ("width", "ok"),
+    ("width", "no 10"),
+    ("relation", "ok 0"),
+    ("relation", "ok 1"),
+    ("relation", "ok 2"),
+    ("inside", "ok 0"),
+    ("inside", "ok 1"),
+];
 
-/// Asks questions of made lists until so many were asked; says the first that differs.
-pub fn agree(seed: u64, questions: u64) -> Result<Tally, String> {
+/// The answers that were compared: how many, and of which kinds.
+#[derive(Default)]
+struct Tally {
+    answers: u64,
+    kinds: BTreeSet<(&'static str, String)>,
+}
+
+/// Asks questions of made lists until so many were answered, and says how many; or the first that
+/// differs, or a kind of answer that never came.
+pub fn agree(seed: u64, answers: u64) -> Result<u64, String> {
     let mut random = Random::new(seed);
-    let mut tally = Tally(BTreeMap::new());
-    while tally.asked() < questions {
+    let mut tally = Tally::default();
+    while tally.answers < answers {
         let mut a = shape(&mut random);
         let mut b = beside(&mut random, &a);
         match random.below(8) {
@@ -26,67 +54,57 @@ pub fn agree(seed: u64, questions: u64) -> Result<Tally, String> {
         ask_two(&mut tally, &b, &a)?;
         ask_written(&mut tally, &mut random, &a, &b)?;
     }
-    Ok(tally)
+    tally.missing().map_or(Ok(tally.answers), Err)
 }
 
 /// The questions of one shape.
 fn ask_one(tally: &mut Tally, a: &[i32]) -> Result<(), String> {
-    tally.add("judge", a, &[], plain::judge(a), proved::judge(a))?;
-    tally.add("length", a, &[], plain::length(a), proved::length(a))?;
-    tally.add("width", a, &[], plain::width(a), proved::width(a))
+    tally.add("judge", [a, &[]], plain::judge(a), proved::judge(a))?;
+    tally.add("length", [a, &[]], plain::length(a), proved::length(a))?;
+    tally.add("width", [a, &[]], plain::width(a), proved::width(a))
 }
 
 /// The questions of two shapes that write nothing.
 fn ask_two(tally: &mut Tally, a: &[i32], b: &[i32]) -> Result<(), String> {
     tally.add(
         "relation",
-        a,
-        b,
+        [a, b],
         plain::relation(a, b),
         proved::relation(a, b),
     )?;
-    tally.add("inside", a, b, plain::inside(a, b), proved::inside(a, b))
+    tally.add("inside", [a, b], plain::inside(a, b), proved::inside(a, b))
 }
 
-/// The questions that write, into outputs of any room; then whether the shapes are inside what was
-/// written, so that rims meet.
+/// A question that writes.
+type Writes = fn(&[i32], &[i32], &mut [i32]) -> Numbers;
+
+/// The questions that write, into outputs of any room; then others of what was written, since its
+/// rim meets that of both shapes.
 fn ask_written(tally: &mut Tally, random: &mut Random, a: &[i32], b: &[i32]) -> Result<(), String> {
-    type Writes = fn(&[i32], &[i32], &mut [i32]) -> Numbers;
     let both: [(&'static str, Writes, Writes); 2] = [
         ("sum", plain::sum, proved::sum),
         ("merge", plain::merge, proved::merge),
     ];
     for (word, by_hand, by_proof) in both {
-        let (room, answer) = (room(random, a, b, by_hand), random.bits() as i32);
-        let (mut out, mut other): (List, List) = (vec![answer; room], vec![answer; room]);
+        let before = vec![random.bits() as i32; room(random, a, b, by_hand)];
+        let (mut out, mut other): (List, List) = (before.clone(), before);
         let (one, two) = (by_hand(a, b, &mut out), by_proof(a, b, &mut other));
-        tally.add(word, a, b, one, two)?;
+        tally.add(word, [a, b], one, two)?;
         if out != other {
-            return Err(format!("{word} writes otherwise: {a:?} {b:?}"));
+            return Err(format!("{word} of {a:?} and {b:?}: the outputs differ"));
         }
         if one.refusal == 0 {
             let written = &out[..2 * one.values[0] as usize];
+            ask_one(tally, written)?;
             ask_two(tally, a, written)?;
             ask_two(tally, written, b)?;
-            tally.add(
-                "width",
-                written,
-                &[],
-                plain::width(written),
-                proved::width(written),
-            )?;
         }
     }
     Ok(())
 }
 
 /// How many numbers are lent: enough, as many as are needed, or fewer.
-fn room(
-    random: &mut Random,
-    a: &[i32],
-    b: &[i32],
-    ask: fn(&[i32], &[i32], &mut [i32]) -> Numbers,
-) -> usize {
+fn room(random: &mut Random, a: &[i32], b: &[i32], ask: Writes) -> usize {
     let needed = 2 * ask(a, b, &mut [0; 1024]).values[0] as usize;
     match random.below(8) {
         0 => needed,
@@ -102,8 +120,7 @@ impl Tally {
     fn add(
         &mut self,
         word: &'static str,
-        a: &[i32],
-        b: &[i32],
+        [a, b]: [&[i32]; 2],
         plain: Numbers,
         proved: Numbers,
     ) -> Result<(), String> {
@@ -115,23 +132,19 @@ impl Tally {
         let kind = match (plain.refusal, word) {
             (0, "relation" | "inside") => format!("ok {}", plain.values[0]),
             (0, _) => "ok".to_string(),
-            (no, _) if plain.shape > 0 => format!("no {no} shape {}", plain.shape),
-            (no, _) => format!("no {no}"),
+            (number, _) => format!("no {number}"),
         };
-        *self.0.entry((word, kind)).or_default() += 1;
+        self.answers += 1;
+        self.kinds.insert((word, kind));
         Ok(())
     }
 
-    /// How many questions were asked.
-    pub fn asked(&self) -> u64 {
-        self.0.values().sum()
-    }
-
-    /// How often each question was answered in each way, and all together.
-    pub fn print(&self) {
-        for ((word, kind), count) in &self.0 {
-            println!("{word:9} {kind:14} {count:8}");
-        }
-        println!("{} plain and proved answers agree", self.asked());
+    /// A kind that did not come.
+    fn missing(&self) -> Option<String> {
+        let came = |word, kind: &str| self.kinds.contains(&(word, kind.to_string()));
+        let &(word, kind) = KINDS.iter().find(|&&(word, kind)| !came(word, kind))?;
+        Some(format!(
+            "no {word} was answered `{kind}`: ask for more answers"
+        ))
     }
 }

@@ -21,8 +21,8 @@ fn usage() -> ExitCode {
 
 fn agreed(count: u64) -> ExitCode {
     match agree::agree(1, count) {
-        Ok(tally) => {
-            tally.print();
+        Ok(answers) => {
+            println!("{answers} plain and proved answers agree");
             ExitCode::SUCCESS
         }
         Err(difference) => {
