@@ -62,7 +62,7 @@ pub fn beside(random: &mut Random, a: &[i32]) -> List {
     }
 }
 
-/// The mirror image, begun anywhere.
+/// The mirror image, begun at its lowest corner.
 fn turned(a: &[i32]) -> List {
     let mut list: List = a.iter().map(|z| z.wrapping_neg()).collect();
     if let Some(k) = (0..list.len() / 2).min_by_key(|&k| (list[2 * k + 1], list[2 * k])) {
@@ -71,7 +71,7 @@ fn turned(a: &[i32]) -> List {
     list
 }
 
-/// A list that something was done to, most often so that it is refused.
+/// A list of one corner or more that something was done to, most often so that it is refused.
 pub fn spoilt(random: &mut Random, list: &[i32]) -> List {
     let mut list = list.to_vec();
     let n = list.len() as u64 / 2;
@@ -82,8 +82,8 @@ pub fn spoilt(random: &mut Random, list: &[i32]) -> List {
         1 => drop(list.pop()),
         2 => list = list.repeat(2),
         3 => list = list.repeat(1 + 600 / list.len().max(1)),
-        4 => list[k] = [1_000_001, -1_000_001, i32::MIN, i32::MAX][random.below(4) as usize],
-        5 => list[k + 1] = [1_000_001, -1_000_001, i32::MIN, i32::MAX][random.below(4) as usize],
+        4 => list[k + random.below(2) as usize] = FAR[random.below(4) as usize],
+        5 => list = at_rim(random, &list),
         6 => list.rotate_left(k),
         7 => list = list.chunks(2).rev().flatten().copied().collect(),
         8 => swap(&mut list, k, other),
@@ -92,6 +92,28 @@ pub fn spoilt(random: &mut Random, list: &[i32]) -> List {
         _ => between(&mut list, k),
     }
     list
+}
+
+/// Numbers out of range.
+const FAR: [i32; 4] = [1_000_001, -1_000_001, i32::MIN, i32::MAX];
+
+/// The list moved so that it just reaches the end of the range, or just passes it.
+fn at_rim(random: &mut Random, list: &[i32]) -> List {
+    let most = |axis| {
+        list.iter()
+            .skip(axis)
+            .step_by(2)
+            .max()
+            .copied()
+            .unwrap_or(0)
+    };
+    let by = |random: &mut Random, z: i32| 1_000_000 - z + random.below(2) as i32;
+    let (x, y) = (by(random, most(0)), by(random, most(1)));
+    if random.below(2) == 0 {
+        moved(list, x, 0)
+    } else {
+        moved(list, 0, y)
+    }
 }
 
 /// Exchanges two corners.

@@ -22,7 +22,7 @@ fn usage() -> ExitCode {
 fn agreed(count: u64) -> ExitCode {
     match agree::agree(1, count) {
         Ok(answers) => {
-            println!("{answers} plain and proved answers agree");
+            println!("bench: {answers} plain and proved answers agree");
             ExitCode::SUCCESS
         }
         Err(difference) => {
