@@ -1,5 +1,5 @@
-//! Shapes to measure questions on. All are in general position, and two of them never have an edge
-//! in common direction but by chance, so their edges follow one another without a pattern.
+//! Shapes to measure questions on. All are in general position, so the edges of two shapes follow
+//! one another without a pattern, and no processor can guess whose is next.
 use crate::plain;
 use crate::random::Random;
 use crate::shapes::{Case, List, moved, polygon};
@@ -81,7 +81,8 @@ pub fn nested(random: &mut Random, n: usize) -> Case {
     }
 }
 
-/// A shape and the same one moved to the right of it.
+/// A shape and the same one to the right of it: sum and merge are answered at any size, since their
+/// edges are parallel, and clearance and tangents do all their work.
 pub fn moved_away(random: &mut Random, n: usize) -> Case {
     let a = polygon(random, n, 400_000, -250_000, 0);
     let b = moved(&a, 500_000, 1000);

@@ -1,7 +1,8 @@
 //! Measures all rows of a table by turns, and prints it.
+use crate::pairs::moved_away;
 use crate::random::Random;
-use crate::rows::{GROWING, GROWTH, ROWS};
-use crate::timing::Meter;
+use crate::rows::{GROWTH, Make, ROWS};
+use crate::timing::{Meter, Run};
 
 /// Corners of the first table, proved beside plain.
 const SIZES: [usize; 3] = [32, 100, 500];
@@ -14,26 +15,22 @@ const SEED: u64 = 2026;
 
 /// For each question and size: proved and plain in microseconds, and their ratio.
 pub fn compare(rounds: usize) {
-    let meters = ROWS.iter().map(|row| {
-        let runs = [row.proved, row.plain];
-        SIZES.map(|n| meter(n, &runs, row.make))
-    });
-    println!("microseconds a call, proved and plain, and their ratio: two shapes have n and n - 4");
+    let meters = ROWS
+        .iter()
+        .map(|(_, runs, make)| SIZES.map(|n| meter(n, runs, *make)));
     println!(
-        "corners, but those of `sum` 256 and 250 in place of 500 and 496, and of `inside, yes`"
+        "microseconds a call, proved and plain, and their ratio; of two shapes one has 4 corners"
     );
-    println!("n - 4 and n");
+    println!("less, and at 500 those of `sum` have 256 and 250");
     println!();
     println!(
         "{:22}{}",
         "",
         SIZES.map(|n| format!("{n:>19} corners")).concat()
     );
-    for (row, times) in ROWS.iter().zip(measured(meters.collect(), rounds)) {
-        let cells = times
-            .iter()
-            .map(|t| format!("{:9.3}{:9.3}{:9.2}", t[0], t[1], t[0] / t[1]));
-        println!("{:22}{}", row.name, cells.collect::<String>());
+    for ((name, ..), times) in ROWS.iter().zip(measured(meters.collect(), rounds)) {
+        let cells = times.map(|t| format!("{:9.3}{:9.3}{:9.2}", t[0], t[1], t[0] / t[1]));
+        println!("{name:22}{}", cells.concat());
     }
 }
 
@@ -41,10 +38,13 @@ pub fn compare(rounds: usize) {
 pub fn grow(rounds: usize) {
     let meters = GROWTH
         .iter()
-        .map(|&(_, run)| STEPS.map(|n| meter(n, &[run], GROWING)));
-    println!("microseconds a call, proved: 4 is linear, 16 quadratic");
+        .map(|&(_, run)| STEPS.map(|n| meter(n, &[run], moved_away)));
+    println!("microseconds a call, proved; a ratio of 4 is linear, one of 16 quadratic");
     println!();
-    println!("{:22}{:>9}{:>9}{:>9}", "", STEPS[0], STEPS[1], "ratio");
+    println!(
+        "{:22}{:>9}{:>9}{:>9}",
+        "corners", STEPS[0], STEPS[1], "ratio"
+    );
     for ((name, _), times) in GROWTH.iter().zip(measured(meters.collect(), rounds)) {
         let (few, many) = (times[0][0], times[1][0]);
         println!("{name:22}{few:9.3}{many:9.3}{:9.2}", many / few);
@@ -52,11 +52,7 @@ pub fn grow(rounds: usize) {
 }
 
 /// A meter of n corners.
-fn meter(
-    n: usize,
-    runs: &[crate::timing::Run],
-    make: fn(&mut Random, usize) -> crate::shapes::Case,
-) -> Meter {
+fn meter(n: usize, runs: &[Run], make: Make) -> Meter {
     let mut random = Random::new(SEED);
     Meter::new(n, runs, || make(&mut random, n))
 }
