@@ -102,10 +102,11 @@ fn turn(e: Edge, f: Edge) -> i64 {
 
 /// The edges end to end, moved so that the middle of what they span is (x, y).
 fn laid(edges: &[Edge], x: i32, y: i32) -> List {
-    let mut corners = vec![(0, 0)];
-    for (e, at) in edges.iter().zip(1..edges.len().max(1)) {
-        let last: Edge = corners[at - 1];
-        corners.push((last.0 + e.0, last.1 + e.1));
+    let mut at = (0, 0);
+    let mut corners = vec![at];
+    for e in &edges[..edges.len().saturating_sub(1)] {
+        at = (at.0 + e.0, at.1 + e.1);
+        corners.push(at);
     }
     let middle = |axis: fn(&Edge) -> i64| {
         let all = corners.iter().map(axis);

@@ -1,5 +1,6 @@
 //! Inside: for each edge of the second shape, the corner of the first that is least to its left.
 use super::corner::{Corner, cross, edge};
+use super::edges::Edges;
 use super::judge::admitted_pair;
 use crate::reply::Numbers;
 
@@ -32,20 +33,14 @@ fn on_segment(p: Corner, from: Corner, to: Corner) -> bool {
 /// second lead to the corner that is least to its left.
 #[inline(always)]
 fn around(a: &[Corner], b: &[Corner]) -> bool {
-    let n = a.len();
-    let at = |i: usize| a[if i < n { i } else { i - n }];
-    let mut i = 0;
-    let mut corner = a[0];
-    let mut e = edge(corner, at(1));
+    let mut inner = Edges::of(a, 0);
     let mut from = b[0];
     for &to in b[1..].iter().chain(&b[..1]) {
-        let f = edge(from, to);
-        while i < n && cross(e, f) > 0 {
-            i += 1;
-            corner = at(i);
-            e = edge(corner, at(i + 1));
+        let rim = edge(from, to);
+        while inner.more() && cross(inner.edge, rim) > 0 {
+            inner.step();
         }
-        if cross(f, edge(from, corner)) < 0 {
+        if cross(rim, edge(from, inner.corner)) < 0 {
             return false;
         }
         from = to;
