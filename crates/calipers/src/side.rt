@@ -10,7 +10,7 @@ ghost use Rattle.plane.specs.Refusal.{InRange};
 ghost use Rattle.plane.specs.Turn.{cross};
 ghost use Rattle.plane.specs.Direction.{value};
 ghost use Rattle.plane.specs.Measure.{squared as Measure·squared};
-ghost use Rattle.plane.specs.Forms.{edges};
+ghost use Rattle.plane.specs.Forms.{up, edges};
 ghost use Rattle.polygon.specs.Point.{at, Small};
 ghost use Rattle.calipers.specs.Side.{cornerOf, nextOf, onward, Stands, Carried};
 use crate::edges;
@@ -28,6 +28,21 @@ pub struct Side {
     pub y: i64,
     pub run: i64,
     pub rise: i64,
+}
+
+impl Side {
+    // Whether the next edge points up, or level to the right.
+    pub fn is_up(self) -> bool
+        ensures { λ r. ⌜ r ≡ up (nextOf self) ⌝ }
+    {
+        if 0 < self.rise {
+            return true;
+        }
+        if self.rise < 0 {
+            return false;
+        }
+        0 < self.run
+    }
 }
 
 // The side with i edges passed.

@@ -20,10 +20,10 @@ returns : tie.Need-returns
 returns c = λ t. point-shape _ (sym (c .before .count .ensures) ∙ c .if1 .taken)
 
 stretch-requires : tie.Need-stretch-requires
-stretch-requires c κs = (omega arith, c .before .before .pre .0)
+stretch-requires c κs = (omega arith, c .before .before .pre .0, c .before .before .pre .1)
 
 stretch-requires-2 : tie.Need-stretch-requires-2
-stretch-requires-2 c κs = (c .stretch .ensures .ends, c .before .before .before .pre .0)
+stretch-requires-2 c κs = let pre = c .before .before .before .pre in (c .stretch .ensures .ends, pre .0, pre .1)
 
 returns-2 : tie.Need-returns-2
 returns-2 c = λ t. absurd (false≢true t)
