@@ -16,7 +16,7 @@ use Rattle.plane.specs.Point.{Point, point, points, corner, origin}
 use Rattle.plane.specs.Forms.{edges}
 use Rattle.plane.specs.Cycle.{cornerRound}
 use Rattle.calipers.specs.declared.side.Side.{Side}
-use Rattle.calipers.specs.declared.walk.Walk.{Walk}
+use Rattle.calipers.specs.Walk.{Walk}
 
 abbrev pub cornerOf : Side → Point
 cornerOf s = point (s .x) (s .y)

@@ -1,6 +1,6 @@
 -- The caliper walk round two shapes (document 01, "Sum"; its language form names the walk by value).
 -- The edges of both are passed in the order of their directions; two that point the same way are passed in one step.
---     edge A i          the edge that leaves corner i
+--     Walk              a place of it
 --     here A B w        the corner of the sum at which the walk stands; after the last corner of a shape comes its first again
 --     begun             where it begins
 --     takes, passed     whether the next step passes edge i of A, and how many are passed after it; finished: all edges of both are
@@ -22,10 +22,13 @@ use Rattle.plane.specs.VectorSum.{path, joinEdges}
 use Rattle.plane.specs.Cycle.{cornerRound}
 use Rattle.calipers.specs.Places.{takes as Standing·takes, passed as Standing·passed, Standing, Place, placesFrom}
 use Rattle.calipers.specs.Places.{finished as Places·finished}
-use Rattle.calipers.specs.declared.walk.Walk.{Walk}
 
-abbrev pub edge : List Point → ℕ → Point
-edge A i = corner (edges A) i
+-- i edges of the first shape and j of the second are passed; it is over when all corners are visited: two points have no edge, and one
+-- corner to visit
+pub record Walk : Type 0 where
+  pub i : ℕ
+  pub j : ℕ
+  pub over : Bool
 
 unfoldable pub here : List Point → List Point → Walk → Point
 here A B w = cornerRound A (w .i) ⊕ cornerRound B (w .j)

@@ -3,7 +3,6 @@
 pub mod edges;
 pub mod side;
 pub mod sorted;
-pub mod walk;
 
 ghost use Prim.Native.Nat.{_+_, _≤_};
 ghost use lib.ListN.{length};

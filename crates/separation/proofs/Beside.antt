@@ -24,11 +24,10 @@ use Rattle.plane.specs.Separation.{inside}
 use Rattle.plane.specs.theory.sum.Positions.{edges-some, edges-at-most}
 use Rattle.polygon.specs.Point.{at}
 use Rattle.calipers.specs.declared.side.Side.{Side}
-use Rattle.calipers.specs.declared.walk.Walk.{Walk}
 use Rattle.calipers.specs.Places.{takes, passed}
 use Rattle.calipers.specs.Side.{cornerOf, nextOf, onward, Carried, walkOf}
 use Rattle.calipers.specs.Walk as Walk
-use Rattle.calipers.specs.Walk.{begun, advanced, At}
+use Rattle.calipers.specs.Walk.{Walk, begun, advanced, At}
 use Rattle.calipers.specs.theory.Standing.{Taken, takes-taken, passed-taken, passed-waits, Step, ended, left, right, both, step}
 use Rattle.calipers.specs.theory.Sides.{onward-inner}
 use Rattle.calipers.specs.theory.Steps.{at-begin}

@@ -20,8 +20,7 @@ use Rattle.plane.specs.Separation.{notLeft}
 use Rattle.plane.specs.VectorSum.{vectorSum}
 use Rattle.plane.specs.theory.lists.Sought.{some-here}
 use Rattle.separation.specs.theory.Rim.{notLeft-cross}
-use Rattle.calipers.specs.declared.walk.Walk.{Walk}
-use Rattle.calipers.specs.Walk.{here, begun, advanced, stepped, At}
+use Rattle.calipers.specs.Walk.{Walk, here, begun, advanced, stepped, At}
 use Rattle.calipers.specs.theory.Steps.{at-stepped}
 use Rattle.plane.specs.Search.{some}
 use Rattle.separation.specs.Around.{crossAt, rightOf, Passed}

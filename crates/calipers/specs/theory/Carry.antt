@@ -1,6 +1,7 @@
 -- A walk with carried sides goes as the walk of its definition: the recipe for the invariant of a loop that walks.
 -- An invariant of the walk's place w becomes that of `walkOf s t over`, and with it stand `Carried a s` and `Carried b t`.
 --     all-passed, some-left      whether all edges are passed, by the count of those that are
+--     here-small          the corner of the sum may be multiplied
 --     sides-walk          sides at a walk's positions have its place
 --     sides-here          the corner of the sum is the sum of the two corners
 --     first-next, second-next, corners-fit, edges-fit      what the functions on sides ask for
@@ -23,12 +24,12 @@ use Rattle.plane.specs.Refusal.{InRange}
 use Rattle.plane.specs.Forms.{edges}
 use Rattle.plane.specs.theory.forms.Vector.{cross-swap}
 use Rattle.plane.specs.theory.lists.Sought.{tests-agree}
-use Rattle.plane.specs.theory.sum.Positions.{shape-in-order}
+use Rattle.plane.specs.theory.sum.Positions.{shape-in-order, round-within, edges-at-most}
 use Rattle.polygon.specs.Point.{Small}
+use Rattle.polygon.specs.theory.Small.{small-corner, small-plus}
 use Rattle.calipers.specs.declared.side.Side.{Side}
-use Rattle.calipers.specs.declared.walk.Walk.{Walk}
 use Rattle.calipers.specs.Side.{cornerOf, nextOf, onward, Carried, walkOf}
-use Rattle.calipers.specs.Walk.{here, passed, finished, advanced, At}
+use Rattle.calipers.specs.Walk.{Walk, here, passed, finished, advanced, At}
 use Rattle.calipers.specs.theory.Places.{finished-all}
 use Rattle.calipers.specs.theory.Standing.{standing-swap}
 use Rattle.calipers.specs.theory.Steps.{at-advanced}
@@ -59,6 +60,14 @@ module _ (A B : List Point) where
       go : (b : Bool) → finished A i B j ≡ b → b ≡ false
       go true e = let r = finished-all (edges A) (edges B) i j e in absurd (l (omega (arith, r .0, r .1)))
       go false e = refl
+
+-- the corner of the sum may be multiplied
+pub here-small : {a b : List ℤ} {w : Walk} → At a b w → {p : Point} → p ≡ here (points a) (points b) w → Small (2 ^ 22) p
+unfolding here
+here-small {a} {b} {w} t e =
+    let first = round-within (length (points a)) (w .i) (t .first-shape .some) (omega (arith, edges-at-most (points a), t .standing .left-in)) in
+    let second = round-within (length (points b)) (w .j) (t .second-shape .some) (omega (arith, edges-at-most (points b), t .standing .right-in)) in
+    small-plus (small-corner a (t .first-near) _ first refl) (small-corner b (t .second-near) _ second refl) e
 
 pub sides-walk : (w : Walk) (s t : Side) → s .at ≡ w .i → t .at ≡ w .j → walkOf s t (w .over) ≡ w
 sides-walk w s t h k = ap₂ (λ (i j : ℕ). record { i = i; j = j; over = w .over }) h k

@@ -24,7 +24,9 @@ use Rattle.polygon.specs.Point.{Small}
 use Rattle.polygon.specs.theory.Small.{small-corner, small-edge, small-wide}
 use Rattle.calipers.specs.declared.side.Side.{Side}
 use Rattle.calipers.specs.Side.{cornerOf, nextOf, onward, Stands, Carried}
-use Rattle.calipers.specs.theory.EdgeAt.{edge-start}
+
+edge-start : (A : List Point) (i : ℕ) → i < length (edges A) → i < length A
+edge-start A i h = omega (arith, edges-at-most A)
 
 pub onward-end : (A : List Point) (i : ℕ) → length (edges A) ≤ i → onward A i ≡ i
 onward-end A i h = rw (le-ltb i (length (edges A)) h)

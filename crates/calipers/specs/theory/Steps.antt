@@ -23,9 +23,8 @@ use Rattle.plane.specs.theory.sum.Positions.{shape-in-order}
 use Rattle.calipers.specs.Places.{place, placesFrom, places}
 use Rattle.calipers.specs.theory.Places.{places-here}
 use Rattle.calipers.specs.theory.PlaceCorners.{cornerAt, placesFrom-corners}
-use Rattle.calipers.specs.declared.walk.Walk.{Walk}
 use Rattle.calipers.specs.theory.Standing.{standing-start, standing-advance}
-use Rattle.calipers.specs.Walk.{here, begun, passed, finished, advanced, stepped, ahead, remaining, At}
+use Rattle.calipers.specs.Walk.{Walk, here, begun, passed, finished, advanced, stepped, ahead, remaining, At}
 
 module _ (A B : List Point) where
   pub remaining-over : (w : Walk) → w .over ≡ true → remaining A B w ≡ []

@@ -13,9 +13,8 @@ use Rattle.plane.specs.Shape.{next}
 use Rattle.plane.specs.Direction.{value}
 use Rattle.plane.specs.VectorSum.{vectorSum}
 use Rattle.polygon.specs.theory.Small.{small-plus}
-use Rattle.calipers.specs.declared.walk.Walk.{Walk}
 use Rattle.calipers.specs.Side.{walkOf}
-use Rattle.calipers.specs.Walk.{begun, At}
+use Rattle.calipers.specs.Walk.{Walk, begun, At}
 use Rattle.calipers.specs.theory.Carry.{sides-walk, sides-here, sides-advanced, sides-at, first-next, second-next, corners-fit, edges-fit}
 use Rattle.separation.specs.Around.{placedFew}
 use Rattle.separation.proofs.Passing.{Passing, passing-start, passing-at, passing-corners}

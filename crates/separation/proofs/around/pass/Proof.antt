@@ -16,9 +16,8 @@ use Rattle.plane.specs.VectorSum.{vectorSum}
 use Rattle.polygon.specs.Point.{at}
 use Rattle.calipers.specs.Side.{Carried, walkOf}
 use Rattle.calipers.specs.Walk.{here, begun, finished, advanced, At}
-use Rattle.calipers.specs.theory.EdgeAt.{here-small}
 use Rattle.calipers.specs.theory.Carry.{all-passed, some-left, sides-walk, sides-here, sides-advanced, sides-at}
-use Rattle.calipers.specs.theory.Carry.{first-next, second-next, corners-fit, edges-fit}
+use Rattle.calipers.specs.theory.Carry.{here-small, first-next, second-next, corners-fit, edges-fit}
 use Rattle.separation.proofs.Passing.{
   Passing,
   passing-start,
