@@ -1,9 +1,9 @@
 // Inner functions: a chain of two shapes, from the rows of their corners that may stand on it.
-ghost use Prim.Native.Nat.{_+_, _-_, _^_, _≤_};
+ghost use Prim.Native.Nat.{_+_, _-_, _^_, _<_, _≤_};
 ghost use lib.ListN.{length};
 ghost use Rattle.plane.specs.Point.{points};
 ghost use Rattle.polygon.specs.Point.{at, Small};
-ghost use Rattle.hull.specs.Buffer.{SmallTo, Scanned, Chained};
+ghost use Rattle.hull.specs.Buffer.{SmallTo, Scanned, Stepped, Chained};
 ghost use Rattle.hull.specs.Order.{closed, run, leftOver, inOrder, Line, Rising};
 use crate::order;
 use crate::rows;
@@ -11,6 +11,13 @@ use crate::rows::Row;
 use crate::scan;
 use polygon::corners;
 use polygon::point::Point;
+
+// Where two rows go on, and how many corners are kept.
+pub struct Step {
+    pub first: usize,
+    pub second: usize,
+    pub kept: usize,
+}
 
 // Writes the chain from one point to another, without the second, at the front of the buffer; says how many corners it
 // has. The corners of two rows lie between the two points, and each row runs up, or down.
@@ -52,14 +59,37 @@ fn both(a: &[i32], row: Row, b: &[i32], other: Row, up: bool, buf: &mut [i32]) -
         if other.end <= j {
             return rest(a, i, row.end, buf, k);
         }
-        let p = rows::closed_at(a, i);
-        let q = rows::closed_at(b, j);
-        let c = rows::order(up, p, q);
-        k = scan::push(buf, k, rows::pick(c <= 0, p, q));
-        i = order::after(c <= 0, i);
-        j = order::after(0 <= c, j);
+        let next = push_next(a, i, b, j, up, buf, k);
+        i = next.first;
+        j = next.second;
+        k = next.kept;
     }
     rest(b, j, other.end, buf, k)
+}
+
+// Pushes the next corner of two rows on the first k corners of the buffer.
+fn push_next(a: &[i32], i: usize, b: &[i32], j: usize, up: bool, buf: &mut [i32], k: usize) -> Step
+    requires { ⌜ Line (now a) (i + 1) × Line (now b) (j + 1) × (k < length (points (now buf))) × SmallTo (now buf) k ⌝ }
+    ensures { λ r. ⌜ Stepped up (closed (points (now (a .entry)))) i (closed (points (now (b .entry)))) j
+        (now (buf .entry)) (now (buf .exit)) k (r .first) (r .second) (r .kept) ⌝ }
+{
+    let p = rows::closed_at(a, i);
+    let q = rows::closed_at(b, j);
+    let c = rows::order(up, p, q);
+    if c <= 0 {
+        let kept = scan::push(buf, k, p);
+        return Step {
+            first: i + 1,
+            second: order::after(0 <= c, j),
+            kept,
+        };
+    }
+    let kept = scan::push(buf, k, q);
+    Step {
+        first: i,
+        second: j + 1,
+        kept,
+    }
 }
 
 // Pushes the corners from one position up to another on the first k corners of the buffer; answers how many stand there

@@ -1,6 +1,6 @@
 // Inner functions: the corners of a shape that may stand on a chain. A chain up is the right-hand one, from the least
 // corner of all to the greatest; a chain down is the left-hand one, from there back.
-ghost use mathlib.Core.Bool.{true, cond};
+ghost use mathlib.Core.Bool.{true};
 ghost use mathlib.Core.Path.{_≡_};
 ghost use Prim.Native.Nat.{_+_, _^_, _<_, _≤_};
 ghost use lib.ListN.{length};
@@ -87,7 +87,10 @@ pub fn foremost(up: bool, a: &[i32], i: usize, b: &[i32], j: usize) -> Point
 {
     let p = corners::corner_at(a, i);
     let q = corners::corner_at(b, j);
-    pick(order(up, p, q) <= 0, p, q)
+    if order(up, p, q) <= 0 {
+        return p;
+    }
+    q
 }
 
 // Which of two points comes first on the way up, or down: below 0 if it is p, above 0 if it is q, 0 if they are equal.
@@ -108,11 +111,4 @@ fn ascent(p: Point, q: Point) -> i32
         return 1;
     }
     0
-}
-
-// The point p or q.
-pub fn pick(first: bool, p: Point, q: Point) -> Point
-    ensures { λ r. ⌜ at r ≡ cond first (at p) (at q) ⌝ }
-{
-    if first { p } else { q }
 }
