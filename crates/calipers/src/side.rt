@@ -16,7 +16,6 @@ ghost use Rattle.calipers.specs.Side.{cornerOf, nextOf, onward, Stands, 
 use crate::edges;
 use polygon::corners;
 use polygon::point::Point;
-use polygon::rules;
 
 // How many edges of a shape are passed, of how many, the corner (x, y) there, and the next edge (run, rise), which is
 // (0, 0) where none is left. The parts have the width of their products, and are no points: each has a register of its
@@ -74,10 +73,21 @@ fn onto(list: &[i32], s: Side) -> Side
     requires { ⌜ Stands (now list) s × InRange (now list) × (0 < length (points (now list))) ⌝ }
     ensures { λ r. ⌜ (r .at ≡ s .at) × Carried (now (list .entry)) r ⌝ }
 {
+    if s.at + 1 < s.end {
+        return facing(s, corners::corner_at(list, s.at + 1));
+    }
+    closing(list, s)
+}
+
+// The same at the last edge, which leads back to the first corner, and past it.
+fn closing(list: &[i32], s: Side) -> Side
+    requires { ⌜ Stands (now list) s × InRange (now list) × (0 < length (points (now list))) × (s .end ≤ s .at + 1) ⌝ }
+    ensures { λ r. ⌜ (r .at ≡ s .at) × Carried (now (list .entry)) r ⌝ }
+{
     if s.at == s.end {
         return s;
     }
-    facing(s, corners::corner_at(list, rules::next(s.end, s.at)))
+    facing(s, corners::corner_at(list, 0))
 }
 
 // At a corner, with no edge.

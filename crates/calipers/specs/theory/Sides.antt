@@ -1,15 +1,16 @@
 -- A side of a walk: how it is made, and that its numbers are small.
---     edge-to, edge-none              the edge that leaves a corner, and past the last one
+--     edge-inner, edge-last           the edge that leaves a corner, and the one back to the first; `edge-none`: past it
+--     carried-to                      a side that stands at a corner, with its edge
 --     along-edge                      the corner where it ends
 --     corner-fits, edge-adds          its corner and its edge may be added; `edge-fits`: its edge may be multiplied
 --     round-end                       behind the last edge stands the first corner again
 --     onward-end, onward-inner        one edge on where none is left, and where one is
-use mathlib.Core.Path.{_≡_, refl, sym, _∙_, ap₂, subst}
+use mathlib.Core.Path.{_≡_, refl, sym, _∙_, ap, ap₂, subst}
 use mathlib.Core.Bool.{Bool, true, false}
 use mathlib.Core.List.{List}
 use Prim.Native.Nat.{ℕ, _+_, _^_, _≤_, _<_}
 use native.Mathlib.Omega.{arith}
-use borrow.Author.Tests.{ltb-true, ltb-false, lt-ltb, le-ltb, eq-eqb}
+use borrow.Author.Tests.{ltb-true, ltb-false, lt-ltb, le-ltb, eq-eqb, ne-eqb}
 use lib.Dec.{ltb, lit≤}
 use lib.IntN.{ℤ}
 use lib.ListN.{length, List·getD-eq-default}
@@ -42,12 +43,23 @@ round-end A some = go (ltb 1 (length A)) refl
     go false e = let few = edges-few A (ltb-false 1 (length A) e) in rw few (round-inner (length A) 0 some)
 
 -- the edge from the corner at hand to the next on the way round
-pub edge-to : (A : List Point) (n i : ℕ) → n ≡ length (edges A) → i < n
+edge-to : (A : List Point) (n i : ℕ) → n ≡ length (edges A) → i < n
     → corner A (next n i) ⊖ cornerRound A i ≡ corner (edges A) i
 edge-to A n i e h =
     let all = edge-corners A i (omega arith) in
     ap₂ (λ (m k : ℕ). corner A (next m i) ⊖ corner A k) (e ∙ all) (round-inner (length A) i (omega arith))
     ∙ sym (edge-at A i (omega arith))
+
+-- that is the position behind, and after the last corner the first
+pub edge-inner : (A : List Point) (n i : ℕ) → n ≡ length (edges A) → i + 1 < n → corner A (i + 1) ⊖ cornerRound A i ≡ corner (edges A) i
+edge-inner A n i e h =
+    let on : next n i ≡ i + 1 = rw (ne-eqb (i + 1) n (λ q. omega arith)) in
+    ap (λ (k : ℕ). corner A k ⊖ cornerRound A i) (sym on) ∙ edge-to A n i e (omega arith)
+
+pub edge-last : (A : List Point) (n i : ℕ) → n ≡ length (edges A) → i + 1 ≡ n → corner A 0 ⊖ cornerRound A i ≡ corner (edges A) i
+edge-last A n i e h =
+    let home : next n i ≡ 0 = rw (eq-eqb (i + 1) n h) in
+    ap (λ (k : ℕ). corner A k ⊖ cornerRound A i) (sym home) ∙ edge-to A n i e (omega arith)
 
 pub edge-none : (A : List Point) (n i : ℕ) → n ≡ length (edges A) → i ≡ n → corner (edges A) i ≡ origin
 edge-none A n i e h = List·getD-eq-default (edges A) origin (omega arith)
@@ -82,3 +94,14 @@ stands-fits {l} {s} r some c = small-corner l r (round (length (points l)) (s .a
 pub along-edge : {l : List ℤ} {s : Side} → Carried l s → s .at < length (edges (points l))
     → cornerOf s ⊕ nextOf s ≡ cornerRound (points l) (s .at + 1)
 along-edge {l} {s} c h = ap₂ _⊕_ (c .corner-is) (c .edge-is) ∙ sym (round-step (points l) (s .at) h)
+
+-- the side r that s becomes where its edge is known
+pub carried-to : {l : List ℤ} {s r : Side} (p : Point) → Stands l s
+    → (r .at ≡ s .at) × (r .end ≡ s .end) × (cornerOf r ≡ cornerOf s) × (nextOf r ≡ p ⊖ cornerOf s)
+    → p ⊖ cornerRound (points l) (s .at) ≡ corner (edges (points l)) (s .at) → Carried l r
+carried-to {l} {s} {r} p c made e = record {
+  at-in = omega (arith, made .0, c .at-in);
+  end-is = made .1 ∙ c .end-is;
+  corner-is = made .2 ∙ c .corner-is ∙ ap (cornerRound (points l)) (sym (made .0));
+  edge-is = made .3 ∙ ap (λ (q : Point). p ⊖ q) (c .corner-is) ∙ e ∙ ap (corner (edges (points l))) (sym (made .0));
+}
