@@ -31,12 +31,12 @@ use Rattle.calipers.specs.theory.Sides.{onward-inner}
 use Rattle.measure.specs.declared.narrowest.Across.{Across}
 use Rattle.measure.specs.Comparison.{Measured, Width, none}
 use Rattle.measure.specs.Half.{goesRight, HalfStep, right, left}
-use Rattle.measure.specs.Scan.{HalfAt, Fits, measuredAt, isNarrower, narrowerOf, Best}
+use Rattle.measure.specs.Scan.{HalfAt, Fits, measuredAt, Chosen, stays, gives-way, Best}
 use Rattle.measure.specs.theory.Height.{value-nonneg, edgeSquared-value}
 use Rattle.measure.specs.theory.Passed.{turn-right, turn-left}
 use Rattle.measure.specs.theory.Narrowest.{More}
-use Rattle.measure.specs.theory.WidthScan.{width-keep, width-replace, width-level, width-same}
-use Rattle.measure.proofs.Stepped.{half-edges, half-corners, half-moved, half-next}
+use Rattle.measure.specs.theory.WidthScan.{width-keep, width-replace, width-same}
+use Rattle.measure.proofs.Stepped.{half-edges, half-corners, half-on}
 
 -- the edges passed at place (i, m), for top t
 abbrev pub passedAt : ℕ → ℕ → ℕ → ℕ → Type 0
@@ -89,20 +89,13 @@ module _ {l : List ℤ} {s t : Side} (shape : IsShape (points l)) (a : Carried l
         ∙ sym (pos-natAbs _ (yes-nonNeg (value-nonneg (at (s .edge)))));
   }
 
--- ---- the narrower of two
+-- ---- the better of two
 
-module _ {A : List Point} (shape : IsShape A) (three : 2 < length A) {P Q : ℕ → Type 0} {best found : Across} (h : found .edge < length A)
+module _ {A : List Point} (shape : IsShape A) (three : 2 < length A) {P Q : ℕ → Type 0} {best found r : Across} (h : found .edge < length A)
     (more : More P Q (found .edge)) (w : BestOf A P best) (m : MeasuredAt A found) where
-  narrower-best : BestOf A Q (narrowerOf best found)
-  unfolding narrowerOf
-  narrower-best = go (isNarrower best found) refl (isNarrower found best) refl (ltb (found .edge) (best .edge)) refl
-    where
-      go : (x : Bool) → isNarrower best found ≡ x → (y : Bool) → isNarrower found best ≡ y → (z : Bool) → ltb (found .edge) (best .edge) ≡ z
-          → BestOf A Q (cond x best (cond y found (cond z found best)))
-      go true e y f z g = width-keep shape three h more w m e
-      go false e true f z g = width-replace shape three h more w m f
-      go false e false f true g = width-level shape three h more w m e f .0 (ltb-true (found .edge) (best .edge) g)
-      go false e false f false g = width-level shape three h more w m e f .1 (ltb-false (found .edge) (best .edge) g)
+  chosen-best : Chosen best found r → BestOf A Q r
+  chosen-best (stays e n) = subst (BestOf A Q) (sym e) (width-keep shape three h more w m (n .no-narrower) (n .no-earlier))
+  chosen-best (gives-way e n) = subst (BestOf A Q) (sym e) (width-replace shape three h more w m (n .no-narrower) (n .no-earlier))
 
 -- ---- the edges passed
 
@@ -188,32 +181,33 @@ module _ {l : List ℤ} {top end : ℕ} where
           {s′ t′ : Side} (a : (s′ .at ≡ cond (not w) (s .at) (onward (points l) (s .at))) × Carried l s′)
           (b : (t′ .at ≡ cond w (t .at) (onward (points l) (t .at))) × Carried l t′) where
         step : HalfStep (points l) top (s .at) (t .at) (s′ .at) (t′ .at)
-        step = half-moved (g .half) (g .sides) on told a b
+        step = half-on (g .half) (g .sides) on told a b .0
 
-        passed : (v : Bool) → w ≡ v
-            → BestOf (points l) (passedAt top (s′ .at) (t′ .at)) (narrowerOf best (measuredAt (cond v s t) (cond v t s)))
+        passed : {r : Across} (v : Bool) → w ≡ v → Chosen best (measuredAt (cond v s t) (cond v t s)) r
+            → BestOf (points l) (passedAt top (s′ .at) (t′ .at)) r
         unfolding measuredAt
-        passed true e =
+        passed true e k =
             let inside : s .at < length (edges (points l)) = omega (arith, all, g .half .antipodal .right-in, g .half .chains .within) in
             let more : s′ .at ≡ s .at + 1 = rw e at (a .0) ∙ onward-inner (points l) (s .at) inside in
             let still : t′ .at ≡ t .at = rw e at (b .0) in
-            rw (more, still) (narrower-best shape (g .three) (omega (arith, all)) (right-more top (s .at) (t .at)) (g .best-so-far)
+            rw (more, still) (chosen-best shape (g .three) (omega (arith, all)) (right-more top (s .at) (t .at)) (g .best-so-far)
             (measured shape (g .half .right-side) (g .half .left-side) inside
-            (turn-right shape (g .half .chains) (g .half .antipodal) step (omega (arith, more)))))
-        passed false e =
+            (turn-right shape (g .half .chains) (g .half .antipodal) step (omega (arith, more)))) k)
+        passed false e k =
             let still : s′ .at ≡ s .at = rw e at (a .0) in
             let inside = left-inside step still in
             let more : t′ .at ≡ t .at + 1 = rw e at (b .0) ∙ onward-inner (points l) (t .at) inside in
-            rw (more, still) (narrower-best shape (g .three) (omega (arith, all)) (left-more top (s .at) (t .at) (g .half .antipodal .left-from))
-            (g .best-so-far) (measured shape (g .half .left-side) (g .half .right-side) inside
-            (turn-left shape (g .half .chains) (g .half .antipodal) step (omega (arith, more)))))
+            rw (more, still) (chosen-best shape (g .three) (omega (arith, all))
+            (left-more top (s .at) (t .at) (g .half .antipodal .left-from)) (g .best-so-far)
+            (measured shape (g .half .left-side) (g .half .right-side) inside
+            (turn-left shape (g .half .chains) (g .half .antipodal) step (omega (arith, more)))) k)
 
-        pub sweep-next : {found r : Across} → found ≡ measuredAt x y → r ≡ narrowerOf best found → Sweep l top end s′ t′ r
-        sweep-next u v = record {
-          half = half-next (g .half) (g .sides) on told a b;
+        pub sweep-next : {found r : Across} → found ≡ measuredAt x y → Chosen best found r → Sweep l top end s′ t′ r
+        sweep-next {found} {r} u k = record {
+          half = half-on (g .half) (g .sides) on told a b .1;
           three = g .three;
           sides = g .sides;
-          best-so-far = subst (BestOf (points l) _) (sym (v ∙ ap (narrowerOf best) (u ∙ ap₂ measuredAt p q))) (passed w refl);
+          best-so-far = passed w refl (subst (λ (f : Across). Chosen best f r) (u ∙ ap₂ measuredAt p q) k);
         }
 
     pub sweep-done : top + end ≤ s .at + t .at → Best l best

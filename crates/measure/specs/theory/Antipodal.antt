@@ -7,20 +7,20 @@ use mathlib.Core.Bool.{Bool, true, false, not, cond}
 use mathlib.Core.List.{List, [], _∷_}
 use Prim.Native.Nat.{ℕ, _+_, _-_, _≤_, _<_}
 use native.Mathlib.Omega.{arith}
-use borrow.Author.Tests.{eqb-true, eqb-false, ltb-true, ltb-false, eq-eqb, ne-eqb, not-true, not-false}
+use borrow.Author.Tests.{eqb-true, eqb-false, ltb-true, ltb-false, ne-eqb, not-true, not-false}
 use lib.Dec.{eqb, ltb}
 use lib.IntN.{pos, _-ℤ_}
 use lib.ListN.{length}
 use lib.Signed.{_≤ℤ_, _<ℤ_, ltZ}
 use Rattle.integer.specs.Ring.{ring, reify}
 use Rattle.integer.specs.Linear.{lia, linear, _&_}
-use Rattle.integer.specs.Order.{weaken, ltZ-true, ltZ-false, lt-ltZ, le-ltZ}
-use Rattle.plane.specs.Point.{Point, corner, origin, _⊖_, opposite}
+use Rattle.integer.specs.Order.{weaken, ltZ-true, ltZ-false}
+use Rattle.plane.specs.Point.{Point, corner, _⊖_, opposite}
 use Rattle.plane.specs.Turn.{cross}
 use Rattle.plane.specs.Search.{first}
 use Rattle.plane.specs.Shape.{IsShape}
 use Rattle.plane.specs.Direction.{value, support}
-use Rattle.plane.specs.Measure.{squared, lengthSquared}
+use Rattle.plane.specs.Measure.{squared}
 use Rattle.plane.specs.Forms.{up, NonZero, edges}
 use Rattle.plane.specs.Cycle.{round, cornerRound}
 use Rattle.plane.specs.theory.lists.Members.{point-path, position-member}
@@ -232,7 +232,8 @@ module _ {A : List Point} {t : ℕ} (s : IsShape A) (h : Chains A t) {k l : ℕ}
                 (lia (z .y ∷ []) (ap (λ (p : Point). p .x) e) (search linear depth 40) (omega arith)));
           }
 
-          turned : (i j : ℕ) → value z (corner A i) <ℤ value z (corner A j) → value (opposite z) (corner A j) <ℤ value (opposite z) (corner A i)
+          turned : (i j : ℕ) → value z (corner A i) <ℤ value z (corner A j)
+              → value (opposite z) (corner A j) <ℤ value (opposite z) (corner A i)
           turned i j g = lia (value z (corner A i) ∷ value z (corner A j) ∷ value (opposite z) (corner A i)
               ∷ value (opposite z) (corner A j) ∷ []) (g & value-turned z (corner A i) & value-turned z (corner A j))
               (search linear depth 40) (omega arith)

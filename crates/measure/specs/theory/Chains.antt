@@ -11,7 +11,7 @@ use mathlib.Core.Bool.{Bool, true, false, not, cond}
 use mathlib.Core.List.{List, [], _∷_}
 use Prim.Native.Nat.{ℕ, _+_, _≤_, _<_}
 use native.Mathlib.Omega.{arith}
-use borrow.Author.Tests.{eqb-true, eqb-false, ne-eqb, ltb-true, ltb-false}
+use borrow.Author.Tests.{eqb-false, ne-eqb, ltb-true, ltb-false}
 use lib.Dec.{eqb, ltb}
 use lib.IntN.{pos}
 use lib.ListN.{length}
@@ -28,7 +28,7 @@ use Rattle.plane.specs.theory.forms.Precedes.{precedes-irrefl}
 use Rattle.plane.specs.theory.forms.Vector.{quarter, cross-swap}
 use Rattle.plane.specs.theory.forms.HalfPlane.{Up, precedes→up, up→precedes, up-opposite, down-up, cross-trans-weak}
 use Rattle.plane.specs.theory.forms.Angle.{Earlier, apart, alike, before→earlier, earlier→before, later→not-before, before-alike}
-use Rattle.plane.specs.theory.sum.Positions.{edge-at, edges-some, edge-corners, in-order-at, in-order-non-zero}
+use Rattle.plane.specs.theory.sum.Positions.{edge-at, edges-some, in-order-at, in-order-non-zero}
 use Rattle.measure.specs.Half.{Chains}
 use Rattle.measure.specs.theory.CutCorner.{shape-in-order, Cut, cut-made}
 

@@ -15,7 +15,7 @@ use lib.ListN.{length}
 use lib.Signed.{_≤ℤ_, _<ℤ_, ltZ, clashℤ}
 use Rattle.integer.specs.Linear.{lia, linear, _&_}
 use Rattle.integer.specs.Order.{weaken, ltZ-true, ltZ-false}
-use Rattle.plane.specs.Point.{Point, corner, opposite}
+use Rattle.plane.specs.Point.{Point, corner}
 use Rattle.plane.specs.Turn.{cross}
 use Rattle.plane.specs.Shape.{IsShape}
 use Rattle.plane.specs.Forms.{up, InOrder, edges}
@@ -78,8 +78,9 @@ module _ {A : List Point} {t : ℕ} (s : IsShape A) (h : Chains A t) where
   -- one edge on
   right-on : (i k : ℕ) → i + 1 < t → t ≤ k → k < length (edges A) → pos 0 ≤ℤ cross (corner (edges A) i) (corner (edges A) k)
       → pos 0 <ℤ cross (corner (edges A) (i + 1)) (corner (edges A) k)
-  right-on i k a b c e = let a′ : i < t = omega arith in rw cross-turned at (cross-trans-weak (up-left h s k b c) (up-right h i a′) (up-right h (i + 1) a)
-      (rw cross-turned e) (turns i (omega (arith, chains-in h)) (h .rises i a′ ∙ sym (h .rises (i + 1) a))))
+  right-on i k a b c e = let a′ : i < t = omega arith in
+      rw cross-turned at (cross-trans-weak (up-left h s k b c) (up-right h i a′) (up-right h (i + 1) a) (rw cross-turned e)
+      (turns i (omega (arith, chains-in h)) (h .rises i a′ ∙ sym (h .rises (i + 1) a))))
 
   left-on : (m k : ℕ) → t ≤ m → m + 1 < length (edges A) → k < t → pos 0 ≤ℤ cross (corner (edges A) m) (corner (edges A) k)
       → pos 0 <ℤ cross (corner (edges A) (m + 1)) (corner (edges A) k)

@@ -67,13 +67,13 @@ module _ {A : List Point} {t : ℕ} (s : IsShape A) (h : Chains A t) where
 
   module _ {e j : ℕ} (e-in : e < length (edges A)) (c : Cut A (quarter (corner (edges A) e)) j) where
     cut-turn : edgeTurn A e (round (length A) j) ≡ height A e
-    cut-turn = furthest-height A e (s .some) (round (length A) j) (subst (λ (f : Point). value (quarter f) (cornerRound A j) ≡ support (quarter f) A) (edge-at A e e-in)
-        (cut-furthest s c))
+    cut-turn = furthest-height A e (s .some) (round (length A) j)
+        (subst (λ (f : Point). value (quarter f) (cornerRound A j) ≡ support (quarter f) A) (edge-at A e e-in) (cut-furthest s c))
 
     other-turn : j < length (edges A) → SameWay (corner (edges A) j) (opposite (corner (edges A) e))
         → edgeTurn A e (round (length A) (j + 1)) ≡ height A e
-    other-turn l w = furthest-height A e (s .some) (round (length A) (j + 1)) (subst (λ (f : Point). value (quarter f) (cornerRound A (j + 1)) ≡ support (quarter f) A)
-        (edge-at A e e-in) (cut-next s c l w))
+    other-turn l w = furthest-height A e (s .some) (round (length A) (j + 1))
+        (subst (λ (f : Point). value (quarter f) (cornerRound A (j + 1)) ≡ support (quarter f) A) (edge-at A e e-in) (cut-next s c l w))
 
   -- ---- an edge of the left-hand chain
 
