@@ -1,5 +1,4 @@
 -- Width: which edge has the least t·t/q, found by keeping the best so far.
---     wider-noWider                  of two edges one is no wider than the other
 --     noWider-le, wider-lt           the test as a fact
 --     noWider-fractions              the test on numbers of ℕ, as the fractions are compared in code
 --     Narrowest ps P e               of the edges of which P holds, e is the first with the least t·t/q
@@ -49,7 +48,7 @@ noWider-refl : (ps : List Point) (e : ℕ) → noWider ps e e ≡ true
 unfolding noWider
 noWider-refl ps e = le-leZ (≤ℤ-refl (wide ps e e))
 
-pub wider-noWider : (ps : List Point) (e f : ℕ) → noWider ps e f ≡ false → noWider ps f e ≡ true
+wider-noWider : (ps : List Point) (e f : ℕ) → noWider ps e f ≡ false → noWider ps f e ≡ true
 unfolding noWider
 wider-noWider ps e f h = le-leZ (weaken (leZ-false {x = wide ps e f} {y = wide ps f e} h))
 
