@@ -27,9 +27,9 @@ pub fn top(list: &[i32]) -> usize
     i
 }
 
-// Whether the next step passes the edge of s, on the right-hand chain, and not that of t, on the left-hand one: it comes
-// first by direction, the other turned round. Of two parallel edges the left-hand one is passed first. A chain that is
-// passed, at the top or at the end, waits for the other.
+// Whether the next step passes the edge of s, on the right-hand chain, and not that of t, on the left-hand one: it
+// comes first by direction, the other turned round. Of two parallel edges the left-hand one is passed first. A chain
+// that is passed, at the top or at the end, waits for the other.
 pub fn goes_right(top: usize, end: usize, s: Side, t: Side) -> bool
     requires { ⌜ Small (2 ^ 22) (at (s .edge)) × Small (2 ^ 22) (at (t .edge)) ⌝ }
     ensures { λ r. ⌜ r ≡ goesRight top end (s .at) (t .at) (cross (at (s .edge)) (at (t .edge))) ⌝ }

@@ -25,7 +25,7 @@ use Rattle.measure.specs.Half.{Chains, Antipodal, HalfStep}
 use Rattle.measure.specs.theory.Longest.{notAfter-trans, notAfter-antisym}
 use Rattle.measure.specs.theory.Longest.{squared-le-length, Longest, length-longest, length-least}
 use Rattle.measure.specs.theory.HalfWalk.{antipodal-ahead}
-use Rattle.measure.specs.theory.Antipodal.{longest-antipodal}
+use Rattle.measure.specs.theory.FurthestApart.{longest-antipodal}
 
 -- ---- the order of pairs
 
