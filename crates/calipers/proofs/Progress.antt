@@ -11,7 +11,7 @@ use Prim.Native.Nat.{ℕ, _+_, _*_, _≤_, _<_, zero-le}
 use native.Mathlib.Numerals.{add-one}
 use native.Mathlib.Omega.{arith}
 use lib.IntN.{ℤ, pos}
-use lib.ListN.{length, set, drop, length-set, length-drop}
+use lib.ListN.{length, set, length-set, length-drop}
 use lib.Signed.{ltZ}
 use Rattle.plane.specs.Point.{Point, points, numbers, corner, _⊕_}
 use Rattle.plane.specs.Turn.{cross}

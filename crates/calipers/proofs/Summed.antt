@@ -2,7 +2,7 @@
 --     sum-few        it has at most as many corners as both shapes together
 --     sum-room       there is room for it in the buffer
 --     sum-front      written over a list, it stands at the front; `sum-points`: of two points it is one corner
-use mathlib.Core.Path.{_≡_, sym, _∙_, ap, subst}
+use mathlib.Core.Path.{_≡_, ap, subst}
 use mathlib.Core.List.{List, [], _∷_}
 use Prim.Native.Nat.{ℕ, _+_, _≤_}
 use native.Mathlib.Omega.{arith}

@@ -14,7 +14,7 @@ use mathlib.Core.List.{List, []}
 use Prim.Native.Nat.{ℕ, zero, suc}
 use lib.IntN.{ℤ}
 use lib.ListN.{drop}
-use Rattle.plane.specs.Point.{Point, points, corner, _⊕_}
+use Rattle.plane.specs.Point.{Point, points, _⊕_}
 use Rattle.plane.specs.Refusal.{InRange}
 use Rattle.plane.specs.Shape.{IsShape}
 use Rattle.plane.specs.Forms.{edges}

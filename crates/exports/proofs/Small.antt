@@ -16,7 +16,7 @@ use Rattle.integer.specs.Machine.{known, machine-fits}
 use Rattle.plane.specs.Limits.{maxCoordinate}
 use Rattle.plane.specs.Point.{Point, points}
 use Rattle.plane.specs.Direction.{support}
-use Rattle.plane.specs.Reply.{Reply, answered, Row, row, firstRow}
+use Rattle.plane.specs.Reply.{Reply, answered, Row, row}
 use Rattle.plane.specs.Refusal.{shapeRows, Valid}
 use Rattle.plane.specs.Furthest.{badDirection, furthestReply}
 use Rattle.plane.specs.Measure.{squared}

@@ -7,20 +7,21 @@ use mathlib.Core.Bool.{Bool, true, false, cond}
 use mathlib.Core.List.{List}
 use Prim.Native.Nat.{ℕ, _+_, _≤_, _<_}
 use native.Mathlib.Omega.{arith}
-use borrow.Author.Tests.{eqb-true, eqb-false, le-leb, leb-true}
+use borrow.Author.Tests.{eqb-false, le-leb, leb-true}
 use lib.Dec.{eqb}
-use lib.IntN.{ℤ, pos, natAbs}
+use lib.IntN.{ℤ, pos}
 use lib.ListN.{length}
-use lib.Signed.{_≤ℤ_, yes-nonNeg, pos-natAbs}
+use lib.Signed.{yes-nonNeg, pos-natAbs}
 use Rattle.integer.specs.Order.{leZ-true, le-leZ}
 use Rattle.plane.specs.Point.{Point, points, corner}
 use Rattle.plane.specs.Measure.{squared}
 use Rattle.plane.specs.Forms.{edges}
-use Rattle.plane.specs.Cycle.{round, cornerRound}
+use Rattle.plane.specs.Cycle.{cornerRound}
 use Rattle.plane.specs.theory.forms.Squared.{squared-nonneg, squared-sym}
 use Rattle.plane.specs.theory.sum.Positions.{round-inner, edges-at-most}
-use Rattle.calipers.specs.declared.side.Side.{Side}
+use Rattle.polygon.specs.Point.{at}
 use Rattle.calipers.specs.Side.{cornerOf}
+use Rattle.calipers.specs.declared.side.Side.{Side}
 use Rattle.measure.specs.declared.Length.{Length}
 use Rattle.measure.specs.Answer.{IsLength}
 use Rattle.measure.specs.Comparison.{NoBetter, Stands}

@@ -2,8 +2,7 @@
 --     half-start                     they begin at antipodal corners
 --     half-edges, half-corners       their edges may be multiplied, their corners subtracted
 --     half-room                      their positions may be added
---     half-moved, half-next          a step by `goesRight` leads on, to antipodal corners
---     half-less                      and fewer steps are to come
+--     half-on                        a step by `goesRight` leads on, to antipodal corners, and fewer are to come
 use mathlib.Core.Path.{_≡_, _∙_, ap₂}
 use mathlib.Core.Bool.{Bool, not, cond}
 use mathlib.Core.List.{List}
@@ -17,7 +16,7 @@ use Rattle.plane.specs.Refusal.{Valid}
 use Rattle.plane.specs.Turn.{cross}
 use Rattle.plane.specs.Forms.{edges}
 use Rattle.plane.specs.theory.sum.Positions.{edges-at-most}
-use Rattle.polygon.specs.Point.{Small}
+use Rattle.polygon.specs.Point.{at, Small}
 use Rattle.calipers.specs.declared.side.Side.{Side}
 use Rattle.calipers.specs.Side.{cornerOf, nextOf, onward, Carried}
 use Rattle.calipers.specs.theory.Sides.{corner-fits, edge-fits}
@@ -38,10 +37,16 @@ half-start {l} {n} v h a b = record {
 
 module _ {l : List ℤ} {n : ℕ} {s t : Side} (h : HalfAt l n s t) where
   pub half-edges : Small (2 ^ 22) (nextOf s) × Small (2 ^ 22) (nextOf t)
-  half-edges = (edge-fits (h .valid .inRange) (h .valid .shape .some) (h .right-side), edge-fits (h .valid .inRange) (h .valid .shape .some) (h .left-side))
+  half-edges = (
+    edge-fits (h .valid .inRange) (h .valid .shape .some) (h .right-side),
+    edge-fits (h .valid .inRange) (h .valid .shape .some) (h .left-side),
+  )
 
   pub half-corners : Small (2 ^ 21) (cornerOf s) × Small (2 ^ 21) (cornerOf t)
-  half-corners = (corner-fits (h .valid .inRange) (h .valid .shape .some) (h .right-side), corner-fits (h .valid .inRange) (h .valid .shape .some) (h .left-side))
+  half-corners = (
+    corner-fits (h .valid .inRange) (h .valid .shape .some) (h .right-side),
+    corner-fits (h .valid .inRange) (h .valid .shape .some) (h .left-side),
+  )
 
   -- a shape has few corners
   pub half-room : (s .at + t .at ≤ 2 ^ 17) × (n + length (edges (points l)) ≤ 2 ^ 17)
@@ -55,22 +60,24 @@ module _ {l : List ℤ} {n : ℕ} {s t : Side} (h : HalfAt l n s t) where
       (told : w ≡ goesRight n m (s .at) (t .at) (cross (nextOf s) (nextOf t))) {s′ t′ : Side}
       (a : (s′ .at ≡ cond (not w) (s .at) (onward (points l) (s .at))) × Carried l s′)
       (b : (t′ .at ≡ cond w (t .at) (onward (points l) (t .at))) × Carried l t′) where
-    pub half-moved : HalfStep (points l) n (s .at) (t .at) (s′ .at) (t′ .at)
-    half-moved = rw (a .0, b .0) (half-step (chains-in (h .chains)) (h .antipodal .right-in) (h .antipodal .left-in) (omega arith)
+    moved : HalfStep (points l) n (s .at) (t .at) (s′ .at) (t′ .at)
+    moved = rw (a .0, b .0) (half-step (chains-in (h .chains)) (h .antipodal .right-in) (h .antipodal .left-in) (omega arith)
         (told ∙ ap₂ (λ (k : ℕ) (x : ℤ). goesRight n k (s .at) (t .at) x) all (ap₂ cross (h .right-side .edge-is) (h .left-side .edge-is))))
 
-    pub half-next : HalfAt l n s′ t′
-    half-next = record {
-      valid = h .valid;
-      chains = h .chains;
-      right-side = a .1;
-      left-side = b .1;
-      antipodal = antipodal-step (h .valid .shape) (h .chains) (h .antipodal) half-moved;
-    }
+    fewer : {k l′ : ℕ} → HalfStep (points l) n (s .at) (t .at) k l′ → n + m - (k + l′) < n + m - (s .at + t .at)
+    fewer (right g x) = omega arith
+    fewer (left g x) = omega arith
 
-    pub half-less : n + m - (s′ .at + t′ .at) < n + m - (s .at + t .at)
-    half-less = go half-moved
-      where
-        go : {k l′ : ℕ} → HalfStep (points l) n (s .at) (t .at) k l′ → n + m - (k + l′) < n + m - (s .at + t .at)
-        go (right g x) = omega arith
-        go (left g x) = omega arith
+    pub half-on : HalfStep (points l) n (s .at) (t .at) (s′ .at) (t′ .at) × HalfAt l n s′ t′
+        × (n + m - (s′ .at + t′ .at) < n + m - (s .at + t .at))
+    half-on = (
+      moved,
+      record {
+        valid = h .valid;
+        chains = h .chains;
+        right-side = a .1;
+        left-side = b .1;
+        antipodal = antipodal-step (h .valid .shape) (h .chains) (h .antipodal) moved;
+      },
+      fewer moved,
+    )

@@ -2,8 +2,8 @@
 -- both at once. At place (i, m) the edges before i of the right-hand chain and before m of the left-hand one are passed. Our own, not of
 -- document 01.
 --     Chains A t             t is the top: the edges before it point up, and those from it on do not
---     Antipodal A t i m      corners i and m are antipodal: edges of the left-hand chain turned round, each passed edge of the right-hand chain
---                            comes before the next of the left-hand one, and no passed edge of that after the next of the right-hand one
+--     Antipodal A t i m      corners i and m are antipodal: with the edges of the left-hand chain turned round, each passed edge of the
+--                            right-hand chain comes before the next of the other, and no passed edge of the other after its next
 --     goesRight t n i m c    whether the next step passes edge i, and not edge m, for top t, n edges, and the product c of the two
 --     HalfStep A t i m k l   the step from place (i, m) leads to (k, l). Of two parallel edges that of the left-hand chain is passed first
 -- What it means: `HalfWalk` of the theory.

@@ -1,4 +1,4 @@
--- What the searches for length and width know along the half walk, whose two sides are s on the right-hand chain and t on the left-hand one.
+-- What the searches for length and width know along the half walk. Its sides are s on the right-hand chain and t on the left-hand one.
 --     HalfAt l n s t          they stand at antipodal corners of the shape l, whose top is corner n
 --     apartAt n s t           the pair at which they stand, of n corners, with its squared distance
 --     Behind p q              the pair p is no better than q: not further apart, and if as far, not earlier
@@ -7,25 +7,26 @@
 --     Fits s t                the edge of s and the corner of t can be multiplied, and the corner is not right of the edge
 --     measuredAt s t          the edge of s, measured at the corner of t
 --     isNarrower a b          t·t/q of the measured edge a is less than that of b
---     narrowerOf best found   the narrower of two measured edges, and the earlier of two that are as wide
+--     NoNarrower a b          the measured edge a is no better than b: not narrower, and if as wide, not earlier
+--     Chosen best found r     r is the better of two measured edges: narrower, then earlier
 --     Best l b                b is the first of all edges with the least width
 --     Opposed l e c           corner c on the way round is furthest from edge e
 -- What they mean: `Comparison.antt`, and `LengthScan` and `WidthScan` of the theory.
 use mathlib.Core.Path.{_≡_}
-use mathlib.Core.Bool.{Bool, cond}
+use mathlib.Core.Bool.{Bool, false, cond}
 use mathlib.Core.List.{List}
 use Prim.Native.Nat.{ℕ, _*_, _^_, _≤_, _<_}
 use lib.Dec.{eqb, ltb}
 use lib.IntN.{ℤ, pos, natAbs}
 use lib.ListN.{length}
 use lib.Signed.{_≤ℤ_}
-use Rattle.plane.specs.Point.{Point, points, _⊖_}
+use Rattle.plane.specs.Point.{points, _⊖_}
 use Rattle.plane.specs.Refusal.{Valid}
 use Rattle.plane.specs.Turn.{cross}
 use Rattle.plane.specs.Direction.{value}
 use Rattle.plane.specs.Cycle.{round}
 use Rattle.plane.specs.Measure.{squared, edgeTurn, height}
-use Rattle.polygon.specs.Point.{Small}
+use Rattle.polygon.specs.Point.{at, Small}
 use Rattle.calipers.specs.declared.side.Side.{Side}
 use Rattle.calipers.specs.Side.{cornerOf, nextOf, Carried}
 use Rattle.measure.specs.Half.{Chains, Antipodal}
@@ -81,9 +82,13 @@ measuredAt s t = record {
 abbrev pub isNarrower : Across → Across → Bool
 isNarrower a b = ltb (a .turn * a .turn * b .squared) (b .turn * b .turn * a .squared)
 
-unfoldable pub narrowerOf : Across → Across → Across
-narrowerOf best found =
-    cond (isNarrower best found) best (cond (isNarrower found best) found (cond (ltb (found .edge) (best .edge)) found best))
+pub record NoNarrower (a b : Across) : Type 0 where
+  pub no-narrower : isNarrower a b ≡ false
+  pub no-earlier : isNarrower b a ≡ false → b .edge ≤ a .edge
+
+pub data Chosen (best found r : Across) : Type 0 where
+  stays : r ≡ best → NoNarrower found best → Chosen best found r
+  gives-way : r ≡ found → NoNarrower best found → Chosen best found r
 
 abbrev pub Best : List ℤ → Across → Type 0
 Best l b = Width (points l) (λ f. f < length (points l)) (b .edge) (b .corner) (b .turn) (b .squared)

@@ -5,6 +5,7 @@ pub mod CutCorner
 pub mod Chains
 pub mod HalfWalk
 pub mod Antipodal
+pub mod FurthestApart
 pub mod LengthScan
 pub mod Height
 pub mod Passed

@@ -28,9 +28,9 @@ pub fn top(list: &[i32]) -> usize
     i
 }
 
-// Whether the next step passes the edge of s, on the right-hand chain, and not that of t, on the left-hand one: s has
-// it to the right. Of two parallel edges the left-hand one is passed first. A chain that is passed, at the top or at
-// the end, waits for the other.
+// Whether the next step passes the edge of s, on the right-hand chain, and not that of t, on the left-hand one: it
+// comes first by direction, the other turned round. Of two parallel edges the left-hand one is passed first. A chain
+// that is passed, at the top or at the end, waits for the other.
 pub fn goes_right(top: usize, end: usize, s: Side, t: Side) -> bool
     requires { ⌜ Small (2 ^ 22) (nextOf s) × Small (2 ^ 22) (nextOf t) ⌝ }
     ensures { λ r. ⌜ r ≡ goesRight top end (s .at) (t .at) (cross (nextOf s) (nextOf t)) ⌝ }

@@ -7,7 +7,7 @@ ghost use lib.ListN.{length};
 ghost use Rattle.plane.specs.Point.{points};
 ghost use Rattle.plane.specs.Refusal.{Valid};
 ghost use Rattle.measure.specs.Comparison.{Facing};
-ghost use Rattle.measure.specs.Scan.{Fits, measuredAt, narrowerOf, Best, Opposed};
+ghost use Rattle.measure.specs.Scan.{Fits, measuredAt, Chosen, Best, Opposed};
 use crate::half;
 use crate::magnitude;
 use calipers::edges;
@@ -71,7 +71,7 @@ fn measured(s: Side, t: Side) -> Across
 
 // The narrower of two edges, and the earlier of two that are as wide.
 fn narrower(best: Across, found: Across) -> Across
-    ensures { λ r. ⌜ r ≡ narrowerOf best found ⌝ }
+    ensures { λ r. ⌜ Chosen best found r ⌝ }
 {
     if words::fraction_less(best.turn, best.squared, found.turn, found.squared) {
         return best;
@@ -94,8 +94,10 @@ pub fn first_facing(list: &[i32], edge: usize, corner: usize) -> usize
     if turn <= corners::turn_at(list, edge, end, 0) {
         return 0;
     }
-    if turn <= corners::turn_at(list, edge, end, far - 1) {
-        return far - 1;
+    let before = far - 1;
+    if turn <= corners::turn_at(list, edge, end, before) {
+        before
+    } else {
+        far
     }
-    far
 }

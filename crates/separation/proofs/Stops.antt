@@ -19,7 +19,7 @@ use Rattle.plane.specs.VectorSum.{vectorSum, joinEdges}
 use Rattle.plane.specs.theory.sum.EdgeSum.{joinEdges-length}
 use Rattle.plane.specs.theory.lists.Next.{Following, onward, closing, following}
 use Rattle.plane.specs.Cycle.{round, cornerRound}
-use Rattle.calipers.specs.Walk.{Walk, here, begun, finished, advanced, stepped, remaining, At}
+use Rattle.calipers.specs.Walk.{here, begun, finished, advanced, stepped, remaining, At}
 use Rattle.plane.specs.theory.sum.Positions.{edges-at-most, round-inner}
 use Rattle.calipers.specs.theory.Places.{finished-ended}
 use Rattle.calipers.specs.theory.Sides.{round-end}

@@ -17,7 +17,7 @@ use lib.Signed.{_≤ℤ_, _<ℤ_, ltZ}
 use Rattle.integer.specs.Ring.{ring, reify}
 use Rattle.integer.specs.Linear.{lia, linear, _&_}
 use Rattle.integer.specs.Order.{lt-ltZ, le-ltZ, le-of-eq, weaken}
-use Rattle.plane.specs.Point.{Point, corner, origin, opposite}
+use Rattle.plane.specs.Point.{Point, corner, origin}
 use Rattle.plane.specs.Turn.{cross}
 use Rattle.plane.specs.Shape.{next, IsShape}
 use Rattle.plane.specs.Forms.{up, before, Before, Precedes, InOrder, edges}

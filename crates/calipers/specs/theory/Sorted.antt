@@ -5,7 +5,7 @@
 use mathlib.Core.Path.{_≡_, refl, sym, _∙_, ap, subst}
 use mathlib.Core.Bool.{Bool, true, false, cond}
 use mathlib.Core.List.{List, [], _∷_}
-use Prim.Native.Nat.{ℕ, zero, suc, _+_, _≤_, _<_}
+use Prim.Native.Nat.{ℕ, suc, _+_, _≤_, _<_}
 use native.Mathlib.Numerals.{add-one}
 use native.Mathlib.Omega.{arith}
 use borrow.Author.Count.{below-more}
@@ -17,7 +17,7 @@ use lib.Signed.{_<ℤ_}
 use Rattle.plane.specs.Point.{Point, corner, origin, _⊖_}
 use Rattle.plane.specs.Turn.{cross}
 use Rattle.plane.specs.Shape.{IsShape, precedes}
-use Rattle.plane.specs.Forms.{Precedes, Before, NonZero, From, InOrder, edgesTo, edges, up}
+use Rattle.plane.specs.Forms.{Precedes, Before, NonZero, InOrder, edgesTo, edges, up}
 use Rattle.plane.specs.theory.forms.Precedes.{precedes-irrefl, precedes-different}
 use Rattle.plane.specs.theory.forms.Vector.{cross-nonzero, ⊖-zero}
 use Rattle.plane.specs.theory.forms.Angle.{Earlier, apart, alike, before→earlier, earlier→before}

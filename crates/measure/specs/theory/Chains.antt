@@ -2,7 +2,8 @@
 --     chains-found     where the corners stop rising, there is the top
 --     chains-in        the top is a place of the half walk
 --     up-right         an edge of the right-hand chain points up; `up-left`: one of the left-hand chain, turned round
---     cross-facing     the product with a vector turned round
+--     chain-turns      a later edge of a chain turns left
+--     cross-facing     the product with a vector turned round; `back-below`, `back-above`: in the other order
 --     late-cross       of up vectors, one that comes before a third comes before one that does not
 --     cut-right        where the cut of a direction stands whose quarter is up: on the right-hand chain
 --     cut-left         and where it is the opposite of such a one: on the left-hand chain
@@ -11,14 +12,14 @@ use mathlib.Core.Bool.{Bool, true, false, not, cond}
 use mathlib.Core.List.{List, [], _∷_}
 use Prim.Native.Nat.{ℕ, _+_, _≤_, _<_}
 use native.Mathlib.Omega.{arith}
-use borrow.Author.Tests.{eqb-true, eqb-false, ne-eqb, ltb-true, ltb-false}
+use borrow.Author.Tests.{eqb-false, ne-eqb, ltb-true, ltb-false}
 use lib.Dec.{eqb, ltb}
 use lib.IntN.{pos}
 use lib.ListN.{length}
 use lib.Signed.{_≤ℤ_, _<ℤ_, ltZ, clashℤ}
 use Rattle.integer.specs.Ring.{ring, reify}
 use Rattle.integer.specs.Linear.{lia, linear, _&_}
-use Rattle.integer.specs.Order.{contra<, lt-ltZ, le-ltZ}
+use Rattle.integer.specs.Order.{contra<, ltZ-true, lt-ltZ, le-ltZ}
 use Rattle.plane.specs.Point.{Point, corner, origin, _⊖_, opposite}
 use Rattle.plane.specs.Turn.{cross}
 use Rattle.plane.specs.Shape.{next, precedes, IsShape}
@@ -28,7 +29,7 @@ use Rattle.plane.specs.theory.forms.Precedes.{precedes-irrefl}
 use Rattle.plane.specs.theory.forms.Vector.{quarter, cross-swap}
 use Rattle.plane.specs.theory.forms.HalfPlane.{Up, precedes→up, up→precedes, up-opposite, down-up, cross-trans-weak}
 use Rattle.plane.specs.theory.forms.Angle.{Earlier, apart, alike, before→earlier, earlier→before, later→not-before, before-alike}
-use Rattle.plane.specs.theory.sum.Positions.{edge-at, edges-some, edge-corners, in-order-at, in-order-non-zero}
+use Rattle.plane.specs.theory.sum.Positions.{edge-at, edges-some, in-order-at, in-order-non-zero}
 use Rattle.measure.specs.Half.{Chains}
 use Rattle.plane.specs.theory.sum.Positions.{shape-in-order}
 use Rattle.measure.specs.theory.CutCorner.{Cut, cut-made}
@@ -91,6 +92,12 @@ module _ {A : List Point} {t : ℕ} (h : Chains A t) where
   pub up-left : IsShape A → (k : ℕ) → t ≤ k → k < length (edges A) → Up (opposite (corner (edges A) k))
   up-left s k l m = down-up (corner (edges A) k) (in-order-non-zero (edges A) (shape-in-order A s) k m) (h .falls k l m)
 
+-- a later edge of the same chain turns left
+pub chain-turns : {A : List Point} → IsShape A → (k p : ℕ) → k < p → p < length (edges A)
+    → up (corner (edges A) k) ≡ up (corner (edges A) p) → pos 0 <ℤ cross (corner (edges A) k) (corner (edges A) p)
+chain-turns {A} s k p l n e = ltZ-true {x = pos 0} (sym (before-alike (corner (edges A) k) (corner (edges A) p) e)
+    ∙ in-order-at (edges A) (shape-in-order A s) k p l n .before-true)
+
 -- ---- the cut of a direction
 
 pub cross-facing : (e f : Point) → cross e (opposite f) ≡ cross f e
@@ -98,6 +105,12 @@ unfolding cross
 cross-facing e f = ring (e .x ∷ e .y ∷ f .x ∷ f .y ∷ []) (search reify depth 40) tt
 
 -- x comes before q, and y does not
+pub back-below : (e f : Point) → pos 0 ≤ℤ cross e f → cross f e ≤ℤ pos 0
+back-below e f g = lia (cross e f ∷ cross f e ∷ []) (g & cross-swap e f) (search linear depth 40) (omega arith)
+
+pub back-above : (e f : Point) → cross e f <ℤ pos 0 → pos 0 <ℤ cross f e
+back-above e f g = lia (cross e f ∷ cross f e ∷ []) (g & cross-swap e f) (search linear depth 40) (omega arith)
+
 pub late-cross : {x y q : Point} → Up x → Up y → Up q → pos 0 <ℤ cross x q → cross y q ≤ℤ pos 0 → pos 0 <ℤ cross x y
 late-cross {x} {y} {q} ux uy uq h k = contra< (λ g. clashℤ (cross-trans-weak uy ux uq (turned g) h) k)
   where

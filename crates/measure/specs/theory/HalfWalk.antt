@@ -15,19 +15,16 @@ use lib.ListN.{length}
 use lib.Signed.{_≤ℤ_, _<ℤ_, ltZ, clashℤ}
 use Rattle.integer.specs.Linear.{lia, linear, _&_}
 use Rattle.integer.specs.Order.{weaken, ltZ-true, ltZ-false}
-use Rattle.plane.specs.Point.{Point, corner, opposite}
+use Rattle.plane.specs.Point.{Point, corner}
 use Rattle.plane.specs.Turn.{cross}
 use Rattle.plane.specs.Shape.{IsShape}
-use Rattle.plane.specs.Forms.{up, InOrder, edges}
+use Rattle.plane.specs.Forms.{edges}
 use Rattle.plane.specs.theory.forms.Vector.{cross-swap, cross-opposite, cross-turned}
 use Rattle.plane.specs.theory.forms.HalfPlane.{cross-trans-weak}
-use Rattle.plane.specs.theory.forms.Angle.{before-alike}
-use Rattle.plane.specs.theory.sum.Positions.{in-order-at}
 use Rattle.calipers.specs.Side.{onward}
 use Rattle.calipers.specs.theory.Sides.{onward-inner}
 use Rattle.measure.specs.Half.{Chains, Antipodal, goesRight, HalfStep, right, left}
-use Rattle.plane.specs.theory.sum.Positions.{shape-in-order}
-use Rattle.measure.specs.theory.Chains.{chains-in, up-right, up-left, cross-facing}
+use Rattle.measure.specs.theory.Chains.{chains-in, up-right, up-left, chain-turns, cross-facing, back-above}
 
 -- ---- the beginning, and a step
 
@@ -66,26 +63,18 @@ half-step {A} {t} {i} {m} {w} top a b on e =
 -- ---- each place is antipodal
 
 module _ {A : List Point} {t : ℕ} (s : IsShape A) (h : Chains A t) where
-  o : InOrder (edges A)
-  o = shape-in-order A s
-
-  -- the next edge of a chain turns left
-  turns : (k : ℕ) → k + 1 < length (edges A) → up (corner (edges A) k) ≡ up (corner (edges A) (k + 1))
-      → pos 0 <ℤ cross (corner (edges A) k) (corner (edges A) (k + 1))
-  turns k l e = ltZ-true {x = pos 0} (sym (before-alike (corner (edges A) k) (corner (edges A) (k + 1)) e)
-      ∙ in-order-at (edges A) o k (k + 1) (omega arith) l .before-true)
-
   -- one edge on
   right-on : (i k : ℕ) → i + 1 < t → t ≤ k → k < length (edges A) → pos 0 ≤ℤ cross (corner (edges A) i) (corner (edges A) k)
       → pos 0 <ℤ cross (corner (edges A) (i + 1)) (corner (edges A) k)
-  right-on i k a b c e = let a′ : i < t = omega arith in rw cross-turned at (cross-trans-weak (up-left h s k b c) (up-right h i a′) (up-right h (i + 1) a)
-      (rw cross-turned e) (turns i (omega (arith, chains-in h)) (h .rises i a′ ∙ sym (h .rises (i + 1) a))))
+  right-on i k a b c e = let a′ : i < t = omega arith in
+      rw cross-turned at (cross-trans-weak (up-left h s k b c) (up-right h i a′) (up-right h (i + 1) a) (rw cross-turned e)
+      (chain-turns s i (i + 1) (omega arith) (omega (arith, chains-in h)) (h .rises i a′ ∙ sym (h .rises (i + 1) a))))
 
   left-on : (m k : ℕ) → t ≤ m → m + 1 < length (edges A) → k < t → pos 0 ≤ℤ cross (corner (edges A) m) (corner (edges A) k)
       → pos 0 <ℤ cross (corner (edges A) (m + 1)) (corner (edges A) k)
   left-on m k a b c e = let b′ : t ≤ m + 1 = omega arith in
       rw cross-facing at (cross-trans-weak (up-right h k c) (up-left h s m a (omega arith)) (up-left h s (m + 1) b′ b) (rw cross-facing e)
-      (rw cross-opposite (turns m b (h .falls m a (omega arith) ∙ sym (h .falls (m + 1) b′ b)))))
+      (rw cross-opposite (chain-turns s m (m + 1) (omega arith) b (h .falls m a (omega arith) ∙ sym (h .falls (m + 1) b′ b)))))
 
   pub antipodal-step : {i m k l : ℕ} → Antipodal A t i m → HalfStep A t i m k l → Antipodal A t k l
   antipodal-step {i} {m} z (right g c) = record {
@@ -93,13 +82,9 @@ module _ {A : List Point} {t : ℕ} (s : IsShape A) (h : Chains A t) where
     left-from = z .left-from;
     left-in = z .left-in;
     right-passed = λ k l n. below-more (λ k. pos 0 <ℤ cross (corner (edges A) m) (corner (edges A) k)) i (λ k l. z .right-passed k l n)
-        (above (c n)) k l;
+        (back-above (corner (edges A) i) (corner (edges A) m) (c n)) k l;
     left-passed = λ k l n f. weaken (right-on i k f l (omega (arith, z .left-in)) (z .left-passed k l n g));
   }
-    where
-      above : cross (corner (edges A) i) (corner (edges A) m) <ℤ pos 0 → pos 0 <ℤ cross (corner (edges A) m) (corner (edges A) i)
-      above e = lia (cross (corner (edges A) i) (corner (edges A) m) ∷ cross (corner (edges A) m) (corner (edges A) i) ∷ [])
-          (e & cross-swap (corner (edges A) i) (corner (edges A) m)) (search linear depth 40) (omega arith)
   antipodal-step {i} {m} z (left g c) = record {
     right-in = z .right-in;
     left-from = omega (arith, z .left-from);

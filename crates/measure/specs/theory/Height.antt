@@ -1,17 +1,15 @@
--- The greatest turn against an edge, as a support: with d the direction to the left of the edge, the turn of a corner is the value of d there,
--- up to a number that the edge alone fixes.
+-- The greatest turn against an edge, as a support: with d the direction to the left of the edge, the turn of a corner is the value of d
+-- there, up to a number that the edge alone fixes.
 --     edgeTurn-value, height-support    the turn, and the greatest turn, by values of the direction to the left of the edge
 --     height-above, height-had          no turn is above it; some corner has it
 --     furthest-height, height-furthest  a corner has the greatest turn exactly if it is furthest in that direction
 --     value-nonneg, edgeSquared-value           the squared length as a product of the edge with itself
 --     height-positive, edgeSquared-positive     of a shape with three corners or more
---     Facing ps e c                            c is the first corner of greatest turn; `facing-only`, `facing-either`: of one, or of two
---     facing-width                             against the edge of the width it is widthCorner
---     width-facing, width-earlier              and widthCorner is such a corner; before it all turns are less
+--     facing-width                              against the edge of the width the first corner of greatest turn is widthCorner
+--     width-facing, width-earlier               and widthCorner is such a corner; before it all turns are less
 use mathlib.Core.Path.{_≡_, refl, sym, _∙_, ap}
 use mathlib.Core.Bool.{Bool, true, false, cond}
 use mathlib.Core.List.{List, [], _∷_}
-use mathlib.Core.Logic.{_⊎_, inl, inr}
 use Prim.Native.Nat.{ℕ, _+_, _≤_, _<_}
 use native.Mathlib.Omega.{arith}
 use borrow.Author.Tests.{eqb-true, eqb-false}
@@ -41,7 +39,7 @@ unfolding turn value
 turn-value a b c = ring (a .x ∷ a .y ∷ b .x ∷ b .y ∷ c .x ∷ c .y ∷ []) (search reify depth 40) tt
 
 module _ (ps : List Point) (e : ℕ) where
-  pub edgeTurn-value : (c : ℕ)
+  edgeTurn-value : (c : ℕ)
       → edgeTurn ps e c ≡ value (quarter (edgeOf ps e)) (corner ps c) -ℤ value (quarter (edgeOf ps e)) (corner ps e)
   unfolding edgeTurn
   edgeTurn-value c = turn-value (corner ps e) (corner ps (next (length ps) e)) (corner ps c)
@@ -54,7 +52,7 @@ module _ (ps : List Point) (e : ℕ) where
   unfolding height
   height-had h = greatest-attained (edgeTurn ps e) (length ps) h
 
-  pub height-support : 0 < length ps
+  height-support : 0 < length ps
       → height ps e ≡ support (quarter (edgeOf ps e)) ps -ℤ value (quarter (edgeOf ps e)) (corner ps e)
   unfolding height
   height-support some = le-antisym (greatest-le (edgeTurn ps e) (length ps) some below) above
@@ -140,19 +138,6 @@ module _ (ps : List Point) (s : IsShape ps) (long : 2 < length ps) (e : ℕ) (h 
           lia (turn a b (corner ps (c .0)) ∷ []) (c .2 & flat) (search linear depth 40) (omega arith)
 
 -- ---- the first corner of greatest turn
-
-module _ {ps : List Point} {e c : ℕ} (h : c < length ps) (has : edgeTurn ps e c ≡ height ps e) where
-  -- no other has it
-  pub facing-only : ((k : ℕ) → k < length ps → edgeTurn ps e k ≡ height ps e → k ≡ c) → Facing ps e c
-  facing-only only = record { within = h; has = has; sole = λ k l q. omega (arith, only k (omega arith) q) }
-
-  -- one other at most has it, and it stands no earlier
-  pub facing-either : (b : ℕ) → c ≤ b → ((k : ℕ) → k < length ps → edgeTurn ps e k ≡ height ps e → (k ≡ c) ⊎ (k ≡ b)) → Facing ps e c
-  facing-either b l two = record { within = h; has = has; sole = λ k m q. go k m (two k (omega arith) q) }
-    where
-      go : (k : ℕ) → k < c → (k ≡ c) ⊎ (k ≡ b) → ⊥
-      go k m (inl r) = omega arith
-      go k m (inr r) = omega arith
 
 pub facing-width : {ps : List Point} {e c : ℕ} → widthEdge ps ≡ e → Facing ps e c → widthCorner ps ≡ c
 unfolding widthCorner

@@ -5,8 +5,8 @@
 --     leads-start             at the beginning
 --     leads-keep, -replace    the moves of the loop: a step leads to a pair that is no better, or to one that is
 --     leads-done              at the end: the answer
-use mathlib.Core.Path.{_≡_, refl, sym, _∙_, ap}
-use mathlib.Core.Bool.{Bool, true, false, cond}
+use mathlib.Core.Path.{_≡_, refl, sym, _∙_}
+use mathlib.Core.Bool.{Bool, true, false}
 use mathlib.Core.List.{List}
 use mathlib.Core.Logic.{_⊎_, inl, inr}
 use Prim.Native.Nat.{ℕ, _+_, _≤_, _<_}
@@ -20,12 +20,12 @@ use Rattle.plane.specs.Point.{Point, corner}
 use Rattle.plane.specs.Shape.{IsShape}
 use Rattle.plane.specs.Measure.{squared, lengthSquared, lengthFrom, lengthTo}
 use Rattle.plane.specs.Forms.{edges}
-use Rattle.measure.specs.Comparison.{NotAfter, level, NoBetter, Stands}
+use Rattle.measure.specs.Comparison.{level, NoBetter, Stands}
 use Rattle.measure.specs.Half.{Chains, Antipodal, HalfStep}
 use Rattle.measure.specs.theory.Longest.{notAfter-trans, notAfter-antisym}
 use Rattle.measure.specs.theory.Longest.{squared-le-length, Longest, length-longest, length-least}
 use Rattle.measure.specs.theory.HalfWalk.{antipodal-ahead}
-use Rattle.measure.specs.theory.Antipodal.{longest-antipodal}
+use Rattle.measure.specs.theory.FurthestApart.{longest-antipodal}
 
 -- ---- the order of pairs
 
@@ -99,7 +99,8 @@ module _ {A : List Point} {t : ℕ} where
       to : t ≡ g
       to = rw inner at (p .to-is)
 
-  module _ {i m i′ m′ f g p q : ℕ} (lead : Leads A t i m f g) (step : HalfStep A t i m i′ m′) (top : t ≤ m) (here : Stands A i′ m′ p q) where
+  module _ {i m i′ m′ f g p q : ℕ} (lead : Leads A t i m f g) (step : HalfStep A t i m i′ m′) (top : t ≤ m)
+      (here : Stands A i′ m′ p q) where
     -- what was to come stands at the new place, or is still to come
     later : {k l : ℕ} → ToCome A t i m k l → ToCome A t i′ m′ k l ⊎ NoBetter A k l p q
     later u =

@@ -1,7 +1,4 @@
 -- Width: which edge has the least t·t/q, found by keeping the best so far.
---     fraction-trans                 fractions with positive denominators, compared by products, are in a transitive order
---     noWider-refl, noWider-trans    an edge is no wider than itself; no wider than what is no wider than a third
---     wider-noWider                  of two edges one is no wider than the other
 --     noWider-le, wider-lt           the test as a fact
 --     noWider-fractions              the test on numbers of ℕ, as the fractions are compared in code
 --     Narrowest ps P e               of the edges of which P holds, e is the first with the least t·t/q
@@ -12,7 +9,7 @@ use mathlib.Core.Path.{_≡_, refl, sym, subst}
 use mathlib.Core.Bool.{Bool, true, false, not}
 use mathlib.Core.List.{List, [], _∷_}
 use mathlib.Core.Logic.{_⊎_, inl, inr, ⊎-elim}
-use Prim.Native.Nat.{ℕ, zero, suc, pred, _+_, _*_, _≤_, _<_}
+use Prim.Native.Nat.{ℕ, zero, suc, pred, _*_, _≤_, _<_}
 use native.Mathlib.Omega.{arith}
 use borrow.Author.Tests.{le-leb, lt-leb, ltb-true, ltb-false}
 use lib.Dec.{leb, ltb}
@@ -30,7 +27,7 @@ use Rattle.measure.specs.theory.Height.{edgeSquared-positive}
 use Rattle.measure.specs.Comparison.{Narrowest}
 
 -- s/p ≤ t/q and t/q ≤ u/r: bring all to the denominator p·q·r
-pub fraction-trans : (s t u p q r : ℤ) → pos 0 <ℤ p → pos 0 <ℤ q → pos 0 <ℤ r → (s *ℤ q) ≤ℤ (t *ℤ p) → (t *ℤ r) ≤ℤ (u *ℤ q)
+fraction-trans : (s t u p q r : ℤ) → pos 0 <ℤ p → pos 0 <ℤ q → pos 0 <ℤ r → (s *ℤ q) ≤ℤ (t *ℤ p) → (t *ℤ r) ≤ℤ (u *ℤ q)
     → (s *ℤ r) ≤ℤ (u *ℤ p)
 fraction-trans s t u p q r hp hq hr a b = contra≤ (λ g.
     lia (s ∷ t ∷ u ∷ p ∷ q ∷ r ∷ []) (a ≤×< hr & b ≤×< hp & g <×< hq) (search linear depth 40) (omega arith))
@@ -47,16 +44,16 @@ pub wider-lt : (ps : List Point) (e f : ℕ) → noWider ps e f ≡ false → wi
 unfolding noWider
 wider-lt ps e f h = leZ-false h
 
-pub noWider-refl : (ps : List Point) (e : ℕ) → noWider ps e e ≡ true
+noWider-refl : (ps : List Point) (e : ℕ) → noWider ps e e ≡ true
 unfolding noWider
 noWider-refl ps e = le-leZ (≤ℤ-refl (wide ps e e))
 
-pub wider-noWider : (ps : List Point) (e f : ℕ) → noWider ps e f ≡ false → noWider ps f e ≡ true
+wider-noWider : (ps : List Point) (e f : ℕ) → noWider ps e f ≡ false → noWider ps f e ≡ true
 unfolding noWider
 wider-noWider ps e f h = le-leZ (weaken (leZ-false {x = wide ps e f} {y = wide ps f e} h))
 
 module _ (ps : List Point) (s : IsShape ps) (long : 2 < length ps) where
-  pub noWider-trans : (e f g : ℕ) → e < length ps → f < length ps → g < length ps
+  noWider-trans : (e f g : ℕ) → e < length ps → f < length ps → g < length ps
       → noWider ps e f ≡ true → noWider ps f g ≡ true → noWider ps e g ≡ true
   unfolding noWider
   noWider-trans e f g he hf hg a b = le-leZ (fraction-trans (t e) (t f) (t g) (edgeSquared ps e) (edgeSquared ps f) (edgeSquared ps g)
@@ -113,7 +110,7 @@ module _ {ps : List Point} (s : IsShape ps) (long : 2 < length ps) {P Q : ℕ �
     }
 
     -- k is no wider than e, which is no wider than any of P: so is k; those of P before k are wider than k
-    pub narrowest-replace : noWider ps k e ≡ true → (e ≤ k → noWider ps e k ≡ false) → Narrowest ps Q k
+    pub narrowest-replace : noWider ps k e ≡ true → (e < k → noWider ps e k ≡ false) → Narrowest ps Q k
     narrowest-replace test first = record {
       edges-in = all-in;
       among = m .new;

@@ -14,7 +14,7 @@ use lib.IntN.{pos}
 use lib.ListN.{length}
 use lib.Signed.{_≤ℤ_, _<ℤ_}
 use Rattle.integer.specs.Linear.{lia, linear, _&_}
-use Rattle.integer.specs.Order.{lt-or-le, weaken, le-of-eq, le-antisym, ltZ-true, le-ltZ}
+use Rattle.integer.specs.Order.{lt-or-le, weaken, le-of-eq, le-antisym, le-ltZ}
 use Rattle.plane.specs.Point.{Point, corner, opposite}
 use Rattle.plane.specs.Turn.{cross}
 use Rattle.plane.specs.Shape.{IsShape}
@@ -26,27 +26,19 @@ use Rattle.plane.specs.theory.forms.Vector.{quarter, cross-swap, cross-opposite
 use Rattle.plane.specs.theory.forms.HalfPlane.{up-opposite}
 use Rattle.plane.specs.theory.forms.Angle.{before-alike}
 use Rattle.plane.specs.theory.forms.SameWay.{SameWay, neither-same}
-use Rattle.plane.specs.theory.sum.Positions.{edgeOf, edge-at, edges-some, in-order-at, in-order-non-zero}
+use Rattle.plane.specs.theory.sum.Positions.{edgeOf, edge-at, edges-some, in-order-non-zero}
 use Rattle.measure.specs.Comparison.{Facing}
 use Rattle.measure.specs.Half.{Chains, Antipodal, HalfStep, right, left}
 use Rattle.measure.specs.theory.Tied.{opposite-non-zero, Tied, after, behind, tied}
 use Rattle.plane.specs.theory.sum.Positions.{shape-in-order}
 use Rattle.measure.specs.theory.CutCorner.{Cut, cut-furthest, cut-next}
-use Rattle.measure.specs.theory.Chains.{chains-in, up-right, up-left, cross-facing, late-cross, cut-right, cut-left}
+use Rattle.measure.specs.theory.Chains.{chains-in, up-right, up-left, chain-turns, cross-facing, back-below, late-cross}
+use Rattle.measure.specs.theory.Chains.{cut-right, cut-left}
 use Rattle.measure.specs.theory.Height.{furthest-height, height-furthest}
-
-back-le : (e f : Point) → pos 0 ≤ℤ cross e f → cross f e ≤ℤ pos 0
-back-le e f g = lia (cross e f ∷ cross f e ∷ []) (g & cross-swap e f) (search linear depth 40) (omega arith)
 
 module _ {A : List Point} {t : ℕ} (s : IsShape A) (h : Chains A t) where
   non-zero : (k : ℕ) → k < length (edges A) → NonZero (corner (edges A) k)
   non-zero k l = in-order-non-zero (edges A) (shape-in-order A s) k l
-
-  -- a later edge of one chain turns left
-  alike-cross : (k p : ℕ) → k < p → p < length (edges A) → up (corner (edges A) k) ≡ up (corner (edges A) p)
-      → pos 0 <ℤ cross (corner (edges A) k) (corner (edges A) p)
-  alike-cross k p l n e = ltZ-true {x = pos 0} (sym (before-alike (corner (edges A) k) (corner (edges A) p) e)
-      ∙ in-order-at (edges A) (shape-in-order A s) k p l n .before-true)
 
   -- parallel edges of the two chains point opposite ways
   opposite-ways : (i p : ℕ) → i < t → t ≤ p → p < length (edges A) → cross (corner (edges A) i) (corner (edges A) p) ≡ pos 0
@@ -68,13 +60,13 @@ module _ {A : List Point} {t : ℕ} (s : IsShape A) (h : Chains A t) where
 
   module _ {e j : ℕ} (e-in : e < length (edges A)) (c : Cut A (quarter (corner (edges A) e)) j) where
     cut-turn : edgeTurn A e (round (length A) j) ≡ height A e
-    cut-turn = furthest-height A e (s .some) (round (length A) j) (subst (λ (f : Point). value (quarter f) (cornerRound A j) ≡ support (quarter f) A) (edge-at A e e-in)
-        (cut-furthest s c))
+    cut-turn = furthest-height A e (s .some) (round (length A) j)
+        (subst (λ (f : Point). value (quarter f) (cornerRound A j) ≡ support (quarter f) A) (edge-at A e e-in) (cut-furthest s c))
 
     other-turn : j < length (edges A) → SameWay (corner (edges A) j) (opposite (corner (edges A) e))
         → edgeTurn A e (round (length A) (j + 1)) ≡ height A e
-    other-turn l w = furthest-height A e (s .some) (round (length A) (j + 1)) (subst (λ (f : Point). value (quarter f) (cornerRound A (j + 1)) ≡ support (quarter f) A)
-        (edge-at A e e-in) (cut-next s c l w))
+    other-turn l w = furthest-height A e (s .some) (round (length A) (j + 1))
+        (subst (λ (f : Point). value (quarter f) (cornerRound A (j + 1)) ≡ support (quarter f) A) (edge-at A e e-in) (cut-next s c l w))
 
   -- ---- an edge of the left-hand chain
 
@@ -82,7 +74,7 @@ module _ {A : List Point} {t : ℕ} (s : IsShape A) (h : Chains A t) where
     furthest-left : m < length (edges A) → (i < t → pos 0 ≤ℤ cross (corner (edges A) i) (corner (edges A) m))
         → Cut A (quarter (corner (edges A) m)) i
     furthest-left l c = cut-right s h (opposite (corner (edges A) m)) (up-left h s m (z .left-from) l .precedes-true) refl (z .right-in)
-        (λ k a. rw cross-facing (z .right-passed k a l)) (λ a. rw cross-facing (back-le (corner (edges A) i) (corner (edges A) m) (c a)))
+        (λ k a. rw cross-facing (z .right-passed k a l)) (λ a. rw cross-facing (back-below (corner (edges A) i) (corner (edges A) m) (c a)))
 
     -- ---- an edge of the right-hand chain
 
@@ -102,8 +94,8 @@ module _ {A : List Point} {t : ℕ} (s : IsShape A) (h : Chains A t) where
         earlier k a b =
             let k-in : k < length (edges A) = omega (arith, p-in) in
             rw cross-turned at (late-cross (up-left h s k a k-in) (up-right h i l) (up-left h s p p-from p-in)
-            (rw cross-opposite (alike-cross k p b p-in (h .falls k a k-in ∙ sym (h .falls p p-from p-in))))
-            (rw cross-facing (back-le (corner (edges A) i) (corner (edges A) p) p-passed)))
+            (rw cross-opposite (chain-turns s k p b p-in (h .falls k a k-in ∙ sym (h .falls p p-from p-in))))
+            (rw cross-facing (back-below (corner (edges A) i) (corner (edges A) p) p-passed)))
 
         alone : pos 0 <ℤ cross (corner (edges A) i) (corner (edges A) p) → Cut A (quarter (corner (edges A) i)) m
         alone x = cut-left s h (corner (edges A) i) (h .rises i l) refl (z .left-from) (z .left-in) (λ k a b. passed k (omega arith) a)

@@ -1,5 +1,5 @@
 -- When two corners of a shape are furthest in one direction: they are the ends of an edge that points across it.
---     parallel-same       vectors with no turn between them point the same way, or one and the other's opposite do
+--     opposite-non-zero   the opposite of a vector that is not zero
 --     Tied ps d r k       corner k ends the edge from r, or r the edge from k, and the edge points the way of `quarter d`
 --     tied                so stand two furthest corners
 use mathlib.Core.Path.{_≡_, refl, sym, _∙_, ap}
@@ -15,17 +15,17 @@ use lib.ListN.{length}
 use lib.Signed.{_≤ℤ_, _<ℤ_}
 use Rattle.integer.specs.Ring.{ring, reify}
 use Rattle.integer.specs.Linear.{lia, linear, _&_}
-use Rattle.integer.specs.Order.{_<×<_, _≤×<_, _≡×_, contra<, le-of-eq, le-ltZ, ltZ-false}
+use Rattle.integer.specs.Order.{_<×<_, _≤×<_, _≡×_, contra<, le-of-eq, le-ltZ}
 use Rattle.plane.specs.Point.{Point, corner, _⊖_, opposite}
 use Rattle.plane.specs.Turn.{cross, turn-cross}
 use Rattle.plane.specs.Shape.{next, IsShape}
 use Rattle.plane.specs.Direction.{value, support}
-use Rattle.plane.specs.Forms.{up, before, NonZero}
+use Rattle.plane.specs.Forms.{up, NonZero}
 use Rattle.plane.specs.theory.lists.Members.{point-path, position-member}
 use Rattle.plane.specs.theory.forms.Vector.{quarter, cross-swap, ⊖-zero}
 use Rattle.plane.specs.theory.forms.HalfPlane.{up-opposite}
-use Rattle.plane.specs.theory.forms.Angle.{before-alike, before-irrefl}
-use Rattle.plane.specs.theory.forms.SameWay.{SameWay, same-up, same-left, same-right, neither-same}
+use Rattle.plane.specs.theory.forms.Angle.{before-alike}
+use Rattle.plane.specs.theory.forms.SameWay.{SameWay, neither-same}
 use Rattle.plane.specs.theory.support.Support.{value-le-support}
 use Rattle.plane.specs.theory.sum.Positions.{edgeOf, round-within, corner-injective}
 
@@ -47,7 +47,7 @@ opposite-flat : (v t : Point) → cross v t ≡ pos 0 → cross (opposite v) t �
 unfolding cross
 opposite-flat v t h = lia (v .x ∷ v .y ∷ t .x ∷ t .y ∷ []) h (search linear depth 40) (omega arith)
 
-pub parallel-same : (v t : Point) → NonZero v → NonZero t → cross v t ≡ pos 0 → SameWay v t ⊎ SameWay (opposite v) t
+parallel-same : (v t : Point) → NonZero v → NonZero t → cross v t ≡ pos 0 → SameWay v t ⊎ SameWay (opposite v) t
 parallel-same v t nv nt h = go (up v) refl (up t) refl
   where
     turned : not (up v) ≡ up t → SameWay (opposite v) t

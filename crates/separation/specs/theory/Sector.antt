@@ -7,7 +7,7 @@
 --     edge-outermost, edge-nonzero     in it no corner is further than the edge; in a polygon it is not zero
 --     left→reached                     a point that is right of no edge of a polygon is in every direction no further than the polygon
 --     left→passed                      left of all edges: the polygon is further in every direction other than (0,0)
-use mathlib.Core.Path.{_≡_, sym, _∙_, ap}
+use mathlib.Core.Path.{_≡_, _∙_, ap}
 use mathlib.Core.Logic.{_⊎_, inl, inr}
 use mathlib.Core.List.{List, [], _∷_}
 use Prim.Native.Nat.{ℕ, _<_}
@@ -17,24 +17,7 @@ use lib.ListN.{length}
 use lib.Signed.{_≤ℤ_, _<ℤ_}
 use Rattle.integer.specs.Ring.{ring, reify}
 use Rattle.integer.specs.Linear.{linear, lia, _&_}
-use Rattle.integer.specs.Order.{
-  _<×<_,
-  _<×≤_,
-  _≤×≤_,
-  _≡×_,
-  Compared,
-  is-below,
-  is-equal,
-  is-above,
-  compared,
-  lt-or-le,
-  contra<,
-  contra≤,
-  weaken,
-  le-of-eq,
-  le-antisym,
-  square-nonneg,
-}
+use Rattle.integer.specs.Order.{_<×<_, _<×≤_, _≤×≤_, _≡×_, Compared, is-below, is-equal, is-above, compared, lt-or-le, contra<, contra≤, le-antisym, square-nonneg}
 use Rattle.plane.specs.Point.{Point, origin, corner}
 use Rattle.plane.specs.Turn.{turn, Left}
 use Rattle.plane.specs.Shape.{next, IsShape}

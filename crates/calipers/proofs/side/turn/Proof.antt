@@ -1,5 +1,4 @@
 -- `turn` meets its contract: products of small parts, and their difference, fit 64 bits.
-use borrow.Author.Needs.{needs}
 use Rattle.integer.specs.Bound.{within-add, within-neg}
 use Rattle.integer.specs.Machine.{Machine, machine, bounded, known, machine-fits, machine-is}
 use Rattle.plane.specs.Turn.{cross}

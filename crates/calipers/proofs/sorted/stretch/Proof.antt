@@ -9,7 +9,7 @@ use lib.Signed.{leZ, _<ℤ_}
 use mir.Syntax.{w64}
 use Rattle.integer.specs.Machine.{result-is}
 use Rattle.integer.specs.Order.{leZ-false}
-use Rattle.plane.specs.Point.{points, corner}
+use Rattle.plane.specs.Point.{points}
 use Rattle.plane.specs.Turn.{cross}
 use Rattle.plane.specs.Forms.{up, edges}
 use Rattle.calipers.specs.Side.{Carried}

@@ -1,10 +1,12 @@
 -- `longest` meets its contract. The invariant: the best pair of the places passed; the measure is how many steps are to come at most.
-use Prim.Native.Nat.{_+_, _-_}
+use Prim.Native.Nat.{_+_, _-_, _<_}
 use native.Mathlib.Omega.{arith}
 use borrow.Author.Needs.{needs}
+use Rattle.plane.specs.Point.{points}
+use Rattle.measure.specs.Half.{HalfStep}
 use Rattle.measure.specs.Scan.{HalfAt}
 use Rattle.measure.specs.theory.Chains.{chains-in}
-use Rattle.measure.proofs.Stepped.{half-start, half-edges, half-corners, half-room, half-moved, half-next, half-less}
+use Rattle.measure.proofs.Stepped.{half-start, half-edges, half-corners, half-room, half-on}
 use Rattle.measure.proofs.Pairs.{Search, search-start, search-next, search-done}
 use Rattle.measure.proofs.longest.longest.Statement.{statement}
 use Rattle.measure.proofs.longest.longest.Tie as tie
@@ -62,40 +64,42 @@ next-requires c κs =
 
 next-requires-2 : tie.Need-next-requires-2 Inv-loop μ-loop
 next-requires-2 c κs =
-    let half = c .before .before .before .before .before .loop .inv .half in (half .left-side, half .valid .inRange, half .valid .shape .some)
+    let half = c .before .before .before .before .before .loop .inv .half in
+    (half .left-side, half .valid .inRange, half .valid .shape .some)
 
--- the two sides after the step
+-- the step, and the two sides after it
 goes-on : (c : tie.After-next2 Inv-loop μ-loop) → let at-loop = c .before .before .before .before .before .before in
-    let start = at-loop .before .before .before .before .before .before .before in
-    HalfAt (start .args .list .now) (at-loop .before .before .before .before .before .top .result) (c .before .next .result) (c .next2 .result)
+    let at-sides = at-loop .before .before .before .before in
+    let top = at-sides .before .top .result in
+    let end = at-sides .sides .result in
+    let s = at-loop .loop .s in
+    let t = at-loop .loop .t in
+    let s′ = c .before .next .result in
+    let t′ = c .next2 .result in
+    let l = at-sides .before .before .before .args .list .now in
+    HalfStep (points l) top (s .at) (t .at) (s′ .at) (t′ .at) × HalfAt l top s′ t′
+    × (top + end - (s′ .at + t′ .at) < top + end - (s .at + t .at))
 goes-on c =
-    let at-order = c .before .before in
-    let inv = at-order .before .before .before .before .loop .inv in
-    half-next (inv .half) (inv .sides) (omega (arith, at-order .before .if1 .taken)) (at-order .goes-right .ensures) (c .before .next .ensures)
-    (c .next2 .ensures)
+    let at-right = c .before .before in
+    let inv = at-right .before .before .before .before .loop .inv in
+    half-on (inv .half) (inv .sides) (omega (arith, at-right .before .if1 .taken)) (at-right .goes-right .ensures)
+    (c .before .next .ensures) (c .next2 .ensures)
 
 apart-requires-2 : tie.Need-apart-requires-2 Inv-loop μ-loop
-apart-requires-2 c κs = half-corners (goes-on c)
+apart-requires-2 c κs = half-corners (goes-on c .1)
 
 better-requires : tie.Need-better-requires Inv-loop μ-loop
 better-requires c κs = search needs
 
 loop-less : tie.Need-loop-less Inv-loop μ-loop
-loop-less c =
-    let at-next = c .before .before in
-    let at-order = at-next .before .before in
-    let inv = at-order .before .before .before .before .loop .inv in
-    half-less (inv .half) (inv .sides) (omega (arith, at-order .before .if1 .taken)) (at-order .goes-right .ensures) (at-next .before .next .ensures)
-    (at-next .next2 .ensures)
+loop-less c = goes-on (c .before .before) .2
 
 loop-again : tie.Need-loop-again Inv-loop μ-loop
 loop-again c =
     let at-next = c .before .before in
-    let at-order = at-next .before .before in
-    let inv = at-order .before .before .before .before .loop .inv in
-    search-next inv (goes-on at-next)
-    (half-moved (inv .half) (inv .sides) (omega (arith, at-order .before .if1 .taken)) (at-order .goes-right .ensures) (at-next .before .next .ensures)
-    (at-next .next2 .ensures)) (c .before .apart2 .ensures) (c .better .ensures)
+    let on = goes-on at-next in
+    search-next (at-next .before .before .before .before .before .before .loop .inv) (on .1) (on .0) (c .before .apart2 .ensures)
+    (c .better .ensures)
 
 returns : tie.Need-returns Inv-loop μ-loop
 returns c = search-done (c .before .before .before .loop .inv) (omega (arith, c .if1 .left))

@@ -75,17 +75,14 @@ some-before c =
     let at-far = c .before .before .before in
     not-first _ _ _ (far-has (at-far .before .before .pre) (at-far .round2 .ensures .0)) (first-nearer c)
 
-sub-turn-at : tie.Need-sub-turn-at
-sub-turn-at c = some-before c
+sub-before : tie.Need-sub-before
+sub-before c = some-before c
 
 turn-at-requires-3 : tie.Need-turn-at-requires-3
 turn-at-requires-3 c κs =
     let at-far = c .before .before .before in
     let pre = at-far .before .before .pre in
     (pre .edge-in, at-far .before .round .ensures .1, omega (arith, at-far .round2 .ensures .1), pre .valid .inRange)
-
-sub-result : tie.Need-sub-result
-sub-result c = some-before (c .before .before)
 
 returns-2 : tie.Need-returns-2
 returns-2 c =
@@ -94,8 +91,8 @@ returns-2 c =
     let pre = at-far .before .before .pre in
     facing-before (pre .valid .shape) (omega (arith, pre .three)) (pre .edge-in) (at-far .round2 .ensures .1)
     (far-has pre (at-far .round2 .ensures .0)) (first-nearer at-else)
-    (as-far pre (at-far .before .round .ensures .0) (at-far .round2 .ensures .0) _ (far-is (at-else .before .before)) (before-turn (c .before))
-    (omega (arith, at-far .round2 .ensures .1)) (c .if2 .taken))
+    (as-far pre (at-far .before .round .ensures .0) (at-far .round2 .ensures .0) _ (far-is (at-else .before .before))
+    (before-turn (c .before)) (omega (arith, at-far .round2 .ensures .1)) (c .if2 .taken))
 
 returns-3 : tie.Need-returns-3
 returns-3 c =
@@ -110,5 +107,5 @@ returns-3 c =
 pub first-facing-spec : {M : Type 1} → statement M
 first-facing-spec =
     tie.close
-    (tie.spec add-round round-requires round-requires-2 turn-at-requires turn-at-requires-2 returns sub-turn-at turn-at-requires-3 sub-result
+    (tie.spec add-round round-requires round-requires-2 turn-at-requires turn-at-requires-2 returns sub-before turn-at-requires-3
     returns-2 returns-3)

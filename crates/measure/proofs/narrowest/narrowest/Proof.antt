@@ -3,7 +3,7 @@ use Prim.Native.Nat.{_+_, _-_}
 use native.Mathlib.Omega.{arith}
 use borrow.Author.Needs.{needs}
 use Rattle.measure.specs.theory.Chains.{chains-in}
-use Rattle.measure.proofs.Stepped.{half-start, half-edges, half-room, half-less}
+use Rattle.measure.proofs.Stepped.{half-start, half-edges, half-room, half-on}
 use Rattle.measure.proofs.Sweep.{Sweep, sweep-start, sweep-fits, sweep-next, sweep-done}
 use Rattle.measure.proofs.narrowest.narrowest.Statement.{statement}
 use Rattle.measure.proofs.narrowest.narrowest.Tie as tie
@@ -52,7 +52,8 @@ pick-requires-2 c κs = search needs
 measured-requires : tie.Need-measured-requires Inv-loop μ-loop
 measured-requires c κs =
     let at-right = c .before .before in
-    sweep-fits (at-right .before .before .before .before .loop .inv) (at-right .goes-right .result) (c .before .pick .ensures) (c .pick2 .ensures)
+    sweep-fits (at-right .before .before .before .before .loop .inv) (at-right .goes-right .result) (c .before .pick .ensures)
+    (c .pick2 .ensures)
 
 narrower-requires : tie.Need-narrower-requires Inv-loop μ-loop
 narrower-requires c κs = search needs
@@ -71,8 +72,8 @@ loop-less : tie.Need-loop-less Inv-loop μ-loop
 loop-less c =
     let at-right = c .before .before .before .before .before .before in
     let inv = at-right .before .before .before .before .loop .inv in
-    half-less (inv .half) (inv .sides) (omega (arith, at-right .before .if1 .taken)) (at-right .goes-right .ensures) (c .before .next .ensures)
-    (c .next2 .ensures)
+    half-on (inv .half) (inv .sides) (omega (arith, at-right .before .if1 .taken)) (at-right .goes-right .ensures)
+    (c .before .next .ensures) (c .next2 .ensures) .2
 
 loop-again : tie.Need-loop-again Inv-loop μ-loop
 loop-again c =
@@ -80,8 +81,8 @@ loop-again c =
     let at-picked = at-narrower .before .before in
     let at-right = at-picked .before .before in
     sweep-next (at-right .before .before .before .before .loop .inv) (at-right .goes-right .result) (at-picked .before .pick .ensures)
-    (at-picked .pick2 .ensures) (omega (arith, at-right .before .if1 .taken)) (at-right .goes-right .ensures) (c .before .next .ensures)
-    (c .next2 .ensures) (at-narrower .before .measured .ensures) (at-narrower .narrower .ensures)
+    (at-picked .pick2 .ensures) (omega (arith, at-right .before .if1 .taken)) (at-right .goes-right .ensures)
+    (c .before .next .ensures) (c .next2 .ensures) (at-narrower .before .measured .ensures) (at-narrower .narrower .ensures)
 
 returns : tie.Need-returns Inv-loop μ-loop
 returns c = sweep-done (c .before .before .before .loop .inv) (omega (arith, c .if1 .left))

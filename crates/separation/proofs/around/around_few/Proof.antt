@@ -1,5 +1,5 @@
 -- `around_few` meets its contract: the first edge of the sum, and the value of its ends.
-use mathlib.Core.Path.{_≡_, refl, sym, _∙_, ap, ap₂, subst}
+use mathlib.Core.Path.{_≡_, refl, sym, _∙_, ap, ap₂}
 use mathlib.Core.Bool.{Bool, false, cond}
 use native.Mathlib.Omega.{arith}
 use lib.IntN.{ℤ, pos}
@@ -14,10 +14,10 @@ use Rattle.plane.specs.Direction.{value}
 use Rattle.plane.specs.VectorSum.{vectorSum}
 use Rattle.polygon.specs.theory.Small.{small-plus}
 use Rattle.calipers.specs.Side.{walkOf}
-use Rattle.calipers.specs.Walk.{Walk, begun, At}
+use Rattle.calipers.specs.Walk.{begun, At}
 use Rattle.calipers.specs.theory.Carry.{sides-walk, sides-here, sides-advanced, sides-at, first-next, second-next, corners-fit, edges-fit}
 use Rattle.separation.specs.Around.{placedFew}
-use Rattle.separation.proofs.Passing.{Passing, passing-start, passing-at, passing-corners}
+use Rattle.separation.proofs.Passing.{passing-start, passing-corners}
 use Rattle.separation.proofs.around.around_few.Statement.{statement}
 use Rattle.separation.proofs.around.around_few.Tie as tie
 
