@@ -1,6 +1,5 @@
 -- The two chains of two shapes together. Our own, not of document 01. A shape's right-hand chain runs up from its first corner to its
 -- last by y, then by x (its peak), its left-hand chain from there down to the first corner again.
---     Peak ps t            the corners rise up to position t, and no further
 --     home ps t            where the chain down ends on the way round: behind the last corner, and for a point at its one corner
 --     isRight s t p        p lies strictly to the right of the line from s to t
 --     rowFirst, rowEnd, taken      of the corners from one end of a chain to the other, those that may stand on the chain from s to t: an
@@ -10,7 +9,7 @@
 use mathlib.Core.Path.{_≡_}
 use mathlib.Core.Bool.{Bool, true, false, cond}
 use mathlib.Core.List.{List, _++_}
-use Prim.Native.Nat.{ℕ, suc, _+_, _-_, _<_}
+use Prim.Native.Nat.{ℕ, _+_, _-_}
 use lib.Dec.{eqb}
 use lib.IntN.{pos}
 use lib.ListN.{length}
@@ -18,12 +17,8 @@ use lib.Signed.{ltZ}
 use Rattle.plane.specs.Point.{Point, corner}
 use Rattle.plane.specs.Turn.{turn}
 use Rattle.plane.specs.Shape.{precedes}
+use Rattle.polygon.specs.Peak.{Peak}
 use Rattle.hull.specs.Order.{foremost, closed, run}
-
-pub record Peak (ps : List Point) (t : ℕ) : Type 0 where
-  pub within : t < length ps
-  pub rises : (k : ℕ) → k < t → precedes (corner ps k) (corner ps (suc k)) ≡ true
-  pub falls : suc t < length ps → precedes (corner ps t) (corner ps (suc t)) ≡ false
 
 abbrev pub home : List Point → ℕ → ℕ
 home ps t = cond (eqb t 0) 0 (length ps)

@@ -18,6 +18,7 @@ ghost use Rattle.polygon.specs.Point.{at};
 ghost use Rattle.hull.specs.Buffer.{Chained};
 ghost use Rattle.hull.specs.Chain.{rightRows, leftRows, Spread};
 use polygon::corners;
+use polygon::peak;
 use polygon::point;
 use polygon::point::Point;
 
@@ -32,8 +33,8 @@ pub fn merge(a: &[i32], b: &[i32], buf: &mut [i32]) -> usize
         × (length (points (now a)) + length (points (now b)) ≤ length (points (now buf))) ⌝ }
     ensures { λ r. ⌜ Front (shapeOf (points (now (a .entry)) ++ points (now (b .entry)))) r (now (buf .exit)) ⌝ }
 {
-    let i = rows::top(a);
-    let j = rows::top(b);
+    let i = peak::top(a);
+    let j = peak::top(b);
     let bottom = rows::foremost(true, a, 0, b, 0);
     let top = rows::foremost(false, a, i, b, j);
     if point::precedes(bottom, top) {

@@ -2,13 +2,13 @@
 // corner of all to the greatest; a chain down is the left-hand one, from there back.
 ghost use mathlib.Core.Bool.{true};
 ghost use mathlib.Core.Path.{_≡_};
-ghost use Prim.Native.Nat.{_+_, _^_, _<_, _≤_};
+ghost use Prim.Native.Nat.{_^_, _<_, _≤_};
 ghost use lib.ListN.{length};
 ghost use Rattle.plane.specs.Point.{points, corner};
 ghost use Rattle.plane.specs.Refusal.{InRange};
 ghost use Rattle.polygon.specs.Point.{at, Small};
 ghost use Rattle.hull.specs.Order.{closed, Line, order as Order·order, foremost as Order·foremost};
-ghost use Rattle.hull.specs.Chain.{rowFirst, rowEnd, Peak, home as Chain·home, isRight as Chain·isRight};
+ghost use Rattle.hull.specs.Chain.{rowFirst, rowEnd, home as Chain·home, isRight as Chain·isRight};
 use crate::order;
 use crate::scan;
 use polygon::corners;
@@ -54,22 +54,6 @@ pub fn closed_at(list: &[i32], i: usize) -> Point
     } else {
         corners::corner_at(list, 0)
     }
-}
-
-// The position of the last corner by y, then by x: corners rise up to it.
-pub fn top(list: &[i32]) -> usize
-    requires { ⌜ 0 < length (points (now list)) ⌝ }
-    ensures { λ r. ⌜ Peak (points (now (list .entry))) r ⌝ }
-{
-    let n = corners::count(list);
-    let mut top = 0;
-    while top + 1 < n {
-        if !corners::precedes_at(list, top, top + 1) {
-            return top;
-        }
-        top += 1;
-    }
-    top
 }
 
 // The position on the way round where the chain down from the top ends; a point is its own.

@@ -15,6 +15,7 @@ use calipers::edges;
 use calipers::side;
 use calipers::side::Side;
 use polygon::corners;
+use polygon::peak;
 
 // The first of all pairs at the greatest distance. The best so far is carried with its distance.
 pub fn longest(list: &[i32]) -> Length
@@ -22,7 +23,7 @@ pub fn longest(list: &[i32]) -> Length
     ensures { λ r. ⌜ IsLength (points (now (list .entry))) r ⌝ }
 {
     let n = corners::count(list);
-    let top = half::top(list);
+    let top = peak::top(list);
     let end = edges::sides(list);
     let mut s = side::side_at(list, 0);
     let mut t = side::side_at(list, top);

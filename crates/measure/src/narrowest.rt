@@ -14,6 +14,7 @@ use calipers::edges;
 use calipers::side;
 use calipers::side::Side;
 use polygon::corners;
+use polygon::peak;
 
 // An edge, a corner on the way round that is furthest from it, that corner's turn and the edge's squared length.
 pub struct Across {
@@ -28,7 +29,7 @@ pub fn narrowest(list: &[i32]) -> Across
     requires { ⌜ Valid (now list) × (2 < length (points (now list))) ⌝ }
     ensures { λ r. ⌜ Best (now (list .entry)) r ⌝ }
 {
-    let top = half::top(list);
+    let top = peak::top(list);
     let end = edges::sides(list);
     let mut s = side::side_at(list, 0);
     let mut t = side::side_at(list, top);

@@ -9,7 +9,7 @@ use mathlib.Core.Path.{_≡_, refl, sym, _∙_, ap, subst}
 use mathlib.Core.Bool.{Bool, true, false, true≢false}
 use mathlib.Core.List.{List, [], _∷_}
 use mathlib.Core.Logic.{inl, inr}
-use Prim.Native.Nat.{ℕ, zero, suc, _+_, _-_, _^_, _≤_, _<_}
+use Prim.Native.Nat.{ℕ, suc, _+_, _-_, _^_, _≤_, _<_}
 use native.Mathlib.Decide.{ℕ-discrete, decLt}
 use native.Mathlib.Omega.{arith}
 use borrow.Author.Tests.{eq-eqb, ne-eqb}
@@ -22,18 +22,16 @@ use Rattle.plane.specs.Point.{Point, origin, points, corner}
 use Rattle.plane.specs.Turn.{turn, Left, turn-cycle}
 use Rattle.plane.specs.Direction.{value}
 use Rattle.plane.specs.Shape.{precedes, IsShape}
-use Rattle.plane.specs.Forms.{Precedes, Ordered}
+use Rattle.plane.specs.Forms.{Precedes}
 use Rattle.plane.specs.Refusal.{InRange}
 use Rattle.plane.specs.theory.lists.Members.{_∈_, member-position, position-member}
-use Rattle.plane.specs.theory.forms.Precedes.{Placed, ahead, same, behind, placed, precedes-trans, precedes-asym}
-use Rattle.plane.specs.theory.forms.Round.{turn-bottom}
-use Rattle.plane.specs.theory.forms.Standard.{all-at, triples-at, shape→ordered}
-use Rattle.plane.specs.theory.sum.Positions.{corner-injective}
 use Rattle.plane.specs.theory.hull.Halves.{Sideways, upward, downward, value-between}
+use Rattle.polygon.specs.Peak.{Peak}
+use Rattle.polygon.specs.theory.Peak.{least, left, rise, behind-peak, fall}
 use Rattle.polygon.specs.Point.{Small}
 use Rattle.polygon.specs.theory.Small.{small-corner}
 use Rattle.hull.specs.Order.{Ahead, closed, Rises}
-use Rattle.hull.specs.Chain.{Peak, home}
+use Rattle.hull.specs.Chain.{home}
 use Rattle.hull.specs.theory.Ahead.{NotBehind, up-ahead, down-ahead}
 
 -- ---- the way round
@@ -61,81 +59,6 @@ closed-member ps some = closed-at (λ p. p ∈ ps) ps some (position-member ps)
 pub closed-small : (l : List ℤ) → InRange l → 0 < length (points l) → (i : ℕ) → i ≤ length (points l)
     → Small (2 ^ 21) (corner (closed (points l)) i)
 closed-small l r some = closed-at (Small (2 ^ 21)) (points l) some (λ i h. small-corner l r i h refl)
-
--- ---- up to the peak, and down from it
-
-module _ (ps : List Point) (shape : IsShape ps) where
-  least : (j : ℕ) → 0 < j → j < length ps → Precedes (corner ps 0) (corner ps j)
-  least j h l = go ps (shape→ordered ps shape) j h l
-    where
-      go : (l : List Point) → Ordered l → (j : ℕ) → 0 < j → j < length l → Precedes (corner l 0) (corner l j)
-      go [] o j h k = absurd o
-      go (p ∷ l) o zero h k = absurd (omega arith)
-      go (p ∷ l) o (suc j) h k = all-at (λ q. Precedes p q) l (o .0) j (omega arith)
-
-  left : (i j k : ℕ) → i < j → j < k → k < length ps → Left (corner ps i) (corner ps j) (corner ps k)
-  left = go ps (shape→ordered ps shape)
-    where
-      go : (l : List Point) → Ordered l → (i j k : ℕ) → i < j → j < k → k < length l → Left (corner l i) (corner l j) (corner l k)
-      go [] o i j k a b c = absurd o
-      go (p ∷ l) o i j k a b c = triples-at (p ∷ l) (o .1) i j k a b c
-
-  different : (i j : ℕ) → i < j → j < length ps → corner ps i ≡ corner ps j → ⊥
-  different i j h l e = omega (arith, corner-injective ps shape i j (omega arith) l e)
-
-  -- a corner is not below one before it and one behind it
-  no-bottom : (i k j : ℕ) → i < k → k < j → j < length ps → Precedes (corner ps k) (corner ps i) → Precedes (corner ps k) (corner ps j) → ⊥
-  no-bottom zero k j a b l u v = precedes-asym (least k a (omega arith)) u
-  no-bottom (suc i) k j a b l u v =
-      turn-bottom (least k (omega arith) (omega arith)) u v (left 0 (suc i) k (omega arith) a (omega arith)) (left 0 k j (omega arith) b l)
-      (left (suc i) k j a b l)
-
-  module _ (t : ℕ) (peak : Peak ps t) where
-    climb : (j m : ℕ) → suc (j + m) ≤ t → Precedes (corner ps j) (corner ps (suc (j + m)))
-    climb j zero h =
-        let e : suc (j + 0) ≡ suc j = omega arith in
-        subst (λ k. Precedes (corner ps j) (corner ps k)) (sym e) (record { precedes-true = peak .rises j (omega arith) })
-    climb j (suc m) h =
-        let e : suc (j + suc m) ≡ suc (suc (j + m)) = omega arith in
-        subst (λ k. Precedes (corner ps j) (corner ps k)) (sym e)
-        (precedes-trans (climb j m (omega arith)) (record { precedes-true = peak .rises (suc (j + m)) (omega arith) }))
-
-    rise : (j k : ℕ) → j < k → k ≤ t → Precedes (corner ps j) (corner ps k)
-    rise j k h l = let e : k ≡ suc (j + (k - suc j)) = omega arith in
-        subst (λ i. Precedes (corner ps j) (corner ps i)) (sym e) (climb j (k - suc j) (omega arith))
-
-    -- the peak's next corner, and so every later one, is below it
-    behind-peak : (k : ℕ) → t < k → k < length ps → Precedes (corner ps k) (corner ps t)
-    behind-peak k h l = go (placed (corner ps t) (corner ps k))
-      where
-        next : Placed (corner ps t) (corner ps (suc t)) → Precedes (corner ps (suc t)) (corner ps t)
-        next (ahead u) = absurd (true≢false (sym (u .precedes-true) ∙ peak .falls (omega arith)))
-        next (same e) = absurd (different t (suc t) (omega arith) (omega arith) e)
-        next (behind u) = u
-
-        down : Precedes (corner ps (suc t)) (corner ps t)
-        down = next (placed (corner ps t) (corner ps (suc t)))
-
-        go : Placed (corner ps t) (corner ps k) → Precedes (corner ps k) (corner ps t)
-        go (ahead u) = split (ℕ-discrete k (suc t))
-          where
-            split : Dec (k ≡ suc t) → Precedes (corner ps k) (corner ps t)
-            split (yes e) = subst (λ i. Precedes (corner ps i) (corner ps t)) (sym e) down
-            split (no f) = absurd (no-bottom t (suc t) k (omega arith) (omega (arith, f)) l down (precedes-trans down u))
-        go (same e) = absurd (different t k h l e)
-        go (behind u) = u
-
-    fall : (j k : ℕ) → t ≤ j → j < k → k < length ps → Precedes (corner ps k) (corner ps j)
-    fall j k h i l = split (ℕ-discrete j t)
-      where
-        go : t < j → Placed (corner ps j) (corner ps k) → Precedes (corner ps k) (corner ps j)
-        go m (ahead u) = absurd (no-bottom t j k m i l (behind-peak j m (omega arith)) u)
-        go m (same e) = absurd (different j k i l e)
-        go m (behind u) = u
-
-        split : Dec (j ≡ t) → Precedes (corner ps k) (corner ps j)
-        split (yes e) = subst (λ x. Precedes (corner ps k) (corner ps x)) (sym e) (behind-peak k (omega arith) l)
-        split (no f) = go (omega (arith, f)) (placed (corner ps j) (corner ps k))
 
 -- ---- no other corner is further to that side
 

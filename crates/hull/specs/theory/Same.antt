@@ -13,7 +13,7 @@ use Rattle.plane.specs.theory.lists.Members.{_∈_, position-member}
 use Rattle.plane.specs.theory.forms.Standard.{sorted→shape}
 use Rattle.plane.specs.theory.hull.ShapeOf.{shapeOf-same, shape-own}
 use Rattle.hull.specs.Order.{Ahead, foremost}
-use Rattle.hull.specs.Chain.{Peak}
+use Rattle.polygon.specs.Peak.{Peak}
 use Rattle.hull.specs.theory.Ahead.{NotBehind, reaches-on, reaches-to, turned-up, foremost-le}
 use Rattle.hull.specs.theory.Peak.{peak-between}
 

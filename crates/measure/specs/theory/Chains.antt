@@ -1,5 +1,5 @@
 -- The two chains of a shape: up its right-hand side from corner 0 to the top, and down its left-hand side.
---     chains-found     where the corners stop rising, there is the top
+--     chains-found     the peak is the top
 --     chains-in        the top is a place of the half walk
 --     up-right         an edge of the right-hand chain points up; `up-left`: one of the left-hand chain, turned round
 --     chain-turns      a later edge of a chain turns left
@@ -11,6 +11,7 @@ use mathlib.Core.Path.{_≡_, refl, sym, _∙_, ap}
 use mathlib.Core.Bool.{Bool, true, false, not, cond}
 use mathlib.Core.List.{List, [], _∷_}
 use Prim.Native.Nat.{ℕ, _+_, _≤_, _<_}
+use native.Mathlib.Numerals.{add-one}
 use native.Mathlib.Omega.{arith}
 use borrow.Author.Tests.{eqb-false, ne-eqb, ltb-true, ltb-false}
 use lib.Dec.{eqb, ltb}
@@ -30,6 +31,7 @@ use Rattle.plane.specs.theory.forms.Vector.{quarter, cross-swap}
 use Rattle.plane.specs.theory.forms.HalfPlane.{Up, precedes→up, up→precedes, up-opposite, down-up, cross-trans-weak}
 use Rattle.plane.specs.theory.forms.Angle.{Earlier, apart, alike, before→earlier, earlier→before, later→not-before, before-alike}
 use Rattle.plane.specs.theory.sum.Positions.{edge-at, edges-some, in-order-at, in-order-non-zero}
+use Rattle.polygon.specs.Peak.{Peak}
 use Rattle.measure.specs.Half.{Chains}
 use Rattle.plane.specs.theory.sum.Positions.{shape-in-order}
 use Rattle.measure.specs.theory.CutCorner.{Cut, cut-made}
@@ -52,9 +54,16 @@ later-down {e} {f} b h = go (before→earlier b)
     go (apart u d) = d
     go (alike u c) = sym u ∙ h
 
-module _ {A : List Point} {t : ℕ} (s : IsShape A) (within : t < length A)
-    (rising : (k : ℕ) → k < t → precedes (corner A k) (corner A (k + 1)) ≡ true)
-    (stops : t + 1 < length A → precedes (corner A t) (corner A (t + 1)) ≡ false) where
+module _ {A : List Point} {t : ℕ} (s : IsShape A) (peak : Peak A t) where
+  within : t < length A
+  within = peak .within
+
+  rising : (k : ℕ) → k < t → precedes (corner A k) (corner A (k + 1)) ≡ true
+  rising k l = rw add-one (peak .rises k l)
+
+  stops : t + 1 < length A → precedes (corner A t) (corner A (t + 1)) ≡ false
+  stops h = rw add-one (peak .falls (omega (arith, h)))
+
   edge-up : (k : ℕ) → k < t → up (corner (edges A) k) ≡ true
   edge-up k l =
       let inner : next (length A) k ≡ k + 1 = rw (ne-eqb (k + 1) (length A) (λ e. omega arith)) in

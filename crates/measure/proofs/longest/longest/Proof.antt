@@ -5,7 +5,7 @@ use borrow.Author.Needs.{needs}
 use Rattle.plane.specs.Point.{points}
 use Rattle.measure.specs.Half.{HalfStep}
 use Rattle.measure.specs.Scan.{HalfAt}
-use Rattle.measure.specs.theory.Chains.{chains-in}
+use Rattle.measure.specs.theory.Chains.{chains-found, chains-in}
 use Rattle.measure.proofs.Stepped.{half-start, half-edges, half-corners, half-room, half-on}
 use Rattle.measure.proofs.Pairs.{Search, search-start, search-next, search-done}
 use Rattle.measure.proofs.longest.longest.Statement.{statement}
@@ -21,7 +21,7 @@ count-requires : tie.Need-count-requires Inv-loop μ-loop
 count-requires c κs = search needs
 
 top-requires : tie.Need-top-requires Inv-loop μ-loop
-top-requires c κs = c .before .pre .shape
+top-requires c κs = c .before .pre .shape .some
 
 sides-requires : tie.Need-sides-requires Inv-loop μ-loop
 sides-requires c κs = search needs
@@ -31,14 +31,14 @@ side-at-requires c κs = let v = c .before .before .before .pre in (omega arith,
 
 side-at-requires-2 : tie.Need-side-at-requires-2 Inv-loop μ-loop
 side-at-requires-2 c κs =
-    let v = c .before .before .before .before .pre in (chains-in (c .before .before .top .ensures), v .inRange, v .shape .some)
+    let v = c .before .before .before .before .pre in (chains-in (chains-found (v .shape) (c .before .before .top .ensures)), v .inRange, v .shape .some)
 
 -- the two sides before the loop
 begins : (c : tie.After-side-at2 Inv-loop μ-loop) → let start = c .before .before .before .before .before in
     HalfAt (start .args .list .now) (c .before .before .before .top .result) (c .before .side-at .result) (c .side-at2 .result)
 begins c =
     let start = c .before .before .before .before .before in
-    half-start (start .pre) (c .before .before .before .top .ensures) (c .before .side-at .ensures) (c .side-at2 .ensures)
+    half-start (start .pre) (chains-found (start .pre .shape) (c .before .before .before .top .ensures)) (c .before .side-at .ensures) (c .side-at2 .ensures)
 
 apart-requires : tie.Need-apart-requires Inv-loop μ-loop
 apart-requires c κs = half-corners (begins c)

@@ -2,7 +2,7 @@
 use Prim.Native.Nat.{_+_, _-_}
 use native.Mathlib.Omega.{arith}
 use borrow.Author.Needs.{needs}
-use Rattle.measure.specs.theory.Chains.{chains-in}
+use Rattle.measure.specs.theory.Chains.{chains-found, chains-in}
 use Rattle.measure.proofs.Stepped.{half-start, half-edges, half-room, half-on}
 use Rattle.measure.proofs.Sweep.{Sweep, sweep-start, sweep-fits, sweep-next, sweep-done}
 use Rattle.measure.proofs.narrowest.narrowest.Statement.{statement}
@@ -15,7 +15,7 @@ abbrev μ-loop : tie.MeasureT-loop
 μ-loop list top end s₀ t₀ best₀ s t best = top + end - (s .at + t .at)
 
 top-requires : tie.Need-top-requires Inv-loop μ-loop
-top-requires c κs = c .pre .0 .shape
+top-requires c κs = c .pre .0 .shape .some
 
 sides-requires : tie.Need-sides-requires Inv-loop μ-loop
 sides-requires c κs = search needs
@@ -25,13 +25,13 @@ side-at-requires c κs = let v = c .before .before .pre .0 in (omega arith, v .i
 
 side-at-requires-2 : tie.Need-side-at-requires-2 Inv-loop μ-loop
 side-at-requires-2 c κs =
-    let v = c .before .before .before .pre .0 in (chains-in (c .before .before .top .ensures), v .inRange, v .shape .some)
+    let v = c .before .before .before .pre .0 in (chains-in (chains-found (v .shape) (c .before .before .top .ensures)), v .inRange, v .shape .some)
 
 loop-holds : tie.Need-loop-holds Inv-loop μ-loop
 loop-holds c =
     let at-sides = c .before .before in
     let start = at-sides .before .before in
-    sweep-start (half-start (start .pre .0) (at-sides .before .top .ensures) (c .before .side-at .ensures) (c .side-at2 .ensures))
+    sweep-start (half-start (start .pre .0) (chains-found (start .pre .0 .shape) (at-sides .before .top .ensures)) (c .before .side-at .ensures) (c .side-at2 .ensures))
     (start .pre .1) (at-sides .sides .ensures) (c .before .side-at .ensures .0) (c .side-at2 .ensures .0)
 
 add-if1 : tie.Need-add-if1 Inv-loop μ-loop

@@ -8,8 +8,8 @@ use borrow.Author.Count.{below-more}
 use borrow.Author.Tests.{not-true, not-false}
 use Rattle.plane.specs.Point.{points, corner}
 use Rattle.plane.specs.Shape.{precedes}
-use Rattle.hull.proofs.rows.top.Statement.{statement}
-use Rattle.hull.proofs.rows.top.Tie as tie
+use Rattle.polygon.proofs.peak.top.Statement.{statement}
+use Rattle.polygon.proofs.peak.top.Tie as tie
 
 abbrev Inv-loop : tie.InvT-loop
 Inv-loop list n top₀ top =
