@@ -1,29 +1,34 @@
 -- The caliper walk round two shapes (document 01, "Sum"; its language form names the walk by value).
 -- The edges of both are passed in the order of their directions; two that point the same way are passed in one step.
---     edge A i          the edge that leaves corner i
+--     Walk              a place of it
 --     here A B w        the corner of the sum at which the walk stands; after the last corner of a shape comes its first again
 --     begun             where it begins
 --     takes, passed     whether the next step passes edge i of A, and how many are passed after it; finished: all edges of both are
 --     advanced A B w    one step further; stepped A B n w: n steps
 --     ahead A B w       the places still to come, the present one first
 --     remaining A B w   the corners of the sum that are still to come
---     At a b w          the walk stands at edges of these two lists, whose coordinates are in range
+--     At a b w          the walk stands at a place of these two lists, which are shapes with coordinates in range
 -- What it means: `Meaning.antt`; `Steps` of the theory.
 use mathlib.Core.Bool.{Bool, false, cond}
 use mathlib.Core.List.{List, []}
-use Prim.Native.Nat.{ℕ, zero, suc, _≤_, _<_}
+use Prim.Native.Nat.{ℕ, zero, suc}
 use lib.IntN.{ℤ}
-use lib.ListN.{length, drop}
-use Rattle.plane.specs.Point.{Point, points, corner, _⊕_}
+use lib.ListN.{drop}
+use Rattle.plane.specs.Point.{Point, points, _⊕_}
 use Rattle.plane.specs.Refusal.{InRange}
+use Rattle.plane.specs.Shape.{IsShape}
 use Rattle.plane.specs.Forms.{edges}
 use Rattle.plane.specs.VectorSum.{path, joinEdges}
 use Rattle.plane.specs.Cycle.{cornerRound}
-use Rattle.calipers.specs.Places.{takes as Standing·takes, passed as Standing·passed, Place, placesFrom, finished as Places·finished}
-use Rattle.calipers.specs.declared.walk.Walk.{Walk}
+use Rattle.calipers.specs.Places.{takes as Standing·takes, passed as Standing·passed, Standing, Place, placesFrom}
+use Rattle.calipers.specs.Places.{finished as Places·finished}
 
-abbrev pub edge : List Point → ℕ → Point
-edge A i = corner (edges A) i
+-- i edges of the first shape and j of the second are passed; it is over when all corners are visited: two points have no edge, and one
+-- corner to visit
+pub record Walk : Type 0 where
+  pub i : ℕ
+  pub j : ℕ
+  pub over : Bool
 
 unfoldable pub here : List Point → List Point → Walk → Point
 here A B w = cornerRound A (w .i) ⊕ cornerRound B (w .j)
@@ -60,7 +65,6 @@ remaining A B w = cond (w .over) [] (path (here A B w) (joinEdges (drop (w .i) (
 pub record At (a b : List ℤ) (w : Walk) : Type 0 where
   pub first-near : InRange a
   pub second-near : InRange b
-  pub first-some : 0 < length (points a)
-  pub second-some : 0 < length (points b)
-  pub i-in : w .i ≤ length (edges (points a))
-  pub j-in : w .j ≤ length (edges (points b))
+  pub first-shape : IsShape (points a)
+  pub second-shape : IsShape (points b)
+  pub standing : Standing (edges (points a)) (edges (points b)) (w .i) (w .j)

@@ -1,11 +1,13 @@
 -- The theory of the walk, which only proves: where it stands, the places it visits, the corners there.
 pub mod Standing
+pub mod Led
+pub mod Furthest
 pub mod Places
 pub mod PlaceCorners
 pub mod Visited
-pub mod EdgeAt
-pub mod Pass
+pub mod Sides
 pub mod Steps
+pub mod Carry
 pub mod Directions
 pub mod Visits
 pub mod Sorted

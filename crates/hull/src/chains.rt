@@ -1,92 +1,109 @@
-// Inner functions: the scan, and the two chains of a shape, the right-hand one up from the least corner, the
-// left-hand one down from the greatest.
-ghost use mathlib.Core.Path.{_≡_};
-ghost use mathlib.Core.List.{_++_};
-ghost use Prim.Native.Nat.{_+_, _<_, _≤_};
+// Inner functions: a chain of two shapes, from the rows of their corners that may stand on it.
+ghost use Prim.Native.Nat.{_+_, _-_, _^_, _<_, _≤_};
 ghost use lib.ListN.{length};
 ghost use Rattle.plane.specs.Point.{points};
-ghost use Rattle.plane.specs.Refusal.{InRange, Valid};
-ghost use Rattle.hull.specs.Buffer.{stack, Holds, Settled, Scanned, Sides};
-use crate::buffer;
+ghost use Rattle.polygon.specs.Point.{at, Small};
+ghost use Rattle.hull.specs.Buffer.{SmallTo, Scanned, Stepped, Chained};
+ghost use Rattle.hull.specs.Order.{closed, run, leftOver, inOrder, Line, Rising};
 use crate::order;
+use crate::rows;
+use crate::rows::Row;
+use crate::scan;
 use polygon::corners;
+use polygon::point::Point;
 
-// How many corners each chain has, without its last one, which is the first of the other; a point is a
-// right-hand chain.
-pub struct Chains {
-    pub right: usize,
-    pub left: usize,
+// Where two rows go on, and how many corners are kept.
+pub struct Step {
+    pub first: usize,
+    pub second: usize,
+    pub kept: usize,
 }
 
-// Writes the two chains of the shape of both lists.
-pub fn both_chains(a: &[i32], b: &[i32], right: &mut [i32], left: &mut [i32]) -> Chains
-    requires { ⌜ Valid (now a) × Valid (now b) × InRange (now right) × InRange (now left) ⌝ }
-    requires { ⌜ (length (points (now a)) + length (points (now b)) ≤ length (points (now right)))
-        × (length (now left) ≡ length (now right)) ⌝ }
-    ensures { λ r. ⌜ Sides (points (now (a .entry)) ++ points (now (b .entry))) (now (right .exit)) (r .right)
-        (now (left .exit)) (r .left) ⌝ }
+// Writes the chain from one point to another, without the second, at the front of the buffer; says how many corners it
+// has. The corners of two rows lie between the two points, and each row runs up, or down.
+pub fn chain(
+    a: &[i32],
+    row: Row,
+    b: &[i32],
+    other: Row,
+    from: Point,
+    to: Point,
+    up: bool,
+    buf: &mut [i32],
+) -> usize
+    requires { ⌜ Rising up (now a) (row .first) (row .end) × Rising up (now b) (other .first) (other .end)
+        × (1 + (row .end - row .first) + (other .end - other .first) ≤ length (points (now buf)))
+        × Small (2 ^ 21) (at from) × Small (2 ^ 21) (at to) ⌝ }
+    ensures { λ r. ⌜ Chained up (leftOver (closed (points (now (a .entry)))) (row .first) (row .end)
+        (closed (points (now (b .entry)))) (other .first) (other .end)) (at from) (at to) (now (buf .entry))
+        (now (buf .exit)) r ⌝ }
 {
-    let n = order::gather(a, b, right);
-    turn_over(right, n, left);
-    let up = scan(right, n);
-    let down = scan(left, n);
-    Chains {
-        right: up_to_last(n, up),
-        left: down - 1,
+    corners::put(buf, 0, from);
+    let kept = both(a, row, b, other, up, buf);
+    scan::settle(buf, kept, to)
+}
+
+// Pushes the corners of two rows, in order, equal ones once, on the one corner at the front of the buffer; answers how
+// many stand there then.
+fn both(a: &[i32], row: Row, b: &[i32], other: Row, up: bool, buf: &mut [i32]) -> usize
+    requires { ⌜ Rising up (now a) (row .first) (row .end) × Rising up (now b) (other .first) (other .end)
+        × (1 + (row .end - row .first) + (other .end - other .first) ≤ length (points (now buf)))
+        × SmallTo (now buf) 1 ⌝ }
+    ensures { λ r. ⌜ Scanned (now (buf .entry)) 1 (inOrder up (leftOver (closed (points (now (a .entry)))) (row .first)
+        (row .end) (closed (points (now (b .entry)))) (other .first) (other .end))) (now (buf .exit)) r ⌝ }
+{
+    let mut i = row.first;
+    let mut j = other.first;
+    let mut k = 1;
+    while i < row.end {
+        if other.end <= j {
+            return rest(a, i, row.end, buf, k);
+        }
+        let next = push_next(a, i, b, j, up, buf, k);
+        i = next.first;
+        j = next.second;
+        k = next.kept;
+    }
+    rest(b, j, other.end, buf, k)
+}
+
+// Pushes the next corner of two rows on the first k corners of the buffer.
+fn push_next(a: &[i32], i: usize, b: &[i32], j: usize, up: bool, buf: &mut [i32], k: usize) -> Step
+    requires { ⌜ Line (now a) (i + 1) × Line (now b) (j + 1) × (k < length (points (now buf))) × SmallTo (now buf) k ⌝ }
+    ensures { λ r. ⌜ Stepped up (closed (points (now (a .entry)))) i (closed (points (now (b .entry)))) j
+        (now (buf .entry)) (now (buf .exit)) k (r .first) (r .second) (r .kept) ⌝ }
+{
+    let p = rows::closed_at(a, i);
+    let q = rows::closed_at(b, j);
+    let c = rows::order(up, p, q);
+    if c <= 0 {
+        let kept = scan::push(buf, k, p);
+        return Step {
+            first: i + 1,
+            second: order::after(0 <= c, j),
+            kept,
+        };
+    }
+    let kept = scan::push(buf, k, q);
+    Step {
+        first: i,
+        second: j + 1,
+        kept,
     }
 }
 
-// All of k corners but the last, if they are kept of more than one.
-fn up_to_last(n: usize, k: usize) -> usize
-    requires { ⌜ 0 < k ⌝ }
-    ensures { λ r. ⌜ (n ≡ 1 → r ≡ 1) × ((n ≡ 1 → ⊥) → r + 1 ≡ k) ⌝ }
-{
-    if n == 1 { 1 } else { k - 1 }
-}
-
-// Copies the first n corners to the buffer, last first.
-fn turn_over(list: &[i32], n: usize, buf: &mut [i32])
-    requires { ⌜ (n ≤ length (points (now list))) × (n ≤ length (points (now buf))) × InRange (now list)
-        × InRange (now buf) ⌝ }
-    ensures { λ r. ⌜ Holds (now (buf .entry)) (now (buf .exit)) n (stack (points (now (list .entry))) n) ⌝ }
-{
-    let mut k = 0;
-    while k < n {
-        buffer::copy_corner(list, n - 1 - k, buf, k);
-        k += 1;
-    }
-}
-
-// Reads the first n corners and keeps those of their chain at the front; answers how many. Every three
-// neighbours that are kept turn strictly left.
-fn scan(buf: &mut [i32], n: usize) -> usize
-    requires { ⌜ (n ≤ length (points (now buf))) × InRange (now buf) ⌝ }
-    ensures { λ r. ⌜ Scanned (now (buf .entry)) n (now (buf .exit)) r ⌝ }
-{
-    let mut k = 0;
-    let mut i = 0;
-    while i < n {
-        let under = settle(buf, k, i);
-        let p = corners::corner_at(buf, i);
-        corners::put(buf, under, p);
-        k = under + 1;
-        i += 1;
-    }
-    k
-}
-
-// How many of the first k corners stay under corner i: the last is dropped as long as corner i does not turn
-// strictly left there.
-fn settle(list: &[i32], k: usize, i: usize) -> usize
-    requires { ⌜ (k ≤ i) × (i < length (points (now list))) × InRange (now list) ⌝ }
-    ensures { λ r. ⌜ Settled (points (now (list .entry))) k i r ⌝ }
+// Pushes the corners from one position up to another on the first k corners of the buffer; answers how many stand there
+// then.
+fn rest(list: &[i32], from: usize, end: usize, buf: &mut [i32], k: usize) -> usize
+    requires { ⌜ Line (now list) end × (k + (end - from) ≤ length (points (now buf))) × SmallTo (now buf) k ⌝ }
+    ensures { λ r. ⌜ Scanned (now (buf .entry)) k (run (closed (points (now (list .entry)))) from (end - from))
+        (now (buf .exit)) r ⌝ }
 {
     let mut kept = k;
-    while 2 <= kept {
-        if 0 < corners::turn_at(list, kept - 2, kept - 1, i) {
-            return kept;
-        }
-        kept -= 1;
+    let mut i = from;
+    while i < end {
+        kept = scan::push(buf, kept, rows::closed_at(list, i));
+        i += 1;
     }
     kept
 }

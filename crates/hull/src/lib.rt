@@ -1,18 +1,26 @@
-// Inner functions for the shape of two shapes together by the hull scan (document 01, "Merge"). Callers ask the crate
+// Inner functions for the shape of two shapes together, chain by chain (document 01, "Merge"). Callers ask the crate
 // `questions`.
 mod buffer;
 mod chains;
-mod order;
+pub mod order;
+mod rows;
+pub mod scan;
 
-ghost use Prim.Native.Nat.{_+_, _≤_};
-ghost use lib.ListN.{length, take};
+ghost use mathlib.Core.Bool.{false, true};
+ghost use Prim.Native.Nat.{suc, _+_, _≤_};
+ghost use lib.ListN.{length};
 ghost use mathlib.Core.List.{_++_};
 ghost use Rattle.plane.specs.Point.{points};
 ghost use Rattle.plane.specs.Refusal.{Valid};
 ghost use Rattle.plane.specs.Corner.{shapeOf};
 ghost use Rattle.polygon.specs.Front.{Front};
-use polygon::limits;
-use polygon::numbers;
+ghost use Rattle.polygon.specs.Point.{at};
+ghost use Rattle.hull.specs.Buffer.{Chained};
+ghost use Rattle.hull.specs.Chain.{rightRows, leftRows, Spread};
+use polygon::corners;
+use polygon::peak;
+use polygon::point;
+use polygon::point::Point;
 
 // Writes the shape of both corner lists taken together at the front of the buffer, and says how many corners it has: at
 // most as many as both shapes together, and each of them is a corner of one of the two. The shapes may overlap, lie one
@@ -25,20 +33,83 @@ pub fn merge(a: &[i32], b: &[i32], buf: &mut [i32]) -> usize
         × (length (points (now a)) + length (points (now b)) ≤ length (points (now buf))) ⌝ }
     ensures { λ r. ⌜ Front (shapeOf (points (now (a .entry)) ++ points (now (b .entry)))) r (now (buf .exit)) ⌝ }
 {
-    let mut right = [0i32; limits::PAIR_NUMBERS];
-    let mut left = [0i32; limits::PAIR_NUMBERS];
-    let chains = chains::both_chains(a, b, &mut right, &mut left);
-    join(&right, chains.right, &left, chains.left, buf)
+    let i = peak::top(a);
+    let j = peak::top(b);
+    let bottom = rows::foremost(true, a, 0, b, 0);
+    let top = rows::foremost(false, a, i, b, j);
+    if point::precedes(bottom, top) {
+        return both_chains(a, i, b, j, bottom, top, buf);
+    }
+    corners::put(buf, 0, bottom);
+    1
 }
 
-// Writes the first m corners of one list and then the first n of another at the front of the buffer; says how many.
-fn join(right: &[i32], m: usize, left: &[i32], n: usize, buf: &mut [i32]) -> usize
-    requires { ⌜ (m ≤ length (points (now right))) × (n ≤ length (points (now left)))
-        × (m + n ≤ length (points (now buf))) ⌝ }
-    ensures { λ r. ⌜ Front (take m (points (now (right .entry))) ++ take n (points (now (left .entry)))) r
-        (now (buf .exit)) ⌝ }
+// Writes the right-hand chain of both shapes, and behind it the left-hand one. The shapes' own tops are at positions i
+// and j. Every corner is in a row of one of the chains at most: so there is room for both.
+fn both_chains(
+    a: &[i32],
+    i: usize,
+    b: &[i32],
+    j: usize,
+    bottom: Point,
+    top: Point,
+    buf: &mut [i32],
+) -> usize
+    requires { ⌜ Valid (now a) × Valid (now b)
+        × Spread (points (now a)) i (points (now b)) j (at bottom) (at top)
+        × (length (points (now a)) + length (points (now b)) ≤ length (points (now buf))) ⌝ }
+    ensures { λ r. ⌜ Front (shapeOf (points (now (a .entry)) ++ points (now (b .entry)))) r (now (buf .exit)) ⌝ }
 {
-    numbers::copy(right, 2 * m, buf, 0);
-    numbers::copy(left, 2 * n, buf, 2 * m);
-    m + n
+    let right = right_chain(a, i, b, j, bottom, top, buf);
+    let start = 2 * right;
+    let left = left_chain(a, i, b, j, bottom, top, &mut buf[start..]);
+    right + left
+}
+
+// Writes the chain up from the bottom to the top, without the top, at the front of the buffer; says how many corners it
+// has.
+fn right_chain(
+    a: &[i32],
+    i: usize,
+    b: &[i32],
+    j: usize,
+    bottom: Point,
+    top: Point,
+    buf: &mut [i32],
+) -> usize
+    requires { ⌜ Valid (now a) × Valid (now b)
+        × Spread (points (now a)) i (points (now b)) j (at bottom) (at top)
+        × (suc (length (rightRows (points (now a)) i (points (now b)) j (at bottom) (at top)))
+        ≤ length (points (now buf))) ⌝ }
+    ensures { λ r. ⌜ Chained true
+        (rightRows (points (now (a .entry))) i (points (now (b .entry))) j (at bottom) (at top))
+        (at bottom) (at top) (now (buf .entry)) (now (buf .exit)) r ⌝ }
+{
+    let row = rows::trimmed(a, 0, i, bottom, top);
+    let other = rows::trimmed(b, 0, j, bottom, top);
+    chains::chain(a, row, b, other, bottom, top, true, buf)
+}
+
+// Writes the chain down from the top to the bottom, without the bottom, at the front of the buffer; says how many
+// corners it has.
+fn left_chain(
+    a: &[i32],
+    i: usize,
+    b: &[i32],
+    j: usize,
+    bottom: Point,
+    top: Point,
+    buf: &mut [i32],
+) -> usize
+    requires { ⌜ Valid (now a) × Valid (now b)
+        × Spread (points (now a)) i (points (now b)) j (at bottom) (at top)
+        × (suc (length (leftRows (points (now a)) i (points (now b)) j (at bottom) (at top)))
+        ≤ length (points (now buf))) ⌝ }
+    ensures { λ r. ⌜ Chained false
+        (leftRows (points (now (a .entry))) i (points (now (b .entry))) j (at bottom) (at top))
+        (at top) (at bottom) (now (buf .entry)) (now (buf .exit)) r ⌝ }
+{
+    let row = rows::trimmed(a, i, rows::home(a, i), top, bottom);
+    let other = rows::trimmed(b, j, rows::home(b, j), top, bottom);
+    chains::chain(a, row, b, other, top, bottom, false, buf)
 }

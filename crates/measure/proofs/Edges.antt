@@ -1,101 +1,128 @@
--- What a step of the walk round a shape and its mirror image says of the edge of the shape that it passes.
---     step-still, step-on               it passes no edge of the shape, or one; `step-within`: edge w .i; `other-within`: the image's edges
---     across-alone, -first, -second     the first corner that is furthest from the passed edge
---     best-found, best-keep             the best edge after the passed one is measured
-use mathlib.Core.Path.{_≡_, refl, _∙_, ap}
-use mathlib.Core.Bool.{Bool, true, false, cond}
-use mathlib.Core.List.{List}
-use Prim.Native.Nat.{ℕ, _+_, _*_, _≤_, _<_}
+-- The edges that the half walk passes, and the better of two of them.
+--     passedAt t i m                the edges passed at place (i, m), for top t; `right-more`, `left-more`: one more
+--     BestOf A P b, MeasuredAt A b  b is the best of the edges of which P holds; it is measured
+--     turn-kept                     no corner is right of the edge that is carried
+--     measured-at                   an edge, measured at a corner of greatest turn
+--     chosen-best                   the better of two is the best of one edge more
+use mathlib.Core.Path.{_≡_, refl, sym, _∙_, ap, ap₂, subst}
+use mathlib.Core.Bool.{Bool, true, false}
+use mathlib.Core.List.{List, [], _∷_}
+use mathlib.Core.Logic.{_⊎_, inl, inr}
+use Prim.Native.Nat.{ℕ, _+_, _≤_, _<_}
 use native.Mathlib.Omega.{arith}
+use borrow.Author.Tests.{ltb-true, ltb-false}
 use lib.Dec.{ltb}
-use lib.IntN.{ℤ}
-use lib.ListN.{length}
-use Rattle.plane.specs.Point.{Point, points}
+use lib.IntN.{ℤ, pos}
+use lib.ListN.{length, List·getD-eq-default}
+use lib.Signed.{_≤ℤ_, yes-nonNeg, pos-natAbs}
+use Rattle.integer.specs.Ring.{ring, reify}
+use Rattle.integer.specs.Order.{le-of-eq}
+use Rattle.plane.specs.Point.{Point, points, corner, origin, _⊖_}
+use Rattle.plane.specs.Turn.{cross, turn-cross}
+use Rattle.plane.specs.Shape.{next, IsShape}
+use Rattle.plane.specs.Direction.{value}
+use Rattle.plane.specs.Measure.{edgeTurn, height}
 use Rattle.plane.specs.Forms.{edges}
-use Rattle.plane.specs.Cycle.{turned, round}
-use Rattle.plane.specs.theory.sum.Positions.{edges-some}
-use Rattle.measure.specs.Comparison.{Facing}
-use Rattle.calipers.specs.Places.{takes, passed}
-use Rattle.calipers.specs.theory.Standing.{Taken, takes-taken, passed-taken}
-use Rattle.calipers.specs.theory.Places.{passed-within}
-use Rattle.measure.specs.theory.MirrorWalk.{width-alone, width-first, width-second}
-use Rattle.measure.specs.Comparison.{Measured}
-use Rattle.measure.specs.theory.WidthScan.{width-keep, width-replace}
-use Rattle.calipers.specs.declared.walk.Walk.{Walk}
-use Rattle.calipers.specs.Walk as Walk
-use Rattle.calipers.specs.Walk.{advanced}
+use Rattle.plane.specs.Cycle.{round, cornerRound}
+use Rattle.plane.specs.theory.sum.Positions.{edge-at, edges-at-most, edge-turn, round-inner, round-within}
+use Rattle.polygon.specs.Point.{at}
+use Rattle.calipers.specs.declared.side.Side.{Side}
+use Rattle.calipers.specs.Side.{cornerOf, nextOf, Carried}
 use Rattle.measure.specs.declared.narrowest.Across.{Across}
-use Rattle.measure.specs.Scan.{Moving, Best}
+use Rattle.measure.specs.Comparison.{Measured, Width}
+use Rattle.measure.specs.Scan.{measuredAt, Chosen, stays, gives-way}
+use Rattle.measure.specs.theory.Height.{value-nonneg, edgeSquared-value}
+use Rattle.measure.specs.theory.Narrowest.{More}
+use Rattle.measure.specs.theory.WidthScan.{width-keep, width-replace}
 
--- a step that passes an edge of E
-passed-more : (E : List Point) (i : ℕ) (F : List Point) (j : ℕ) → i < passed E i F j → Taken E i F j
-passed-more E i F j h = go (takes E i F j) refl h
+-- the edges passed at place (i, m), for top t
+abbrev pub passedAt : ℕ → ℕ → ℕ → ℕ → Type 0
+passedAt t i m f = (f < i) ⊎ ((t ≤ f) × (f < m))
+
+-- the best of some edges, and a measured one
+abbrev pub BestOf : List Point → (ℕ → Type 0) → Across → Type 0
+BestOf A P b = Width A P (b .edge) (b .corner) (b .turn) (b .squared)
+
+abbrev pub MeasuredAt : List Point → Across → Type 0
+MeasuredAt A b = Measured A (b .edge) (b .corner) (b .turn) (b .squared)
+
+-- ---- what is measured
+
+cross-origin : (v : Point) → cross origin v ≡ pos 0
+unfolding cross
+cross-origin v = ring (v .x ∷ v .y ∷ []) (search reify depth 40) tt
+
+module _ {l : List ℤ} {s t : Side} (shape : IsShape (points l)) (a : Carried l s) (b : Carried l t) where
+  abbrev A : List Point
+  A = points l
+
+  other-in : round (length A) (t .at) < length A
+  other-in = round-within (length A) (t .at) (shape .some) (omega (arith, b .at-in, edges-at-most A))
+
+  -- the turn that is measured is the corner's turn against the edge
+  turns : s .at < length (edges A) → cross (nextOf s) (cornerOf t ⊖ cornerOf s) ≡ edgeTurn A (s .at) (round (length A) (t .at))
+  unfolding edgeTurn
+  turns h = ap₂ cross (a .edge-is ∙ edge-at A (s .at) h) (ap₂ (λ (p q : Point). p ⊖ q) (b .corner-is)
+      (a .corner-is ∙ ap (corner A) (round-inner (length A) (s .at) (omega (arith, edges-at-most A)))))
+      ∙ sym (turn-cross (corner A (s .at)) (corner A (next (length A) (s .at))) (cornerRound A (t .at)))
+
+  pub turn-kept : pos 0 ≤ℤ cross (nextOf s) (cornerOf t ⊖ cornerOf s)
+  unfolding edgeTurn
+  turn-kept = go (ltb (s .at) (length (edges A))) refl
+    where
+      go : (c : Bool) → ltb (s .at) (length (edges A)) ≡ c → pos 0 ≤ℤ cross (nextOf s) (cornerOf t ⊖ cornerOf s)
+      go true e = let h = ltb-true (s .at) (length (edges A)) e in
+          rw (turns h) (edge-turn A shape (s .at) (round (length A) (t .at)) (omega (arith, edges-at-most A)) other-in)
+      go false e = le-of-eq (sym (ap (λ (v : Point). cross v (cornerOf t ⊖ cornerOf s))
+          (a .edge-is ∙ List·getD-eq-default (edges A) origin (ltb-false (s .at) (length (edges A)) e)) ∙ cross-origin _))
+
+  pub measured-at : s .at < length (edges A) → edgeTurn A (s .at) (round (length A) (t .at)) ≡ height A (s .at)
+      → MeasuredAt A (measuredAt s t)
+  unfolding measuredAt
+  measured-at h tall = record {
+    corner-in = omega (arith, b .at-in, edges-at-most A);
+    has = tall;
+    turns = sym tall ∙ sym (turns h) ∙ sym (pos-natAbs _ (yes-nonNeg turn-kept));
+    long = edgeSquared-value A (s .at) ∙ sym (ap (λ (v : Point). value v v) (a .edge-is ∙ edge-at A (s .at) h))
+        ∙ sym (pos-natAbs _ (yes-nonNeg (value-nonneg (nextOf s))));
+  }
+
+-- ---- the better of two
+
+module _ {A : List Point} (shape : IsShape A) (three : 2 < length A) {P Q : ℕ → Type 0} {best found r : Across} (h : found .edge < length A)
+    (more : More P Q (found .edge)) (w : BestOf A P best) (m : MeasuredAt A found) where
+  pub chosen-best : Chosen best found r → BestOf A Q r
+  chosen-best (stays e n) = subst (BestOf A Q) (sym e) (width-keep shape three h more w m (n .no-narrower) (n .no-earlier))
+  chosen-best (gives-way e n) = subst (BestOf A Q) (sym e) (width-replace shape three h more w m (n .no-narrower) (n .no-earlier))
+
+-- ---- the edges passed
+
+pub right-more : (t i m : ℕ) → More (passedAt t i m) (passedAt t (i + 1) m) i
+right-more t i m = record { new = inl (omega arith); old = λ f p. old f p; only = λ f q. only f q }
   where
-    go : (b : Bool) → takes E i F j ≡ b → i < cond b (i + 1) i → Taken E i F j
-    go true e l = takes-taken E i F j e
-    go false e l = absurd (omega arith)
+    old : (f : ℕ) → passedAt t i m f → passedAt t (i + 1) m f
+    old f (inl p) = inl (omega arith)
+    old f (inr p) = inr p
 
-passed-least : (E : List Point) (i : ℕ) (F : List Point) (j : ℕ) → i ≤ passed E i F j
-passed-least E i F j = go (takes E i F j)
+    only : (f : ℕ) → passedAt t (i + 1) m f → passedAt t i m f ⊎ (f ≡ i)
+    only f (inl p) = go (ltb f i) refl
+      where
+        go : (b : Bool) → ltb f i ≡ b → passedAt t i m f ⊎ (f ≡ i)
+        go true e = inl (inl (ltb-true f i e))
+        go false e = inr (omega (arith, ltb-false f i e))
+    only f (inr p) = inl (inr p)
+
+pub left-more : (t i m : ℕ) → t ≤ m → More (passedAt t i m) (passedAt t i (m + 1)) m
+left-more t i m l = record { new = inr (l, omega arith); old = λ f p. old f p; only = λ f q. only f q }
   where
-    go : (b : Bool) → i ≤ cond b (i + 1) i
-    go true = omega arith
-    go false = omega arith
+    old : (f : ℕ) → passedAt t i m f → passedAt t i (m + 1) f
+    old f (inl p) = inl p
+    old f (inr p) = inr (p .0, omega (arith, p .1))
 
-module _ {a m : List ℤ} {t : ℕ} {w next : Walk} (s : Moving a m t w next) where
-  i-passed : next .i ≡ passed (edges (points a)) (w .i) (edges (points m)) (w .j)
-  unfolding advanced Walk.passed Walk.takes
-  i-passed = ap (λ (v : Walk). v .i) (s .moved)
-
-  j-passed : next .j ≡ passed (edges (points m)) (w .j) (edges (points a)) (w .i)
-  unfolding advanced Walk.passed Walk.takes
-  j-passed = ap (λ (v : Walk). v .j) (s .moved)
-
-  long : 1 < length (points a)
-  long = omega (arith, s .three)
-
-  pub step-still : next .i ≤ w .i → next .i ≡ w .i
-  step-still h = omega (arith, i-passed, passed-least (edges (points a)) (w .i) (edges (points m)) (w .j))
-
-  pub other-within : next .j ≤ length (edges (points m))
-  other-within = omega (arith, j-passed, passed-within (edges (points m)) (w .j) (edges (points a)) (w .i) (s .standing .right-in))
-
-  module _ (on : w .i < next .i) where
-    taken : Taken (edges (points a)) (w .i) (edges (points m)) (w .j)
-    taken = passed-more (edges (points a)) (w .i) (edges (points m)) (w .j) (omega (arith, i-passed))
-
-    pub step-on : next .i ≡ w .i + 1
-    step-on = i-passed ∙ passed-taken taken
-
-    pub step-within : w .i < length (points a)
-    step-within = omega (arith, taken .there, edges-some (points a) long)
-
-    pub across-alone : next .j ≤ w .j → Facing (points a) (w .i) (turned (length (points a)) t (round (length (points m)) (w .j)))
-    across-alone h = width-alone (s .imaged .mirrors) (s .standing) taken long (λ u. omega (arith, j-passed, passed-taken u))
-
-    module _ (both : w .j < next .j) where
-      second-taken : Taken (edges (points m)) (w .j) (edges (points a)) (w .i)
-      second-taken = passed-more (edges (points m)) (w .j) (edges (points a)) (w .i) (omega (arith, j-passed))
-
-      j-on : next .j ≡ w .j + 1
-      j-on = j-passed ∙ passed-taken second-taken
-
-      pub across-first : {k l : ℕ} → k ≡ turned (length (points a)) t (round (length (points m)) (w .j))
-          → l ≡ turned (length (points a)) t (round (length (points m)) (next .j)) → k ≤ l → Facing (points a) (w .i) k
-      across-first e f h = rw e (width-first (s .imaged .mirrors) (s .standing) taken long (rw (← j-on, ← e, ← f) h))
-
-      pub across-second : {k l : ℕ} → k ≡ turned (length (points a)) t (round (length (points m)) (w .j))
-          → l ≡ turned (length (points a)) t (round (length (points m)) (next .j)) → l ≤ k → Facing (points a) (w .i) l
-      across-second e f h = rw (f, j-on) (width-second (s .imaged .mirrors) (s .standing) taken long second-taken
-          (rw (← j-on, ← e, ← f) h))
-
-    module _ {best found : Across} (b : Best a (w .i) best) (edge : found .edge ≡ w .i)
-        (h : Measured (points a) (w .i) (found .corner) (found .turn) (found .squared)) where
-      abbrev test : Bool
-      test = ltb (found .turn * found .turn * best .squared) (best .turn * best .turn * found .squared)
-
-      pub best-found : test ≡ true → Best a (next .i) found
-      best-found e = rw (step-on, edge) (width-replace (s .imaged .mirrors .own) (s .three) b step-within h e)
-
-      pub best-keep : test ≡ false → Best a (next .i) best
-      best-keep e = rw step-on (width-keep (s .imaged .mirrors .own) (s .three) b step-within h e)
+    only : (f : ℕ) → passedAt t i (m + 1) f → passedAt t i m f ⊎ (f ≡ m)
+    only f (inl p) = inl (inl p)
+    only f (inr p) = go (ltb f m) refl
+      where
+        go : (b : Bool) → ltb f m ≡ b → passedAt t i m f ⊎ (f ≡ m)
+        go true e = inl (inr (p .0, ltb-true f m e))
+        go false e = inr (omega (arith, ltb-false f m e, p .1))

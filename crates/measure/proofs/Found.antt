@@ -1,72 +1,93 @@
--- What the two searches leave is what the questions ask for.
---     length-within     the pair's positions are positions; `length-found`: it is the length
---     some-squared      the edge has a length; `width-found`: it is the width
-use mathlib.Core.Path.{_≡_, refl, sym, _∙_, ap, ap₂}
+-- What the search for the width leaves, and the answer to the question.
+--     far-has, not-first  the given corner has the greatest turn; it is not corner 0
+--     as-far, nearer      another corner has the greatest turn too, or it has not
+--     width-opposed       the corner of the best edge has it
+--     some-squared        the edge has a length; `width-found`: it is the width
+use mathlib.Core.Path.{_≡_, sym, _∙_, ap, ap₂}
+use mathlib.Core.Bool.{true, false}
 use mathlib.Core.List.{List}
-use Prim.Native.Nat.{ℕ, _<_, _≤_}
+use Prim.Native.Nat.{ℕ, zero, suc, _+_, _≤_, _<_}
 use native.Mathlib.Omega.{arith}
 use borrow.Author.Tests.{ltb-true}
 use lib.IntN.{ℤ, pos, natAbs}
 use lib.ListN.{length}
-use Rattle.integer.specs.Order.{lt-ltZ}
+use lib.Signed.{leZ, clashℤ}
+use Rattle.integer.specs.Order.{lt-ltZ, le-of-eq, le-antisym, leZ-true, leZ-false}
 use Rattle.plane.specs.Point.{Point, points, corner}
 use Rattle.plane.specs.Refusal.{Valid}
-use Rattle.plane.specs.Measure.{squared, height, edgeSquared, widthEdge, widthCorner, widthRounded}
-use Rattle.measure.specs.theory.Longest.{length-longest}
-use Rattle.measure.specs.theory.Height.{edgeSquared-positive}
+use Rattle.plane.specs.Turn.{turn}
+use Rattle.plane.specs.Cycle.{round}
+use Rattle.plane.specs.Measure.{edgeTurn, height, edgeSquared, widthEdge, widthRounded}
+use Rattle.words.specs.Root.{RoundedRoot}
+use Rattle.measure.specs.declared.narrowest.Across.{Across}
+use Rattle.measure.specs.Answer.{IsWidth}
+use Rattle.measure.specs.Comparison.{Facing, Measured}
+use Rattle.measure.specs.Scan.{Best, Opposed}
+use Rattle.measure.specs.theory.Height.{height-above, edgeSquared-positive, facing-width}
+use Rattle.measure.specs.theory.Narrowest.{width-narrowest}
 use Rattle.measure.specs.theory.Rounded.{rounded-unique}
 use Rattle.measure.specs.theory.WidthScan.{width-done}
-use Rattle.measure.specs.Comparison.{Width as Comparison·Width, none, best}
-use Rattle.words.specs.Root.{RoundedRoot}
-use Rattle.measure.specs.declared.longest.Pair.{Pair}
-use Rattle.measure.specs.declared.narrowest.Across.{Across}
-use Rattle.measure.specs.Answer.{IsLength, IsWidth}
-use Rattle.measure.specs.Scan.{LengthAt, Best}
 
--- ---- length
+-- ---- the first corner
 
-pub length-within : (l : List ℤ) → Valid l → (r : Pair) → LengthAt (points l) r
-    → (r .from < length (points l)) × (r .to < length (points l))
-length-within l v r f =
-    let pair = length-longest (points l) (v .shape .some) in
-    (omega (arith, f .from-is, pair .ordered, pair .within), omega (arith, f .to-is, pair .within))
+module _ {l : List ℤ} {e c far : ℕ} (o : Opposed l e c) (far-is : far ≡ round (length (points l)) c) where
+  pub far-has : edgeTurn (points l) e far ≡ height (points l) e
+  far-has = ap (edgeTurn (points l) e) far-is ∙ o .has
 
-pub length-found : (l : List ℤ) → Valid l → (r : Pair) {n : ℕ} → LengthAt (points l) r
-    → pos n ≡ squared (corner (points l) (r .from)) (corner (points l) (r .to))
-    → IsLength (points l) (record { squared = n; from = r .from; to = r .to })
-length-found l v r {n} f e = record {
-  squared-is = e ∙ rw (f .from-is, f .to-is) (length-longest (points l) (v .shape .some) .longest);
-  from-is = f .from-is;
-  to-is = f .to-is;
-}
+-- it is not the first where that has a smaller turn
+pub not-first : (A : List Point) (e far : ℕ) → edgeTurn A e far ≡ height A e → (edgeTurn A e 0 ≡ height A e → ⊥) → 1 ≤ far
+not-first A e zero has less = absurd (less has)
+not-first A e (suc far) has less = omega arith
 
--- ---- width
+-- the numbers that the code compares: x is the turn of the given corner, y that of corner k
+module _ {l : List ℤ} {e c : ℕ} (o : Opposed l e c) {end far : ℕ} (end-is : end ≡ round (length (points l)) (e + 1))
+    (far-is : far ≡ round (length (points l)) c) {x y : ℤ} (k : ℕ)
+    (a : x ≡ turn (corner (points l) e) (corner (points l) end) (corner (points l) far))
+    (b : y ≡ turn (corner (points l) e) (corner (points l) end) (corner (points l) k)) where
+  abbrev A : List Point
+  A = points l
 
--- after the last edge, the best one is an edge
-best-within : {ps : List Point} {k e c t q : ℕ} → 0 < length ps → Comparison·Width ps k e c t q → k ≡ length ps → e < length ps
-best-within some none all = absurd (omega arith)
-best-within some (best n b) all = omega (arith, n .within)
+  tallest : x ≡ height A e
+  unfolding edgeTurn
+  tallest = a ∙ ap₂ (λ (m n : ℕ). turn (corner A e) (corner A m) (corner A n)) end-is far-is ∙ o .has
 
-module _ (l : List ℤ) (v : Valid l) (three : 3 ≤ length (points l)) (r : Across) (b : Best l (length (points l)) r) where
+  other : y ≡ edgeTurn A e k
+  unfolding edgeTurn
+  other = b ∙ ap (λ (m : ℕ). turn (corner A e) (corner A m) (corner A k)) end-is
+
+  pub as-far : k < length A → leZ x y ≡ true → edgeTurn A e k ≡ height A e
+  as-far h test = le-antisym (height-above A e k h) (rw (tallest, other) at (leZ-true {x = x} {y = y} test))
+
+  pub nearer : leZ x y ≡ false → edgeTurn A e k ≡ height A e → ⊥
+  nearer test has = clashℤ (leZ-false {x = x} {y = y} test) (le-of-eq (tallest ∙ sym has ∙ sym other))
+
+-- ---- the answer
+
+module _ (l : List ℤ) (v : Valid l) (three : 2 < length (points l)) (r : Across) (b : Best l r) where
   abbrev ps : List Point
   ps = points l
 
-  done : (widthEdge ps ≡ r .edge) × (widthCorner ps ≡ r .corner) × (height ps (r .edge) ≡ pos (r .turn))
-      × (edgeSquared ps (r .edge) ≡ pos (r .squared))
-  done = width-done (v .shape .some) b refl
+  found : (widthEdge ps ≡ r .edge) × Measured ps (r .edge) (r .corner) (r .turn) (r .squared)
+  found = width-done (v .shape .some) b
+
+  edge-in : r .edge < length ps
+  edge-in = omega (arith, found .0, width-narrowest (v .shape) three .among)
+
+  pub width-opposed : Opposed l (r .edge) (r .corner)
+  width-opposed =
+      record { valid = v; three = three; edge-in = edge-in; corner-in = found .1 .corner-in; has = found .1 .has }
 
   pub some-squared : 0 < r .squared
-  some-squared = ltb-true 0 (r .squared) (lt-ltZ (rw (done .3) at
-      (edgeSquared-positive ps (v .shape) three (r .edge) (best-within (v .shape .some) b refl))))
+  some-squared = ltb-true 0 (r .squared) (lt-ltZ (rw (found .1 .long) at (edgeSquared-positive ps (v .shape) three (r .edge) edge-in)))
 
-  pub width-found : (w : ℕ) → RoundedRoot (r .turn) (r .squared) w
-      → IsWidth ps (record { edge = r .edge; corner = r .corner; turn = r .turn; squared = r .squared; rounded = w })
-  width-found w root =
-      let turns : height ps (widthEdge ps) ≡ pos (r .turn) = ap (height ps) (done .0) ∙ done .2 in
-      let long : edgeSquared ps (widthEdge ps) ≡ pos (r .squared) = ap (edgeSquared ps) (done .0) ∙ done .3 in
+  pub width-found : (c w : ℕ) → Facing ps (r .edge) c → RoundedRoot (r .turn) (r .squared) w
+      → IsWidth ps (record { edge = r .edge; corner = c; turn = r .turn; squared = r .squared; rounded = w })
+  width-found c w facing root =
+      let turns : height ps (widthEdge ps) ≡ pos (r .turn) = ap (height ps) (found .0) ∙ found .1 .turns in
+      let long : edgeSquared ps (widthEdge ps) ≡ pos (r .squared) = ap (edgeSquared ps) (found .0) ∙ found .1 .long in
       record {
-        edge-is = sym (done .0);
-        corner-is = sym (done .1);
+        edge-is = sym (found .0);
+        corner-is = sym (facing-width (found .0) facing);
         turn-is = sym turns;
         squared-is = sym long;
         rounded-is = sym (ap₂ (λ (t q : ℤ). widthRounded (natAbs t) (natAbs q)) turns long

@@ -1,6 +1,5 @@
 -- Lemmas that function proofs share.
-pub mod Walked
-pub mod Image
+pub mod Stepped
 pub mod Pairs
 pub mod Edges
 pub mod Sweep

@@ -1,93 +1,133 @@
 -- The search for the length: the invariant of the loop, and its moves.
---     Search a m t w best             the best pair so far, at a place of the walk
---     search-start, -next             its moves
---     search-done                     at the end: the answer
---     kept-shorter, -longer, -level   what is kept of two pairs, by their distances
-use mathlib.Core.Path.{_≡_, refl, sym, _∙_, subst}
-use mathlib.Core.Bool.{true, false}
-use mathlib.Core.List.{List, _∷_}
-use Prim.Native.Nat.{ℕ, _≤_, _<_}
+--     kept-level                            what is kept of two pairs at the same distance
+--     Search l n top end s t best           the best pair so far, at a place of the half walk
+--     search-start, -next, -done            its moves; at the end: the answer
+use mathlib.Core.Path.{_≡_, refl, sym, _∙_, ap, ap₂, subst}
+use mathlib.Core.Bool.{Bool, true, false, cond}
+use mathlib.Core.List.{List}
+use Prim.Native.Nat.{ℕ, _+_, _≤_, _<_}
 use native.Mathlib.Omega.{arith}
-use lib.IntN.{ℤ}
+use borrow.Author.Tests.{eqb-false, le-leb, leb-true}
+use lib.Dec.{eqb}
+use lib.IntN.{ℤ, pos}
 use lib.ListN.{length}
-use lib.Signed.{ltZ}
-use Rattle.integer.specs.Order.{le-antisym, ltZ-true, ltZ-false}
+use lib.Signed.{yes-nonNeg, pos-natAbs}
+use Rattle.integer.specs.Order.{leZ-true, le-leZ}
 use Rattle.plane.specs.Point.{Point, points, corner}
 use Rattle.plane.specs.Measure.{squared}
-use Rattle.plane.specs.Cycle.{turned}
-use Rattle.calipers.specs.Places.{Place, place}
-use Rattle.measure.specs.theory.LengthScan.{shorter-noBetter, level-noBetter}
-use Rattle.measure.specs.theory.LengthScan.{Leads, leads-start, leads-skip, leads-keep, leads-replace, leads-done}
-use Rattle.calipers.specs.declared.walk.Walk.{Walk}
-use Rattle.calipers.specs.Walk.{begun, advanced, At}
-use Rattle.calipers.specs.theory.Steps.{at-advanced}
-use Rattle.measure.specs.declared.longest.Pair.{Pair}
-use Rattle.measure.specs.Scan.{Imaged, Paired, Earlier, best-first, next-first, Kept, skipped, kept, replaced, LengthAt}
-use Rattle.measure.proofs.Walked.{toCome, toCome-next, toCome-over, image-at}
+use Rattle.plane.specs.Forms.{edges}
+use Rattle.plane.specs.Cycle.{cornerRound}
+use Rattle.plane.specs.theory.forms.Squared.{squared-nonneg, squared-sym}
+use Rattle.plane.specs.theory.sum.Positions.{round-inner, edges-at-most}
+use Rattle.polygon.specs.Point.{at}
+use Rattle.calipers.specs.Side.{cornerOf}
+use Rattle.calipers.specs.declared.side.Side.{Side}
+use Rattle.measure.specs.declared.Length.{Length}
+use Rattle.measure.specs.Answer.{IsLength}
+use Rattle.measure.specs.Comparison.{NoBetter, Stands}
+use Rattle.measure.specs.Half.{HalfStep}
+use Rattle.measure.specs.Scan.{HalfAt, apartAt, Behind, Earlier, best-first, next-first, Kept, kept, replaced}
+use Rattle.measure.specs.theory.LengthScan.{Leads, leads-start, leads-keep, leads-replace, leads-done}
 
 -- ---- the better of two pairs
 
--- how far apart a pair is
-abbrev pub apart : List Point → Pair → ℤ
-apart ps p = squared (corner ps (p .from)) (corner ps (p .to))
+pub kept-level : {best next r : Length} → best .squared ≡ next .squared → Earlier best next r → Kept best next r
+kept-level e (best-first g n) = kept g (record { no-further = omega (arith, e); no-earlier = λ h. n })
+kept-level e (next-first g n) = replaced g (record { no-further = omega (arith, e); no-earlier = λ h. n })
 
--- the numbers that the code compares, x of the best pair and y of the next
-module _ {ps : List Point} {best next : Pair} {x y : ℤ} (e : x ≡ apart ps best) (f : y ≡ apart ps next) where
-  pub kept-shorter : ltZ y x ≡ true → Kept ps best next best
-  kept-shorter h = kept refl (shorter-noBetter (rw (e, f) at (ltZ-true {x = y} {y = x} h)))
+-- the squared distance that a pair carries is its own
+pub record Apart (A : List Point) (p : Length) : Type 0 where
+  pub distance : pos (p .squared) ≡ squared (corner A (p .from)) (corner A (p .to))
 
-  module _ (order : next .from ≤ next .to) where
-    pub kept-longer : ltZ x y ≡ true → Kept ps best next next
-    kept-longer h = replaced refl order (shorter-noBetter (rw (e, f) at (ltZ-true {x = x} {y = y} h)))
+behind-noBetter : {A : List Point} {p q : Length} → Apart A p → Apart A q → Behind p q
+    → NoBetter A (p .from) (p .to) (q .from) (q .to)
+behind-noBetter {A} {p} {q} a b h = record {
+  no-further = rw (← a .distance, ← b .distance) (leZ-true {x = pos (p .squared)} {y = pos (q .squared)} (le-leb _ _ (h .no-further)));
+  no-earlier = λ g. h .no-earlier (leb-true (q .squared) (p .squared) (le-leZ (rw (← a .distance, ← b .distance) at g)));
+}
 
-    pub kept-level : {r : Pair} → ltZ y x ≡ false → ltZ x y ≡ false → Earlier best next r → Kept ps best next r
-    kept-level {r} h k first = go first
+-- ---- the pair at a place
+
+module _ {l : List ℤ} {top n : ℕ} {s t : Side} (h : HalfAt l top s t) (count : n ≡ length (points l)) where
+  abbrev A : List Point
+  A = points l
+
+  right-in : s .at < length A
+  right-in = omega (arith, h .antipodal .right-in, h .chains .within)
+
+  stands : Stands A (s .at) (t .at) (apartAt n s t .from) (apartAt n s t .to)
+  unfolding apartAt
+  stands = record { from-is = rw count refl; to-is = rw count refl }
+
+  carried : pos (apartAt n s t .squared) ≡ squared (corner A (s .at)) (cornerRound A (t .at))
+  unfolding apartAt
+  carried = pos-natAbs _ (yes-nonNeg (squared-nonneg (cornerOf s) (cornerOf t)))
+      ∙ ap₂ squared (h .right-side .corner-is ∙ ap (corner A) (round-inner (length A) (s .at) right-in)) (h .left-side .corner-is)
+
+  module _ {p : Length} (e : p ≡ apartAt n s t) where
+    place : Stands A (s .at) (t .at) (p .from) (p .to)
+    place = subst (λ (p : Length). Stands A (s .at) (t .at) (p .from) (p .to)) (sym e) stands
+
+    place-apart : Apart A p
+    place-apart = record { distance = ap (λ (p : Length). pos (p .squared)) e ∙ carried ∙ go (eqb (t .at) (length A)) refl }
       where
-        same : x ≡ y
-        same = le-antisym (ltZ-false {x = y} {y = x} h) (ltZ-false {x = x} {y = y} k)
+        go : (b : Bool) → eqb (t .at) (length A) ≡ b
+            → squared (corner A (s .at)) (corner A (cond b 0 (t .at))) ≡ squared (corner A (p .from)) (corner A (p .to))
+        go true q = rw (← place .from-is, ← place .to-is, q) (squared-sym (corner A (s .at)) (corner A 0))
+        go false q = rw (← place .from-is, ← place .to-is, q) refl
 
-        go : Earlier best next r → Kept ps best next r
-        go (best-first g n) = kept g (level-noBetter (sym f ∙ sym same ∙ e) n)
-        go (next-first g n) = replaced g order (level-noBetter (sym e ∙ same ∙ f) n)
+    place-in-order : (p .from ≤ p .to) × (p .to < length A)
+    place-in-order = go (eqb (t .at) (length A)) refl
+      where
+        order : s .at ≤ t .at
+        order = omega (arith, h .antipodal .right-in, h .antipodal .left-from)
+
+        go : (b : Bool) → eqb (t .at) (length A) ≡ b → (p .from ≤ p .to) × (p .to < length A)
+        go true q = (omega (arith, rw q at (place .from-is), rw q at (place .to-is)), omega (arith, rw q at (place .to-is), right-in))
+        go false q = (
+          omega (arith, rw q at (place .from-is), rw q at (place .to-is), order),
+          omega (arith, rw q at (place .to-is), eqb-false (t .at) (length A) q, h .left-side .at-in, edges-at-most A),
+        )
 
 -- ---- the loop
 
-pub record Search (a m : List ℤ) (t : ℕ) (w : Walk) (best : Pair) : Type 0 where
-  pub imaged : Imaged a m t
-  pub at : At a m w
-  pub leads : Leads (points a) (points m) (turned (length (points a)) t) (toCome (points a) (points m) w) (best .from) (best .to)
+pub record Search (l : List ℤ) (n top end : ℕ) (s t : Side) (best : Length) : Type 0 where
+  pub half : HalfAt l top s t
+  pub count : n ≡ length (points l)
+  pub sides : end ≡ length (edges (points l))
+  pub apart : Apart (points l) best
+  pub leads : Leads (points l) top (s .at) (t .at) (best .from) (best .to)
 
-module _ {a m : List ℤ} {t : ℕ} where
-  pub search-start : Imaged a m t → Search a m t begun (record { from = 0; to = 0 })
-  search-start s = record { imaged = s; at = image-at s (omega arith) (omega arith); leads = leads-start (s .mirrors) }
+module _ {l : List ℤ} {n top end : ℕ} where
+  pub search-start : {s t : Side} {best : Length} → HalfAt l top s t → n ≡ length (points l) → end ≡ length (edges (points l))
+      → s .at ≡ 0 → t .at ≡ top → best ≡ apartAt n s t → Search l n top end s t best
+  search-start {s} {t} {best} h count sides a b e = record {
+    half = h;
+    count = count;
+    sides = sides;
+    apart = place-apart h count e;
+    leads = rw (a, b) (leads-start (h .valid .shape) (h .chains) (rw (a, b) at (place h count e)));
+  }
 
-  module _ {w : Walk} {best : Pair} (s : Search a m t w best) where
-    pub search-from : best .from < length (points a)
-    search-from = omega (arith, s .leads .ordered, s .leads .within)
+  module _ {s t : Side} {best : Length} (g : Search l n top end s t best) where
+    pub search-next : {s′ t′ : Side} {p r : Length} → HalfAt l top s′ t′ → HalfStep (points l) top (s .at) (t .at) (s′ .at) (t′ .at)
+        → p ≡ apartAt n s′ t′ → Kept best p r → Search l n top end s′ t′ r
+    search-next {s′} {t′} {p} {r} h step e k = go k
+      where
+        own : Apart (points l) p
+        own = place-apart h (g .count) e
 
-    pub search-done : w .over ≡ true → LengthAt (points a) best
-    search-done o =
-        let end = leads-done (rw (toCome-over (points a) (points m) w o) at (s .leads)) in
-        record { from-is = sym (end .1); to-is = sym (end .2) }
+        after : {f : Length} → Apart (points l) f → Leads (points l) top (s′ .at) (t′ .at) (f .from) (f .to) → Search l n top end s′ t′ f
+        after a b = record { half = h; count = g .count; sides = g .sides; apart = a; leads = b }
 
-    module _ (on : w .over ≡ false) where
-      here : toCome (points a) (points m) w ≡ place (w .i) (w .j) ∷ toCome (points a) (points m) (advanced (points a) (points m) w)
-      here = toCome-next (points a) (points m) w on (s .at .i-in) (s .at .j-in)
+        go : Kept best p r → Search l n top end s′ t′ r
+        go (kept q b) = subst (Search l n top end s′ t′) (sym q) (after (g .apart)
+            (leads-keep (g .leads) step (g .half .antipodal .left-from) (place h (g .count) e) (behind-noBetter own (g .apart) b)))
+        go (replaced q b) = let order = place-in-order h (g .count) e in subst (Search l n top end s′ t′) (sym q) (after own
+            (leads-replace (g .leads) step (g .half .antipodal .left-from) (place h (g .count) e) (order .0) (order .1)
+            (behind-noBetter (g .apart) own b)))
 
-      abbrev After : Pair → Type 0
-      After r = Leads (points a) (points m) (turned (length (points a)) t) (toCome (points a) (points m) (advanced (points a) (points m) w))
-          (r .from) (r .to)
-
-      now : Leads (points a) (points m) (turned (length (points a)) t)
-          (place (w .i) (w .j) ∷ toCome (points a) (points m) (advanced (points a) (points m) w)) (best .from) (best .to)
-      now = subst (λ (L : List Place). Leads (points a) (points m) (turned (length (points a)) t) L (best .from) (best .to)) here (s .leads)
-
-      moved : {p r : Pair} → Paired a m t w p → Kept (points a) best p r → After r
-      moved f (skipped e h) = subst After (sym e) (leads-skip (f .stands) now h)
-      moved f (kept e h) = subst After (sym e) (leads-keep (f .stands) now h)
-      moved f (replaced e o h) = subst After (sym e) (leads-replace (f .stands) now o (f .to-in) h)
-
-      pub search-next : {next : Walk} {p r : Pair} → Paired a m t w p → Kept (points a) best p r → next ≡ advanced (points a) (points m) w
-          → Search a m t next r
-      search-next {next} {p} {r} f k e = subst (λ (v : Walk). Search a m t v r) (sym e)
-          (record { imaged = s .imaged; at = at-advanced a m w (s .at); leads = moved f k })
+    pub search-done : top + end ≤ s .at + t .at → IsLength (points l) best
+    search-done h =
+        let done = leads-done (g .leads) (omega (arith, g .sides)) in
+        record { squared-is = g .apart .distance ∙ sym (done .0); from-is = sym (done .1); to-is = sym (done .2) }

@@ -2,6 +2,7 @@
 -- then the theory behind it.
 pub mod Answer
 pub mod Comparison
+pub mod Half
 pub mod Scan
 pub mod Meaning
 pub mod theory

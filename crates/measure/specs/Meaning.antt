@@ -4,6 +4,7 @@
 use mathlib.Core.Path.{_≡_}
 use mathlib.Core.List.{List, [], _∷_}
 use Prim.Native.Nat.{ℕ, _+_, _*_, _≤_, _<_}
+use native.Mathlib.Omega.{arith}
 use lib.IntN.{ℤ, pos, natAbs, _*ℤ_}
 use lib.ListN.{length}
 use lib.Signed.{_≤ℤ_, _<ℤ_}
@@ -68,7 +69,7 @@ module _ (ps : List Point) (shape : IsShape ps) (three : 2 < length ps) where
 
   -- "Answered: edge, corner, t, q and w": the edge is one of the shape
   pub width-edge-is-position : e < length ps
-  width-edge-is-position = width-narrowest shape three .within
+  width-edge-is-position = width-narrowest shape three .among
 
   -- of every edge t and q are above 0, so that "t·t/q" is a fraction
   pub height-is-positive : (f : ℕ) → f < length ps → pos 0 <ℤ t f
@@ -83,7 +84,7 @@ module _ (ps : List Point) (shape : IsShape ps) (three : 2 < length ps) where
 
   -- "smallest edge position on a tie": and less than that of any earlier one
   pub earlier-is-wider : (f : ℕ) → f < e → (t e *ℤ t e *ℤ q f) <ℤ (t f *ℤ t f *ℤ q e)
-  earlier-is-wider f h = wider-lt ps f e (width-narrowest shape three .sole f h)
+  earlier-is-wider f h = let first = width-narrowest shape three in wider-lt ps f e (first .sole f (omega (arith, first .among)) h)
 
   -- "then the smallest corner position that has the greatest turn": the corner is one of the shape
   pub width-corner-is-position : widthCorner ps < length ps

@@ -1,62 +1,101 @@
--- What the searches for length and width know along the caliper walk of a shape and its mirror image.
---     Imaged a m t            m is the mirror image of the shape a, begun at the opposite of corner t
---     Paired a m t w r        the walk stands at the first corner of the pair r, and at the opposite of the second
+-- What the searches for length and width know along the half walk. Its sides are s on the right-hand chain and t on the left-hand one.
+--     HalfAt l n s t          they stand at antipodal corners of the shape l, whose top is corner n
+--     apartAt n s t           the pair at which they stand, of n corners, with its squared distance
+--     Behind p q              the pair p is no better than q: not further apart, and if as far, not earlier
 --     Earlier best next r     r is the pair of the two that comes first, by its first position and then by its second
---     Kept ps best next r     r is the better of two pairs: in order, then further apart, then earlier
---     LengthAt ps r           r is the first pair of corners at the greatest distance
---     Moving a m t w next     one step of the walk round a shape of three corners or more
---     Best a k b              b is the narrowest of the first k edges
--- What they mean: `Comparison.antt`, and `LengthScan` of the theory.
+--     Kept best next r        r is the better of two pairs: further apart, then earlier
+--     Fits s t                the edge of s and the corner of t can be multiplied, and the corner is not right of the edge
+--     measuredAt s t          the edge of s, measured at the corner of t
+--     isNarrower a b          t·t/q of the measured edge a is less than that of b
+--     NoNarrower a b          the measured edge a is no better than b: not narrower, and if as wide, not earlier
+--     Chosen best found r     r is the better of two measured edges: narrower, then earlier
+--     Best l b                b is the first of all edges with the least width
+--     Opposed l e c           corner c on the way round is furthest from edge e
+-- What they mean: `Comparison.antt`, and `LengthScan` and `WidthScan` of the theory.
 use mathlib.Core.Path.{_≡_}
+use mathlib.Core.Bool.{Bool, false, cond}
 use mathlib.Core.List.{List}
-use Prim.Native.Nat.{ℕ, _≤_, _<_}
-use lib.IntN.{ℤ}
+use Prim.Native.Nat.{ℕ, _*_, _^_, _≤_, _<_}
+use lib.Dec.{eqb, ltb}
+use lib.IntN.{ℤ, pos, natAbs}
 use lib.ListN.{length}
-use Rattle.plane.specs.Point.{Point, points}
-use Rattle.plane.specs.Refusal.{InRange}
-use Rattle.plane.specs.Measure.{lengthFrom, lengthTo}
-use Rattle.plane.specs.Forms.{edges}
-use Rattle.plane.specs.Cycle.{turned}
-use Rattle.calipers.specs.Places.{Standing, place}
-use Rattle.measure.specs.Comparison.{NotAfter, Mirrors, NoBetter, Stands, Width}
-use Rattle.calipers.specs.declared.walk.Walk.{Walk}
-use Rattle.calipers.specs.Walk.{advanced}
-use Rattle.measure.specs.declared.longest.Pair.{Pair}
+use lib.Signed.{_≤ℤ_}
+use Rattle.plane.specs.Point.{points, _⊖_}
+use Rattle.plane.specs.Refusal.{Valid}
+use Rattle.plane.specs.Turn.{cross}
+use Rattle.plane.specs.Direction.{value}
+use Rattle.plane.specs.Cycle.{round}
+use Rattle.plane.specs.Measure.{squared, edgeTurn, height}
+use Rattle.polygon.specs.Point.{at, Small}
+use Rattle.calipers.specs.declared.side.Side.{Side}
+use Rattle.calipers.specs.Side.{cornerOf, nextOf, Carried}
+use Rattle.measure.specs.Half.{Chains, Antipodal}
+use Rattle.measure.specs.Comparison.{NotAfter, Width}
+use Rattle.measure.specs.declared.Length.{Length}
 use Rattle.measure.specs.declared.narrowest.Across.{Across}
 
-pub record Imaged (a m : List ℤ) (t : ℕ) : Type 0 where
-  pub mirrors : Mirrors (points a) (points m) (turned (length (points a)) t)
-  pub near : InRange a
-  pub image-near : InRange m
-  pub top-in : t < length (points a)
+pub record HalfAt (l : List ℤ) (n : ℕ) (s t : Side) : Type 0 where
+  pub valid : Valid l
+  pub chains : Chains (points l) n
+  pub right-side : Carried l s
+  pub left-side : Carried l t
+  pub antipodal : Antipodal (points l) n (s .at) (t .at)
 
 -- ---- length
 
-pub record Paired (a m : List ℤ) (t : ℕ) (w : Walk) (r : Pair) : Type 0 where
-  pub stands : Stands (points a) (points m) (turned (length (points a)) t) (place (w .i) (w .j)) (r .from) (r .to)
-  pub from-in : r .from < length (points a)
-  pub to-in : r .to < length (points a)
+unfoldable pub apartAt : ℕ → Side → Side → Length
+apartAt n s t = record {
+  squared = natAbs (squared (cornerOf s) (cornerOf t));
+  from = cond (eqb (t .at) n) 0 (s .at);
+  to = cond (eqb (t .at) n) (s .at) (t .at);
+}
 
-pub data Earlier (best next r : Pair) : Type 0 where
+pub record Behind (p q : Length) : Type 0 where
+  pub no-further : p .squared ≤ q .squared
+  pub no-earlier : q .squared ≤ p .squared → NotAfter (q .from) (q .to) (p .from) (p .to)
+
+pub data Earlier (best next r : Length) : Type 0 where
   best-first : r ≡ best → NotAfter (best .from) (best .to) (next .from) (next .to) → Earlier best next r
   next-first : r ≡ next → NotAfter (next .from) (next .to) (best .from) (best .to) → Earlier best next r
 
-pub data Kept (ps : List Point) (best next r : Pair) : Type 0 where
-  skipped : r ≡ best → next .to < next .from → Kept ps best next r
-  kept : r ≡ best → NoBetter ps (next .from) (next .to) (best .from) (best .to) → Kept ps best next r
-  replaced : r ≡ next → next .from ≤ next .to → NoBetter ps (best .from) (best .to) (next .from) (next .to) → Kept ps best next r
-
-pub record LengthAt (ps : List Point) (r : Pair) : Type 0 where
-  pub from-is : r .from ≡ lengthFrom ps
-  pub to-is : r .to ≡ lengthTo ps
+pub data Kept (best next r : Length) : Type 0 where
+  kept : r ≡ best → Behind next best → Kept best next r
+  replaced : r ≡ next → Behind best next → Kept best next r
 
 -- ---- width
 
-pub record Moving (a m : List ℤ) (t : ℕ) (w next : Walk) : Type 0 where
-  pub imaged : Imaged a m t
-  pub three : 2 < length (points a)
-  pub standing : Standing (edges (points a)) (edges (points m)) (w .i) (w .j)
-  pub moved : next ≡ advanced (points a) (points m) w
+pub record Fits (s t : Side) : Type 0 where
+  pub edge-fits : Small (2 ^ 22) (nextOf s)
+  pub corner-fits : Small (2 ^ 21) (cornerOf s)
+  pub other-fits : Small (2 ^ 21) (cornerOf t)
+  pub not-right : pos 0 ≤ℤ cross (nextOf s) (cornerOf t ⊖ cornerOf s)
 
-abbrev pub Best : List ℤ → ℕ → Across → Type 0
-Best a k b = Width (points a) k (b .edge) (b .corner) (b .turn) (b .squared)
+unfoldable pub measuredAt : Side → Side → Across
+measuredAt s t = record {
+  edge = s .at;
+  corner = t .at;
+  turn = natAbs (cross (nextOf s) (cornerOf t ⊖ cornerOf s));
+  squared = natAbs (value (nextOf s) (nextOf s));
+}
+
+-- t·t/q of the first edge is less than that of the second
+abbrev pub isNarrower : Across → Across → Bool
+isNarrower a b = ltb (a .turn * a .turn * b .squared) (b .turn * b .turn * a .squared)
+
+pub record NoNarrower (a b : Across) : Type 0 where
+  pub no-narrower : isNarrower a b ≡ false
+  pub no-earlier : isNarrower b a ≡ false → b .edge ≤ a .edge
+
+pub data Chosen (best found r : Across) : Type 0 where
+  stays : r ≡ best → NoNarrower found best → Chosen best found r
+  gives-way : r ≡ found → NoNarrower best found → Chosen best found r
+
+abbrev pub Best : List ℤ → Across → Type 0
+Best l b = Width (points l) (λ f. f < length (points l)) (b .edge) (b .corner) (b .turn) (b .squared)
+
+pub record Opposed (l : List ℤ) (e c : ℕ) : Type 0 where
+  pub valid : Valid l
+  pub three : 2 < length (points l)
+  pub edge-in : e < length (points l)
+  pub corner-in : c ≤ length (points l)
+  pub has : edgeTurn (points l) e (round (length (points l)) c) ≡ height (points l) e

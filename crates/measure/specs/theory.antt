@@ -1,10 +1,14 @@
--- The theory of length and width, which only proves: what stands at the places of the walk of a shape and its mirror image.
+-- The theory of length and width, which only proves: the half walk, and what stands at its places.
 pub mod Longest
-pub mod Height
 pub mod Tied
-pub mod PlaceCut
-pub mod MirrorWalk
+pub mod CutCorner
+pub mod Chains
+pub mod HalfWalk
+pub mod Antipodal
+pub mod FurthestApart
 pub mod LengthScan
+pub mod Height
+pub mod Passed
 pub mod Narrowest
 pub mod Rounded
 pub mod WidthScan

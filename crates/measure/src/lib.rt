@@ -1,16 +1,15 @@
 // Inner functions for length and width of a shape by rotating calipers (document 01, "Length" and "Width"). Callers ask
 // the crate `questions`.
+mod half;
 mod longest;
+mod magnitude;
 mod narrowest;
-mod place;
 
 ghost use Prim.Native.Nat.{_<_};
 ghost use lib.ListN.{length as ListN·length};
 ghost use Rattle.plane.specs.Point.{points};
 ghost use Rattle.plane.specs.Refusal.{Valid};
 ghost use Rattle.measure.specs.Answer.{IsLength, IsWidth};
-use polygon::limits;
-use polygon::opposite;
 
 // The greatest squared distance between two corners, and their positions.
 pub struct Length {
@@ -30,23 +29,13 @@ pub struct Width {
 }
 
 // The two corners of a shape that are furthest apart. Of several such pairs: the smallest first position, then the
-// smallest second. A point has 0 at 0, 0, and a segment its own two corners. Parallel edges are passed in one step, and
-// the corners at the greatest distance are met all the same.
+// smallest second. A point has 0 at 0, 0, and a segment its own two corners.
 // Ruled out: ties to the larger position; first position given twice.
 pub fn furthest_pair(list: &[i32]) -> Length
     requires { ⌜ Valid (now list) ⌝ }
     ensures { λ r. ⌜ IsLength (points (now (list .entry))) r ⌝ }
 {
-    let mut image = [0i32; limits::SHAPE_NUMBERS];
-    let top = opposite::top(list);
-    opposite::write_from(list, top, &mut image);
-    let end = list.len();
-    let pair = longest::longest(list, &image[..end], top);
-    Length {
-        squared: narrowest::magnitude(place::squared_at(list, pair.from, pair.to)),
-        from: pair.from,
-        to: pair.to,
-    }
+    longest::longest(list)
 }
 
 // The edge across which a shape of three corners or more is narrowest. Edges compare by turn·turn/squared as exact
@@ -57,14 +46,10 @@ pub fn narrowest_edge(list: &[i32]) -> Width
     requires { ⌜ Valid (now list) × (2 < ListN·length (points (now list))) ⌝ }
     ensures { λ r. ⌜ IsWidth (points (now (list .entry))) r ⌝ }
 {
-    let mut image = [0i32; limits::SHAPE_NUMBERS];
-    let top = opposite::top(list);
-    opposite::write_from(list, top, &mut image);
-    let end = list.len();
-    let best = narrowest::narrowest(list, &image[..end], top);
+    let best = narrowest::narrowest(list);
     Width {
         edge: best.edge,
-        corner: best.corner,
+        corner: narrowest::first_facing(list, best.edge, best.corner),
         turn: best.turn,
         squared: best.squared,
         rounded: words::root_of_fraction(best.turn, best.squared),

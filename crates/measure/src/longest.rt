@@ -1,68 +1,78 @@
-// Inner functions: the two corners of a shape that are furthest apart. The walk round the shape and its mirror image
-// comes to the one and to the opposite of the other at the same place.
-ghost use Prim.Native.Nat.{_<_};
-ghost use lib.ListN.{length};
+// Inner functions: the two corners of a shape that are furthest apart. They are antipodal, so that the half walk comes
+// to them.
+ghost use mathlib.Core.Path.{_≡_};
+ghost use Prim.Native.Nat.{_^_};
 ghost use Rattle.plane.specs.Point.{points};
-ghost use Rattle.plane.specs.Refusal.{InRange};
-ghost use Rattle.calipers.specs.Walk.{At};
-ghost use Rattle.measure.specs.Scan.{Imaged, Paired, Earlier, Kept, LengthAt};
-use crate::place;
+ghost use Rattle.plane.specs.Refusal.{Valid};
+ghost use Rattle.polygon.specs.Point.{Small};
+ghost use Rattle.calipers.specs.Side.{cornerOf};
+ghost use Rattle.measure.specs.Answer.{IsLength};
+ghost use Rattle.measure.specs.Scan.{apartAt, Earlier, Kept};
+use crate::Length;
+use crate::half;
+use crate::magnitude;
 use calipers::edges;
-use calipers::walk::Walk;
+use calipers::side;
+use calipers::side::Side;
+use polygon::corners;
+use polygon::peak;
 
-// Two positions.
-pub struct Pair {
-    pub from: usize,
-    pub to: usize,
-}
-
-// The first of all pairs at the greatest distance.
-pub fn longest(list: &[i32], image: &[i32], top: usize) -> Pair
-    requires { ⌜ Imaged (now list) (now image) top ⌝ }
-    ensures { λ r. ⌜ LengthAt (points (now (list .entry))) r ⌝ }
+// The first of all pairs at the greatest distance. The best so far is carried with its distance.
+pub fn longest(list: &[i32]) -> Length
+    requires { ⌜ Valid (now list) ⌝ }
+    ensures { λ r. ⌜ IsLength (points (now (list .entry))) r ⌝ }
 {
-    let mut walk = Walk::begin();
-    let mut best = Pair { from: 0, to: 0 };
-    while !walk.over {
-        best = better(list, best, pair_at(list, image, top, walk));
-        walk = walk.advance(list, image);
+    let n = corners::count(list);
+    let top = peak::top(list);
+    let end = edges::sides(list);
+    let mut s = side::side_at(list, 0);
+    let mut t = side::side_at(list, top);
+    let mut best = apart(n, s, t);
+    while s.at + t.at < top + end {
+        let right = half::goes_right(top, end, s, t);
+        s = side::next(list, s, !right);
+        t = side::next(list, t, right);
+        best = better(best, apart(n, s, t));
     }
     best
 }
 
-// The corner at which the walk stands, and the one at whose opposite it stands.
-fn pair_at(list: &[i32], image: &[i32], top: usize, walk: Walk) -> Pair
-    requires { ⌜ Imaged (now list) (now image) top × At (now list) (now image) walk ⌝ }
-    ensures { λ r. ⌜ Paired (now (list .entry)) (now (image .entry)) top walk r ⌝ }
+// The pair at which two sides of n corners stand, s on the right-hand chain and t on the left-hand one. After the last
+// corner comes the first again, which then stands first.
+fn apart(n: usize, s: Side, t: Side) -> Length
+    requires { ⌜ Small (2 ^ 21) (cornerOf s) × Small (2 ^ 21) (cornerOf t) ⌝ }
+    ensures { λ r. ⌜ r ≡ apartAt n s t ⌝ }
 {
-    let from = edges::round(list, walk.i);
-    let to = place::opposite_of(list, top, edges::round(image, walk.j));
-    Pair { from, to }
+    let squared = magnitude::magnitude(side::squared(s, t));
+    if t.at == n {
+        return Length {
+            squared,
+            from: 0,
+            to: s.at,
+        };
+    }
+    Length {
+        squared,
+        from: s.at,
+        to: t.at,
+    }
 }
 
-// The better of two pairs: in order, then further apart, then earlier.
-fn better(list: &[i32], best: Pair, next: Pair) -> Pair
-    requires { ⌜ (best .from < length (points (now list))) × (best .to < length (points (now list)))
-        × (next .from < length (points (now list))) × (next .to < length (points (now list)))
-        × InRange (now list) ⌝ }
-    ensures { λ r. ⌜ Kept (points (now (list .entry))) best next r ⌝ }
+// The better of two pairs: further apart, then earlier.
+fn better(best: Length, next: Length) -> Length
+    ensures { λ r. ⌜ Kept best next r ⌝ }
 {
-    if next.to < next.from {
+    if next.squared < best.squared {
         return best;
     }
-    let reached = place::squared_at(list, best.from, best.to);
-    let found = place::squared_at(list, next.from, next.to);
-    if found < reached {
-        return best;
-    }
-    if reached < found {
+    if best.squared < next.squared {
         return next;
     }
     earlier(best, next)
 }
 
 // Of two pairs the one with the smaller first position, then the smaller second.
-fn earlier(best: Pair, next: Pair) -> Pair
+fn earlier(best: Length, next: Length) -> Length
     ensures { λ r. ⌜ Earlier best next r ⌝ }
 {
     if next.from < best.from {

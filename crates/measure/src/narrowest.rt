@@ -1,20 +1,22 @@
-// Inner functions: the edge across which a shape is narrowest. When the walk round the shape and its mirror image
-// passes an edge of the shape, it stands at the opposite of the corner that is furthest from it.
+// Inner functions: the edge across which a shape is narrowest. When the half walk passes an edge of one chain, it
+// stands at the corner of the other that is furthest from it.
+ghost use mathlib.Core.Bool.{cond};
 ghost use mathlib.Core.Path.{_≡_};
 ghost use Prim.Native.Nat.{_<_};
-ghost use lib.IntN.{pos};
 ghost use lib.ListN.{length};
-ghost use lib.Signed.{_≤ℤ_};
 ghost use Rattle.plane.specs.Point.{points};
-ghost use Rattle.measure.specs.Comparison.{Facing, Measured};
-ghost use Rattle.measure.specs.Scan.{Imaged, Moving, Best};
-use crate::place;
+ghost use Rattle.plane.specs.Refusal.{Valid};
+ghost use Rattle.measure.specs.Comparison.{Facing};
+ghost use Rattle.measure.specs.Scan.{Fits, measuredAt, Chosen, Best, Opposed};
+use crate::half;
+use crate::magnitude;
 use calipers::edges;
-use calipers::walk::Walk;
+use calipers::side;
+use calipers::side::Side;
 use polygon::corners;
+use polygon::peak;
 
-// An edge, the first corner that is furthest from it, that corner's turn and the edge's squared
-// length.
+// An edge, a corner on the way round that is furthest from it, that corner's turn and the edge's squared length.
 pub struct Across {
     pub edge: usize,
     pub corner: usize,
@@ -23,75 +25,80 @@ pub struct Across {
 }
 
 // The first of all edges with the least width. Before any is measured, the width stands at 1/0.
-pub fn narrowest(list: &[i32], image: &[i32], top: usize) -> Across
-    requires { ⌜ Imaged (now list) (now image) top × (2 < length (points (now list))) ⌝ }
-    ensures { λ r. ⌜ Best (now (list .entry)) (length (points (now (list .entry)))) r ⌝ }
+pub fn narrowest(list: &[i32]) -> Across
+    requires { ⌜ Valid (now list) × (2 < length (points (now list))) ⌝ }
+    ensures { λ r. ⌜ Best (now (list .entry)) r ⌝ }
 {
-    let mut walk = Walk::begin();
+    let top = peak::top(list);
+    let end = edges::sides(list);
+    let mut s = side::side_at(list, 0);
+    let mut t = side::side_at(list, top);
     let mut best = Across {
         edge: 0,
         corner: 0,
         turn: 1,
         squared: 0,
     };
-    while !walk.over {
-        let next = walk.advance(list, image);
-        best = narrower(list, image, top, walk, next, best);
-        walk = next;
+    while s.at + t.at < top + end {
+        let right = half::goes_right(top, end, s, t);
+        best = narrower(best, measured(pick(right, s, t), pick(right, t, s)));
+        s = side::next(list, s, !right);
+        t = side::next(list, t, right);
     }
     best
 }
 
-// The best edge after a step: as before, unless an edge of the shape is passed and is narrower.
-fn narrower(list: &[i32], image: &[i32], top: usize, walk: Walk, next: Walk, best: Across) -> Across
-    requires { ⌜ Moving (now list) (now image) top walk next × Best (now list) (walk .i) best ⌝ }
-    ensures { λ r. ⌜ Best (now (list .entry)) (next .i) r ⌝ }
+// One of two sides.
+fn pick(first: bool, s: Side, t: Side) -> Side
+    ensures { λ r. ⌜ r ≡ cond first s t ⌝ }
 {
-    if next.i <= walk.i {
-        return best;
-    }
-    let found = measured(list, image, top, walk, next);
-    let less = words::fraction_less(found.turn, found.squared, best.turn, best.squared);
-    if less { found } else { best }
+    if first { s } else { t }
 }
 
-// The edge of the shape that the step passes, measured.
-fn measured(list: &[i32], image: &[i32], top: usize, walk: Walk, next: Walk) -> Across
-    requires { ⌜ Moving (now list) (now image) top walk next × (walk .i < next .i) ⌝ }
-    ensures { λ r. ⌜ (r .edge ≡ walk .i)
-        × Measured (points (now (list .entry))) (walk .i) (r .corner) (r .turn) (r .squared) ⌝ }
+// The edge of s, measured at the corner of t.
+fn measured(s: Side, t: Side) -> Across
+    requires { ⌜ Fits s t ⌝ }
+    ensures { λ r. ⌜ r ≡ measuredAt s t ⌝ }
 {
-    let edge = walk.i;
-    let end = edges::round(list, edge + 1);
-    let corner = furthest_corner(list, image, top, walk, next);
-    let turn = magnitude(corners::turn_at(list, edge, end, corner));
-    let squared = magnitude(place::squared_at(list, edge, end));
+    let turn = magnitude::magnitude(side::turn(s, t));
+    let squared = magnitude::magnitude(side::span(s));
     Across {
-        edge,
-        corner,
+        edge: s.at,
+        corner: t.at,
         turn,
         squared,
     }
 }
 
-// The first corner that is furthest from the edge that the step passes. Where a parallel edge of
-// the image is passed with it, two are: the corner before and the corner after that edge.
-fn furthest_corner(list: &[i32], image: &[i32], top: usize, walk: Walk, next: Walk) -> usize
-    requires { ⌜ Moving (now list) (now image) top walk next × (walk .i < next .i) ⌝ }
-    ensures { λ r. ⌜ Facing (points (now (list .entry))) (walk .i) r ⌝ }
+// The narrower of two edges, and the earlier of two that are as wide.
+fn narrower(best: Across, found: Across) -> Across
+    ensures { λ r. ⌜ Chosen best found r ⌝ }
 {
-    let here = place::opposite_of(list, top, edges::round(image, walk.j));
-    if next.j <= walk.j {
-        return here;
+    if words::fraction_less(best.turn, best.squared, found.turn, found.squared) {
+        return best;
     }
-    let after = place::opposite_of(list, top, edges::round(image, next.j));
-    if after < here { after } else { here }
+    if words::fraction_less(found.turn, found.squared, best.turn, best.squared) {
+        return found;
+    }
+    if found.edge < best.edge { found } else { best }
 }
 
-// A number that is not negative, as an unsigned one.
-pub fn magnitude(z: i64) -> u64
-    requires { ⌜ pos 0 ≤ℤ z ⌝ }
-    ensures { λ r. ⌜ z ≡ pos r ⌝ }
+// The first corner that is furthest from an edge, by one that is. Where the edge opposite is parallel two are, the one
+// after the other.
+pub fn first_facing(list: &[i32], edge: usize, corner: usize) -> usize
+    requires { ⌜ Opposed (now list) edge corner ⌝ }
+    ensures { λ r. ⌜ Facing (points (now (list .entry))) edge r ⌝ }
 {
-    z as u64
+    let end = edges::round(list, edge + 1);
+    let far = edges::round(list, corner);
+    let turn = corners::turn_at(list, edge, end, far);
+    if turn <= corners::turn_at(list, edge, end, 0) {
+        return 0;
+    }
+    let before = far - 1;
+    if turn <= corners::turn_at(list, edge, end, before) {
+        before
+    } else {
+        far
+    }
 }

@@ -3,5 +3,6 @@
 pub mod Point
 pub mod Broken
 pub mod Front
+pub mod Peak
 pub mod Meaning
 pub mod theory

@@ -1,4 +1,6 @@
--- The theory of points that code may compute with, of the furthest corner and of corners at the front of a buffer, which only proves.
+-- The theory of points that code may compute with, of the furthest corner of corners at the front of a buffer,
+-- and of a shape's peak, which only proves.
 pub mod Small
 pub mod Furthest
 pub mod Fronts
+pub mod Peak

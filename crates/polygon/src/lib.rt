@@ -5,5 +5,6 @@ pub mod direction;
 pub mod limits;
 pub mod numbers;
 pub mod opposite;
+pub mod peak;
 pub mod point;
 pub mod rules;

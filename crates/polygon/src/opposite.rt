@@ -1,17 +1,16 @@
 // Inner functions for the mirror image, corner by corner: the opposites of all corners, begun at the one that becomes
 // the least.
-ghost use mathlib.Core.Bool.{false};
 ghost use mathlib.Core.List.{_++_};
 ghost use mathlib.Core.Path.{_≡_};
-ghost use Prim.Native.Nat.{ℕ, _+_, _*_, _<_, _≤_};
+ghost use Prim.Native.Nat.{_+_, _*_, _<_, _≤_};
 ghost use lib.ListN.{length, take, drop};
 ghost use Rattle.plane.specs.Point.{points, numbers, corner, opposite as Point·opposite};
 ghost use Rattle.plane.specs.Refusal.{InRange, Valid};
-ghost use Rattle.plane.specs.Shape.{precedes};
 ghost use Rattle.plane.specs.Corner.{shapeOf, mirrored};
 ghost use Rattle.plane.specs.Output.{overwritten};
 ghost use Rattle.polygon.specs.Point.{stored};
 use crate::corners;
+use crate::peak;
 use crate::point;
 use crate::rules;
 
@@ -24,30 +23,11 @@ pub fn mirror(list: &[i32], out: &mut [i32])
     ensures { λ r. ⌜ now (out .exit)
         ≡ overwritten (numbers (shapeOf (mirrored (points (now (list .entry)))))) (now (out .entry)) ⌝ }
 {
-    write_from(list, top(list), out);
-}
-
-// The position of the last corner by y, then by x.
-pub fn top(list: &[i32]) -> usize
-    requires { ⌜ 0 < length (points (now list)) ⌝ }
-    ensures { λ r. ⌜ r < length (points (now (list .entry))) ⌝ }
-    ensures { λ r. ⌜ ((k : ℕ) → k < length (points (now (list .entry)))
-        → precedes (corner (points (now (list .entry))) r) (corner (points (now (list .entry))) k) ≡ false) ⌝ }
-{
-    let n = corners::count(list);
-    let mut top = 0;
-    let mut i = 1;
-    while i < n {
-        if corners::precedes_at(list, top, i) {
-            top = i;
-        }
-        i += 1;
-    }
-    top
+    write_from(list, peak::top(list), out);
 }
 
 // Writes the opposites of all corners, begun at a position of the list.
-pub fn write_from(list: &[i32], start: usize, out: &mut [i32])
+fn write_from(list: &[i32], start: usize, out: &mut [i32])
     requires { ⌜ (start < length (points (now list))) × InRange (now list)
         × (2 * length (points (now list)) ≤ length (now out)) ⌝ }
     ensures { λ r. ⌜ now (out .exit) ≡ overwritten (numbers (mirrored

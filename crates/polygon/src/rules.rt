@@ -1,7 +1,7 @@
 // Inner functions: the rules that make a shape, a test for each row of the table: refusals 1 to 5.
 ghost use mathlib.Core.Bool.{_||_};
 ghost use mathlib.Core.Path.{_≡_};
-ghost use Prim.Native.Nat.{_<_, _≤_};
+ghost use Prim.Native.Nat.{_<_};
 ghost use lib.ListN.{length};
 ghost use Rattle.plane.specs.Point.{points, corner};
 ghost use Rattle.plane.specs.Shape.{next as Shape·next, breaks};

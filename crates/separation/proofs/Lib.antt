@@ -1,3 +1,4 @@
 -- Lemmas that function proofs share.
 pub mod Stops
 pub mod Passing
+pub mod Beside

@@ -1,11 +1,11 @@
 -- The pass round all edges of a sum: the invariant of the loop, and its moves.
---     Passing a b walk count outside rim         so many edges are passed; whether one had the origin to its right, or not to its left
---     passing-start, -more, -end                 its moves, and its end
---     passing-at, passing-to                     the walk stands at edges of the lists; so does the end of an edge
---     passing-below, passing-count               there is an edge to pass; the count fits
---     passing-corners                            the corners that the edge joins
+--     Passing a b walk count rim       so many edges are passed, and none had the origin to its right; whether one had it not to its left
+--     passing-start, -more, -end       its moves, and its end; `passing-out`: an edge has the origin to its right
+--     passing-at                       the walk stands at a place of the lists
+--     passing-below, passing-count     there is an edge to pass; the count fits
+--     passing-corners                  the corners that the edge joins
 use mathlib.Core.Path.{_≡_, refl, sym, _∙_, ap, ap₂, subst}
-use mathlib.Core.Bool.{Bool, true, false, cond, _||_}
+use mathlib.Core.Bool.{Bool, true, false, _||_, true≢false}
 use mathlib.Core.List.{List}
 use Prim.Native.Nat.{ℕ, suc, _+_, _≤_, _<_, zero-le}
 use native.Mathlib.Numerals.{add-one}
@@ -18,76 +18,79 @@ use Rattle.plane.specs.Turn.{cross}
 use Rattle.plane.specs.Shape.{next}
 use Rattle.plane.specs.Separation.{notLeft}
 use Rattle.plane.specs.VectorSum.{vectorSum}
+use Rattle.plane.specs.theory.lists.Sought.{some-here}
 use Rattle.separation.specs.theory.Rim.{notLeft-cross}
-use Rattle.calipers.specs.declared.walk.Walk.{Walk}
-use Rattle.calipers.specs.Walk.{here, begun, advanced, stepped, At}
+use Rattle.calipers.specs.Walk.{Walk, here, begun, advanced, stepped, At}
 use Rattle.calipers.specs.theory.Steps.{at-stepped}
 use Rattle.plane.specs.Search.{some}
 use Rattle.separation.specs.Around.{crossAt, rightOf, Passed}
-use Rattle.separation.proofs.Stops.{sum-length, on-below, over-end, corner-here, end, end-at, end-here}
+use Rattle.separation.proofs.Stops.{sum-length, on-below, over-end, corner-here, stop-here}
 
 -- ---- the loop
 
-pub record Passing (a b : List ℤ) (walk : Walk) (count : ℕ) (outside rim : Bool) : Type 0 where
+pub record Passing (a b : List ℤ) (walk : Walk) (count : ℕ) (rim : Bool) : Type 0 where
   pub start : At a b begun
   pub within : count ≤ length (vectorSum (points a) (points b))
   pub moved : walk ≡ stepped (points a) (points b) count begun
-  pub outside-is : outside ≡ some (rightOf (vectorSum (points a) (points b))) count
+  pub inner : some (rightOf (vectorSum (points a) (points b))) count ≡ false
   pub rim-is : rim ≡ some (notLeft (vectorSum (points a) (points b))) count
 
 module _ {a b : List ℤ} where
-  pub passing-start : {walk : Walk} → At a b begun → walk ≡ begun → Passing a b walk 0 false false
-  passing-start t e = record { start = t; within = zero-le; moved = e; outside-is = refl; rim-is = refl }
+  pub passing-start : {walk : Walk} → At a b begun → walk ≡ begun → Passing a b walk 0 false
+  passing-start t e = record { start = t; within = zero-le; moved = e; inner = refl; rim-is = refl }
 
-  module _ {walk : Walk} {count : ℕ} {outside rim : Bool} (p : Passing a b walk count outside rim) where
+  module _ {walk : Walk} {count : ℕ} {rim : Bool} (p : Passing a b walk count rim) where
+    abbrev D : List Point
+    D = vectorSum (points a) (points b)
+
     pub passing-at : At a b walk
     passing-at = subst (At a b) (sym (p .moved)) (at-stepped a b begun (p .start) count)
 
-    pub passing-end : walk .over ≡ true → Passed (vectorSum (points a) (points b)) (record { count = count; outside = outside; rim = rim })
+    pub passing-end : walk .over ≡ true → Passed D (record { count = count; outside = false; rim = rim })
     passing-end o =
-        let e : count ≡ length (vectorSum (points a) (points b)) =
+        let e : count ≡ length D =
         omega (arith, p .within, over-end a b (p .start) count (p .within) (ap (λ (w : Walk). w .over) (sym (p .moved)) ∙ o)) in
         record {
-          count-is = e;
-          outside-is = p .outside-is ∙ ap (some (rightOf (vectorSum (points a) (points b)))) e;
-          rim-is = p .rim-is ∙ ap (some (notLeft (vectorSum (points a) (points b)))) e;
+          outside-is = sym (p .inner) ∙ ap (some (rightOf D)) e;
+          count-is = λ h. e;
+          rim-is = λ h. p .rim-is ∙ ap (some (notLeft D)) e;
         }
 
     module _ (on : walk .over ≡ false) where
-      pub passing-below : count < length (vectorSum (points a) (points b))
+      pub passing-below : count < length D
       passing-below = on-below a b (p .start) count (p .within) (ap (λ (w : Walk). w .over) (sym (p .moved)) ∙ on)
 
       pub passing-count : count < length (points a) + length (points b)
       passing-count = omega (arith, passing-below, sum-length (points a) (points b))
 
-      module _ {after to : Walk} (e : after ≡ advanced (points a) (points b) walk) (f : to ≡ cond (after .over) begun after) where
+      module _ {after : Walk} (e : after ≡ advanced (points a) (points b) walk) where
         after-is : after ≡ stepped (points a) (points b) (suc count) begun
         after-is = e ∙ ap (advanced (points a) (points b)) (p .moved)
 
-        to-is : to ≡ end a b (p .start) count
-        to-is = f ∙ ap (λ (w : Walk). cond (w .over) begun w) after-is
-
-        pub passing-to : At a b to
-        passing-to = subst (At a b) (sym to-is) (end-at a b (p .start) count)
-
-        pub passing-corners : (f : Point → Point → ℤ) → f (here (points a) (points b) walk) (here (points a) (points b) to)
-            ≡ f (corner (vectorSum (points a) (points b)) count)
-            (corner (vectorSum (points a) (points b)) (next (length (vectorSum (points a) (points b))) count))
+        pub passing-corners : (f : Point → Point → ℤ) → f (here (points a) (points b) walk) (here (points a) (points b) after)
+            ≡ f (corner D count) (corner D (next (length D) count))
         passing-corners f = ap₂ f (ap (here (points a) (points b)) (p .moved) ∙ corner-here a b (p .start) count passing-below)
-            (ap (here (points a) (points b)) to-is ∙ end-here a b (p .start) count passing-below)
+            (ap (here (points a) (points b)) after-is ∙ stop-here a b (p .start) count passing-below)
 
-        pub passing-more : {turn : ℤ} {outside′ rim′ : Bool}
-            → turn ≡ cross (here (points a) (points b) walk) (here (points a) (points b) to)
-            → outside′ ≡ (outside || ltZ turn (pos 0)) → rim′ ≡ (rim || leZ turn (pos 0)) → Passing a b after (count + 1) outside′ rim′
-        unfolding rightOf crossAt
-        passing-more t g h = record {
-          start = p .start;
-          within = omega (arith, passing-below);
-          moved = after-is ∙ ap (λ (n : ℕ). stepped (points a) (points b) n begun) (sym (add-one count));
-          outside-is = g ∙ ap₂ (λ (x : Bool) (z : ℤ). x || ltZ z (pos 0)) (p .outside-is) (t ∙ passing-corners cross)
-              ∙ ap (some (rightOf (vectorSum (points a) (points b)))) (sym (add-one count));
-          rim-is = h ∙ ap₂ (λ (x : Bool) (z : ℤ). x || leZ z (pos 0)) (p .rim-is) (t ∙ passing-corners cross)
-              ∙ ap (λ (x : Bool). some (notLeft (vectorSum (points a) (points b))) count || x)
-              (sym (notLeft-cross (vectorSum (points a) (points b)) count))
-              ∙ ap (some (notLeft (vectorSum (points a) (points b)))) (sym (add-one count));
-        }
+        module _ {turn : ℤ} (t : turn ≡ cross (here (points a) (points b) walk) (here (points a) (points b) after)) where
+          side-is : ltZ turn (pos 0) ≡ rightOf D count
+          unfolding rightOf crossAt
+          side-is = ap (λ (z : ℤ). ltZ z (pos 0)) (t ∙ passing-corners cross)
+
+          pub passing-out : ltZ turn (pos 0) ≡ true → Passed D (record { count = count; outside = true; rim = rim })
+          passing-out h = record {
+            outside-is = sym (some-here (rightOf D) (length D) count passing-below (sym side-is ∙ h));
+            count-is = λ k. absurd (true≢false k);
+            rim-is = λ k. absurd (true≢false k);
+          }
+
+          pub passing-more : ltZ turn (pos 0) ≡ false → {new : Bool} → new ≡ (rim || leZ turn (pos 0)) → Passing a b after (count + 1) new
+          passing-more g h = record {
+            start = p .start;
+            within = omega (arith, passing-below);
+            moved = after-is ∙ ap (λ (n : ℕ). stepped (points a) (points b) n begun) (sym (add-one count));
+            inner = ap (some (rightOf D)) (add-one count) ∙ ap₂ _||_ (p .inner) (sym side-is ∙ g);
+            rim-is = h ∙ ap₂ (λ (x : Bool) (z : ℤ). x || leZ z (pos 0)) (p .rim-is) (t ∙ passing-corners cross)
+                ∙ ap (λ (x : Bool). some (notLeft D) count || x) (sym (notLeft-cross D count))
+                ∙ ap (some (notLeft D)) (sym (add-one count));
+          }

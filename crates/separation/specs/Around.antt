@@ -6,7 +6,7 @@
 --     Passed D s        a walk saw s of D
 -- What it means: `placed-related` of the theory.
 use mathlib.Core.Path.{_≡_}
-use mathlib.Core.Bool.{Bool, cond}
+use mathlib.Core.Bool.{Bool, false, cond}
 use mathlib.Core.List.{List}
 use Prim.Native.Nat.{ℕ}
 use lib.Dec.{ltb}
@@ -37,7 +37,8 @@ placed D = cond (some (rightOf D) (length D)) (pos 0)
 unfoldable pub related : List Point → List Point → ℤ
 related A B = cond (apart A B) (pos 0) (cond (touching A B) (pos 1) (pos 2))
 
+-- the walk stops at an edge that has the origin to its right, and then knows no more
 pub record Passed (D : List Point) (s : Sides) : Type 0 where
-  pub count-is : s .count ≡ length D
   pub outside-is : s .outside ≡ some (rightOf D) (length D)
-  pub rim-is : s .rim ≡ some (notLeft D) (length D)
+  pub count-is : s .outside ≡ false → s .count ≡ length D
+  pub rim-is : s .outside ≡ false → s .rim ≡ some (notLeft D) (length D)

@@ -8,4 +8,4 @@ pub mod Clearance
 pub mod Around
 pub mod Nearest
 pub mod Image
-pub mod Merged
+pub mod Within

@@ -1,9 +1,9 @@
 // Inner functions for how two shapes stand to each other (document 01, "Relation", "Inside" and "Clearance"). Callers
 // ask the crate `questions`.
 mod around;
-mod merged;
 pub mod nearest;
 pub mod place;
+mod within;
 
 ghost use mathlib.Core.Path.{_≡_};
 ghost use Rattle.plane.specs.Point.{points};
@@ -28,13 +28,15 @@ pub fn relation(a: &[i32], b: &[i32]) -> Place
     around::around(a, &image[..2 * corners::count(b)])
 }
 
-// Whether the first shape is inside the second: the shape of both together is the second.
-// Ruled out: shape not inside itself; inside the other way round.
+// Whether the first shape is inside the second: a point and a segment by their ends, a polygon by a walk round both.
+// Ruled out: shape not inside itself; inside the other way round; parallel edge not asked.
 pub fn inside(a: &[i32], b: &[i32]) -> bool
     requires { ⌜ Valid (now a) × Valid (now b) ⌝ }
     ensures { λ r. ⌜ r ≡ Separation·inside (points (now (a .entry))) (points (now (b .entry))) ⌝ }
 {
-    let mut both = [0i32; limits::PAIR_NUMBERS];
-    let n = hull::merge(a, b, &mut both);
-    merged::is_same(b, &both[..2 * n])
+    let n = corners::count(b);
+    if n < 3 {
+        return within::in_segment(a, corners::corner_at(b, 0), corners::corner_at(b, n - 1));
+    }
+    within::in_polygon(a, b)
 }

@@ -1,15 +1,15 @@
 // Inner functions: arithmetic on numbers of any count of words, the lowest word first. A number of no words is 0.
 ghost use mathlib.Core.Path.{_≡_};
-ghost use Prim.Native.Nat.{_+_, _*_, _/_, _%_, _<_, _≤_};
+ghost use Prim.Native.Nat.{_+_, _*_, _/_, _%_, _^_};
 ghost use lib.Dec.{ltb};
 ghost use lib.ListN.{length};
-ghost use Rattle.words.specs.Value.{value, weight};
+ghost use Rattle.words.specs.Value.{value};
 
-// One more than the largest word.
-const BASE: u64 = 4_294_967_296;
+// One more than the largest half of a word.
+const HALF: u64 = 4_294_967_296;
 
 // Whether a is less than b, two numbers of as many words: the highest word that differs decides.
-pub fn is_less(a: &[u32], b: &[u32]) -> bool
+pub fn is_less(a: &[u64], b: &[u64]) -> bool
     requires same_length { ⌜ length (now a) ≡ length (now b) ⌝ }
     ensures { λ r. ⌜ r ≡ ltb (value (now (a .entry))) (value (now (b .entry))) ⌝ }
 {
@@ -23,91 +23,62 @@ pub fn is_less(a: &[u32], b: &[u32]) -> bool
     false
 }
 
-// The product of a and b; out has as many words as both, or more.
-pub fn product(a: &[u32], b: &[u32], out: &mut [u32])
-    requires room { ⌜ length (now a) + length (now b) ≤ length (now out) ⌝ }
-    ensures { λ r. ⌜
-        value (now (out .exit)) ≡ value (now (a .entry)) * value (now (b .entry)) ⌝ }
-{
-    clear(out);
-    let mut j = 0;
-    while j < b.len() {
-        add_row(out, j, a, b[j]);
-        j += 1;
-    }
-}
-
-// The number x, in two words or more.
-pub fn from_u64(x: u64, out: &mut [u32])
-    requires room { ⌜ 2 ≤ length (now out) ⌝ }
-    ensures { λ r. ⌜ value (now (out .exit)) ≡ x ⌝ }
-{
-    clear(out);
-    out[0] = low_word(x);
-    out[1] = high_word(x);
-}
-
-// One row of a product: adds a times w from word `at` on. The word above has room for the carry.
-fn add_row(out: &mut [u32], at: usize, a: &[u32], w: u32)
-    requires room { ⌜ at + length (now a) < length (now out) ⌝ }
-    requires fits { ⌜
-        value (now out) + weight at * (value (now a) * w) < weight (at + length (now a) + 1) ⌝ }
-    ensures { λ r. ⌜
-        value (now (out .exit))
-        ≡ value (now (out .entry)) + weight at * (value (now (a .entry)) * w) ⌝ }
-{
-    let carry = add_scaled(out, at, a, w);
-    let top = at + a.len();
-    out[top] += carry;
-}
-
-// Adds a times w from word `at` on, and returns the carry into the word above a.
-fn add_scaled(out: &mut [u32], at: usize, a: &[u32], w: u32) -> u32
-    requires room { ⌜ at + length (now a) ≤ length (now out) ⌝ }
-    ensures { λ r. ⌜
-        value (now (out .exit)) + weight (at + length (now (a .entry))) * r
-        ≡ value (now (out .entry)) + weight at * (value (now (a .entry)) * w) ⌝ }
+// The product of a and the word w, which has one word more than a.
+pub fn scale(a: &[u64], w: u64, out: &mut [u64])
+    requires room { ⌜ length (now out) ≡ length (now a) + 1 ⌝ }
+    ensures { λ r. ⌜ value (now (out .exit)) ≡ value (now (a .entry)) * w ⌝ }
 {
     let mut carry = 0;
     let mut i = 0;
     while i < a.len() {
-        let k = at + i;
-        let sum = multiply_add(a[i], w, out[k], carry);
-        out[k] = low_word(sum);
-        carry = high_word(sum);
+        out[i] = low_word(a[i], w, carry);
+        carry = high_word(a[i], w, carry);
         i += 1;
     }
-    carry
+    out[i] = carry;
 }
 
-// Sets every word to 0.
-fn clear(out: &mut [u32])
-    ensures { λ r. ⌜ value (now (out .exit)) ≡ 0 ⌝ }
+// The low word of x·w + carry, which two words hold.
+fn low_word(x: u64, w: u64, carry: u64) -> u64
+    ensures { λ r. ⌜ r ≡ (x * w + carry) % 2 ^ 64 ⌝ }
 {
-    let mut i = 0;
-    while i < out.len() {
-        out[i] = 0;
-        i += 1;
+    std::num::wrapping_add_u64(low_product(x, w), carry)
+}
+
+// The high word of x·w + carry: one more than that of x·w where the sum of the low words wraps.
+fn high_word(x: u64, w: u64, carry: u64) -> u64
+    ensures { λ r. ⌜ r ≡ (x * w + carry) / 2 ^ 64 ⌝ }
+{
+    let high = high_product(x, w);
+    if low_word(x, w, carry) < carry {
+        high + 1
+    } else {
+        high
     }
 }
 
-// x·w + y + carry, which two words hold.
-fn multiply_add(x: u32, w: u32, y: u32, carry: u32) -> u64
-    ensures { λ r. ⌜ r ≡ x * w + y + carry ⌝ }
+// The low word of x·y. It is written by halves of words, as the high word is: a product of two words fits no type. The
+// compiler makes one multiplication of either; a function that gave both would be left as it is.
+fn low_product(x: u64, y: u64) -> u64
+    ensures { λ r. ⌜ r ≡ x * y % 2 ^ 64 ⌝ }
 {
-    x as u64 * w as u64 + y as u64 + carry as u64
+    let x0 = x % HALF;
+    let x1 = x / HALF;
+    let y0 = y % HALF;
+    let y1 = y / HALF;
+    let middle = (x0 * y1 % HALF + x1 * y0 % HALF) % HALF;
+    std::num::wrapping_add_u64(x0 * y0, middle * HALF)
 }
 
-// The low word of a number of two.
-fn low_word(x: u64) -> u32
-    ensures { λ r. ⌜ r ≡ x % 4294967296 ⌝ }
+// The high word of x·y: the products of halves are added column by column, each with what the column below carries.
+pub fn high_product(x: u64, y: u64) -> u64
+    ensures { λ r. ⌜ r ≡ x * y / 2 ^ 64 ⌝ }
 {
-    (x % BASE) as u32
-}
-
-// The high word of a number of two.
-fn high_word(x: u64) -> u32
-    ensures { λ r. ⌜ r ≡ x / 4294967296 ⌝ }
-{
-    (x / BASE) as u32
+    let x0 = x % HALF;
+    let x1 = x / HALF;
+    let y0 = y % HALF;
+    let y1 = y / HALF;
+    let second = x1 * y0 + x0 * y0 / HALF;
+    let third = second % HALF + x0 * y1;
+    x1 * y1 + second / HALF + third / HALF
 }

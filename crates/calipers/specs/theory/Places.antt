@@ -3,7 +3,7 @@
 --     steps i j E F            from (i, j) on, with the edges E and F to come: a place for each joined edge; `stepsRight` if E is empty
 --     steps-left, -right, -both     how they go on; `Ahead e F`: the edge e is before what F begins with
 --     placesFrom i j E F       the same, and (i, j) itself where there is no edge; `places E F` from the beginning
---     finished E i F j         all edges are passed; `finished-ended`: the test as a fact
+--     finished E i F j         all edges are passed; `finished-all`, `finished-ended`: the test as a fact
 --     placesLeft E F i j       the places to come, none where the walk is finished; `passed-within`: a step passes edges that are there
 --     places-here              the first place to come, and those after the next step of the walk
 -- The corners at the places are in `PlaceCorners.antt`.
@@ -90,13 +90,16 @@ module _ (E F : List Point) where
   ended-finished : (i j : ℕ) → i ≡ length E → j ≡ length F → finished E i F j ≡ true
   ended-finished i j h k = rw (eq-eqb i (length E) h, eq-eqb j (length F) k)
 
-  pub finished-ended : (i j : ℕ) → finished E i F j ≡ true → (length E ≤ i) × (length F ≤ j)
-  finished-ended i j h = go (eqb i (length E)) refl (eqb j (length F)) refl h
+  pub finished-all : (i j : ℕ) → finished E i F j ≡ true → (i ≡ length E) × (j ≡ length F)
+  finished-all i j h = go (eqb i (length E)) refl (eqb j (length F)) refl h
     where
-      go : (a : Bool) → eqb i (length E) ≡ a → (b : Bool) → eqb j (length F) ≡ b → (a && b) ≡ true → (length E ≤ i) × (length F ≤ j)
-      go true p true q r = (omega (arith, eqb-true i (length E) p), omega (arith, eqb-true j (length F) q))
+      go : (a : Bool) → eqb i (length E) ≡ a → (b : Bool) → eqb j (length F) ≡ b → (a && b) ≡ true → (i ≡ length E) × (j ≡ length F)
+      go true p true q r = (eqb-true i (length E) p, eqb-true j (length F) q)
       go true p false q r = absurd (false≢true r)
       go false p b q r = absurd (false≢true r)
+
+  pub finished-ended : (i j : ℕ) → finished E i F j ≡ true → (length E ≤ i) × (length F ≤ j)
+  finished-ended i j h = let r = finished-all i j h in (omega (arith, r .0), omega (arith, r .1))
 
   steps-rest : (i j : ℕ) → i ≤ length E → j ≤ length F → steps i j (drop i E) (drop j F) ≡ placesLeft E F i j
   steps-rest i j h k = go (ltb i (length E)) refl (ltb j (length F)) refl

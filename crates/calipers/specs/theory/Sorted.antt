@@ -1,34 +1,73 @@
 -- One pass round the corners: edges of which each is before the next make a shape.
---     Passed E i                    each of the first i edges is before the one after it
---     passed-start, passed-more     the moves of the pass
---     passed-shape                  all edges passed, and the first corner precedes the last: the list is a shape
+--     stretch-none, stretch-start, stretch-more     the moves of the pass over a stretch
+--     stretches-shape               edges up, then down, and the first corner precedes the last: the list is a shape
 --     point-shape                   one corner is a shape
 use mathlib.Core.Path.{_≡_, refl, sym, _∙_, ap, subst}
-use mathlib.Core.Bool.{true, false, cond, false≢true}
+use mathlib.Core.Bool.{Bool, true, false, cond}
 use mathlib.Core.List.{List, [], _∷_}
-use Prim.Native.Nat.{ℕ, zero, suc, _+_, _≤_, _<_}
+use Prim.Native.Nat.{ℕ, suc, _+_, _≤_, _<_}
 use native.Mathlib.Numerals.{add-one}
 use native.Mathlib.Omega.{arith}
 use borrow.Author.Count.{below-more}
-use borrow.Author.Tests.{eq-eqb}
+use borrow.Author.Tests.{eq-eqb, ltb-true, ltb-false}
+use lib.Dec.{ltb}
+use lib.IntN.{pos}
 use lib.ListN.{length}
+use lib.Signed.{_<ℤ_}
 use Rattle.plane.specs.Point.{Point, corner, origin, _⊖_}
+use Rattle.plane.specs.Turn.{cross}
 use Rattle.plane.specs.Shape.{IsShape, precedes}
-use Rattle.plane.specs.Forms.{Precedes, Before, NonZero, From, InOrder, edgesTo, edges, up}
+use Rattle.plane.specs.Forms.{Precedes, Before, NonZero, InOrder, edgesTo, edges, up}
 use Rattle.plane.specs.theory.forms.Precedes.{precedes-irrefl, precedes-different}
 use Rattle.plane.specs.theory.forms.Vector.{cross-nonzero, ⊖-zero}
-use Rattle.plane.specs.theory.forms.Angle.{Earlier, apart, alike, before→earlier}
+use Rattle.plane.specs.theory.forms.Angle.{Earlier, apart, alike, before→earlier, earlier→before}
 use Rattle.plane.specs.theory.forms.Standard.{sorted→shape}
 use Rattle.plane.specs.theory.sum.Positions.{edges-some, edge-at}
+use Rattle.calipers.specs.Stretch.{Stretch}
 
-pub record Passed (E : List Point) (i : ℕ) : Type 0 where
-  pub ordered : (k : ℕ) → k < i → Before (corner E k) (corner E (suc k))
+module _ {E : List Point} {half : Bool} {s : ℕ} where
+  pub stretch-none : s ≤ length E → Stretch E half s s
+  stretch-none h = record {
+    begins = omega arith;
+    ends = h;
+    same = λ k a b. absurd (omega arith);
+    turns = λ k a b. absurd (omega arith);
+  }
 
-pub passed-start : (E : List Point) → Passed E 0
-passed-start E = record { ordered = λ k h. absurd (omega arith) }
+  pub stretch-start : s < length E → up (corner E s) ≡ half → Stretch E half s (s + 1)
+  stretch-start h u = record {
+    begins = omega arith;
+    ends = omega arith;
+    same = λ k a b. let e : k ≡ s = omega arith in rw e u;
+    turns = λ k a b. absurd (omega arith);
+  }
 
-pub passed-more : {E : List Point} {i : ℕ} → Passed E i → Before (corner E i) (corner E (i + 1)) → Passed E (i + 1)
-passed-more {E} {i} p b = record { ordered = below-more _ i (p .ordered) (subst (λ k. Before (corner E i) (corner E k)) (add-one i) b) }
+  -- one edge more
+  pub stretch-more : (i : ℕ) → Stretch E half s (i + 1) → i + 1 < length E → up (corner E (i + 1)) ≡ half
+      → pos 0 <ℤ cross (corner E i) (corner E (i + 1)) → Stretch E half s (i + 1 + 1)
+  stretch-more i p h u c = record {
+    begins = omega (arith, p .begins);
+    ends = omega arith;
+    same = λ k a b. below-more (λ m. s ≤ m → up (corner E m) ≡ half) (i + 1) (λ m l q. p .same m q l) (λ q. u) k b a;
+    turns = λ k a b. below-more (λ m. s ≤ m → pos 0 <ℤ cross (corner E m) (corner E (suc m))) i (λ m l q. p .turns m q (omega arith))
+        (λ q. rw add-one at c) k (omega arith) a;
+  }
+
+-- ---- up, then down
+
+-- each edge is before the next
+up-down : {E : List Point} {top : ℕ} → Stretch E true 0 top → Stretch E false top (length E)
+    → (k : ℕ) → suc k < length E → Before (corner E k) (corner E (suc k))
+up-down {E} {top} p q k h = earlier→before (go (ltb k top) refl (ltb (suc k) top) refl)
+  where
+    go : (a : Bool) → ltb k top ≡ a → (b : Bool) → ltb (suc k) top ≡ b → Earlier (corner E k) (corner E (suc k))
+    go true d true e =
+        let l = ltb-true (suc k) top e in
+        alike (p .same k (omega arith) (omega arith) ∙ sym (p .same (suc k) (omega arith) l)) (p .turns k (omega arith) l)
+    go true d false e = apart (p .same k (omega arith) (ltb-true k top d)) (q .same (suc k) (ltb-false (suc k) top e) h)
+    go false d b e =
+        let l = ltb-false k top d in
+        alike (q .same k l (omega arith) ∙ sym (q .same (suc k) (omega arith) h)) (q .turns k l h)
 
 -- ---- in order
 
@@ -55,12 +94,12 @@ point-shape [] h = absurd (omega arith)
 point-shape (p ∷ []) h = sorted→shape (p ∷ []) tt
 point-shape (p ∷ (q ∷ ps)) h = absurd (omega arith)
 
-pub passed-shape : (ps : List Point) (i : ℕ) → 1 < length ps → i + 1 ≡ length ps → Passed (edges ps) i
-    → precedes (corner ps 0) (corner ps i) ≡ true → IsShape ps
-passed-shape [] i h e p l = absurd (omega arith)
-passed-shape (a ∷ []) i h e p l = absurd (omega arith)
-passed-shape (a ∷ (b ∷ ps)) i h e p l = sorted→shape (a ∷ b ∷ ps)
-    (passed-from (b ⊖ a) (edgesTo a b ps) (λ k g. p .ordered k (omega (arith, size)))
+pub stretches-shape : (ps : List Point) (top i : ℕ) → 1 < length ps → i + 1 ≡ length ps → Stretch (edges ps) true 0 top
+    → Stretch (edges ps) false top (length (edges ps)) → precedes (corner ps 0) (corner ps i) ≡ true → IsShape ps
+stretches-shape [] top i h e p q l = absurd (omega arith)
+stretches-shape (a ∷ []) top i h e p q l = absurd (omega arith)
+stretches-shape (a ∷ (b ∷ ps)) top i h e p q l = sorted→shape (a ∷ b ∷ ps)
+    (passed-from (b ⊖ a) (edgesTo a b ps) (λ k g. up-down p q k (omega (arith, size, count)))
     (subst (λ k. NonZero (corner (edges (a ∷ b ∷ ps)) k)) (sym size) last))
   where
     count : length (edges (a ∷ b ∷ ps)) ≡ length (a ∷ b ∷ ps)

@@ -19,12 +19,12 @@ use Rattle.plane.specs.Refusal.{Valid}
 use Rattle.plane.specs.Forms.{edges}
 use Rattle.plane.specs.VectorSum.{path, joinEdges, vectorSum}
 use Rattle.plane.specs.Cycle.{cornerRound}
+use Rattle.plane.specs.theory.sum.Positions.{shape-in-order}
 use Rattle.calipers.specs.Places.{place, placesFrom, places}
 use Rattle.calipers.specs.theory.Places.{places-here}
 use Rattle.calipers.specs.theory.PlaceCorners.{cornerAt, placesFrom-corners}
-use Rattle.calipers.specs.declared.walk.Walk.{Walk}
-use Rattle.calipers.specs.theory.Pass.{passed-le}
-use Rattle.calipers.specs.Walk.{here, begun, passed, finished, advanced, stepped, ahead, remaining, At}
+use Rattle.calipers.specs.theory.Standing.{standing-start, standing-advance}
+use Rattle.calipers.specs.Walk.{Walk, here, begun, passed, finished, advanced, stepped, ahead, remaining, At}
 
 module _ (A B : List Point) where
   pub remaining-over : (w : Walk) → w .over ≡ true → remaining A B w ≡ []
@@ -66,7 +66,7 @@ module _ (a b : List ℤ) where
 
   pub ahead-here : (w : Walk) → At a b w → w .over ≡ false → ahead A B w ≡ place (w .i) (w .j) ∷ ahead A B (advanced A B w)
   unfolding ahead advanced passed finished
-  ahead-here w t o = rw o (places-here (edges A) (edges B) (w .i) (w .j) (t .i-in) (t .j-in))
+  ahead-here w t o = rw o (places-here (edges A) (edges B) (w .i) (w .j) (t .standing .left-in) (t .standing .right-in))
 
   pub remaining-here : (w : Walk) → At a b w → w .over ≡ false → remaining A B w ≡ here A B w ∷ remaining A B (advanced A B w)
   unfolding here
@@ -78,21 +78,19 @@ module _ (a b : List ℤ) where
   at-begin v w = record {
     first-near = v .inRange;
     second-near = w .inRange;
-    first-some = v .shape .some;
-    second-some = w .shape .some;
-    i-in = omega arith;
-    j-in = omega arith;
+    first-shape = v .shape;
+    second-shape = w .shape;
+    standing = standing-start (edges A) (edges B);
   }
 
   pub at-advanced : (w : Walk) → At a b w → At a b (advanced A B w)
-  unfolding advanced
+  unfolding advanced passed
   at-advanced w t = record {
     first-near = t .first-near;
     second-near = t .second-near;
-    first-some = t .first-some;
-    second-some = t .second-some;
-    i-in = passed-le A (w .i) B (w .j) (t .i-in);
-    j-in = passed-le B (w .j) A (w .i) (t .j-in);
+    first-shape = t .first-shape;
+    second-shape = t .second-shape;
+    standing = standing-advance (shape-in-order A (t .first-shape)) (shape-in-order B (t .second-shape)) (t .standing);
   }
 
   -- a walk with a corner to come is not over

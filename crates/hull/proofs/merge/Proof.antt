@@ -1,70 +1,76 @@
--- `merge` meets its contract: the two chains, joined, are the shape of both lists.
-use mathlib.Core.Path.{refl, subst}
-use mathlib.Core.List.{List, _++_}
-use Prim.Native.Nat.{_+_, _*_, _≤_}
+-- `merge` meets its contract: both chains are the shape of both lists, or its one corner is.
+use mathlib.Core.Path.{sym, _∙_, subst}
+use mathlib.Core.List.{List}
 use native.Mathlib.Omega.{arith}
 use borrow.Author.Needs.{needs}
-use lib.ListN.{length, length-append}
-use Rattle.plane.specs.Limits.{maxCorners}
-use Rattle.plane.specs.Point.{Point, points}
+use Rattle.plane.specs.Point.{Point}
+use Rattle.plane.specs.theory.lists.Flat.{points-length}
 use Rattle.polygon.specs.Front.{Front}
-use Rattle.hull.specs.theory.Stored.{zeros-near}
-use Rattle.hull.specs.theory.Sides.{sides-few}
+use Rattle.hull.specs.theory.Same.{same-shape}
+use Rattle.hull.specs.theory.Written.{front-one}
 use Rattle.hull.proofs.merge.Statement.{statement}
 use Rattle.hull.proofs.merge.Tie as tie
 
--- not more corners than both lists have
-few : (c : tie.After-both-chains) → let start = c .before .before .before in
-    c .both-chains .result .right + c .both-chains .result .left ≤ length (points (start .args .a .now)) + length
-    (points (start .args .b .now))
-few c =
-    let start = c .before .before .before in
-    let counts = length-append (points (start .args .a .now)) (points (start .args .b .now)) in
-    omega (
-      arith,
-      counts,
-      sides-few (points (start .args .a .now) ++ points (start .args .b .now)) (omega (arith, counts, start .pre .0 .shape .some))
-          (c .both-chains .ensures),
-    )
+top-requires : tie.Need-top-requires
+top-requires c κs = search needs
 
-slice-aggregate-both-chains : tie.Need-slice-aggregate-both-chains
-slice-aggregate-both-chains c = search needs
+top-requires-2 : tie.Need-top-requires-2
+top-requires-2 c κs = search needs
 
-slice-aggregate-both-chains-2 : tie.Need-slice-aggregate-both-chains-2
-slice-aggregate-both-chains-2 c = search needs
+foremost-requires : tie.Need-foremost-requires
+foremost-requires c κs = search needs
+
+foremost-requires-2 : tie.Need-foremost-requires-2
+foremost-requires-2 c κs = search needs
+
+precedes-requires : tie.Need-precedes-requires
+precedes-requires c κs = search needs
 
 both-chains-requires : tie.Need-both-chains-requires
-unfolding maxCorners
 both-chains-requires c κs =
-    let start = c .before .before in
-    let a = start .pre .0 in
-    let b = start .pre .1 in
-    ((a, b, zeros-near (4 * maxCorners), zeros-near (4 * maxCorners)), (omega (arith, a .few, b .few), refl))
-
-slice-aggregate-join : tie.Need-slice-aggregate-join
-slice-aggregate-join c = search needs
-
-slice-aggregate-join-2 : tie.Need-slice-aggregate-join-2
-slice-aggregate-join-2 c = search needs
-
-join-requires : tie.Need-join-requires
-join-requires c κs =
-    let at-chains = c .before .before .before .before .before in
-    let start = at-chains .before .before .before in
-    let sides = at-chains .both-chains .ensures in
-    (sides .within-right, sides .within-left, omega (arith, few at-chains, start .pre .2))
+    let tested = c .before in
+    let found = tested .before .before in
+    let tops = found .before .before in
+    let start = tops .before .before in (
+      start .pre .0,
+      start .pre .1,
+      record {
+        start = found .before .foremost .ensures;
+        end = found .foremost2 .ensures;
+        apart = sym (tested .before .precedes .ensures) ∙ tested .if1 .taken;
+        first-peak = tops .before .top .ensures;
+        second-peak = tops .top2 .ensures;
+      },
+      start .pre .2,
+    )
 
 same-length : tie.Need-same-length
 same-length c = search needs
 
 returns : tie.Need-returns
-returns c =
-    let at-chains = c .before .before .before .before .before .before .before in
-    subst (λ (ps : List Point). Front ps (c .before .join .result) (c .before .join .last .1 .1 .1 .1 .0))
-    (at-chains .both-chains .ensures .joined) (c .before .join .ensures)
+returns c = search needs
+
+put-requires : tie.Need-put-requires
+put-requires c κs =
+    let start = c .before .before .before .before .before .before .before in
+    omega (arith, start .pre .0 .shape .some, start .pre .2, points-length (start .args .buf .now))
+
+same-length-2 : tie.Need-same-length-2
+same-length-2 c = search needs
+
+returns-2 : tie.Need-returns-2
+returns-2 c =
+    let tested = c .before .before .before in
+    let found = tested .before .before in
+    let tops = found .before .before in
+    let start = tops .before .before in
+    subst (λ (ps : List Point). Front ps 1 (c .before .put .last .0))
+    (same-shape (start .pre .0 .shape) (start .pre .1 .shape) (found .before .foremost .ensures) (found .foremost2 .ensures)
+    (tops .before .top .ensures) (tops .top2 .ensures) (sym (tested .before .precedes .ensures) ∙ tested .if1 .left))
+    (front-one (start .args .buf .now) (omega (arith, start .pre .0 .shape .some, start .pre .2)) (c .before .put .ensures))
 
 pub merge-spec : {M : Type 1} → statement M
 merge-spec =
     tie.close
-    (tie.spec slice-aggregate-both-chains slice-aggregate-both-chains-2 both-chains-requires slice-aggregate-join slice-aggregate-join-2
-    join-requires same-length returns)
+    (tie.spec top-requires top-requires-2 foremost-requires foremost-requires-2 precedes-requires both-chains-requires same-length
+    returns put-requires same-length-2 returns-2)

@@ -1,35 +1,31 @@
--- The greatest turn against an edge, as a support: with d the direction out of the edge, the turn of a corner is the value of d at its
--- opposite, up to a number that the edge alone fixes.
---     quarterBack e, quarter-quarterBack      the direction out of the edge e; turned left by a quarter it is e
---     edgeOf ps e                     the edge that leaves corner e
---     edgeTurn-value, height-support   the turn, and the greatest turn, by values of the direction out of the edge
+-- The greatest turn against an edge, as a support: with d the direction to the left of the edge, the turn of a corner is the value of d
+-- there, up to a number that the edge alone fixes.
+--     edgeTurn-value, height-support    the turn, and the greatest turn, by values of the direction to the left of the edge
 --     height-above, height-had          no turn is above it; some corner has it
---     furthest-height, height-furthest  a corner has the greatest turn exactly if its opposite is furthest in the mirror image
+--     furthest-height, height-furthest  a corner has the greatest turn exactly if it is furthest in that direction
+--     value-nonneg, edgeSquared-value           the squared length as a product of the edge with itself
 --     height-positive, edgeSquared-positive     of a shape with three corners or more
---     Facing ps e c                            c is the first corner of greatest turn; `facing-only`, `facing-either`: of one, or of two
---     facing-width                             against the edge of the width it is widthCorner
---     width-facing, width-earlier              and widthCorner is such a corner; before it all turns are less
+--     facing-width                              against the edge of the width the first corner of greatest turn is widthCorner
+--     width-facing, width-earlier               and widthCorner is such a corner; before it all turns are less
 use mathlib.Core.Path.{_≡_, refl, sym, _∙_, ap}
 use mathlib.Core.Bool.{Bool, true, false, cond}
 use mathlib.Core.List.{List, [], _∷_}
-use mathlib.Core.Logic.{_⊎_, inl, inr}
 use Prim.Native.Nat.{ℕ, _+_, _≤_, _<_}
 use native.Mathlib.Omega.{arith}
 use borrow.Author.Tests.{eqb-true, eqb-false}
 use lib.Dec.{eqb}
-use lib.IntN.{ℤ, pos, negℤ, _+ℤ_}
+use lib.IntN.{ℤ, pos, _-ℤ_}
 use lib.ListN.{length}
 use lib.Signed.{_≤ℤ_, _<ℤ_, leZ, clashℤ}
 use Rattle.integer.specs.Ring.{ring, reify}
 use Rattle.integer.specs.Linear.{lia, linear, _&_}
-use Rattle.integer.specs.Order.{le-of-eq, le-antisym, le-leZ, lt-leZ, leZ-true, leZ-false, contra<}
-use Rattle.plane.specs.Point.{Point, point, corner, _⊖_, opposite}
+use Rattle.integer.specs.Order.{le-of-eq, le-antisym, le-leZ, lt-leZ, leZ-true, leZ-false, contra<, square-nonneg}
+use Rattle.plane.specs.Point.{Point, corner, _⊖_}
 use Rattle.plane.specs.Turn.{turn, Left}
 use Rattle.plane.specs.Shape.{next, IsShape}
 use Rattle.plane.specs.Direction.{value, support}
-use Rattle.plane.specs.Corner.{mirrored}
-use Rattle.plane.specs.Measure.{greatest, edgeTurn, height, edgeSquared, widthEdge, widthCorner}
-use Rattle.plane.specs.theory.lists.Members.{point-path, position-member, member-position, mirrored-member, member-mirrored, mirrored-some}
+use Rattle.plane.specs.Measure.{greatest, squared, edgeTurn, height, edgeSquared, widthEdge, widthCorner}
+use Rattle.plane.specs.theory.lists.Members.{position-member, member-position}
 use Rattle.plane.specs.theory.forms.Vector.{quarter, turn-stay}
 use Rattle.plane.specs.theory.support.Support.{value-le-support, support-attained}
 use Rattle.plane.specs.theory.lists.Sought.{first-true, first-least, first-at-most, first-unique}
@@ -38,21 +34,13 @@ use Rattle.plane.specs.theory.forms.Squared.{squared-positive}
 use Rattle.measure.specs.Comparison.{Facing}
 use Rattle.plane.specs.theory.sum.Positions.{edgeOf}
 
--- the edge turned right by a quarter
-abbrev pub quarterBack : Point → Point
-quarterBack e = point (e .y) (negℤ (e .x))
-
-pub quarter-quarterBack : (e : Point) → quarter (quarterBack e) ≡ e
-quarter-quarterBack e = point-path (ring (e .x ∷ []) (search reify depth 40) tt) refl
-
--- cross (b - a) (c - a), taken apart
-turn-value : (a b c : Point) → turn a b c ≡ value (quarterBack (b ⊖ a)) (opposite c) +ℤ value (quarterBack (b ⊖ a)) a
+turn-value : (a b c : Point) → turn a b c ≡ value (quarter (b ⊖ a)) c -ℤ value (quarter (b ⊖ a)) a
 unfolding turn value
 turn-value a b c = ring (a .x ∷ a .y ∷ b .x ∷ b .y ∷ c .x ∷ c .y ∷ []) (search reify depth 40) tt
 
 module _ (ps : List Point) (e : ℕ) where
-  pub edgeTurn-value : (c : ℕ)
-      → edgeTurn ps e c ≡ value (quarterBack (edgeOf ps e)) (opposite (corner ps c)) +ℤ value (quarterBack (edgeOf ps e)) (corner ps e)
+  edgeTurn-value : (c : ℕ)
+      → edgeTurn ps e c ≡ value (quarter (edgeOf ps e)) (corner ps c) -ℤ value (quarter (edgeOf ps e)) (corner ps e)
   unfolding edgeTurn
   edgeTurn-value c = turn-value (corner ps e) (corner ps (next (length ps) e)) (corner ps c)
 
@@ -64,44 +52,56 @@ module _ (ps : List Point) (e : ℕ) where
   unfolding height
   height-had h = greatest-attained (edgeTurn ps e) (length ps) h
 
-  pub height-support : 0 < length ps
-      → height ps e ≡ support (quarterBack (edgeOf ps e)) (mirrored ps) +ℤ value (quarterBack (edgeOf ps e)) (corner ps e)
+  height-support : 0 < length ps
+      → height ps e ≡ support (quarter (edgeOf ps e)) ps -ℤ value (quarter (edgeOf ps e)) (corner ps e)
   unfolding height
   height-support some = le-antisym (greatest-le (edgeTurn ps e) (length ps) some below) above
     where
       d : Point
-      d = quarterBack (edgeOf ps e)
+      d = quarter (edgeOf ps e)
 
-      below : (c : ℕ) → c < length ps → edgeTurn ps e c ≤ℤ (support d (mirrored ps) +ℤ value d (corner ps e))
-      below c h = lia (edgeTurn ps e c ∷ value d (opposite (corner ps c)) ∷ support d (mirrored ps) ∷ value d (corner ps e) ∷ [])
-          (edgeTurn-value c & value-le-support d (mirrored-member (position-member ps c h))) (search linear depth 40) (omega arith)
+      below : (c : ℕ) → c < length ps → edgeTurn ps e c ≤ℤ (support d ps -ℤ value d (corner ps e))
+      below c h = lia (edgeTurn ps e c ∷ value d (corner ps c) ∷ support d ps ∷ value d (corner ps e) ∷ [])
+          (edgeTurn-value c & value-le-support d (position-member ps c h)) (search linear depth 40) (omega arith)
 
-      above : (support d (mirrored ps) +ℤ value d (corner ps e)) ≤ℤ greatest (edgeTurn ps e) (length ps)
+      above : (support d ps -ℤ value d (corner ps e)) ≤ℤ greatest (edgeTurn ps e) (length ps)
       above =
-          let r = support-attained d (mirrored ps) (mirrored-some ps some) in
-          let a = member-mirrored ps (r .at-in) in
-          let c = member-position (a .1) in
-          let same : value d (opposite (corner ps (c .0))) ≡ support d (mirrored ps) =
-          ap (λ (p : Point). value d (opposite p)) (c .2) ∙ ap (value d) (a .2) ∙ r .at-value in
+          let r = support-attained d ps some in
+          let c = member-position (r .at-in) in
           let k = c .0 in
+          let same : value d (corner ps k) ≡ support d ps = ap (value d) (c .2) ∙ r .at-value in
           let top = greatest (edgeTurn ps e) (length ps) in
-          lia (edgeTurn ps e k ∷ value d (opposite (corner ps k)) ∷ support d (mirrored ps) ∷ value d (corner ps e) ∷ top ∷ [])
+          lia (edgeTurn ps e k ∷ value d (corner ps k) ∷ support d ps ∷ value d (corner ps e) ∷ top ∷ [])
           (edgeTurn-value k & same & greatest-above (edgeTurn ps e) (length ps) k (c .1)) (search linear depth 40) (omega arith)
 
-  -- a corner has the greatest turn exactly if its opposite is furthest in the mirror image
+  -- a corner has the greatest turn exactly if it is furthest in the direction to the left of the edge
   module _ (some : 0 < length ps) (c : ℕ) where
     -- what the two facts speak of
     abbrev numbers : List ℤ
-    numbers = edgeTurn ps e c ∷ height ps e ∷ value (quarterBack (edgeOf ps e)) (opposite (corner ps c))
-        ∷ support (quarterBack (edgeOf ps e)) (mirrored ps) ∷ value (quarterBack (edgeOf ps e)) (corner ps e) ∷ []
+    numbers = edgeTurn ps e c ∷ height ps e ∷ value (quarter (edgeOf ps e)) (corner ps c)
+        ∷ support (quarter (edgeOf ps e)) ps ∷ value (quarter (edgeOf ps e)) (corner ps e) ∷ []
 
-    pub furthest-height : value (quarterBack (edgeOf ps e)) (opposite (corner ps c)) ≡ support (quarterBack (edgeOf ps e)) (mirrored ps)
+    pub furthest-height : value (quarter (edgeOf ps e)) (corner ps c) ≡ support (quarter (edgeOf ps e)) ps
         → edgeTurn ps e c ≡ height ps e
     furthest-height h = lia numbers (h & edgeTurn-value c & height-support some) (search linear depth 40) (omega arith)
 
     pub height-furthest : edgeTurn ps e c ≡ height ps e
-        → value (quarterBack (edgeOf ps e)) (opposite (corner ps c)) ≡ support (quarterBack (edgeOf ps e)) (mirrored ps)
+        → value (quarter (edgeOf ps e)) (corner ps c) ≡ support (quarter (edgeOf ps e)) ps
     height-furthest h = lia numbers (h & edgeTurn-value c & height-support some) (search linear depth 40) (omega arith)
+
+-- ---- the squared length, as a product of the edge with itself
+
+pub value-nonneg : (v : Point) → pos 0 ≤ℤ value v v
+unfolding value
+value-nonneg v = lia (v .x ∷ v .y ∷ []) (square-nonneg (v .x) & square-nonneg (v .y)) (search linear depth 40) (omega arith)
+
+value-step : (p q : Point) → value (q ⊖ p) (q ⊖ p) ≡ squared p q
+unfolding value squared
+value-step p q = ring (p .x ∷ p .y ∷ q .x ∷ q .y ∷ []) (search reify depth 40) tt
+
+pub edgeSquared-value : (ps : List Point) (e : ℕ) → edgeSquared ps e ≡ value (edgeOf ps e) (edgeOf ps e)
+unfolding edgeSquared
+edgeSquared-value ps e = sym (value-step (corner ps e) (corner ps (next (length ps) e)))
 
 -- ---- a shape with three corners or more
 
@@ -138,19 +138,6 @@ module _ (ps : List Point) (s : IsShape ps) (long : 2 < length ps) (e : ℕ) (h 
           lia (turn a b (corner ps (c .0)) ∷ []) (c .2 & flat) (search linear depth 40) (omega arith)
 
 -- ---- the first corner of greatest turn
-
-module _ {ps : List Point} {e c : ℕ} (h : c < length ps) (has : edgeTurn ps e c ≡ height ps e) where
-  -- no other has it
-  pub facing-only : ((k : ℕ) → k < length ps → edgeTurn ps e k ≡ height ps e → k ≡ c) → Facing ps e c
-  facing-only only = record { within = h; has = has; sole = λ k l q. omega (arith, only k (omega arith) q) }
-
-  -- one other at most has it, and it stands no earlier
-  pub facing-either : (b : ℕ) → c ≤ b → ((k : ℕ) → k < length ps → edgeTurn ps e k ≡ height ps e → (k ≡ c) ⊎ (k ≡ b)) → Facing ps e c
-  facing-either b l two = record { within = h; has = has; sole = λ k m q. go k m (two k (omega arith) q) }
-    where
-      go : (k : ℕ) → k < c → (k ≡ c) ⊎ (k ≡ b) → ⊥
-      go k m (inl r) = omega arith
-      go k m (inr r) = omega arith
 
 pub facing-width : {ps : List Point} {e c : ℕ} → widthEdge ps ≡ e → Facing ps e c → widthCorner ps ≡ c
 unfolding widthCorner

@@ -1,12 +1,11 @@
 -- Length: the corners of a list at the greatest distance, and where they stand.
 --     longest-strict       of all differences the one of the greatest distance is strictly furthest in its own direction
---     longest-corner       so it is a Corner of all differences
---     squared-le-length    no two corners are further apart than lengthSquared; `squared-is-length`: two that none are further apart than
---     Longest ps i j       corners i ≤ j are that far apart; `longest-pair` makes it of two positions in either order
+--     squared-le-length    no two corners are further apart than lengthSquared
+--     Longest ps i j       corners i ≤ j are that far apart
 --     NotAfter i j k l     the pair (i, j) stands no later than (k, l): smaller i, or the same i and no greater j; `-trans`, `-antisym`
---     length-longest, length-least, length-unique      lengthFrom and lengthTo are the first such pair, and the only first one
---     length-from-least, length-to-least               the smallest i, then the smallest j; `length-point`: of one corner
-use mathlib.Core.Path.{_≡_, refl, sym, _∙_, ap}
+--     length-longest, length-least             lengthFrom and lengthTo are the first such pair
+--     length-from-least, length-to-least       the smallest i, then the smallest j; `length-point`: of one corner
+use mathlib.Core.Path.{_≡_, refl, sym, _∙_}
 use mathlib.Core.Bool.{Bool, true, false, _&&_, false≢true}
 use mathlib.Core.List.{List, [], _∷_}
 use mathlib.Core.Logic.{_⊎_, inl, inr}
@@ -20,14 +19,12 @@ use lib.Signed.{_≤ℤ_, _<ℤ_, leZ}
 use Rattle.integer.specs.Ring.{ring, reify}
 use Rattle.integer.specs.Linear.{lia, linear, _&_}
 use Rattle.integer.specs.Order.{le-of-eq, le-trans, le-antisym, leZ-true, le-leZ}
-use Rattle.plane.specs.Point.{Point, corner, _⊕_, _⊖_}
+use Rattle.plane.specs.Point.{Point, corner, _⊖_}
 use Rattle.plane.specs.Search.{some}
 use Rattle.plane.specs.Direction.{value}
-use Rattle.plane.specs.Corner.{Corner, sums, mirrored}
 use Rattle.plane.specs.Measure.{greatest, squared, lengthSquared, furthestPair, lengthFrom, lengthTo}
-use Rattle.plane.specs.theory.lists.Members.{_∈_, sums-member, member-sums, SumOf, mirrored-member, member-mirrored}
 use Rattle.plane.specs.theory.lists.Sought.{first-true, first-at-most, some-here, some-found}
-use Rattle.plane.specs.theory.lists.Greatest.{greatest-above, greatest-attained, greatest-le}
+use Rattle.plane.specs.theory.lists.Greatest.{greatest-above, greatest-attained}
 use Rattle.plane.specs.theory.forms.Squared.{squared-sym, squared-positive}
 use Rattle.measure.specs.Comparison.{NotAfter, sooner, level}
 
@@ -46,20 +43,6 @@ longest-strict p q r s h other =
     let w = r ⊖ s in
     lia (value z z ∷ value z w ∷ squared p q ∷ squared r s ∷ squared z w ∷ [])
     (h & shortfall p q r s & squared-positive z w (λ e. other (sym e))) (search linear depth 40) (omega arith)
-
-pub longest-corner : (A : List Point) {p q : Point} → p ∈ A → q ∈ A
-    → ((r s : Point) → r ∈ A → s ∈ A → squared r s ≤ℤ squared p q) → Corner (sums A (mirrored A)) (p ⊖ q)
-longest-corner A {p} {q} m n far = record {
-  member = sums-member m (mirrored-member n);
-  direction = p ⊖ q;
-  strictly = λ z k other. go z (member-sums A (mirrored A) k) other;
-}
-  where
-    go : (z : Point) → SumOf A (mirrored A) z → (z ≡ p ⊖ q → ⊥) → value (p ⊖ q) z <ℤ value (p ⊖ q) (p ⊖ q)
-    go z s other =
-        let b = member-mirrored A (s .right-in) in
-        let z-is : z ≡ s .left ⊖ b .0 = s .is-sum ∙ ap (λ (t : Point). s .left ⊕ t) (sym (b .2)) in
-        rw z-is (longest-strict p q (s .left) (b .0) (far (s .left) (b .0) (s .left-in) (b .1)) (λ e. other (z-is ∙ e)))
 
 -- ---- positions at the greatest distance
 
@@ -89,7 +72,7 @@ notAfter-antisym (level a b) (sooner c) = absurd (omega arith)
 notAfter-antisym (level a b) (level c d) = (a, omega arith)
 
 module _ (ps : List Point) where
-  pub longest-pair : (i j : ℕ) → i < length ps → j < length ps → squared (corner ps i) (corner ps j) ≡ lengthSquared ps
+  longest-pair : (i j : ℕ) → i < length ps → j < length ps → squared (corner ps i) (corner ps j) ≡ lengthSquared ps
       → Longest ps i j ⊎ Longest ps j i
   longest-pair i j h k e = go (leb i j) refl
     where
@@ -97,15 +80,6 @@ module _ (ps : List Point) where
       go true q = inl (record { ordered = leb-true i j q; within = k; longest = e })
       go false q = let l = leb-false i j q in
           inr (record { ordered = omega arith; within = h; longest = squared-sym (corner ps j) (corner ps i) ∙ e })
-
-  -- two corners that none are further apart than
-  pub squared-is-length : (i j : ℕ) → i < length ps → j < length ps
-      → ((k l : ℕ) → k < length ps → l < length ps → squared (corner ps k) (corner ps l) ≤ℤ squared (corner ps i) (corner ps j))
-      → squared (corner ps i) (corner ps j) ≡ lengthSquared ps
-  unfolding lengthSquared
-  squared-is-length i j h k far = le-antisym (squared-le-length ps i j h k)
-      (greatest-le (λ l. greatest (λ m. squared (corner ps l) (corner ps m)) (length ps)) (length ps) (omega arith)
-      (λ l a. greatest-le (λ m. squared (corner ps l) (corner ps m)) (length ps) (omega arith) (λ m b. far l m a b)))
 
   some-longest : 0 < length ps → (i j : ℕ) × Longest ps i j
   unfolding lengthSquared
@@ -170,11 +144,6 @@ module _ (ps : List Point) where
       go false q =
           let e : lengthFrom ps ≡ k = omega (arith, ltb-false (lengthFrom ps) k q, length-from-least p) in
           level e (length-to-least (rw e p))
-
-  pub length-unique : {i j : ℕ} → Longest ps i j → ((k l : ℕ) → Longest ps k l → NotAfter i j k l)
-      → (lengthFrom ps ≡ i) × (lengthTo ps ≡ j)
-  length-unique p least =
-      notAfter-antisym (length-least p) (least (lengthFrom ps) (lengthTo ps) (length-longest (omega (arith, p .within))))
 
 pub length-point : (p : Point) → (lengthSquared (p ∷ []) ≡ pos 0) × (lengthFrom (p ∷ []) ≡ 0) × (lengthTo (p ∷ []) ≡ 0)
 unfolding lengthSquared squared

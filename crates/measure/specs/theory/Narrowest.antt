@@ -1,19 +1,16 @@
--- Width: which edge has the least t·t/q, found by keeping the best so far and replacing it only by a narrower one.
---     fraction-trans                 fractions with positive denominators, compared by products, are in a transitive order
---     noWider-refl, noWider-trans    an edge is no wider than itself; no wider than what is no wider than a third
---     wider-noWider                  of two edges one is no wider than the other
+-- Width: which edge has the least t·t/q, found by keeping the best so far.
 --     noWider-le, wider-lt           the test as a fact
 --     noWider-fractions              the test on numbers of ℕ, as the fractions are compared in code
---     Narrowest ps k e               of the first k edges, e is the first with the least t·t/q
---     narrowest-start, -keep, -replace    the moves of the loop; `narrowest-done`: all edges seen, it is widthEdge
+--     Narrowest ps P e               of the edges of which P holds, e is the first with the least t·t/q
+--     More P Q k                     Q holds of one edge more, which is k
+--     narrowest-one, -keep, -replace the moves of the search; `narrowest-done`: of all edges it is widthEdge
 --     width-narrowest                there is one, so widthEdge is it
 use mathlib.Core.Path.{_≡_, refl, sym, subst}
 use mathlib.Core.Bool.{Bool, true, false, not}
 use mathlib.Core.List.{List, [], _∷_}
-use Prim.Native.Nat.{ℕ, zero, suc, pred, _+_, _*_, _<_}
-use native.Mathlib.Numerals.{add-one}
+use mathlib.Core.Logic.{_⊎_, inl, inr, ⊎-elim}
+use Prim.Native.Nat.{ℕ, zero, suc, pred, _*_, _≤_, _<_}
 use native.Mathlib.Omega.{arith}
-use borrow.Author.Count.{below-more}
 use borrow.Author.Tests.{le-leb, lt-leb, ltb-true, ltb-false}
 use lib.Dec.{leb, ltb}
 use lib.IntN.{ℤ, pos, _*ℤ_}
@@ -30,7 +27,7 @@ use Rattle.measure.specs.theory.Height.{edgeSquared-positive}
 use Rattle.measure.specs.Comparison.{Narrowest}
 
 -- s/p ≤ t/q and t/q ≤ u/r: bring all to the denominator p·q·r
-pub fraction-trans : (s t u p q r : ℤ) → pos 0 <ℤ p → pos 0 <ℤ q → pos 0 <ℤ r → (s *ℤ q) ≤ℤ (t *ℤ p) → (t *ℤ r) ≤ℤ (u *ℤ q)
+fraction-trans : (s t u p q r : ℤ) → pos 0 <ℤ p → pos 0 <ℤ q → pos 0 <ℤ r → (s *ℤ q) ≤ℤ (t *ℤ p) → (t *ℤ r) ≤ℤ (u *ℤ q)
     → (s *ℤ r) ≤ℤ (u *ℤ p)
 fraction-trans s t u p q r hp hq hr a b = contra≤ (λ g.
     lia (s ∷ t ∷ u ∷ p ∷ q ∷ r ∷ []) (a ≤×< hr & b ≤×< hp & g <×< hq) (search linear depth 40) (omega arith))
@@ -47,16 +44,16 @@ pub wider-lt : (ps : List Point) (e f : ℕ) → noWider ps e f ≡ false → wi
 unfolding noWider
 wider-lt ps e f h = leZ-false h
 
-pub noWider-refl : (ps : List Point) (e : ℕ) → noWider ps e e ≡ true
+noWider-refl : (ps : List Point) (e : ℕ) → noWider ps e e ≡ true
 unfolding noWider
 noWider-refl ps e = le-leZ (≤ℤ-refl (wide ps e e))
 
-pub wider-noWider : (ps : List Point) (e f : ℕ) → noWider ps e f ≡ false → noWider ps f e ≡ true
+wider-noWider : (ps : List Point) (e f : ℕ) → noWider ps e f ≡ false → noWider ps f e ≡ true
 unfolding noWider
 wider-noWider ps e f h = le-leZ (weaken (leZ-false {x = wide ps e f} {y = wide ps f e} h))
 
 module _ (ps : List Point) (s : IsShape ps) (long : 2 < length ps) where
-  pub noWider-trans : (e f g : ℕ) → e < length ps → f < length ps → g < length ps
+  noWider-trans : (e f g : ℕ) → e < length ps → f < length ps → g < length ps
       → noWider ps e f ≡ true → noWider ps f g ≡ true → noWider ps e g ≡ true
   unfolding noWider
   noWider-trans e f g he hf hg a b = le-leZ (fraction-trans (t e) (t f) (t g) (edgeSquared ps e) (edgeSquared ps f) (edgeSquared ps g)
@@ -78,71 +75,94 @@ noWider-fractions ps e f {t} {q} {u} {r} h i k l = rw (h, i, k, l) (go (ltb (u *
 
 -- ---- the best so far
 
-pub narrowest-start : (ps : List Point) → 0 < length ps → Narrowest ps 1 0
-narrowest-start ps some = record {
-  seen = omega arith;
-  within = omega arith;
-  least = λ f h. let z : f ≡ 0 = omega arith in rw z (noWider-refl ps 0);
-  sole = λ f h. absurd (omega arith);
-}
+-- the edges of Q are those of P, and k
+pub record More (P Q : ℕ → Type 0) (k : ℕ) : Type 0 where
+  pub new : Q k
+  pub old : (f : ℕ) → P f → Q f
+  pub only : (f : ℕ) → Q f → P f ⊎ (f ≡ k)
 
-pub narrowest-keep : {ps : List Point} {k e : ℕ} → Narrowest ps k e → k < length ps → noWider ps e k ≡ true → Narrowest ps (k + 1) e
-narrowest-keep {ps} {k} {e} n h test = record {
-  seen = omega arith;
-  within = omega (arith, n .within);
-  least = below-more (λ f. noWider ps e f ≡ true) k (n .least) test;
-  sole = n .sole;
-}
-
-module _ {ps : List Point} (s : IsShape ps) (long : 2 < length ps) where
-  -- k is narrower than e, and e is no wider than any before k: so is k, and each of them is wider than k
-  pub narrowest-replace : {k e : ℕ} → Narrowest ps k e → k < length ps → noWider ps e k ≡ false → Narrowest ps (k + 1) k
-  narrowest-replace {k} {e} n h test = record {
-    seen = omega arith;
-    within = omega arith;
-    least = below-more (λ f. noWider ps k f ≡ true) k earlier (noWider-refl ps k);
-    sole = wider;
+module _ {ps : List Point} (s : IsShape ps) (long : 2 < length ps) {P Q : ℕ → Type 0} {k : ℕ} (h : k < length ps) (m : More P Q k) where
+  pub narrowest-one : ((f : ℕ) → P f → ⊥) → Narrowest ps Q k
+  narrowest-one empty = record {
+    edges-in = λ f q. rw (alone f q) h;
+    among = m .new;
+    least = λ f q. rw (alone f q) (noWider-refl ps k);
+    sole = λ f q l. absurd (omega (arith, alone f q));
   }
     where
-      e-in : e < length ps
-      e-in = omega (arith, n .within)
+      alone : (f : ℕ) → Q f → f ≡ k
+      alone f q = ⊎-elim (λ p. absurd (empty f p)) (λ e. e) (m .only f q)
 
-      earlier : (f : ℕ) → f < k → noWider ps k f ≡ true
-      earlier f l = noWider-trans ps s long k e f h e-in (omega arith) (wider-noWider ps e k test) (n .least f l)
+  module _ {e : ℕ} (n : Narrowest ps P e) where
+    e-in : e < length ps
+    e-in = n .edges-in e (n .among)
 
-      wider : (f : ℕ) → f < k → noWider ps f k ≡ false
-      wider f l = go (noWider ps f k) refl
-        where
-          go : (b : Bool) → noWider ps f k ≡ b → b ≡ false
-          go true q = true-not-false (noWider-trans ps s long e f k e-in (omega arith) h (n .least f l) q) test
-          go false q = refl
+    all-in : (f : ℕ) → Q f → f < length ps
+    all-in f q = ⊎-elim (λ p. n .edges-in f p) (λ r. rw r h) (m .only f q)
 
-pub narrowest-done : {ps : List Point} {e : ℕ} → Narrowest ps (length ps) e → widthEdge ps ≡ e
+    -- e is no wider than k, and is the first of the two or narrower
+    pub narrowest-keep : noWider ps e k ≡ true → (k < e → noWider ps k e ≡ false) → Narrowest ps Q e
+    narrowest-keep test first = record {
+      edges-in = all-in;
+      among = m .old e (n .among);
+      least = λ f q. ⊎-elim (λ p. n .least f p) (λ r. rw r test) (m .only f q);
+      sole = λ f q l. ⊎-elim (λ p. n .sole f p l) (λ r. rw r (first (omega arith))) (m .only f q);
+    }
+
+    -- k is no wider than e, which is no wider than any of P: so is k; those of P before k are wider than k
+    pub narrowest-replace : noWider ps k e ≡ true → (e < k → noWider ps e k ≡ false) → Narrowest ps Q k
+    narrowest-replace test first = record {
+      edges-in = all-in;
+      among = m .new;
+      least = λ f q. ⊎-elim (λ p. noWider-trans ps s long k e f h e-in (n .edges-in f p) test (n .least f p))
+          (λ r. rw r (noWider-refl ps k)) (m .only f q);
+      sole = λ f q l. ⊎-elim (λ p. wider f p l (noWider ps f k) refl) (λ r. absurd (omega arith)) (m .only f q);
+    }
+      where
+        wider : (f : ℕ) → P f → f < k → (b : Bool) → noWider ps f k ≡ b → b ≡ false
+        wider f p l false q = refl
+        wider f p l true q = go (ltb f e) refl
+          where
+            go : (b : Bool) → ltb f e ≡ b → true ≡ false
+            go true r = true-not-false (noWider-trans ps s long f k e (n .edges-in f p) h e-in q test) (n .sole f p (ltb-true f e r))
+            go false r = true-not-false (noWider-trans ps s long e f k e-in (n .edges-in f p) h (n .least f p) q)
+                (first (omega (arith, ltb-false f e r)))
+
+pub narrowest-done : {ps : List Point} {e : ℕ} → Narrowest ps (λ f. f < length ps) e → widthEdge ps ≡ e
 unfolding widthEdge
 narrowest-done {ps} {e} n = first-unique (λ k. every (noWider ps k) (length ps)) (length ps) e
-    (omega (arith, n .within)) (λ h. all-every (noWider ps e) (length ps) (n .least))
-    (λ k l. not-every (noWider ps k) (length ps) e (n .within) (n .sole k l))
+    (omega (arith, n .among)) (λ h. all-every (noWider ps e) (length ps) (n .least))
+    (λ k l. not-every (noWider ps k) (length ps) e (n .among) (n .sole k (omega (arith, n .among)) l))
 
 -- ---- there is one
 
+-- one edge more in their order
+next-edge : (k : ℕ) → More (λ f. f < k) (λ f. f < suc k) k
+next-edge k = record { new = omega arith; old = λ f p. omega arith; only = λ f q. go f q (ltb f k) refl }
+  where
+    go : (f : ℕ) → f < suc k → (b : Bool) → ltb f k ≡ b → (f < k) ⊎ (f ≡ k)
+    go f q true e = inl (ltb-true f k e)
+    go f q false e = inr (omega (arith, ltb-false f k e))
+
 module _ {ps : List Point} (s : IsShape ps) (long : 2 < length ps) where
-  best-of : (k : ℕ) → k < length ps → (e : ℕ) × Narrowest ps (k + 1) e
-  best-of zero h = (0, narrowest-start ps h)
+  best-of : (k : ℕ) → k < length ps → (e : ℕ) × Narrowest ps (λ f. f < suc k) e
+  best-of zero h = (0, narrowest-one s long h (next-edge 0) (λ f p. absurd (omega arith)))
   best-of (suc k) h = go (best-of k (omega arith))
     where
-      keep : (e : ℕ) → Narrowest ps (suc k) e → (b : Bool) → noWider ps e (suc k) ≡ b → (e : ℕ) × Narrowest ps (suc k + 1) e
-      keep e n true q = (e, narrowest-keep n h q)
-      keep e n false q = (suc k, narrowest-replace s long n h q)
-
-      go : (e : ℕ) × Narrowest ps (k + 1) e → (e : ℕ) × Narrowest ps (suc k + 1) e
-      go r = keep (r .0) (rw add-one at (r .1)) (noWider ps (r .0) (suc k)) refl
+      go : (e : ℕ) × Narrowest ps (λ f. f < suc k) e → (e : ℕ) × Narrowest ps (λ f. f < suc (suc k)) e
+      go (e, n) = keep (noWider ps e (suc k)) refl
+        where
+          keep : (b : Bool) → noWider ps e (suc k) ≡ b → (e : ℕ) × Narrowest ps (λ f. f < suc (suc k)) e
+          keep true q = (e, narrowest-keep s long h (next-edge (suc k)) n q (λ l. absurd (omega (arith, n .among))))
+          keep false q = (suc k, narrowest-replace s long h (next-edge (suc k)) n (wider-noWider ps e (suc k) q) (λ l. q))
 
   -- of all edges, the edge of the width is the first with the least t·t/q
-  pub width-narrowest : Narrowest ps (length ps) (widthEdge ps)
+  pub width-narrowest : Narrowest ps (λ f. f < length ps) (widthEdge ps)
   width-narrowest = go (best-of (pred (length ps)) (omega arith))
     where
-      all : pred (length ps) + 1 ≡ length ps
+      all : suc (pred (length ps)) ≡ length ps
       all = omega arith
 
-      go : (e : ℕ) × Narrowest ps (pred (length ps) + 1) e → Narrowest ps (length ps) (widthEdge ps)
-      go (e, n) = let last = subst (λ k. Narrowest ps k e) all n in subst (Narrowest ps (length ps)) (sym (narrowest-done last)) last
+      go : (e : ℕ) × Narrowest ps (λ f. f < suc (pred (length ps))) e → Narrowest ps (λ f. f < length ps) (widthEdge ps)
+      go (e, n) = let last = subst (λ k. Narrowest ps (λ f. f < k) e) all n in
+          subst (Narrowest ps (λ f. f < length ps)) (sym (narrowest-done last)) last

@@ -1,6 +1,5 @@
 -- When two corners of a shape are furthest in one direction: they are the ends of an edge that points across it.
---     parallel-same       vectors with no turn between them point the same way, or one and the other's opposite do
---     same-flat, same-not-before      there is no turn between vectors that point the same way; neither is before the other
+--     opposite-non-zero   the opposite of a vector that is not zero
 --     Tied ps d r k       corner k ends the edge from r, or r the edge from k, and the edge points the way of `quarter d`
 --     tied                so stand two furthest corners
 use mathlib.Core.Path.{_≡_, refl, sym, _∙_, ap}
@@ -16,17 +15,17 @@ use lib.ListN.{length}
 use lib.Signed.{_≤ℤ_, _<ℤ_}
 use Rattle.integer.specs.Ring.{ring, reify}
 use Rattle.integer.specs.Linear.{lia, linear, _&_}
-use Rattle.integer.specs.Order.{_<×<_, _≤×<_, _≡×_, contra<, le-of-eq, le-ltZ, ltZ-false}
+use Rattle.integer.specs.Order.{_<×<_, _≤×<_, _≡×_, contra<, le-of-eq, le-ltZ}
 use Rattle.plane.specs.Point.{Point, corner, _⊖_, opposite}
 use Rattle.plane.specs.Turn.{cross, turn-cross}
 use Rattle.plane.specs.Shape.{next, IsShape}
 use Rattle.plane.specs.Direction.{value, support}
-use Rattle.plane.specs.Forms.{up, before, NonZero}
+use Rattle.plane.specs.Forms.{up, NonZero}
 use Rattle.plane.specs.theory.lists.Members.{point-path, position-member}
 use Rattle.plane.specs.theory.forms.Vector.{quarter, cross-swap, ⊖-zero}
 use Rattle.plane.specs.theory.forms.HalfPlane.{up-opposite}
-use Rattle.plane.specs.theory.forms.Angle.{before-alike, before-irrefl}
-use Rattle.plane.specs.theory.forms.SameWay.{SameWay, same-up, same-left, same-right, neither-same}
+use Rattle.plane.specs.theory.forms.Angle.{before-alike}
+use Rattle.plane.specs.theory.forms.SameWay.{SameWay, neither-same}
 use Rattle.plane.specs.theory.support.Support.{value-le-support}
 use Rattle.plane.specs.theory.sum.Positions.{edgeOf, round-within, corner-injective}
 
@@ -37,7 +36,7 @@ alike-same v t e nv nt h =
     let back : cross t v ≤ℤ pos 0 = lia (cross v t ∷ cross t v ∷ []) (h & cross-swap v t) (search linear depth 40) (omega arith) in
     neither-same v t (before-alike v t e ∙ le-ltZ (le-of-eq h)) (before-alike t v (sym e) ∙ le-ltZ back) nv nt
 
-opposite-non-zero : {v : Point} → NonZero v → NonZero (opposite v)
+pub opposite-non-zero : {v : Point} → NonZero v → NonZero (opposite v)
 opposite-non-zero {v} n = record {
   non-zero = λ e. n .non-zero (point-path
       (lia (v .x ∷ []) (ap (λ (p : Point). p .x) e) (search linear depth 40) (omega arith))
@@ -48,7 +47,7 @@ opposite-flat : (v t : Point) → cross v t ≡ pos 0 → cross (opposite v) t �
 unfolding cross
 opposite-flat v t h = lia (v .x ∷ v .y ∷ t .x ∷ t .y ∷ []) h (search linear depth 40) (omega arith)
 
-pub parallel-same : (v t : Point) → NonZero v → NonZero t → cross v t ≡ pos 0 → SameWay v t ⊎ SameWay (opposite v) t
+parallel-same : (v t : Point) → NonZero v → NonZero t → cross v t ≡ pos 0 → SameWay v t ⊎ SameWay (opposite v) t
 parallel-same v t nv nt h = go (up v) refl (up t) refl
   where
     turned : not (up v) ≡ up t → SameWay (opposite v) t
@@ -59,22 +58,6 @@ parallel-same v t nv nt h = go (up v) refl (up t) refl
     go false p false q = inl (alike-same v t (p ∙ sym q) nv nt h)
     go true p false q = inr (turned (ap not p ∙ sym q))
     go false p true q = inr (turned (ap not p ∙ sym q))
-
-not-before-self : (e : Point) → before e e ≡ false
-not-before-self e = go (before e e) refl
-  where
-    go : (b : Bool) → before e e ≡ b → b ≡ false
-    go true h = absurd (before-irrefl {e = e} (record { before-true = h }))
-    go false h = refl
-
-pub same-not-before : {e f : Point} → SameWay e f → (before e f ≡ false) × (before f e ≡ false)
-same-not-before {e} {f} s = (same-left s f ∙ not-before-self f, same-right s f ∙ not-before-self f)
-
-pub same-flat : {e f : Point} → SameWay e f → cross e f ≡ pos 0
-same-flat {e} {f} s =
-    let a = ltZ-false {x = pos 0} {y = cross e f} (sym (before-alike e f (same-up s)) ∙ same-not-before s .0) in
-    let b = ltZ-false {x = pos 0} {y = cross f e} (sym (before-alike f e (sym (same-up s))) ∙ same-not-before s .1) in
-    lia (cross e f ∷ cross f e ∷ []) (a & b & cross-swap e f) (search linear depth 40) (omega arith)
 
 -- what is left of v is left of all that point the same way
 same-positive : {v t : Point} → SameWay v t → (w : Point) → pos 0 <ℤ cross w v → pos 0 <ℤ cross w t

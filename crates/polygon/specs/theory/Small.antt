@@ -2,6 +2,7 @@
 --     small-corner    a corner of a list in range
 --     small-wide      what may be added may be multiplied
 --     small-step, small-plus    a difference and a sum may be multiplied
+--     small-edge      a difference of two corners of one list may be added
 use mathlib.Core.Path.{_≡_, sym, subst}
 use mathlib.Core.List.{List}
 use Prim.Native.Nat.{ℕ, _^_, _≤_, _<_}
@@ -35,3 +36,14 @@ small-plus s t e =
 
 pub small-step : {p q r : Point} → Small (2 ^ 21) p → Small (2 ^ 21) q → r ≡ q ⊖ p → Small (2 ^ 22) r
 small-step s t e = small-plus t (record { small-x = within-neg (s .small-x); small-y = within-neg (s .small-y) }) e
+
+-- two corners differ by no more than may be added once more
+pub small-edge : (l : List ℤ) → InRange l → (i j : ℕ) → i < length (points l) → j < length (points l) → {r : Point}
+    → r ≡ corner (points l) j ⊖ corner (points l) i → Small (2 ^ 21) r
+small-edge l r i j h k e =
+    let p = points-near l r i h in
+    let q = points-near l r j k in
+    subst (Small (2 ^ 21)) (sym e) (record {
+      small-x = within-add (within-widen coordinate-small (q .near-x)) (within-neg (within-widen coordinate-small (p .near-x)));
+      small-y = within-add (within-widen coordinate-small (q .near-y)) (within-neg (within-widen coordinate-small (p .near-y)));
+    })

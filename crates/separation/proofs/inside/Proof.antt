@@ -1,42 +1,64 @@
--- `inside` meets its contract: the merge stands at the front of the buffer, and is compared with the second shape.
-use mathlib.Core.Path.{sym}
+-- `inside` meets its contract: a point and a segment are given by their first corner and their last.
+use mathlib.Core.List.{[], _∷_}
+use mathlib.Core.Path.{_∙_, ap, ap₂}
+use Prim.Native.Nat.{ℕ, _-_}
 use native.Mathlib.Omega.{arith}
 use borrow.Author.Needs.{needs}
-use Rattle.plane.specs.Limits.{maxCorners}
-use Rattle.polygon.specs.theory.Fronts.{front-length}
-use Rattle.separation.specs.theory.Merged.{merged-same}
+use Rattle.plane.specs.Point.{Point, points, corner}
+use Rattle.plane.specs.Separation.{inside}
+use Rattle.polygon.specs.theory.Small.{small-corner}
+use Rattle.separation.specs.theory.Within.{ends-inside}
 use Rattle.separation.proofs.inside.Statement.{statement}
 use Rattle.separation.proofs.inside.Tie as tie
 
-slice-aggregate-merge : tie.Need-slice-aggregate-merge
-slice-aggregate-merge c = search needs
+count-requires : tie.Need-count-requires
+count-requires c κs = search needs
 
-merge-requires : tie.Need-merge-requires
-unfolding maxCorners
-merge-requires c κs =
-    let start = c .before in
-    (start .pre .0, start .pre .1, omega (arith, start .pre .0 .few, start .pre .1 .few))
+corner-at-requires : tie.Need-corner-at-requires
+corner-at-requires c κs = search needs
 
-mul-both : tie.Need-mul-both
-mul-both c = search needs
+sub-corner-at : tie.Need-sub-corner-at
+sub-corner-at c = search needs
 
-array-share-prefix-both : tie.Need-array-share-prefix-both
-array-share-prefix-both c = search needs
+corner-at-requires-2 : tie.Need-corner-at-requires-2
+corner-at-requires-2 c κs = search needs
 
-slice-aggregate-is-same : tie.Need-slice-aggregate-is-same
-slice-aggregate-is-same c = sym (front-length (c .before .before .merge .ensures))
-
-is-same-requires : tie.Need-is-same-requires
-is-same-requires c κs = search needs
+in-segment-requires : tie.Need-in-segment-requires
+in-segment-requires c κs =
+    let at-count = c .before .before .before in
+    let start = at-count .before in
+    let w = start .pre .1 in (
+      start .pre .0,
+      small-corner (start .args .b .now) (w .inRange) 0 (w .shape .some) (c .before .corner-at .ensures),
+      small-corner (start .args .b .now) (w .inRange) _ (omega (arith, w .shape .some, at-count .count .ensures)) (c .corner-at2 .ensures),
+    )
 
 returns : tie.Need-returns
 returns c =
-    let at-merge = c .before .before .before in
-    let start = at-merge .before .before in
-    merged-same (start .args .a .now) (start .args .b .now) (start .pre .1) (c .is-same .result) (at-merge .merge .ensures .front)
-    (c .is-same .ensures)
+    let at-count = c .before .before .before .before in
+    let start = at-count .before in
+    let A = points (start .args .a .now) in
+    let B = points (start .args .b .now) in
+    c .in-segment .ensures ∙ ap₂ (λ (p q : Point). inside A (p ∷ q ∷ [])) (c .before .before .corner-at .ensures)
+    (c .before .corner-at2 .ensures ∙ ap (λ (n : ℕ). corner B (n - 1)) (at-count .count .ensures))
+    ∙ ends-inside A B (start .pre .0 .shape .some) (start .pre .1 .shape .some)
+    (omega (arith, c .before .before .before .if1 .taken, at-count .count .ensures))
+
+in-polygon-requires : tie.Need-in-polygon-requires
+in-polygon-requires c κs = search needs
+
+returns-2 : tie.Need-returns-2
+returns-2 c = search needs
 
 pub inside-spec : {M : Type 1} → statement M
 inside-spec =
     tie.close
-    (tie.spec slice-aggregate-merge merge-requires mul-both array-share-prefix-both slice-aggregate-is-same is-same-requires returns)
+    (tie.spec
+    count-requires
+    corner-at-requires
+    sub-corner-at
+    corner-at-requires-2
+    in-segment-requires
+    returns
+    in-polygon-requires
+    returns-2)

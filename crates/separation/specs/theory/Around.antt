@@ -1,6 +1,7 @@
 -- How two shapes stand, by the origin against the edges of their differences.
 --     placed-origin         the numbers of `placed` say whether the origin is outside a shape, on its rim or inside
 --     placed-related        of the differences of two lists: the relation
+--     refuted               a test that cannot pass
 use mathlib.Core.Path.{_≡_, refl, _∙_, ap}
 use mathlib.Core.Bool.{Bool, true, false, not, cond, _||_, _&&_}
 use mathlib.Core.List.{List, [], _∷_}
@@ -32,7 +33,7 @@ use Rattle.separation.specs.Around.{crossAt, rightOf, placedFew, placed,
 
 -- ---- the origin against a shape
 
-refuted : (t : Bool) → (t ≡ true → ⊥) → t ≡ false
+pub refuted : (t : Bool) → (t ≡ true → ⊥) → t ≡ false
 refuted true f = absurd (f refl)
 refuted false f = refl
 

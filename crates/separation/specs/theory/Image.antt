@@ -2,18 +2,21 @@
 --     image-front        the image stands at the front
 --     image-begun        the walk may begin
 --     image-related      the corners that it visits are those of the differences
-use mathlib.Core.Path.{_≡_, sym, _∙_, ap}
+use mathlib.Core.Path.{_≡_, sym, _∙_, ap, subst}
 use mathlib.Core.List.{List}
 use Prim.Native.Nat.{ℕ}
-use native.Mathlib.Omega.{arith}
 use lib.IntN.{ℤ}
 use lib.ListN.{length}
 use Rattle.plane.specs.Point.{Point, points, numbers}
 use Rattle.plane.specs.Refusal.{Valid}
+use Rattle.plane.specs.Shape.{IsShape}
 use Rattle.plane.specs.Corner.{shapeOf, mirrored}
+use Rattle.plane.specs.Forms.{edges}
 use Rattle.plane.specs.Output.{overwritten}
 use Rattle.plane.specs.theory.refusals.Accept.{near→inRange}
 use Rattle.plane.specs.theory.lists.Flat.{points-numbers}
+use Rattle.plane.specs.theory.lists.Members.{mirrored-some}
+use Rattle.plane.specs.theory.hull.ShapeOf.{shapeOf-shape}
 use Rattle.plane.specs.VectorSum.{vectorSum}
 use Rattle.plane.specs.theory.mirror.Mirror.{mirror-count}
 use Rattle.plane.specs.theory.mirror.MirrorWritten.{mirror-near}
@@ -21,6 +24,7 @@ use Rattle.separation.specs.theory.Apart.{differences-shape}
 use Rattle.polygon.specs.Front.{Front}
 use Rattle.polygon.specs.theory.Fronts.{overwritten-front}
 use Rattle.calipers.specs.Walk.{begun, At}
+use Rattle.calipers.specs.theory.Standing.{standing-start}
 use Rattle.separation.specs.Around.{placed, related}
 use Rattle.separation.specs.theory.Around.{placed-related}
 
@@ -38,10 +42,10 @@ module _ (b : List ℤ) (v : Valid b) where
     image-begun = record {
       first-near = u .inRange;
       second-near = near→inRange (numbers (image b)) (mirror-near b v);
-      first-some = u .shape .some;
-      second-some = omega (arith, v .shape .some, mirror-count (points b) (v .shape), ap length (points-numbers (image b)));
-      i-in = omega arith;
-      j-in = omega arith;
+      first-shape = u .shape;
+      second-shape = subst IsShape (sym (points-numbers (image b)))
+          (shapeOf-shape (mirrored (points b)) (mirrored-some (points b) (v .shape .some)));
+      standing = standing-start (edges (points a)) (edges (points (numbers (image b))));
     }
 
     pub image-related : placed (vectorSum (points a) (points (numbers (image b)))) ≡ related (points a) (points b)

@@ -2,48 +2,31 @@
 --     zero-factor                      a product that is 0, of a positive number and another
 --     square-positive                  the value of a vector, not zero, in its own direction
 --     value-outward                    in the direction that an edge faces outwards a point's value falls by its turn
---     edge-turn, next-left             no corner is right of an edge; the corner after it is left of it
+--     next-left                        the corner after an edge is left of it
 --     sector                           the step from a corner to a point, written by the two edges at the corner
 --     edge-outermost, edge-nonzero     in it no corner is further than the edge; in a polygon it is not zero
 --     left→reached                     a point that is right of no edge of a polygon is in every direction no further than the polygon
 --     left→passed                      left of all edges: the polygon is further in every direction other than (0,0)
-use mathlib.Core.Path.{_≡_, sym, _∙_, ap}
+use mathlib.Core.Path.{_≡_, _∙_, ap}
 use mathlib.Core.Logic.{_⊎_, inl, inr}
 use mathlib.Core.List.{List, [], _∷_}
 use Prim.Native.Nat.{ℕ, _<_}
-use native.Mathlib.Decide.{ℕ-discrete}
 use native.Mathlib.Omega.{arith}
 use lib.IntN.{ℤ, pos, _+ℤ_, _-ℤ_, _*ℤ_}
 use lib.ListN.{length}
 use lib.Signed.{_≤ℤ_, _<ℤ_}
 use Rattle.integer.specs.Ring.{ring, reify}
 use Rattle.integer.specs.Linear.{linear, lia, _&_}
-use Rattle.integer.specs.Order.{
-  _<×<_,
-  _<×≤_,
-  _≤×≤_,
-  _≡×_,
-  Compared,
-  is-below,
-  is-equal,
-  is-above,
-  compared,
-  lt-or-le,
-  contra<,
-  contra≤,
-  weaken,
-  le-of-eq,
-  le-antisym,
-  square-nonneg,
-}
+use Rattle.integer.specs.Order.{_<×<_, _<×≤_, _≤×≤_, _≡×_, Compared, is-below, is-equal, is-above, compared, lt-or-le, contra<, contra≤, le-antisym, square-nonneg}
 use Rattle.plane.specs.Point.{Point, origin, corner}
 use Rattle.plane.specs.Turn.{turn, Left}
 use Rattle.plane.specs.Shape.{next, IsShape}
 use Rattle.plane.specs.Direction.{value, support}
 use Rattle.plane.specs.Forms.{NonZero}
 use Rattle.plane.specs.theory.lists.Members.{_∈_, point-path, member-position, position-member}
-use Rattle.plane.specs.theory.forms.Vector.{outward, turn-back, turn-level}
+use Rattle.plane.specs.theory.forms.Vector.{outward}
 use Rattle.plane.specs.theory.lists.Next.{next-below, preceding, two-steps}
+use Rattle.plane.specs.theory.sum.Positions.{edge-turn}
 use Rattle.plane.specs.theory.support.Support.{value-le-support, support-attained}
 
 -- ---- vectors
@@ -86,20 +69,6 @@ outward-nonzero a b c h = record {
 -- ---- edges and corners of a shape
 
 module _ (ps : List Point) (s : IsShape ps) where
-  pub edge-turn : (e c : ℕ) → e < length ps → c < length ps → pos 0 ≤ℤ turn (corner ps e) (corner ps (next (length ps) e)) (corner ps c)
-  edge-turn e c h k = go (ℕ-discrete c e) (ℕ-discrete c (next (length ps) e))
-    where
-      a : Point
-      a = corner ps e
-
-      b : Point
-      b = corner ps (next (length ps) e)
-
-      go : Dec (c ≡ e) → Dec (c ≡ next (length ps) e) → pos 0 ≤ℤ turn a b (corner ps c)
-      go (yes q) r = rw q (le-of-eq (sym (turn-back a b)))
-      go (no q) (yes r) = rw r (le-of-eq (sym (turn-level a b)))
-      go (no q) (no r) = weaken (s .left e c h k q r)
-
   pub edge-outermost : (e : ℕ) → e < length ps → (q : Point) → q ∈ ps
       → value (outward (corner ps e) (corner ps (next (length ps) e))) q
       ≤ℤ value (outward (corner ps e) (corner ps (next (length ps) e))) (corner ps e)
@@ -113,7 +82,7 @@ module _ (ps : List Point) (s : IsShape ps) where
 
       at : (i : ℕ) × (i < length ps) × (corner ps i ≡ q) → value (outward a b) q ≤ℤ value (outward a b) a
       at r = lia (value (outward a b) q ∷ value (outward a b) a ∷ turn a b q ∷ [])
-          (value-outward a b q & rw (r .2) at (edge-turn e (r .0) h (r .1))) (search linear depth 40) (omega arith)
+          (value-outward a b q & rw (r .2) at (edge-turn ps s e (r .0) h (r .1))) (search linear depth 40) (omega arith)
 
   module _ (three : 2 < length ps) where
     pub next-left : (e : ℕ) → e < length ps

@@ -1,4 +1,4 @@
--- The rounded root of a fraction: there is one at most, and halving finds it.
+-- The rounded root of a fraction: there is one at most, and a search that tries any number between finds it.
 --     root-unique                two rounded roots are equal
 --     Between t q low high       low is reached, and high + 1 is not
 --     between-start, -down, -up, -end   the moves of the loop; a test asks whether t·t < m·m·q

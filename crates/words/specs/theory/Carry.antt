@@ -1,59 +1,62 @@
--- Carrying: one word of a sum of products is stored, the rest goes on to the next word.
---     Adding l₀ at a w l c i     the first i words of a·w are added to l₀ from word `at` on: l is what is stored, c the carry
---     adding-start, -more, -end  the moves of its loop
---     row-fits, row-value        the last carry goes into word k, where it is known that it fits
-use mathlib.Core.Path.{_≡_, refl, sym, ap}
+-- Carrying: one word of a product is stored, the rest goes on to the next word.
+--     high-kept, high-raised        the high word of p + c: that of p, or one more where the sum of the low words wraps
+--     high-room                     one more is a word still
+--     Scaling a w l c i             the first i words of a·w are stored in l, and c is the carry
+--     scaling-start, -more, -end    the moves of its loop; the last carry is the highest word
+use mathlib.Core.Path.{_≡_, sym, _∙_, ap}
 use mathlib.Core.List.{List}
-use Prim.Native.Nat.{ℕ, _+_, _*_, _^_, _≤_, _<_}
-use native.Mathlib.Nat.{add-assoc, add-zero, lt-of-mul-lt-mul-left}
+use Prim.Native.Nat.{ℕ, _+_, _-_, _*_, _/_, _%_, _^_, _≤_, _<_}
+use native.Mathlib.Nat.{mod-add-div, lt-of-le-of-lt, mul-le-mul-right, mul-lt-mul-of-pos-left, div-lt-iff-lt-mul}
 use native.Mathlib.Omega.{arith}
-use lib.ListN.{length, getD, drop, set, length-set}
-use Rattle.words.specs.Value.{value, weight}
-use Rattle.words.specs.theory.Laws.{weight-next, value-drop, value-drop-all, value-set, word-le-value}
+use lib.ListN.{length, getD, take, set, length-set}
+use lib.Pow.{pow-pos}
+use lib.Seq.{take-all}
+use Rattle.words.specs.Value.{value}
+use Rattle.words.specs.theory.Laws.{weight, weight-next, value-take, value-store}
 
--- Word k of l becomes the low word r of x·w + y + c; the high word q is carried on, and h stands above x.
-carry-on : (l : List ℕ) (k r q c x y h w t : ℕ) → k < length l → r + 2 ^ 32 * q ≡ x * w + y + c
-    → value l + weight k * (c + (x + 2 ^ 32 * h) * w + y) ≡ t + weight k * getD l k 0
-    → value (set l k r) + weight (k + 1) * (q + h * w) ≡ t
-carry-on l k r q c x y h w t within e inv =
-    rw (weight-next k) (omega (arith, value-set l k r within, ap (λ (z : ℕ). weight k * z) e))
+-- ---- the high word
 
--- ---- adding a·w
+module _ (p : ℕ) {c high low : ℕ} (h : high ≡ p / 2 ^ 64) (l : low ≡ (p + c) % 2 ^ 64) (word : c < 2 ^ 64) where
+  pub high-kept : c ≤ low → high ≡ (p + c) / 2 ^ 64
+  high-kept k = omega arith
 
-pub record Adding (l₀ : List ℕ) (at : ℕ) (a : List ℕ) (w : ℕ) (l : List ℕ) (c i : ℕ) : Type 0 where
+  pub high-raised : low < c → high + 1 ≡ (p + c) / 2 ^ 64
+  high-raised k = omega arith
+
+below-next : (n : ℕ) → n < 2 ^ 64 - 1 → n + 1 < 2 ^ 64
+below-next n h = omega arith
+
+pub high-room : (x w : ℕ) → x < 2 ^ 64 → w < 2 ^ 64 → x * w / 2 ^ 64 + 1 < 2 ^ 64
+high-room x w hx hw =
+    let le : x ≤ 2 ^ 64 - 1 = omega arith in
+    let less : x * w < (2 ^ 64 - 1) * 2 ^ 64 = lt-of-le-of-lt (mul-le-mul-right w le) (mul-lt-mul-of-pos-left hw (omega arith)) in
+    below-next _ (div-lt-iff-lt-mul (pow-pos 64) .1 less)
+
+-- ---- storing word by word
+
+pub record Scaling (a : List ℕ) (w : ℕ) (l : List ℕ) (c i : ℕ) : Type 0 where
   pub within : i ≤ length a
-  pub long : length l ≡ length l₀
-  pub sum : value l + weight (at + i) * (c + value (drop i a) * w) ≡ value l₀ + weight at * (value a * w)
+  pub long : length l ≡ length a + 1
+  pub sum : value (take i l) + weight i * c ≡ value (take i a) * w
 
-module _ {l₀ : List ℕ} {at : ℕ} {a : List ℕ} {w : ℕ} where
-  pub adding-start : Adding l₀ at a w l₀ 0 0
-  adding-start = record { within = omega arith; long = refl; sum = rw (add-zero at) (omega arith) }
+module _ {a : List ℕ} {w : ℕ} where
+  pub scaling-start : {l : List ℕ} → length l ≡ length a + 1 → Scaling a w l 0 0
+  unfolding value
+  scaling-start h = record { within = omega arith; long = h; sum = omega arith }
 
-  pub adding-more : {l : List ℕ} {c i : ℕ} (r q : ℕ) → Adding l₀ at a w l c i → i < length a → at + length a ≤ length l₀
-      → r + 2 ^ 32 * q ≡ getD a i 0 * w + getD l (at + i) 0 + c → Adding l₀ at a w (set l (at + i) r) q (i + 1)
-  adding-more {l} {c} {i} r q s ia room e =
-      let t = value l₀ + weight at * (value a * w) in
-      let h = value (drop (i + 1) a) in
-      let split : value l + weight (at + i) * (c + (getD a i 0 + 2 ^ 32 * h) * w) ≡ t = rw (sym (value-drop a i ia)) (s .sum) in
-      let il : at + i < length l = omega (arith, s .long) in
+  pub scaling-more : {l : List ℕ} {c i r q : ℕ} → Scaling a w l c i → i < length a → r ≡ (getD a i 0 * w + c) % 2 ^ 64
+      → q ≡ (getD a i 0 * w + c) / 2 ^ 64 → Scaling a w (set l i r) q (i + 1)
+  scaling-more {l} {c} {i} {r} {q} s h low high =
+      let e : r + 2 ^ 64 * q ≡ getD a i 0 * w + c = rw (low, high) (mod-add-div (getD a i 0 * w + c) (2 ^ 64)) in
       record {
         within = omega arith;
         long = rw length-set (s .long);
-        sum = rw (sym (add-assoc at i 1)) (carry-on l (at + i) r q c (getD a i 0) (getD l (at + i) 0) h w t il e (omega arith));
+        sum =
+            rw (weight-next i, value-take a i h, value-store l i r (omega (arith, s .long)))
+            (omega (arith, s .sum, ap (λ (z : ℕ). weight i * z) e));
       }
 
-  pub adding-end : {l : List ℕ} {c i : ℕ} → Adding l₀ at a w l c i → length a ≤ i
-      → value l + weight (at + length a) * c ≡ value l₀ + weight at * (value a * w)
-  adding-end {l} {c} {i} s h =
-      let e : length a ≡ i = omega (arith, s .within) in
-      let none : weight (at + i) * (c + value (drop i a) * w) ≡ weight (at + i) * c = rw (value-drop-all i a h) (omega arith) in
-      rw e (omega (arith, s .sum))
-
--- ---- the last carry
-
-module _ (l : List ℕ) (k carry t : ℕ) (sum : value l + weight k * carry ≡ t) where
-  pub row-fits : t < weight (k + 1) → getD l k 0 + carry < 2 ^ 32
-  row-fits h = lt-of-mul-lt-mul-left (weight k) (omega (arith, weight-next k, word-le-value l k))
-
-  pub row-value : k < length l → value (set l k (getD l k 0 + carry)) ≡ t
-  row-value h = omega (arith, value-set l k (getD l k 0 + carry) h)
+  pub scaling-end : {l : List ℕ} {c i : ℕ} → Scaling a w l c i → length a ≤ i → value (set l i c) ≡ value a * w
+  scaling-end {l} {c} {i} s h =
+      let whole = take-all (i + 1) (set l i c) (rw length-set (omega (arith, s .long))) in
+      ap value (sym whole) ∙ value-store l i c (omega (arith, s .within, s .long)) ∙ s .sum ∙ ap (λ z. value z * w) (take-all i a h)

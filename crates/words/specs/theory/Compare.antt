@@ -11,8 +11,8 @@ use native.Mathlib.Omega.{arith}
 use borrow.Author.Tests.{lt-ltb, le-ltb, ltb-true, ltb-false}
 use lib.Dec.{ltb}
 use lib.ListN.{length, getD, drop}
-use Rattle.words.specs.Value.{value, weight}
-use Rattle.words.specs.theory.Laws.{Words, value-split, value-drop, value-drop-all, low-lt-weight}
+use Rattle.words.specs.Value.{value}
+use Rattle.words.specs.theory.Laws.{weight, Words, value-split, value-drop, value-drop-all, low-lt-weight}
 
 module _ (i h : ℕ) where
   -- a smaller word makes a smaller number, whatever stands below

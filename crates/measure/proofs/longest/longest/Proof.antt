@@ -1,68 +1,111 @@
--- `longest` meets its contract. The invariant: the best pair of the places passed; the measure is how many are to come.
-use mathlib.Core.Path.{_≡_, sym, subst}
-use mathlib.Core.Bool.{false}
-use borrow.Author.Tests.{not-true, not-false}
-use lib.ListN.{length}
+-- `longest` meets its contract. The invariant: the best pair of the places passed; the measure is how many steps are to come at most.
+use Prim.Native.Nat.{_+_, _-_, _<_}
+use native.Mathlib.Omega.{arith}
+use borrow.Author.Needs.{needs}
 use Rattle.plane.specs.Point.{points}
-use Rattle.calipers.specs.declared.walk.Walk.{Walk}
-use Rattle.measure.proofs.Walked.{toCome, toCome-less}
-use Rattle.measure.proofs.Pairs.{Search, search-start, search-from, search-next, search-done}
+use Rattle.measure.specs.Half.{HalfStep}
+use Rattle.measure.specs.Scan.{HalfAt}
+use Rattle.measure.specs.theory.Chains.{chains-found, chains-in}
+use Rattle.measure.proofs.Stepped.{half-start, half-edges, half-corners, half-room, half-on}
+use Rattle.measure.proofs.Pairs.{Search, search-start, search-next, search-done}
 use Rattle.measure.proofs.longest.longest.Statement.{statement}
 use Rattle.measure.proofs.longest.longest.Tie as tie
 
 abbrev Inv-loop : tie.InvT-loop
-Inv-loop list image top walk₀ best₀ walk best = Search list image top walk best
+Inv-loop list n top end s₀ t₀ best₀ s t best = Search list n top end s t best
 
 abbrev μ-loop : tie.MeasureT-loop
-μ-loop list image top walk₀ best₀ walk best = length (toCome (points list) (points image) walk)
+μ-loop list n top end s₀ t₀ best₀ s t best = top + end - (s .at + t .at)
 
-begin-requires : tie.Need-begin-requires Inv-loop μ-loop
-begin-requires c κs = tt
+count-requires : tie.Need-count-requires Inv-loop μ-loop
+count-requires c κs = search needs
+
+top-requires : tie.Need-top-requires Inv-loop μ-loop
+top-requires c κs = c .before .pre .shape .some
+
+sides-requires : tie.Need-sides-requires Inv-loop μ-loop
+sides-requires c κs = search needs
+
+side-at-requires : tie.Need-side-at-requires Inv-loop μ-loop
+side-at-requires c κs = let v = c .before .before .before .pre in (omega arith, v .inRange, v .shape .some)
+
+side-at-requires-2 : tie.Need-side-at-requires-2 Inv-loop μ-loop
+side-at-requires-2 c κs =
+    let v = c .before .before .before .before .pre in (chains-in (chains-found (v .shape) (c .before .before .top .ensures)), v .inRange, v .shape .some)
+
+-- the two sides before the loop
+begins : (c : tie.After-side-at2 Inv-loop μ-loop) → let start = c .before .before .before .before .before in
+    HalfAt (start .args .list .now) (c .before .before .before .top .result) (c .before .side-at .result) (c .side-at2 .result)
+begins c =
+    let start = c .before .before .before .before .before in
+    half-start (start .pre) (chains-found (start .pre .shape) (c .before .before .before .top .ensures)) (c .before .side-at .ensures) (c .side-at2 .ensures)
+
+apart-requires : tie.Need-apart-requires Inv-loop μ-loop
+apart-requires c κs = half-corners (begins c)
 
 loop-holds : tie.Need-loop-holds Inv-loop μ-loop
-loop-holds c = let start = c .before in
-    subst (λ (w : Walk). Search (start .args .list .now) (start .args .image .now) (start .args .top) w (record { from = 0; to = 0 }))
-    (sym (c .begin .ensures)) (search-start (start .pre))
+loop-holds c =
+    let at-sides = c .before .before .before in
+    search-start (begins (c .before)) (at-sides .before .before .count .ensures) (at-sides .sides .ensures)
+    (c .before .before .side-at .ensures .0) (c .before .side-at2 .ensures .0) (c .apart .ensures)
 
--- the loop's test, at its start
-on : (c : tie.Then1 Inv-loop μ-loop) → c .before .before .loop .walk .over ≡ false
-on c = not-true _ (c .if1 .taken)
+add-if1 : tie.Need-add-if1 Inv-loop μ-loop
+add-if1 c = omega (arith, half-room (c .before .before .loop .inv .half) .0)
 
-pair-at-requires : tie.Need-pair-at-requires Inv-loop μ-loop
-pair-at-requires c κs = let inv = c .before .before .loop .inv in (inv .imaged, inv .at)
+add-if1-2 : tie.Need-add-if1-2 Inv-loop μ-loop
+add-if1-2 c = let inv = c .before .before .loop .inv in omega (arith, half-room (inv .half) .1, inv .sides)
+
+goes-right-requires : tie.Need-goes-right-requires Inv-loop μ-loop
+goes-right-requires c κs = half-edges (c .before .before .before .loop .inv .half)
+
+next-requires : tie.Need-next-requires Inv-loop μ-loop
+next-requires c κs =
+    let half = c .before .before .before .before .loop .inv .half in (half .right-side, half .valid .inRange, half .valid .shape .some)
+
+next-requires-2 : tie.Need-next-requires-2 Inv-loop μ-loop
+next-requires-2 c κs =
+    let half = c .before .before .before .before .before .loop .inv .half in
+    (half .left-side, half .valid .inRange, half .valid .shape .some)
+
+-- the step, and the two sides after it
+goes-on : (c : tie.After-next2 Inv-loop μ-loop) → let at-loop = c .before .before .before .before .before .before in
+    let at-sides = at-loop .before .before .before .before in
+    let top = at-sides .before .top .result in
+    let end = at-sides .sides .result in
+    let s = at-loop .loop .s in
+    let t = at-loop .loop .t in
+    let s′ = c .before .next .result in
+    let t′ = c .next2 .result in
+    let l = at-sides .before .before .before .args .list .now in
+    HalfStep (points l) top (s .at) (t .at) (s′ .at) (t′ .at) × HalfAt l top s′ t′
+    × (top + end - (s′ .at + t′ .at) < top + end - (s .at + t .at))
+goes-on c =
+    let at-right = c .before .before in
+    let inv = at-right .before .before .before .before .loop .inv in
+    half-on (inv .half) (inv .sides) (omega (arith, at-right .before .if1 .taken)) (at-right .goes-right .ensures)
+    (c .before .next .ensures) (c .next2 .ensures)
+
+apart-requires-2 : tie.Need-apart-requires-2 Inv-loop μ-loop
+apart-requires-2 c κs = half-corners (goes-on c .1)
 
 better-requires : tie.Need-better-requires Inv-loop μ-loop
-better-requires c κs =
-    let inv = c .before .before .before .loop .inv in
-    (search-from inv, inv .leads .within, c .pair-at .ensures .from-in, c .pair-at .ensures .to-in, inv .imaged .near)
-
-advance-requires : tie.Need-advance-requires Inv-loop μ-loop
-advance-requires c κs = let inv = c .before .before .before .before .loop .inv in inv .at
+better-requires c κs = search needs
 
 loop-less : tie.Need-loop-less Inv-loop μ-loop
-loop-less c =
-    let at-then = c .before .before .before in toCome-less (at-then .before .before .loop .inv .at) (on at-then) (c .advance .ensures)
+loop-less c = goes-on (c .before .before) .2
 
 loop-again : tie.Need-loop-again Inv-loop μ-loop
 loop-again c =
-    let at-then = c .before .before .before in
-    search-next (at-then .before .before .loop .inv) (on at-then) (c .before .before .pair-at .ensures) (c .before .better .ensures)
-    (c .advance .ensures)
+    let at-next = c .before .before in
+    let on = goes-on at-next in
+    search-next (at-next .before .before .before .before .before .before .loop .inv) (on .1) (on .0) (c .before .apart2 .ensures)
+    (c .better .ensures)
 
 returns : tie.Need-returns Inv-loop μ-loop
-returns c = search-done (c .before .before .loop .inv) (not-false _ (c .if1 .left))
+returns c = search-done (c .before .before .before .loop .inv) (omega (arith, c .if1 .left))
 
 pub longest-spec : {M : Type 1} → statement M
 longest-spec =
     tie.close
-    (tie.spec
-    Inv-loop
-    μ-loop
-    begin-requires
-    loop-holds
-    pair-at-requires
-    better-requires
-    advance-requires
-    loop-less
-    loop-again
-    returns)
+    (tie.spec Inv-loop μ-loop count-requires top-requires sides-requires side-at-requires side-at-requires-2 apart-requires loop-holds
+    add-if1 add-if1-2 goes-right-requires next-requires next-requires-2 apart-requires-2 better-requires loop-less loop-again returns)

@@ -1,35 +1,58 @@
--- `narrower` meets its contract: the step passes no edge of the shape, or one that is narrower, or one that is not.
-use mathlib.Core.Path.{sym, _∙_}
+-- `narrower` meets its contract: the fractions decide, then the positions.
+use mathlib.Core.Path.{_≡_, refl, sym, _∙_}
+use mathlib.Core.Bool.{true, false}
+use Prim.Native.Nat.{_*_}
 use native.Mathlib.Omega.{arith}
 use borrow.Author.Needs.{needs}
-use Rattle.measure.proofs.Edges.{step-still, best-found, best-keep}
+use borrow.Author.Tests.{ltb-true, le-ltb}
+use Rattle.plane.specs.theory.lists.Sought.{true-not-false}
+use Rattle.measure.specs.declared.narrowest.Across.{Across}
+use Rattle.measure.specs.Scan.{isNarrower, stays, gives-way}
 use Rattle.measure.proofs.narrowest.narrower.Statement.{statement}
 use Rattle.measure.proofs.narrowest.narrower.Tie as tie
 
-returns : tie.Need-returns
-returns c = let pre = c .before .before .before .pre in rw (step-still (pre .0) (omega (arith, c .if1 .taken))) (pre .1)
-
-measured-requires : tie.Need-measured-requires
-measured-requires c κs = search needs
+reversed : (a b : Across) → isNarrower a b ≡ true → isNarrower b a ≡ false
+reversed a b e = let less = ltb-true (a .turn * a .turn * b .squared) (b .turn * b .turn * a .squared) e in
+    le-ltb (b .turn * b .turn * a .squared) (a .turn * a .turn * b .squared) (omega arith)
 
 fraction-less-requires : tie.Need-fraction-less-requires
 fraction-less-requires c κs = search needs
 
+returns : tie.Need-returns
+returns c =
+    let args = c .before .before .args in
+    let test = sym (c .before .fraction-less .ensures) ∙ c .if1 .taken in
+    stays refl (record { no-narrower = reversed (args .best) (args .found) test; no-earlier = λ f. true-not-false test f })
+
+fraction-less-requires-2 : tie.Need-fraction-less-requires-2
+fraction-less-requires-2 c κs = search needs
+
 returns-2 : tie.Need-returns-2
 returns-2 c =
-    let at-found = c .before .before in
-    let pre = at-found .before .before .before .before .pre in
-    let told = at-found .measured .ensures in
-    best-found (pre .0) (omega (arith, at-found .before .if1 .left)) (pre .1) (told .0) (told .1)
-    (sym (c .before .fraction-less .ensures) ∙ c .if2 .taken)
+    let at-else = c .before .before in
+    let test = sym (c .before .fraction-less2 .ensures) ∙ c .if2 .taken in
+    gives-way refl (record {
+      no-narrower = sym (at-else .before .fraction-less .ensures) ∙ at-else .if1 .left;
+      no-earlier = λ f. true-not-false test f;
+    })
 
 returns-3 : tie.Need-returns-3
 returns-3 c =
-    let at-found = c .before .before in
-    let pre = at-found .before .before .before .before .pre in
-    let told = at-found .measured .ensures in
-    best-keep (pre .0) (omega (arith, at-found .before .if1 .left)) (pre .1) (told .0) (told .1)
-    (sym (c .before .fraction-less .ensures) ∙ c .if2 .left)
+    let at-else = c .before .before .before .before .before in
+    gives-way refl (record {
+      no-narrower = sym (at-else .before .fraction-less .ensures) ∙ at-else .if1 .left;
+      no-earlier = λ f. omega (arith, c .if3 .taken);
+    })
+
+returns-4 : tie.Need-returns-4
+returns-4 c =
+    let at-last = c .before .before .before in
+    stays refl (record {
+      no-narrower = sym (at-last .before .fraction-less2 .ensures) ∙ at-last .if2 .left;
+      no-earlier = λ f. omega (arith, c .if3 .left);
+    })
 
 pub narrower-spec : {M : Type 1} → statement M
-narrower-spec = tie.close (tie.spec returns measured-requires fraction-less-requires returns-2 returns-3)
+narrower-spec =
+    tie.close
+    (tie.spec fraction-less-requires returns fraction-less-requires-2 returns-2 returns-3 returns-4)

@@ -3,6 +3,7 @@
 --     same-up, same-left, same-right    the order by angle cannot tell them apart
 --     from-same                         what follows the one in order follows the other
 --     neither-same                      vectors that are not zero, neither before the other, point the same way
+--     same-not-before, same-flat        neither is before the other, and there is no turn between them
 --     same-sum, sum-same                so does their sum
 --     same-non-zero                     if one is not zero, neither is the other
 use mathlib.Core.Path.{_≡_, refl, sym, _∙_, ap, subst}
@@ -13,7 +14,7 @@ use lib.IntN.{ℤ, pos, _+ℤ_, _*ℤ_}
 use lib.Signed.{ltZ, leZ, _<ℤ_, _≤ℤ_, ≤ℤ-refl, <ℤ-irrefl}
 use Rattle.integer.specs.Ring.{ring, reify}
 use Rattle.integer.specs.Linear.{linear, lia, _&_}
-use Rattle.integer.specs.Order.{_<×<_, _<×≤_, _≤×<_, _≡×_, le-antisym, contra<, contra≤, ltZ-true, leZ-true, lt-ltZ, le-leZ}
+use Rattle.integer.specs.Order.{_<×<_, _<×≤_, _≤×<_, _≡×_, le-antisym, contra<, contra≤, ltZ-true, ltZ-false, leZ-true, lt-ltZ, le-leZ}
 use Rattle.plane.specs.Point.{Point, origin, _⊕_, opposite}
 use Rattle.plane.specs.Turn.{cross}
 use Rattle.plane.specs.Shape.{precedes}
@@ -23,7 +24,7 @@ use Rattle.plane.specs.theory.lists.Members.{point-path}
 use Rattle.plane.specs.theory.forms.Precedes.{Lower, lower, level, precedes-lower}
 use Rattle.plane.specs.theory.forms.Vector.{⊕-comm, cross-swap, cross-opposite}
 use Rattle.plane.specs.theory.forms.HalfPlane.{Up, down-up}
-use Rattle.plane.specs.theory.forms.Angle.{Later, apart, alike, not-before→later, earlier→before}
+use Rattle.plane.specs.theory.forms.Angle.{Later, apart, alike, not-before→later, earlier→before, before-alike, before-irrefl}
 
 -- m·e ≡ n·f
 pub record SameWay (e f : Point) : Type 0 where
@@ -143,6 +144,22 @@ neither-same e f h k ne nf = go (not-before→later e f h) (not-before→later f
     go (alike a b) (apart c d) = absurd (false≢true (sym h ∙ earlier→before (apart d c) .before-true))
     go (alike a b) (alike c d) = half-same (up f) e f a refl ne nf
         (lia (cross e f ∷ cross f e ∷ []) (b & d & cross-swap e f) (search linear depth 40) (omega arith))
+
+not-before-self : (e : Point) → before e e ≡ false
+not-before-self e = go (before e e) refl
+  where
+    go : (b : Bool) → before e e ≡ b → b ≡ false
+    go true h = absurd (before-irrefl {e = e} (record { before-true = h }))
+    go false h = refl
+
+pub same-not-before : {e f : Point} → SameWay e f → (before e f ≡ false) × (before f e ≡ false)
+same-not-before {e} {f} s = (same-left s f ∙ not-before-self f, same-right s f ∙ not-before-self f)
+
+pub same-flat : {e f : Point} → SameWay e f → cross e f ≡ pos 0
+same-flat {e} {f} s =
+    let a = ltZ-false {x = pos 0} {y = cross e f} (sym (before-alike e f (same-up s)) ∙ same-not-before s .0) in
+    let b = ltZ-false {x = pos 0} {y = cross f e} (sym (before-alike f e (sym (same-up s))) ∙ same-not-before s .1) in
+    lia (cross e f ∷ cross f e ∷ []) (a & b & cross-swap e f) (search linear depth 40) (omega arith)
 
 pub same-sum : {e f : Point} → SameWay e f → SameWay e (e ⊕ f)
 same-sum {e} {f} s = record {

@@ -1,6 +1,6 @@
 -- The mirror image of a shape: the opposite corners in the same order, begun at the opposite of the last one by y, then by x.
 --     Top ps i t                     of the first i corners none comes after corner t
---     top-start, top-keep, top-rise  the moves of a walk that looks for it; `topmost`: there is one
+--     topmost                        there is one
 --     mirroredFrom ps t              the opposites of all corners, begun at corner t; `mirroredFrom-at`: corner by corner;
 --                                    `mirroredFrom-length`, `mirroredFrom-numbers`: how many corners and numbers
 --     mirror-known                   begun at the top of a shape they are the shape of the mirrored set
@@ -43,16 +43,16 @@ module _ (ps : List Point) where
   self : (k : ℕ) → precedes (corner ps k) (corner ps k) ≡ false
   self k = not-precedes _ _ precedes-irrefl
 
-  pub top-start : Top ps 1 0
+  top-start : Top ps 1 0
   top-start = record { within = omega arith; last = λ k h. ap (λ j. precedes (corner ps 0) (corner ps j)) (omega arith) ∙ self 0 }
 
-  pub top-keep : {i t t′ : ℕ} → Top ps i t → precedes (corner ps t) (corner ps i) ≡ false → t′ ≡ t → Top ps (i + 1) t′
+  top-keep : {i t t′ : ℕ} → Top ps i t → precedes (corner ps t) (corner ps i) ≡ false → t′ ≡ t → Top ps (i + 1) t′
   top-keep {i} {t} {t′} s h e = record {
     within = omega (arith, s .within);
     last = rw e (below-more (λ k. precedes (corner ps t) (corner ps k) ≡ false) i (s .last) h);
   }
 
-  pub top-rise : {i t t′ : ℕ} → Top ps i t → precedes (corner ps t) (corner ps i) ≡ true → t′ ≡ i → Top ps (i + 1) t′
+  top-rise : {i t t′ : ℕ} → Top ps i t → precedes (corner ps t) (corner ps i) ≡ true → t′ ≡ i → Top ps (i + 1) t′
   top-rise {i} {t} {t′} s h e = record {
     within = omega arith;
     last = rw e (below-more (λ k. precedes (corner ps i) (corner ps k) ≡ false) i

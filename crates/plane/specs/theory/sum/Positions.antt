@@ -6,12 +6,14 @@
 --     round-step                      the corner after edge i
 --     round-total                     the corner at i is the first plus the edges before it
 --     round-within, round-inner       its position is one of the list; short of the end it is i itself
---     in-order-at, in-order-non-zero  edges in order, at their positions
+--     in-order-at, in-order-non-zero  edges in order, at their positions; `shape-in-order`: those of a shape are
 --     corner-injective                a shape's corners are pairwise different
+--     edge-turn                       no corner is right of an edge
 use mathlib.Core.Path.{_≡_, refl, sym, _∙_, ap}
 use mathlib.Core.Bool.{Bool, true, false, cond}
 use mathlib.Core.List.{List, [], _∷_}
 use Prim.Native.Nat.{ℕ, zero, suc, _+_, _≤_, _<_}
+use native.Mathlib.Decide.{ℕ-discrete}
 use native.Mathlib.Nat.{not-suc-le-zero}
 use native.Mathlib.Numerals.{add-one}
 use native.Mathlib.Omega.{arith}
@@ -19,16 +21,18 @@ use borrow.Author.Tests.{eqb-true, eqb-false, ne-eqb, ltb-true, ltb-false}
 use lib.Dec.{eqb, ltb}
 use lib.IntN.{pos}
 use lib.ListN.{length, take}
+use lib.Signed.{_≤ℤ_}
 use Rattle.integer.specs.Linear.{lia, linear, _&_}
+use Rattle.integer.specs.Order.{le-of-eq, weaken}
 use Rattle.plane.specs.Point.{Point, corner, origin, _⊕_, _⊖_}
 use Rattle.plane.specs.Turn.{turn, Left}
 use Rattle.plane.specs.Shape.{next, IsShape}
 use Rattle.plane.specs.theory.sum.EdgeCount.{from-all}
 use Rattle.plane.specs.Forms.{Pairs, All, Ordered, Precedes, Before, NonZero, InOrder, edgesTo, edges}
 use Rattle.plane.specs.theory.forms.Precedes.{precedes-different}
-use Rattle.plane.specs.theory.forms.Vector.{total, turn-level, step-to, ⊕-assoc, ⊕-comm, ⊕-zero}
+use Rattle.plane.specs.theory.forms.Vector.{total, turn-back, turn-level, step-to, ⊕-assoc, ⊕-comm, ⊕-zero}
 use Rattle.plane.specs.theory.forms.Angle.{before-trans}
-use Rattle.plane.specs.theory.forms.Standard.{all-at, pairs-at, shape→ordered}
+use Rattle.plane.specs.theory.forms.Standard.{all-at, pairs-at, shape→ordered, shape→sorted}
 use Rattle.plane.specs.theory.sum.Path.{next-in-order}
 use Rattle.plane.specs.Cycle.{round, cornerRound}
 
@@ -136,6 +140,10 @@ in-order-non-zero [] o i h = absurd (not-suc-le-zero h)
 in-order-non-zero (e ∷ E) o zero h = o .0
 in-order-non-zero (e ∷ E) o (suc i) h = in-order-non-zero E (next-in-order e E (o .1)) i (omega arith)
 
+pub shape-in-order : (ps : List Point) → IsShape ps → InOrder (edges ps)
+shape-in-order [] s = tt
+shape-in-order (p ∷ ps) s = shape→sorted (p ∷ ps) s
+
 -- ---- a shape's corners are pairwise different
 
 ordered-different : (ps : List Point) → Ordered ps → (i j : ℕ) → i < j → j < length ps → corner ps i ≡ corner ps j → ⊥
@@ -156,3 +164,20 @@ corner-injective ps s i j h k e = go (ltb i j) refl (ltb j i) refl
     go true p b q = absurd (ordered-different ps (shape→ordered ps s) i j (ltb-true i j p) k e)
     go false p true q = absurd (ordered-different ps (shape→ordered ps s) j i (ltb-true j i q) h (sym e))
     go false p false q = omega (arith, ltb-false i j p, ltb-false j i q)
+
+-- ---- no corner is right of an edge
+
+pub edge-turn : (ps : List Point) → IsShape ps → (e c : ℕ) → e < length ps → c < length ps
+    → pos 0 ≤ℤ turn (corner ps e) (corner ps (next (length ps) e)) (corner ps c)
+edge-turn ps s e c h k = go (ℕ-discrete c e) (ℕ-discrete c (next (length ps) e))
+  where
+    a : Point
+    a = corner ps e
+
+    b : Point
+    b = corner ps (next (length ps) e)
+
+    go : Dec (c ≡ e) → Dec (c ≡ next (length ps) e) → pos 0 ≤ℤ turn a b (corner ps c)
+    go (yes q) r = rw q (le-of-eq (sym (turn-back a b)))
+    go (no q) (yes r) = rw r (le-of-eq (sym (turn-level a b)))
+    go (no q) (no r) = weaken (s .left e c h k q r)

@@ -1,98 +1,201 @@
--- `pass` meets its contract. The invariant: so many edges are passed, and on which sides of them the origin was; the measure: what is left.
-use mathlib.Core.Path.{_≡_}
-use mathlib.Core.Bool.{false}
-use Prim.Native.Nat.{_-_}
+-- `pass` meets its contract. The invariant: so many edges are passed and none has the origin to its right, and the walk with these two
+-- sides is as far and not over; the measure: what is left.
+use mathlib.Core.Path.{_≡_, refl, sym, _∙_, ap₂, subst}
+use mathlib.Core.Bool.{Bool, false}
+use Prim.Native.Nat.{_+_, _-_}
 use native.Mathlib.Omega.{arith}
-use borrow.Author.Tests.{not-true, not-false}
 use lib.ListN.{length}
 use mir.Syntax.{w64}
 use Rattle.integer.specs.Machine.{result-is}
 use Rattle.plane.specs.Point.{points}
+use Rattle.plane.specs.Turn.{cross}
+use Rattle.plane.specs.Forms.{edges}
 use Rattle.plane.specs.theory.lists.Flat.{points-length}
+use Rattle.plane.specs.theory.sum.Positions.{edges-at-most}
 use Rattle.plane.specs.VectorSum.{vectorSum}
+use Rattle.polygon.specs.Point.{at}
+use Rattle.calipers.specs.Side.{Carried, walkOf}
+use Rattle.calipers.specs.Walk.{here, begun, finished, advanced, At}
+use Rattle.calipers.specs.theory.Carry.{all-passed, some-left, sides-walk, sides-here, sides-advanced, sides-at}
+use Rattle.calipers.specs.theory.Carry.{here-small, first-next, second-next, corners-fit, edges-fit}
 use Rattle.separation.proofs.Passing.{
   Passing,
   passing-start,
   passing-at,
   passing-below,
   passing-count,
-  passing-to,
   passing-more,
+  passing-out,
   passing-end,
 }
 use Rattle.separation.proofs.around.pass.Statement.{statement}
 use Rattle.separation.proofs.around.pass.Tie as tie
 
 abbrev Inv-loop : tie.InvT-loop
-Inv-loop a b walk₀ count₀ outside₀ rim₀ walk count outside rim = Passing a b walk count outside rim
+Inv-loop a b s₀ t₀ all count₀ rim₀ s t count rim = Passing a b (walkOf s t false) count rim × Carried a s × Carried b t
 
 abbrev μ-loop : tie.MeasureT-loop
-μ-loop a b walk₀ count₀ outside₀ rim₀ walk count outside rim = length (vectorSum (points a) (points b)) - count
+μ-loop a b s₀ t₀ all count₀ rim₀ s t count rim = length (vectorSum (points a) (points b)) - count
 
-begin-requires : tie.Need-begin-requires Inv-loop μ-loop
-begin-requires c κs = tt
+side-at-requires : tie.Need-side-at-requires Inv-loop μ-loop
+side-at-requires c κs = (omega arith, c .pre .first-near, c .pre .first-shape .some)
+
+side-at-requires-2 : tie.Need-side-at-requires-2 Inv-loop μ-loop
+side-at-requires-2 c κs = (omega arith, c .before .pre .second-near, c .before .pre .second-shape .some)
+
+-- all edges of both
+all : (c : tie.After-struct-known2 Inv-loop μ-loop) → let second = c .before .before in
+    let args = second .before .before .args in
+    second .before .side-at .result .end + second .side-at2 .result .end
+    ≡ length (edges (points (args .a .now))) + length (edges (points (args .b .now)))
+all c = let second = c .before .before in omega (arith, second .before .side-at .ensures .1 .end-is, second .side-at2 .ensures .1 .end-is)
+
+add-all : tie.Need-add-all Inv-loop μ-loop
+add-all c =
+    let start = c .before .before .before .before in
+    let few = edges-at-most (points (start .args .a .now)) in
+    let too = edges-at-most (points (start .args .b .now)) in
+    omega (arith, all c, points-length (start .args .a .now), points-length (start .args .b .now))
 
 loop-holds : tie.Need-loop-holds Inv-loop μ-loop
-loop-holds c = passing-start (c .before .pre) (c .begin .ensures)
+loop-holds c =
+    let second = c .before .before in
+    let first = second .before in (
+      passing-start (first .before .pre)
+          (sides-walk begun (first .side-at .result) (second .side-at2 .result) (first .side-at .ensures .0) (second .side-at2 .ensures .0)),
+      first .side-at .ensures .1,
+      second .side-at2 .ensures .1,
+    )
 
--- the loop's test, at its start
-on : (c : tie.Then1 Inv-loop μ-loop) → c .before .before .loop .walk .over ≡ false
-on c = not-true _ (c .if1 .taken)
+order-requires : tie.Need-order-requires Inv-loop μ-loop
+order-requires c κs = let inv = c .loop .inv in edges-fit (passing-at (inv .0)) (inv .1) (inv .2)
 
-advance-requires : tie.Need-advance-requires Inv-loop μ-loop
-advance-requires c κs = passing-at (c .before .before .loop .inv)
+next-requires : tie.Need-next-requires Inv-loop μ-loop
+next-requires c κs = let inv = c .before .loop .inv in first-next (passing-at (inv .0)) (inv .1) (inv .2)
 
-around-to-requires : tie.Need-around-to-requires Inv-loop μ-loop
-around-to-requires c κs = tt
+next-requires-2 : tie.Need-next-requires-2 Inv-loop μ-loop
+next-requires-2 c κs = let inv = c .before .before .loop .inv in second-next (passing-at (inv .0)) (inv .1) (inv .2)
 
-across-requires : tie.Need-across-requires Inv-loop μ-loop
-across-requires c κs =
-    let at-then = c .before .before in
-    let inv = at-then .before .before .loop .inv in
-    (passing-at inv, passing-to inv (on at-then) (c .before .advance .ensures) (c .around-to .ensures))
+here-requires : tie.Need-here-requires Inv-loop μ-loop
+here-requires c κs = let inv = c .before .before .before .loop .inv in corners-fit (passing-at (inv .0)) (inv .1) (inv .2)
+
+-- the walk after the step
+steps : (c : tie.After-next2 Inv-loop μ-loop) (end : Bool) → let at-loop = c .before .before .before in
+    let args = at-loop .before .before .before .before .before .args in
+    At (args .a .now) (args .b .now) (walkOf (c .before .next .result) (c .next2 .result) end)
+steps c end =
+    let at-order = c .before .before in
+    let inv = at-order .before .loop .inv in
+    sides-at (passing-at (inv .0)) (inv .1) (inv .2) (result-is w64 (at-order .order .ok) (at-order .order .ensures))
+    (c .before .next .result) (c .next2 .result) (c .before .next .ensures .0) (c .next2 .ensures .0)
+
+advances : (c : tie.After-next2 Inv-loop μ-loop) → let at-loop = c .before .before .before in
+    let args = at-loop .before .before .before .before .before .args in
+    let m = c .before .next .result in
+    let n = c .next2 .result in
+    walkOf m n (finished (points (args .a .now)) (m .at) (points (args .b .now)) (n .at))
+    ≡ advanced (points (args .a .now)) (points (args .b .now)) (walkOf (at-loop .loop .s) (at-loop .loop .t) false)
+advances c =
+    let at-order = c .before .before in
+    let inv = at-order .before .loop .inv in
+    sides-advanced (passing-at (inv .0)) (inv .1) (inv .2) (result-is w64 (at-order .order .ok) (at-order .order .ensures))
+    (c .before .next .result) (c .next2 .result) (c .before .next .ensures .0) (c .next2 .ensures .0) refl
+
+here-requires-2 : tie.Need-here-requires-2 Inv-loop μ-loop
+here-requires-2 c κs =
+    let at-next = c .before in corners-fit (steps at-next false) (at-next .before .next .ensures .1) (at-next .next2 .ensures .1)
+
+-- where it stands before and after the step
+leaves : (c : tie.After-here2 Inv-loop μ-loop) → let at-loop = c .before .before .before .before .before in
+    let args = at-loop .before .before .before .before .before .args in
+    at (c .before .here .result) ≡ here (points (args .a .now)) (points (args .b .now)) (walkOf (at-loop .loop .s) (at-loop .loop .t) false)
+leaves c = let inv = c .before .before .before .before .before .loop .inv in
+    c .before .here .ensures ∙ sides-here (passing-at (inv .0)) (inv .1) (inv .2)
+
+arrives : (c : tie.After-here2 Inv-loop μ-loop) (end : Bool) → let at-next = c .before .before in
+    let args = at-next .before .before .before .before .before .before .before .before .args in
+    at (c .here2 .result) ≡ here (points (args .a .now)) (points (args .b .now)) (walkOf (at-next .before .next .result) (at-next .next2 .result) end)
+arrives c end = let at-next = c .before .before in
+    c .here2 .ensures ∙ sides-here (steps at-next end) (at-next .before .next .ensures .1) (at-next .next2 .ensures .1)
+
+cross-requires : tie.Need-cross-requires Inv-loop μ-loop
+cross-requires c κs =
+    let inv = c .before .before .before .before .before .loop .inv in
+    (here-small (passing-at (inv .0)) (leaves c), here-small (steps (c .before .before) false) (arrives c false))
+
+returns : tie.Need-returns Inv-loop μ-loop
+returns c =
+    let at-here = c .before .before in
+    let at-next = at-here .before .before in
+    let inv = at-next .before .before .before .loop .inv in
+    passing-out (inv .0) refl (advances at-next)
+    (result-is w64 (c .before .cross .ok) (c .before .cross .ensures ∙ ap₂ cross (leaves at-here) (arrives at-here _))) (c .if1 .taken)
 
 either-requires : tie.Need-either-requires Inv-loop μ-loop
 either-requires c κs = tt
 
-either-requires-2 : tie.Need-either-requires-2 Inv-loop μ-loop
-either-requires-2 c κs = tt
+-- one edge more is passed
+more : (c : tie.After-either Inv-loop μ-loop) → let at-next = c .before .before .before .before .before in
+    let at-loop = at-next .before .before .before in
+    let args = at-loop .before .before .before .before .before .args in
+    let m = at-next .before .next .result in
+    let n = at-next .next2 .result in
+    Passing (args .a .now) (args .b .now) (walkOf m n (finished (points (args .a .now)) (m .at) (points (args .b .now)) (n .at)))
+    (at-loop .loop .count + 1) (c .either .result)
+more c =
+    let at-cross = c .before .before in
+    let at-here = at-cross .before in
+    let at-next = at-here .before .before in
+    let inv = at-next .before .before .before .loop .inv in
+    passing-more (inv .0) refl (advances at-next)
+    (result-is w64 (at-cross .cross .ok) (at-cross .cross .ensures ∙ ap₂ cross (leaves at-here) (arrives at-here _)))
+    (c .before .if1 .left) (c .either .ensures)
 
 add-count : tie.Need-add-count Inv-loop μ-loop
 add-count c =
-    let at-then = c .before .before .before .before .before in
-    let start = at-then .before .before .before .before in
-    let fewer = passing-count (at-then .before .before .loop .inv) (on at-then) in
+    let at-loop = c .before .before .before .before .before .before .before .before in
+    let start = at-loop .before .before .before .before .before in
+    let fewer = passing-count (at-loop .loop .inv .0) refl in
     omega (arith, points-length (start .args .a .now), points-length (start .args .b .now))
+
+add-if2 : tie.Need-add-if2 Inv-loop μ-loop
+add-if2 c =
+    let at-next = c .before .before .before .before .before .before .before in
+    let start = at-next .before .before .before .before .before .before .before .before in
+    let first = at-next .before .next .ensures .1 .at-in in
+    let second = at-next .next2 .ensures .1 .at-in in
+    let few = edges-at-most (points (start .args .a .now)) in
+    let too = edges-at-most (points (start .args .b .now)) in
+    omega (arith, points-length (start .args .a .now), points-length (start .args .b .now))
+
+returns-2 : tie.Need-returns-2 Inv-loop μ-loop
+returns-2 c =
+    let at-either = c .before .before .before in
+    let at-next = at-either .before .before .before .before .before in
+    let at-loop = at-next .before .before .before in
+    passing-end (more at-either) (all-passed _ _ _ _ (at-next .before .next .ensures .1 .at-in) (at-next .next2 .ensures .1 .at-in)
+    (c .if2 .taken ∙ all (at-loop .before)))
 
 loop-less : tie.Need-loop-less Inv-loop μ-loop
 loop-less c =
-    let at-then = c .before .before .before .before .before in
-    omega (arith, passing-below (at-then .before .before .loop .inv) (on at-then))
+    let at-loop = c .before .before .before .before .before .before .before .before .before .before .before in
+    omega (arith, passing-below (at-loop .loop .inv .0) refl)
 
 loop-again : tie.Need-loop-again Inv-loop μ-loop
 loop-again c =
-    let at-end = c .before .before .before in
-    let at-then = at-end .before .before in
-    passing-more (at-then .before .before .loop .inv) (on at-then) (at-end .before .advance .ensures) (at-end .around-to .ensures)
-    (result-is w64 (c .before .before .across .ok) (c .before .before .across .ensures)) (c .before .either .ensures) (c .either2 .ensures)
-
-returns : tie.Need-returns Inv-loop μ-loop
-returns c = passing-end (c .before .before .loop .inv) (not-false _ (c .if1 .left))
+    let at-either = c .before .before .before in
+    let at-next = at-either .before .before .before .before .before in
+    let at-loop = at-next .before .before .before in
+    let args = at-loop .before .before .before .before .before .args in
+    let on = some-left _ _ (at-next .before .next .result .at) (at-next .next2 .result .at) (λ e. c .if2 .left (e ∙ sym (all (at-loop .before)))) in (
+      subst (λ (o : Bool). Passing (args .a .now) (args .b .now) (walkOf (at-next .before .next .result) (at-next .next2 .result) o)
+          (at-loop .loop .count + 1) (at-either .either .result)) on (more at-either),
+      at-next .before .next .ensures .1,
+      at-next .next2 .ensures .1,
+    )
 
 pub pass-spec : {M : Type 1} → statement M
 pass-spec =
     tie.close
-    (tie.spec
-    Inv-loop
-    μ-loop
-    begin-requires
-    loop-holds
-    advance-requires
-    around-to-requires
-    across-requires
-    either-requires
-    either-requires-2
-    add-count
-    loop-less
-    loop-again
-    returns)
+    (tie.spec Inv-loop μ-loop side-at-requires side-at-requires-2 add-all loop-holds order-requires next-requires next-requires-2
+    here-requires here-requires-2 cross-requires returns either-requires add-count add-if2 returns-2 loop-less loop-again)

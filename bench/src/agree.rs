@@ -1,0 +1,150 @@
+//! Compares the answers of plain and proved questions, and the whole outputs that they leave.
+use crate::lists::{beside, shape, spoilt};
+use crate::random::Random;
+use crate::reply::Numbers;
+use crate::shapes::List;
+use crate::{plain, proved};
+use std::collections::BTreeSet;
+
+/// What must have been compared at least once: a question, and a refusal or the first value.
+const KINDS: [(&str, &str); 19] = [
+    ("judge", "no 1"),
+    ("judge", "no 2"),
+    ("judge", "no 3"),
+    ("judge", "no 4"),
+    ("judge", "no 5"),
+    ("sum", "ok"),
+    ("sum", "no 6"),
+    ("sum", "no 7"),
+    ("sum", "no 8"),
+    ("merge", "ok"),
+    ("merge", "no 6"),
+    ("merge", "no 8"),
+    ("width", "ok"),
+    ("width", "no 10"),
+    ("relation", "ok 0"),
+    ("relation", "ok 1"),
+    ("relation", "ok 2"),
+    ("inside", "ok 0"),
+    ("inside", "ok 1"),
+];
+
+/// The answers that were compared: how many, and of which kinds.
+#[derive(Default)]
+struct Tally {
+    answers: u64,
+    kinds: BTreeSet<(&'static str, String)>,
+}
+
+/// Asks questions of made lists until so many were answered, and says how many; or the first that
+/// differs, or a kind of answer that never came.
+pub fn agree(seed: u64, answers: u64) -> Result<u64, String> {
+    let mut random = Random::new(seed);
+    let mut tally = Tally::default();
+    while tally.answers < answers {
+        let mut a = shape(&mut random);
+        let mut b = beside(&mut random, &a);
+        match random.below(8) {
+            0 => a = spoilt(&mut random, &a),
+            1 => b = spoilt(&mut random, &b),
+            _ => (),
+        }
+        ask_one(&mut tally, &a)?;
+        ask_two(&mut tally, &a, &b)?;
+        ask_two(&mut tally, &b, &a)?;
+        ask_written(&mut tally, &mut random, &a, &b)?;
+    }
+    tally.missing().map_or(Ok(tally.answers), Err)
+}
+
+/// The questions of one shape.
+fn ask_one(tally: &mut Tally, a: &[i32]) -> Result<(), String> {
+    tally.add("judge", [a, &[]], plain::judge(a), proved::judge(a))?;
+    tally.add("length", [a, &[]], plain::length(a), proved::length(a))?;
+    tally.add("width", [a, &[]], plain::width(a), proved::width(a))
+}
+
+/// The questions of two shapes that write nothing.
+fn ask_two(tally: &mut Tally, a: &[i32], b: &[i32]) -> Result<(), String> {
+    tally.add(
+        "relation",
+        [a, b],
+        plain::relation(a, b),
+        proved::relation(a, b),
+    )?;
+    tally.add("inside", [a, b], plain::inside(a, b), proved::inside(a, b))
+}
+
+/// A question that writes.
+type Writes = fn(&[i32], &[i32], &mut [i32]) -> Numbers;
+
+/// The questions that write, into outputs of any room; then others of what was written, since its
+/// rim meets that of both shapes.
+fn ask_written(tally: &mut Tally, random: &mut Random, a: &[i32], b: &[i32]) -> Result<(), String> {
+    let both: [(&'static str, Writes, Writes); 2] = [
+        ("sum", plain::sum, proved::sum),
+        ("merge", plain::merge, proved::merge),
+    ];
+    for (word, by_hand, by_proof) in both {
+        let before = vec![random.bits() as i32; room(random, a, b, by_hand)];
+        let (mut out, mut other): (List, List) = (before.clone(), before);
+        let (one, two) = (by_hand(a, b, &mut out), by_proof(a, b, &mut other));
+        tally.add(word, [a, b], one, two)?;
+        if out != other {
+            return Err(format!("{word} of {a:?} and {b:?}: the outputs differ"));
+        }
+        if one.refusal == 0 {
+            let written = &out[..2 * one.values[0] as usize];
+            ask_one(tally, written)?;
+            ask_two(tally, a, written)?;
+            ask_two(tally, written, b)?;
+        }
+    }
+    Ok(())
+}
+
+/// How many numbers are lent: enough, as many as are needed, or fewer.
+fn room(random: &mut Random, a: &[i32], b: &[i32], ask: Writes) -> usize {
+    let needed = 2 * ask(a, b, &mut [0; 1024]).values[0] as usize;
+    match random.below(8) {
+        0 => needed,
+        1 => needed.saturating_sub(1),
+        2 => random.below(needed as u64 + 1) as usize,
+        3 => needed + 1,
+        _ => 1024,
+    }
+}
+
+impl Tally {
+    /// Counts one answer, or says that it differs.
+    fn add(
+        &mut self,
+        word: &'static str,
+        [a, b]: [&[i32]; 2],
+        plain: Numbers,
+        proved: Numbers,
+    ) -> Result<(), String> {
+        if plain != proved {
+            return Err(format!(
+                "{word} of {a:?} and {b:?}: plain {plain:?}, proved {proved:?}"
+            ));
+        }
+        let kind = match (plain.refusal, word) {
+            (0, "relation" | "inside") => format!("ok {}", plain.values[0]),
+            (0, _) => "ok".to_string(),
+            (number, _) => format!("no {number}"),
+        };
+        self.answers += 1;
+        self.kinds.insert((word, kind));
+        Ok(())
+    }
+
+    /// A kind that did not come.
+    fn missing(&self) -> Option<String> {
+        let came = |word, kind: &str| self.kinds.contains(&(word, kind.to_string()));
+        let &(word, kind) = KINDS.iter().find(|&&(word, kind)| !came(word, kind))?;
+        Some(format!(
+            "no {word} was answered `{kind}`: ask for more answers"
+        ))
+    }
+}

@@ -1,0 +1,13 @@
+//! The proved questions beside plain ones: written by hand for speed, with the same checks and the
+//! same answers. `agree` compares what they answer, `table` how long they take.
+pub mod agree;
+mod lists;
+mod pairs;
+pub mod plain;
+pub mod proved;
+mod random;
+pub mod reply;
+mod rows;
+mod shapes;
+pub mod table;
+mod timing;

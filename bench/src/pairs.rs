@@ -1,0 +1,90 @@
+//! Shapes to measure questions on. All are in general position, so the edges of two shapes follow
+//! one another without a pattern, and no processor can guess whose is next.
+use crate::plain;
+use crate::random::Random;
+use crate::shapes::{Case, List, moved, polygon};
+
+/// One shape.
+pub fn single(random: &mut Random, n: usize) -> Case {
+    let size = random.between(800_000, 1_600_000);
+    Case {
+        a: polygon(random, n, size, 0, 0),
+        b: List::new(),
+    }
+}
+
+/// Two shapes that overlap, the second with 4 corners less; neither is inside the other.
+pub fn crossing(random: &mut Random, n: usize) -> Case {
+    overlapping(random, n, n - 4, 25_000)
+}
+
+/// Two shapes whose sum is answered. It has as many corners as both together, and an answer at most
+/// 512: so in place of 500 and 496 corners they have 256 and 250.
+pub fn summed(random: &mut Random, n: usize) -> Case {
+    let (n, m) = if n + n - 4 > 512 {
+        (256, 250)
+    } else {
+        (n, n - 4)
+    };
+    overlapping(random, n, m, 25_000)
+}
+
+/// Two shapes whose merge is answered: about half of each is on the rim.
+pub fn merged(random: &mut Random, n: usize) -> Case {
+    loop {
+        let case = overlapping(random, n, n - 4, 100_000);
+        if plain::merge(&case.a, &case.b, &mut [0; 1024]).refusal == 0 {
+            return case;
+        }
+    }
+}
+
+/// Two shapes of n and m corners with middles at most that far from the origin, on opposite sides.
+fn overlapping(random: &mut Random, n: usize, m: usize, away: i32) -> Case {
+    let (x, y) = (random.between(-away, away), random.between(-away, away));
+    let (one, other) = (
+        random.between(500_000, 800_000),
+        random.between(500_000, 800_000),
+    );
+    Case {
+        a: polygon(random, n, one, x, y),
+        b: polygon(random, m, other, -x, -y),
+    }
+}
+
+/// Two shapes side by side, or one above the other.
+pub fn apart(random: &mut Random, n: usize) -> Case {
+    let near = random.between(-100_000, 100_000);
+    let ways = [
+        (450_000, near),
+        (-450_000, near),
+        (near, 450_000),
+        (near, -450_000),
+    ];
+    let (x, y) = ways[random.below(4) as usize];
+    Case {
+        a: polygon(random, n, 800_000, x, y),
+        b: polygon(random, n - 4, 800_000, -x, -y),
+    }
+}
+
+/// The first shape, with 4 corners less, well inside the second.
+pub fn nested(random: &mut Random, n: usize) -> Case {
+    let size = random.between(200_000, 400_000);
+    let (x, y) = (
+        random.between(-50_000, 50_000),
+        random.between(-50_000, 50_000),
+    );
+    Case {
+        a: polygon(random, n - 4, size, x, y),
+        b: polygon(random, n, 1_600_000, 0, 0),
+    }
+}
+
+/// A shape and the same one to the right of it: sum and merge are answered at any size, since their
+/// edges are parallel, and clearance and tangents do all their work.
+pub fn moved_away(random: &mut Random, n: usize) -> Case {
+    let a = polygon(random, n, 400_000, -250_000, 0);
+    let b = moved(&a, 500_000, 1000);
+    Case { a, b }
+}

@@ -1,0 +1,22 @@
+//! The questions of document 01, written plainly and for speed: the judged floor that the proved
+//! ones are measured against. Each judges its lists first.
+mod blame;
+mod calipers;
+mod corner;
+mod deliver;
+mod edges;
+mod inside;
+mod judge;
+mod length;
+mod merge;
+mod relation;
+mod sum;
+mod width;
+
+pub use inside::inside;
+pub use judge::judge;
+pub use length::length;
+pub use merge::merge;
+pub use relation::relation;
+pub use sum::sum;
+pub use width::width;

@@ -1,0 +1,54 @@
+//! The sum: the edges of both shapes in one order, equal directions joined.
+use super::corner::{Corner, cross};
+use super::deliver::{Buffer, deliver};
+use super::edges::Edges;
+use super::judge::{Shape, admitted_pair};
+use crate::reply::Numbers;
+
+/// The shape of all corner-plus-corner points.
+#[inline(never)]
+pub fn sum(a: &[i32], b: &[i32], out: &mut [i32]) -> Numbers {
+    match admitted_pair(a, b) {
+        Ok((a, b)) => {
+            let mut answer = Buffer::empty();
+            walk(a, b, &mut answer);
+            deliver(&answer, out)
+        }
+        Err(refusal) => refusal,
+    }
+}
+
+/// Takes the next edge of one shape or the other, or of both where they are parallel. The next
+/// edges of such a walk are never half a turn apart, so the cross product alone tells which.
+#[inline(always)]
+fn walk(a: Shape, b: Shape, answer: &mut Buffer) {
+    let (mut a, mut b) = (Edges::of(a.corners, 0), Edges::of(b.corners, 0));
+    // SAFETY of the pushes: one for each edge of either shape at most, or one for two points.
+    while a.more() && b.more() {
+        unsafe { answer.push(plus(a.corner, b.corner)) };
+        let turn = cross(a.edge, b.edge);
+        if turn >= 0 {
+            a.step();
+        }
+        if turn <= 0 {
+            b.step();
+        }
+    }
+    while a.more() {
+        unsafe { answer.push(plus(a.corner, b.corner)) };
+        a.step();
+    }
+    while b.more() {
+        unsafe { answer.push(plus(a.corner, b.corner)) };
+        b.step();
+    }
+    if answer.len() == 0 {
+        unsafe { answer.push(plus(a.corner, b.corner)) };
+    }
+}
+
+/// A corner of one shape plus one of the other.
+#[inline(always)]
+fn plus(p: Corner, q: Corner) -> Corner {
+    [p[0] + q[0], p[1] + q[1]]
+}

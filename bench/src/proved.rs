@@ -1,0 +1,103 @@
+//! The proved questions, as the archive exports them.
+use crate::reply::{Lines, Numbers, Signed};
+
+/// A lent list crosses as a pointer and a length.
+mod archive {
+    use crate::reply::{Lines, Numbers, Signed};
+
+    type List = *const i32;
+    type Output = *mut i32;
+
+    unsafe extern "C" {
+        pub fn cocklesway_judge(list: List, n: usize) -> Numbers;
+        pub fn cocklesway_furthest(list: List, n: usize, u: i32, v: i32) -> Signed;
+        pub fn cocklesway_mirror(list: List, n: usize, out: Output, room: usize) -> Numbers;
+        pub fn cocklesway_sum(
+            a: List,
+            n: usize,
+            b: List,
+            m: usize,
+            out: Output,
+            room: usize,
+        ) -> Numbers;
+        pub fn cocklesway_merge(
+            a: List,
+            n: usize,
+            b: List,
+            m: usize,
+            out: Output,
+            room: usize,
+        ) -> Numbers;
+        pub fn cocklesway_length(list: List, n: usize) -> Numbers;
+        pub fn cocklesway_width(list: List, n: usize) -> Numbers;
+        pub fn cocklesway_relation(a: List, n: usize, b: List, m: usize) -> Numbers;
+        pub fn cocklesway_inside(a: List, n: usize, b: List, m: usize) -> Numbers;
+        pub fn cocklesway_clearance(a: List, n: usize, b: List, m: usize) -> Signed;
+        pub fn cocklesway_tangents(a: List, n: usize, b: List, m: usize) -> Lines;
+    }
+}
+
+// SAFETY, for all of them: the archive's functions have no precondition, and read and write lent
+// slices only within their lengths.
+
+pub fn judge(list: &[i32]) -> Numbers {
+    unsafe { archive::cocklesway_judge(list.as_ptr(), list.len()) }
+}
+
+pub fn furthest(list: &[i32], u: i32, v: i32) -> Signed {
+    unsafe { archive::cocklesway_furthest(list.as_ptr(), list.len(), u, v) }
+}
+
+pub fn mirror(list: &[i32], out: &mut [i32]) -> Numbers {
+    unsafe { archive::cocklesway_mirror(list.as_ptr(), list.len(), out.as_mut_ptr(), out.len()) }
+}
+
+pub fn sum(a: &[i32], b: &[i32], out: &mut [i32]) -> Numbers {
+    unsafe {
+        archive::cocklesway_sum(
+            a.as_ptr(),
+            a.len(),
+            b.as_ptr(),
+            b.len(),
+            out.as_mut_ptr(),
+            out.len(),
+        )
+    }
+}
+
+pub fn merge(a: &[i32], b: &[i32], out: &mut [i32]) -> Numbers {
+    unsafe {
+        archive::cocklesway_merge(
+            a.as_ptr(),
+            a.len(),
+            b.as_ptr(),
+            b.len(),
+            out.as_mut_ptr(),
+            out.len(),
+        )
+    }
+}
+
+pub fn length(list: &[i32]) -> Numbers {
+    unsafe { archive::cocklesway_length(list.as_ptr(), list.len()) }
+}
+
+pub fn width(list: &[i32]) -> Numbers {
+    unsafe { archive::cocklesway_width(list.as_ptr(), list.len()) }
+}
+
+pub fn relation(a: &[i32], b: &[i32]) -> Numbers {
+    unsafe { archive::cocklesway_relation(a.as_ptr(), a.len(), b.as_ptr(), b.len()) }
+}
+
+pub fn inside(a: &[i32], b: &[i32]) -> Numbers {
+    unsafe { archive::cocklesway_inside(a.as_ptr(), a.len(), b.as_ptr(), b.len()) }
+}
+
+pub fn clearance(a: &[i32], b: &[i32]) -> Signed {
+    unsafe { archive::cocklesway_clearance(a.as_ptr(), a.len(), b.as_ptr(), b.len()) }
+}
+
+pub fn tangents(a: &[i32], b: &[i32]) -> Lines {
+    unsafe { archive::cocklesway_tangents(a.as_ptr(), a.len(), b.as_ptr(), b.len()) }
+}

@@ -1,0 +1,63 @@
+//! The rows of the two tables: a question, and cases for which it does its work.
+use crate::pairs::{apart, crossing, merged, nested, single, summed};
+use crate::random::Random;
+use crate::shapes::Case;
+use crate::timing::{Run, block};
+use crate::{plain, proved};
+
+/// Makes a case of about n corners.
+pub type Make = fn(&mut Random, usize) -> Case;
+
+/// A loop of its own for each question: of these lists of a case, and perhaps of an output.
+macro_rules! run {
+    ($way:ident::$question:ident($($list:ident),*)) => {
+        |cases| block(cases, |c, _| $way::$question($(&c.$list),*))
+    };
+    ($way:ident::$question:ident($($list:ident),*; out)) => {
+        |cases| block(cases, |c, out| $way::$question($(&c.$list,)* out))
+    };
+}
+
+/// Proved and plain.
+const JUDGE: [Run; 2] = [run!(proved::judge(a)), run!(plain::judge(a))];
+const SUM: [Run; 2] = [run!(proved::sum(a, b; out)), run!(plain::sum(a, b; out))];
+const MERGE: [Run; 2] = [
+    run!(proved::merge(a, b; out)),
+    run!(plain::merge(a, b; out)),
+];
+const LENGTH: [Run; 2] = [run!(proved::length(a)), run!(plain::length(a))];
+const WIDTH: [Run; 2] = [run!(proved::width(a)), run!(plain::width(a))];
+const RELATION: [Run; 2] = [run!(proved::relation(a, b)), run!(plain::relation(a, b))];
+const INSIDE: [Run; 2] = [run!(proved::inside(a, b)), run!(plain::inside(a, b))];
+
+/// The questions that are asked in both ways.
+pub const ROWS: [(&str, [Run; 2], Make); 10] = [
+    ("judge", JUDGE, single),
+    ("sum", SUM, summed),
+    ("sum, refused 6 at 500", SUM, crossing),
+    ("merge", MERGE, merged),
+    ("length", LENGTH, single),
+    ("width", WIDTH, single),
+    ("relation, apart", RELATION, apart),
+    ("relation, overlapping", RELATION, crossing),
+    ("inside, yes", INSIDE, nested),
+    ("inside, no", INSIDE, crossing),
+];
+
+/// Every proved question, on a shape and the same one moved away (`pairs::moved_away`). It takes the
+/// whole walk to find that a shape overlaps itself, or is inside itself.
+pub const GROWTH: [(&str, Run); 11] = [
+    ("judge", JUDGE[0]),
+    ("furthest", |cases| {
+        block(cases, |c, _| proved::furthest(&c.a, 3, 1))
+    }),
+    ("mirror", run!(proved::mirror(a; out))),
+    ("sum", SUM[0]),
+    ("merge", MERGE[0]),
+    ("length", LENGTH[0]),
+    ("width", WIDTH[0]),
+    ("relation", run!(proved::relation(a, a))),
+    ("inside", run!(proved::inside(a, a))),
+    ("clearance", run!(proved::clearance(a, b))),
+    ("tangents", run!(proved::tangents(a, b))),
+];

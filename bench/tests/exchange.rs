@@ -1,0 +1,94 @@
+//! The exchange of the README, asked of the archive: what a host is given for each question.
+use bench::proved;
+use bench::reply::{Lines, Numbers, Signed};
+
+const SQUARE: [i32; 8] = [0, 0, 2, 0, 2, 2, 0, 2];
+const TRIANGLE: [i32; 6] = [0, 0, 1, 0, 0, 1];
+const RIGHT: [i32; 6] = [0, 0, 4, 0, 0, 3];
+const STAR: [i32; 10] = [0, 0, 5, 4, -1, 4, 4, 0, 2, 6];
+
+#[test]
+fn judge_counts_or_blames() {
+    assert_eq!(proved::judge(&SQUARE), Numbers::one(4));
+    let star = Numbers {
+        refusal: 4,
+        shape: 1,
+        values: [0, 3, 0, 0, 0],
+    };
+    assert_eq!(proved::judge(&STAR), star);
+    assert_eq!(proved::judge(&[]), Numbers::blamed(1, 1));
+}
+
+#[test]
+fn furthest_has_a_signed_value() {
+    let told = |position, value| Signed {
+        refusal: 0,
+        shape: 0,
+        values: [position, 0],
+        value,
+    };
+    assert_eq!(proved::furthest(&SQUARE, 1, 1), told(2, 4));
+    assert_eq!(proved::furthest(&[1, 1], -3, -2), told(0, -5));
+    let bad = Signed {
+        refusal: 11,
+        shape: 0,
+        values: [0, 0],
+        value: 0,
+    };
+    assert_eq!(proved::furthest(&SQUARE, 0, 0), bad);
+    let star = Signed {
+        refusal: 4,
+        shape: 1,
+        values: [0, 3],
+        value: 0,
+    };
+    assert_eq!(proved::furthest(&STAR, 1, 0), star);
+}
+
+#[test]
+fn shapes_are_written_to_the_front() {
+    let mut out = [7; 12];
+    assert_eq!(proved::mirror(&TRIANGLE, &mut out), Numbers::one(3));
+    assert_eq!(out, [0, -1, 0, 0, -1, 0, 7, 7, 7, 7, 7, 7]);
+    assert_eq!(proved::sum(&SQUARE, &TRIANGLE, &mut out), Numbers::one(5));
+    assert_eq!(out, [0, 0, 3, 0, 3, 2, 2, 3, 0, 3, 7, 7]);
+    assert_eq!(proved::merge(&SQUARE, &[5, 1], &mut out), Numbers::one(5));
+    assert_eq!(out, [0, 0, 2, 0, 5, 1, 2, 2, 0, 2, 7, 7]);
+    assert_eq!(
+        proved::sum(&SQUARE, &TRIANGLE, &mut out[..9]),
+        Numbers::refused(8)
+    );
+}
+
+#[test]
+fn one_shape_is_measured() {
+    assert_eq!(proved::length(&RIGHT), Numbers::all([25, 1, 2, 0, 0]));
+    assert_eq!(proved::width(&RIGHT), Numbers::all([1, 0, 12, 25, 2]));
+    assert_eq!(proved::width(&[0, 0]), Numbers::refused(10));
+}
+
+#[test]
+fn two_shapes_are_compared() {
+    assert_eq!(proved::relation(&SQUARE, &[2, 1]), Numbers::one(1));
+    assert_eq!(proved::inside(&TRIANGLE, &SQUARE), Numbers::one(1));
+    assert_eq!(proved::inside(&SQUARE, &[1]), Numbers::blamed(1, 2));
+    let squared = Signed {
+        refusal: 0,
+        shape: 0,
+        values: [0, 0],
+        value: 2,
+    };
+    assert_eq!(proved::clearance(&SQUARE, &[3, 1]), squared);
+    let lines = Lines {
+        refusal: 0,
+        shape: 0,
+        positions: [1, 0, 2, 3, 1, 3, 2, 0],
+    };
+    assert_eq!(proved::tangents(&SQUARE, &[5, 0, 7, 0, 7, 2, 5, 2]), lines);
+    let touching = Lines {
+        refusal: 9,
+        shape: 0,
+        positions: [0; 8],
+    };
+    assert_eq!(proved::tangents(&SQUARE, &SQUARE), touching);
+}

@@ -1,0 +1,22 @@
+-- `arrived` meets its contract: sums of small parts fit.
+use mathlib.Core.Path.{refl, ap₂}
+use borrow.Author.Needs.{needs}
+use Rattle.plane.specs.Point.{point}
+use Rattle.integer.specs.Machine.{machine, bounded, machine-fits, machine-is}
+use Rattle.calipers.proofs.side.arrived.Statement.{statement}
+use Rattle.calipers.proofs.side.arrived.Tie as tie
+
+add-t2 : tie.Need-add-t2
+add-t2 c = search needs
+
+add-t3 : tie.Need-add-t3
+add-t3 c = machine-fits (search (machine, bounded) depth 40) tt
+
+add-t4 : tie.Need-add-t4
+add-t4 c = machine-fits (search (machine, bounded) depth 40) tt
+
+returns : tie.Need-returns
+returns c = (refl, refl, ap₂ point (machine-is (search (machine, bounded) depth 40) tt) (machine-is (search (machine, bounded) depth 40) tt), refl)
+
+pub arrived-spec : {M : Type 1} → statement M
+arrived-spec = tie.close (tie.spec add-t2 add-t3 add-t4 returns)

@@ -1,0 +1,52 @@
+-- `cocklesway_furthest` meets its contract: the reply of `furthest`, crossed.
+use mathlib.Core.Path.{_≡_, sym, _∙_, ap, ap₂}
+use mathlib.Core.List.{[], _∷_}
+use lib.IntN.{ℤ, pos}
+use mir.Facts.{toZ-ofZ}
+use Rattle.plane.specs.Point.{Point, point}
+use Rattle.plane.specs.Reply.{Reply}
+use Rattle.plane.specs.Furthest.{furthestReply}
+use Rattle.questions.specs.Answer.{ofFurthest}
+use Rattle.exports.specs.Crossing.{crossedBehind}
+use Rattle.exports.proofs.Refused.{refusal-behind}
+use Rattle.exports.proofs.Small.{furthest-kept}
+use borrow.Author.Needs.{needs}
+use Rattle.exports.proofs.cocklesway_furthest.Statement.{statement}
+use Rattle.exports.proofs.cocklesway_furthest.Tie as tie
+
+-- the reply, in the direction itself and not in what is read back from its bits
+reply-is : (c : tie.After-furthest)
+    → ofFurthest (c .furthest .result) ≡ furthestReply (c .before .args .list .now) (point (c .before .args .u) (c .before .args .v))
+reply-is c =
+    let direction = ap₂ point (toZ-ofZ (c .before .fits .u)) (toZ-ofZ (c .before .fits .v)) in
+    c .furthest .ensures ∙ ap (λ (d : Point). furthestReply (c .before .args .list .now) d) direction
+
+furthest-requires : tie.Need-furthest-requires
+furthest-requires c κs = search needs
+
+enum-known-position : tie.Need-enum-known-position
+enum-known-position c = search needs
+
+enum-known-refusal : tie.Need-enum-known-refusal
+enum-known-refusal c = search needs
+
+signed-refusal-requires : tie.Need-signed-refusal-requires
+signed-refusal-requires c κs = search needs
+
+returns : tie.Need-returns
+returns c =
+    let at = c .before .position .given in
+    let p = at .0 .0 in
+    let h = ap ofFurthest (sym (at .1)) ∙ reply-is (c .before .before .before) in
+    ap (λ (z : ℤ). pos 0 ∷ pos 0 ∷ pos p ∷ pos 0 ∷ z ∷ []) (furthest-kept _ _ p _ h) ∙ ap (λ (x : Reply). crossedBehind 1 x) h
+
+returns-2 : tie.Need-returns-2
+returns-2 c =
+    let at = c .before .before .refusal .given in
+    c .signed-refusal .ensures ∙ sym (refusal-behind 1 (at .0 .0))
+    ∙ ap (λ (x : Reply). crossedBehind 1 x) (ap ofFurthest (sym (at .1)) ∙ reply-is (c .before .before .before .before))
+
+pub cocklesway-furthest-spec : {M : Type 1} → statement M
+cocklesway-furthest-spec =
+    tie.close
+    (tie.spec furthest-requires enum-known-position enum-known-refusal signed-refusal-requires returns returns-2)

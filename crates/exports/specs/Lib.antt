@@ -1,0 +1,3 @@
+-- How replies cross to a host that knows numbers only.
+pub mod Crossing
+pub mod Numbers

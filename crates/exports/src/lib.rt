@@ -1,0 +1,128 @@
+// The questions for a host in Rust or C. A list is lent as a pointer and a length, and an answer comes back as a struct
+// of numbers: what `crossed` makes of the reply that the question's own contract states, refusals too.
+mod reply;
+
+ghost use mathlib.Core.Path.{_≡_};
+ghost use Rattle.plane.specs.Point.{point};
+ghost use Rattle.plane.specs.Judge.{judged};
+ghost use Rattle.plane.specs.Furthest.{furthestReply};
+ghost use Rattle.plane.specs.Combine.{mirrorWritten, sumWritten, mergeWritten};
+ghost use Rattle.plane.specs.Measure.{lengthReply, widthReply};
+ghost use Rattle.plane.specs.Separation.{relationReply, insideReply, clearanceReply};
+ghost use Rattle.plane.specs.Tangent.{tangentsReply};
+ghost use Rattle.exports.specs.Crossing.{crossed, crossedBehind};
+ghost use Rattle.exports.specs.Numbers.{numbers, signedNumbers, lineNumbers};
+use questions::answer::Clearance;
+use questions::answer::Furthest;
+use reply::Lines;
+use reply::Numbers;
+use reply::Signed;
+
+// How many corners the list has.
+#[no_mangle]
+pub extern "C" fn cocklesway_judge(list: &[i32]) -> Numbers
+    ensures { λ r. ⌜ numbers r ≡ crossed 5 (judged (now (list .entry))) ⌝ }
+{
+    reply::of_answer(questions::judge(list))
+}
+
+// The position of the furthest corner in the direction (u, v), and its value.
+#[no_mangle]
+pub extern "C" fn cocklesway_furthest(list: &[i32], u: i32, v: i32) -> Signed
+    ensures { λ r. ⌜ signedNumbers r ≡ crossedBehind 1 (furthestReply (now (list .entry)) (point u v)) ⌝ }
+{
+    match questions::furthest(list, u, v) {
+        Furthest::At { position, value } => Signed {
+            refusal: 0,
+            shape: 0,
+            first: position as u64,
+            second: 0,
+            value,
+        },
+        Furthest::No(refusal) => reply::signed_refusal(refusal),
+    }
+}
+
+// How many corners the mirror image has, which is written to the output.
+#[no_mangle]
+pub extern "C" fn cocklesway_mirror(list: &[i32], out: &mut [i32]) -> Numbers
+    ensures { λ r. ⌜ (numbers r ≡ crossed 5 (mirrorWritten (now (list .entry)) (now (out .entry)) .reply))
+        × (now (out .exit) ≡ mirrorWritten (now (list .entry)) (now (out .entry)) .output) ⌝ }
+{
+    reply::of_answer(questions::mirror(list, out))
+}
+
+// How many corners the sum has, which is written to the output.
+#[no_mangle]
+pub extern "C" fn cocklesway_sum(a: &[i32], b: &[i32], out: &mut [i32]) -> Numbers
+    ensures { λ r. ⌜ (numbers r ≡ crossed 5 (sumWritten (now (a .entry)) (now (b .entry)) (now (out .entry)) .reply))
+        × (now (out .exit) ≡ sumWritten (now (a .entry)) (now (b .entry)) (now (out .entry)) .output) ⌝ }
+{
+    reply::of_answer(questions::sum(a, b, out))
+}
+
+// How many corners the merge has, which is written to the output.
+#[no_mangle]
+pub extern "C" fn cocklesway_merge(a: &[i32], b: &[i32], out: &mut [i32]) -> Numbers
+    ensures { λ r. ⌜ (numbers r ≡ crossed 5 (mergeWritten (now (a .entry)) (now (b .entry)) (now (out .entry)) .reply))
+        × (now (out .exit) ≡ mergeWritten (now (a .entry)) (now (b .entry)) (now (out .entry)) .output) ⌝ }
+{
+    reply::of_answer(questions::merge(a, b, out))
+}
+
+// The greatest squared distance of two corners, and their positions.
+#[no_mangle]
+pub extern "C" fn cocklesway_length(list: &[i32]) -> Numbers
+    ensures { λ r. ⌜ numbers r ≡ crossed 5 (lengthReply (now (list .entry))) ⌝ }
+{
+    reply::of_length(questions::length(list))
+}
+
+// Edge, corner, turn, squared edge length and width rounded down.
+#[no_mangle]
+pub extern "C" fn cocklesway_width(list: &[i32]) -> Numbers
+    ensures { λ r. ⌜ numbers r ≡ crossed 5 (widthReply (now (list .entry))) ⌝ }
+{
+    reply::of_width(questions::width(list))
+}
+
+// 0 apart, 1 touching, 2 overlapping.
+#[no_mangle]
+pub extern "C" fn cocklesway_relation(a: &[i32], b: &[i32]) -> Numbers
+    ensures { λ r. ⌜ numbers r ≡ crossed 5 (relationReply (now (a .entry)) (now (b .entry))) ⌝ }
+{
+    reply::of_relation(questions::relation(a, b))
+}
+
+// 1 if the first shape is inside the second, else 0.
+#[no_mangle]
+pub extern "C" fn cocklesway_inside(a: &[i32], b: &[i32]) -> Numbers
+    ensures { λ r. ⌜ numbers r ≡ crossed 5 (insideReply (now (a .entry)) (now (b .entry))) ⌝ }
+{
+    reply::of_inside(questions::inside(a, b))
+}
+
+// The squared clearance.
+#[no_mangle]
+pub extern "C" fn cocklesway_clearance(a: &[i32], b: &[i32]) -> Signed
+    ensures { λ r. ⌜ signedNumbers r ≡ crossedBehind 0 (clearanceReply (now (a .entry)) (now (b .entry))) ⌝ }
+{
+    match questions::clearance(a, b) {
+        Clearance::Squared(squared) => Signed {
+            refusal: 0,
+            shape: 0,
+            first: 0,
+            second: 0,
+            value: squared,
+        },
+        Clearance::No(refusal) => reply::signed_refusal(refusal),
+    }
+}
+
+// The four lines that just touch both shapes.
+#[no_mangle]
+pub extern "C" fn cocklesway_tangents(a: &[i32], b: &[i32]) -> Lines
+    ensures { λ r. ⌜ lineNumbers r ≡ crossed 8 (tangentsReply (now (a .entry)) (now (b .entry))) ⌝ }
+{
+    reply::of_tangents(questions::tangents(a, b))
+}

@@ -1,0 +1,241 @@
+// Inner functions: answers taken apart into structs of numbers, since an enum does not cross to a host.
+ghost use mathlib.Core.Path.{_≡_};
+ghost use mathlib.Core.List.{[], _∷_, _++_};
+ghost use lib.IntN.{pos};
+ghost use lib.ListN.{take};
+ghost use Rattle.questions.specs.Answer.{ofRefusal, ofAnswer, ofLength, ofWidth};
+ghost use Rattle.questions.specs.Answer.{ofRelation, ofInside, ofTangents};
+ghost use Rattle.exports.specs.Crossing.{crossed};
+ghost use Rattle.exports.specs.Numbers.{numbers, signedNumbers, lineNumbers};
+use questions::answer::Answer;
+use questions::answer::Inside;
+use questions::answer::Length;
+use questions::answer::Refusal;
+use questions::answer::Relation;
+use questions::answer::Tangents;
+use questions::answer::Width;
+
+// A refusal: its number, the shape that 1 to 5 blame, and of 4 the edge and the corner as the first and the second
+// value. An answer: 0, 0, and its values in the order of document 01. What is not needed is 0.
+#[repr(C)]
+pub struct Numbers {
+    pub refusal: u64,
+    pub shape: u64,
+    pub first: u64,
+    pub second: u64,
+    pub third: u64,
+    pub fourth: u64,
+    pub fifth: u64,
+}
+
+// As `Numbers`, for an answer whose last value may be below 0: that one stands behind the others.
+#[repr(C)]
+pub struct Signed {
+    pub refusal: u64,
+    pub shape: u64,
+    pub first: u64,
+    pub second: u64,
+    pub value: i64,
+}
+
+// A line from a corner of the first shape to a corner of the second, by their positions.
+#[repr(C)]
+pub struct Line {
+    pub from: u64,
+    pub to: u64,
+}
+
+// As `Numbers`, for an answer of four lines; of refusal 4 the first line holds the edge and the corner.
+#[repr(C)]
+pub struct Lines {
+    pub refusal: u64,
+    pub shape: u64,
+    pub left: Line,
+    pub right: Line,
+    pub crossing: Line,
+    pub reverse: Line,
+}
+
+// At most two values.
+fn pair(refusal: u64, shape: u64, first: u64, second: u64) -> Numbers
+    ensures { λ r. ⌜ numbers r ≡ pos refusal ∷ pos shape ∷ pos first ∷ pos second ∷ pos 0 ∷ pos 0 ∷ pos 0 ∷ [] ⌝ }
+{
+    Numbers {
+        refusal,
+        shape,
+        first,
+        second,
+        third: 0,
+        fourth: 0,
+        fifth: 0,
+    }
+}
+
+// The row of the table, what it carries, and 0 for the rest.
+// Ruled out: corner given for the edge.
+pub fn refused(refusal: Refusal) -> Numbers
+    ensures { λ r. ⌜ numbers r ≡ crossed 5 (ofRefusal refusal) ⌝ }
+{
+    match refusal {
+        Refusal::Count { shape } => pair(1, shape as u64, 0, 0),
+        Refusal::Corners { shape } => pair(2, shape as u64, 0, 0),
+        Refusal::Range { shape } => pair(3, shape as u64, 0, 0),
+        Refusal::Side {
+            shape,
+            edge,
+            corner,
+        } => pair(4, shape as u64, edge as u64, corner as u64),
+        Refusal::Start { shape } => pair(5, shape as u64, 0, 0),
+        Refusal::LargeAnswer => pair(6, 0, 0, 0),
+        Refusal::FarAnswer => pair(7, 0, 0, 0),
+        Refusal::Room => pair(8, 0, 0, 0),
+        Refusal::NotApart => pair(9, 0, 0, 0),
+        Refusal::Flat => pair(10, 0, 0, 0),
+        Refusal::Direction => pair(11, 0, 0, 0),
+    }
+}
+
+// A shape that was judged or written: how many corners it has.
+pub fn of_answer(answer: Answer) -> Numbers
+    ensures { λ r. ⌜ numbers r ≡ crossed 5 (ofAnswer answer) ⌝ }
+{
+    match answer {
+        Answer::Corners(corners) => pair(0, 0, corners as u64, 0),
+        Answer::No(refusal) => refused(refusal),
+    }
+}
+
+// The greatest squared distance, and two positions.
+pub fn of_length(answer: Length) -> Numbers
+    ensures { λ r. ⌜ numbers r ≡ crossed 5 (ofLength answer) ⌝ }
+{
+    match answer {
+        Length::Between { squared, from, to } => Numbers {
+            refusal: 0,
+            shape: 0,
+            first: squared,
+            second: from as u64,
+            third: to as u64,
+            fourth: 0,
+            fifth: 0,
+        },
+        Length::No(refusal) => refused(refusal),
+    }
+}
+
+// Edge, corner, turn, squared edge and rounded width.
+pub fn of_width(answer: Width) -> Numbers
+    ensures { λ r. ⌜ numbers r ≡ crossed 5 (ofWidth answer) ⌝ }
+{
+    match answer {
+        Width::Across {
+            edge,
+            corner,
+            turn,
+            squared,
+            rounded,
+        } => Numbers {
+            refusal: 0,
+            shape: 0,
+            first: edge as u64,
+            second: corner as u64,
+            third: turn,
+            fourth: squared,
+            fifth: rounded,
+        },
+        Width::No(refusal) => refused(refusal),
+    }
+}
+
+// 0 apart, 1 touching, 2 overlapping.
+// Ruled out: touching told as overlapping.
+pub fn of_relation(answer: Relation) -> Numbers
+    ensures { λ r. ⌜ numbers r ≡ crossed 5 (ofRelation answer) ⌝ }
+{
+    match answer {
+        Relation::Apart => pair(0, 0, 0, 0),
+        Relation::Touching => pair(0, 0, 1, 0),
+        Relation::Overlapping => pair(0, 0, 2, 0),
+        Relation::No(refusal) => refused(refusal),
+    }
+}
+
+// 1 yes, 0 no.
+pub fn of_inside(answer: Inside) -> Numbers
+    ensures { λ r. ⌜ numbers r ≡ crossed 5 (ofInside answer) ⌝ }
+{
+    match answer {
+        Inside::Is(within) => if within {
+            pair(0, 0, 1, 0)
+        } else {
+            pair(0, 0, 0, 0)
+        },
+        Inside::No(refusal) => refused(refusal),
+    }
+}
+
+// A refusal where an answer would have a signed value.
+pub fn signed_refusal(refusal: Refusal) -> Signed
+    ensures { λ r. ⌜ signedNumbers r ≡ take 4 (crossed 5 (ofRefusal refusal)) ++ pos 0 ∷ [] ⌝ }
+{
+    let told = refused(refusal);
+    Signed {
+        refusal: told.refusal,
+        shape: told.shape,
+        first: told.first,
+        second: told.second,
+        value: 0,
+    }
+}
+
+// A refusal where an answer would have four lines.
+fn lines_refusal(refusal: Refusal) -> Lines
+    ensures { λ r. ⌜ lineNumbers r ≡ crossed 8 (ofRefusal refusal) ⌝ }
+{
+    let told = refused(refusal);
+    Lines {
+        refusal: told.refusal,
+        shape: told.shape,
+        left: Line {
+            from: told.first,
+            to: told.second,
+        },
+        right: Line { from: 0, to: 0 },
+        crossing: Line { from: 0, to: 0 },
+        reverse: Line { from: 0, to: 0 },
+    }
+}
+
+// The positions of four lines.
+pub fn of_tangents(answer: Tangents) -> Lines
+    ensures { λ r. ⌜ lineNumbers r ≡ crossed 8 (ofTangents answer) ⌝ }
+{
+    match answer {
+        Tangents::Lines {
+            left,
+            right,
+            crossing,
+            reverse,
+        } => Lines {
+            refusal: 0,
+            shape: 0,
+            left: Line {
+                from: left.from as u64,
+                to: left.to as u64,
+            },
+            right: Line {
+                from: right.from as u64,
+                to: right.to as u64,
+            },
+            crossing: Line {
+                from: crossing.from as u64,
+                to: crossing.to as u64,
+            },
+            reverse: Line {
+                from: reverse.from as u64,
+                to: reverse.to as u64,
+            },
+        },
+        Tangents::No(refusal) => lines_refusal(refusal),
+    }
+}

@@ -1,0 +1,31 @@
+-- `ascent` meets its contract: both tests in turn.
+use mathlib.Core.Path.{sym, _∙_}
+use borrow.Author.Needs.{needs}
+use Rattle.hull.specs.Order.{order}
+use Rattle.hull.proofs.rows.ascent.Statement.{statement}
+use Rattle.hull.proofs.rows.ascent.Tie as tie
+
+precedes-requires : tie.Need-precedes-requires
+precedes-requires c κs = search needs
+
+returns : tie.Need-returns
+unfolding order
+returns c = rw (sym (c .before .precedes .ensures) ∙ c .if1 .taken)
+
+precedes-requires-2 : tie.Need-precedes-requires-2
+precedes-requires-2 c κs = search needs
+
+returns-2 : tie.Need-returns-2
+unfolding order
+returns-2 c =
+    let first = c .before .before in
+    rw (sym (first .before .precedes .ensures) ∙ first .if1 .left, sym (c .before .precedes2 .ensures) ∙ c .if2 .taken)
+
+returns-3 : tie.Need-returns-3
+unfolding order
+returns-3 c =
+    let first = c .before .before in
+    rw (sym (first .before .precedes .ensures) ∙ first .if1 .left, sym (c .before .precedes2 .ensures) ∙ c .if2 .left)
+
+pub ascent-spec : {M : Type 1} → statement M
+ascent-spec = tie.close (tie.spec precedes-requires returns precedes-requires-2 returns-2 returns-3)

@@ -1,0 +1,35 @@
+-- `closed_at` meets its contract: behind the last corner stands the first.
+use mathlib.Core.Path.{_≡_, sym, _∙_, ap}
+use native.Mathlib.Omega.{arith}
+use borrow.Author.Needs.{needs}
+use lib.ListN.{length}
+use Rattle.plane.specs.Point.{points, corner}
+use Rattle.hull.specs.Order.{closed}
+use Rattle.hull.specs.theory.Peak.{closed-within, closed-last}
+use Rattle.hull.proofs.rows.closed_at.Statement.{statement}
+use Rattle.hull.proofs.rows.closed_at.Tie as tie
+
+count-requires : tie.Need-count-requires
+count-requires c κs = search needs
+
+corner-at-requires : tie.Need-corner-at-requires
+corner-at-requires c κs = search needs
+
+corner-at-requires-2 : tie.Need-corner-at-requires-2
+corner-at-requires-2 c κs = search needs
+
+returns : tie.Need-returns
+returns c =
+    let start = c .before .before .before in
+    c .corner-at .ensures
+    ∙ sym (closed-within (points (start .args .list .now)) (start .args .i) (omega (arith, c .before .before .count .ensures)))
+
+returns-2 : tie.Need-returns-2
+returns-2 c =
+    let start = c .before .before .before in
+    let ps = points (start .args .list .now) in
+    let last : start .args .i ≡ length ps = omega (arith, c .before .before .count .ensures, start .pre .0) in
+    c .corner-at2 .ensures ∙ sym (ap (corner (closed ps)) last ∙ closed-last ps)
+
+pub closed-at-spec : {M : Type 1} → statement M
+closed-at-spec = tie.close (tie.spec count-requires corner-at-requires corner-at-requires-2 returns returns-2)
