@@ -1,9 +1,9 @@
 //! The proved questions, as the archive exports them.
-use crate::reply::{Lines, Numbers, Signed};
+use crate::reply::{Lines, Nearest, Numbers, Signed};
 
 /// A lent list crosses as a pointer and a length.
 mod archive {
-    use crate::reply::{Lines, Numbers, Signed};
+    use crate::reply::{Lines, Nearest, Numbers, Signed};
 
     type List = *const i32;
     type Output = *mut i32;
@@ -32,7 +32,7 @@ mod archive {
         pub fn cocklesway_width(list: List, n: usize) -> Numbers;
         pub fn cocklesway_relation(a: List, n: usize, b: List, m: usize) -> Numbers;
         pub fn cocklesway_inside(a: List, n: usize, b: List, m: usize) -> Numbers;
-        pub fn cocklesway_clearance(a: List, n: usize, b: List, m: usize) -> Signed;
+        pub fn cocklesway_clearance(a: List, n: usize, b: List, m: usize) -> Nearest;
         pub fn cocklesway_tangents(a: List, n: usize, b: List, m: usize) -> Lines;
     }
 }
@@ -94,7 +94,7 @@ pub fn inside(a: &[i32], b: &[i32]) -> Numbers {
     unsafe { archive::cocklesway_inside(a.as_ptr(), a.len(), b.as_ptr(), b.len()) }
 }
 
-pub fn clearance(a: &[i32], b: &[i32]) -> Signed {
+pub fn clearance(a: &[i32], b: &[i32]) -> Nearest {
     unsafe { archive::cocklesway_clearance(a.as_ptr(), a.len(), b.as_ptr(), b.len()) }
 }
 

@@ -54,6 +54,15 @@ pub struct Signed {
     pub value: i64,
 }
 
+/// The same for a clearance: its kind, two positions and at most three numbers.
+#[repr(C)]
+#[derive(Clone, Copy, Debug, PartialEq, Eq)]
+pub struct Nearest {
+    pub refusal: u64,
+    pub shape: u64,
+    pub values: [u64; 6],
+}
+
 /// The same for four lines.
 #[repr(C)]
 #[derive(Clone, Copy, Debug, PartialEq, Eq)]

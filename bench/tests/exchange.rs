@@ -1,6 +1,6 @@
 //! The exchange of the README, asked of the archive: what a host is given for each question.
 use bench::proved;
-use bench::reply::{Lines, Numbers, Signed};
+use bench::reply::{Lines, Nearest, Numbers, Signed};
 
 const SQUARE: [i32; 8] = [0, 0, 2, 0, 2, 2, 0, 2];
 const TRIANGLE: [i32; 6] = [0, 0, 1, 0, 0, 1];
@@ -72,13 +72,20 @@ fn two_shapes_are_compared() {
     assert_eq!(proved::relation(&SQUARE, &[2, 1]), Numbers::one(1));
     assert_eq!(proved::inside(&TRIANGLE, &SQUARE), Numbers::one(1));
     assert_eq!(proved::inside(&SQUARE, &[1]), Numbers::blamed(1, 2));
-    let squared = Signed {
+    let nearest = |values| Nearest {
         refusal: 0,
         shape: 0,
-        values: [0, 0],
-        value: 2,
+        values,
     };
-    assert_eq!(proved::clearance(&SQUARE, &[3, 1]), squared);
+    assert_eq!(
+        proved::clearance(&SQUARE, &[3, 1]),
+        nearest([3, 0, 1, 2, 4, 1])
+    );
+    assert_eq!(
+        proved::clearance(&SQUARE, &[5, 6]),
+        nearest([1, 2, 0, 25, 5, 0])
+    );
+    assert_eq!(proved::clearance(&SQUARE, &[2, 1]), nearest([0; 6]));
     let lines = Lines {
         refusal: 0,
         shape: 0,

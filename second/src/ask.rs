@@ -1,6 +1,7 @@
 //! One function for each question: from what its line gave to the words behind `ok`, or a refusal.
 //! The shapes are judged first, in order; then the question itself may refuse, then the room.
 
+use crate::clearance::{self, Against, Between};
 use crate::combine::{self, held_by};
 use crate::measure;
 use crate::plane::Shape;
@@ -74,7 +75,17 @@ pub fn inside(given: &Given) -> Answer {
 
 pub fn clearance(given: &Given) -> Answer {
     let [a, b] = given.shapes()?;
-    Ok(separation::clearance(&a, &b).to_string())
+    let Some((found, w)) = clearance::clearance(&a, &b) else {
+        return Ok("0".to_string());
+    };
+    let against =
+        |found: Against| format!("{} {} {} {}", found.corner, found.edge, found.t, found.q);
+    let words = match found {
+        Between::Corners { i, j, d } => format!("cc {i} {j} {d}"),
+        Between::CornerEdge(found) => format!("ce {}", against(found)),
+        Between::EdgeCorner(found) => format!("ec {}", against(found)),
+    };
+    Ok(format!("{words} {w}"))
 }
 
 pub fn tangents(given: &Given) -> Answer {

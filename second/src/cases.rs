@@ -117,6 +117,49 @@ const TANGENTS: &[Stated] = &[
     ]),
 ];
 
+#[rustfmt::skip]
+const CLEARANCE: &[Stated] = &[
+    ("W3: the cart's nose and the six-metre wall", &[
+        ("clearance | 0 40 | -3000 0 3000 0", "ok ce 0 0 240000 36000000 40"),
+        ("clearance | -3000 0 3000 0 | 0 40", "ok ec 0 0 240000 36000000 40"),
+    ]),
+    ("W3: parallel edges that overlap in part: the first corner over the other edge", &[
+        ("clearance | 0 -2 4 -2 4 0 0 0 | 1 1 6 1 6 3 1 3", "ok ce 2 0 5 25 1"),
+        ("clearance | 1 1 6 1 6 3 1 3 | 0 -2 4 -2 4 0 0 0", "ok ce 0 2 4 16 1"),
+        ("clearance | 1 0 2 0 | 0 1 3 1", "ok ce 0 0 3 9 1"),
+        ("clearance | 0 1 3 1 | 1 0 2 0", "ok ec 0 0 3 9 1"),
+    ]),
+    ("W3: faces of equal length: two corners go first, by the first shape, then by the second", &[
+        ("clearance | 0 0 2 0 | 0 3 2 3", "ok cc 0 0 9 3"),
+        ("clearance | S | 3 0 5 0 5 2 3 2", "ok cc 1 0 1 1"),
+        ("clearance | 3 0 5 0 5 2 3 2 | S", "ok cc 0 1 1 1"),
+        ("clearance | S | 3 1 5 1 5 2 3 2", "ok cc 2 3 1 1"),
+    ]),
+    ("W3: a foot at an edge's end is a corner; one beyond it does not count", &[
+        ("clearance | 2 3 | 0 0 2 0", "ok cc 0 1 9 3"),
+        ("clearance | 3 3 | 0 0 2 0", "ok cc 0 1 10 3"),
+        ("clearance | S | 5 6", "ok cc 2 0 25 5"),
+    ]),
+    ("W3: a corner against two edges as near, then the smaller edge", &[
+        ("clearance | 1 1 | 0 0 2 0", "ok ce 0 0 2 4 1"),
+        ("clearance | S | 3 1", "ok ec 0 1 2 4 1"),
+        ("clearance | 2 0 0 2 | 0 0", "ok ec 0 0 4 8 1"),
+    ]),
+    ("W3: points, and segments in line", &[
+        ("clearance | 0 0 | 3 4", "ok cc 0 0 25 5"),
+        ("clearance | 0 0 1 0 | 2 0 3 0", "ok cc 1 0 1 1"),
+        ("clearance | 2 0 3 0 | 0 0 1 0", "ok cc 0 1 1 1"),
+        ("clearance | -1000000 -1000000 | 1000000 1000000", "ok cc 0 0 8000000000000 2828427"),
+    ]),
+    ("W3: 0 without positions if not apart; 1 to 5 before it", &[
+        ("clearance | S | 2 1", "ok 0"),
+        ("clearance | S | 1 1", "ok 0"),
+        ("clearance | 0 0 2 0 | 1 0 3 0", "ok 0"),
+        ("clearance | S | 1 0 0 0", "no 5 shape 2"),
+        ("clearance | 0 0 0 | S", "no 1 shape 1"),
+    ]),
+];
+
 pub struct Group {
     pub words: String,
     pub cases: Vec<(String, String)>,
@@ -131,6 +174,7 @@ pub fn groups() -> Vec<Group> {
     groups.push(sum_too_long());
     groups.extend(spelled(LEFT_RULE));
     groups.extend(spelled(TANGENTS));
+    groups.extend(spelled(CLEARANCE));
     groups
 }
 

@@ -12,6 +12,7 @@
 mod answer;
 mod ask;
 mod cases;
+mod clearance;
 mod combine;
 mod compare;
 mod hull;

@@ -48,7 +48,7 @@ pub fn width(shape: &[Point]) -> Result<Width, Refusal> {
             best = next;
         }
     }
-    best.w = rounded_down(best.t, best.q);
+    best.w = rounded_root(best.t * best.t, best.q);
     Ok(best)
 }
 
@@ -72,12 +72,12 @@ fn narrower(a: &Width, b: &Width) -> bool {
     a.t * a.t * b.q < b.t * b.t * a.q
 }
 
-/// The w with w·w·q ≤ t·t < (w+1)·(w+1)·q, between 0 and the range's diagonal.
-fn rounded_down(t: i128, q: i128) -> i128 {
+/// The w with w·w·bottom ≤ top < (w+1)·(w+1)·bottom, between 0 and the range's diagonal.
+pub fn rounded_root(top: i128, bottom: i128) -> i128 {
     let (mut low, mut high) = (0, 3_000_000);
     while high - low > 1 {
         let middle = (low + high) / 2;
-        if middle * middle * q <= t * t {
+        if middle * middle * bottom <= top {
             low = middle;
         } else {
             high = middle;

@@ -26,7 +26,7 @@ pub const TABLE: &[Row] = &[
     Row { word: "width", fields: &[Shape], ask: ask::width, make: make::one_shape },
     Row { word: "relation", fields: &[Shape, Shape], ask: ask::relation, make: make::two_shapes },
     Row { word: "inside", fields: &[Shape, Shape], ask: ask::inside, make: make::two_shapes },
-    Row { word: "clearance", fields: &[Shape, Shape], ask: ask::clearance, make: make::two_shapes },
+    Row { word: "clearance", fields: &[Shape, Shape], ask: ask::clearance, make: make::clearance },
     Row { word: "tangents", fields: &[Shape, Shape], ask: ask::tangents, make: make::tangents },
 ];
 

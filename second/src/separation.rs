@@ -1,4 +1,4 @@
-//! Relation, inside and clearance of two shapes (document 01).
+//! Relation and inside of two shapes (document 01).
 //!
 //! Relation asks of "some whole-number direction", and finitely many directions settle it. Let
 //! gap(d) be the least value of the second less the greatest value of the first: "apart" is a gap
@@ -10,7 +10,7 @@
 //! d = α·m + β·n with α, β ≥ 0 has gap(d) = α·gap(m) + β·gap(n). If gap(d) is above 0, so is the
 //! gap of m or n; if d is not (0,0) and gap(d) is at least 0, so is the gap of m or n.
 
-use crate::plane::{Point, dot, edge_ends, point, squared_distance, turn, value};
+use crate::plane::{Point, dot, edge_ends, point, turn, value};
 
 #[derive(Clone, Copy, Debug, PartialEq, Eq)]
 pub enum Relation {
@@ -37,16 +37,6 @@ pub fn relation(a: &[Point], b: &[Point]) -> Relation {
 /// lies, or the difference to the point that c is not.
 pub fn inside(a: &[Point], b: &[Point]) -> bool {
     a.iter().all(|&c| holds(b, c))
-}
-
-/// 0 if not apart, else the least squared distance of a corner of one and a corner of the other.
-pub fn clearance(a: &[Point], b: &[Point]) -> i128 {
-    if relation(a, b) != Relation::Apart {
-        return 0;
-    }
-    let pairs = a.iter().flat_map(|&p| b.iter().map(move |&q| (p, q)));
-    let distances = pairs.map(|(p, q)| squared_distance(p, q));
-    distances.min().unwrap_or(0)
 }
 
 /// Whether the shape, border included, holds the point.

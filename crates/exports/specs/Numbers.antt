@@ -4,6 +4,7 @@ use lib.IntN.{ℤ, pos}
 use Rattle.exports.specs.declared.reply.Numbers.{Numbers}
 use Rattle.exports.specs.declared.reply.Signed.{Signed}
 use Rattle.exports.specs.declared.reply.Lines.{Lines}
+use Rattle.exports.specs.declared.reply.Nearest.{Nearest}
 
 abbrev pub numbers : Numbers → List ℤ
 numbers r =
@@ -16,3 +17,7 @@ abbrev pub lineNumbers : Lines → List ℤ
 lineNumbers r =
     pos (r .refusal) ∷ pos (r .shape) ∷ pos (r .left .from) ∷ pos (r .left .to) ∷ pos (r .right .from) ∷ pos (r .right .to)
     ∷ pos (r .crossing .from) ∷ pos (r .crossing .to) ∷ pos (r .reverse .from) ∷ pos (r .reverse .to) ∷ []
+
+abbrev pub nearestNumbers : Nearest → List ℤ
+nearestNumbers r =
+    pos (r .refusal) ∷ pos (r .shape) ∷ pos (r .kind) ∷ pos (r .one) ∷ pos (r .other) ∷ pos (r .first) ∷ pos (r .second) ∷ pos (r .third) ∷ []

@@ -8,13 +8,14 @@ ghost use Rattle.plane.specs.Judge.{judged};
 ghost use Rattle.plane.specs.Furthest.{furthestReply};
 ghost use Rattle.plane.specs.Combine.{mirrorWritten, sumWritten, mergeWritten};
 ghost use Rattle.plane.specs.Measure.{lengthReply, widthReply};
-ghost use Rattle.plane.specs.Separation.{relationReply, insideReply, clearanceReply};
+ghost use Rattle.plane.specs.Separation.{relationReply, insideReply};
+ghost use Rattle.plane.specs.Clearance.{clearanceReply};
 ghost use Rattle.plane.specs.Tangent.{tangentsReply};
 ghost use Rattle.exports.specs.Crossing.{crossed, crossedBehind};
-ghost use Rattle.exports.specs.Numbers.{numbers, signedNumbers, lineNumbers};
-use questions::answer::Clearance;
+ghost use Rattle.exports.specs.Numbers.{numbers, signedNumbers, lineNumbers, nearestNumbers};
 use questions::answer::Furthest;
 use reply::Lines;
+use reply::Nearest;
 use reply::Numbers;
 use reply::Signed;
 
@@ -102,21 +103,12 @@ pub extern "C" fn cocklesway_inside(a: &[i32], b: &[i32]) -> Numbers
     reply::of_inside(questions::inside(a, b))
 }
 
-// The squared clearance.
+// Where two shapes are nearest, and how near.
 #[no_mangle]
-pub extern "C" fn cocklesway_clearance(a: &[i32], b: &[i32]) -> Signed
-    ensures { λ r. ⌜ signedNumbers r ≡ crossedBehind 0 (clearanceReply (now (a .entry)) (now (b .entry))) ⌝ }
+pub extern "C" fn cocklesway_clearance(a: &[i32], b: &[i32]) -> Nearest
+    ensures { λ r. ⌜ nearestNumbers r ≡ crossed 6 (clearanceReply (now (a .entry)) (now (b .entry))) ⌝ }
 {
-    match questions::clearance(a, b) {
-        Clearance::Squared(squared) => Signed {
-            refusal: 0,
-            shape: 0,
-            first: 0,
-            second: 0,
-            value: squared,
-        },
-        Clearance::No(refusal) => reply::signed_refusal(refusal),
-    }
+    reply::of_clearance(questions::clearance(a, b))
 }
 
 // The four lines that just touch both shapes.

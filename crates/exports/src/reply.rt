@@ -4,10 +4,11 @@ ghost use mathlib.Core.List.{[], _∷_, _++_};
 ghost use lib.IntN.{pos};
 ghost use lib.ListN.{take};
 ghost use Rattle.questions.specs.Answer.{ofRefusal, ofAnswer, ofLength, ofWidth};
-ghost use Rattle.questions.specs.Answer.{ofRelation, ofInside, ofTangents};
+ghost use Rattle.questions.specs.Answer.{ofRelation, ofInside, ofTangents, ofClearance};
 ghost use Rattle.exports.specs.Crossing.{crossed};
-ghost use Rattle.exports.specs.Numbers.{numbers, signedNumbers, lineNumbers};
+ghost use Rattle.exports.specs.Numbers.{numbers, signedNumbers, lineNumbers, nearestNumbers};
 use questions::answer::Answer;
+use questions::answer::Clearance;
 use questions::answer::Inside;
 use questions::answer::Length;
 use questions::answer::Refusal;
@@ -54,6 +55,21 @@ pub struct Lines {
     pub right: Line,
     pub crossing: Line,
     pub reverse: Line,
+}
+
+// As `Numbers`, for a clearance: 0 if not apart, 1 for two corners, 2 for a corner of the first shape and an edge of the
+// second, 3 for the reverse; the two positions; then of two corners their squared distance and the distance rounded
+// down, else the turn, the squared edge and the distance rounded down. Of refusal 4 the edge stands as the kind.
+#[repr(C)]
+pub struct Nearest {
+    pub refusal: u64,
+    pub shape: u64,
+    pub kind: u64,
+    pub one: u64,
+    pub other: u64,
+    pub first: u64,
+    pub second: u64,
+    pub third: u64,
 }
 
 // At most two values.
@@ -237,5 +253,69 @@ pub fn of_tangents(answer: Tangents) -> Lines
             },
         },
         Tangents::No(refusal) => lines_refusal(refusal),
+    }
+}
+
+// A refusal where an answer would be a clearance.
+fn nearest_refusal(refusal: Refusal) -> Nearest
+    ensures { λ r. ⌜ nearestNumbers r ≡ crossed 6 (ofRefusal refusal) ⌝ }
+{
+    let told = refused(refusal);
+    Nearest {
+        refusal: told.refusal,
+        shape: told.shape,
+        kind: told.first,
+        one: told.second,
+        other: 0,
+        first: 0,
+        second: 0,
+        third: 0,
+    }
+}
+
+// An answered clearance: its kind, two positions, and at most three numbers.
+fn found(kind: u64, one: usize, other: usize, first: u64, second: u64, third: u64) -> Nearest
+    ensures { λ r. ⌜ nearestNumbers r
+        ≡ pos 0 ∷ pos 0 ∷ pos kind ∷ pos one ∷ pos other ∷ pos first ∷ pos second ∷ pos third ∷ [] ⌝ }
+{
+    Nearest {
+        refusal: 0,
+        shape: 0,
+        kind,
+        one: one as u64,
+        other: other as u64,
+        first,
+        second,
+        third,
+    }
+}
+
+// Where two shapes are nearest.
+pub fn of_clearance(answer: Clearance) -> Nearest
+    ensures { λ r. ⌜ nearestNumbers r ≡ crossed 6 (ofClearance answer) ⌝ }
+{
+    match answer {
+        Clearance::None => found(0, 0, 0, 0, 0, 0),
+        Clearance::Corners {
+            first,
+            second,
+            squared,
+            rounded,
+        } => found(1, first, second, squared, rounded, 0),
+        Clearance::CornerEdge {
+            corner,
+            edge,
+            turn,
+            squared,
+            rounded,
+        } => found(2, corner, edge, turn, squared, rounded),
+        Clearance::EdgeCorner {
+            corner,
+            edge,
+            turn,
+            squared,
+            rounded,
+        } => found(3, corner, edge, turn, squared, rounded),
+        Clearance::No(refusal) => nearest_refusal(refusal),
     }
 }

@@ -2,7 +2,7 @@
 // the crate `questions`.
 mod half;
 mod longest;
-mod magnitude;
+pub mod magnitude;
 mod narrowest;
 
 ghost use Prim.Native.Nat.{_<_};

@@ -1,5 +1,6 @@
 -- Document 01's starred cases ("Cases to hold against"), as one table over the definitions and one fact about all its rows, by computing.
--- The rows are quoted in 01's order; a row is what the definition gives and what 01 states. The last two are of document 02, request W1.
+-- The rows are quoted in 01's order; a row is what the definition gives and what 01 states. The last six are of document 02, requests W1
+-- and W3.
 use mathlib.Core.Path.{_≡_, refl}
 use mathlib.Core.Bool.{cond}
 use mathlib.Core.List.{List, [], _∷_, _++_, map}
@@ -15,7 +16,7 @@ use Rattle.plane.specs.Reply.{Reply, answered, refused}
 use Rattle.plane.specs.Refusal.{badCount, tooMany, outside, someOutside, equalPair, leftBroken, breakingEdge, breakingCorner}
 use Rattle.plane.specs.Refusal.{ruleBroken, brokenEdge, brokenCorner, badStart}
 use Rattle.plane.specs.Judge.{judged}
-use Rattle.plane.specs.Direction.{max}
+use Rattle.plane.specs.Direction.{max, value}
 use Rattle.plane.specs.Corner.{shapeOf}
 use Rattle.plane.specs.Output.{Written, noRoom, overwritten}
 use Rattle.plane.specs.Combine.{sumWritten, mergeWritten}
@@ -23,6 +24,7 @@ use Rattle.plane.specs.Measure.{squared, lengthSquared, furthestPair, le
 use Rattle.plane.specs.Measure.{edgeSquared, noWider, widthEdge, widthCorner, widthRounded, widthReply}
 use Rattle.plane.specs.Separation.{inside, apart, notLeft, onRim, touching, relationReply}
 use Rattle.plane.specs.Tangent.{onSide, touches, nearer, tangent, tangentFrom, tangentTo, tangentsReply}
+use Rattle.plane.specs.Clearance.{falls, top, bottom, noFurther, nearest, clearanceReply}
 
 -- what the definition gives and what 01 states: each a reply and a whole output
 pub record Case : Type 0 where
@@ -66,6 +68,17 @@ pair x y = pos x ∷ pos y ∷ []
 abbrev segment : ℕ → ℕ → ℕ → ℕ → List ℤ
 segment x y u v = pos x ∷ pos y ∷ pos u ∷ pos v ∷ []
 
+-- -3000 0 3000 0
+abbrev wall : List ℤ
+wall = negsuc 2999 ∷ pos 0 ∷ pos 3000 ∷ pos 0 ∷ []
+
+-- 0 -2 4 -2 4 0 0 0, and above it 1 1 6 1 6 3 1 3
+abbrev under : List ℤ
+under = pos 0 ∷ negsuc 1 ∷ pos 4 ∷ negsuc 1 ∷ pos 4 ∷ pos 0 ∷ pos 0 ∷ pos 0 ∷ []
+
+abbrev over : List ℤ
+over = pos 1 ∷ pos 1 ∷ pos 6 ∷ pos 1 ∷ pos 6 ∷ pos 3 ∷ pos 1 ∷ pos 3 ∷ []
+
 -- 1 where the corner after the edge that leaves e is strictly left of it
 abbrev turnsLeft : List ℤ → ℕ → ℤ
 turnsLeft l e =
@@ -108,6 +121,12 @@ rows =
     ∷ says (tangentsReply S square)
     (answered (pos 1 ∷ pos 0 ∷ pos 2 ∷ pos 3 ∷ pos 1 ∷ pos 3 ∷ pos 2 ∷ pos 0 ∷ []))
     ∷ says (tangentsReply S (pair 2 1)) (refused 9 [])
+    -- the cart's nose before a six-metre wall: 40 mm; S and point 3 3: two corners, 2 apart; S and point 2 1 are not apart
+    ∷ says (clearanceReply (pair 0 40) wall) (answered (pos 2 ∷ pos 0 ∷ pos 0 ∷ pos 240000 ∷ pos 36000000 ∷ pos 40 ∷ []))
+    ∷ says (clearanceReply S (pair 3 3)) (answered (pos 1 ∷ pos 2 ∷ pos 0 ∷ pos 2 ∷ pos 1 ∷ []))
+    ∷ says (clearanceReply S (pair 2 1)) (answered (pos 0 ∷ []))
+    -- four feet on parallel edges: the first corner of the first shape that falls on the second
+    ∷ says (clearanceReply under over) (answered (pos 2 ∷ pos 2 ∷ pos 0 ∷ pos 5 ∷ pos 25 ∷ pos 1 ∷ []))
     ∷ []
 
 pub rows-hold : map (λ (r : Case). r .given) rows ≡ map (λ (r : Case). r .stated) rows
@@ -118,4 +137,5 @@ unfolding rows maxCorners maxCoordinate maxPart turn breaks precedes samePoint m
     edgeTurn height edgeSquared noWider widthEdge widthCorner widthRounded widthReply
     inside apart notLeft onRim touching relationReply
     onSide touches nearer tangent tangentFrom tangentTo tangentsReply
+    value falls top bottom noFurther nearest clearanceReply
 rows-hold = refl

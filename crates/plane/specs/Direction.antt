@@ -1,6 +1,6 @@
 -- Directions (document 01, "Furthest corner"): a direction (u, v) is a point; any whole numbers will do.
 --     value d p        u·x + v·y
---     max a b, min a b     the greater and the lesser of two numbers
+--     max a b          the greater of two numbers
 --     support d ps     the greatest value of d over ps; 0 on []
 --     furthest d ps    the smallest position at which it is had
 use mathlib.Core.Bool.{true, false}
@@ -17,9 +17,6 @@ value d p = d .x *ℤ p .x +ℤ d .y *ℤ p .y
 
 unfoldable pub max : ℤ → ℤ → ℤ
 max a b = elim (leZ a b) [ true ↦ b | false ↦ a ]
-
-unfoldable pub min : ℤ → ℤ → ℤ
-min a b = elim (leZ a b) [ true ↦ a | false ↦ b ]
 
 unfoldable pub support : Point → List Point → ℤ
 support d [] = pos 0

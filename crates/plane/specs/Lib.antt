@@ -18,6 +18,8 @@ pub mod Combine
 pub mod Measure
 pub mod Separation
 pub mod Tangent
+pub mod Mean
+pub mod Clearance
 pub mod Question
 pub mod Cases
 pub mod Meaning

@@ -1,5 +1,5 @@
 -- Length and width (document 01, "What each question asks"), by comparing all pairs of corners and all edges.
---     greatest f n       the greatest of f 0, .., f (n-1), and least f n the least; 0 where n is 0
+--     greatest f n       the greatest of f 0, .., f (n-1); 0 where n is 0
 --     squared p q        the squared distance of two corners
 --     lengthSquared ps   the greatest squared distance between two corners, had at positions lengthFrom ps ≤ lengthTo ps
 --     height ps e        "for each edge, the greatest turn t over the corners", and edgeSquared ps e "the edge's squared length q"
@@ -16,7 +16,7 @@ use Rattle.plane.specs.Point.{Point, points, corner}
 use Rattle.plane.specs.Turn.{turn}
 use Rattle.plane.specs.Search.{some, every, first}
 use Rattle.plane.specs.Shape.{next}
-use Rattle.plane.specs.Direction.{max, min}
+use Rattle.plane.specs.Direction.{max}
 use Rattle.plane.specs.Reply.{Reply, answered, row, firstRow}
 use Rattle.plane.specs.Refusal.{shapeRows}
 
@@ -24,11 +24,6 @@ abbrev pub greatest : (ℕ → ℤ) → ℕ → ℤ
 greatest f zero = pos 0
 greatest f (suc zero) = f 0
 greatest f (suc (suc n)) = max (f 0) (greatest (λ i. f (suc i)) (suc n))
-
-abbrev pub least : (ℕ → ℤ) → ℕ → ℤ
-least f zero = pos 0
-least f (suc zero) = f 0
-least f (suc (suc n)) = min (f 0) (least (λ i. f (suc i)) (suc n))
 
 unfoldable pub squared : Point → Point → ℤ
 squared p q = (p .x -ℤ q .x) *ℤ (p .x -ℤ q .x) +ℤ (p .y -ℤ q .y) *ℤ (p .y -ℤ q .y)

@@ -18,8 +18,9 @@ use Rattle.plane.specs.Output.{answerRows}
 use Rattle.plane.specs.Furthest.{badDirection, furthestReply}
 use Rattle.plane.specs.Combine.{mirrorWritten, sumWritten, mergeWritten}
 use Rattle.plane.specs.Measure.{lengthReply, widthReply}
-use Rattle.plane.specs.Separation.{apart, relationReply, insideReply, clearanceReply}
+use Rattle.plane.specs.Separation.{apart, relationReply, insideReply}
 use Rattle.plane.specs.Tangent.{tangentsReply}
+use Rattle.plane.specs.Clearance.{clearanceReply}
 
 -- the shapes, then the direction or the output
 pub data Question : Type 0 where

@@ -1,11 +1,10 @@
--- Relation, inside and clearance (document 01, "What each question asks", last three paragraphs), as tests that compute. That they are the
+-- Relation and inside (document 01, "What each question asks", the two paragraphs of that name), as tests that compute. That they are the
 -- paper's sentences about all whole-number directions is proved (`Meaning.antt` of separation).
 --     inside A B        the shape of both together is that of B: "in every whole-number direction the first's greatest value is at most
 --                       the second's"
 --     differences A B   all points a - b: A and B are apart in a direction exactly if all of these have a value below 0 in it
 --     apart A B         the origin is not inside the differences
 --     touching A B      not apart, and the differences lie on one line, or the origin is on an edge of their shape
---     clearance A B     0 if not apart, else the least squared distance between a corner of one and a corner of the other
 use mathlib.Core.Bool.{Bool, true, false, not, cond, _&&_, _||_}
 use mathlib.Core.List.{List, [], _∷_, _++_}
 use Prim.Native.Nat.{ℕ}
@@ -20,7 +19,6 @@ use Rattle.plane.specs.Shape.{next}
 use Rattle.plane.specs.Reply.{Reply, answered, firstRow}
 use Rattle.plane.specs.Refusal.{shapeRows}
 use Rattle.plane.specs.Corner.{shapeOf, sums, mirrored}
-use Rattle.plane.specs.Measure.{least, squared}
 
 -- two lists of corners are equal
 abbrev pub sameCorners : List Point → List Point → Bool
@@ -59,11 +57,3 @@ relationReply a b =
 -- 1 yes, 0 no
 unfoldable pub insideReply : List ℤ → List ℤ → Reply
 insideReply a b = firstRow (shapeRows 1 a ++ shapeRows 2 b) (answered (cond (inside (points a) (points b)) (pos 1) (pos 0) ∷ []))
-
--- request W3 replaces this rule: it stands here alone
-unfoldable pub clearance : List Point → List Point → ℤ
-clearance A B =
-    cond (apart A B) (least (λ i. least (λ j. squared (corner A i) (corner B j)) (length B)) (length A)) (pos 0)
-
-unfoldable pub clearanceReply : List ℤ → List ℤ → Reply
-clearanceReply a b = firstRow (shapeRows 1 a ++ shapeRows 2 b) (answered (clearance (points a) (points b) ∷ []))

@@ -16,7 +16,6 @@ use questions::answer::Tangents;
 use questions::answer::Width;
 use text::answers;
 use text::fields;
-use text::numbers;
 
 // Asks the question of its fields, of which so many are given.
 pub fn ask(
@@ -148,10 +147,48 @@ fn inside(out: &mut [u8], filled: usize, a: &[i32], b: &[i32]) -> usize {
     }
 }
 
-// The squared clearance of two shapes.
+// Where two shapes are nearest and how near: `cc` for two corners, `ce` for a corner of the first and an edge of the
+// second, `ec` for the reverse; 0 if they are not apart.
 fn clearance(out: &mut [u8], filled: usize, a: &[i32], b: &[i32]) -> usize {
     match questions::clearance(a, b) {
-        Clearance::Squared(squared) => answers::ok(out, filled, &[numbers::size(squared)]),
+        Clearance::None => answers::ok(out, filled, &[0]),
+        Clearance::Corners {
+            first,
+            second,
+            squared,
+            rounded,
+        } => {
+            let now = answers::word(out, filled, b"ok cc");
+            answers::counts(out, now, &[first as u64, second as u64, squared, rounded])
+        }
+        Clearance::CornerEdge {
+            corner,
+            edge,
+            turn,
+            squared,
+            rounded,
+        } => {
+            let now = answers::word(out, filled, b"ok ce");
+            answers::counts(
+                out,
+                now,
+                &[corner as u64, edge as u64, turn, squared, rounded],
+            )
+        }
+        Clearance::EdgeCorner {
+            corner,
+            edge,
+            turn,
+            squared,
+            rounded,
+        } => {
+            let now = answers::word(out, filled, b"ok ec");
+            answers::counts(
+                out,
+                now,
+                &[corner as u64, edge as u64, turn, squared, rounded],
+            )
+        }
         Clearance::No(refusal) => replies::refuse(out, filled, refusal),
     }
 }

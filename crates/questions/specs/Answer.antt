@@ -67,8 +67,12 @@ abbrev pub ofInside : Inside → Reply
 ofInside (Inside.Is within) = answered (cond within (pos 1) (pos 0) ∷ [])
 ofInside (Inside.No r) = ofRefusal r
 
+-- 0 not apart, 1 two corners, 2 a corner of the first and an edge of the second, 3 a corner of the second and an edge of the first
 abbrev pub ofClearance : Clearance → Reply
-ofClearance (Clearance.Squared n) = answered (n ∷ [])
+ofClearance Clearance.None = answered (pos 0 ∷ [])
+ofClearance (Clearance.Corners i j d w) = answered (pos 1 ∷ pos i ∷ pos j ∷ pos d ∷ pos w ∷ [])
+ofClearance (Clearance.CornerEdge c e t q w) = answered (pos 2 ∷ pos c ∷ pos e ∷ pos t ∷ pos q ∷ pos w ∷ [])
+ofClearance (Clearance.EdgeCorner c e t q w) = answered (pos 3 ∷ pos c ∷ pos e ∷ pos t ∷ pos q ∷ pos w ∷ [])
 ofClearance (Clearance.No r) = ofRefusal r
 
 -- of each line the position in the first shape, then in the second

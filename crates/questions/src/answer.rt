@@ -87,9 +87,31 @@ pub enum Inside {
     No(Refusal),
 }
 
-// The squared clearance.
+// Nothing if the shapes are not apart. Else where they are nearest: at two corners, with their squared distance; or at a
+// corner of the first and inside an edge of the second, or the reverse, with the size of the corner's turn against the
+// edge and the edge's squared length. Last the distance rounded down.
 pub enum Clearance {
-    Squared(i64),
+    None,
+    Corners {
+        first: usize,
+        second: usize,
+        squared: u64,
+        rounded: u64,
+    },
+    CornerEdge {
+        corner: usize,
+        edge: usize,
+        turn: u64,
+        squared: u64,
+        rounded: u64,
+    },
+    EdgeCorner {
+        corner: usize,
+        edge: usize,
+        turn: u64,
+        squared: u64,
+        rounded: u64,
+    },
     No(Refusal),
 }
 

@@ -15,9 +15,11 @@ ghost use Rattle.plane.specs.Judge.{judged};
 ghost use Rattle.plane.specs.Furthest.{furthestReply};
 ghost use Rattle.plane.specs.Combine.{mirrorWritten, sumWritten, mergeWritten};
 ghost use Rattle.plane.specs.Measure.{lengthReply, widthReply};
-ghost use Rattle.plane.specs.Separation.{apart, relationReply, insideReply, clearanceReply};
+ghost use Rattle.plane.specs.Separation.{apart, relationReply, insideReply};
+ghost use Rattle.plane.specs.Clearance.{clearanceReply};
 ghost use Rattle.plane.specs.Tangent.{tangentFrom, tangentTo, tangentsReply};
 ghost use Rattle.questions.specs.Answer.{ofAnswer, ofFurthest, ofLength, ofWidth};
+ghost use Rattle.clearance.specs.Answer.{valuesOf};
 ghost use Rattle.questions.specs.Answer.{ofRelation, ofInside, ofClearance, ofTangents};
 use admission::Admission;
 use answer::Answer;
@@ -30,12 +32,12 @@ use answer::Refusal;
 use answer::Relation;
 use answer::Tangents;
 use answer::Width;
+use clearance::measured::Distance;
 use polygon::corners;
 use polygon::direction;
 use polygon::limits;
 pub use polygon::limits::SHAPE_NUMBERS;
 use polygon::opposite;
-use separation::nearest;
 use separation::place::Place;
 
 // Whether the list is a shape, and how many corners it has. A point and a segment are shapes. Refused: an empty or odd
@@ -204,10 +206,12 @@ pub fn inside(a: &[i32], b: &[i32]) -> Inside
     Inside::Is(separation::inside(a, b))
 }
 
-// The clearance squared: 0 if the shapes are not apart, else the least squared distance between a corner of one and a
-// corner of the other. Two points have their own squared distance. Refused: 1 to 5 of the first shape, then of the
-// second.
-// Ruled out: nearest corner missed; clearance where shapes touch.
+// Where two shapes are nearest, and how near: the least distance between any point of one and any point of the other.
+// Nothing if they are not apart. Either two corners, or a corner and an edge that it is over, strictly between its ends.
+// On a tie two corners go first, then a corner of the first shape, then one of the second; each by the smallest
+// positions. Two points have their own distance. Refused: 1 to 5 of the first shape, then of the second.
+// Ruled out: clearance where shapes touch; foot at the end counted as inside; ties the other way; only one edge of a
+// parallel pair tried; rounded up.
 pub fn clearance(a: &[i32], b: &[i32]) -> Clearance
     ensures { λ r. ⌜ ofClearance r ≡ clearanceReply (now (a .entry)) (now (b .entry)) ⌝ }
 {
@@ -215,9 +219,54 @@ pub fn clearance(a: &[i32], b: &[i32]) -> Clearance
         return Clearance::No(refusal);
     }
     let Place::Apart = separation::relation(a, b) else {
-        return Clearance::Squared(0);
+        return Clearance::None;
     };
-    Clearance::Squared(nearest::nearest(a, b))
+    measured(clearance::nearest(a, b))
+}
+
+// How near two shapes are, as an answer.
+fn measured(found: Distance) -> Clearance
+    ensures { λ r. ⌜ ofClearance r ≡ answered (valuesOf found) ⌝ }
+{
+    match found {
+        Distance::Corners {
+            first,
+            second,
+            squared,
+            rounded,
+        } => Clearance::Corners {
+            first,
+            second,
+            squared,
+            rounded,
+        },
+        Distance::OnSecond {
+            corner,
+            edge,
+            turn,
+            squared,
+            rounded,
+        } => Clearance::CornerEdge {
+            corner,
+            edge,
+            turn,
+            squared,
+            rounded,
+        },
+        Distance::OnFirst {
+            corner,
+            edge,
+            turn,
+            squared,
+            rounded,
+        } => Clearance::EdgeCorner {
+            corner,
+            edge,
+            turn,
+            squared,
+            rounded,
+        },
+    }
 }
 
 // The four lines that just touch both of two shapes that are apart, each from a corner of the first to a corner of the

@@ -1,7 +1,6 @@
--- What relation, inside and clearance mean, in document 01's words. Each theorem is proved in the theory; here it is only cited.
+-- What relation and inside mean, in document 01's words. Each theorem is proved in the theory; here it is only cited.
 --     inside         by the greatest values in all directions; an order of shapes; by the merge; against a point, a segment, a polygon
 --     relation       apart, touching and overlapping, by directions; either shape may be the first
---     clearance      the least squared distance of corners, and 0 exactly if not apart
 -- Lists of corners have a corner: 0 < length.
 use mathlib.Core.Path.{_≡_}
 use mathlib.Core.Bool.{true, false}
@@ -15,8 +14,7 @@ use Rattle.plane.specs.Turn.{turn}
 use Rattle.plane.specs.Shape.{next, IsShape}
 use Rattle.plane.specs.Direction.{value, support}
 use Rattle.plane.specs.Corner.{shapeOf}
-use Rattle.plane.specs.Measure.{squared}
-use Rattle.plane.specs.Separation.{sameCorners, inside, apart, touching, clearance}
+use Rattle.plane.specs.Separation.{sameCorners, inside, apart, touching}
 use Rattle.plane.specs.theory.lists.Members.{_∈_}
 use Rattle.separation.specs.theory.Inside.{sameCorners→equal, equal→sameCorners, inside→reach, reach→inside, outside→direction}
 use Rattle.separation.specs.theory.Inside.{inside-refl, inside-trans, inside-antisym, inside→merge, merge→inside}
@@ -25,7 +23,6 @@ use Rattle.separation.specs.theory.InsideShape.{segment-inside→between
 use Rattle.separation.specs.theory.InsideShape.{point-inside→equal, point-equal→inside}
 use Rattle.separation.specs.theory.Apart.{apart→direction, direction→apart, apart-sym, inside→not-apart}
 use Rattle.separation.specs.theory.Rim.{touching→direction, touching→not-apart, direction→touching, touching-sym, overlapping→crossed}
-use Rattle.separation.specs.theory.Clearance.{clearance-nearest, clearance-least, zero-clearance, clearance-zero, clearance-sym}
 
 -- ---- inside
 
@@ -151,27 +148,3 @@ module _ (A B : List Point) (a : 0 < length A) (b : 0 < length B) where
   -- a shape inside another is not apart from it
   pub inside-is-not-apart : inside A B ≡ true → apart A B ≡ false
   inside-is-not-apart h = inside→not-apart A B a b h
-
--- ---- clearance
-
-module _ (A B : List Point) (a : 0 < length A) (b : 0 < length B) where
-  -- "Clearance: 0 if not apart"
-  pub not-apart-has-no-clearance : apart A B ≡ false → clearance A B ≡ pos 0
-  not-apart-has-no-clearance h = zero-clearance A B h
-
-  -- and only then
-  pub no-clearance-is-not-apart : clearance A B ≡ pos 0 → apart A B ≡ false
-  no-clearance-is-not-apart e = clearance-zero A B a b e
-
-  -- "else the least squared distance between a corner of one and a corner of the other": some two corners have it
-  pub clearance-of-two-corners : apart A B ≡ true → (p : Point) × (q : Point) × p ∈ A × q ∈ B × (clearance A B ≡ squared p q)
-  clearance-of-two-corners h =
-      let r = clearance-nearest A B a b h in (r .one, r .other, r .one-in, r .other-in, r .is-clearance)
-
-  -- and none are nearer
-  pub clearance-is-least : apart A B ≡ true → (p q : Point) → p ∈ A → q ∈ B → clearance A B ≤ℤ squared p q
-  clearance-is-least h p q m n = clearance-least A B h p q m n
-
-  -- "a corner of one and a corner of the other": either shape may be the first
-  pub clearance-either-way : clearance A B ≡ clearance B A
-  clearance-either-way = clearance-sym A B a b

@@ -4,8 +4,6 @@ pub mod Apart
 pub mod Sector
 pub mod InsideShape
 pub mod Rim
-pub mod Clearance
 pub mod Around
-pub mod Nearest
 pub mod Image
 pub mod Within

@@ -1,7 +1,6 @@
-// Inner functions for how two shapes stand to each other (document 01, "Relation", "Inside" and "Clearance"). Callers
+// Inner functions for how two shapes stand to each other (document 01, "Relation" and "Inside"). Callers
 // ask the crate `questions`.
 mod around;
-pub mod nearest;
 pub mod place;
 mod within;
 

@@ -25,6 +25,37 @@ pub fn mostly(dice: &mut Dice) -> (Shape, Shape) {
     pairs::in_either_order(dice, a, b)
 }
 
+/// The same, and pairs whose faces stand against each other across a gap.
+pub fn near(dice: &mut Dice) -> (Shape, Shape) {
+    if dice.one_in(2) {
+        return mostly(dice);
+    }
+    let (a, b) = match dice.below(3) {
+        0 => wall_and_nose(dice),
+        1 => side_by_side(dice),
+        _ => parted(dice),
+    };
+    pairs::in_either_order(dice, a, b)
+}
+
+/// A long wall, a segment or a polygon, and a shape whose nose is near it: over the wall, over its
+/// end, or beside that.
+fn wall_and_nose(dice: &mut Dice) -> (Shape, Shape) {
+    let step = along(vector(dice, 3));
+    let length = dice.pick(&[2, 5, 40, 3000]);
+    let behind = vector(dice, 9);
+    let wall = match dice.below(3) {
+        0 => shape_from_edges(&[step * length, behind]),
+        _ => hull_of(vec![point(0, 0), step * length]),
+    };
+    let nose = shapes::mostly_small(dice);
+    let place = step * dice.pick(&[0, 1, length / 2, length - 1, length, length + 1]);
+    let nose = moved(&nose, place - nose[dice.below(nose.len())]);
+    let out = step.quarter_turned() * dice.pick(&[-1, 1]);
+    let nose = away(dice, &wall, &nose, out);
+    (wall, nose)
+}
+
 /// Points and segments on one line, with a step or more between them or, at times, none.
 pub fn on_one_line(dice: &mut Dice) -> (Shape, Shape) {
     let size = dice.pick(&[1, 3, 3, 40_000]);

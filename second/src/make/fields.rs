@@ -19,6 +19,10 @@ pub fn two_shapes(dice: &mut Dice) -> Vec<String> {
     texts(&two_lists(dice, pairs::any))
 }
 
+pub fn clearance(dice: &mut Dice) -> Vec<String> {
+    texts(&two_lists(dice, apart::near))
+}
+
 pub fn tangents(dice: &mut Dice) -> Vec<String> {
     texts(&two_lists(dice, apart::mostly))
 }

@@ -53,7 +53,7 @@ fn every_sort_of_answer_comes_up_often() {
     }
     let often = "no 1,no 2,no 3,no 4,no 5,no 6,no 7,no 8,no 9,no 10,no 11,judge ok,furthest ok,\
                  mirror ok,sum ok,merge ok,length ok,width ok,relation apart,relation touching,\
-                 relation overlapping,inside yes,inside no,clearance ok,tangents ok,\
+                 relation overlapping,inside yes,inside no,clearance ok,clearance cc,clearance ce,clearance ec,tangents ok,\
                  unreadable: line too long,unreadable: unknown word,unreadable: missing field,\
                  unreadable: too many fields,unreadable: not a number of 32 bits,\
                  unreadable: too many numbers,unreadable: wrong count of numbers,\

@@ -4,6 +4,7 @@
 --     value-outward                    in the direction that an edge faces outwards a point's value falls by its turn
 --     next-left                        the corner after an edge is left of it
 --     sector                           the step from a corner to a point, written by the two edges at the corner
+--     sector-weak                      between the two edges nothing is further than a corner that is no less far than its neighbours
 --     edge-outermost, edge-nonzero     in it no corner is further than the edge; in a polygon it is not zero
 --     left→reached                     a point that is right of no edge of a polygon is in every direction no further than the polygon
 --     left→passed                      left of all edges: the polygon is further in every direction other than (0,0)
@@ -105,7 +106,7 @@ sector d a p c x = ring (d .x ∷ d .y ∷ a .x ∷ a .y ∷ p .x ∷ p .y ∷ c
 
 module _ (d a p c x : Point) (t : Left a p c) (before : value d a ≤ℤ value d p) (after : value d c ≤ℤ value d p) where
   -- both parts of the right side are at most 0
-  sector-weak : pos 0 ≤ℤ turn a p x → pos 0 ≤ℤ turn p c x → value d x ≤ℤ value d p
+  pub sector-weak : pos 0 ≤ℤ turn a p x → pos 0 ≤ℤ turn p c x → value d x ≤ℤ value d p
   sector-weak h k = contra≤ (λ g. lia
       (turn a p c ∷ turn a p x ∷ turn p c x ∷ value d x ∷ value d p ∷ value d a ∷ value d c ∷ [])
       (sector d a p c x & t <×< g & h ≤×≤ after & k ≤×≤ before) (search linear depth 40) (omega arith))

@@ -1,11 +1,10 @@
--- The greatest and the least of finitely many numbers, and the facts by which everything else uses them.
+-- The greatest of finitely many numbers, and the facts by which everything else uses them.
 --     greatest-above       none of them is above it
 --     greatest-attained    one of them is it
 --     greatest-le          a number that none of them is above is at least the greatest
 --     greatest-unique      one that none is above is it
 --     greatest-same        equal numbers have an equal greatest
 --     greatest-more        one number more
---     least-below, least-attained, least-more     the same of the least
 -- The support of a list of points is in `Support.antt`.
 use mathlib.Core.Path.{_≡_, refl, sym, _∙_, ap, ap₂}
 use mathlib.Core.Logic.{_⊎_, inl, inr}
@@ -15,10 +14,9 @@ use native.Mathlib.Omega.{arith}
 use lib.IntN.{ℤ}
 use lib.Signed.{_≤ℤ_, ≤ℤ-refl}
 use Rattle.integer.specs.Order.{le-trans, le-antisym}
-use Rattle.plane.specs.Direction.{max, min}
-use Rattle.plane.specs.Measure.{greatest, least}
-use Rattle.plane.specs.theory.lists.Max.{left-le-max, right-le-max, max-either, max-assoc, min-le-left, min-le-right, min-either}
-use Rattle.plane.specs.theory.lists.Max.{min-assoc}
+use Rattle.plane.specs.Direction.{max}
+use Rattle.plane.specs.Measure.{greatest}
+use Rattle.plane.specs.theory.lists.Max.{left-le-max, right-le-max, max-either, max-assoc}
 
 pub greatest-above : (f : ℕ → ℤ) (n i : ℕ) → i < n → f i ≤ℤ greatest f n
 greatest-above f zero i h = absurd (not-suc-le-zero h)
@@ -60,32 +58,3 @@ pub greatest-more : (f : ℕ → ℤ) (n : ℕ) → greatest f (suc (suc n)) ≡
 greatest-more f zero = refl
 greatest-more f (suc n) = ap (max (f 0)) (greatest-more (λ i. f (suc i)) n)
     ∙ sym (max-assoc (f 0) (greatest (λ i. f (suc i)) (suc n)) (f (suc (suc n))))
-
--- ---- the least
-
-pub least-below : (f : ℕ → ℤ) (n i : ℕ) → i < n → least f n ≤ℤ f i
-least-below f zero i h = absurd (not-suc-le-zero h)
-least-below f (suc zero) zero h = ≤ℤ-refl (f 0)
-least-below f (suc zero) (suc i) h = absurd (omega arith)
-least-below f (suc (suc n)) zero h = min-le-left (f 0) (least (λ k. f (suc k)) (suc n))
-least-below f (suc (suc n)) (suc i) h =
-    le-trans (min-le-right (f 0) (least (λ k. f (suc k)) (suc n))) (least-below (λ k. f (suc k)) (suc n) i (omega arith))
-
-pub least-attained : (f : ℕ → ℤ) (n : ℕ) → 0 < n → (i : ℕ) × (i < n) × (least f n ≡ f i)
-least-attained f zero h = absurd (not-suc-le-zero h)
-least-attained f (suc zero) h = (0, omega arith, refl)
-least-attained f (suc (suc n)) h = go (least-attained (λ k. f (suc k)) (suc n) (omega arith)) (min-either (f 0) later)
-  where
-    later : ℤ
-    later = least (λ k. f (suc k)) (suc n)
-
-    go : (i : ℕ) × (i < suc n) × (later ≡ f (suc i)) → (min (f 0) later ≡ f 0) ⊎ (min (f 0) later ≡ later)
-        → (i : ℕ) × (i < suc (suc n)) × (min (f 0) later ≡ f i)
-    go r (inl e) = (0, omega arith, e)
-    go r (inr e) = (suc (r .0), omega (arith, r .1), e ∙ r .2)
-
-pub least-more : (f : ℕ → ℤ) (n : ℕ) → 0 < n → least f (suc n) ≡ min (least f n) (f n)
-least-more f zero h = absurd (not-suc-le-zero h)
-least-more f (suc zero) h = refl
-least-more f (suc (suc n)) h = ap (min (f 0)) (least-more (λ i. f (suc i)) (suc n) (omega arith))
-    ∙ sym (min-assoc (f 0) (least (λ i. f (suc i)) (suc n)) (f (suc (suc n))))

@@ -1,9 +1,7 @@
--- The greater and the lesser of two integers.
+-- The greater of two integers.
 --     left-le-max, right-le-max, max-least    it is the least number above both
 --     max-either                              it is one of the two
 --     max-comm, max-assoc, max-idem           it is commutative, associative, idempotent
---     min-le-left, min-le-right, min-greatest the lesser is the greatest number below both; `min-either`, `min-assoc`
---     min-left, min-right                     which of the two it is
 --     plus-max, max-plus                      the sum distributes over it, from the left and from the right
 use mathlib.Core.Path.{_≡_, refl}
 use mathlib.Core.Bool.{Bool, true, false}
@@ -11,10 +9,10 @@ use mathlib.Core.List.{[], _∷_}
 use mathlib.Core.Logic.{_⊎_, inl, inr}
 use native.Mathlib.Omega.{arith}
 use lib.IntN.{ℤ, _+ℤ_, +ℤ-comm}
-use lib.Signed.{_≤ℤ_, _<ℤ_, leZ, ≤ℤ-refl}
+use lib.Signed.{_≤ℤ_, leZ, ≤ℤ-refl}
 use Rattle.integer.specs.Linear.{lia, linear}
-use Rattle.integer.specs.Order.{weaken, le-trans, le-antisym, leZ-true, leZ-false, le-leZ, lt-leZ}
-use Rattle.plane.specs.Direction.{max, min}
+use Rattle.integer.specs.Order.{weaken, le-trans, le-antisym, leZ-true, leZ-false}
+use Rattle.plane.specs.Direction.{max}
 
 -- ---- the least number above both
 
@@ -65,56 +63,6 @@ max-assoc a b c = le-antisym
     (max-least
     (le-trans (left-le-max a b) (left-le-max (max a b) c))
     (max-least (le-trans (right-le-max a b) (left-le-max (max a b) c)) (right-le-max (max a b) c)))
-
--- ---- the lesser of two
-
-pub min-left : (a b : ℤ) → a ≤ℤ b → a ≡ min a b
-unfolding min
-min-left a b h = rw (le-leZ h, min)
-
-pub min-right : (a b : ℤ) → b <ℤ a → b ≡ min a b
-unfolding min
-min-right a b h = rw (lt-leZ h, min)
-
-pub min-either : (a b : ℤ) → (min a b ≡ a) ⊎ (min a b ≡ b)
-unfolding min
-min-either a b = go (leZ a b)
-  where
-    go : (t : Bool) → (elim t [ true ↦ a | false ↦ b ] ≡ a) ⊎ (elim t [ true ↦ a | false ↦ b ] ≡ b)
-    go true = inl refl
-    go false = inr refl
-
-pub min-le-left : (a b : ℤ) → min a b ≤ℤ a
-unfolding min
-min-le-left a b = go (leZ a b) refl
-  where
-    go : (t : Bool) → leZ a b ≡ t → elim t [ true ↦ a | false ↦ b ] ≤ℤ a
-    go true e = ≤ℤ-refl a
-    go false e = weaken (leZ-false e)
-
-pub min-le-right : (a b : ℤ) → min a b ≤ℤ b
-unfolding min
-min-le-right a b = go (leZ a b) refl
-  where
-    go : (t : Bool) → leZ a b ≡ t → elim t [ true ↦ a | false ↦ b ] ≤ℤ b
-    go true e = leZ-true e
-    go false e = ≤ℤ-refl b
-
-pub min-greatest : {a b c : ℤ} → c ≤ℤ a → c ≤ℤ b → c ≤ℤ min a b
-min-greatest {a} {b} {c} h k = go (min-either a b)
-  where
-    go : (min a b ≡ a) ⊎ (min a b ≡ b) → c ≤ℤ min a b
-    go (inl e) = rw e h
-    go (inr e) = rw e k
-
-pub min-assoc : (a b c : ℤ) → min (min a b) c ≡ min a (min b c)
-min-assoc a b c = le-antisym
-    (min-greatest
-    (le-trans (min-le-left (min a b) c) (min-le-left a b))
-    (min-greatest (le-trans (min-le-left (min a b) c) (min-le-right a b)) (min-le-right (min a b) c)))
-    (min-greatest
-    (min-greatest (min-le-left a (min b c)) (le-trans (min-le-right a (min b c)) (min-le-left b c)))
-    (le-trans (min-le-right a (min b c)) (min-le-right b c)))
 
 -- ---- sums
 

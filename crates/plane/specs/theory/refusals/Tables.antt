@@ -10,8 +10,9 @@ use Rattle.plane.specs.Judge.{judged}
 use Rattle.plane.specs.Furthest.{furthestReply}
 use Rattle.plane.specs.Combine.{mirrorWritten, sumWritten, mergeWritten}
 use Rattle.plane.specs.Measure.{lengthReply, widthReply}
-use Rattle.plane.specs.Separation.{relationReply, insideReply, clearanceReply}
+use Rattle.plane.specs.Separation.{relationReply, insideReply}
 use Rattle.plane.specs.Tangent.{tangentsReply}
+use Rattle.plane.specs.Clearance.{clearanceReply}
 use Rattle.plane.specs.Question.{Question, Judge, Furthest, Mirror, Sum, Merge, Length, Width, Relation, Inside, Clearance, Tangents}
 use Rattle.plane.specs.Question.{reply, table}
 use Rattle.plane.specs.theory.refusals.Rows.{NoneApply, First, firstRow-given, firstRow-none, firstRow-answered, firstRow-refused}

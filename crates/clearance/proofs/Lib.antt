@@ -1,0 +1,4 @@
+-- Lemmas that function proofs share.
+pub mod Tests
+pub mod Near
+pub mod Looking

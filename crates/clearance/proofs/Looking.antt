@@ -1,0 +1,127 @@
+-- The walk that looks for the closest place: the invariant of the loop, and its moves.
+--     Looking a b walk back            all places that are passed fail, but for the first corner; back is the corner before the one at hand
+--     looking-start, looking-more      its moves; `looking-at`: the walk stands at a place of the lists
+--     looking-corner, looking-edge     the corner or the edge at hand passes
+--     looking-end                      all are passed, and the first corner is left
+use mathlib.Core.Path.{_≡_, refl, sym, _∙_, ap, ap₂, subst}
+use mathlib.Core.Bool.{Bool, true, false, _&&_, false≢true}
+use mathlib.Core.Logic.{inl, inr}
+use mathlib.Core.List.{List, [], _∷_}
+use Prim.Native.Nat.{ℕ, zero, suc, _+_, _≤_, _<_, zero-le}
+use native.Mathlib.Numerals.{add-one}
+use native.Mathlib.Omega.{arith}
+use lib.IntN.{ℤ}
+use lib.ListN.{length}
+use lib.Signed.{leZ}
+use Rattle.integer.specs.Linear.{linear, lia, _&_}
+use Rattle.integer.specs.Order.{leZ-true}
+use Rattle.plane.specs.Point.{Point, origin, points, corner, _⊖_}
+use Rattle.plane.specs.Direction.{value}
+use Rattle.plane.specs.Forms.{NonZero}
+use Rattle.plane.specs.VectorSum.{vectorSum}
+use Rattle.plane.specs.theory.forms.Vector.{value-origin}
+use Rattle.calipers.specs.Walk.{Walk, here, begun, advanced, stepped, At}
+use Rattle.calipers.specs.theory.Steps.{at-stepped}
+use Rattle.separation.proofs.Stops.{on-below, over-end, corner-here, stop-here}
+use Rattle.separation.specs.theory.Sector.{square-positive}
+use Rattle.clearance.specs.theory.Scan.{last-or}
+use Rattle.clearance.specs.Stop.{rests, crosses, leftward, behind, after, Stopped, at-corner, at-edge, at-first}
+
+pub record Looking (a b : List ℤ) (walk : Walk) (back : Point) : Type 0 where
+  pub start : At a b begun
+  pub count : ℕ
+  pub within : count ≤ length (vectorSum (points a) (points b))
+  pub moved : walk ≡ stepped (points a) (points b) count begun
+  pub back-is : back ≡ behind (vectorSum (points a) (points b)) count
+  pub no-corner : let D = vectorSum (points a) (points b) in (k : ℕ) → suc k < count → rests (corner D k) (corner D (suc k)) (after D (suc k)) ≡ false
+  pub no-edge : let D = vectorSum (points a) (points b) in (k : ℕ) → k < count → crosses (corner D k) (after D k) ≡ false
+
+-- the origin is nearer than a corner that is not there
+origin-nearer : (w d : Point) → NonZero w → rests origin w d ≡ true → ⊥
+unfolding rests
+origin-nearer w d some h = go (leZ (value w w) (value w origin)) refl h
+  where
+    go : (b : Bool) → leZ (value w w) (value w origin) ≡ b → (b && leZ (value w w) (value w d)) ≡ true → ⊥
+    go true e h = lia (value w w ∷ value w origin ∷ []) (square-positive w some & value-origin w & leZ-true {x = value w w} {y = value w origin} e)
+        (search linear depth 40) (omega arith)
+    go false e h = false≢true h
+
+stopped-corner : (D : List Point) (k : ℕ) → k < length D → NonZero (corner D 0) → rests (behind D k) (corner D k) (after D k) ≡ true
+    → Stopped D (corner D k)
+stopped-corner D zero h some t = absurd (origin-nearer (corner D 0) (after D 0) some t)
+stopped-corner D (suc k) h some t = at-corner k h t refl
+
+module _ {a b : List ℤ} where
+  pub looking-start : {walk : Walk} → At a b begun → walk ≡ begun → Looking a b walk origin
+  looking-start t e = record {
+    start = t;
+    count = 0;
+    within = zero-le;
+    moved = e;
+    back-is = refl;
+    no-corner = λ k h. absurd (omega arith);
+    no-edge = λ k h. absurd (omega arith);
+  }
+
+  module _ {walk : Walk} {back : Point} (p : Looking a b walk back) where
+    abbrev D : List Point
+    D = vectorSum (points a) (points b)
+
+    pub looking-at : At a b walk
+    looking-at = subst (At a b) (sym (p .moved)) (at-stepped a b begun (p .start) (p .count))
+
+    module _ (on : walk .over ≡ false) {next-walk : Walk} (e : next-walk ≡ advanced (points a) (points b) walk) {w d : Point}
+        (w-is : w ≡ here (points a) (points b) walk) (d-is : d ≡ here (points a) (points b) next-walk) where
+      below : p .count < length D
+      below = on-below a b (p .start) (p .count) (p .within) (ap (λ (v : Walk). v .over) (sym (p .moved)) ∙ on)
+
+      after-is : next-walk ≡ stepped (points a) (points b) (suc (p .count)) begun
+      after-is = e ∙ ap (advanced (points a) (points b)) (p .moved)
+
+      w-corner : w ≡ corner D (p .count)
+      w-corner = w-is ∙ ap (here (points a) (points b)) (p .moved) ∙ corner-here a b (p .start) (p .count) below
+
+      d-corner : d ≡ after D (p .count)
+      d-corner = d-is ∙ ap (here (points a) (points b)) after-is ∙ stop-here a b (p .start) (p .count) below
+
+      rests-here : rests back w d ≡ rests (behind D (p .count)) (corner D (p .count)) (after D (p .count))
+      rests-here = rw (p .back-is, w-corner, d-corner) refl
+
+      crosses-here : crosses w d ≡ crosses (corner D (p .count)) (after D (p .count))
+      crosses-here = ap₂ crosses w-corner d-corner
+
+      pub looking-corner : NonZero (corner D 0) → rests back w d ≡ true → Stopped D w
+      looking-corner some t = subst (Stopped D) (sym w-corner) (stopped-corner D (p .count) below some (sym rests-here ∙ t))
+
+      pub looking-edge : crosses w d ≡ true → Stopped D (leftward (d ⊖ w))
+      looking-edge t = at-edge (p .count) below (sym crosses-here ∙ t) (ap₂ (λ x y. leftward (x ⊖ y)) d-corner w-corner)
+
+      module _ (r : rests back w d ≡ false) (c : crosses w d ≡ false) where
+        corners-fail : (k : ℕ) → suc k < p .count + 1 → rests (corner D k) (corner D (suc k)) (after D (suc k)) ≡ false
+        corners-fail k h = elim (last-or (p .count) (suc k) h) [
+          | inl q ↦ subst (λ m. rests (behind D m) (corner D m) (after D m) ≡ false) (sym q) (sym rests-here ∙ r)
+          | inr l ↦ p .no-corner k l
+        ]
+
+        edges-fail : (k : ℕ) → k < p .count + 1 → crosses (corner D k) (after D k) ≡ false
+        edges-fail k h = elim (last-or (p .count) k h) [
+          | inl q ↦ subst (λ m. crosses (corner D m) (after D m) ≡ false) (sym q) (sym crosses-here ∙ c)
+          | inr l ↦ p .no-edge k l
+        ]
+
+        pub looking-more : Looking a b next-walk w
+        looking-more = record {
+          start = p .start;
+          count = p .count + 1;
+          within = omega (arith, below);
+          moved = after-is ∙ ap (λ (n : ℕ). stepped (points a) (points b) n begun) (sym (add-one (p .count)));
+          back-is = w-corner ∙ ap (behind D) (sym (add-one (p .count)));
+          no-corner = corners-fail;
+          no-edge = edges-fail;
+        }
+
+        pub looking-end : next-walk .over ≡ true → {first : Point} → first ≡ corner D 0 → Stopped D first
+        looking-end o q =
+            let all : length D ≤ suc (p .count) =
+            over-end a b (p .start) (suc (p .count)) below (ap (λ (v : Walk). v .over) (sym after-is) ∙ o) in
+            at-first (λ k h. corners-fail k (omega arith)) (λ k h. edges-fail k (omega arith)) q

@@ -1,0 +1,7 @@
+-- What the search finds on the way; what clearance means, in document 02's words; then the theory behind it.
+pub mod Facing
+pub mod Stop
+pub mod Faces
+pub mod Answer
+pub mod Meaning
+pub mod theory

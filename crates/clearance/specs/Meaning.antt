@@ -1,0 +1,64 @@
+-- What clearance means, in document 02's words (request W3). Each theorem is proved in the theory; here it is only cited.
+--     nearest         the least distance of two points, which two have; a candidate, the first on a tie; either shape may be the first
+--     rounded         the distance rounded down
+--     apart           shapes are not apart exactly if they have a point in common
+-- A and B are shapes that are apart; a point of a shape is a mean of its corners (`Mean.antt` of plane).
+use mathlib.Core.Path.{_≡_}
+use mathlib.Core.Bool.{true, false}
+use mathlib.Core.List.{List, [], _∷_, _++_}
+use Prim.Native.Nat.{ℕ, _<_}
+use lib.IntN.{ℤ, pos, _+ℤ_, _*ℤ_}
+use lib.ListN.{length}
+use lib.Signed.{_≤ℤ_, _<ℤ_}
+use Rattle.plane.specs.Point.{Point}
+use Rattle.plane.specs.Shape.{IsShape}
+use Rattle.plane.specs.Separation.{apart}
+use Rattle.plane.specs.Mean.{weight, AtMost, Exactly, CommonPoint}
+use Rattle.plane.specs.Clearance.{Candidate, top, bottom, nearest, numbersOf}
+use Rattle.clearance.specs.theory.Candidates.{AtOrAfter, Listed}
+use Rattle.clearance.specs.theory.Nearest.{nearest-least, nearest-attained, nearest-is-listed, nearest-is-whole, nearest-before-ties}
+use Rattle.clearance.specs.theory.Nearest.{nearest-sym, common-not-apart}
+use Rattle.clearance.specs.theory.Common.{not-apart-common}
+use Rattle.clearance.specs.theory.Rounding.{nearest-rounded}
+
+module _ (A B : List Point) (s : IsShape A) (t : IsShape B) (h : apart A B ≡ true) where
+  -- "the least distance between any point of one shape and any point of the other": none are nearer than the nearest candidate's fraction
+  pub no-points-are-nearer : (v w : ℕ → ℕ) → AtMost (top A B (nearest A B)) (bottom A B (nearest A B)) v A w B
+  no-points-are-nearer v w = nearest-least A B s t h v w
+
+  -- and two are as near: "under whole-number weights, 0 or more and not all 0"
+  pub points-are-so-near : (v : ℕ → ℕ) × (w : ℕ → ℕ) × (pos 0 <ℤ weight v A) × (pos 0 <ℤ weight w B)
+      × Exactly (top A B (nearest A B)) (bottom A B (nearest A B)) v A w B
+  points-are-so-near = let r = nearest-attained A B s t h in (r .one, r .other, r .one-point, r .other-point, r .exact)
+
+  -- "Either it falls between two corners, .., or at a corner and strictly inside an edge": positions of the shapes, and a corner that falls
+  pub nearest-is-candidate : Listed A B (nearest A B)
+  nearest-is-candidate = nearest-is-listed A B s t h
+
+  -- what "t·t/q" is divided by is not 0
+  pub nearest-is-a-fraction : pos 0 <ℤ bottom A B (nearest A B)
+  nearest-is-a-fraction = nearest-is-whole A B s t h
+
+  -- "On a tie two corners go first, ..": every candidate as near is the answer or comes after it in that order (`Earlier`)
+  pub nearest-is-first : (c : Candidate) → Listed A B c
+      → top A B c *ℤ bottom A B (nearest A B) ≡ top A B (nearest A B) *ℤ bottom A B c → AtOrAfter (nearest A B) c
+  nearest-is-first c l e = nearest-before-ties A B s t h c l e
+
+  -- "one shape", "the other": exchanging the shapes gives the same distance
+  pub distance-either-way : top A B (nearest A B) *ℤ bottom B A (nearest B A) ≡ top B A (nearest B A) *ℤ bottom A B (nearest A B)
+  distance-either-way = nearest-sym A B s t h
+
+  -- "Add the distance rounded down, bounded as width is": the last number w of the answer has w·w ≤ distance < (w+1)·(w+1), squared
+  pub distance-is-rounded-down : (before : List ℤ) × (w : ℕ) × (numbersOf A B (nearest A B) ≡ before ++ (pos w ∷ []))
+      × ((pos w *ℤ pos w *ℤ bottom A B (nearest A B)) ≤ℤ top A B (nearest A B))
+      × (top A B (nearest A B) <ℤ ((pos w +ℤ pos 1) *ℤ (pos w +ℤ pos 1) *ℤ bottom A B (nearest A B)))
+  distance-is-rounded-down =
+      let r = nearest-rounded A B s t h in (r .before, r .rounded, r .last, r .bounded .low, r .bounded .high)
+
+-- "Shapes not apart still answer 0": shapes with a point in common are not apart
+pub common-point-is-not-apart : (A B : List Point) → 0 < length A → 0 < length B → CommonPoint A B → apart A B ≡ false
+common-point-is-not-apart A B a b m = common-not-apart A B a b m
+
+-- and only they: shapes that are not apart have a point in common
+pub not-apart-has-common-point : (A B : List Point) → 0 < length A → 0 < length B → apart A B ≡ false → CommonPoint A B
+not-apart-has-common-point A B a b h = not-apart-common A B a b h
