@@ -7,6 +7,7 @@ use crate::measure;
 use crate::plane::Shape;
 use crate::refusal::Refusal;
 use crate::separation::{self, Relation};
+use crate::tablet;
 use crate::tangents;
 use crate::text::given::Given;
 
@@ -92,6 +93,13 @@ pub fn tangents(given: &Given) -> Answer {
     let [a, b] = given.shapes()?;
     let lines = tangents::tangents(&a, &b)?;
     Ok(lines.map(|(i, j)| format!("{i} {j}")).join(" "))
+}
+
+pub fn tablet(given: &Given) -> Answer {
+    let corner = tablet::corner(given.readings())?;
+    Ok(corner
+        .map(|number| format!("0x{:016x}", tablet::bits(number)))
+        .join(" "))
 }
 
 /// The shape as it stands in the lent output, if that has the room.

@@ -115,6 +115,22 @@ const TANGENTS: &[Stated] = &[
         ("tangents | S | 1 1 0 0", "no 5 shape 2"),
         ("tangents | 0 0 1 0 2 0 | 0", "no 4 shape 1 edge 0 corner 2"),
     ]),
+    ("W4: accepted if finite, whole and in range; minus zero is sent back as plus zero", &[
+        ("tablet | mm 0x4008000000000000 | e8 0xc030000000000000", "ok 0x4008000000000000 0xc000000000000000"),
+        ("tablet | mm 0x8000000000000000 | e8 0x8000000000000000", "ok 0x0000000000000000 0x0000000000000000"),
+        ("tablet | e8 0x415e848000000000 | mm 0xc12e848000000000", "ok 0x412e848000000000 0xc12e848000000000"),
+    ]),
+    ("W4: 17, then 18, then 3, and x wholly before y", &[
+        ("tablet | mm 0x7ff8000000000000 | mm 0x3fe0000000000000", "no 17 part x"),
+        ("tablet | mm 0x3ff0000000000000 | e8 0xfff0000000000000", "no 17 part y"),
+        ("tablet | mm 0x412e848100000000 | mm 0x7ff8000000000000", "no 18 part x"),
+        ("tablet | e8 0x415e848040000000 | mm 0x7ff8000000000000", "no 18 part x"),
+        ("tablet | e8 0x415e848200000000 | mm 0x7ff8000000000000", "no 3 part x"),
+        ("tablet | mm 0x3ff0000000000000 | mm 0x4340000000000000", "no 3 part y"),
+    ]),
+    ("W4: the smallest positive double in eighths is 18", &[
+        ("tablet | mm 0x3ff0000000000000 | e8 0x0000000000000001", "no 18 part y"),
+    ]),
 ];
 
 #[rustfmt::skip]

@@ -3,6 +3,7 @@
 //! with the library but the text form of questions and answers.
 //!
 //!     second make SEED COUNT                      writes questions, the same ones for the same seed
+//!     second make SEED COUNT WORD                 the same, all of one word
 //!     second answer                               answers the questions of standard input
 //!     second cases                                writes the documents' cases as questions
 //!     second check                                answers these cases, compares with what is stated
@@ -23,6 +24,7 @@ mod plane;
 mod questions;
 mod refusal;
 mod separation;
+mod tablet;
 mod tangents;
 mod text;
 
@@ -32,7 +34,7 @@ use std::io::{self, BufWriter, Read, Write};
 use std::process::ExitCode;
 
 const USAGE: &str =
-    "second make SEED COUNT | answer | cases | check | compare LEAST QUESTIONS ANSWERS";
+    "second make SEED COUNT [WORD] | answer | cases | check | compare LEAST QUESTIONS ANSWERS";
 
 /// Whether all is as it should be; trouble is what kept the program from finding out.
 type Outcome = Result<bool, Box<dyn Error>>;
@@ -53,7 +55,10 @@ fn main() -> ExitCode {
 fn run(words: &[&str]) -> Outcome {
     let output = BufWriter::new(io::stdout().lock());
     match *words {
-        ["make", seed, count] => make::write_all(number(seed)?, number(count)?, output)?,
+        ["make", seed, count] => make::write_all(number(seed)?, number(count)?, "", output)?,
+        ["make", seed, count, word] => {
+            make::write_all(number(seed)?, number(count)?, word, output)?
+        }
         ["answer"] => answer::write_all(&standard_input()?, output)?,
         ["cases"] => cases::write_all(output)?,
         ["check"] => return check_cases(output),

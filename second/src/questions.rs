@@ -4,7 +4,8 @@
 use crate::ask::{self, Answer};
 use crate::make::dice::Dice;
 use crate::make::fields as make;
-use crate::text::fields::Field::{self, Direction, Room, Shape};
+use crate::make::readings;
+use crate::text::fields::Field::{self, Direction, Reading, Room, Shape};
 use crate::text::given::Given;
 
 pub struct Row {
@@ -28,6 +29,7 @@ pub const TABLE: &[Row] = &[
     Row { word: "inside", fields: &[Shape, Shape], ask: ask::inside, make: make::two_shapes },
     Row { word: "clearance", fields: &[Shape, Shape], ask: ask::clearance, make: make::clearance },
     Row { word: "tangents", fields: &[Shape, Shape], ask: ask::tangents, make: make::tangents },
+    Row { word: "tablet", fields: &[Reading, Reading], ask: ask::tablet, make: readings::corner },
 ];
 
 pub fn find(word: &[u8]) -> Option<&'static Row> {

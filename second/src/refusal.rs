@@ -6,12 +6,14 @@ pub const MOST_CORNERS: usize = 512;
 pub const MOST_COORDINATE: i64 = 1_000_000;
 pub const MOST_DIRECTION: i64 = 2_000_000;
 
-/// A number of the table. 1 to 5 say which shape; 4 also gives edge and corner.
+/// A number of the table. 1 to 5 say which shape; 4 also gives edge and corner. Those of a reading
+/// say which part of its corner.
 #[derive(Clone, Copy, Debug, PartialEq, Eq)]
 pub struct Refusal {
     pub number: u8,
     pub shape: Option<usize>,
     pub broken: Option<(usize, usize)>,
+    pub part: Option<&'static str>,
 }
 
 impl Refusal {
@@ -21,6 +23,7 @@ impl Refusal {
             number,
             shape: None,
             broken: None,
+            part: None,
         }
     }
 
@@ -30,6 +33,7 @@ impl Refusal {
             number,
             shape: Some(shape),
             broken: None,
+            part: None,
         }
     }
 
@@ -39,6 +43,15 @@ impl Refusal {
             number: 4,
             shape: Some(shape),
             broken: Some(broken),
+            part: None,
+        }
+    }
+
+    /// 17, 18 or 3 of the reading that is x or y.
+    pub fn of_part(number: u8, part: &'static str) -> Refusal {
+        Refusal {
+            part: Some(part),
+            ..Refusal::plain(number)
         }
     }
 }
@@ -51,6 +64,9 @@ impl fmt::Display for Refusal {
         }
         if let Some((edge, corner)) = self.broken {
             write!(f, " edge {edge} corner {corner}")?;
+        }
+        if let Some(part) = self.part {
+            write!(f, " part {part}")?;
         }
         Ok(())
     }

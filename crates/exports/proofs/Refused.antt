@@ -21,6 +21,9 @@ refusal-behind j Refusal.Room = refl
 refusal-behind j Refusal.NotApart = refl
 refusal-behind j Refusal.Flat = refl
 refusal-behind j Refusal.Direction = refl
+refusal-behind j (Refusal.NotFinite p) = refl
+refusal-behind j (Refusal.NotWhole p) = refl
+refusal-behind j (Refusal.FarReading p) = refl
 
 pub refusal-wide : (k : ℕ) (x : Refusal) → crossed (suc (suc k)) (ofRefusal x) ≡ take 4 (crossed 5 (ofRefusal x)) ++ padded k []
 refusal-wide k (Refusal.Count s) = refl
@@ -34,3 +37,6 @@ refusal-wide k Refusal.Room = refl
 refusal-wide k Refusal.NotApart = refl
 refusal-wide k Refusal.Flat = refl
 refusal-wide k Refusal.Direction = refl
+refusal-wide k (Refusal.NotFinite p) = refl
+refusal-wide k (Refusal.NotWhole p) = refl
+refusal-wide k (Refusal.FarReading p) = refl

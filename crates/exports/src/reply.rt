@@ -108,6 +108,9 @@ pub fn refused(refusal: Refusal) -> Numbers
         Refusal::NotApart => pair(9, 0, 0, 0),
         Refusal::Flat => pair(10, 0, 0, 0),
         Refusal::Direction => pair(11, 0, 0, 0),
+        Refusal::NotFinite { part } => pair(17, part as u64, 0, 0),
+        Refusal::NotWhole { part } => pair(18, part as u64, 0, 0),
+        Refusal::FarReading { part } => pair(3, part as u64, 0, 0),
     }
 }
 

@@ -1,6 +1,7 @@
 // One arm and one function for each question: it asks the library and adds the reply, without its
 // newline.
 use crate::pictures;
+use crate::readings;
 use crate::replies;
 use crate::table::Measure;
 use crate::table::Question;
@@ -17,11 +18,12 @@ use questions::answer::Width;
 use text::answers;
 use text::fields;
 
-// Asks the question of its fields, of which so many are given.
+// Asks the question of its fields, of which so many are given; readings stand in the line itself.
 pub fn ask(
     out: &mut [u8],
     filled: usize,
     question: Question,
+    line: &[u8],
     count: usize,
     room: usize,
     values: &[i32],
@@ -33,6 +35,7 @@ pub fn ask(
         Question::Measure(which) => measure(out, filled, which, a, b),
         Question::Write(which) => write(out, filled, which, a, b, room),
         Question::Draw => pictures::draw(out, filled, a, b, count),
+        Question::Tablet => readings::tablet(out, filled, line),
     }
 }
 

@@ -4,6 +4,7 @@
 // most 16,384 numbers together.
 mod ask;
 mod pictures;
+mod readings;
 mod replies;
 mod table;
 
@@ -64,7 +65,7 @@ fn answer_line(out: &mut [u8], filled: usize, line: &[u8], values: &mut [i32]) -
     let mut marks = [0usize; fields::MARKS];
     let read = fields::read(line, kinds, values, &mut marks);
     let question = entry.question;
-    answer_fields(out, filled, question, read, values, &marks)
+    answer_fields(out, filled, question, read, line, values, &marks)
 }
 
 // Answers a question whose fields are read, or says why they could not be.
@@ -73,12 +74,13 @@ fn answer_fields(
     filled: usize,
     question: Question,
     read: Fields,
+    line: &[u8],
     values: &[i32],
     marks: &[usize],
 ) -> usize {
     match read {
         Fields::Ready { count, room } => {
-            let now = ask::ask(out, filled, question, count, room, values, marks);
+            let now = ask::ask(out, filled, question, line, count, room, values, marks);
             answers::word(out, now, b"\n")
         }
         Fields::No(reason) => reasons::unreadable(out, filled, reason),

@@ -9,11 +9,35 @@ pub fn line(out: &mut [u8], filled: usize, line: Line) -> usize {
     answers::labelled(out, now, b" ", line.to as u64)
 }
 
-// Adds a refusal: its number, which shape of the question it means, and where the left rule breaks.
+// Adds a refusal: its number, which shape of the question it means, and where the left rule breaks; or which part of a
+// corner.
 pub fn refuse(out: &mut [u8], filled: usize, refusal: Refusal) -> usize {
     let now = answers::labelled(out, filled, b"no ", number(refusal));
     let then = answers::labelled_some(out, now, b" shape ", blamed(refusal));
-    broken(out, then, refusal)
+    let behind = broken(out, then, refusal);
+    part(out, behind, refusal)
+}
+
+// Adds the part of a corner whose reading is refused, x for 1, if the refusal is of a reading.
+fn part(out: &mut [u8], filled: usize, refusal: Refusal) -> usize {
+    let part = read_part(refusal);
+    if part == 0 {
+        return filled;
+    }
+    if part == 1 {
+        return answers::word(out, filled, b" part x");
+    }
+    answers::word(out, filled, b" part y")
+}
+
+// The part that a refusal of a reading means; 0 for any other refusal.
+fn read_part(refusal: Refusal) -> usize {
+    match refusal {
+        Refusal::NotFinite { part } => part,
+        Refusal::NotWhole { part } => part,
+        Refusal::FarReading { part } => part,
+        _ => 0,
+    }
 }
 
 // Adds where the left rule breaks, if it does.
@@ -48,6 +72,9 @@ fn number(refusal: Refusal) -> u64 {
         Refusal::NotApart => 9,
         Refusal::Flat => 10,
         Refusal::Direction => 11,
+        Refusal::NotFinite { part: _ } => 17,
+        Refusal::NotWhole { part: _ } => 18,
+        Refusal::FarReading { part: _ } => 3,
     }
 }
 

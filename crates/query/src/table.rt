@@ -8,6 +8,7 @@ pub enum Question {
     Measure(Measure),
     Write(Written),
     Draw,
+    Tablet,
 }
 
 // The questions that are answered by numbers or a word.
@@ -44,7 +45,8 @@ pub fn look_up(word: &[u8]) -> Entry {
     entry = on_one(entry, word);
     entry = on_two(entry, word);
     entry = shapes(entry, word);
-    pictures(entry, word)
+    entry = pictures(entry, word);
+    corners(entry, word)
 }
 
 // The measures of one shape.
@@ -82,6 +84,12 @@ fn shapes(found: Entry, word: &[u8]) -> Entry {
 fn pictures(found: Entry, word: &[u8]) -> Entry {
     let some = fields::two(Kind::Shape, Kind::Further);
     row(found, word, b"draw", Question::Draw, some)
+}
+
+// The corner of two readings.
+fn corners(found: Entry, word: &[u8]) -> Entry {
+    let readings = fields::two(Kind::Reading, Kind::Reading);
+    row(found, word, b"tablet", Question::Tablet, readings)
 }
 
 // A row of the table, of a measure.

@@ -1,10 +1,12 @@
 -- Document 01's number and values for each case of the enums ("Where an answer is an enum ..").
---     ofRefusal r     the number of the table's row, and what it carries: 1 to 5 the shape, 4 also the edge and the corner
+--     ofRefusal r     the number of the table's row, and what it carries: 1 to 5 the shape, 4 also the edge and the corner; of a
+--                     reading the part of its corner
 --     ofAnswer r, ofFurthest r, ..     the reply of each question: its values, or a refusal
 use mathlib.Core.Bool.{cond}
 use mathlib.Core.List.{[], _∷_}
 use lib.IntN.{pos}
 use Rattle.plane.specs.Reply.{Reply, answered, refused}
+use Rattle.tablet.specs.Reading.{Sent}
 use Rattle.questions.specs.declared.answer.Refusal.{Refusal}
 use Rattle.questions.specs.declared.answer.Refusal.the-variants as Refusal
 use Rattle.questions.specs.declared.answer.Answer.{Answer}
@@ -24,6 +26,8 @@ use Rattle.questions.specs.declared.answer.Clearance.the-variants as Cle
 use Rattle.questions.specs.declared.answer.Line.{Line}
 use Rattle.questions.specs.declared.answer.Tangents.{Tangents}
 use Rattle.questions.specs.declared.answer.Tangents.the-variants as Tangents
+use Rattle.questions.specs.declared.answer.Tablet.{Tablet}
+use Rattle.questions.specs.declared.answer.Tablet.the-variants as Tablet
 
 abbrev pub ofRefusal : Refusal → Reply
 ofRefusal (Refusal.Count shape) = refused 1 (shape ∷ [])
@@ -37,6 +41,9 @@ ofRefusal Refusal.Room = refused 8 []
 ofRefusal Refusal.NotApart = refused 9 []
 ofRefusal Refusal.Flat = refused 10 []
 ofRefusal Refusal.Direction = refused 11 []
+ofRefusal (Refusal.NotFinite part) = refused 17 (part ∷ [])
+ofRefusal (Refusal.NotWhole part) = refused 18 (part ∷ [])
+ofRefusal (Refusal.FarReading part) = refused 3 (part ∷ [])
 
 abbrev pub ofAnswer : Answer → Reply
 ofAnswer (Answer.Corners n) = answered (pos n ∷ [])
@@ -81,3 +88,8 @@ ofTangents (Tangents.Lines p q r s) =
     answered (pos (p .from) ∷ pos (p .to) ∷ pos (q .from) ∷ pos (q .to)
     ∷ pos (r .from) ∷ pos (r .to) ∷ pos (s .from) ∷ pos (s .to) ∷ [])
 ofTangents (Tangents.No r) = ofRefusal r
+
+-- the whole numbers, and the doubles that go back
+abbrev pub ofTablet : Tablet → Sent
+ofTablet (Tablet.Corner sent x y) = record { reply = answered (x ∷ y ∷ []); doubles = sent .x ∷ sent .y ∷ [] }
+ofTablet (Tablet.No r) = record { reply = ofRefusal r; doubles = [] }

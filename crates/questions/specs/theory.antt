@@ -3,3 +3,4 @@ pub mod Rows
 pub mod Delivery
 pub mod Measures
 pub mod Lines
+pub mod Readings

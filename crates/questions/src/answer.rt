@@ -36,6 +36,18 @@ pub enum Refusal {
     Flat,
     // 11: a direction (0, 0), or with a part out of range
     Direction,
+    // 17: a reading that is not finite; the part of the corner is 1 for x and 2 for y
+    NotFinite {
+        part: usize,
+    },
+    // 18: a reading that is not a whole number of millimetres
+    NotWhole {
+        part: usize,
+    },
+    // 3: a reading out of range
+    FarReading {
+        part: usize,
+    },
 }
 
 // How many corners a shape has that was judged or written.
@@ -130,5 +142,17 @@ pub enum Tangents {
         crossing: Line,
         reverse: Line,
     },
+    No(Refusal),
+}
+
+// A corner that goes back to the tablet: two doubles that hold whole numbers of millimetres.
+pub struct Sent {
+    pub x: f64,
+    pub y: f64,
+}
+
+// A corner of two readings: the doubles that go back, and the whole numbers that they hold.
+pub enum Tablet {
+    Corner { sent: Sent, x: i32, y: i32 },
     No(Refusal),
 }

@@ -2,6 +2,7 @@
 // each, gives its refusals in the order of the table, and asks one inner function.
 mod admission;
 pub mod answer;
+mod coordinate;
 mod deliver;
 
 ghost use mathlib.Core.Path.{_≡_};
@@ -20,7 +21,8 @@ ghost use Rattle.plane.specs.Clearance.{clearanceReply};
 ghost use Rattle.plane.specs.Tangent.{tangentFrom, tangentTo, tangentsReply};
 ghost use Rattle.questions.specs.Answer.{ofAnswer, ofFurthest, ofLength, ofWidth};
 ghost use Rattle.clearance.specs.Answer.{valuesOf};
-ghost use Rattle.questions.specs.Answer.{ofRelation, ofInside, ofClearance, ofTangents};
+ghost use Rattle.tablet.specs.Reading.{tabletSent};
+ghost use Rattle.questions.specs.Answer.{ofRelation, ofInside, ofClearance, ofTangents, ofTablet};
 use admission::Admission;
 use answer::Answer;
 use answer::Clearance;
@@ -30,15 +32,19 @@ use answer::Length;
 use answer::Line;
 use answer::Refusal;
 use answer::Relation;
+use answer::Sent;
+use answer::Tablet;
 use answer::Tangents;
 use answer::Width;
 use clearance::measured::Distance;
+use coordinate::Coordinate;
 use polygon::corners;
 use polygon::direction;
 use polygon::limits;
 pub use polygon::limits::SHAPE_NUMBERS;
 use polygon::opposite;
 use separation::place::Place;
+pub use tablet::reading::Reading;
 
 // Whether the list is a shape, and how many corners it has. A point and a segment are shapes. Refused: an empty or odd
 // list, too many corners, a coordinate out of range, two equal corners or a broken left rule (with the first edge, then
@@ -303,5 +309,29 @@ fn line(a: &[i32], b: &[i32], s: bool, t: bool) -> Line
     Line {
         from: found.from,
         to: found.to,
+    }
+}
+
+// A corner of two readings of the tablet, each in millimetres or in eighths: the doubles that go back, and the whole
+// numbers that they hold exactly, from which a shape may be listed. Minus zero is 0 and goes back as plus zero. Nothing
+// is rounded. Refused, with the part that it was: x, then y, each if it is not finite, then if it is not whole, then if
+// it is out of range.
+// Ruled out: y judged first; whole after range; minus zero sent back; scaled before the test.
+pub fn tablet(x: Reading, y: Reading) -> Tablet
+    ensures { λ r. ⌜ ofTablet r ≡ tabletSent x y ⌝ }
+{
+    match coordinate::read_part(x, 1) {
+        Coordinate::No(refusal) => Tablet::No(refusal),
+        Coordinate::Whole(m) => match coordinate::read_part(y, 2) {
+            Coordinate::No(refusal) => Tablet::No(refusal),
+            Coordinate::Whole(n) => Tablet::Corner {
+                sent: Sent {
+                    x: tablet::double(m),
+                    y: tablet::double(n),
+                },
+                x: m,
+                y: n,
+            },
+        },
     }
 }

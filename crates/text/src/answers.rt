@@ -7,6 +7,9 @@ use crate::standard;
 // As many as wait in no buffer: a write failed.
 const LOST: usize = usize::MAX;
 
+// What the highest of 16 hexadecimal digits counts.
+const HIGHEST: u64 = 0x1000000000000000;
+
 // Adds a text.
 pub fn word(out: &mut [u8], filled: usize, text: &[u8]) -> usize {
     let mut now = filled;
@@ -23,6 +26,25 @@ pub fn unsigned(out: &mut [u8], filled: usize, number: u64) -> usize {
     let mut digits = [0u8; 20];
     let count = io::decimal(number, &mut digits);
     word(out, filled, &digits[..count])
+}
+
+// Adds ` 0x` and the 64 bits of a number in 16 hexadecimal digits.
+pub fn bits(out: &mut [u8], filled: usize, number: u64) -> usize {
+    let now = word(out, filled, b" 0x");
+    hexadecimal(out, now, number)
+}
+
+// Adds the 16 hexadecimal digits of a number.
+fn hexadecimal(out: &mut [u8], filled: usize, number: u64) -> usize {
+    let mut now = filled;
+    let mut rest = number;
+    let mut i = 0usize;
+    while i < 16 {
+        now = byte(out, now, digit(rest / HIGHEST));
+        rest = rest % HIGHEST * 16;
+        i += 1;
+    }
+    now
 }
 
 // Adds a signed number in decimal digits.
@@ -124,6 +146,17 @@ pub fn flush(out: &[u8], filled: usize) -> usize {
 // Whether a write failed.
 pub fn is_lost(filled: usize) -> bool {
     filled == LOST
+}
+
+// A hexadecimal digit.
+fn digit(value: u64) -> u8 {
+    if value < 10 {
+        return b'0' + value as u8;
+    }
+    if value < 16 {
+        return b'a' + (value - 10) as u8;
+    }
+    b'?'
 }
 
 // Adds one byte; a full buffer is written first.

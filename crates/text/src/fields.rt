@@ -4,6 +4,8 @@ ghost use Prim.Native.Nat.{_≤_};
 ghost use lib.ListN.{length};
 use crate::numbers;
 use crate::numbers::Taken;
+use crate::readings;
+use crate::readings::Reading;
 use crate::reasons::Reason;
 use crate::words;
 
@@ -25,6 +27,8 @@ pub enum Kind {
     Room,
     // Any numbers. May be left out.
     Further,
+    // A reading of the tablet, which holds no numbers: its text is asked for.
+    Reading,
 }
 
 // The kinds of a question's fields, as the digits of one number in base 16, the first lowest. (What
@@ -49,7 +53,8 @@ enum Check {
 }
 
 // Reads the fields of a line. The reasons against it come in this order: a word that is not known;
-// too few fields or too many; the first word that is no number, or number that finds no room; the
+// too few fields or too many; the first word that is no number, number that finds no room, or field
+// that is no reading; the
 // first field that holds another count of numbers than its kind says.
 pub fn read(line: &[u8], kinds: Kinds, values: &mut [i32], marks: &mut [usize]) -> Fields {
     if kinds.digits == UNKNOWN {
@@ -79,6 +84,16 @@ pub fn field<'a>(values: &'a [i32], marks: &[usize], k: usize) -> &'a [i32] {
         }
     }
     &values[..0]
+}
+
+// The reading that the first or the second field of a line holds.
+pub fn reading(line: &[u8], second: bool) -> Reading {
+    let first = words::next_bar(line, 0);
+    let end = words::next_bar(line, after(first));
+    if second {
+        return readings::read(words::between(line, after(end), words::next_bar(line, after(end))));
+    }
+    readings::read(words::between(line, after(first), end))
 }
 
 // The number at a position of a field, or 0 where there is none.
@@ -129,6 +144,7 @@ fn digit(kind: Kind) -> u64
         Kind::Direction => 2,
         Kind::Room => 3,
         Kind::Further => 4,
+        Kind::Reading => 5,
     }
 }
 
@@ -142,6 +158,7 @@ fn kind_at(kinds: Kinds, k: usize) -> Kind {
         2 => Kind::Direction,
         3 => Kind::Room,
         4 => Kind::Further,
+        5 => Kind::Reading,
         _ => Kind::Nothing,
     }
 }
@@ -203,7 +220,16 @@ fn take_all(
 fn take(kind: Kind, text: &[u8], values: &mut [i32], held: usize) -> Taken {
     match kind {
         Kind::Nothing => Taken::Held(held),
+        Kind::Reading => take_reading(text, held),
         _ => numbers::read(text, values, held),
+    }
+}
+
+// Whether the text of a field is a reading.
+fn take_reading(text: &[u8], held: usize) -> Taken {
+    match readings::read(text) {
+        Reading::Nothing => Taken::No(Reason::NotAReading),
+        _ => Taken::Held(held),
     }
 }
 

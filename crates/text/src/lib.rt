@@ -9,6 +9,7 @@ pub mod answers;
 pub mod fields;
 pub mod lines;
 pub mod numbers;
+pub mod readings;
 pub mod reasons;
 mod standard;
 pub mod words;

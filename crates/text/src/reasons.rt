@@ -10,6 +10,7 @@ pub enum Reason {
     TooManyNumbers,
     WrongCount,
     NotACount,
+    NotAReading,
 }
 
 // Adds a line that says why a line is no question.
@@ -24,5 +25,6 @@ pub fn unreadable(out: &mut [u8], filled: usize, reason: Reason) -> usize {
         Reason::TooManyNumbers => answers::word(out, now, b"too many numbers\n"),
         Reason::WrongCount => answers::word(out, now, b"wrong count of numbers\n"),
         Reason::NotACount => answers::word(out, now, b"room is no count\n"),
+        Reason::NotAReading => answers::word(out, now, b"not a reading\n"),
     }
 }

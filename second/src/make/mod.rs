@@ -4,7 +4,7 @@
 //!     fields                the fields of each question
 //!     shapes, pairs, long   good shapes, alone and in pairs; damage: lists that are refused
 //!     apart                 pairs of good shapes that are mostly apart
-//!     tails                 directions and rooms
+//!     tails                 directions and rooms; readings: bits of doubles
 //!     spoil, layout         lines that are no questions; the same text with other spaces
 //!
 //! Nothing here decides an answer: every line is answered from its text alone.
@@ -17,6 +17,7 @@ pub mod fields;
 mod layout;
 pub mod long;
 pub mod pairs;
+pub mod readings;
 mod shapes;
 mod spoil;
 mod tails;
@@ -30,10 +31,12 @@ use std::io::{self, Write};
 pub type List = Vec<i64>;
 
 /// Writes `count` lines that want an answer, behind a byte order mark; others stand between them.
-pub fn write_all(seed: u64, count: usize, mut to: impl Write) -> io::Result<()> {
+/// All are of one word, if one is given that the table has.
+pub fn write_all(seed: u64, count: usize, word: &str, mut to: impl Write) -> io::Result<()> {
     let mut dice = Dice::new(seed);
     write!(to, "\u{FEFF}")?;
-    for (number, row) in (0..count).zip(TABLE.iter().cycle()) {
+    let wanted = |row: &&Row| word.is_empty() || row.word == word;
+    for (number, row) in (0..count).zip(TABLE.iter().filter(wanted).cycle()) {
         writeln!(to, "{}", any_line(&mut dice, row))?;
         if number % 1000 == 0 {
             write!(to, "{}", layout::passed_over(seed, number))?;

@@ -10,7 +10,7 @@ use std::collections::HashMap;
 
 fn made(seed: u64, count: usize) -> Vec<u8> {
     let mut bytes = Vec::new();
-    write_all(seed, count, &mut bytes).expect("a vector takes all bytes");
+    write_all(seed, count, "", &mut bytes).expect("a vector takes all bytes");
     bytes
 }
 
@@ -37,6 +37,7 @@ fn sort_of(line: &[u8], answer: &str) -> String {
     let word = String::from_utf8_lossy(lines::words(line).next().unwrap_or_default());
     let parts: Vec<&str> = answer.split(' ').collect();
     match parts[..] {
+        ["ok", bits, ..] if bits.starts_with("0x") => format!("{word} ok"),
         ["ok", found, ..] if found.parse::<i64>().is_err() => format!("{word} {found}"),
         ["ok", ..] => format!("{word} ok"),
         ["no", number, ..] => format!("no {number}"),
@@ -51,13 +52,14 @@ fn every_sort_of_answer_comes_up_often() {
     for (_, line) in lines::questions(&input) {
         *seen.entry(sort_of(line, &answer(line))).or_default() += 1;
     }
-    let often = "no 1,no 2,no 3,no 4,no 5,no 6,no 7,no 8,no 9,no 10,no 11,judge ok,furthest ok,\
+    let often = "no 1,no 2,no 3,no 4,no 5,no 6,no 7,no 8,no 9,no 10,no 11,no 17,no 18,judge ok,furthest ok,\
                  mirror ok,sum ok,merge ok,length ok,width ok,relation apart,relation touching,\
                  relation overlapping,inside yes,inside no,clearance ok,clearance cc,clearance ce,clearance ec,tangents ok,\
+                 tablet ok,\
                  unreadable: line too long,unreadable: unknown word,unreadable: missing field,\
                  unreadable: too many fields,unreadable: not a number of 32 bits,\
                  unreadable: too many numbers,unreadable: wrong count of numbers,\
-                 unreadable: room is no count";
+                 unreadable: room is no count,unreadable: not a reading";
     for sort in often.split(',') {
         let count = seen.get(sort).copied().unwrap_or(0);
         assert!(count >= 3, "{sort}: {count}");

@@ -5,6 +5,7 @@ use super::given::Given;
 use super::lines::words;
 use super::unreadable::Unreadable;
 use crate::plane::{Point, point};
+use crate::tablet;
 
 /// The fields of a line may hold so many numbers together.
 pub const MOST_NUMBERS: usize = 16_384;
@@ -15,6 +16,7 @@ pub enum Field {
     Direction,
     /// How many numbers the lent output holds; may be left out, with its bar.
     Room,
+    Reading,
 }
 
 #[derive(Clone, Debug, PartialEq, Eq)]
@@ -23,6 +25,7 @@ pub enum Value {
     Shape(Vec<i32>),
     Direction(Point),
     Room(usize),
+    Reading(tablet::Reading),
 }
 
 impl Field {
@@ -35,6 +38,7 @@ impl Field {
             Field::Shape => numbers.read(text).map(Value::Shape),
             Field::Direction => direction(&numbers.read(text)?),
             Field::Room => room(&numbers.read(text)?),
+            Field::Reading => reading(text).ok_or(Unreadable::NotAReading),
         }
     }
 }
@@ -77,6 +81,24 @@ fn room(list: &[i32]) -> Result<Value, Unreadable> {
         },
         _ => Err(Unreadable::WrongCount),
     }
+}
+
+/// `mm` or `e8`, then `0x` and 16 hexadecimal digits.
+fn reading(text: &[u8]) -> Option<Value> {
+    let [unit, bits] = words(text).collect::<Vec<_>>().try_into().ok()?;
+    let eighths = match unit {
+        b"mm" => false,
+        b"e8" => true,
+        _ => return None,
+    };
+    let digits = bits
+        .strip_prefix(b"0x")
+        .filter(|digits| digits.len() == 16)?;
+    if !digits.iter().all(u8::is_ascii_hexdigit) {
+        return None;
+    }
+    let bits = u64::from_str_radix(str::from_utf8(digits).ok()?, 16).ok()?;
+    Some(Value::Reading(tablet::Reading { eighths, bits }))
 }
 
 /// Reads numbers, as long as the line may hold more of them.

@@ -4,6 +4,7 @@ use super::fields::Value;
 use crate::judge::judge;
 use crate::plane::{Point, Shape};
 use crate::refusal::Refusal;
+use crate::tablet::Reading;
 
 /// The values of the fields, in order. Fields that were left out have none.
 #[derive(Debug, PartialEq, Eq)]
@@ -19,6 +20,15 @@ impl Given {
         let judged = (1..).zip(lists).map(|(number, list)| judge(list, number));
         let shapes: Vec<Shape> = judged.collect::<Result<_, _>>()?;
         Ok(shapes.try_into().expect("the row has so many shapes"))
+    }
+
+    pub fn readings<const COUNT: usize>(&self) -> [Reading; COUNT] {
+        let readings = self.0.iter().filter_map(|value| match value {
+            Value::Reading(reading) => Some(*reading),
+            _ => None,
+        });
+        let found: Vec<Reading> = readings.collect();
+        found.try_into().expect("the row has so many readings")
     }
 
     pub fn direction(&self) -> Point {

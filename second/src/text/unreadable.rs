@@ -12,13 +12,17 @@ pub enum Unreadable {
     TooManyNumbers,
     WrongCount,
     NotACount,
+    NotAReading,
 }
 
 impl Unreadable {
     /// Whether a field could not be read at all. Such a fault is told before one of a field that
     /// was read but does not hold what it should, wherever the two stand.
     pub fn is_in_text(self) -> bool {
-        matches!(self, Unreadable::NotANumber | Unreadable::TooManyNumbers)
+        matches!(
+            self,
+            Unreadable::NotANumber | Unreadable::TooManyNumbers | Unreadable::NotAReading
+        )
     }
 }
 
@@ -33,6 +37,7 @@ impl fmt::Display for Unreadable {
             Unreadable::TooManyNumbers => "too many numbers",
             Unreadable::WrongCount => "wrong count of numbers",
             Unreadable::NotACount => "room is no count",
+            Unreadable::NotAReading => "not a reading",
         };
         write!(f, "unreadable: {reason}")
     }

@@ -1,5 +1,6 @@
 -- The rows of a question's lists, before its own.
 --     refuses-more        a refusal stands whatever rows come behind
+--     refuses-first       some row of the list applies
 --     admitted-pair       a shape, and what judging the second list says
 --     refuses-written     a question that writes gives it, and writes nothing
 --     valid-passed, valid-answer      of a valid list the rows may be left out
@@ -43,7 +44,7 @@ admitted-pair a b v Admission.Valid w = (v, w)
 admitted-pair a b v (Admission.No r) f = refuses-second a v f
 
 -- whatever the answer would be: so some row applies
-refuses-first : {vs : List Row} {r : Reply} → Refuses vs r → (w : Row) × First w vs × (r ≡ refused (w .number) (w .carries))
+pub refuses-first : {vs : List Row} {r : Reply} → Refuses vs r → (w : Row) × First w vs × (r ≡ refused (w .number) (w .carries))
 refuses-first {vs} {r} f = go (outcome vs)
   where
     go : Outcome vs → (w : Row) × First w vs × (r ≡ refused (w .number) (w .carries))

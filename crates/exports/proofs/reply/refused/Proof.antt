@@ -76,6 +76,24 @@ enum-told-6 c = search needs
 pair-requires-11 : tie.Need-pair-requires-11
 pair-requires-11 c κs = search needs
 
+enum-known-refusal-6 : tie.Need-enum-known-refusal-6
+enum-known-refusal-6 c = search needs
+
+pair-requires-12 : tie.Need-pair-requires-12
+pair-requires-12 c κs = search needs
+
+enum-known-refusal-7 : tie.Need-enum-known-refusal-7
+enum-known-refusal-7 c = search needs
+
+pair-requires-13 : tie.Need-pair-requires-13
+pair-requires-13 c κs = search needs
+
+enum-known-refusal-8 : tie.Need-enum-known-refusal-8
+enum-known-refusal-8 c = search needs
+
+pair-requires-14 : tie.Need-pair-requires-14
+pair-requires-14 c κs = search needs
+
 returns : tie.Need-returns
 returns c = c .pair .ensures ∙ told (c .before .before .refusal .given .1)
 
@@ -109,10 +127,20 @@ returns-10 c = c .pair10 .ensures ∙ told (c .before .enum-told5 .given .1)
 returns-11 : tie.Need-returns-11
 returns-11 c = c .pair11 .ensures ∙ told (c .before .enum-told6 .given .1)
 
+returns-12 : tie.Need-returns-12
+returns-12 c = c .pair12 .ensures ∙ told (c .before .before .refusal6 .given .1)
+
+returns-13 : tie.Need-returns-13
+returns-13 c = c .pair13 .ensures ∙ told (c .before .before .refusal7 .given .1)
+
+returns-14 : tie.Need-returns-14
+returns-14 c = c .pair14 .ensures ∙ told (c .before .before .refusal8 .given .1)
+
 pub refused-spec : {M : Type 1} → statement M
 refused-spec =
     tie.close
     (tie.spec enum-known-refusal pair-requires enum-known-refusal-2 pair-requires-2 enum-known-refusal-3 pair-requires-3
     enum-known-refusal-4 pair-requires-4 enum-known-refusal-5 pair-requires-5 enum-told pair-requires-6 enum-told-2 pair-requires-7
-    enum-told-3 pair-requires-8 enum-told-4 pair-requires-9 enum-told-5 pair-requires-10 enum-told-6 pair-requires-11 returns returns-2
-    returns-3 returns-4 returns-5 returns-6 returns-7 returns-8 returns-9 returns-10 returns-11)
+    enum-told-3 pair-requires-8 enum-told-4 pair-requires-9 enum-told-5 pair-requires-10 enum-told-6 pair-requires-11
+    enum-known-refusal-6 pair-requires-12 enum-known-refusal-7 pair-requires-13 enum-known-refusal-8 pair-requires-14 returns returns-2
+    returns-3 returns-4 returns-5 returns-6 returns-7 returns-8 returns-9 returns-10 returns-11 returns-12 returns-13 returns-14)

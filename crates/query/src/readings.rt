@@ -1,0 +1,66 @@
+// A corner of two readings: doubles made of their bits, and bits of doubles.
+ghost use mathlib.Core.Path.{_≡_};
+ghost use lib.Ieee.{binary64, nanBits};
+use crate::replies;
+use questions::Reading;
+use questions::answer::Tablet;
+use text::answers;
+use text::fields;
+use text::readings;
+
+// The weight of the sign, of the exponent, and the exponent of an infinity or a NaN.
+const SIGN: u64 = 0x8000000000000000;
+
+const EXPONENT: u64 = 0x10000000000000;
+
+const ONES: u64 = 2047;
+
+// A corner of the readings of a line's two fields: the bits of the doubles that go back.
+pub fn tablet(out: &mut [u8], filled: usize, line: &[u8]) -> usize {
+    let x = reading(fields::reading(line, false));
+    let y = reading(fields::reading(line, true));
+    match questions::tablet(x, y) {
+        Tablet::Corner { sent, x: _, y: _ } => {
+            let now = answers::word(out, filled, b"ok");
+            let then = answers::bits(out, now, pattern(sent.x));
+            answers::bits(out, then, pattern(sent.y))
+        }
+        Tablet::No(refusal) => replies::refuse(out, filled, refusal),
+    }
+}
+
+// The reading of a unit and bits. (A line whose fields are no readings is not asked.)
+fn reading(text: readings::Reading) -> Reading {
+    match text {
+        readings::Reading::Millimetres(bits) => Reading::Millimetres(double(bits)),
+        readings::Reading::Eighths(bits) => Reading::Eighths(double(bits)),
+        readings::Reading::Nothing => Reading::Millimetres(0.0),
+    }
+}
+
+// The double of a bit pattern. The language has no bits of a NaN: one is made by a division.
+fn double(bits: u64) -> f64 {
+    if is_nan(bits) {
+        let zero = 0.0;
+        return zero / zero;
+    }
+    f64::from_bits(bits)
+}
+
+// Whether a bit pattern is a NaN's.
+fn is_nan(bits: u64) -> bool
+    ensures { λ r. ⌜ r ≡ nanBits binary64 bits ⌝ }
+{
+    if bits % SIGN / EXPONENT == ONES {
+        return bits % EXPONENT != 0;
+    }
+    false
+}
+
+// The bit pattern of a double. (None that goes back is a NaN, which alone differs from itself.)
+fn pattern(v: f64) -> u64 {
+    if v == v {
+        return f64::to_bits(v);
+    }
+    0
+}

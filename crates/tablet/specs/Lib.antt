@@ -1,0 +1,7 @@
+-- Readings of the tablet: the exact value of a double, what a reading and a corner come to; the code's tests; meaning and theory.
+pub mod Double
+pub mod Reading
+pub mod Cases
+pub mod Test
+pub mod Meaning
+pub mod theory

@@ -1,0 +1,8 @@
+-- What the meaning stands on, in reading order.
+pub mod Fraction
+pub mod Exact
+pub mod Tested
+pub mod Reads
+pub mod Rows
+pub mod Value
+pub mod Corner
