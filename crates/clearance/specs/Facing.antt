@@ -3,13 +3,11 @@
 --     Reached A B n c     all corners of candidate c lie in the two faces, A's lowest and B's highest in n: two corners on a line along n,
 --                         or a corner that falls strictly inside an edge
 --     Facing A B n        all of A is above all of B in n, and some candidate is reached
---     Earlier c d         c comes before d in the ticket's order
 --     StopsAtCorner D k, StopsOnEdge D k     the walk round D stops: at the corner after corner k, or on the edge that leaves it
 -- What it means: in a direction that faces the least distance the first candidate that is reached is the nearest (`nearest-is`).
 use mathlib.Core.Path.{_≡_}
 use mathlib.Core.Bool.{true}
-use mathlib.Core.Logic.{_⊎_}
-use mathlib.Core.List.{List}
+use mathlib.Core.List.{List, List·Memᴰ}
 use Prim.Native.Nat.{ℕ, _<_}
 use lib.IntN.{pos}
 use lib.ListN.{length}
@@ -19,7 +17,6 @@ use Rattle.plane.specs.Turn.{cross}
 use Rattle.plane.specs.Shape.{next}
 use Rattle.plane.specs.Direction.{value}
 use Rattle.plane.specs.Clearance.{fallsOn, Candidate, corners, onSecond, onFirst}
-use Rattle.plane.specs.theory.lists.Members.{_∈_}
 
 pub record Lowest (n : Point) (ps : List Point) (i : ℕ) : Type 0 where
   pub within : i < length ps
@@ -44,26 +41,9 @@ Reached A B n (onSecond i e) = Foot n A B i e
 Reached A B n (onFirst j e) = Foot (opposite n) B A j e
 
 pub record Facing (A B : List Point) (n : Point) : Type 0 where
-  pub above : (a b : Point) → a ∈ A → b ∈ B → value n b <ℤ value n a
+  pub above : (a b : Point) → List·Memᴰ a A → List·Memᴰ b B → value n b <ℤ value n a
   pub some : Candidate
   pub reached : Reached A B n some
-
--- ---- the ticket's order
-
--- by the first number, then by the second
-abbrev pub Sooner : ℕ → ℕ → ℕ → ℕ → Type 0
-Sooner i j k l = (i < k) ⊎ ((i ≡ k) × (j < l))
-
-abbrev pub Earlier : Candidate → Candidate → Type 0
-Earlier (corners i j) (corners k l) = Sooner i j k l
-Earlier (corners i j) (onSecond k l) = Unit {0}
-Earlier (corners i j) (onFirst k l) = Unit {0}
-Earlier (onSecond i j) (corners k l) = ⊥
-Earlier (onSecond i j) (onSecond k l) = Sooner i j k l
-Earlier (onSecond i j) (onFirst k l) = Unit {0}
-Earlier (onFirst i j) (corners k l) = ⊥
-Earlier (onFirst i j) (onSecond k l) = ⊥
-Earlier (onFirst i j) (onFirst k l) = Sooner i j k l
 
 -- ---- where the walk round the differences D stops
 

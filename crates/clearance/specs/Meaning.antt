@@ -15,7 +15,7 @@ use Rattle.plane.specs.Shape.{IsShape}
 use Rattle.plane.specs.Separation.{apart}
 use Rattle.plane.specs.Mean.{weight, AtMost, Exactly, CommonPoint}
 use Rattle.plane.specs.Clearance.{Candidate, top, bottom, nearest, numbersOf}
-use Rattle.clearance.specs.theory.Candidates.{AtOrAfter, Listed}
+use Rattle.clearance.specs.Order.{AtOrAfter, Listed}
 use Rattle.clearance.specs.theory.Nearest.{nearest-least, nearest-attained, nearest-is-listed, nearest-is-whole, nearest-before-ties}
 use Rattle.clearance.specs.theory.Nearest.{nearest-sym, common-not-apart}
 use Rattle.clearance.specs.theory.Common.{not-apart-common}

@@ -161,8 +161,8 @@ fn clearance(out: &mut [u8], filled: usize, a: &[i32], b: &[i32]) -> usize {
             squared,
             rounded,
         } => {
-            let now = answers::word(out, filled, b"ok cc");
-            answers::counts(out, now, &[first as u64, second as u64, squared, rounded])
+            let values = [first as u64, second as u64, squared, rounded];
+            replies::found(out, filled, b"ok cc", &values)
         }
         Clearance::CornerEdge {
             corner,
@@ -171,12 +171,8 @@ fn clearance(out: &mut [u8], filled: usize, a: &[i32], b: &[i32]) -> usize {
             squared,
             rounded,
         } => {
-            let now = answers::word(out, filled, b"ok ce");
-            answers::counts(
-                out,
-                now,
-                &[corner as u64, edge as u64, turn, squared, rounded],
-            )
+            let values = [corner as u64, edge as u64, turn, squared, rounded];
+            replies::found(out, filled, b"ok ce", &values)
         }
         Clearance::EdgeCorner {
             corner,
@@ -185,12 +181,8 @@ fn clearance(out: &mut [u8], filled: usize, a: &[i32], b: &[i32]) -> usize {
             squared,
             rounded,
         } => {
-            let now = answers::word(out, filled, b"ok ec");
-            answers::counts(
-                out,
-                now,
-                &[corner as u64, edge as u64, turn, squared, rounded],
-            )
+            let values = [corner as u64, edge as u64, turn, squared, rounded];
+            replies::found(out, filled, b"ok ec", &values)
         }
         Clearance::No(refusal) => replies::refuse(out, filled, refusal),
     }

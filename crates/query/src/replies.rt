@@ -93,3 +93,9 @@ fn blamed(refusal: Refusal) -> u64 {
         _ => 0,
     }
 }
+
+// Where two shapes are nearest: the word of its kind, and numbers.
+pub fn found(out: &mut [u8], filled: usize, kind: &[u8], values: &[u64]) -> usize {
+    let now = answers::word(out, filled, kind);
+    answers::counts(out, now, values)
+}

@@ -23,7 +23,7 @@ use Rattle.plane.specs.Clearance.{fallsOn, Candidate, corners, onSecond, onFirs
 use Rattle.plane.specs.theory.lists.Members.{point-path}
 use Rattle.plane.specs.theory.lists.Next.{next-below}
 use Rattle.plane.specs.theory.forms.Vector.{quarter}
-use Rattle.clearance.specs.theory.Candidates.{Listed}
+use Rattle.clearance.specs.Order.{Listed}
 use Rattle.clearance.specs.theory.Bound.{falls-inside, squared-back}
 use Rattle.clearance.specs.theory.Means.{unit, two}
 use Rattle.clearance.specs.theory.Means.{weight-unit, heap-unit, weight-two, heap-two}

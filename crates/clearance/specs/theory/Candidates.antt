@@ -1,6 +1,5 @@
 -- The candidates, which stand in the ticket's order, and the first of those that pass.
---     Listed A B c, listed, unlisted     a candidate is in the list exactly if its positions are and its corner falls on its edge
---     AtOrAfter c d                      d is c or comes after it
+--     listed, unlisted                   a candidate is in the list exactly if its positions are and its corner falls on its edge
 --     least-listed, least-passes         the least is in the list, and passes if one does
 --     least-first                        those that pass are it or come after it
 use mathlib.Core.Path.{_≡_, refl, sym, subst}
@@ -15,13 +14,9 @@ use native.Mathlib.Omega.{arith}
 use lib.ListN.{length}
 use Rattle.plane.specs.Point.{Point, corner}
 use Rattle.plane.specs.Clearance.{fallsOn, Candidate, corners, onSecond, onFirst, each, candidates, leastOf}
-use Rattle.clearance.specs.Facing.{Sooner, Earlier}
+use Rattle.clearance.specs.Order.{Sooner, Earlier, AtOrAfter, itself, after, Listed}
 
 -- ---- the ticket's order
-
-pub data AtOrAfter (c d : Candidate) : Type 0 where
-  itself : d ≡ c → AtOrAfter c d
-  after : Earlier c d → AtOrAfter c d
 
 -- each stands before those that follow it
 abbrev InTurn : List Candidate → Type 0
@@ -127,11 +122,6 @@ module _ (put : ℕ → ℕ → Candidate) (test : ℕ → ℕ → Bool) (n m : 
             cell-order i (r .0) k (s .0) c d (inl h) (member-cell i (r .0) (r .2) .1) (member-cell k (s .0) (s .2) .1)
 
 -- ---- all of them
-
-abbrev pub Listed : List Point → List Point → Candidate → Type 0
-Listed A B (corners i j) = (i < length A) × (j < length B)
-Listed A B (onSecond i e) = (i < length A) × (e < length B) × (fallsOn B e (corner A i) ≡ true)
-Listed A B (onFirst j e) = (j < length B) × (e < length A) × (fallsOn A e (corner B j) ≡ true)
 
 module _ (A B : List Point) where
   abbrev pairs : List Candidate

@@ -28,7 +28,8 @@ use Rattle.plane.specs.Clearance.{Candidate, corners, onSecond, onFirst, neares
 use Rattle.plane.specs.theory.lists.Members.{point-path, position-member}
 use Rattle.plane.specs.theory.forms.Standard.{triples-at, shape→ordered}
 use Rattle.separation.specs.theory.Sector.{zero-factor}
-use Rattle.clearance.specs.Facing.{Lowest, Foot, Across, Reached, Facing, Sooner, Earlier}
+use Rattle.clearance.specs.Order.{Sooner, Earlier}
+use Rattle.clearance.specs.Facing.{Lowest, Foot, Across, Reached, Facing}
 use Rattle.clearance.specs.Faces.{IsFace, isEnd, isAlong, isFoot, pickedOf, tried}
 use Rattle.clearance.specs.theory.First.{nearest-is}
 use Rattle.clearance.specs.declared.face.Face.{Face}

@@ -25,8 +25,9 @@ use Rattle.plane.specs.theory.lists.Members.{position-member}
 use Rattle.plane.specs.theory.lists.Next.{next-below}
 use Rattle.plane.specs.theory.forms.Vector.{value-origin, value-turned}
 use Rattle.separation.specs.theory.Sector.{zero-factor, square-positive}
-use Rattle.clearance.specs.Facing.{Lowest, Reached, Facing, Earlier}
-use Rattle.clearance.specs.theory.Candidates.{AtOrAfter, itself, after, Listed, least-listed, least-passes, least-first}
+use Rattle.clearance.specs.Order.{Earlier, AtOrAfter, itself, after, Listed}
+use Rattle.clearance.specs.Facing.{Lowest, Reached, Facing}
+use Rattle.clearance.specs.theory.Candidates.{least-listed, least-passes, least-first}
 use Rattle.clearance.specs.theory.Bound.{value-sym, pair-bound, pair-attains, pair-attained}
 use Rattle.clearance.specs.theory.Bound.{foot-positive, foot-bound, foot-attains, foot-attained}
 

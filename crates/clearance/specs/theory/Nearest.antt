@@ -24,8 +24,8 @@ use Rattle.plane.specs.theory.lists.Members.{_∈_, member-position}
 use Rattle.plane.specs.theory.forms.Vector.{value-origin, value-turned}
 use Rattle.plane.specs.theory.support.Support.{value-le-support, support-attained}
 use Rattle.separation.specs.theory.Apart.{apart→direction, apart-sym, Separated}
+use Rattle.clearance.specs.Order.{AtOrAfter, Listed}
 use Rattle.clearance.specs.Facing.{Facing}
-use Rattle.clearance.specs.theory.Candidates.{AtOrAfter, Listed}
 use Rattle.clearance.specs.theory.First.{Held, facing-held, held-square, nearest-at, nearest-listed, nearest-whole, tie-after}
 use Rattle.clearance.specs.theory.Stop.{facing-exists}
 use Rattle.clearance.specs.theory.Means.{held-means, gap-value}

@@ -20,7 +20,7 @@ use Rattle.plane.specs.theory.lists.Members.{position-member}
 use Rattle.plane.specs.theory.forms.Squared.{squared-positive}
 use Rattle.separation.specs.theory.Apart.{apart→different}
 use Rattle.measure.specs.theory.Rounded.{rounded-low, rounded-high, positive-size}
-use Rattle.clearance.specs.theory.Candidates.{Listed}
+use Rattle.clearance.specs.Order.{Listed}
 use Rattle.clearance.specs.theory.Attained.{size-is}
 use Rattle.clearance.specs.theory.Nearest.{nearest-is-listed, nearest-is-whole}
 

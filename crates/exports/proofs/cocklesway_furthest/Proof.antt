@@ -8,7 +8,7 @@ use Rattle.plane.specs.Reply.{Reply}
 use Rattle.plane.specs.Furthest.{furthestReply}
 use Rattle.questions.specs.Answer.{ofFurthest}
 use Rattle.exports.specs.Crossing.{crossedBehind}
-use Rattle.exports.proofs.Refused.{refusal-behind}
+use Rattle.exports.proofs.Refused.{refusal-crosses}
 use Rattle.exports.proofs.Small.{furthest-kept}
 use borrow.Author.Needs.{needs}
 use Rattle.exports.proofs.cocklesway_furthest.Statement.{statement}
@@ -43,7 +43,7 @@ returns c =
 returns-2 : tie.Need-returns-2
 returns-2 c =
     let at = c .before .before .refusal .given in
-    c .signed-refusal .ensures ∙ sym (refusal-behind 1 (at .0 .0))
+    c .signed-refusal .ensures ∙ sym (refusal-crosses 1 0 (at .0 .0) .0)
     ∙ ap (λ (x : Reply). crossedBehind 1 x) (ap ofFurthest (sym (at .1)) ∙ reply-is (c .before .before .before .before))
 
 pub cocklesway-furthest-spec : {M : Type 1} → statement M

@@ -88,7 +88,7 @@ module _ (v : Float) where
   unfolding notFinite
   read-near f w h = ap Whole (sym (number-is v)) ∙ reads-near (Millimetres v) (ap not f) (not-whole-is v ∙ ap not w) (far-is v ∙ h)
 
-signed-size : (s : Bool) (n : ℕ) → natAbs (signed s n) ≡ n
+pub signed-size : (s : Bool) (n : ℕ) → natAbs (signed s n) ≡ n
 signed-size true zero = refl
 signed-size true (suc n) = refl
 signed-size false n = refl

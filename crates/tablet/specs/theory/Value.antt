@@ -22,7 +22,7 @@ use Rattle.plane.specs.Refusal.{outside}
 use Rattle.tablet.specs.Double.{finite, negative, over, under, signed, holding}
 use Rattle.tablet.specs.Reading.{double, top, bottom, notFinite, notWhole, far, wholeNumber, readAs}
 use Rattle.tablet.specs.theory.Exact.{eighth-exact}
-use Rattle.tablet.specs.theory.Reads.{reads-near, under-pos}
+use Rattle.tablet.specs.theory.Reads.{reads-near, under-pos, signed-size}
 use Rattle.tablet.specs.theory.Rows.{whole-passed, whole-is}
 use Rattle.tablet.specs.declared.reading.Reading.{Reading}
 use Rattle.tablet.specs.declared.reading.Reading.the-variants.{Millimetres, Eighths}
@@ -34,11 +34,6 @@ signed-times : (s : Bool) (q b : ℕ) → signed s (q * b) ≡ signed s q *ℤ p
 signed-times false q b = refl
 signed-times true zero b = ap (λ (z : ℕ). negℤ (pos z)) (zero-mul b) ∙ ap pos (sym (zero-mul b))
 signed-times true (suc q) b = refl
-
-signed-size : (s : Bool) (n : ℕ) → natAbs (signed s n) ≡ n
-signed-size true zero = refl
-signed-size true (suc n) = refl
-signed-size false n = refl
 
 times-size : (n : ℤ) (b : ℕ) → natAbs (n *ℤ pos b) ≡ natAbs n * b
 times-size (pos k) b = refl

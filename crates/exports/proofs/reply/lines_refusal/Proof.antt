@@ -3,7 +3,7 @@ use mathlib.Core.Path.{_∙_, ap, sym}
 use mathlib.Core.List.{List, [], _∷_, _++_}
 use lib.IntN.{ℤ, pos}
 use lib.ListN.{take}
-use Rattle.exports.proofs.Refused.{refusal-wide}
+use Rattle.exports.proofs.Refused.{refusal-crosses}
 use borrow.Author.Needs.{needs}
 use Rattle.exports.proofs.reply.lines_refusal.Statement.{statement}
 use Rattle.exports.proofs.reply.lines_refusal.Tie as tie
@@ -14,7 +14,7 @@ refused-requires c κs = search needs
 returns : tie.Need-returns
 returns c =
     ap (λ (l : List ℤ). take 4 l ++ pos 0 ∷ pos 0 ∷ pos 0 ∷ pos 0 ∷ pos 0 ∷ pos 0 ∷ []) (c .refused .ensures)
-    ∙ sym (refusal-wide 6 (c .before .args .refusal))
+    ∙ sym (refusal-crosses 0 6 (c .before .args .refusal) .1)
 
 pub lines-refusal-spec : {M : Type 1} → statement M
 lines-refusal-spec = tie.close (tie.spec refused-requires returns)

@@ -1,0 +1,36 @@
+-- The ticket's order of candidates (document 02, W3, "On a tie two corners go first, ..").
+--     Listed A B c      the positions of c are in the shapes, and its corner falls strictly inside its edge: exactly those are in `candidates`
+--     Sooner i j k l    by the first number, then by the second
+--     Earlier c d       c comes before d
+--     AtOrAfter c d     d is c or comes after it
+use mathlib.Core.Path.{_≡_}
+use mathlib.Core.Bool.{true}
+use mathlib.Core.Logic.{_⊎_}
+use mathlib.Core.List.{List}
+use Prim.Native.Nat.{ℕ, _<_}
+use lib.ListN.{length}
+use Rattle.plane.specs.Point.{Point, corner}
+use Rattle.plane.specs.Clearance.{fallsOn, Candidate, corners, onSecond, onFirst}
+
+abbrev pub Listed : List Point → List Point → Candidate → Type 0
+Listed A B (corners i j) = (i < length A) × (j < length B)
+Listed A B (onSecond i e) = (i < length A) × (e < length B) × (fallsOn B e (corner A i) ≡ true)
+Listed A B (onFirst j e) = (j < length B) × (e < length A) × (fallsOn A e (corner B j) ≡ true)
+
+abbrev pub Sooner : ℕ → ℕ → ℕ → ℕ → Type 0
+Sooner i j k l = (i < k) ⊎ ((i ≡ k) × (j < l))
+
+abbrev pub Earlier : Candidate → Candidate → Type 0
+Earlier (corners i j) (corners k l) = Sooner i j k l
+Earlier (corners i j) (onSecond k l) = Unit {0}
+Earlier (corners i j) (onFirst k l) = Unit {0}
+Earlier (onSecond i j) (corners k l) = ⊥
+Earlier (onSecond i j) (onSecond k l) = Sooner i j k l
+Earlier (onSecond i j) (onFirst k l) = Unit {0}
+Earlier (onFirst i j) (corners k l) = ⊥
+Earlier (onFirst i j) (onSecond k l) = ⊥
+Earlier (onFirst i j) (onFirst k l) = Sooner i j k l
+
+pub data AtOrAfter (c d : Candidate) : Type 0 where
+  itself : d ≡ c → AtOrAfter c d
+  after : Earlier c d → AtOrAfter c d
