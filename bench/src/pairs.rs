@@ -7,10 +7,7 @@ use crate::shapes::{Case, List, moved, polygon};
 /// One shape.
 pub fn single(random: &mut Random, n: usize) -> Case {
     let size = random.between(800_000, 1_600_000);
-    Case {
-        a: polygon(random, n, size, 0, 0),
-        b: List::new(),
-    }
+    Case::new(polygon(random, n, size, 0, 0), List::new())
 }
 
 /// Two shapes that overlap, the second with 4 corners less; neither is inside the other.
@@ -46,10 +43,10 @@ fn overlapping(random: &mut Random, n: usize, m: usize, away: i32) -> Case {
         random.between(500_000, 800_000),
         random.between(500_000, 800_000),
     );
-    Case {
-        a: polygon(random, n, one, x, y),
-        b: polygon(random, m, other, -x, -y),
-    }
+    Case::new(
+        polygon(random, n, one, x, y),
+        polygon(random, m, other, -x, -y),
+    )
 }
 
 /// Two shapes side by side, or one above the other.
@@ -62,10 +59,10 @@ pub fn apart(random: &mut Random, n: usize) -> Case {
         (near, -450_000),
     ];
     let (x, y) = ways[random.below(4) as usize];
-    Case {
-        a: polygon(random, n, 800_000, x, y),
-        b: polygon(random, n - 4, 800_000, -x, -y),
-    }
+    Case::new(
+        polygon(random, n, 800_000, x, y),
+        polygon(random, n - 4, 800_000, -x, -y),
+    )
 }
 
 /// The first shape, with 4 corners less, well inside the second.
@@ -75,16 +72,31 @@ pub fn nested(random: &mut Random, n: usize) -> Case {
         random.between(-50_000, 50_000),
         random.between(-50_000, 50_000),
     );
-    Case {
-        a: polygon(random, n - 4, size, x, y),
-        b: polygon(random, n, 1_600_000, 0, 0),
-    }
+    Case::new(
+        polygon(random, n - 4, size, x, y),
+        polygon(random, n, 1_600_000, 0, 0),
+    )
 }
 
 /// A shape and the same one to the right of it: sum and merge are answered at any size, since their
-/// edges are parallel, and clearance and tangents do all their work.
+/// edges are parallel, and clearance and tangents do all their work. The log has n records.
 pub fn moved_away(random: &mut Random, n: usize) -> Case {
     let a = polygon(random, n, 400_000, -250_000, 0);
     let b = moved(&a, 500_000, 1000);
-    Case { a, b }
+    let log = log(random, n);
+    Case { a, b, log }
+}
+
+/// A log of n records, each of a point under a name of its own, and room for one more.
+fn log(random: &mut Random, n: usize) -> Vec<u8> {
+    let mut bytes = Vec::new();
+    for name in 0..n as u16 {
+        bytes.extend([13, 0, 1, 0]);
+        bytes.extend(name.to_le_bytes());
+        bytes.extend(random.between(-1000, 1000).to_le_bytes());
+        bytes.extend(random.between(-1000, 1000).to_le_bytes());
+        bytes.push(0x5A);
+    }
+    bytes.extend([0; 15]);
+    bytes
 }

@@ -7,6 +7,8 @@ mod archive {
 
     type List = *const i32;
     type Output = *mut i32;
+    type Log = *const u8;
+    type LogOutput = *mut u8;
 
     unsafe extern "C" {
         pub fn cocklesway_judge(list: List, n: usize) -> Numbers;
@@ -34,6 +36,21 @@ mod archive {
         pub fn cocklesway_inside(a: List, n: usize, b: List, m: usize) -> Numbers;
         pub fn cocklesway_clearance(a: List, n: usize, b: List, m: usize) -> Nearest;
         pub fn cocklesway_tangents(a: List, n: usize, b: List, m: usize) -> Lines;
+        pub fn cocklesway_log_read(
+            log: Log,
+            count: usize,
+            name: u16,
+            out: Output,
+            room: usize,
+        ) -> Numbers;
+        pub fn cocklesway_log_add(
+            log: LogOutput,
+            count: usize,
+            name: u16,
+            list: List,
+            n: usize,
+            allowed: usize,
+        ) -> Numbers;
     }
 }
 
@@ -100,4 +117,23 @@ pub fn clearance(a: &[i32], b: &[i32]) -> Nearest {
 
 pub fn tangents(a: &[i32], b: &[i32]) -> Lines {
     unsafe { archive::cocklesway_tangents(a.as_ptr(), a.len(), b.as_ptr(), b.len()) }
+}
+
+pub fn log_read(log: &[u8], name: u16, out: &mut [i32]) -> Numbers {
+    unsafe {
+        archive::cocklesway_log_read(log.as_ptr(), log.len(), name, out.as_mut_ptr(), out.len())
+    }
+}
+
+pub fn log_add(log: &mut [u8], name: u16, list: &[i32], allowed: usize) -> Numbers {
+    unsafe {
+        archive::cocklesway_log_add(
+            log.as_mut_ptr(),
+            log.len(),
+            name,
+            list.as_ptr(),
+            list.len(),
+            allowed,
+        )
+    }
 }

@@ -1,7 +1,7 @@
 //! Replies as numbers, as the archive gives them (`crates/exports/src/reply.rt`).
 
-/// A refusal: its number, the shape that 1 to 5 blame, and 4's edge and corner as the first two
-/// values. An answer: 0, 0 and its values. What is not needed is 0.
+/// A refusal: its number, the shape that 1 to 5 blame or 15's place, and 4's edge and corner as the two
+/// first values. An answer: 0, 0 and its values. What is not needed is 0.
 #[repr(C)]
 #[derive(Clone, Copy, Debug, PartialEq, Eq)]
 pub struct Numbers {

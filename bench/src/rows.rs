@@ -45,8 +45,9 @@ pub const ROWS: [(&str, [Run; 2], Make); 10] = [
 ];
 
 /// Every proved question, on a shape and the same one moved away (`pairs::moved_away`). It takes the
-/// whole walk to find that a shape overlaps itself, or is inside itself.
-pub const GROWTH: [(&str, Run); 11] = [
+/// whole walk to find that a shape overlaps itself, or is inside itself. A log has as many records
+/// as the shape has corners.
+pub const GROWTH: [(&str, Run); 13] = [
     ("judge", JUDGE[0]),
     ("furthest", |cases| {
         block(cases, |c, _| proved::furthest(&c.a, 3, 1))
@@ -60,4 +61,12 @@ pub const GROWTH: [(&str, Run); 11] = [
     ("inside", run!(proved::inside(a, a))),
     ("clearance", run!(proved::clearance(a, b))),
     ("tangents", run!(proved::tangents(a, b))),
+    ("log_read, records", |cases| {
+        block(cases, |c, out| proved::log_read(&c.log, 0, out))
+    }),
+    ("log_add, records", |cases| {
+        block(cases, |c, _| {
+            proved::log_add(&mut c.log.clone(), 0, &[1, -1], usize::MAX)
+        })
+    }),
 ];

@@ -4,13 +4,23 @@ use crate::random::Random;
 /// A list of numbers, x y x y.
 pub type List = Vec<i32>;
 
-/// The lists that a question is asked of: one shape, or two.
+/// The lists that a question is asked of: one shape, or two; and a log, if it is asked of one.
 pub struct Case {
     pub a: List,
     pub b: List,
+    pub log: Vec<u8>,
 }
 
 impl Case {
+    /// One shape or two, and no log.
+    pub fn new(a: List, b: List) -> Case {
+        Case {
+            a,
+            b,
+            log: Vec::new(),
+        }
+    }
+
     /// Reads all its numbers, for a number that hangs on them.
     pub fn read(&self) -> i32 {
         self.a

@@ -99,3 +99,37 @@ fn two_shapes_are_compared() {
     };
     assert_eq!(proved::tangents(&SQUARE, &SQUARE), touching);
 }
+
+/// Point 1 -1 named 7.
+const RECORD: [u8; 15] = [13, 0, 1, 0, 7, 0, 1, 0, 0, 0, 255, 255, 255, 255, 0x5A];
+
+#[test]
+fn log_is_added_to_and_read() {
+    let mut log = [0; 16];
+    let mut out = [3; 3];
+    let added = |log: &mut [u8], allowed| proved::log_add(log, 7, &[1, -1], allowed);
+    assert_eq!(added(&mut log, 14), Numbers::one(0));
+    assert_eq!(proved::log_read(&log, 7, &mut out), Numbers::refused(19));
+    assert_eq!(added(&mut log, 32), Numbers::one(1));
+    assert_eq!(log[..15], RECORD);
+    assert_eq!(log[15], 0);
+    assert_eq!(proved::log_read(&log, 7, &mut out), Numbers::one(1));
+    assert_eq!(out, [1, -1, 3]);
+    assert_eq!(added(&mut log, 32), Numbers::refused(16));
+    assert_eq!(
+        proved::log_read(&log, 7, &mut out[..1]),
+        Numbers::refused(8)
+    );
+    log[2] = 2;
+    assert_eq!(proved::log_read(&log, 7, &mut out), Numbers::blamed(15, 0));
+}
+
+#[test]
+fn log_names_the_place_of_its_first_bad_record() {
+    let mut log = [RECORD, RECORD].concat();
+    log[15 + 2] = 2;
+    assert_eq!(
+        proved::log_read(&log, 7, &mut [0; 2]),
+        Numbers::blamed(15, 15)
+    );
+}

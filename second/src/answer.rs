@@ -66,8 +66,16 @@ mod tests {
         ("furthest | 0 0 | 1", "unreadable: wrong count of numbers"),
         ("mirror | 0 0 |", "unreadable: wrong count of numbers"),
         ("mirror | 0 0 | 1 2", "unreadable: wrong count of numbers"),
-        ("mirror | 0 0 | -1", "unreadable: room is no count"),
+        ("mirror | 0 0 | -1", "unreadable: not a count"),
         ("mirror | 0 0 | -0", "no 8"),
+        ("bookread | | 7", "no 19"),
+        ("bookread | 0 | 65536", "unreadable: not bytes"),
+        ("bookread | | 65536", "unreadable: not a name"),
+        ("bookread | | -1", "unreadable: not a name"),
+        ("bookread | | 1 2", "unreadable: wrong count of numbers"),
+        ("bookadd | | 7 | 0", "no 1 shape 1"),
+        ("bookadd | 0102 | 7 | 0 0", "no 16"),
+        ("bookadd | | 7 | 0 0 | -1", "unreadable: not a count"),
     ];
 
     #[test]

@@ -3,6 +3,7 @@
 
 use crate::clearance::{self, Against, Between};
 use crate::combine::{self, held_by};
+use crate::log;
 use crate::measure;
 use crate::plane::Shape;
 use crate::refusal::Refusal;
@@ -100,6 +101,22 @@ pub fn tablet(given: &Given) -> Answer {
     Ok(corner
         .map(|number| format!("0x{:016x}", tablet::bits(number)))
         .join(" "))
+}
+
+pub fn log_read(given: &Given) -> Answer {
+    written(given, log::read(given.log(), given.name())?)
+}
+
+pub fn log_add(given: &Given) -> Answer {
+    let mut log = given.log().to_vec();
+    let finished = log::add(&mut log, given.name(), given.list(), given.stores())?;
+    let word = if finished { "finished" } else { "cut" };
+    Ok(format!("{word} | {}", log_text(&log)))
+}
+
+/// The bytes in pairs of digits.
+pub fn log_text(log: &[u8]) -> String {
+    log.iter().map(|byte| format!("{byte:02X}")).collect()
 }
 
 /// The shape as it stands in the lent output, if that has the room.

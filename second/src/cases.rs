@@ -7,6 +7,8 @@ use crate::make::dice::Dice;
 use crate::make::{line, long, shape_text};
 use std::io::{self, Write};
 
+mod log;
+
 /// Words of 01 or 02, and the questions with their stated answers.
 type Stated = (&'static str, &'static [(&'static str, &'static str)]);
 
@@ -191,6 +193,7 @@ pub fn groups() -> Vec<Group> {
     groups.extend(spelled(LEFT_RULE));
     groups.extend(spelled(TANGENTS));
     groups.extend(spelled(CLEARANCE));
+    groups.extend(spelled(log::LOG));
     groups
 }
 

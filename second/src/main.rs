@@ -3,12 +3,16 @@
 //! with the library but the text form of questions and answers.
 //!
 //!     second make SEED COUNT                      writes questions, the same ones for the same seed
-//!     second make SEED COUNT WORD                 the same, all of one word
+//!     second make SEED COUNT WORD                 the same, all of the words that begin so
 //!     second answer                               answers the questions of standard input
 //!     second cases                                writes the documents' cases as questions
 //!     second check                                answers these cases, compares with what is stated
 //!     second compare LEAST QUESTIONS ANSWERS      compares another program's answers with its own:
 //!                                                 two files, and how many answers there must be
+//!     second histories SEED ROUNDS                writes questions on logs that are added to and cut
+//!     second sentences SEED ROUNDS QUESTIONS ANSWERS
+//!                                                 checks document 02's sentences on logs over another
+//!                                                 program's answers to these
 
 mod answer;
 mod ask;
@@ -16,8 +20,10 @@ mod cases;
 mod clearance;
 mod combine;
 mod compare;
+mod histories;
 mod hull;
 mod judge;
+mod log;
 mod make;
 mod measure;
 mod plane;
@@ -33,8 +39,8 @@ use std::fs;
 use std::io::{self, BufWriter, Read, Write};
 use std::process::ExitCode;
 
-const USAGE: &str =
-    "second make SEED COUNT [WORD] | answer | cases | check | compare LEAST QUESTIONS ANSWERS";
+const USAGE: &str = "second make SEED COUNT [WORD] | answer | cases | check | compare LEAST QUESTIONS ANSWERS \
+     | histories SEED ROUNDS | sentences SEED ROUNDS QUESTIONS ANSWERS";
 
 /// Whether all is as it should be; trouble is what kept the program from finding out.
 type Outcome = Result<bool, Box<dyn Error>>;
@@ -65,6 +71,10 @@ fn run(words: &[&str]) -> Outcome {
         ["compare", least, questions, answers] => {
             return compare_files(number(least)?, questions, answers, output);
         }
+        ["histories", seed, rounds] => write_histories(number(seed)?, number(rounds)?, output)?,
+        ["sentences", seed, rounds, questions, answers] => {
+            return check_histories(number(seed)?, number(rounds)?, questions, answers, output);
+        }
         _ => return Err(USAGE.into()),
     }
     Ok(true)
@@ -94,6 +104,43 @@ fn check_cases(mut output: impl Write) -> Outcome {
     )?;
     output.flush()?;
     Ok(reports.is_empty())
+}
+
+/// Writes the questions of a walk.
+fn write_histories(seed: u64, rounds: usize, mut output: impl Write) -> Result<(), Box<dyn Error>> {
+    histories::walk(seed, rounds, &mut |question| {
+        writeln!(output, "{question}").map_err(|trouble| trouble.to_string())?;
+        Ok(answer::answer(question.as_bytes()))
+    })?;
+    Ok(output.flush()?)
+}
+
+/// The same walk, answered from a file.
+fn check_histories(
+    seed: u64,
+    rounds: usize,
+    questions: &str,
+    answers: &str,
+    mut output: impl Write,
+) -> Outcome {
+    let (questions, answers) = (fs::read_to_string(questions)?, fs::read_to_string(answers)?);
+    let mut lines = questions.lines().zip(answers.lines());
+    let mut count = 0;
+    let mut last = String::new();
+    let walked = histories::walk(seed, rounds, &mut |question| {
+        let (asked, answer) = lines.next().ok_or("there are more questions".to_string())?;
+        count += 1;
+        last = format!("line {count}: {asked}\n  answered {answer}");
+        let same = asked == question;
+        same.then(|| answer.to_string())
+            .ok_or(format!("to be asked: {question}"))
+    });
+    match &walked {
+        Ok(()) => writeln!(output, "second: the sentences hold of {count} answers")?,
+        Err(sentence) => writeln!(output, "{last}\n  against: {sentence}")?,
+    }
+    output.flush()?;
+    Ok(walked.is_ok())
 }
 
 /// Fails as well where fewer answers than wanted were compared.

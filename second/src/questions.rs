@@ -4,8 +4,8 @@
 use crate::ask::{self, Answer};
 use crate::make::dice::Dice;
 use crate::make::fields as make;
-use crate::make::readings;
-use crate::text::fields::Field::{self, Direction, Reading, Room, Shape};
+use crate::make::{logs, readings};
+use crate::text::fields::Field::{self, Direction, Log, Name, Reading, Room, Shape, Stores};
 use crate::text::given::Given;
 
 pub struct Row {
@@ -30,6 +30,8 @@ pub const TABLE: &[Row] = &[
     Row { word: "clearance", fields: &[Shape, Shape], ask: ask::clearance, make: make::clearance },
     Row { word: "tangents", fields: &[Shape, Shape], ask: ask::tangents, make: make::tangents },
     Row { word: "tablet", fields: &[Reading, Reading], ask: ask::tablet, make: readings::corner },
+    Row { word: "bookread", fields: &[Log, Name, Room], ask: ask::log_read, make: logs::to_read },
+    Row { word: "bookadd", fields: &[Log, Name, Shape, Stores], ask: ask::log_add, make: logs::to_add },
 ];
 
 pub fn find(word: &[u8]) -> Option<&'static Row> {

@@ -7,43 +7,41 @@ pub const MOST_COORDINATE: i64 = 1_000_000;
 pub const MOST_DIRECTION: i64 = 2_000_000;
 
 /// A number of the table. 1 to 5 say which shape; 4 also gives edge and corner. Those of a reading
-/// say which part of its corner.
+/// say which part of its corner, and that of a log the place of a byte.
 #[derive(Clone, Copy, Debug, PartialEq, Eq)]
 pub struct Refusal {
     pub number: u8,
     pub shape: Option<usize>,
     pub broken: Option<(usize, usize)>,
     pub part: Option<&'static str>,
+    pub place: Option<usize>,
 }
 
 impl Refusal {
-    /// 6 to 11: carries nothing.
+    /// A number that carries nothing.
     pub fn plain(number: u8) -> Refusal {
         Refusal {
             number,
             shape: None,
             broken: None,
             part: None,
+            place: None,
         }
     }
 
     /// 1, 2, 3 or 5 of the shape that stands first or second.
     pub fn of_shape(number: u8, shape: usize) -> Refusal {
         Refusal {
-            number,
             shape: Some(shape),
-            broken: None,
-            part: None,
+            ..Refusal::plain(number)
         }
     }
 
     /// 4 with the first edge, then the first corner, that breaks the left rule.
     pub fn left_rule(shape: usize, broken: (usize, usize)) -> Refusal {
         Refusal {
-            number: 4,
-            shape: Some(shape),
             broken: Some(broken),
-            part: None,
+            ..Refusal::of_shape(4, shape)
         }
     }
 
@@ -52,6 +50,14 @@ impl Refusal {
         Refusal {
             part: Some(part),
             ..Refusal::plain(number)
+        }
+    }
+
+    /// 15 with the place of the first bad record.
+    pub fn damaged(place: usize) -> Refusal {
+        Refusal {
+            place: Some(place),
+            ..Refusal::plain(15)
         }
     }
 }
@@ -67,6 +73,9 @@ impl fmt::Display for Refusal {
         }
         if let Some(part) = self.part {
             write!(f, " part {part}")?;
+        }
+        if let Some(place) = self.place {
+            write!(f, " place {place}")?;
         }
         Ok(())
     }

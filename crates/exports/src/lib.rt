@@ -11,6 +11,8 @@ ghost use Rattle.plane.specs.Measure.{lengthReply, widthReply};
 ghost use Rattle.plane.specs.Separation.{relationReply, insideReply};
 ghost use Rattle.plane.specs.Clearance.{clearanceReply};
 ghost use Rattle.plane.specs.Tangent.{tangentsReply};
+ghost use Rattle.journal.specs.Reading.{readWritten};
+ghost use Rattle.journal.specs.Adding.{added};
 ghost use Rattle.exports.specs.Crossing.{crossed, crossedBehind};
 ghost use Rattle.exports.specs.Numbers.{numbers, signedNumbers, lineNumbers, nearestNumbers};
 use questions::answer::Furthest;
@@ -117,4 +119,27 @@ pub extern "C" fn cocklesway_tangents(a: &[i32], b: &[i32]) -> Lines
     ensures { λ r. ⌜ lineNumbers r ≡ crossed 8 (tangentsReply (now (a .entry)) (now (b .entry))) ⌝ }
 {
     reply::of_tangents(questions::tangents(a, b))
+}
+
+// How many corners the latest record of the name has, which are written to the output.
+#[no_mangle]
+pub extern "C" fn cocklesway_log_read(log: &[u8], name: u16, out: &mut [i32]) -> Numbers
+    ensures { λ r. ⌜ (numbers r ≡ crossed 5 (readWritten (now (log .entry)) name (now (out .entry)) .reply))
+        × (now (out .exit) ≡ readWritten (now (log .entry)) name (now (out .entry)) .output) ⌝ }
+{
+    reply::of_answer(questions::log_read(log, name, out))
+}
+
+// 1 if the shape was added with the stores allowed, 0 if they ran out.
+#[no_mangle]
+pub extern "C" fn cocklesway_log_add(
+    log: &mut [u8],
+    name: u16,
+    list: &[i32],
+    allowed: usize,
+) -> Numbers
+    ensures { λ r. ⌜ (numbers r ≡ crossed 5 (added (now (log .entry)) name (now (list .entry)) allowed .reply))
+        × (now (log .exit) ≡ added (now (log .entry)) name (now (list .entry)) allowed .log) ⌝ }
+{
+    reply::of_addition(questions::log_add(log, name, list, allowed))
 }

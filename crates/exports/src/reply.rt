@@ -4,9 +4,10 @@ ghost use mathlib.Core.List.{[], _∷_, _++_};
 ghost use lib.IntN.{pos};
 ghost use lib.ListN.{take};
 ghost use Rattle.questions.specs.Answer.{ofRefusal, ofAnswer, ofLength, ofWidth};
-ghost use Rattle.questions.specs.Answer.{ofRelation, ofInside, ofTangents, ofClearance};
+ghost use Rattle.questions.specs.Answer.{ofRelation, ofInside, ofTangents, ofClearance, ofAddition};
 ghost use Rattle.exports.specs.Crossing.{crossed};
 ghost use Rattle.exports.specs.Numbers.{numbers, signedNumbers, lineNumbers, nearestNumbers};
+use questions::answer::Addition;
 use questions::answer::Answer;
 use questions::answer::Clearance;
 use questions::answer::Inside;
@@ -16,8 +17,8 @@ use questions::answer::Relation;
 use questions::answer::Tangents;
 use questions::answer::Width;
 
-// A refusal: its number, the shape that 1 to 5 blame, and of 4 the edge and the corner as the first and the second
-// value. An answer: 0, 0, and its values in the order of document 01. What is not needed is 0.
+// A refusal: its number, the shape that 1 to 5 blame, or 15's byte place, and of 4 the edge and the corner as the first
+// and the second value. An answer: 0, 0, and its values in the order of document 01. What is not needed is 0.
 #[repr(C)]
 pub struct Numbers {
     pub refusal: u64,
@@ -111,6 +112,9 @@ pub fn refused(refusal: Refusal) -> Numbers
         Refusal::NotFinite { part } => pair(17, part as u64, 0, 0),
         Refusal::NotWhole { part } => pair(18, part as u64, 0, 0),
         Refusal::FarReading { part } => pair(3, part as u64, 0, 0),
+        Refusal::Damaged { place } => pair(15, place as u64, 0, 0),
+        Refusal::Full => pair(16, 0, 0, 0),
+        Refusal::NoRecord => pair(19, 0, 0, 0),
     }
 }
 
@@ -176,6 +180,17 @@ pub fn of_relation(answer: Relation) -> Numbers
         Relation::Touching => pair(0, 0, 1, 0),
         Relation::Overlapping => pair(0, 0, 2, 0),
         Relation::No(refusal) => refused(refusal),
+    }
+}
+
+// 1 finished, 0 cut.
+pub fn of_addition(answer: Addition) -> Numbers
+    ensures { λ r. ⌜ numbers r ≡ crossed 5 (ofAddition answer) ⌝ }
+{
+    match answer {
+        Addition::Finished => pair(0, 0, 1, 0),
+        Addition::Cut => pair(0, 0, 0, 0),
+        Addition::No(refusal) => refused(refusal),
     }
 }
 

@@ -1,5 +1,6 @@
 // One arm and one function for each question: it asks the library and adds the reply, without its
 // newline.
+use crate::logs;
 use crate::pictures;
 use crate::readings;
 use crate::replies;
@@ -18,7 +19,7 @@ use questions::answer::Width;
 use text::answers;
 use text::fields;
 
-// Asks the question of its fields, of which so many are given; readings stand in the line itself.
+// Asks the question of its fields, of which so many are given; readings and bytes stand in the line itself.
 pub fn ask(
     out: &mut [u8],
     filled: usize,
@@ -36,6 +37,11 @@ pub fn ask(
         Question::Write(which) => write(out, filled, which, a, b, room),
         Question::Draw => pictures::draw(out, filled, a, b, count),
         Question::Tablet => readings::tablet(out, filled, line),
+        Question::LogRead => logs::read(out, filled, line, fields::name(b), room),
+        Question::LogAdd => {
+            let list = fields::field(values, marks, 2);
+            logs::add(out, filled, line, fields::name(b), list, room)
+        }
     }
 }
 

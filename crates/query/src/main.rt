@@ -3,6 +3,7 @@
 // question is answered with the reason. A line has at most 65,536 characters, and its fields hold at
 // most 16,384 numbers together.
 mod ask;
+mod logs;
 mod pictures;
 mod readings;
 mod replies;

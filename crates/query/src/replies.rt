@@ -10,12 +10,21 @@ pub fn line(out: &mut [u8], filled: usize, line: Line) -> usize {
 }
 
 // Adds a refusal: its number, which shape of the question it means, and where the left rule breaks; or which part of a
-// corner.
+// corner, or the place of a byte.
 pub fn refuse(out: &mut [u8], filled: usize, refusal: Refusal) -> usize {
     let now = answers::labelled(out, filled, b"no ", number(refusal));
     let then = answers::labelled_some(out, now, b" shape ", blamed(refusal));
     let behind = broken(out, then, refusal);
-    part(out, behind, refusal)
+    let last = part(out, behind, refusal);
+    place(out, last, refusal)
+}
+
+// Adds the place of the first bad record, if the refusal is of a log.
+fn place(out: &mut [u8], filled: usize, refusal: Refusal) -> usize {
+    let Refusal::Damaged { place } = refusal else {
+        return filled;
+    };
+    answers::labelled(out, filled, b" place ", place as u64)
 }
 
 // Adds the part of a corner whose reading is refused, x for 1, if the refusal is of a reading.
@@ -72,8 +81,11 @@ fn number(refusal: Refusal) -> u64 {
         Refusal::NotApart => 9,
         Refusal::Flat => 10,
         Refusal::Direction => 11,
+        Refusal::Damaged { place: _ } => 15,
+        Refusal::Full => 16,
         Refusal::NotFinite { part: _ } => 17,
         Refusal::NotWhole { part: _ } => 18,
+        Refusal::NoRecord => 19,
         Refusal::FarReading { part: _ } => 3,
     }
 }

@@ -9,6 +9,8 @@ pub enum Question {
     Write(Written),
     Draw,
     Tablet,
+    LogRead,
+    LogAdd,
 }
 
 // The questions that are answered by numbers or a word.
@@ -46,7 +48,8 @@ pub fn look_up(word: &[u8]) -> Entry {
     entry = on_two(entry, word);
     entry = shapes(entry, word);
     entry = pictures(entry, word);
-    corners(entry, word)
+    entry = corners(entry, word);
+    logs(entry, word)
 }
 
 // The measures of one shape.
@@ -90,6 +93,14 @@ fn pictures(found: Entry, word: &[u8]) -> Entry {
 fn corners(found: Entry, word: &[u8]) -> Entry {
     let readings = fields::two(Kind::Reading, Kind::Reading);
     row(found, word, b"tablet", Question::Tablet, readings)
+}
+
+// The log.
+fn logs(found: Entry, word: &[u8]) -> Entry {
+    let named = fields::three(Kind::Bytes, Kind::Name, Kind::Room);
+    let added = fields::four(Kind::Bytes, Kind::Name, Kind::Shape, Kind::Room);
+    let entry = row(found, word, b"bookread", Question::LogRead, named);
+    row(entry, word, b"bookadd", Question::LogAdd, added)
 }
 
 // A row of the table, of a measure.

@@ -1,6 +1,6 @@
 -- Document 01's number and values for each case of the enums ("Where an answer is an enum ..").
 --     ofRefusal r     the number of the table's row, and what it carries: 1 to 5 the shape, 4 also the edge and the corner; of a
---                     reading the part of its corner
+--                     reading the part of its corner, of a log the byte place of the record
 --     ofAnswer r, ofFurthest r, ..     the reply of each question: its values, or a refusal
 use mathlib.Core.Bool.{cond}
 use mathlib.Core.List.{[], _∷_}
@@ -28,6 +28,8 @@ use Rattle.questions.specs.declared.answer.Tangents.{Tangents}
 use Rattle.questions.specs.declared.answer.Tangents.the-variants as Tangents
 use Rattle.questions.specs.declared.answer.Tablet.{Tablet}
 use Rattle.questions.specs.declared.answer.Tablet.the-variants as Tablet
+use Rattle.questions.specs.declared.answer.Addition.{Addition}
+use Rattle.questions.specs.declared.answer.Addition.the-variants as Addition
 
 abbrev pub ofRefusal : Refusal → Reply
 ofRefusal (Refusal.Count shape) = refused 1 (shape ∷ [])
@@ -41,8 +43,11 @@ ofRefusal Refusal.Room = refused 8 []
 ofRefusal Refusal.NotApart = refused 9 []
 ofRefusal Refusal.Flat = refused 10 []
 ofRefusal Refusal.Direction = refused 11 []
+ofRefusal (Refusal.Damaged place) = refused 15 (place ∷ [])
+ofRefusal Refusal.Full = refused 16 []
 ofRefusal (Refusal.NotFinite part) = refused 17 (part ∷ [])
 ofRefusal (Refusal.NotWhole part) = refused 18 (part ∷ [])
+ofRefusal Refusal.NoRecord = refused 19 []
 ofRefusal (Refusal.FarReading part) = refused 3 (part ∷ [])
 
 abbrev pub ofAnswer : Answer → Reply
@@ -93,3 +98,9 @@ ofTangents (Tangents.No r) = ofRefusal r
 abbrev pub ofTablet : Tablet → Sent
 ofTablet (Tablet.Corner sent x y) = record { reply = answered (x ∷ y ∷ []); doubles = sent .x ∷ sent .y ∷ [] }
 ofTablet (Tablet.No r) = record { reply = ofRefusal r; doubles = [] }
+
+-- 1 finished, 0 cut
+abbrev pub ofAddition : Addition → Reply
+ofAddition Addition.Finished = answered (pos 1 ∷ [])
+ofAddition Addition.Cut = answered (pos 0 ∷ [])
+ofAddition (Addition.No r) = ofRefusal r

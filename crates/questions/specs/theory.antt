@@ -4,3 +4,4 @@ pub mod Delivery
 pub mod Measures
 pub mod Lines
 pub mod Readings
+pub mod Logs

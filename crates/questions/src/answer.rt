@@ -36,6 +36,13 @@ pub enum Refusal {
     Flat,
     // 11: a direction (0, 0), or with a part out of range
     Direction,
+    // 15: a whole record of a log that is of another kind or a wrong length, or whose corners are no shape: the byte
+    // place of the first such record
+    Damaged {
+        place: usize,
+    },
+    // 16: too little room behind the last whole record of a log
+    Full,
     // 17: a reading that is not finite; the part of the corner is 1 for x and 2 for y
     NotFinite {
         part: usize,
@@ -44,6 +51,8 @@ pub enum Refusal {
     NotWhole {
         part: usize,
     },
+    // 19: a name that no record of a log has
+    NoRecord,
     // 3: a reading out of range
     FarReading {
         part: usize,
@@ -154,5 +163,12 @@ pub struct Sent {
 // A corner of two readings: the doubles that go back, and the whole numbers that they hold.
 pub enum Tablet {
     Corner { sent: Sent, x: i32, y: i32 },
+    No(Refusal),
+}
+
+// Whether an addition to a log made all of its stores, or ran out of those that it was allowed.
+pub enum Addition {
+    Finished,
+    Cut,
     No(Refusal),
 }

@@ -9,7 +9,7 @@ ghost use mathlib.Core.Path.{_≡_};
 ghost use mathlib.Core.List.{[], _∷_};
 ghost use Rattle.plane.specs.Reply.{answered};
 ghost use Rattle.separation.specs.Place.{placeNumber};
-ghost use mathlib.Core.Bool.{true};
+ghost use mathlib.Core.Bool.{true, false};
 ghost use Rattle.plane.specs.Point.{point, points};
 ghost use Rattle.plane.specs.Refusal.{Valid};
 ghost use Rattle.plane.specs.Judge.{judged};
@@ -22,8 +22,12 @@ ghost use Rattle.plane.specs.Tangent.{tangentFrom, tangentTo, tangentsReply};
 ghost use Rattle.questions.specs.Answer.{ofAnswer, ofFurthest, ofLength, ofWidth};
 ghost use Rattle.clearance.specs.Answer.{valuesOf};
 ghost use Rattle.tablet.specs.Reading.{tabletSent};
-ghost use Rattle.questions.specs.Answer.{ofRelation, ofInside, ofClearance, ofTangents, ofTablet};
+ghost use Rattle.journal.specs.Format.{records};
+ghost use Rattle.journal.specs.Reading.{damaged, readWritten};
+ghost use Rattle.journal.specs.Adding.{added, end as Adding·end};
+ghost use Rattle.questions.specs.Answer.{ofRelation, ofInside, ofClearance, ofTangents, ofTablet, ofAddition};
 use admission::Admission;
+use answer::Addition;
 use answer::Answer;
 use answer::Clearance;
 use answer::Furthest;
@@ -38,6 +42,9 @@ use answer::Tangents;
 use answer::Width;
 use clearance::measured::Distance;
 use coordinate::Coordinate;
+use journal::latest::Found;
+use journal::storing;
+use journal::survey::Surveyed;
 use polygon::corners;
 use polygon::direction;
 use polygon::limits;
@@ -333,5 +340,61 @@ pub fn tablet(x: Reading, y: Reading) -> Tablet
                 y: n,
             },
         },
+    }
+}
+
+// Writes the corners of the latest record of a name at the front of the output, and answers how many they are. All
+// behind them is kept. A log ends where no whole record stands. Refused, with the output as it was: a log in which some
+// record is of another kind, a wrong length, or no shape (with the byte place of the first); a name that no record has;
+// too small an output.
+// Ruled out: first record of a name.
+pub fn log_read(log: &[u8], name: u16, out: &mut [i32]) -> Answer
+    ensures { λ r. ⌜ (ofAnswer r ≡ readWritten (now (log .entry)) name (now (out .entry)) .reply)
+        × (now (out .exit) ≡ readWritten (now (log .entry)) name (now (out .entry)) .output) ⌝ }
+{
+    if let Surveyed::Bad(place) = journal::survey::survey(log) {
+        return Answer::No(Refusal::Damaged { place });
+    }
+    let Found::At { place, count } = journal::latest::latest(log, name) else {
+        return Answer::No(Refusal::NoRecord);
+    };
+    if out.len() < count {
+        return Answer::No(Refusal::Room);
+    }
+    journal::corners::decode(log, place, count, out);
+    Answer::Corners(count / 2)
+}
+
+// Adds a shape under a name behind the last whole record of a log, with at most so many stores of single bytes as are
+// allowed, and says whether it finished. What was torn there is cleared first, and the record's last byte is stored
+// last: a cut addition changes no answer of `log_read`. Refused, with nothing stored: 1 to 5 of the list; a log in
+// which some record is bad; too little room.
+// Ruled out: full one byte early; cut called finished; last byte stored first; tail cleared from its front.
+pub fn log_add(log: &mut [u8], name: u16, list: &[i32], allowed: usize) -> Addition
+    ensures { λ r. ⌜ (ofAddition r ≡ added (now (log .entry)) name (now (list .entry)) allowed .reply)
+        × (now (log .exit) ≡ added (now (log .entry)) name (now (list .entry)) allowed .log) ⌝ }
+{
+    if let Admission::No(refusal) = admission::admit(list, 1) {
+        return Addition::No(refusal);
+    }
+    match journal::survey::survey(log) {
+        Surveyed::Bad(place) => Addition::No(Refusal::Damaged { place }),
+        Surveyed::Ends(end) => add_behind(log, end, name, list, allowed),
+    }
+}
+
+// Adds a shape behind the last whole record, or refuses 16.
+fn add_behind(log: &mut [u8], end: usize, name: u16, list: &[i32], allowed: usize) -> Addition
+    requires { ⌜ Valid (now list) × (damaged (records (now log)) ≡ false) × (end ≡ Adding·end (now log)) ⌝ }
+    ensures { λ r. ⌜ (ofAddition r ≡ added (now (log .entry)) name (now (list .entry)) allowed .reply)
+        × (now (log .exit) ≡ added (now (log .entry)) name (now (list .entry)) allowed .log) ⌝ }
+{
+    if storing::is_full(log, end, list) {
+        return Addition::No(Refusal::Full);
+    }
+    if storing::add(log, end, name, list, allowed) {
+        Addition::Finished
+    } else {
+        Addition::Cut
     }
 }

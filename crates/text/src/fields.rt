@@ -2,6 +2,8 @@
 // field, and mark k counts the numbers before field k. The caller lends the buffer and the marks.
 ghost use Prim.Native.Nat.{_≤_};
 ghost use lib.ListN.{length};
+use crate::bytes;
+use crate::bytes::Pairs;
 use crate::numbers;
 use crate::numbers::Taken;
 use crate::readings;
@@ -15,6 +17,9 @@ const FIELDS: usize = 8;
 // The marks of a line: one before each field, and one behind the last.
 pub const MARKS: usize = FIELDS + 1;
 
+// Names have 16 bits.
+const GREATEST_NAME: u64 = 65535;
+
 // What a field holds. Those that may be left out, with their bars, stand behind the others.
 pub enum Kind {
     // There is no such field.
@@ -23,12 +28,17 @@ pub enum Kind {
     Shape,
     // Two numbers.
     Direction,
-    // One number, not below 0: how many numbers an output holds. The last field; may be left out.
+    // One number, not below 0: how many numbers an output holds, or how many stores may be made. The last field; may be
+    // left out.
     Room,
     // Any numbers. May be left out.
     Further,
     // A reading of the tablet, which holds no numbers: its text is asked for.
     Reading,
+    // Bytes, which are no numbers either. The first field.
+    Bytes,
+    // One number from 0 to 65,535.
+    Name,
 }
 
 // The kinds of a question's fields, as the digits of one number in base 16, the first lowest. (What
@@ -54,8 +64,7 @@ enum Check {
 
 // Reads the fields of a line. The reasons against it come in this order: a word that is not known;
 // too few fields or too many; the first word that is no number, number that finds no room, or field
-// that is no reading; the
-// first field that holds another count of numbers than its kind says.
+// that is no reading or no bytes; the first field whose numbers are not what its kind says.
 pub fn read(line: &[u8], kinds: Kinds, values: &mut [i32], marks: &mut [usize]) -> Fields {
     if kinds.digits == UNKNOWN {
         return Fields::No(Reason::UnknownWord);
@@ -96,6 +105,33 @@ pub fn reading(line: &[u8], second: bool) -> Reading {
     readings::read(words::between(line, after(first), end))
 }
 
+// Reads the bytes of a line's first field to the front of a buffer, and answers how many they are.
+pub fn bytes(line: &[u8], buffer: &mut [u8]) -> usize
+    ensures { λ r. ⌜ r ≤ length (now (buffer .entry)) ⌝ }
+{
+    let bar = words::next_bar(line, 0);
+    let text = words::between(line, after(bar), words::next_bar(line, after(bar)));
+    match bytes::read(text, buffer) {
+        Pairs::Bytes(count) => {
+            if count <= buffer.len() {
+                count
+            } else {
+                buffer.len()
+            }
+        }
+        Pairs::Nothing => 0,
+    }
+}
+
+// The name that a field holds. (A line whose field is no name is not asked.)
+pub fn name(field: &[i32]) -> u16 {
+    let name = numbers::size(numbers::wide(number(field, 0)));
+    if name <= GREATEST_NAME {
+        return name as u16;
+    }
+    0
+}
+
 // The number at a position of a field, or 0 where there is none.
 pub fn number(field: &[i32], i: usize) -> i32 {
     if i < field.len() { field[i] } else { 0 }
@@ -129,8 +165,13 @@ pub fn two(a: Kind, b: Kind) -> Kinds {
 
 // The kinds of a question with three fields.
 pub fn three(a: Kind, b: Kind, c: Kind) -> Kinds {
+    four(a, b, c, Kind::Nothing)
+}
+
+// The kinds of a question with four fields.
+pub fn four(a: Kind, b: Kind, c: Kind, d: Kind) -> Kinds {
     Kinds {
-        digits: digit(a) + 16 * digit(b) + 256 * digit(c),
+        digits: digit(a) + 16 * digit(b) + 256 * digit(c) + 4096 * digit(d),
     }
 }
 
@@ -145,6 +186,8 @@ fn digit(kind: Kind) -> u64
         Kind::Room => 3,
         Kind::Further => 4,
         Kind::Reading => 5,
+        Kind::Bytes => 6,
+        Kind::Name => 7,
     }
 }
 
@@ -159,6 +202,8 @@ fn kind_at(kinds: Kinds, k: usize) -> Kind {
         3 => Kind::Room,
         4 => Kind::Further,
         5 => Kind::Reading,
+        6 => Kind::Bytes,
+        7 => Kind::Name,
         _ => Kind::Nothing,
     }
 }
@@ -221,6 +266,7 @@ fn take(kind: Kind, text: &[u8], values: &mut [i32], held: usize) -> Taken {
     match kind {
         Kind::Nothing => Taken::Held(held),
         Kind::Reading => take_reading(text, held),
+        Kind::Bytes => take_bytes(text, held),
         _ => numbers::read(text, values, held),
     }
 }
@@ -230,6 +276,14 @@ fn take_reading(text: &[u8], held: usize) -> Taken {
     match readings::read(text) {
         Reading::Nothing => Taken::No(Reason::NotAReading),
         _ => Taken::Held(held),
+    }
+}
+
+// Whether the text of a field is bytes.
+fn take_bytes(text: &[u8], held: usize) -> Taken {
+    match bytes::read(text, &mut [0u8; 0]) {
+        Pairs::Bytes(_) => Taken::Held(held),
+        Pairs::Nothing => Taken::No(Reason::NotBytes),
     }
 }
 
@@ -250,6 +304,7 @@ fn fit(kind: Kind, field: &[i32]) -> Check {
     match kind {
         Kind::Direction => of_count(field, 2),
         Kind::Room => of_room(field),
+        Kind::Name => of_name(field),
         _ => Check::Passed,
     }
 }
@@ -270,6 +325,17 @@ fn of_room(field: &[i32]) -> Check {
     }
     if field[0] < 0 {
         return Check::No(Reason::NotACount);
+    }
+    Check::Passed
+}
+
+// Whether a field holds one number, which is a name.
+fn of_name(field: &[i32]) -> Check {
+    if field.len() != 1 {
+        return Check::No(Reason::WrongCount);
+    }
+    if field[0] < 0 || GREATEST_NAME < numbers::size(numbers::wide(field[0])) {
+        return Check::No(Reason::NotAName);
     }
     Check::Passed
 }

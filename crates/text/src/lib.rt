@@ -6,6 +6,7 @@
 // `io::large_buffer`; spaces behind them are dropped. How many numbers the fields of a line hold
 // together is what the caller lends for them.
 pub mod answers;
+pub mod bytes;
 pub mod fields;
 pub mod lines;
 pub mod numbers;

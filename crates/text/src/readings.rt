@@ -88,7 +88,7 @@ fn with_digit(bits: Bits, byte: u8) -> Bits {
 }
 
 // What a hexadecimal digit counts, in small letters or large; 16 for any other character.
-fn digit(byte: u8) -> u64
+pub fn digit(byte: u8) -> u64
     ensures { λ r. ⌜ r ≤ 16 ⌝ }
 {
     if byte < b'0' {

@@ -11,6 +11,8 @@ pub enum Reason {
     WrongCount,
     NotACount,
     NotAReading,
+    NotBytes,
+    NotAName,
 }
 
 // Adds a line that says why a line is no question.
@@ -24,7 +26,9 @@ pub fn unreadable(out: &mut [u8], filled: usize, reason: Reason) -> usize {
         Reason::NotANumber => answers::word(out, now, b"not a number of 32 bits\n"),
         Reason::TooManyNumbers => answers::word(out, now, b"too many numbers\n"),
         Reason::WrongCount => answers::word(out, now, b"wrong count of numbers\n"),
-        Reason::NotACount => answers::word(out, now, b"room is no count\n"),
+        Reason::NotACount => answers::word(out, now, b"not a count\n"),
         Reason::NotAReading => answers::word(out, now, b"not a reading\n"),
+        Reason::NotBytes => answers::word(out, now, b"not bytes\n"),
+        Reason::NotAName => answers::word(out, now, b"not a name\n"),
     }
 }

@@ -81,7 +81,7 @@ fn with_room(dice: &mut Dice, word: &str, lists: Vec<List>) -> Vec<String> {
 }
 
 /// How many numbers the shape of an answer has, if there is one.
-fn numbers_of(answer: &str) -> Option<i64> {
+pub fn numbers_of(answer: &str) -> Option<i64> {
     let corners = answer.strip_prefix("ok ")?.split(' ').next()?;
     corners.parse::<i64>().ok().map(|count| 2 * count)
 }

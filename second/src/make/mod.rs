@@ -4,7 +4,7 @@
 //!     fields                the fields of each question
 //!     shapes, pairs, long   good shapes, alone and in pairs; damage: lists that are refused
 //!     apart                 pairs of good shapes that are mostly apart
-//!     tails                 directions and rooms; readings: bits of doubles
+//!     tails                 directions and rooms; readings: bits of doubles; logs: their bytes
 //!     spoil, layout         lines that are no questions; the same text with other spaces
 //!
 //! Nothing here decides an answer: every line is answered from its text alone.
@@ -15,6 +15,7 @@ pub mod dice;
 pub mod edges;
 pub mod fields;
 mod layout;
+pub mod logs;
 pub mod long;
 pub mod pairs;
 pub mod readings;
@@ -31,11 +32,11 @@ use std::io::{self, Write};
 pub type List = Vec<i64>;
 
 /// Writes `count` lines that want an answer, behind a byte order mark; others stand between them.
-/// All are of one word, if one is given that the table has.
+/// All are of the words that begin as the given one.
 pub fn write_all(seed: u64, count: usize, word: &str, mut to: impl Write) -> io::Result<()> {
     let mut dice = Dice::new(seed);
     write!(to, "\u{FEFF}")?;
-    let wanted = |row: &&Row| word.is_empty() || row.word == word;
+    let wanted = |row: &&Row| row.word.starts_with(word);
     for (number, row) in (0..count).zip(TABLE.iter().filter(wanted).cycle()) {
         writeln!(to, "{}", any_line(&mut dice, row))?;
         if number % 1000 == 0 {
@@ -60,12 +61,12 @@ pub fn shape_text(shape: &[Point]) -> String {
     list_text(&numbers(shape))
 }
 
-fn list_text(list: &[i64]) -> String {
+pub fn list_text(list: &[i64]) -> String {
     let written: Vec<String> = list.iter().map(i64::to_string).collect();
     written.join(" ")
 }
 
-fn numbers(shape: &[Point]) -> List {
+pub fn numbers(shape: &[Point]) -> List {
     shape.iter().flat_map(|c| [c.x, c.y]).collect()
 }
 

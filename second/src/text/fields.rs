@@ -17,6 +17,10 @@ pub enum Field {
     /// How many numbers the lent output holds; may be left out, with its bar.
     Room,
     Reading,
+    Log,
+    Name,
+    /// How many stores an addition may make; may be left out, with its bar.
+    Stores,
 }
 
 #[derive(Clone, Debug, PartialEq, Eq)]
@@ -26,19 +30,25 @@ pub enum Value {
     Direction(Point),
     Room(usize),
     Reading(tablet::Reading),
+    Log(Vec<u8>),
+    Name(u16),
+    Stores(usize),
 }
 
 impl Field {
     fn may_be_left_out(self) -> bool {
-        self == Field::Room
+        matches!(self, Field::Room | Field::Stores)
     }
 
     fn read(self, text: &[u8], numbers: &mut Numbers) -> Result<Value, Unreadable> {
         match self {
             Field::Shape => numbers.read(text).map(Value::Shape),
             Field::Direction => direction(&numbers.read(text)?),
-            Field::Room => room(&numbers.read(text)?),
+            Field::Room => count(&numbers.read(text)?).map(Value::Room),
             Field::Reading => reading(text).ok_or(Unreadable::NotAReading),
+            Field::Log => bytes(text).map(Value::Log).ok_or(Unreadable::NotBytes),
+            Field::Name => name(&numbers.read(text)?),
+            Field::Stores => count(&numbers.read(text)?).map(Value::Stores),
         }
     }
 }
@@ -73,14 +83,34 @@ fn direction(list: &[i32]) -> Result<Value, Unreadable> {
     }
 }
 
-fn room(list: &[i32]) -> Result<Value, Unreadable> {
+fn count(list: &[i32]) -> Result<usize, Unreadable> {
     match *list {
-        [room] => match usize::try_from(room) {
-            Ok(room) => Ok(Value::Room(room)),
-            Err(_) => Err(Unreadable::NotACount),
+        [count] => usize::try_from(count).map_err(|_| Unreadable::NotACount),
+        _ => Err(Unreadable::WrongCount),
+    }
+}
+
+fn name(list: &[i32]) -> Result<Value, Unreadable> {
+    match *list {
+        [name] => match u16::try_from(name) {
+            Ok(name) => Ok(Value::Name(name)),
+            Err(_) => Err(Unreadable::NotAName),
         },
         _ => Err(Unreadable::WrongCount),
     }
+}
+
+/// Pairs of hexadecimal digits; spaces may stand between pairs.
+pub fn bytes(text: &[u8]) -> Option<Vec<u8>> {
+    let pairs = words(text).flat_map(|word| word.chunks(2));
+    pairs.map(byte).collect()
+}
+
+fn byte(pair: &[u8]) -> Option<u8> {
+    if pair.len() != 2 || !pair.iter().all(u8::is_ascii_hexdigit) {
+        return None;
+    }
+    u8::from_str_radix(str::from_utf8(pair).ok()?, 16).ok()
 }
 
 /// `mm` or `e8`, then `0x` and 16 hexadecimal digits.
@@ -165,6 +195,16 @@ mod tests {
         assert_eq!(fault([b"1", b"x"]), Unreadable::NotANumber);
         assert_eq!(fault([b"1", b"-1"]), Unreadable::WrongCount);
         assert_eq!(fault([b"1 2", b"-1"]), Unreadable::NotACount);
+    }
+
+    #[test]
+    fn bytes_are_pairs_of_digits() {
+        assert_eq!(bytes(b" "), Some(vec![]));
+        assert_eq!(bytes(b"0d00\t5a "), Some(vec![13, 0, 90]));
+        assert_eq!(bytes(b"0D 005A"), Some(vec![13, 0, 90]));
+        for text in ["0", "0D0", "0 D", "0x0D", "+5", "5G", "0D,00"] {
+            assert_eq!(bytes(text.as_bytes()), None, "{text}");
+        }
     }
 
     #[test]

@@ -13,13 +13,23 @@ pub struct Given(pub Vec<Value>);
 impl Given {
     /// All shapes, or the first refusal of the first list that is none.
     pub fn shapes<const COUNT: usize>(&self) -> Result<[Shape; COUNT], Refusal> {
-        let lists = self.0.iter().filter_map(|value| match value {
-            Value::Shape(list) => Some(list),
-            _ => None,
-        });
-        let judged = (1..).zip(lists).map(|(number, list)| judge(list, number));
+        let judged = (1..)
+            .zip(self.lists())
+            .map(|(number, list)| judge(list, number));
         let shapes: Vec<Shape> = judged.collect::<Result<_, _>>()?;
         Ok(shapes.try_into().expect("the row has so many shapes"))
+    }
+
+    /// The list of the only shape, not judged.
+    pub fn list(&self) -> &[i32] {
+        self.lists().next().expect("the row has a shape")
+    }
+
+    fn lists(&self) -> impl Iterator<Item = &[i32]> {
+        self.0.iter().filter_map(|value| match value {
+            Value::Shape(list) => Some(&list[..]),
+            _ => None,
+        })
     }
 
     pub fn readings<const COUNT: usize>(&self) -> [Reading; COUNT] {
@@ -45,5 +55,30 @@ impl Given {
             Value::Room(room) => Some(*room),
             _ => None,
         })
+    }
+
+    pub fn log(&self) -> &[u8] {
+        let found = self.0.iter().find_map(|value| match value {
+            Value::Log(log) => Some(log),
+            _ => None,
+        });
+        found.expect("the row has a log")
+    }
+
+    pub fn name(&self) -> u16 {
+        let found = self.0.iter().find_map(|value| match value {
+            Value::Name(name) => Some(*name),
+            _ => None,
+        });
+        found.expect("the row has a name")
+    }
+
+    /// The most stores of an addition; any number if the line names none.
+    pub fn stores(&self) -> usize {
+        let found = self.0.iter().find_map(|value| match value {
+            Value::Stores(stores) => Some(*stores),
+            _ => None,
+        });
+        found.unwrap_or(usize::MAX)
     }
 }

@@ -13,6 +13,8 @@ pub enum Unreadable {
     WrongCount,
     NotACount,
     NotAReading,
+    NotBytes,
+    NotAName,
 }
 
 impl Unreadable {
@@ -21,7 +23,10 @@ impl Unreadable {
     pub fn is_in_text(self) -> bool {
         matches!(
             self,
-            Unreadable::NotANumber | Unreadable::TooManyNumbers | Unreadable::NotAReading
+            Unreadable::NotANumber
+                | Unreadable::TooManyNumbers
+                | Unreadable::NotAReading
+                | Unreadable::NotBytes
         )
     }
 }
@@ -36,8 +41,10 @@ impl fmt::Display for Unreadable {
             Unreadable::NotANumber => "not a number of 32 bits",
             Unreadable::TooManyNumbers => "too many numbers",
             Unreadable::WrongCount => "wrong count of numbers",
-            Unreadable::NotACount => "room is no count",
+            Unreadable::NotACount => "not a count",
             Unreadable::NotAReading => "not a reading",
+            Unreadable::NotBytes => "not bytes",
+            Unreadable::NotAName => "not a name",
         };
         write!(f, "unreadable: {reason}")
     }

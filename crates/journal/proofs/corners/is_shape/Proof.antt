@@ -1,0 +1,110 @@
+-- `is_shape` meets its contract: each test is a row of judging, and the rows before it did not apply.
+use mathlib.Core.Path.{_≡_, refl, sym, _∙_, ap}
+use mathlib.Core.Bool.{Bool, true, false, not, cond}
+use mathlib.Core.List.{List, [], _∷_}
+use borrow.Author.Needs.{needs}
+use lib.IntN.{ℤ}
+use Rattle.plane.specs.Point.{points}
+use Rattle.plane.specs.Reply.{answered, refused}
+use Rattle.plane.specs.Refusal.{badCount, tooMany, someOutside, ruleBroken, shapeRows}
+use Rattle.plane.specs.Judge.{judged}
+use Rattle.plane.specs.theory.refusals.Accept.{near→inRange, counted, shape→valid, valid→accepted}
+use Rattle.plane.specs.theory.refusals.Rows.{firstRow-none}
+use Rattle.polygon.proofs.LeftRule.{broken-found, broken-none}
+use Rattle.journal.specs.Format.{isAnswer}
+use Rattle.journal.proofs.corners.is_shape.Statement.{statement}
+use Rattle.journal.proofs.corners.is_shape.Tie as tie
+
+-- ---- the rows that do not apply, each where it is known
+
+row-1 : (c : tie.Else1) → badCount (c .before .before .args .list .now) ≡ false
+row-1 c = sym (c .before .bad-count .ensures) ∙ c .if1 .left
+
+row-2 : (c : tie.Else2) → tooMany (points (c .before .before .before .before .args .list .now)) ≡ false
+row-2 c = sym (c .before .too-many .ensures) ∙ c .if2 .left
+
+row-3 : (c : tie.Else3) → someOutside (c .before .before .before .before .before .before .args .list .now) ≡ false
+row-3 c = sym (c .before .some-outside .ensures) ∙ c .if3 .left
+
+-- past the search for a broken edge there is none
+row-4 : (c : tie.After-enum-told) → ruleBroken
+    (points (c .before .before .before .before .before .before .before .before .before .before .before .args .list .now)) ≡ false
+row-4 c = broken-none _ (sym (c .before .before .first-broken .ensures) ∙ c .enum-told .given .1)
+
+-- the last row decides
+last : (b : Bool) (ns : List ℤ) → not b ≡ isAnswer (cond b (refused 5 (1 ∷ [])) (answered ns))
+last true ns = refl
+last false ns = refl
+
+-- ---- the needs
+
+bad-count-requires : tie.Need-bad-count-requires
+bad-count-requires c κs = search needs
+
+returns : tie.Need-returns
+unfolding judged
+returns c = rw (sym (c .before .bad-count .ensures) ∙ c .if1 .taken)
+
+too-many-requires : tie.Need-too-many-requires
+too-many-requires c κs = search needs
+
+returns-2 : tie.Need-returns-2
+unfolding judged
+returns-2 c = rw (row-1 (c .before .before), sym (c .before .too-many .ensures) ∙ c .if2 .taken)
+
+some-outside-requires : tie.Need-some-outside-requires
+some-outside-requires c κs = search needs
+
+returns-3 : tie.Need-returns-3
+unfolding judged
+returns-3 c =
+    let at-2 = c .before .before in
+    rw (row-1 (at-2 .before .before), row-2 at-2, sym (c .before .some-outside .ensures) ∙ c .if3 .taken)
+
+is-sorted-requires : tie.Need-is-sorted-requires
+is-sorted-requires c κs =
+    let at-2 = c .before .before in
+    (near→inRange _ (row-3 c), counted _ (row-1 (at-2 .before .before)) .0)
+
+returns-4 : tie.Need-returns-4
+unfolding judged
+returns-4 c =
+    let at-3 = c .before .before in
+    let at-2 = at-3 .before .before in
+    let valid = shape→valid _ (row-1 (at-2 .before .before)) (row-2 at-2) (row-3 at-3) (c .before .is-sorted .ensures (c .if4 .taken)) in
+    sym (ap isAnswer (firstRow-none (shapeRows 1 _) _ (valid→accepted _ 1 valid)))
+
+first-broken-requires : tie.Need-first-broken-requires
+first-broken-requires c κs = near→inRange _ (row-3 (c .before .before))
+
+enum-known-edge : tie.Need-enum-known-edge
+enum-known-edge c = search needs
+
+returns-5 : tie.Need-returns-5
+unfolding judged
+returns-5 c =
+    let at-3 = c .before .before .before .before .before .before in
+    let at-2 = at-3 .before .before in
+    let found = broken-found _ _ _ (sym (c .before .before .before .first-broken .ensures) ∙ c .before .edge .given .1) in
+    rw (row-1 (at-2 .before .before), row-2 at-2, row-3 at-3, found .0)
+
+enum-told : tie.Need-enum-told
+enum-told c = search needs
+
+bad-start-requires : tie.Need-bad-start-requires
+bad-start-requires c κs = search needs
+
+returns-6 : tie.Need-returns-6
+unfolding judged
+returns-6 c =
+    let at-4 = c .before in
+    let at-3 = at-4 .before .before .before .before .before in
+    let at-2 = at-3 .before .before in
+    rw (row-1 (at-2 .before .before), row-2 at-2, row-3 at-3, row-4 at-4, sym (c .bad-start .ensures)) (last (c .bad-start .result) _)
+
+pub is-shape-spec : {M : Type 1} → statement M
+is-shape-spec =
+    tie.close
+    (tie.spec bad-count-requires returns too-many-requires returns-2 some-outside-requires returns-3 is-sorted-requires returns-4
+    first-broken-requires enum-known-edge
+    returns-5 enum-told bad-start-requires returns-6)

@@ -1,0 +1,28 @@
+-- `add` meets its contract: what is torn is cleared, then the record is written.
+use native.Mathlib.Omega.{arith}
+use borrow.Author.Needs.{needs}
+use Rattle.journal.specs.Format.{recorded}
+use Rattle.journal.specs.theory.Read.{recorded-length}
+use Rattle.journal.specs.theory.Storing.{ran-stores}
+use Rattle.journal.proofs.storing.add.Statement.{statement}
+use Rattle.journal.proofs.storing.add.Tie as tie
+
+clear-requires : tie.Need-clear-requires
+clear-requires c κs = search needs
+
+write-requires : tie.Need-write-requires
+write-requires c κs = search needs
+
+same-length : tie.Need-same-length
+same-length c = search needs
+
+returns : tie.Need-returns
+returns c =
+    let at-clear = c .before .before .before .before .before .before in
+    let start = at-clear .before .before .before in
+    let r = recorded (start .args .name) (start .args .list .now) in
+    ran-stores (start .args .end) r (start .pre .0) (omega (arith, recorded-length (start .args .name) (start .args .list .now)))
+    (at-clear .clear .ensures) (c .before .before .write .ensures .0) (c .before .before .write .ensures .1)
+
+pub add-spec : {M : Type 1} → statement M
+add-spec = tie.close (tie.spec clear-requires write-requires same-length returns)

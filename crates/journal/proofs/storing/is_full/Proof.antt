@@ -1,0 +1,30 @@
+-- `is_full` meets its contract: how long a record is does not hang on its name.
+use mathlib.Core.Path.{_≡_, ap}
+use Prim.Native.Nat.{_+_, _*_, _-_}
+use native.Mathlib.Omega.{arith}
+use borrow.Author.Needs.{needs}
+use lib.Dec.{ltb}
+use lib.ListN.{length}
+use Rattle.journal.specs.Format.{recorded}
+use Rattle.journal.specs.theory.Read.{recorded-length}
+use Rattle.journal.proofs.storing.is_full.Statement.{statement}
+use Rattle.journal.proofs.storing.is_full.Tie as tie
+
+sub-result : tie.Need-sub-result
+sub-result c = search needs
+
+mul-result : tie.Need-mul-result
+mul-result c = search needs
+
+add-result : tie.Need-add-result
+add-result c = search needs
+
+returns : tie.Need-returns
+returns c n =
+    let args = c .args in
+    let count : 7 + 4 * length (args .list .now) ≡ length (recorded n (args .list .now)) =
+    omega (arith, recorded-length n (args .list .now)) in
+    ap (ltb (length (args .log .now) - args .end)) count
+
+pub is-full-spec : {M : Type 1} → statement M
+is-full-spec = tie.close (tie.spec sub-result mul-result add-result returns)

@@ -1,0 +1,107 @@
+-- `write` meets its contract: the fields of a record one behind the other, each where the one before it ends.
+use mathlib.Core.Path.{_≡_, refl, _∙_}
+use Prim.Native.Nat.{_+_, _*_, _≤_}
+use native.Mathlib.Omega.{arith}
+use borrow.Author.Needs.{needs}
+use lib.ListN.{length}
+use Rattle.journal.specs.theory.Read.{recorded-length}
+use Rattle.journal.specs.theory.Storing.{ran-length, ran-pair, ran-recorded}
+use Rattle.journal.proofs.storing.write.Statement.{statement}
+use Rattle.journal.proofs.storing.write.Tie as tie
+
+-- the record is inside the log
+inside : (c : tie.Start) → c .args .p + (7 + 4 * length (c .args .list .now)) ≤ length (c .args .log .now)
+inside c = omega (arith, c .pre, recorded-length (c .args .name) (c .args .list .now))
+
+-- the log is as long as it was, after two calls and after four
+room-2 : (c : tie.After-byte2) → let at-1 = c .before .before .before .before in
+    length (c .byte2 .last .0) ≡ length (at-1 .before .before .before .args .log .now)
+room-2 c = ran-length (c .byte2 .ensures) ∙ ran-length (c .before .before .before .before .byte .ensures)
+
+room-4 : (c : tie.After-pair2) → let at-2 = c .before .before .before .before .before .before .before .before in
+    length (c .pair2 .last .0) ≡ length (at-2 .before .before .before .before .before .before .before .args .log .now)
+room-4 c =
+    let at-3 = c .before .before .before .before in
+    ran-length (c .pair2 .ensures) ∙ ran-length (at-3 .pair .ensures) ∙ room-2 (at-3 .before .before .before .before)
+
+mul-size : tie.Need-mul-size
+mul-size c = search needs
+
+add-size : tie.Need-add-size
+add-size c = search needs
+
+add-last : tie.Need-add-last
+add-last c = search needs
+
+add-last-2 : tie.Need-add-last-2
+add-last-2 c = omega (arith, inside (c .before))
+
+cast-low : tie.Need-cast-low
+cast-low c = search needs
+
+byte-requires : tie.Need-byte-requires
+byte-requires c κs = omega (arith, inside (c .before .before))
+
+add-byte : tie.Need-add-byte
+add-byte c = search needs
+
+cast-byte : tie.Need-cast-byte
+cast-byte c = search needs
+
+byte-requires-2 : tie.Need-byte-requires-2
+byte-requires-2 c κs =
+    let at-1 = c .before .before .before in
+    omega (arith, inside (at-1 .before .before .before), ran-length (at-1 .byte .ensures))
+
+add-pair : tie.Need-add-pair
+add-pair c = search needs
+
+pair-requires : tie.Need-pair-requires
+pair-requires c κs =
+    let at-2 = c .before .before .before in
+    omega (arith, inside (at-2 .before .before .before .before .before .before .before), room-2 at-2)
+
+add-pair-2 : tie.Need-add-pair-2
+add-pair-2 c = search needs
+
+pair-requires-2 : tie.Need-pair-requires-2
+pair-requires-2 c κs =
+    let at-3 = c .before .before .before in
+    let at-2 = at-3 .before .before .before .before in
+    omega (arith, inside (at-2 .before .before .before .before .before .before .before), room-2 at-2, ran-length (at-3 .pair .ensures))
+
+add-words : tie.Need-add-words
+add-words c = search needs
+
+words-requires : tie.Need-words-requires
+words-requires c κs =
+    let at-4 = c .before .before .before in
+    let at-2 = at-4 .before .before .before .before .before .before .before .before in
+    omega (arith, inside (at-2 .before .before .before .before .before .before .before), room-4 at-4)
+
+byte-requires-3 : tie.Need-byte-requires-3
+byte-requires-3 c κs =
+    let at-5 = c .before .before .before in
+    let at-4 = at-5 .before .before .before .before in
+    let at-2 = at-4 .before .before .before .before .before .before .before .before in
+    omega (arith, inside (at-2 .before .before .before .before .before .before .before), room-4 at-4, ran-length (at-5 .words .ensures))
+
+same-length : tie.Need-same-length
+same-length c = search needs
+
+returns : tie.Need-returns
+returns c =
+    let at-5 = c .before .before .before .before .before .before in
+    let at-4 = at-5 .before .before .before .before in
+    let at-3 = at-4 .before .before .before .before in
+    let at-2 = at-3 .before .before .before .before in
+    let at-1 = at-2 .before .before .before .before in
+    let args = at-1 .before .before .before .args in
+    ran-recorded (args .p) (args .name) (args .list .now) refl (ran-pair _ _ (at-1 .byte .ensures) (at-2 .byte2 .ensures))
+    (at-3 .pair .ensures) (at-4 .pair2 .ensures) (at-5 .words .ensures) (c .before .before .byte3 .ensures)
+
+pub write-spec : {M : Type 1} → statement M
+write-spec =
+    tie.close
+    (tie.spec mul-size add-size add-last add-last-2 cast-low byte-requires add-byte cast-byte byte-requires-2 add-pair pair-requires
+    add-pair-2 pair-requires-2 add-words words-requires byte-requires-3 same-length returns)

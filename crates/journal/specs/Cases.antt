@@ -1,0 +1,116 @@
+-- What document 02, W5, says of single records and logs, as tables over the definitions and one fact about all rows of each, by computing.
+use mathlib.Core.Path.{_≡_, refl}
+use mathlib.Core.List.{List, [], _∷_, _++_, map}
+use Prim.Native.Nat.{ℕ}
+use lib.IntN.{ℤ, pos, negsuc}
+use Rattle.plane.specs.Limits.{maxCorners, maxCoordinate}
+use Rattle.plane.specs.Shape.{breaks, precedes}
+use Rattle.plane.specs.Reply.{Reply, answered, refused}
+use Rattle.plane.specs.Refusal.{badCount, tooMany, outside, someOutside, equalPair, leftBroken, ruleBroken, badStart}
+use Rattle.plane.specs.Judge.{judged}
+use Rattle.plane.specs.Output.{Written, noRoom, overwritten}
+use Rattle.journal.specs.Bytes.{pair, pairAt, word, wordAt, words, wordsAt}
+use Rattle.journal.specs.Format.{recorded, size, whole, records, kind, name, list, wrongLength, bad}
+use Rattle.journal.specs.Reading.{readWritten}
+use Rattle.journal.specs.Adding.{end, stores, addReply, Added, added}
+use Rattle.journal.specs.History.{fresh}
+
+-- "Point 1 -1 named 7 is 0D 00 01 00 07 00 01 00 00 00 FF FF FF FF 5A"
+abbrev pub example : List ℕ
+example = 13 ∷ 0 ∷ 1 ∷ 0 ∷ 7 ∷ 0 ∷ 1 ∷ 0 ∷ 0 ∷ 0 ∷ 255 ∷ 255 ∷ 255 ∷ 255 ∷ 90 ∷ []
+
+abbrev point : List ℤ
+point = pos 1 ∷ negsuc 0 ∷ []
+
+pub example-record : recorded 7 point ≡ example
+unfolding recorded pair word words
+example-record = refl
+
+-- ---- reading
+
+-- the same without its last byte
+abbrev torn : List ℕ
+torn = 13 ∷ 0 ∷ 1 ∷ 0 ∷ 7 ∷ 0 ∷ 1 ∷ 0 ∷ 0 ∷ 0 ∷ 255 ∷ 255 ∷ 255 ∷ 255 ∷ []
+
+-- the point 2 0 under the same name
+abbrev again : List ℕ
+again = 13 ∷ 0 ∷ 1 ∷ 0 ∷ 7 ∷ 0 ∷ 2 ∷ 0 ∷ 0 ∷ 0 ∷ 0 ∷ 0 ∷ 0 ∷ 0 ∷ 90 ∷ []
+
+-- a whole record of length 1, which is a wrong one
+abbrev tiny : List ℕ
+tiny = 1 ∷ 0 ∷ 90 ∷ []
+
+-- a whole record of another kind
+abbrev other : List ℕ
+other = 13 ∷ 0 ∷ 2 ∷ 0 ∷ 7 ∷ 0 ∷ 1 ∷ 0 ∷ 0 ∷ 0 ∷ 255 ∷ 255 ∷ 255 ∷ 255 ∷ 90 ∷ []
+
+-- what is read, and what is stated
+pub record Read : Type 0 where
+  pub given : Written
+  pub stated : Written
+
+abbrev reads : List ℕ → ℕ → List ℤ → Reply → List ℤ → Read
+reads b n old r new = record { given = readWritten b n old; stated = record { reply = r; output = new } }
+
+abbrev zeros : List ℤ
+zeros = pos 0 ∷ pos 0 ∷ pos 0 ∷ []
+
+abbrev pub readings : List Read
+readings =
+    -- read back, behind it the log's end: fewer than two bytes, and length 0
+    reads (example ++ (13 ∷ [])) 7 zeros (answered (pos 1 ∷ [])) (pos 1 ∷ negsuc 0 ∷ pos 0 ∷ [])
+    ∷ reads (example ++ fresh 2) 7 zeros (answered (pos 1 ∷ [])) (pos 1 ∷ negsuc 0 ∷ pos 0 ∷ [])
+    -- "a missing last byte ends the book", and so does "a record running past the end": no name is held, though 15 would follow
+    ∷ reads (torn ++ (91 ∷ tiny)) 7 zeros (refused 19 []) zeros
+    ∷ reads torn 7 zeros (refused 19 []) zeros
+    -- "The latest record of a name counts": of two with the name 7
+    ∷ reads (example ++ again) 7 zeros (answered (pos 1 ∷ [])) (pos 2 ∷ pos 0 ∷ pos 0 ∷ [])
+    -- "refused 15 with the byte place of the first such record"; it comes before 19, and 19 before 8
+    ∷ reads tiny 7 zeros (refused 15 (0 ∷ [])) zeros
+    ∷ reads (example ++ (other ++ tiny)) 8 [] (refused 15 (15 ∷ [])) []
+    ∷ reads example 8 [] (refused 19 []) []
+    ∷ reads example 7 (pos 5 ∷ []) (refused 8 []) (pos 5 ∷ [])
+    ∷ []
+
+pub readings-hold : map (λ (r : Read). r .given) readings ≡ map (λ (r : Read). r .stated) readings
+unfolding pairAt wordAt wordsAt size whole records kind name list wrongLength bad readWritten judged badCount tooMany outside someOutside
+    equalPair leftBroken ruleBroken badStart breaks precedes maxCorners maxCoordinate noRoom overwritten
+readings-hold = refl
+
+-- ---- adding
+
+-- what adding the point under the name 7 does, and what is stated
+pub record Step : Type 0 where
+  pub given : Added
+  pub stated : Added
+
+abbrev adds : List ℕ → ℕ → Reply → List ℕ → Step
+adds b k r new = record { given = added b 7 point k; stated = record { reply = r; log = new } }
+
+abbrev finished : Reply
+finished = answered (pos 1 ∷ [])
+
+abbrev cut : Reply
+cut = answered (pos 0 ∷ [])
+
+abbrev pub additions : List Step
+additions =
+    -- 16: one byte too few, also "after the last whole record", and just enough
+    adds (fresh 14) 28 (refused 16 []) (fresh 14)
+    ∷ adds (example ++ fresh 14) 58 (refused 16 []) (example ++ fresh 14)
+    ∷ adds (fresh 15) 30 finished example
+    -- one store short of it: the last byte is missing
+    ∷ adds (fresh 15) 14 cut (torn ++ (0 ∷ []))
+    ∷ adds (fresh 15) 15 finished example
+    -- bytes behind the end are tidied from the far end down, each that is not 0 by a store
+    ∷ adds (4 ∷ 0 ∷ (fresh 13 ++ (3 ∷ 0 ∷ 90 ∷ []))) 2 cut (4 ∷ fresh 17)
+    ∷ adds (4 ∷ 0 ∷ (fresh 13 ++ (3 ∷ 0 ∷ 90 ∷ []))) 4 cut (13 ∷ fresh 17)
+    ∷ adds (4 ∷ 0 ∷ (fresh 13 ++ (3 ∷ 0 ∷ 90 ∷ []))) 18 finished (example ++ fresh 3)
+    -- 15 comes before 16
+    ∷ adds tiny 6 (refused 15 (0 ∷ [])) tiny
+    ∷ []
+
+pub additions-hold : map (λ (s : Step). s .given) additions ≡ map (λ (s : Step). s .stated) additions
+unfolding pair pairAt word words wordAt wordsAt recorded size whole records kind name list wrongLength bad end stores addReply added
+    judged badCount tooMany outside someOutside equalPair leftBroken ruleBroken badStart breaks precedes maxCorners maxCoordinate
+additions-hold = refl

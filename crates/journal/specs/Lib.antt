@@ -1,0 +1,11 @@
+-- A log of shapes (the paper's floor book): its bytes, records, reading, adding, and histories; then what they mean, and the theory.
+pub mod Bytes
+pub mod Format
+pub mod Reading
+pub mod Adding
+pub mod History
+pub mod Survey
+pub mod Allowance
+pub mod Cases
+pub mod Meaning
+pub mod theory

@@ -1,0 +1,20 @@
+-- What the meaning stands on, in reading order:
+--     Bytes, Records, Read    numbers as bytes; a log is its records and a torn rest; what a record says
+--     Reading                 reading, by the records alone
+--     Parts, Stores           what stands behind the records after each store of an addition
+--     Added, History          one addition; any history of them
+-- Then what the code's loops stand on:
+--     Decode, Survey, Latest  numbers read one by one; a pass that judges records, and one that keeps the latest of a name
+--     Storing                 stores made as far as they are allowed
+pub mod Bytes
+pub mod Records
+pub mod Read
+pub mod Reading
+pub mod Parts
+pub mod Stores
+pub mod Added
+pub mod History
+pub mod Decode
+pub mod Survey
+pub mod Latest
+pub mod Storing

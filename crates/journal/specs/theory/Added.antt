@@ -1,0 +1,206 @@
+-- What one addition comes to, for any log, name, list and allowance.
+--     Accepted b n l, accepted      no row applies: the list is valid, no record is bad, and there is room
+--     kept-log                      a refusal keeps the log
+--     added-seen                    the records afterwards: the new one joins exactly where the addition finished
+--     finished-accepted, -log, -seen, -sound, -latest, -read, -others      where it finished: the log, its records, what names read
+--     unfinished-seen               where it was cut or refused, the records are as before
+--     enough-allowed, nothing-allowed, one-more-allowed                    what an allowance comes to
+--     sound-added                   where no record is bad, 15 does not come
+use mathlib.Core.Path.{_≡_, refl, sym, _∙_, ap, ap₂}
+use mathlib.Core.Bool.{Bool, true, false, cond, _&&_, true≢false}
+use mathlib.Core.List.{List, [], _∷_, _++_}
+use Prim.Native.Nat.{ℕ, suc, _*_, _-_, _≤_, _<_}
+use native.Mathlib.Omega.{arith}
+use borrow.Author.Tests.{ltb-false, leb-true, le-leb, eq-eqb, ne-eqb}
+use lib.Dec.{eqb, leb}
+use lib.ListN.{length, take, set, replicate}
+use lib.Seq.{set-out, take-all}
+use lib.IntN.{ℤ, pos}
+use Rattle.plane.specs.Point.{points}
+use Rattle.plane.specs.Reply.{Reply, answered, refused, Row, row}
+use Rattle.plane.specs.Refusal.{Valid}
+use Rattle.plane.specs.Output.{written, noRoom}
+use Rattle.plane.specs.theory.lists.Flat.{points-length}
+use Rattle.plane.specs.theory.refusals.Rows.{NoneApply, First, here, later, Outcome, given, passed, outcome, firstRow-given, firstRow-none}
+use Rattle.plane.specs.theory.refusals.Rows.{firstRow-answered, firstRow-refused}
+use Rattle.plane.specs.theory.refusals.Accept.{accepted→valid}
+use Rattle.journal.specs.Format.{recorded, records, name}
+use Rattle.journal.specs.Reading.{damaged, latest, readWritten}
+use Rattle.journal.specs.Adding.{Store, end, stores, made, addRows, addReply, unlessRefusal, added}
+use Rattle.journal.specs.History.{isFinished}
+use Rattle.journal.specs.theory.Read.{recorded-entry, recorded-name, recorded-list, recorded-good}
+use Rattle.journal.specs.theory.Reading.{showing, showing-some, read-sound, sound-snoc, latest-snoc}
+use Rattle.journal.specs.theory.Stores.{one-byte, left, withNew, stores-done, stores-few, cut-seen}
+
+pub record Accepted (b : List ℕ) (n : ℕ) (l : List ℤ) : Type 0 where
+  pub valid : Valid l
+  pub sound : damaged (records b) ≡ false
+  pub room : length (recorded n l) ≤ length b - end b
+
+pub accepted : (b : List ℕ) (n : ℕ) (l : List ℤ) → NoneApply (addRows b n l) → Accepted b n l
+accepted b n l none =
+    let later = none .1 .1 .1 .1 .1 in record {
+      valid = accepted→valid l 1 (none .0, (none .1 .0, (none .1 .1 .0, (none .1 .1 .1 .0, (none .1 .1 .1 .1 .0, tt)))));
+      sound = later .0;
+      room = ltb-false _ _ (later .1 .0);
+    }
+
+valid-some : (l : List ℤ) → Valid l → 0 < length l
+valid-some l v = omega (arith, v .shape .some, points-length l)
+
+-- ---- the reply and the log
+
+-- 1 where all stores are made
+abbrev said : Bool → List ℤ
+said b = cond b (pos 1) (pos 0) ∷ []
+
+said-finished : (b : Bool) → isFinished (answered (said b)) ≡ b
+said-finished true = refl
+said-finished false = refl
+
+module _ (b : List ℕ) (n : ℕ) (l : List ℤ) (k : ℕ) where
+  pub kept-log : (m : ℕ) (c : List ℕ) → added b n l k .reply ≡ refused m c → added b n l k .log ≡ b
+  unfolding added
+  kept-log m c h = ap (λ (r : Reply). unlessRefusal r b (made (take k (stores b (recorded n l))) b)) h
+
+  given-reply : {w : Row} → First w (addRows b n l) → added b n l k .reply ≡ refused (w .number) (w .carries)
+  unfolding added addReply
+  given-reply f = firstRow-given _ f
+
+  module _ (none : NoneApply (addRows b n l)) where
+    passed-reply : added b n l k .reply ≡ answered (said (leb (length (stores b (recorded n l))) k))
+    unfolding added addReply
+    passed-reply = firstRow-none (addRows b n l) _ none
+
+    passed-log : added b n l k .log ≡ made (take k (stores b (recorded n l))) b
+    unfolding added
+    passed-log = ap (λ (r : Reply). unlessRefusal r b (made (take k (stores b (recorded n l))) b)) passed-reply
+
+  -- an answer comes only where no row applies
+  answered-none : (values : List ℤ) → added b n l k .reply ≡ answered values → NoneApply (addRows b n l)
+  unfolding added addReply
+  answered-none values h = firstRow-answered (addRows b n l) _ values h
+
+  -- ---- the records afterwards
+
+  pub added-seen : records (added b n l k .log) ≡ withNew b (recorded n l) (isFinished (added b n l k .reply))
+  added-seen = go (outcome (addRows b n l))
+    where
+      seen : Reply → List (List ℕ)
+      seen r = withNew b (recorded n l) (isFinished r)
+
+      go : Outcome (addRows b n l) → records (added b n l k .log) ≡ seen (added b n l k .reply)
+      go (given w f) = ap records (kept-log (w .number) (w .carries) (given-reply f)) ∙ sym (ap seen (given-reply f))
+      go (passed none) =
+          let a = accepted b n l none in
+          ap records (passed-log none) ∙ cut-seen b (recorded n l) (recorded-entry n l (a .valid)) (a .room) k
+          ∙ ap (withNew b (recorded n l)) (sym (said-finished (leb (length (stores b (recorded n l))) k)))
+          ∙ sym (ap seen (passed-reply none))
+
+  -- ---- one that finished
+
+  finished-none : isFinished (added b n l k .reply) ≡ true → NoneApply (addRows b n l)
+  finished-none h = go (outcome (addRows b n l))
+    where
+      go : Outcome (addRows b n l) → NoneApply (addRows b n l)
+      go (given w f) = absurd (true≢false (sym h ∙ ap isFinished (given-reply f)))
+      go (passed none) = none
+
+  module _ (done : isFinished (added b n l k .reply) ≡ true) where
+    pub finished-accepted : Accepted b n l
+    finished-accepted = accepted b n l (finished-none done)
+
+    all-made : length (stores b (recorded n l)) ≤ k
+    all-made = leb-true _ _ (sym (said-finished _) ∙ sym (ap isFinished (passed-reply (finished-none done))) ∙ done)
+
+    pub finished-log : added b n l k .log ≡ take (end b) b ++ (recorded n l ++ replicate (left b (recorded n l)) 0)
+    finished-log =
+        passed-log (finished-none done) ∙ ap (λ (ss : List Store). made ss b) (take-all k (stores b (recorded n l)) all-made)
+        ∙ stores-done b (recorded n l) (recorded-entry n l (finished-accepted .valid)) (finished-accepted .room)
+
+    pub finished-seen : records (added b n l k .log) ≡ records b ++ (recorded n l ∷ [])
+    finished-seen = added-seen ∙ ap (withNew b (recorded n l)) done
+
+    pub finished-sound : damaged (records (added b n l k .log)) ≡ false
+    finished-sound =
+        ap damaged finished-seen
+        ∙ sound-snoc (recorded n l) (records b) (finished-accepted .sound) (recorded-good n l (finished-accepted .valid))
+
+    pub finished-latest : (m : ℕ) → latest m (records (added b n l k .log)) ≡ cond (eqb (name (recorded n l)) m) l (latest m (records b))
+    finished-latest m =
+        ap (latest m) finished-seen ∙ latest-snoc (recorded n l) m (records b)
+        ∙ ap (λ (x : List ℤ). cond (eqb (name (recorded n l)) m) x (latest m (records b))) (recorded-list n l (finished-accepted .valid))
+
+    module _ (two-bytes : n < 65536) (out : List ℤ) where
+      pub finished-read : readWritten (added b n l k .log) n out ≡ written (row 8 (noRoom (points l) out) [] ∷ []) (points l) out
+      finished-read =
+          read-sound (added b n l k .log) n out finished-sound
+          ∙ ap (λ (x : List ℤ). showing x out) (finished-latest n
+          ∙ ap (λ (t : Bool). cond t l (latest n (records b))) (eq-eqb _ n (recorded-name n l (finished-accepted .valid) two-bytes)))
+          ∙ showing-some l out (valid-some l (finished-accepted .valid))
+
+      pub finished-others : (m : ℕ) → (m ≡ n → ⊥) → readWritten (added b n l k .log) m out ≡ readWritten b m out
+      finished-others m other =
+          let named = recorded-name n l (finished-accepted .valid) two-bytes in
+          read-sound (added b n l k .log) m out finished-sound
+          ∙ ap (λ (x : List ℤ). showing x out) (finished-latest m
+          ∙ ap (λ (t : Bool). cond t l (latest m (records b))) (ne-eqb _ m (λ e. other (sym e ∙ named))))
+          ∙ sym (read-sound b m out (finished-accepted .sound))
+
+  -- ---- one that was cut or refused
+
+  pub unfinished-seen : isFinished (added b n l k .reply) ≡ false → records (added b n l k .log) ≡ records b
+  unfinished-seen h = added-seen ∙ ap (withNew b (recorded n l)) h
+
+  -- ---- allowances
+
+  pub enough-allowed : 2 * length b ≤ k → (values : List ℤ) → added b n l k .reply ≡ answered values
+      → added b n l k .reply ≡ answered (pos 1 ∷ [])
+  enough-allowed h values e =
+      let none = answered-none values e in
+      let a = accepted b n l none in
+      let few = stores-few b (recorded n l) (recorded-entry n l (a .valid)) (a .room) in
+      passed-reply none ∙ ap (λ (t : Bool). answered (said t)) (le-leb _ k (omega arith))
+
+pub nothing-allowed : (b : List ℕ) (n : ℕ) (l : List ℤ) → added b n l 0 .log ≡ b
+unfolding added
+nothing-allowed b n l = either (addReply b n l 0)
+  where
+    either : (r : Reply) → unlessRefusal r b b ≡ b
+    either (answered ns) = refl
+    either (refused m c) = refl
+
+pub one-more-allowed : (b : List ℕ) (n : ℕ) (l : List ℤ) (k : ℕ)
+    → (p : ℕ) × (x : ℕ) × (added b n l (suc k) .log ≡ set (added b n l k .log) p x)
+one-more-allowed b n l k = go (outcome (addRows b n l))
+  where
+    go : Outcome (addRows b n l) → (p : ℕ) × (x : ℕ) × (added b n l (suc k) .log ≡ set (added b n l k .log) p x)
+    go (given w f) =
+        let before = kept-log b n l k (w .number) (w .carries) (given-reply b n l k f) in
+        let after = kept-log b n l (suc k) (w .number) (w .carries) (given-reply b n l (suc k) f) in
+        (length b, 0, after ∙ sym (set-out b (length b) 0 (omega arith)) ∙ ap (λ (c : List ℕ). set c (length b) 0) (sym before))
+    go (passed none) =
+        let step = one-byte (stores b (recorded n l)) b k in (
+          step .0,
+          step .1,
+          passed-log b n l (suc k) none ∙ step .2 ∙ ap (λ (c : List ℕ). set c (step .0) (step .1)) (sym (passed-log b n l k none)),
+        )
+
+-- ---- refusal 15
+
+-- no row of this number applies
+abbrev Without : ℕ → List Row → Type 0
+Without x [] = Unit {0}
+Without x (w ∷ ws) = ((eqb (w .number) x && w .applies) ≡ false) × Without x ws
+
+absent : {w : Row} {ws : List Row} (x : ℕ) → Without x ws → First w ws → w .number ≡ x → ⊥
+absent {w} x without (here e) same =
+    true≢false (sym (ap₂ (λ (s t : Bool). s && t) (eq-eqb (w .number) x same) e) ∙ without .0)
+absent x without (later e f) same = absent x (without .1) f same
+
+pub sound-added : (b : List ℕ) → damaged (records b) ≡ false → (n : ℕ) (l : List ℤ) (k : ℕ) (c : List ℕ)
+    → added b n l k .reply ≡ refused 15 c → ⊥
+unfolding added addReply
+sound-added b sound n l k c h =
+    let first = firstRow-refused (addRows b n l) _ 15 c h in
+    absent 15 (refl, (refl, (refl, (refl, (refl, (sound, (refl, tt))))))) (first .1) (first .2)

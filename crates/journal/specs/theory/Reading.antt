@@ -1,0 +1,152 @@
+-- Reading, by the log's records alone.
+--     neither                    a test of two that fails
+--     FirstBad, first-bad        what `badPlace` is
+--     read-same                  logs with the same records read alike
+--     showing found out          what is written where `found` is the latest list of the name; `showing-some` where it is not empty
+--     read-sound                 a log with no bad record is read so
+--     sound-snoc, latest-snoc    one record more
+use mathlib.Core.Path.{_≡_, refl, sym, _∙_, ap, ap₂}
+use mathlib.Core.Bool.{Bool, true, false, not, cond, _||_, true≢false, or-false, or-assoc}
+use mathlib.Core.List.{List, [], _∷_, _++_}
+use Prim.Native.Nat.{ℕ, _+_, _<_}
+use native.Mathlib.Omega.{arith}
+use borrow.Author.Tests.{ne-eqb, not-false}
+use lib.Dec.{eqb}
+use lib.ListN.{length, length-append}
+use lib.IntN.{ℤ}
+use Rattle.plane.specs.Point.{points}
+use Rattle.plane.specs.Reply.{row}
+use Rattle.plane.specs.Refusal.{badCount}
+use Rattle.plane.specs.Judge.{judged}
+use Rattle.plane.specs.Output.{Written, written, noRoom}
+use Rattle.journal.specs.Format.{records, name, list, isAnswer, wrongLength, kind, bad}
+use Rattle.journal.specs.Reading.{damaged, badPlace, held, latest, readWritten}
+use Rattle.journal.specs.Adding.{joined}
+
+pub neither : (a b : Bool) → (a || b) ≡ false → (a ≡ false) × (b ≡ false)
+neither true b h = absurd (true≢false h)
+neither false b h = (refl, h)
+
+-- ---- the first bad record
+
+-- of these records, `one` is the first that is bad, and stands at this place
+pub record FirstBad (rs : List (List ℕ)) (place : ℕ) : Type 0 where
+  pub before : List (List ℕ)
+  pub one : List ℕ
+  pub behind : List (List ℕ)
+  pub all : rs ≡ before ++ one ∷ behind
+  pub sound : damaged before ≡ false
+  pub is-bad : bad one ≡ true
+  pub at : place ≡ length (joined before)
+
+pub first-bad : (rs : List (List ℕ)) → damaged rs ≡ true → FirstBad rs (badPlace rs)
+first-bad [] d = absurd (true≢false (sym d))
+first-bad (r ∷ rs) d = go (bad r) refl (first-bad rs)
+  where
+    go : (t : Bool) → bad r ≡ t → (damaged rs ≡ true → FirstBad rs (badPlace rs)) → FirstBad (r ∷ rs) (badPlace (r ∷ rs))
+    go true e ih = record {
+      before = [];
+      one = r;
+      behind = rs;
+      all = refl;
+      sound = refl;
+      is-bad = e;
+      at = ap (λ (b : Bool). cond b 0 (length r + badPlace rs)) e;
+    }
+    go false e ih =
+        let later = ih (sym (ap (λ (b : Bool). b || damaged rs) e) ∙ d) in record {
+          before = r ∷ later .before;
+          one = later .one;
+          behind = later .behind;
+          all = ap (λ (ss : List (List ℕ)). r ∷ ss) (later .all);
+          sound = ap₂ (λ (a b : Bool). a || b) e (later .sound);
+          is-bad = later .is-bad;
+          at =
+              ap (λ (b : Bool). cond b 0 (length r + badPlace rs)) e ∙ ap (λ (n : ℕ). length r + n) (later .at)
+              ∙ sym (length-append r (joined (later .before)));
+        }
+
+-- ---- one record more
+
+module _ (r : List ℕ) where
+  pub sound-snoc : (rs : List (List ℕ)) → damaged rs ≡ false → bad r ≡ false → damaged (rs ++ (r ∷ [])) ≡ false
+  sound-snoc [] d g = ap (λ (b : Bool). b || false) g
+  sound-snoc (s ∷ rs) d g =
+      let parts = neither (bad s) (damaged rs) d in
+      ap₂ (λ (a b : Bool). a || b) (parts .0) (sound-snoc rs (parts .1) g)
+
+  module _ (n : ℕ) where
+    held-snoc : (rs : List (List ℕ)) → held n (rs ++ (r ∷ [])) ≡ (held n rs || eqb (name r) n)
+    held-snoc [] = or-false (eqb (name r) n)
+    held-snoc (s ∷ rs) =
+        ap (λ (b : Bool). eqb (name s) n || b) (held-snoc rs) ∙ sym (or-assoc (eqb (name s) n) (held n rs) (eqb (name r) n))
+
+    pub latest-snoc : (rs : List (List ℕ)) → latest n (rs ++ (r ∷ [])) ≡ cond (eqb (name r) n) (list r) (latest n rs)
+    latest-snoc [] = refl
+    latest-snoc (s ∷ rs) =
+        ap₂ (λ (b : Bool) (l : List ℤ). cond b l (cond (eqb (name s) n) (list s) [])) (held-snoc rs) (latest-snoc rs)
+        ∙ later (held n rs) (eqb (name r) n)
+      where
+        later : (a b : Bool) → cond (a || b) (cond b (list r) (latest n rs)) (cond (eqb (name s) n) (list s) [])
+            ≡ cond b (list r) (cond a (latest n rs) (cond (eqb (name s) n) (list s) []))
+        later true true = refl
+        later true false = refl
+        later false true = refl
+        later false false = refl
+
+-- ---- a log
+
+-- a list that is accepted has a number
+accepted-some : (l : List ℤ) → isAnswer (judged l) ≡ true → eqb (length l) 0 ≡ false
+unfolding judged badCount
+accepted-some [] h = absurd (true≢false (sym h))
+accepted-some (z ∷ l) h = ne-eqb (length (z ∷ l)) 0 (λ e. omega arith)
+
+good-some : (r : List ℕ) → bad r ≡ false → eqb (length (list r)) 0 ≡ false
+unfolding bad
+good-some r h =
+    let shape = neither (not (eqb (kind r) 1)) (not (isAnswer (judged (list r)))) (neither (wrongLength r) _ h .1) .1 in
+    accepted-some (list r) (not-false (isAnswer (judged (list r))) shape)
+
+held-latest : (n : ℕ) (rs : List (List ℕ)) → damaged rs ≡ false → not (held n rs) ≡ eqb (length (latest n rs)) 0
+held-latest n [] d = refl
+held-latest n (r ∷ rs) d =
+    let parts = neither (bad r) (damaged rs) d in
+    go (eqb (name r) n) (held n rs) (held-latest n rs (parts .1)) (good-some r (parts .0))
+  where
+    go : (a b : Bool) → not b ≡ eqb (length (latest n rs)) 0 → eqb (length (list r)) 0 ≡ false
+        → not (a || b) ≡ eqb (length (cond b (latest n rs) (cond a (list r) []))) 0
+    go true true h g = h
+    go true false h g = sym g
+    go false true h g = h
+    go false false h g = refl
+
+-- what is written where this list is found; nothing is found where it is empty
+abbrev pub showing : List ℤ → List ℤ → Written
+showing found out = written (row 19 (eqb (length found) 0) [] ∷ row 8 (noRoom (points found) out) [] ∷ []) (points found) out
+
+-- a list with a corner is found
+pub showing-some : (l out : List ℤ) → 0 < length l → showing l out ≡ written (row 8 (noRoom (points l) out) [] ∷ []) (points l) out
+showing-some l out h =
+    ap (λ (b : Bool). written (row 19 b [] ∷ row 8 (noRoom (points l) out) [] ∷ []) (points l) out) (ne-eqb (length l) 0 (λ e. omega arith))
+
+module _ (b : List ℕ) (n : ℕ) (out : List ℤ) where
+  pub read-same : (c : List ℕ) → records b ≡ records c → readWritten b n out ≡ readWritten c n out
+  unfolding readWritten
+  read-same c e = ap reading e
+    where
+      reading : List (List ℕ) → Written
+      reading rs =
+          written (row 15 (damaged rs) (badPlace rs ∷ []) ∷ row 19 (not (held n rs)) [] ∷ row 8 (noRoom (points (latest n rs)) out) [] ∷ [])
+          (points (latest n rs)) out
+
+  pub read-sound : damaged (records b) ≡ false → readWritten b n out ≡ showing (latest n (records b)) out
+  unfolding readWritten
+  read-sound d = ap₂ reading d (held-latest n (records b) d)
+    where
+      found : List ℤ
+      found = latest n (records b)
+
+      reading : Bool → Bool → Written
+      reading a h =
+          written (row 15 a (badPlace (records b) ∷ []) ∷ row 19 h [] ∷ row 8 (noRoom (points found) out) [] ∷ []) (points found) out

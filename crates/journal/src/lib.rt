@@ -1,0 +1,8 @@
+// A log of shapes in a lent run of bytes (document 02, W5: the floor book). Inner functions; callers ask the crate
+// `questions`.
+mod bytes;
+pub mod corners;
+pub mod latest;
+mod records;
+pub mod storing;
+pub mod survey;

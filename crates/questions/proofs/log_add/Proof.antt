@@ -1,0 +1,67 @@
+-- `log_add` meets its contract: the list is refused, or a record is bad, or the shape is added behind the last record.
+use mathlib.Core.Path.{sym, _∙_, subst}
+use borrow.Author.Needs.{needs}
+use Rattle.plane.specs.Refusal.{shapeRows, Valid}
+use Rattle.journal.specs.theory.Survey.{surveyed-ends}
+use Rattle.questions.specs.Answer.{ofRefusal}
+use Rattle.questions.specs.Admission.{Refuses, Admitted}
+use Rattle.questions.specs.theory.Logs.{add-refused, add-damaged}
+use Rattle.questions.proofs.log_add.Statement.{statement}
+use Rattle.questions.proofs.log_add.Tie as tie
+
+-- past the judging the list is a shape
+valid : (c : tie.After-enum-told) → Valid (c .before .before .before .before .args .list .now)
+valid c = subst (Admitted 1 _) (c .enum-told .given .1) (c .before .before .admit .ensures)
+
+-- before it, the list is refused
+refusal : (c : tie.After-known-told) → Refuses (shapeRows 1 (c .before .before .before .before .before .args .list .now))
+    (ofRefusal (c .before .refusal .given .0 .0))
+refusal c = subst (Admitted 1 _) (c .before .refusal .given .1) (c .before .before .before .admit .ensures)
+
+admit-requires : tie.Need-admit-requires
+admit-requires c κs = search needs
+
+enum-known-refusal : tie.Need-enum-known-refusal
+enum-known-refusal c = search needs
+
+returns : tie.Need-returns
+returns c = add-refused _ _ _ _ (refusal c)
+
+enum-told : tie.Need-enum-told
+enum-told c = search needs
+
+survey-requires : tie.Need-survey-requires
+survey-requires c κs = search needs
+
+enum-known-place : tie.Need-enum-known-place
+enum-known-place c = search needs
+
+enum-known-end : tie.Need-enum-known-end
+enum-known-end c = search needs
+
+add-behind-requires : tie.Need-add-behind-requires
+add-behind-requires c κs =
+    let at-end = c .before .before in
+    let told = surveyed-ends _ _ (sym (at-end .before .before .survey .ensures) ∙ at-end .end .given .1) in
+    (valid (at-end .before .before .before .before), told .0, told .1)
+
+same-length : tie.Need-same-length
+same-length c = search needs
+
+returns-2 : tie.Need-returns-2
+returns-2 c =
+    let at-place = c .before in
+    add-damaged _ _ _ _ (valid (at-place .before .before .before .before)) _
+    (sym (at-place .before .before .survey .ensures) ∙ at-place .place .given .1)
+
+same-length-2 : tie.Need-same-length-2
+same-length-2 c = search needs
+
+returns-3 : tie.Need-returns-3
+returns-3 c = search needs
+
+pub log-add-spec : {M : Type 1} → statement M
+log-add-spec =
+    tie.close
+    (tie.spec admit-requires enum-known-refusal returns enum-told survey-requires enum-known-place enum-known-end
+    add-behind-requires same-length returns-2 same-length-2 returns-3)

@@ -1,0 +1,60 @@
+-- `read` is safe and ends. The invariant: `i` is within the text, and the buffer keeps its length. The measure: what is left of the text.
+use mathlib.Core.Path.{_≡_}
+use Prim.Native.Nat.{_≤_, _-_}
+use lib.ListN.{length}
+use borrow.Author.Needs.{needs}
+use Rattle.text.proofs.bytes.read.Statement.{statement}
+use Rattle.text.proofs.bytes.read.Tie as tie
+
+abbrev Inv-loop : tie.InvT-loop
+Inv-loop text bytes₀ progress₀ i₀ bytes progress i = (i ≤ length text) × (length bytes ≡ length bytes₀)
+
+abbrev μ-loop : tie.MeasureT-loop
+μ-loop text bytes₀ progress₀ i₀ bytes progress i = length text - i
+
+loop-holds : tie.Need-loop-holds Inv-loop μ-loop
+loop-holds c = search needs
+
+shared-slice-read-step : tie.Need-shared-slice-read-step Inv-loop μ-loop
+shared-slice-read-step c = search needs
+
+step-requires : tie.Need-step-requires Inv-loop μ-loop
+step-requires c κs = search needs
+
+add-i : tie.Need-add-i Inv-loop μ-loop
+add-i c = search needs
+
+loop-less : tie.Need-loop-less Inv-loop μ-loop
+loop-less c = search needs
+
+loop-again : tie.Need-loop-again Inv-loop μ-loop
+loop-again c = search needs
+
+at-space-requires : tie.Need-at-space-requires Inv-loop μ-loop
+at-space-requires c κs = search needs
+
+outcome-requires : tie.Need-outcome-requires Inv-loop μ-loop
+outcome-requires c κs = search needs
+
+same-length : tie.Need-same-length Inv-loop μ-loop
+same-length c = search needs
+
+returns : tie.Need-returns Inv-loop μ-loop
+returns c = search needs
+
+pub read-spec : {M : Type 1} → statement M
+read-spec =
+    tie.close
+    (tie.spec
+    Inv-loop
+    μ-loop
+    loop-holds
+    shared-slice-read-step
+    step-requires
+    add-i
+    loop-less
+    loop-again
+    at-space-requires
+    outcome-requires
+    same-length
+    returns)
