@@ -22,6 +22,19 @@ mod archive {
             out: Output,
             room: usize,
         ) -> Numbers;
+        pub fn cocklesway_begin(a: List, n: usize, b: List, m: usize) -> Numbers;
+        pub fn cocklesway_part(
+            a: List,
+            n: usize,
+            b: List,
+            m: usize,
+            first: usize,
+            second: usize,
+            over: bool,
+            k: usize,
+            out: Output,
+            room: usize,
+        ) -> Numbers;
         pub fn cocklesway_merge(
             a: List,
             n: usize,
@@ -76,6 +89,28 @@ pub fn sum(a: &[i32], b: &[i32], out: &mut [i32]) -> Numbers {
             a.len(),
             b.as_ptr(),
             b.len(),
+            out.as_mut_ptr(),
+            out.len(),
+        )
+    }
+}
+
+pub fn begin(a: &[i32], b: &[i32]) -> Numbers {
+    unsafe { archive::cocklesway_begin(a.as_ptr(), a.len(), b.as_ptr(), b.len()) }
+}
+
+/// The first part of a sum, of k corners at most.
+pub fn part(a: &[i32], b: &[i32], k: usize, out: &mut [i32]) -> Numbers {
+    unsafe {
+        archive::cocklesway_part(
+            a.as_ptr(),
+            a.len(),
+            b.as_ptr(),
+            b.len(),
+            0,
+            0,
+            false,
+            k,
             out.as_mut_ptr(),
             out.len(),
         )

@@ -47,13 +47,20 @@ pub const ROWS: [(&str, [Run; 2], Make); 10] = [
 /// Every proved question, on a shape and the same one moved away (`pairs::moved_away`). It takes the
 /// whole walk to find that a shape overlaps itself, or is inside itself. A log has as many records
 /// as the shape has corners.
-pub const GROWTH: [(&str, Run); 13] = [
+pub const GROWTH: [(&str, Run); 16] = [
     ("judge", JUDGE[0]),
     ("furthest", |cases| {
         block(cases, |c, _| proved::furthest(&c.a, 3, 1))
     }),
     ("mirror", run!(proved::mirror(a; out))),
     ("sum", SUM[0]),
+    ("begin", run!(proved::begin(a, b))),
+    ("part of none", |cases| {
+        block(cases, |c, out| proved::part(&c.a, &c.b, 0, out))
+    }),
+    ("part of 16 corners", |cases| {
+        block(cases, |c, out| proved::part(&c.a, &c.b, 16, out))
+    }),
     ("merge", MERGE[0]),
     ("length", LENGTH[0]),
     ("width", WIDTH[0]),

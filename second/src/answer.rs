@@ -17,6 +17,7 @@ pub fn write_all(input: &[u8], mut to: impl Write) -> io::Result<()> {
 pub fn answer(line: &[u8]) -> String {
     match read(line) {
         Ok((row, given)) => match (row.ask)(&given) {
+            Ok(words) if words.is_empty() => "ok".to_string(),
             Ok(words) => format!("ok {words}"),
             Err(refusal) => refusal.to_string(),
         },
@@ -76,6 +77,19 @@ mod tests {
         ("bookadd | | 7 | 0", "no 1 shape 1"),
         ("bookadd | 0102 | 7 | 0 0", "no 16"),
         ("bookadd | | 7 | 0 0 | -1", "unreadable: not a count"),
+        ("parts | 0 0 | 1 1 |", "ok"),
+        ("parts | 0 0 | 1 1 | 0:0  007:02 1:0", "ok | 0 | 1 1 1 | 0"),
+        ("parts | 0 0 | 1 1 | 1:2 1", "unreadable: not a call"),
+        ("parts | 0 0 | 1 1 | 1:", "unreadable: not a call"),
+        ("parts | 0 0 | 1 1 | -1:2", "unreadable: not a call"),
+        ("parts | 0 0 | 1 1 | 1::2", "unreadable: not a call"),
+        ("parts | 0 0 | 1 1 | 1:2147483648", "unreadable: not a number of 32 bits"),
+        ("part | 0 0 | 1 1 | 0 0 1 | 1 0", "ok 0 0 0 1 |"),
+        ("part | 0 0 | 1 1 | 0 0 2 | 1 2", "unreadable: not a walk"),
+        ("part | 0 0 | 1 1 | -1 0 0 | 1 2", "unreadable: not a walk"),
+        ("part | 0 0 | 1 1 | 0 0 | 1 2", "unreadable: wrong count of numbers"),
+        ("part | 0 0 | 1 1 | 0 0 0 | -1 2", "unreadable: not a count"),
+        ("part | 0 0 | 1 1 | 0 0 0", "unreadable: missing field"),
     ];
 
     #[test]

@@ -5,7 +5,8 @@ use crate::clearance::{self, Against, Between};
 use crate::combine::{self, held_by};
 use crate::log;
 use crate::measure;
-use crate::plane::Shape;
+use crate::parts::{self, State};
+use crate::plane::{Point, Shape};
 use crate::refusal::Refusal;
 use crate::separation::{self, Relation};
 use crate::tablet;
@@ -33,6 +34,31 @@ pub fn mirror(given: &Given) -> Answer {
 pub fn sum(given: &Given) -> Answer {
     let [a, b] = given.shapes()?;
     written(given, combine::sum(&a, &b)?)
+}
+
+/// Behind a bar each, what the calls from the beginning on wrote, or 8.
+pub fn parts(given: &Given) -> Answer {
+    let [a, b] = given.shapes()?;
+    let sum = combine::sum(&a, &b)?;
+    let mut written = 0;
+    let mut told = Vec::new();
+    for &call in given.calls() {
+        match parts::part(&sum, written, call) {
+            Ok((corners, end)) => {
+                told.push(format!("| {}{}", corners.len(), behind_spaces(&corners)));
+                written = end;
+            }
+            Err(refusal) => told.push(format!("| {refusal}")),
+        }
+    }
+    Ok(told.join(" "))
+}
+
+pub fn part(given: &Given) -> Answer {
+    let [a, b] = given.shapes()?;
+    let (corners, State { i, j, over }) = parts::from(&a, &b, given.walk(), given.calls()[0])?;
+    let (count, numbers) = (corners.len(), behind_spaces(&corners));
+    Ok(format!("{count} {i} {j} {} |{numbers}", usize::from(over)))
 }
 
 pub fn merge(given: &Given) -> Answer {
@@ -119,9 +145,14 @@ pub fn log_text(log: &[u8]) -> String {
     log.iter().map(|byte| format!("{byte:02X}")).collect()
 }
 
+/// The numbers of corners, with a space before each.
+fn behind_spaces(corners: &[Point]) -> String {
+    let numbers = corners.iter().map(|c| format!(" {} {}", c.x, c.y));
+    numbers.collect()
+}
+
 /// The shape as it stands in the lent output, if that has the room.
 fn written(given: &Given, shape: Shape) -> Answer {
     let shape = held_by(given.room(), shape)?;
-    let numbers: Vec<String> = shape.iter().map(|c| format!("{} {}", c.x, c.y)).collect();
-    Ok(format!("{} | {}", shape.len(), numbers.join(" ")))
+    Ok(format!("{} |{}", shape.len(), behind_spaces(&shape)))
 }

@@ -178,6 +178,51 @@ const CLEARANCE: &[Stated] = &[
     ]),
 ];
 
+#[rustfmt::skip]
+const PARTS: &[Stated] = &[
+    ("W6: the parts joined are the sum, wherever it was cut; 8 keeps the walk", &[
+        ("parts | S | T | 2:4 2:4 2:4", "ok | 2 0 0 3 0 | 2 3 2 2 3 | 1 0 3"),
+        ("parts | S | T | 5:10", "ok | 5 0 0 3 0 3 2 2 3 0 3"),
+        ("parts | S | T | 1:2 3:5 3:6 0:0 9:2 9:2", "ok | 1 0 0 | no 8 | 3 3 0 3 2 2 3 | 0 | 1 0 3 | 0"),
+        ("parts | S | T |", "ok"),
+        ("parts | 0 0 2 0 | 0 0 1 0 | 1:2 1:2 1:2", "ok | 1 0 0 | 1 3 0 | 0"),
+        ("parts | 3 1 | 0 1 | 2147483647:2 1:0", "ok | 1 3 2 | 0"),
+    ]),
+    ("W6: beginning is refused as the sum is, but for 8", &[
+        ("parts | 1 1 0 0 | T | 1:2", "no 5 shape 1"),
+        ("parts | S | 0 0 0 | 1:2", "no 1 shape 2"),
+        ("parts | 600000 0 | 500000 0 | 1:2", "no 7"),
+        ("parts | S | T | 3:0", "ok | no 8"),
+    ]),
+    ("W6: the walk is handed back each time", &[
+        ("part | S | T | 0 0 0 | 2 4", "ok 2 2 1 0 | 0 0 3 0"),
+        ("part | S | T | 2 1 0 | 2 4", "ok 2 3 2 0 | 3 2 2 3"),
+        ("part | S | T | 3 2 0 | 2 4", "ok 1 4 3 1 | 0 3"),
+        ("part | S | T | 4 3 1 | 2 4", "ok 0 4 3 1 |"),
+        ("part | S | T | 2 2 0 | 0 0", "ok 0 2 2 0 |"),
+        ("part | S | 0 0 | 4 0 1 | 1 2", "ok 0 4 0 1 |"),
+        ("part | 0 0 | 1 1 | 0 0 0 | 1 2", "ok 1 0 0 1 | 1 1"),
+        ("part | 0 0 | 1 1 | 0 0 1 | 1 2", "ok 0 0 0 1 |"),
+    ]),
+    ("W6: 14 at no place: passed too early, past the end, over before it, not over at it", &[
+        ("part | S | T | 1 0 0 | 2 4", "no 14"),
+        ("part | S | T | 0 1 0 | 2 4", "no 14"),
+        ("part | S | T | 2 1 1 | 2 4", "no 14"),
+        ("part | S | T | 4 3 0 | 2 4", "no 14"),
+        ("part | S | T | 5 3 1 | 2 4", "no 14"),
+        ("part | S | T | 4 2147483647 1 | 2 4", "no 14"),
+        ("part | S | 0 0 | 0 0 1 | 1 2", "no 14"),
+        ("part | 0 0 | 1 1 | 1 0 0 | 1 2", "no 14"),
+    ]),
+    ("W6: 14 after 1 to 5 and before 7; 8 of this call's corners", &[
+        ("part | S | 1 1 0 0 | 1 0 0 | 2 4", "no 5 shape 2"),
+        ("part | 600000 0 600001 0 | 500000 0 | 1 1 0 | 1 0", "no 14"),
+        ("part | 600000 0 600001 0 | 500000 0 | 1 0 0 | 1 0", "no 7"),
+        ("part | S | T | 0 0 0 | 2 3", "no 8"),
+        ("part | S | T | 3 2 0 | 9 2", "ok 1 4 3 1 | 0 3"),
+    ]),
+];
+
 pub struct Group {
     pub words: String,
     pub cases: Vec<(String, String)>,
@@ -194,6 +239,7 @@ pub fn groups() -> Vec<Group> {
     groups.extend(spelled(TANGENTS));
     groups.extend(spelled(CLEARANCE));
     groups.extend(spelled(log::LOG));
+    groups.extend(spelled(PARTS));
     groups
 }
 

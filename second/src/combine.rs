@@ -7,12 +7,17 @@ use crate::refusal::{MOST_CORNERS, Refusal};
 
 /// The shape of all corner-plus-corner points.
 pub fn sum(a: &[Point], b: &[Point]) -> Result<Shape, Refusal> {
-    let pairs = a.iter().flat_map(|&p| b.iter().map(move |&q| p + q));
-    let answer = not_too_many(hull_of(pairs.collect()))?;
+    let answer = not_too_many(all_sums(a, b))?;
     if !answer.iter().all(in_range) {
         return Err(Refusal::plain(7));
     }
     Ok(answer)
+}
+
+/// The same, however many corners it has and wherever they are.
+pub fn all_sums(a: &[Point], b: &[Point]) -> Shape {
+    let pairs = a.iter().flat_map(|&p| b.iter().map(move |&q| p + q));
+    hull_of(pairs.collect())
 }
 
 /// The shape of both corner lists taken together.

@@ -4,6 +4,7 @@
 //!
 //!     second make SEED COUNT                      writes questions, the same ones for the same seed
 //!     second make SEED COUNT WORD                 the same, all of the words that begin so
+//!     second small                                writes all states and cuts of small sums in parts
 //!     second answer                               answers the questions of standard input
 //!     second cases                                writes the documents' cases as questions
 //!     second check                                answers these cases, compares with what is stated
@@ -26,6 +27,7 @@ mod judge;
 mod log;
 mod make;
 mod measure;
+mod parts;
 mod plane;
 mod questions;
 mod refusal;
@@ -39,7 +41,7 @@ use std::fs;
 use std::io::{self, BufWriter, Read, Write};
 use std::process::ExitCode;
 
-const USAGE: &str = "second make SEED COUNT [WORD] | answer | cases | check | compare LEAST QUESTIONS ANSWERS \
+const USAGE: &str = "second make SEED COUNT [WORD] | small | answer | cases | check | compare LEAST QUESTIONS ANSWERS \
      | histories SEED ROUNDS | sentences SEED ROUNDS QUESTIONS ANSWERS";
 
 /// Whether all is as it should be; trouble is what kept the program from finding out.
@@ -65,6 +67,7 @@ fn run(words: &[&str]) -> Outcome {
         ["make", seed, count, word] => {
             make::write_all(number(seed)?, number(count)?, word, output)?
         }
+        ["small"] => make::parts::write_small(output)?,
         ["answer"] => answer::write_all(&standard_input()?, output)?,
         ["cases"] => cases::write_all(output)?,
         ["check"] => return check_cases(output),

@@ -4,8 +4,10 @@
 use crate::ask::{self, Answer};
 use crate::make::dice::Dice;
 use crate::make::fields as make;
-use crate::make::{logs, readings};
-use crate::text::fields::Field::{self, Direction, Log, Name, Reading, Room, Shape, Stores};
+use crate::make::{logs, parts, readings};
+use crate::text::fields::Field::{
+    self, Call, Calls, Direction, Log, Name, Reading, Room, Shape, Stores, Walk,
+};
 use crate::text::given::Given;
 
 pub struct Row {
@@ -22,6 +24,8 @@ pub const TABLE: &[Row] = &[
     Row { word: "furthest", fields: &[Shape, Direction], ask: ask::furthest, make: make::furthest },
     Row { word: "mirror", fields: &[Shape, Room], ask: ask::mirror, make: make::mirror },
     Row { word: "sum", fields: &[Shape, Shape, Room], ask: ask::sum, make: make::sum },
+    Row { word: "parts", fields: &[Shape, Shape, Calls], ask: ask::parts, make: parts::parts },
+    Row { word: "part", fields: &[Shape, Shape, Walk, Call], ask: ask::part, make: parts::part },
     Row { word: "merge", fields: &[Shape, Shape, Room], ask: ask::merge, make: make::merge },
     Row { word: "length", fields: &[Shape], ask: ask::length, make: make::one_shape },
     Row { word: "width", fields: &[Shape], ask: ask::width, make: make::one_shape },

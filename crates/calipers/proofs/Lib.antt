@@ -1,3 +1,4 @@
 -- Lemmas that function proofs share.
+pub mod Tests
 pub mod Progress
 pub mod Summed

@@ -1,7 +1,13 @@
--- The caliper walk, and what is taken from it; then their meaning, and the theory behind it.
+-- The caliper walk, and what is taken from it; a sum in parts; then their meaning, and the theory behind it.
 pub mod Places
 pub mod Walk
 pub mod Side
 pub mod Stretch
+pub mod Advance
+pub mod PlaceAfter
+pub mod PlaceTest
+pub mod Part
+pub mod Calls
+pub mod Cases
 pub mod Meaning
 pub mod theory

@@ -1,22 +1,40 @@
--- What the walk means, in document 01's words. Each theorem is proved in the theory; here it is only cited.
+-- What the walk means, in the words of documents 01 and 02. Each theorem is proved in the theory; here it is only cited.
+--     the sum         the walk visits its corners, in its order, and no others
+--     places          a different place for each count of corners; how they are told
+--     parts           the refusals of a call, what it writes and hands back, and what all calls write together
 -- That an answered sum is valid, its laws in either order, and the origin point's, are in the crate `laws`.
 use mathlib.Core.Path.{_≡_}
+use mathlib.Core.Bool.{true, false}
 use mathlib.Core.List.{List, [], _∷_}
-use Prim.Native.Nat.{ℕ, _+_, _<_}
-use lib.IntN.{ℤ}
-use lib.ListN.{length}
-use Rattle.plane.specs.Point.{Point, points, corner, _⊕_}
+use Prim.Native.Nat.{ℕ, _+_, _≤_, _<_, min}
+use lib.IntN.{ℤ, pos}
+use lib.ListN.{length, take, drop}
+use Rattle.plane.specs.Point.{Point, points, numbers, corner, _⊕_}
+use Rattle.plane.specs.Reply.{answered, refused, Row, row, firstRow}
 use Rattle.plane.specs.Refusal.{Valid}
 use Rattle.plane.specs.Corner.{Corner, shapeOf, sums}
 use Rattle.plane.specs.Forms.{edges}
+use Rattle.plane.specs.Output.{noRoom, overwritten}
+use Rattle.plane.specs.Combine.{sumWritten}
+use Rattle.plane.specs.theory.refusals.Rows.{NoneApply, First, firstRow-given, firstRow-none, firstRow-refused}
 use Rattle.plane.specs.theory.sum.EdgeCount.{shared}
 use Rattle.calipers.specs.Places.{places}
 use Rattle.calipers.specs.theory.Visited.{Visited, place-of-corner, corner-parts}
 use Rattle.plane.specs.theory.lists.Members.{position-member}
-use Rattle.calipers.specs.Walk.{here, begun, stepped, ahead, remaining}
+use Rattle.calipers.specs.Walk.{Walk, here, begun, stepped, ahead, remaining}
+use Rattle.calipers.specs.PlaceAfter.{wholeSum, placeAfter, isPlace}
+use Rattle.calipers.specs.PlaceTest.{standsAt}
+use Rattle.calipers.specs.Part.{partCorners, handedBack, walkNumbers, partRows, beginReply, partWritten}
+use Rattle.calipers.specs.Calls.{Calls}
 use Rattle.calipers.specs.theory.Steps.{ahead-begin}
 use Rattle.calipers.specs.theory.Directions.{sum-directions, sum-points}
 use Rattle.calipers.specs.theory.Visits.{sum-visited, visited-corner}
+use Rattle.calipers.specs.theory.Reached.{to-come, place-different, place-at, place-count}
+use Rattle.calipers.specs.theory.PlaceTest.{place-test}
+use Rattle.calipers.specs.theory.Parts.{part-from, handed-from, part-known, calls-front, whole-at-end, over-at-last, begun-valid}
+use Rattle.calipers.specs.theory.PartRows.{total, off-place, place-off, begin-refused, begin-answered, calls-answered}
+
+-- ---- the sum
 
 module _ (a b : List ℤ) (v : Valid a) (w : Valid b) where
   -- "the shape of all corner-plus-corner points": from the beginning the walk visits its corners, in its order, and no others
@@ -55,3 +73,104 @@ walk-comes-by-places A B = ahead-begin A B
 -- two points make a point
 pub sum-of-points : (p q : Point) → shapeOf (sums (p ∷ []) (q ∷ [])) ≡ (p ⊕ q) ∷ []
 sum-of-points p q = sum-points p q
+
+-- ---- places
+
+module _ (a b : List ℤ) (v : Valid a) (w : Valid b) where
+  -- "the state that the walk of the whole sum has after some count of its corners, from none to all": these are places
+  pub counts-are-places : (c : ℕ) → c ≤ length (wholeSum a b) → isPlace a b (placeAfter a b c) ≡ true
+  counts-are-places c h = place-at a b v w c h
+
+  -- and no others
+  pub places-have-counts : (u : Walk) → isPlace a b u ≡ true → (c : ℕ) × (c ≤ length (wholeSum a b)) × (u ≡ placeAfter a b c)
+  places-have-counts u h = place-count a b u h
+
+  -- "a different one for each count"
+  pub places-differ : (c d : ℕ) → c ≤ length (wholeSum a b) → d ≤ length (wholeSum a b) → placeAfter a b c ≡ placeAfter a b d → c ≡ d
+  places-differ c d h k e = place-different a b v w c d h k e
+
+  -- what remains at a place: the sum's corners but for those before it
+  pub place-remains : (c : ℕ) → c ≤ length (wholeSum a b)
+      → remaining (points a) (points b) (placeAfter a b c) ≡ drop c (wholeSum a b)
+  place-remains c h = to-come a b v w c h
+
+  -- a place is told by the edges next to it, without a walk
+  pub place-told-by-edges : (u : Walk) → isPlace a b u ≡ standsAt a b u
+  place-told-by-edges u = place-test a b v w u
+
+  -- ---- parts
+
+  module _ (u : Walk) (k : ℕ) (out : List ℤ) where
+    -- "A walk that isn't at a place of these two shapes' sum is refused 14, after 1 to 5 and before 6 and 7"
+    pub off-place-is-refused : isPlace a b u ≡ false → partWritten a b u k out .reply ≡ refused 14 []
+    off-place-is-refused h = off-place a b v w u k out h
+
+    -- and no other walk is
+    pub refused-is-off-place : partWritten a b u k out .reply ≡ refused 14 [] → isPlace a b u ≡ false
+    refused-is-off-place h = place-off a b v w u k out h
+
+  -- "It writes k or what remains, whichever is less": from the place after c corners on, these
+  pub part-is-next-corners : (c k : ℕ) → c ≤ length (wholeSum a b)
+      → partCorners a b (placeAfter a b c) k ≡ take k (drop c (wholeSum a b))
+  part-is-next-corners c k h = part-from a b v w c k h
+
+  -- "A walk .. is handed back": the place after them
+  pub part-hands-back-next-place : (c k : ℕ) → c ≤ length (wholeSum a b)
+      → handedBack a b (placeAfter a b c) k ≡ placeAfter a b (c + length (take k (drop c (wholeSum a b))))
+  part-hands-back-next-place c k h = handed-from a b v w c k h
+
+module _ (a b : List ℤ) (u : Walk) (k : ℕ) (out : List ℤ) where
+  -- the table of a call: a row that applies, with none before it, gives its refusal
+  pub part-refused-by-row : {r : Row} → First r (partRows a b u k out) → partWritten a b u k out .reply ≡ refused (r .number) (r .carries)
+  unfolding partWritten
+  part-refused-by-row f = firstRow-given _ f
+
+  -- and nothing else does
+  pub part-refused-only-by-row : (n : ℕ) (carries : List ℕ) → partWritten a b u k out .reply ≡ refused n carries
+      → (r : Row) × First r (partRows a b u k out) × (r .number ≡ n) × (r .carries ≡ carries)
+  unfolding partWritten
+  part-refused-only-by-row n carries h = firstRow-refused (partRows a b u k out) _ n carries h
+
+  -- "and says how many", "handed back each time": where no row applies the call is answered with its corners and the next place
+  pub part-answered-if-none : NoneApply (partRows a b u k out)
+      → partWritten a b u k out .reply ≡ answered (pos (length (partCorners a b u k)) ∷ walkNumbers (handedBack a b u k))
+  unfolding partWritten
+  part-answered-if-none n = firstRow-none (partRows a b u k out) _ n
+
+  -- and an answer says just that, "each call's part is fixed by itself"
+  pub answer-fixes-part : (n : ℕ) (x : Walk) → partWritten a b u k out .reply ≡ answered (pos n ∷ walkNumbers x)
+      → (n ≡ length (partCorners a b u k)) × (x ≡ handedBack a b u k)
+      × (partWritten a b u k out .output ≡ overwritten (numbers (partCorners a b u k)) out)
+  answer-fixes-part n x h = part-known a b u x k n out h
+
+module _ (a b : List ℤ) where
+  -- "Beginning is refused as the sum is": with the same numbers, whatever the output
+  pub begin-is-refused-as-sum : (n : ℕ) (carries : List ℕ) → beginReply a b ≡ refused n carries → (out : List ℤ)
+      → sumWritten a b out .reply ≡ refused n carries
+  begin-is-refused-as-sum n carries h out = begin-refused a b n carries h out
+
+  -- "but for 8": where it is not, only 8 can refuse the sum
+  pub begun-sum-lacks-only-room : (values : List ℤ) → beginReply a b ≡ answered values → (out : List ℤ)
+      → sumWritten a b out .reply ≡ firstRow (row 8 (noRoom (wholeSum a b) out) [] ∷ []) (answered (pos (length (wholeSum a b)) ∷ []))
+  begun-sum-lacks-only-room values h out = begin-answered a b values h out
+
+  module _ (values : List ℤ) (begins : beginReply a b ≡ answered values) where
+    -- "With the same shapes throughout, from the beginning until nothing remains, each call given the walk last handed back, the parts
+    -- joined are the sum, wherever it was cut": whatever each call may write, whatever it is lent, and whichever are refused between
+    pub parts-joined-are-sum : {ks : List ℕ} {l : List ℤ} {x : Walk} → Calls a b begun ks l x → x .over ≡ true → l ≡ numbers (wholeSum a b)
+    parts-joined-are-sum t o = let r = begun-valid a b values begins in whole-at-end a b (r .0) (r .1) t o
+
+    -- on the way, they are its first corners, and the walk is at the place after these
+    pub parts-joined-are-front : {ks : List ℕ} {l : List ℤ} {x : Walk} → Calls a b begun ks l x
+        → (n : ℕ) × (n ≤ length (wholeSum a b)) × (x ≡ placeAfter a b n) × (l ≡ numbers (take n (wholeSum a b)))
+    parts-joined-are-front t = let r = begun-valid a b values begins in calls-front a b (r .0) (r .1) t
+
+    -- any counts may be asked for, with room for the sum: the calls then come as far as these reach
+    pub any-counts-are-answered : (out : List ℤ) → length (numbers (wholeSum a b)) ≤ length out → (ks : List ℕ)
+        → (l : List ℤ) × Calls a b begun ks l (placeAfter a b (min (total ks) (length (wholeSum a b))))
+    any-counts-are-answered out room ks =
+        let r = begun-valid a b values begins in calls-answered a b (r .0) (r .1) (r .2) out room ks
+
+    -- and at the last corner the walk is over
+    pub last-place-is-over : placeAfter a b (length (wholeSum a b)) .over ≡ true
+    last-place-is-over = let r = begun-valid a b values begins in over-at-last a b (r .0) (r .1)

@@ -10,4 +10,8 @@ pub mod Steps
 pub mod Carry
 pub mod Directions
 pub mod Visits
+pub mod Reached
+pub mod PlaceTest
+pub mod Parts
+pub mod PartRows
 pub mod Sorted

@@ -10,7 +10,7 @@ ghost use Rattle.plane.specs.Refusal.{InRange};
 ghost use Rattle.plane.specs.Turn.{cross};
 ghost use Rattle.plane.specs.Direction.{value};
 ghost use Rattle.plane.specs.Measure.{squared as Measure·squared};
-ghost use Rattle.plane.specs.Forms.{up, edges};
+ghost use Rattle.plane.specs.Forms.{up, before, edges};
 ghost use Rattle.polygon.specs.Point.{at, Small};
 ghost use Rattle.calipers.specs.Side.{cornerOf, nextOf, onward, Stands, Carried};
 use crate::edges;
@@ -144,6 +144,18 @@ pub fn order(s: Side, t: Side) -> i64
     ensures { λ r. ⌜ r ≡ cross (nextOf s) (nextOf t) ⌝ }
 {
     s.run * t.rise - s.rise * t.run
+}
+
+// Whether the next edge of the first side is before that of the other by direction, from level to the right all the way
+// round.
+pub fn is_before(s: Side, t: Side) -> bool
+    requires { ⌜ Small (2 ^ 22) (nextOf s) × Small (2 ^ 22) (nextOf t) ⌝ }
+    ensures { λ r. ⌜ r ≡ before (nextOf s) (nextOf t) ⌝ }
+{
+    if s.is_up() != t.is_up() {
+        return s.is_up();
+    }
+    0 < order(s, t)
 }
 
 // The corner of the sum at which two sides stand.

@@ -11,11 +11,15 @@ ghost use Rattle.plane.specs.Measure.{lengthReply, widthReply};
 ghost use Rattle.plane.specs.Separation.{relationReply, insideReply};
 ghost use Rattle.plane.specs.Clearance.{clearanceReply};
 ghost use Rattle.plane.specs.Tangent.{tangentsReply};
+ghost use Rattle.calipers.specs.Advance.{state};
+ghost use Rattle.calipers.specs.Part.{beginReply, partWritten};
 ghost use Rattle.journal.specs.Reading.{readWritten};
 ghost use Rattle.journal.specs.Adding.{added};
 ghost use Rattle.exports.specs.Crossing.{crossed, crossedBehind};
 ghost use Rattle.exports.specs.Numbers.{numbers, signedNumbers, lineNumbers, nearestNumbers};
 use questions::answer::Furthest;
+use questions::walk;
+use questions::walk::Walk;
 use reply::Lines;
 use reply::Nearest;
 use reply::Numbers;
@@ -62,6 +66,39 @@ pub extern "C" fn cocklesway_sum(a: &[i32], b: &[i32], out: &mut [i32]) -> Numbe
         × (now (out .exit) ≡ sumWritten (now (a .entry)) (now (b .entry)) (now (out .entry)) .output) ⌝ }
 {
     reply::of_answer(questions::sum(a, b, out))
+}
+
+// Where a sum in parts begins: the edges passed of either shape, and 1 if the walk is over.
+#[no_mangle]
+pub extern "C" fn cocklesway_begin(a: &[i32], b: &[i32]) -> Numbers
+    ensures { λ r. ⌜ numbers r ≡ crossed 5 (beginReply (now (a .entry)) (now (b .entry))) ⌝ }
+{
+    reply::of_begun(walk::begin(a, b))
+}
+
+// The part of a sum after the walk with these edges passed, over or not: at most k corners are written to the output.
+// How many, and the walk handed back.
+#[no_mangle]
+pub extern "C" fn cocklesway_part(
+    a: &[i32],
+    b: &[i32],
+    first: usize,
+    second: usize,
+    over: bool,
+    k: usize,
+    out: &mut [i32],
+) -> Numbers
+    ensures { λ r. ⌜ (numbers r ≡ crossed 5
+        (partWritten (now (a .entry)) (now (b .entry)) (state first second over) k (now (out .entry)) .reply))
+        × (now (out .exit)
+        ≡ partWritten (now (a .entry)) (now (b .entry)) (state first second over) k (now (out .entry)) .output) ⌝ }
+{
+    let walk = Walk {
+        first,
+        second,
+        over,
+    };
+    reply::of_part(walk.part(a, b, k, out))
 }
 
 // How many corners the merge has, which is written to the output.

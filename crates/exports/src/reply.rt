@@ -1,17 +1,20 @@
 // Inner functions: answers taken apart into structs of numbers, since an enum does not cross to a host.
+ghost use mathlib.Core.Bool.{cond};
 ghost use mathlib.Core.Path.{_≡_};
 ghost use mathlib.Core.List.{[], _∷_, _++_};
 ghost use lib.IntN.{pos};
 ghost use lib.ListN.{take};
-ghost use Rattle.questions.specs.Answer.{ofRefusal, ofAnswer, ofLength, ofWidth};
+ghost use Rattle.questions.specs.Answer.{ofRefusal, ofAnswer, ofBegun, ofPart, ofLength, ofWidth};
 ghost use Rattle.questions.specs.Answer.{ofRelation, ofInside, ofTangents, ofClearance, ofAddition};
 ghost use Rattle.exports.specs.Crossing.{crossed};
 ghost use Rattle.exports.specs.Numbers.{numbers, signedNumbers, lineNumbers, nearestNumbers};
 use questions::answer::Addition;
 use questions::answer::Answer;
+use questions::answer::Begun;
 use questions::answer::Clearance;
 use questions::answer::Inside;
 use questions::answer::Length;
+use questions::answer::Part;
 use questions::answer::Refusal;
 use questions::answer::Relation;
 use questions::answer::Tangents;
@@ -109,6 +112,7 @@ pub fn refused(refusal: Refusal) -> Numbers
         Refusal::NotApart => pair(9, 0, 0, 0),
         Refusal::Flat => pair(10, 0, 0, 0),
         Refusal::Direction => pair(11, 0, 0, 0),
+        Refusal::NotAPlace => pair(14, 0, 0, 0),
         Refusal::NotFinite { part } => pair(17, part as u64, 0, 0),
         Refusal::NotWhole { part } => pair(18, part as u64, 0, 0),
         Refusal::FarReading { part } => pair(3, part as u64, 0, 0),
@@ -126,6 +130,49 @@ pub fn of_answer(answer: Answer) -> Numbers
         Answer::Corners(corners) => pair(0, 0, corners as u64, 0),
         Answer::No(refusal) => refused(refusal),
     }
+}
+
+// A walk begun: the edges passed of either shape, and 1 if it is over.
+pub fn of_begun(answer: Begun) -> Numbers
+    ensures { λ r. ⌜ numbers r ≡ crossed 5 (ofBegun answer) ⌝ }
+{
+    match answer {
+        Begun::At(walk) => Numbers {
+            refusal: 0,
+            shape: 0,
+            first: walk.first as u64,
+            second: walk.second as u64,
+            third: flag(walk.over),
+            fourth: 0,
+            fifth: 0,
+        },
+        Begun::No(refusal) => refused(refusal),
+    }
+}
+
+// A part: how many corners were written, and the walk handed back.
+pub fn of_part(answer: Part) -> Numbers
+    ensures { λ r. ⌜ numbers r ≡ crossed 5 (ofPart answer) ⌝ }
+{
+    match answer {
+        Part::Corners { count, walk } => Numbers {
+            refusal: 0,
+            shape: 0,
+            first: count as u64,
+            second: walk.first as u64,
+            third: walk.second as u64,
+            fourth: flag(walk.over),
+            fifth: 0,
+        },
+        Part::No(refusal) => refused(refusal),
+    }
+}
+
+// 1 yes, 0 no, as a number.
+fn flag(yes: bool) -> u64
+    ensures { λ r. ⌜ pos r ≡ cond yes (pos 1) (pos 0) ⌝ }
+{
+    if yes { 1 } else { 0 }
 }
 
 // The greatest squared distance, and two positions.

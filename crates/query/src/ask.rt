@@ -1,6 +1,7 @@
 // One arm and one function for each question: it asks the library and adds the reply, without its
 // newline.
 use crate::logs;
+use crate::parts;
 use crate::pictures;
 use crate::readings;
 use crate::replies;
@@ -41,6 +42,11 @@ pub fn ask(
         Question::LogAdd => {
             let list = fields::field(values, marks, 2);
             logs::add(out, filled, line, fields::name(b), list, room)
+        }
+        Question::Parts => parts::parts(out, filled, a, b, fields::field(values, marks, 2)),
+        Question::Part => {
+            let state = fields::field(values, marks, 2);
+            parts::part(out, filled, a, b, state, fields::field(values, marks, 3))
         }
     }
 }

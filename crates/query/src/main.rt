@@ -4,6 +4,7 @@
 // most 16,384 numbers together.
 mod ask;
 mod logs;
+mod parts;
 mod pictures;
 mod readings;
 mod replies;

@@ -9,6 +9,8 @@ pub enum Question {
     Write(Written),
     Draw,
     Tablet,
+    Parts,
+    Part,
     LogRead,
     LogAdd,
 }
@@ -48,6 +50,7 @@ pub fn look_up(word: &[u8]) -> Entry {
     entry = on_two(entry, word);
     entry = shapes(entry, word);
     entry = pictures(entry, word);
+    entry = in_parts(entry, word);
     entry = corners(entry, word);
     logs(entry, word)
 }
@@ -87,6 +90,14 @@ fn shapes(found: Entry, word: &[u8]) -> Entry {
 fn pictures(found: Entry, word: &[u8]) -> Entry {
     let some = fields::two(Kind::Shape, Kind::Further);
     row(found, word, b"draw", Question::Draw, some)
+}
+
+// The sum in parts.
+fn in_parts(found: Entry, word: &[u8]) -> Entry {
+    let calls = fields::three(Kind::Shape, Kind::Shape, Kind::Calls);
+    let call = fields::four(Kind::Shape, Kind::Shape, Kind::Walk, Kind::Call);
+    let entry = row(found, word, b"parts", Question::Parts, calls);
+    row(entry, word, b"part", Question::Part, call)
 }
 
 // The corner of two readings.

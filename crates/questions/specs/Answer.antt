@@ -7,10 +7,16 @@ use mathlib.Core.List.{[], _∷_}
 use lib.IntN.{pos}
 use Rattle.plane.specs.Reply.{Reply, answered, refused}
 use Rattle.tablet.specs.Reading.{Sent}
+use Rattle.calipers.specs.Part.{walkNumbers}
+use Rattle.questions.specs.Walk.{stateOf}
 use Rattle.questions.specs.declared.answer.Refusal.{Refusal}
 use Rattle.questions.specs.declared.answer.Refusal.the-variants as Refusal
 use Rattle.questions.specs.declared.answer.Answer.{Answer}
 use Rattle.questions.specs.declared.answer.Answer.the-variants as Answer
+use Rattle.questions.specs.declared.answer.Begun.{Begun}
+use Rattle.questions.specs.declared.answer.Begun.the-variants as Begun
+use Rattle.questions.specs.declared.answer.Part.{Part}
+use Rattle.questions.specs.declared.answer.Part.the-variants as Part
 use Rattle.questions.specs.declared.answer.Furthest.{Furthest}
 use Rattle.questions.specs.declared.answer.Furthest.the-variants as Furthest
 use Rattle.questions.specs.declared.answer.Length.{Length}
@@ -43,6 +49,7 @@ ofRefusal Refusal.Room = refused 8 []
 ofRefusal Refusal.NotApart = refused 9 []
 ofRefusal Refusal.Flat = refused 10 []
 ofRefusal Refusal.Direction = refused 11 []
+ofRefusal Refusal.NotAPlace = refused 14 []
 ofRefusal (Refusal.Damaged place) = refused 15 (place ∷ [])
 ofRefusal Refusal.Full = refused 16 []
 ofRefusal (Refusal.NotFinite part) = refused 17 (part ∷ [])
@@ -53,6 +60,15 @@ ofRefusal (Refusal.FarReading part) = refused 3 (part ∷ [])
 abbrev pub ofAnswer : Answer → Reply
 ofAnswer (Answer.Corners n) = answered (pos n ∷ [])
 ofAnswer (Answer.No r) = ofRefusal r
+
+-- the edges passed of either shape, and 1 if the walk is over; a part has before them the count of its corners
+abbrev pub ofBegun : Begun → Reply
+ofBegun (Begun.At w) = answered (walkNumbers (stateOf w))
+ofBegun (Begun.No r) = ofRefusal r
+
+abbrev pub ofPart : Part → Reply
+ofPart (Part.Corners n w) = answered (pos n ∷ walkNumbers (stateOf w))
+ofPart (Part.No r) = ofRefusal r
 
 abbrev pub ofFurthest : Furthest → Reply
 ofFurthest (Furthest.At position value) = answered (pos position ∷ value ∷ [])

@@ -5,3 +5,4 @@ pub mod Measures
 pub mod Lines
 pub mod Readings
 pub mod Logs
+pub mod Parts

@@ -1,4 +1,6 @@
 // What the questions answer.
+use crate::walk::Walk;
+
 // A row of document 01's table, and what it carries: 1 to 5 the shape that is blamed, the first or the second, and 4
 // the edge and the corner that break the left rule.
 pub enum Refusal {
@@ -36,6 +38,8 @@ pub enum Refusal {
     Flat,
     // 11: a direction (0, 0), or with a part out of range
     Direction,
+    // 14: a walk that is at no place of the sum of these two shapes
+    NotAPlace,
     // 15: a whole record of a log that is of another kind or a wrong length, or whose corners are no shape: the byte
     // place of the first such record
     Damaged {
@@ -62,6 +66,18 @@ pub enum Refusal {
 // How many corners a shape has that was judged or written.
 pub enum Answer {
     Corners(usize),
+    No(Refusal),
+}
+
+// A walk begun: where a sum in parts is taken up.
+pub enum Begun {
+    At(Walk),
+    No(Refusal),
+}
+
+// How many corners were written of a sum in parts, and the walk that the next call is given.
+pub enum Part {
+    Corners { count: usize, walk: Walk },
     No(Refusal),
 }
 

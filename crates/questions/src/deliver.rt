@@ -4,26 +4,40 @@ ghost use Prim.Native.Nat.{_%_};
 ghost use lib.ListN.{length};
 ghost use Rattle.plane.specs.Point.{points};
 ghost use Rattle.questions.specs.Answer.{ofAnswer};
+ghost use Rattle.questions.specs.Admission.{Surveyed};
 ghost use Rattle.questions.specs.Delivery.{delivered};
+use crate::admission::Admission;
 use crate::answer::Answer;
 use crate::answer::Refusal;
 use polygon::corners;
 use polygon::numbers;
 use polygon::rules;
 
+// Refusals 6 and 7 of an answer that is a shape, in their order.
+// Ruled out: count and range exchanged.
+pub fn survey(shape: &[i32]) -> Admission
+    requires paired { ⌜ length (now shape) % 2 ≡ 0 ⌝ }
+    ensures { λ r. ⌜ Surveyed (points (now (shape .entry))) r ⌝ }
+{
+    if rules::too_many(shape) {
+        return Admission::No(Refusal::LargeAnswer);
+    }
+    if rules::some_outside(shape) {
+        return Admission::No(Refusal::FarAnswer);
+    }
+    Admission::Valid
+}
+
 // Writes a shape's numbers at the front of the output, all behind them being kept, and answers how many corners it has;
 // or refuses 6, 7 and 8 in their order, with the output as it was.
-// Ruled out: count and range exchanged; exact room refused; tail cleared.
+// Ruled out: exact room refused; tail cleared.
 pub fn deliver(shape: &[i32], out: &mut [i32]) -> Answer
     requires paired { ⌜ length (now shape) % 2 ≡ 0 ⌝ }
     ensures { λ r. ⌜ (ofAnswer r ≡ delivered (points (now (shape .entry))) (now (out .entry)) .reply)
         × (now (out .exit) ≡ delivered (points (now (shape .entry))) (now (out .entry)) .output) ⌝ }
 {
-    if rules::too_many(shape) {
-        return Answer::No(Refusal::LargeAnswer);
-    }
-    if rules::some_outside(shape) {
-        return Answer::No(Refusal::FarAnswer);
+    if let Admission::No(refusal) = survey(shape) {
+        return Answer::No(refusal);
     }
     if out.len() < shape.len() {
         return Answer::No(Refusal::Room);

@@ -4,6 +4,7 @@ mod admission;
 pub mod answer;
 mod coordinate;
 mod deliver;
+pub mod walk;
 
 ghost use mathlib.Core.Path.{_≡_};
 ghost use mathlib.Core.List.{[], _∷_};

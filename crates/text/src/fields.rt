@@ -4,6 +4,7 @@ ghost use Prim.Native.Nat.{_≤_};
 ghost use lib.ListN.{length};
 use crate::bytes;
 use crate::bytes::Pairs;
+use crate::calls;
 use crate::numbers;
 use crate::numbers::Taken;
 use crate::readings;
@@ -39,6 +40,12 @@ pub enum Kind {
     Bytes,
     // One number from 0 to 65,535.
     Name,
+    // The state of a walk: two numbers, not below 0, then 0 or 1.
+    Walk,
+    // A call of a sum in parts: how many corners it may write, and the room.
+    Call,
+    // Any calls, each as one word with a colon.
+    Calls,
 }
 
 // The kinds of a question's fields, as the digits of one number in base 16, the first lowest. (What
@@ -188,6 +195,9 @@ fn digit(kind: Kind) -> u64
         Kind::Reading => 5,
         Kind::Bytes => 6,
         Kind::Name => 7,
+        Kind::Walk => 8,
+        Kind::Call => 9,
+        Kind::Calls => 10,
     }
 }
 
@@ -204,6 +214,9 @@ fn kind_at(kinds: Kinds, k: usize) -> Kind {
         5 => Kind::Reading,
         6 => Kind::Bytes,
         7 => Kind::Name,
+        8 => Kind::Walk,
+        9 => Kind::Call,
+        10 => Kind::Calls,
         _ => Kind::Nothing,
     }
 }
@@ -267,7 +280,17 @@ fn take(kind: Kind, text: &[u8], values: &mut [i32], held: usize) -> Taken {
         Kind::Nothing => Taken::Held(held),
         Kind::Reading => take_reading(text, held),
         Kind::Bytes => take_bytes(text, held),
-        _ => numbers::read(text, values, held),
+        Kind::Calls => take_calls(text, values, held),
+        _ => numbers::read(text, values, held, false),
+    }
+}
+
+// Reads the numbers of calls, two of each.
+fn take_calls(text: &[u8], values: &mut [i32], held: usize) -> Taken {
+    if calls::are_calls(text) {
+        numbers::read(text, values, held, true)
+    } else {
+        Taken::No(Reason::NotACall)
     }
 }
 
@@ -303,7 +326,9 @@ fn fit_all(kinds: Kinds, count: usize, values: &[i32], marks: &[usize]) -> Check
 fn fit(kind: Kind, field: &[i32]) -> Check {
     match kind {
         Kind::Direction => of_count(field, 2),
-        Kind::Room => of_room(field),
+        Kind::Room => of_counts(field, 1),
+        Kind::Walk => of_walk(field),
+        Kind::Call => of_counts(field, 2),
         Kind::Name => of_name(field),
         _ => Check::Passed,
     }
@@ -318,12 +343,15 @@ fn of_count(field: &[i32], count: usize) -> Check {
     }
 }
 
-// Whether a field holds one number, which counts numbers.
-fn of_room(field: &[i32]) -> Check {
-    if field.len() != 1 {
+// Whether a field holds so many numbers, one or two, and each may count something.
+fn of_counts(field: &[i32], count: usize) -> Check {
+    if field.len() != count {
         return Check::No(Reason::WrongCount);
     }
-    if field[0] < 0 {
+    if number(field, 0) < 0 {
+        return Check::No(Reason::NotACount);
+    }
+    if number(field, 1) < 0 {
         return Check::No(Reason::NotACount);
     }
     Check::Passed
@@ -340,12 +368,33 @@ fn of_name(field: &[i32]) -> Check {
     Check::Passed
 }
 
+// Whether a field holds the state of a walk.
+fn of_walk(field: &[i32]) -> Check {
+    if field.len() != 3 {
+        return Check::No(Reason::WrongCount);
+    }
+    if is_walk(number(field, 0), number(field, 1), number(field, 2)) {
+        Check::Passed
+    } else {
+        Check::No(Reason::NotAWalk)
+    }
+}
+
+// Whether two numbers may count something, and the third is 0 or 1.
+fn is_walk(first: i32, second: i32, over: i32) -> bool {
+    0 <= first && 0 <= second && 0 <= over && over <= 1
+}
+
+// A number at a position of a field that counts something; without its sign, if it has one.
+pub fn counted(field: &[i32], i: usize) -> usize {
+    numbers::size(numbers::wide(number(field, i))) as usize
+}
+
 // What the last field says if it is a room; more than any output holds if there is none.
 fn room_in(kinds: Kinds, count: usize, values: &[i32], marks: &[usize]) -> usize {
     if 0 < count {
         if let Kind::Room = kind_at(kinds, count - 1) {
-            let said = number(field(values, marks, count - 1), 0);
-            return numbers::size(numbers::wide(said)) as usize;
+            return counted(field(values, marks, count - 1), 0);
         }
     }
     usize::MAX

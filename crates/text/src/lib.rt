@@ -7,6 +7,7 @@
 // together is what the caller lends for them.
 pub mod answers;
 pub mod bytes;
+mod calls;
 pub mod fields;
 pub mod lines;
 pub mod numbers;

@@ -37,15 +37,15 @@ enum Value {
     Wide,
 }
 
-// Reads the numbers of a text behind those that are held.
-pub fn read(text: &[u8], values: &mut [i32], held: usize) -> Taken {
+// Reads the numbers of a text behind those that are held. Colons may stand between them, or not.
+pub fn read(text: &[u8], values: &mut [i32], held: usize, colons: bool) -> Taken {
     let mut progress = Progress {
         held,
         number: Number::Blank,
     };
     let mut i = 0;
     while i < text.len() {
-        progress = step(progress, text[i], values);
+        progress = step(progress, text[i], values, colons);
         i += 1;
     }
     outcome(finish(progress, values))
@@ -70,13 +70,21 @@ pub fn wide(number: i32) -> i64
 }
 
 // Reads one character.
-fn step(progress: Progress, byte: u8, values: &mut [i32]) -> Progress {
-    if is_space(byte) {
+fn step(progress: Progress, byte: u8, values: &mut [i32], colons: bool) -> Progress {
+    if separates(byte, colons) {
         finish(progress, values)
     } else {
         let number = progress.number;
         with_number(progress, extend(number, byte))
     }
+}
+
+// Whether a character stands between numbers.
+fn separates(byte: u8, colons: bool) -> bool {
+    if byte == b':' {
+        return colons;
+    }
+    is_space(byte)
 }
 
 // Ends the number at hand, and holds it.

@@ -13,6 +13,8 @@ pub enum Reason {
     NotAReading,
     NotBytes,
     NotAName,
+    NotAWalk,
+    NotACall,
 }
 
 // Adds a line that says why a line is no question.
@@ -30,5 +32,7 @@ pub fn unreadable(out: &mut [u8], filled: usize, reason: Reason) -> usize {
         Reason::NotAReading => answers::word(out, now, b"not a reading\n"),
         Reason::NotBytes => answers::word(out, now, b"not bytes\n"),
         Reason::NotAName => answers::word(out, now, b"not a name\n"),
+        Reason::NotAWalk => answers::word(out, now, b"not a walk\n"),
+        Reason::NotACall => answers::word(out, now, b"not a call\n"),
     }
 }

@@ -54,7 +54,7 @@ fn one_list(dice: &mut Dice) -> Vec<List> {
     damaged_at_times(dice, &[shape], 16)
 }
 
-fn two_lists(dice: &mut Dice, pair: fn(&mut Dice) -> (Shape, Shape)) -> Vec<List> {
+pub fn two_lists(dice: &mut Dice, pair: impl Fn(&mut Dice) -> (Shape, Shape)) -> Vec<List> {
     let (a, b) = pair(dice);
     damaged_at_times(dice, &[a, b], 16)
 }

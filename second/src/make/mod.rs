@@ -4,6 +4,7 @@
 //!     fields                the fields of each question
 //!     shapes, pairs, long   good shapes, alone and in pairs; damage: lists that are refused
 //!     apart                 pairs of good shapes that are mostly apart
+//!     parts                 walks and calls of sums in parts; all of them for small sums
 //!     tails                 directions and rooms; readings: bits of doubles; logs: their bytes
 //!     spoil, layout         lines that are no questions; the same text with other spaces
 //!
@@ -18,6 +19,7 @@ mod layout;
 pub mod logs;
 pub mod long;
 pub mod pairs;
+pub mod parts;
 pub mod readings;
 mod shapes;
 mod spoil;

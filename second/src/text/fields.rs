@@ -4,6 +4,7 @@
 use super::given::Given;
 use super::lines::words;
 use super::unreadable::Unreadable;
+use crate::parts::{Call, State};
 use crate::plane::{Point, point};
 use crate::tablet;
 
@@ -21,6 +22,12 @@ pub enum Field {
     Name,
     /// How many stores an addition may make; may be left out, with its bar.
     Stores,
+    /// The state of a walk.
+    Walk,
+    /// How many corners a call of a sum in parts may write, and its room.
+    Call,
+    /// Any calls, each as one word: the two numbers with a colon between them.
+    Calls,
 }
 
 #[derive(Clone, Debug, PartialEq, Eq)]
@@ -33,6 +40,8 @@ pub enum Value {
     Log(Vec<u8>),
     Name(u16),
     Stores(usize),
+    Walk(State),
+    Calls(Vec<Call>),
 }
 
 impl Field {
@@ -49,6 +58,9 @@ impl Field {
             Field::Log => bytes(text).map(Value::Log).ok_or(Unreadable::NotBytes),
             Field::Name => name(&numbers.read(text)?),
             Field::Stores => count(&numbers.read(text)?).map(Value::Stores),
+            Field::Walk => walk(&numbers.read(text)?),
+            Field::Call => call(&numbers.read(text)?).map(|call| Value::Calls(vec![call])),
+            Field::Calls => numbers.read_calls(text).map(Value::Calls),
         }
     }
 }
@@ -113,6 +125,40 @@ fn byte(pair: &[u8]) -> Option<u8> {
     u8::from_str_radix(str::from_utf8(pair).ok()?, 16).ok()
 }
 
+fn walk(list: &[i32]) -> Result<Value, Unreadable> {
+    let &[i, j, over] = list else {
+        return Err(Unreadable::WrongCount);
+    };
+    match (usize::try_from(i), usize::try_from(j), over) {
+        (Ok(i), Ok(j), 0 | 1) => Ok(Value::Walk(State {
+            i,
+            j,
+            over: over == 1,
+        })),
+        _ => Err(Unreadable::NotAWalk),
+    }
+}
+
+fn call(list: &[i32]) -> Result<Call, Unreadable> {
+    let &[k, room] = list else {
+        return Err(Unreadable::WrongCount);
+    };
+    match (usize::try_from(k), usize::try_from(room)) {
+        (Ok(k), Ok(room)) => Ok(Call { k, room }),
+        _ => Err(Unreadable::NotACount),
+    }
+}
+
+/// The two numbers of a word, which are digits.
+fn pair(word: &[u8]) -> Option<[&[u8]; 2]> {
+    let halves: Vec<&[u8]> = word.split(|&byte| byte == b':').collect();
+    let digits = |half: &&[u8]| !half.is_empty() && half.iter().all(u8::is_ascii_digit);
+    halves
+        .try_into()
+        .ok()
+        .filter(|pair: &[&[u8]; 2]| pair.iter().all(digits))
+}
+
 /// `mm` or `e8`, then `0x` and 16 hexadecimal digits.
 fn reading(text: &[u8]) -> Option<Value> {
     let [unit, bits] = words(text).collect::<Vec<_>>().try_into().ok()?;
@@ -139,6 +185,17 @@ struct Numbers {
 impl Numbers {
     fn read(&mut self, text: &[u8]) -> Result<Vec<i32>, Unreadable> {
         words(text).map(|word| self.read_one(word)).collect()
+    }
+
+    /// The form of all is looked at before the first is read.
+    fn read_calls(&mut self, text: &[u8]) -> Result<Vec<Call>, Unreadable> {
+        let pairs: Option<Vec<_>> = words(text).map(pair).collect();
+        let read = |[k, room]: [&[u8]; 2]| call(&[self.read_one(k)?, self.read_one(room)?]);
+        pairs
+            .ok_or(Unreadable::NotACall)?
+            .into_iter()
+            .map(read)
+            .collect()
     }
 
     fn read_one(&mut self, word: &[u8]) -> Result<i32, Unreadable> {

@@ -2,6 +2,7 @@
 
 use super::fields::Value;
 use crate::judge::judge;
+use crate::parts::{Call, State};
 use crate::plane::{Point, Shape};
 use crate::refusal::Refusal;
 use crate::tablet::Reading;
@@ -47,6 +48,22 @@ impl Given {
             _ => None,
         });
         found.expect("the row has a direction")
+    }
+
+    pub fn walk(&self) -> State {
+        let found = self.0.iter().find_map(|value| match value {
+            Value::Walk(state) => Some(*state),
+            _ => None,
+        });
+        found.expect("the row has a walk")
+    }
+
+    pub fn calls(&self) -> &[Call] {
+        let found = self.0.iter().find_map(|value| match value {
+            Value::Calls(calls) => Some(calls),
+            _ => None,
+        });
+        found.expect("the row has calls")
     }
 
     /// The room in numbers, if the line names one.

@@ -15,6 +15,8 @@ pub enum Unreadable {
     NotAReading,
     NotBytes,
     NotAName,
+    NotAWalk,
+    NotACall,
 }
 
 impl Unreadable {
@@ -27,6 +29,7 @@ impl Unreadable {
                 | Unreadable::TooManyNumbers
                 | Unreadable::NotAReading
                 | Unreadable::NotBytes
+                | Unreadable::NotACall
         )
     }
 }
@@ -45,6 +48,8 @@ impl fmt::Display for Unreadable {
             Unreadable::NotAReading => "not a reading",
             Unreadable::NotBytes => "not bytes",
             Unreadable::NotAName => "not a name",
+            Unreadable::NotAWalk => "not a walk",
+            Unreadable::NotACall => "not a call",
         };
         write!(f, "unreadable: {reason}")
     }

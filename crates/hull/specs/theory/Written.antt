@@ -14,7 +14,7 @@ use lib.Seq.{length-take-le, take-append-add, take-append-le}
 use Rattle.plane.specs.Point.{Point, points, numbers}
 use Rattle.plane.specs.Shape.{IsShape}
 use Rattle.plane.specs.Corner.{shapeOf}
-use Rattle.plane.specs.theory.lists.Flat.{points-length}
+use Rattle.plane.specs.theory.lists.Flat.{points-length, numbers-append}
 use Rattle.plane.specs.theory.hull.Hull.{circuit}
 use Rattle.polygon.specs.Front.{Front}
 use Rattle.polygon.specs.Point.{stored}
@@ -40,10 +40,6 @@ numbers-front (a ∷ []) (suc m) h = absurd (omega arith)
 numbers-front (a ∷ (b ∷ l)) (suc m) h =
     let e : suc (suc (2 * m)) ≡ 2 * suc m = omega arith in
     ap (λ k. a ∷ b ∷ k) (numbers-front l m (le-of-suc-le-suc h)) ∙ ap (λ k. take k (a ∷ b ∷ l)) e
-
-numbers-append : (A B : List Point) → numbers (A ++ B) ≡ numbers A ++ numbers B
-numbers-append [] B = refl
-numbers-append (p ∷ A) B = ap (λ l. p .x ∷ p .y ∷ l) (numbers-append A B)
 
 pub front-put : (xs ys : List ℤ) (m n k : ℕ) → m ≤ length (points xs) → n ≤ length (points ys)
     → Front (take m (points xs) ++ take n (points ys)) (m + n) (putMid (2 * m) k xs ys)

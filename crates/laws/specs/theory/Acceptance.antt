@@ -13,7 +13,7 @@ use lib.ListN.{length}
 use lib.Seq.{take-at}
 use Rattle.plane.specs.Limits.{maxCorners, maxCoordinate}
 use Rattle.plane.specs.Point.{Point, points, numbers}
-use Rattle.plane.specs.Reply.{Reply, Row, answered}
+use Rattle.plane.specs.Reply.{Reply, answered}
 use Rattle.plane.specs.Shape.{breaks, precedes}
 use Rattle.plane.specs.Refusal.{InRange, Valid, shapeRows, badCount, tooMany, outside, someOutside, equalPair, leftBroken, ruleBroken}
 use Rattle.plane.specs.Refusal.{badStart}
@@ -22,16 +22,12 @@ use Rattle.plane.specs.Corner.{shapeOf, sums}
 use Rattle.plane.specs.Output.{Written, answerRows, noRoom, overwritten}
 use Rattle.plane.specs.Combine.{pairWritten, sumWritten, mergeWritten}
 use Rattle.plane.specs.Meaning.{accepted-is-valid}
-use Rattle.plane.specs.theory.refusals.Rows.{NoneApply, firstRow-none}
+use Rattle.plane.specs.theory.refusals.Rows.{NoneApply, none-join, firstRow-none}
 use Rattle.plane.specs.theory.refusals.Write.{none-output}
 use Rattle.plane.specs.theory.lists.Flat.{points-length, numbers-points}
 use Rattle.plane.specs.theory.refusals.Accept.{valid→accepted, inRange→near}
 use Rattle.laws.specs.Grouping.{originPoint, answeredWith, Gives, Fits}
 use Rattle.laws.specs.theory.Answer.{pairRows, written-answered}
-
-none-join : (vs ws : List Row) → NoneApply vs → NoneApply ws → NoneApply (vs ++ ws)
-none-join [] ws n m = m
-none-join (v ∷ vs) ws n m = (n .0, none-join vs ws (n .1) m)
 
 fits→none : (shape : List Point) (out : List ℤ) → Fits shape out → NoneApply (answerRows shape out)
 unfolding tooMany noRoom

@@ -24,7 +24,7 @@ use Rattle.plane.specs.Direction.{support, max}
 use Rattle.plane.specs.Corner.{shapeOf, sums}
 use Rattle.plane.specs.Output.{Written, written, answerRows, overwritten}
 use Rattle.plane.specs.Combine.{pairWritten, sumWritten, mergeWritten}
-use Rattle.plane.specs.theory.refusals.Rows.{NoneApply, firstRow-answered}
+use Rattle.plane.specs.theory.refusals.Rows.{NoneApply, none-append, firstRow-answered}
 use Rattle.plane.specs.theory.refusals.Write.{answered-output}
 use Rattle.plane.specs.theory.refusals.Accept.{few-corners, accepted→valid, near→inRange}
 use Rattle.plane.specs.theory.lists.Flat.{points-numbers, numbers-points, numbers-length}
@@ -39,10 +39,6 @@ abbrev pub pairRows : List ℤ → List ℤ → List Point → List ℤ → List
 pairRows a b shape out = shapeRows 1 a ++ (shapeRows 2 b ++ answerRows shape out)
 
 -- ---- a table without a refusal
-
-none-append : (vs ws : List Row) → NoneApply (vs ++ ws) → NoneApply vs × NoneApply ws
-none-append [] ws n = (tt, n)
-none-append (v ∷ vs) ws n = let r = none-append vs ws (n .1) in ((n .0, r .0), r .1)
 
 pub written-answered : (rows : List Row) (shape : List Point) (out v : List ℤ) → written rows shape out .reply ≡ answered v
     → NoneApply rows × (v ≡ pos (length shape) ∷ []) × Gives (written rows shape out) (numbers shape)

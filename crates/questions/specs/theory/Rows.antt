@@ -1,5 +1,6 @@
 -- The rows of a question's lists, before its own.
 --     refuses-more        a refusal stands whatever rows come behind
+--     refuses-behind      rows that do not apply may stand before it; `refuses-row`: a row that applies
 --     refuses-first       some row of the list applies
 --     admitted-pair       a shape, and what judging the second list says
 --     refuses-written     a question that writes gives it, and writes nothing
@@ -7,7 +8,8 @@
 --     pair-passed, pair-answer        likewise of two
 --     valid-wrote, pair-wrote         likewise of a question that writes
 use mathlib.Core.Path.{_≡_, sym, _∙_, subst}
-use mathlib.Core.List.{List, [], _++_}
+use mathlib.Core.Bool.{true}
+use mathlib.Core.List.{List, [], _∷_, _++_}
 use Prim.Native.Nat.{ℕ}
 use native.Mathlib.Omega.{arith}
 use lib.IntN.{ℤ}
@@ -16,11 +18,13 @@ use Rattle.plane.specs.Reply.{Reply, answered, refused, Row, firstRow}
 use Rattle.plane.specs.Refusal.{shapeRows, Valid}
 use Rattle.plane.specs.theory.refusals.Accept.{valid→accepted}
 use Rattle.plane.specs.theory.refusals.Rows.{
+  NoneApply,
   First,
   Outcome,
   given,
   passed,
   outcome,
+  row-given,
   firstRow-append,
   firstRow-given,
   firstRow-none,
@@ -36,12 +40,15 @@ use Rattle.questions.specs.Admission.{Refuses, Admitted, AdmittedPair}
 pub refuses-more : {vs : List Row} {r : Reply} → Refuses vs r → (ws : List Row) (x : Reply) → r ≡ firstRow (vs ++ ws) x
 refuses-more {vs} f ws x = f .whatever (firstRow ws x) ∙ sym (firstRow-append vs ws x)
 
-refuses-second : (a : List ℤ) → Valid a → {ws : List Row} {r : Reply} → Refuses ws r → Refuses (shapeRows 1 a ++ ws) r
-refuses-second a v {ws} f = record { whatever = λ x. f .whatever x ∙ sym (firstRow-passed (shapeRows 1 a) ws x (valid→accepted a 1 v)) }
+pub refuses-behind : (vs : List Row) → NoneApply vs → {ws : List Row} {r : Reply} → Refuses ws r → Refuses (vs ++ ws) r
+refuses-behind vs n {ws} f = record { whatever = λ x. f .whatever x ∙ sym (firstRow-passed vs ws x n) }
+
+pub refuses-row : (w : Row) (ws : List Row) → w .applies ≡ true → Refuses (w ∷ ws) (refused (w .number) (w .carries))
+refuses-row w ws e = record { whatever = λ x. row-given w ws x e }
 
 pub admitted-pair : (a b : List ℤ) → Valid a → (r : Admission) → Admitted 2 b r → AdmittedPair a b r
 admitted-pair a b v Admission.Valid w = (v, w)
-admitted-pair a b v (Admission.No r) f = refuses-second a v f
+admitted-pair a b v (Admission.No r) f = refuses-behind (shapeRows 1 a) (valid→accepted a 1 v) f
 
 -- whatever the answer would be: so some row applies
 pub refuses-first : {vs : List Row} {r : Reply} → Refuses vs r → (w : Row) × First w vs × (r ≡ refused (w .number) (w .carries))

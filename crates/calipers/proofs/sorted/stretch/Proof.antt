@@ -1,6 +1,6 @@
 -- `stretch` meets its contract. The invariant: the edges up to that of the side are a stretch; the measure is what is left.
-use mathlib.Core.Path.{_≡_, refl, sym, _∙_, ap, ap₂, subst}
-use mathlib.Core.Bool.{Bool, true, false, not, Bool·beq, true≢false}
+use mathlib.Core.Path.{_≡_, sym, _∙_, ap, ap₂, subst}
+use mathlib.Core.Bool.{false}
 use Prim.Native.Nat.{_+_, _-_, _<_}
 use native.Mathlib.Omega.{arith}
 use lib.IntN.{ℤ, pos}
@@ -16,6 +16,7 @@ use Rattle.calipers.specs.Side.{Carried}
 use Rattle.calipers.specs.Stretch.{Stretch}
 use Rattle.calipers.specs.theory.Sides.{edge-fits, onward-inner}
 use Rattle.calipers.specs.theory.Sorted.{stretch-none, stretch-start, stretch-more}
+use Rattle.calipers.proofs.Tests.{equal}
 use Rattle.calipers.proofs.sorted.stretch.Statement.{statement}
 use Rattle.calipers.proofs.sorted.stretch.Tie as tie
 
@@ -24,13 +25,6 @@ Inv-loop list start up s₀ s = (s .at < length (edges (points list))) × Stretc
 
 abbrev μ-loop : tie.MeasureT-loop
 μ-loop list start up s₀ s = length (edges (points list)) - s .at
-
--- what the test of two halves says where it fails
-equal : (x y : Bool) → not (Bool·beq x y) ≡ false → x ≡ y
-equal true true h = refl
-equal true false h = absurd (true≢false h)
-equal false true h = absurd (true≢false h)
-equal false false h = refl
 
 -- a product that is not at most 0
 left-turn : {z v : ℤ} → z ≡ v → leZ z (pos 0) ≡ false → pos 0 <ℤ v

@@ -2,10 +2,10 @@
 --     points-length           half as many corners as numbers
 --     points-x, points-y      the coordinates of corner i stand at 2·i and 2·i + 1
 --     Near p, points-near     both coordinates are in range; those of a list in range are
---     points-numbers, numbers-points, numbers-length      there and back
+--     points-numbers, numbers-points, numbers-length      there and back; `numbers-append`: two lists joined
 --     numbers-inRange         corners in range make numbers in range
 use mathlib.Core.Path.{_≡_, refl, sym, _∙_, ap, subst}
-use mathlib.Core.List.{List, [], _∷_}
+use mathlib.Core.List.{List, [], _∷_, _++_}
 use Prim.Native.Nat.{ℕ, zero, suc, _+_, _*_, _/_, _%_, _<_, suc-le-suc}
 use native.Mathlib.Omega.{arith}
 use native.Mathlib.Nat.{le-of-suc-le-suc}
@@ -56,6 +56,10 @@ points-numbers (p ∷ ps) = ap (λ qs. p ∷ qs) (points-numbers ps)
 pub numbers-length : (ps : List Point) → length (numbers ps) ≡ 2 * length ps
 numbers-length [] = refl
 numbers-length (p ∷ ps) = let h = numbers-length ps in omega arith
+
+pub numbers-append : (A B : List Point) → numbers (A ++ B) ≡ numbers A ++ numbers B
+numbers-append [] B = refl
+numbers-append (p ∷ A) B = ap (λ l. p .x ∷ p .y ∷ l) (numbers-append A B)
 
 pub numbers-points : (l : List ℤ) → length l % 2 ≡ 0 → numbers (points l) ≡ l
 numbers-points [] e = refl

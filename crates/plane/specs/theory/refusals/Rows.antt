@@ -1,6 +1,7 @@
 -- The table of refusals: what its first row that applies says.
 --     row-given, row-passed       one step along the table, as code takes it
 --     firstRow-append, firstRow-passed     one table after the other
+--     none-append, none-join      no row of two tables applies: of both
 --     NoneApply, First, outcome, firstRow-given, firstRow-none, firstRow-refused, firstRow-answered
 --                                 a refusal is given exactly when its row applies and none before it does
 use mathlib.Core.Path.{_≡_, refl, sym, _∙_, ap}
@@ -27,6 +28,14 @@ firstRow-append (v ∷ vs) ws r = ap (λ x. cond (v .applies) (refused (v .numbe
 abbrev pub NoneApply : List Row → Type 0
 NoneApply [] = Unit {0}
 NoneApply (w ∷ ws) = (w .applies ≡ false) × NoneApply ws
+
+pub none-append : (vs ws : List Row) → NoneApply (vs ++ ws) → NoneApply vs × NoneApply ws
+none-append [] ws n = (tt, n)
+none-append (v ∷ vs) ws n = let r = none-append vs ws (n .1) in ((n .0, r .0), r .1)
+
+pub none-join : (vs ws : List Row) → NoneApply vs → NoneApply ws → NoneApply (vs ++ ws)
+none-join [] ws n m = m
+none-join (v ∷ vs) ws n m = (n .0, none-join vs ws (n .1) m)
 
 -- w is the first row of ws that applies
 pub data First (w : Row) : List Row → Type 0 where

@@ -1,44 +1,46 @@
 -- `deliver` meets its contract: refusals 6, 7 and 8 in their order, and a copy makes the answer.
-use mathlib.Core.Path.{_≡_, sym, _∙_}
-use mathlib.Core.Bool.{false}
+use mathlib.Core.Path.{subst}
+use mathlib.Core.List.{[], _∷_}
 use native.Mathlib.Omega.{arith}
 use borrow.Author.Needs.{needs}
-use Rattle.plane.specs.Point.{points, numbers}
-use Rattle.plane.specs.Refusal.{tooMany, someOutside}
-use Rattle.plane.specs.theory.refusals.Write.{wrote-many, wrote-far}
-use Rattle.questions.specs.theory.Delivery.{numbers-outside, little-room, all-delivered}
+use Rattle.plane.specs.Point.{points}
+use Rattle.plane.specs.Reply.{row}
+use Rattle.plane.specs.Output.{noRoom}
+use Rattle.questions.specs.declared.admission.Admission.the-variants as Admission
+use Rattle.questions.specs.Admission.{Surveyed}
+use Rattle.questions.specs.theory.Rows.{refuses-written}
+use Rattle.questions.specs.theory.Delivery.{little-room, all-delivered}
 use Rattle.questions.proofs.deliver.deliver.Statement.{statement}
 use Rattle.questions.proofs.deliver.deliver.Tie as tie
 
--- the rows that do not apply, each where it is known
-row-6 : (c : tie.Else1) → tooMany (points (c .before .before .args .shape .now)) ≡ false
-row-6 c = sym (c .before .too-many .ensures) ∙ c .if1 .left
+-- past the survey neither 6 nor 7 applies
+surveyed : (c : tie.After-enum-told) → Surveyed (points (c .before .before .before .args .shape .now)) Admission.Valid
+surveyed c = subst (Surveyed _) (c .enum-told .given .1) (c .before .before .survey .ensures)
 
-row-7 : (c : tie.Else2) → someOutside (numbers (points (c .before .before .before .before .args .shape .now))) ≡ false
-row-7 c = numbers-outside _ (c .before .before .before .before .pre) (sym (c .before .some-outside .ensures) ∙ c .if2 .left)
+survey-requires : tie.Need-survey-requires
+survey-requires c κs = search needs
 
-too-many-requires : tie.Need-too-many-requires
-too-many-requires c κs = search needs
+enum-known-refusal : tie.Need-enum-known-refusal
+enum-known-refusal c = search needs
 
 returns : tie.Need-returns
-returns c = let w = wrote-many (sym (c .before .too-many .ensures) ∙ c .if1 .taken) in (w .reply-is, w .output-is)
+returns c =
+    let start = c .before .before .before .before in
+    let ps = points (start .args .shape .now) in
+    let old = start .args .out .now in
+    let w = refuses-written (subst (Surveyed ps) (c .before .refusal .given .1) (c .before .before .before .survey .ensures))
+    (row 8 (noRoom ps old) [] ∷ []) ps old in
+    (w .reply-is, w .output-is)
 
-some-outside-requires : tie.Need-some-outside-requires
-some-outside-requires c κs = search needs
+enum-told : tie.Need-enum-told
+enum-told c = search needs
 
 returns-2 : tie.Need-returns-2
 returns-2 c =
     let start = c .before .before .before .before in
-    let w = wrote-far (row-6 (c .before .before))
-    (numbers-outside _ (start .pre) (sym (c .before .some-outside .ensures) ∙ c .if2 .taken)) in
+    let pass = surveyed (c .before) in
+    let w = little-room (start .args .shape .now) (start .pre) (start .args .out .now) (pass .0) (pass .1) (c .if1 .taken) in
     (w .reply-is, w .output-is)
-
-returns-3 : tie.Need-returns-3
-returns-3 c =
-    let at-7 = c .before in
-    let start = at-7 .before .before .before .before in
-    let w = little-room (start .args .shape .now) (start .pre) (start .args .out .now) (row-6 (at-7 .before .before)) (row-7 at-7)
-    (c .if3 .taken) in (w .reply-is, w .output-is)
 
 copy-requires : tie.Need-copy-requires
 copy-requires c κs = search needs
@@ -49,17 +51,17 @@ count-requires c κs = search needs
 same-length : tie.Need-same-length
 same-length c = search needs
 
-returns-4 : tie.Need-returns-4
-returns-4 c =
+returns-3 : tie.Need-returns-3
+returns-3 c =
     let at-copy = c .before .before in
     let at-8 = at-copy .before .before in
-    let at-7 = at-8 .before in
-    let start = at-7 .before .before .before .before in
-    let w = all-delivered (start .args .shape .now) (start .pre) (start .args .out .now) (row-6 (at-7 .before .before)) (row-7 at-7)
-    (omega (arith, at-8 .if3 .left)) (c .count .ensures) (at-copy .copy .ensures) in
+    let start = at-8 .before .before .before .before in
+    let pass = surveyed (at-8 .before) in
+    let w = all-delivered (start .args .shape .now) (start .pre) (start .args .out .now) (pass .0) (pass .1)
+    (omega (arith, at-8 .if1 .left)) (c .count .ensures) (at-copy .copy .ensures) in
     (w .reply-is, w .output-is)
 
 pub deliver-spec : {M : Type 1} → statement M
 deliver-spec =
     tie.close
-    (tie.spec too-many-requires returns some-outside-requires returns-2 returns-3 copy-requires count-requires same-length returns-4)
+    (tie.spec survey-requires enum-known-refusal returns enum-told returns-2 copy-requires count-requires same-length returns-3)

@@ -7,10 +7,10 @@ use Rattle.text.proofs.numbers.read.Statement.{statement}
 use Rattle.text.proofs.numbers.read.Tie as tie
 
 abbrev Inv-loop : tie.InvT-loop
-Inv-loop text values₀ held progress₀ i₀ values progress i = (i ≤ length text) × (length values ≡ length values₀)
+Inv-loop text values₀ held colons progress₀ i₀ values progress i = (i ≤ length text) × (length values ≡ length values₀)
 
 abbrev μ-loop : tie.MeasureT-loop
-μ-loop text values₀ held progress₀ i₀ values progress i = length text - i
+μ-loop text values₀ held colons progress₀ i₀ values progress i = length text - i
 
 loop-holds : tie.Need-loop-holds Inv-loop μ-loop
 loop-holds c = search needs

@@ -1,0 +1,117 @@
+// Inner functions: the caliper walk from any of its places on, and which states are its places.
+ghost use mathlib.Core.Bool.{false};
+ghost use mathlib.Core.Path.{_≡_};
+ghost use Prim.Native.Nat.{_+_, _<_, _≤_};
+ghost use lib.ListN.{length};
+ghost use Rattle.plane.specs.Point.{points};
+ghost use Rattle.plane.specs.Refusal.{Valid};
+ghost use Rattle.plane.specs.Forms.{edges as Forms·edges};
+ghost use Rattle.calipers.specs.Walk.{At};
+ghost use Rattle.calipers.specs.Advance.{state, reached, Advanced};
+ghost use Rattle.calipers.specs.Side.{walkOf};
+ghost use Rattle.calipers.specs.PlaceAfter.{isPlace};
+ghost use Rattle.calipers.specs.PlaceTest.{ends as PlaceTest·ends, follows as PlaceTest·follows};
+use crate::edges;
+use crate::side;
+use crate::side::Side;
+use polygon::corners;
+
+// How far a walk went: the corners that were written, the edges of each shape that are passed, and whether no corner is
+// left.
+pub struct Advance {
+    pub count: usize,
+    pub first: usize,
+    pub second: usize,
+    pub over: bool,
+}
+
+// Goes on from the place at which i edges of the first shape and j of the second are passed, and writes the corners on
+// its way at the front of the buffer: k of them or what remains, whichever is less. Edges of equal direction make one
+// step, so no three corners are in line. A point moves the other shape; a segment's edge is passed twice.
+// Ruled out: parallel corners kept; made up count; everything in the first part.
+pub fn walk_on(a: &[i32], b: &[i32], i: usize, j: usize, k: usize, buf: &mut [i32]) -> Advance
+    requires { ⌜ At (now a) (now b) (state i j false) × (0 < k)
+        × (length (points (now a)) + length (points (now b)) ≤ length (points (now buf))) ⌝ }
+    ensures { λ r. ⌜ Advanced (now (a .entry)) (now (b .entry)) (state i j false) k r (now (buf .exit)) ⌝ }
+{
+    let mut s = side::side_at(a, i);
+    let mut t = side::side_at(b, j);
+    let all = s.end + t.end;
+    let mut count = 0;
+    loop {
+        corners::put(buf, count, side::here(s, t));
+        count += 1;
+        let c = side::order(s, t);
+        s = side::next(a, s, c < 0);
+        t = side::next(b, t, 0 < c);
+        if s.at + t.at == all {
+            return arrived(count, s, t, true);
+        }
+        if count == k {
+            return arrived(count, s, t, false);
+        }
+    }
+}
+
+// A walk at these two sides, with so many corners written.
+fn arrived(count: usize, s: Side, t: Side, over: bool) -> Advance
+    ensures { λ r. ⌜ (r .count ≡ count) × (reached r ≡ walkOf s t over) ⌝ }
+{
+    Advance {
+        count,
+        first: s.at,
+        second: t.at,
+        over,
+    }
+}
+
+// Whether a walk with so many edges passed of either shape, over or not, is at a place of the sum. It takes no walk to
+// tell: the last edge passed of either shape is before the next of the other.
+pub fn is_place(a: &[i32], b: &[i32], i: usize, j: usize, over: bool) -> bool
+    requires { ⌜ Valid (now a) × Valid (now b) ⌝ }
+    ensures { λ r. ⌜ r ≡ isPlace (now (a .entry)) (now (b .entry)) (state i j over) ⌝ }
+{
+    let m = edges::sides(a);
+    let n = edges::sides(b);
+    if m < i {
+        return false;
+    }
+    if n < j {
+        return false;
+    }
+    if !ends(m - i + (n - j), m + n, over) {
+        return false;
+    }
+    follows(a, i, b, j) && follows(b, j, a, i)
+}
+
+// Whether a walk that has so many edges left of all is rightly said to be over, or not to be: over exactly if none is
+// left. The walk of two points has no edge, and two places.
+// Ruled out: place passed twice.
+fn ends(left: usize, all: usize, over: bool) -> bool
+    ensures { λ r. ⌜ r ≡ PlaceTest·ends left all over ⌝ }
+{
+    if all == 0 {
+        return true;
+    }
+    if over {
+        return left == 0;
+    }
+    0 < left
+}
+
+// Whether the last edge passed of a shape, if there is one, is before the next of the other, if there is one.
+fn follows(a: &[i32], i: usize, b: &[i32], j: usize) -> bool
+    requires { ⌜ (i ≤ length (Forms·edges (points (now a)))) × (j ≤ length (Forms·edges (points (now b))))
+        × Valid (now a) × Valid (now b) ⌝ }
+    ensures { λ r. ⌜ r ≡ PlaceTest·follows (Forms·edges (points (now (a .entry)))) i
+        (Forms·edges (points (now (b .entry)))) j ⌝ }
+{
+    if i == 0 {
+        return true;
+    }
+    if j == edges::sides(b) {
+        return true;
+    }
+    side::is_before(side::side_at(a, i - 1), side::side_at(b, j))
+}

@@ -1,0 +1,120 @@
+// The sum in parts (document 02, request W6): a walk is begun, and each part hands back the next.
+ghost use mathlib.Core.Bool.{true};
+ghost use mathlib.Core.Path.{_≡_};
+ghost use Rattle.plane.specs.Refusal.{Valid};
+ghost use Rattle.calipers.specs.PlaceAfter.{wholeSum, isPlace};
+ghost use Rattle.calipers.specs.Part.{beginReply, partWritten};
+ghost use Rattle.questions.specs.Admission.{Surveyed};
+ghost use Rattle.questions.specs.declared.admission.Admission.the-variants.{Valid as Admission·Valid};
+ghost use Rattle.questions.specs.Answer.{ofBegun, ofPart};
+ghost use Rattle.questions.specs.Walk.{stateOf};
+use crate::admission;
+use crate::admission::Admission;
+use crate::answer::Begun;
+use crate::answer::Part;
+use crate::answer::Refusal;
+use crate::deliver;
+use polygon::limits;
+use polygon::numbers;
+
+// How far the walk round two shapes is: so many edges of the first and of the second are passed, and over if all
+// corners of their sum are written. It is a plain value, which a caller may keep, copy or make up: one that is at no
+// place of the sum at hand is refused.
+pub struct Walk {
+    pub first: usize,
+    pub second: usize,
+    pub over: bool,
+}
+
+// Begins a sum in parts: the walk for the first of them. Refused as the sum is: 1 to 5 of the first shape, then of the
+// second; then a sum of too many corners, and one out of range. No output is asked for yet.
+pub fn begin(a: &[i32], b: &[i32]) -> Begun
+    ensures { λ r. ⌜ ofBegun r ≡ beginReply (now (a .entry)) (now (b .entry)) ⌝ }
+{
+    if let Admission::No(refusal) = admission::admit_pair(a, b) {
+        return Begun::No(refusal);
+    }
+    if let Admission::No(refusal) = survey(a, b) {
+        return Begun::No(refusal);
+    }
+    Begun::At(Walk {
+        first: 0,
+        second: 0,
+        over: false,
+    })
+}
+
+impl Walk {
+    // Writes the next corners of the sum at the front of the output, k or what remains, whichever is less, and answers
+    // how many, with the walk after them; all behind them is kept. Of 0 corners, and of a walk that is over, there are
+    // none, and the walk stays as it is. Refused, with the output as it was: 1 to 5 of the first shape, then of the
+    // second; a walk that is at no place of their sum; then a sum of too many corners, and one out of range; and an
+    // output too small for the corners of this call.
+    // Ruled out: fourteen after six; one corner too few; walk handed back unmoved; room counted from k.
+    pub fn part(self, a: &[i32], b: &[i32], k: usize, out: &mut [i32]) -> Part
+        ensures { λ r. ⌜
+            (ofPart r
+            ≡ partWritten (now (a .entry)) (now (b .entry)) (stateOf self) k (now (out .entry)) .reply)
+            × (now (out .exit)
+            ≡ partWritten (now (a .entry)) (now (b .entry)) (stateOf self) k (now (out .entry)) .output) ⌝ }
+    {
+        if let Admission::No(refusal) = admission::admit_pair(a, b) {
+            return Part::No(refusal);
+        }
+        if !calipers::walk::is_place(a, b, self.first, self.second, self.over) {
+            return Part::No(Refusal::NotAPlace);
+        }
+        if let Admission::No(refusal) = survey(a, b) {
+            return Part::No(refusal);
+        }
+        self.write(a, b, k, out)
+    }
+
+    // The same at a place of a sum that is answered.
+    fn write(self, a: &[i32], b: &[i32], k: usize, out: &mut [i32]) -> Part
+        requires { ⌜ Valid (now a) × Valid (now b) × (isPlace (now a) (now b) (stateOf self) ≡ true)
+            × Surveyed (wholeSum (now a) (now b)) Admission·Valid ⌝ }
+        ensures { λ r. ⌜
+            (ofPart r
+            ≡ partWritten (now (a .entry)) (now (b .entry)) (stateOf self) k (now (out .entry)) .reply)
+            × (now (out .exit)
+            ≡ partWritten (now (a .entry)) (now (b .entry)) (stateOf self) k (now (out .entry)) .output) ⌝ }
+    {
+        if self.over {
+            return Part::Corners {
+                count: 0,
+                walk: self,
+            };
+        }
+        if k == 0 {
+            return Part::Corners {
+                count: 0,
+                walk: self,
+            };
+        }
+        let mut corners = [0i32; limits::PAIR_NUMBERS];
+        let went = calipers::walk::walk_on(a, b, self.first, self.second, k, &mut corners);
+        if out.len() < 2 * went.count {
+            return Part::No(Refusal::Room);
+        }
+        numbers::copy(&corners, 2 * went.count, out, 0);
+        Part::Corners {
+            count: went.count,
+            walk: Walk {
+                first: went.first,
+                second: went.second,
+                over: went.over,
+            },
+        }
+    }
+}
+
+// Refusals 6 and 7 of the whole sum of two shapes.
+fn survey(a: &[i32], b: &[i32]) -> Admission
+    requires { ⌜ Valid (now a) × Valid (now b) ⌝ }
+    ensures { λ r. ⌜ Surveyed (wholeSum (now (a .entry)) (now (b .entry))) r ⌝ }
+{
+    let mut shape = [0i32; limits::PAIR_NUMBERS];
+    let n = calipers::sum(a, b, &mut shape);
+    deliver::survey(&shape[..2 * n])
+}
