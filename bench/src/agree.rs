@@ -1,5 +1,6 @@
 //! Compares the answers of plain and proved questions, and the whole outputs that they leave.
 use crate::lists::{beside, shape, spoilt};
+use crate::plain::MOST;
 use crate::random::Random;
 use crate::reply::Numbers;
 use crate::shapes::List;
@@ -105,13 +106,13 @@ fn ask_written(tally: &mut Tally, random: &mut Random, a: &[i32], b: &[i32]) -> 
 
 /// How many numbers are lent: enough, as many as are needed, or fewer.
 fn room(random: &mut Random, a: &[i32], b: &[i32], ask: Writes) -> usize {
-    let needed = 2 * ask(a, b, &mut [0; 1024]).values[0] as usize;
+    let needed = 2 * ask(a, b, &mut [0; 2 * MOST]).values[0] as usize;
     match random.below(8) {
         0 => needed,
         1 => needed.saturating_sub(1),
         2 => random.below(needed as u64 + 1) as usize,
         3 => needed + 1,
-        _ => 1024,
+        _ => 2 * MOST,
     }
 }
 

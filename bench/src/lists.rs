@@ -1,5 +1,6 @@
 //! Lists to compare answers on: shapes of all kinds and sizes, pairs that meet in all ways, and
 //! lists that are refused for each reason.
+use crate::plain::MOST;
 use crate::random::Random;
 use crate::shapes::{List, grown, moved, polygon};
 
@@ -17,7 +18,7 @@ pub fn shape(random: &mut Random) -> List {
         12 => some(random, 1, 1_000_000, 0, 0),
         13 => sized(random, 3, 40, x, y),
         14 => sized(random, 40, 300, x, y),
-        _ => sized(random, 490, 515, 0, 0),
+        _ => sized(random, MOST as i32 - 22, MOST as i32 + 3, 0, 0),
     }
 }
 
@@ -81,7 +82,7 @@ pub fn spoilt(random: &mut Random, list: &[i32]) -> List {
         0 => list.clear(),
         1 => drop(list.pop()),
         2 => list = list.repeat(2),
-        3 => list = list.repeat(1 + 600 / list.len().max(1)),
+        3 => list = list.repeat(1 + (2 * MOST + 100) / list.len().max(1)),
         4 => list[k + random.below(2) as usize] = FAR[random.below(4) as usize],
         5 => list = at_rim(random, &list),
         6 => list.rotate_left(k),

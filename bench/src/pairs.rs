@@ -1,6 +1,7 @@
 //! Shapes to measure questions on. All are in general position, so the edges of two shapes follow
 //! one another without a pattern, and no processor can guess whose is next.
 use crate::plain;
+use crate::plain::MOST;
 use crate::random::Random;
 use crate::shapes::{Case, List, moved, polygon};
 
@@ -16,10 +17,10 @@ pub fn crossing(random: &mut Random, n: usize) -> Case {
 }
 
 /// Two shapes whose sum is answered. It has as many corners as both together, and an answer at most
-/// 512: so in place of 500 and 496 corners they have 256 and 250.
+/// `MOST`: so in place of 1,024 and 1,020 corners they have 512 and 506.
 pub fn summed(random: &mut Random, n: usize) -> Case {
-    let (n, m) = if n + n - 4 > 512 {
-        (256, 250)
+    let (n, m) = if n + n - 4 > MOST {
+        (MOST / 2, MOST / 2 - 6)
     } else {
         (n, n - 4)
     };
@@ -30,7 +31,7 @@ pub fn summed(random: &mut Random, n: usize) -> Case {
 pub fn merged(random: &mut Random, n: usize) -> Case {
     loop {
         let case = overlapping(random, n, n - 4, 100_000);
-        if plain::merge(&case.a, &case.b, &mut [0; 1024]).refusal == 0 {
+        if plain::merge(&case.a, &case.b, &mut [0; 2 * MOST]).refusal == 0 {
             return case;
         }
     }

@@ -34,7 +34,7 @@ const INSIDE: [Run; 2] = [run!(proved::inside(a, b)), run!(plain::inside(a, b))]
 pub const ROWS: [(&str, [Run; 2], Make); 10] = [
     ("judge", JUDGE, single),
     ("sum", SUM, summed),
-    ("sum, refused 6 at 500", SUM, crossing),
+    ("sum, refused 6 at 1,024", SUM, crossing),
     ("merge", MERGE, merged),
     ("length", LENGTH, single),
     ("width", WIDTH, single),

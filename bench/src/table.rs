@@ -1,11 +1,12 @@
 //! Measures all rows of a table by turns, and prints it.
 use crate::pairs::moved_away;
+use crate::plain::MOST;
 use crate::random::Random;
 use crate::rows::{GROWTH, Make, ROWS};
 use crate::timing::{Meter, Run};
 
 /// Corners of the first table, proved beside plain.
-const SIZES: [usize; 3] = [32, 100, 500];
+const SIZES: [usize; 4] = [32, 100, 500, MOST];
 
 /// Corners of the second table, how the proved questions grow.
 const STEPS: [usize; 2] = [100, 400];
@@ -21,16 +22,16 @@ pub fn compare(rounds: usize) {
     println!(
         "microseconds a call, proved and plain, and their ratio; of two shapes one has 4 corners"
     );
-    println!("less, and at 500 those of `sum` have 256 and 250");
+    println!("less, and at 1,024 those of `sum` have 512 and 506");
     println!();
     println!(
-        "{:22}{}",
+        "{:24}{}",
         "",
         SIZES.map(|n| format!("{n:>19} corners")).concat()
     );
     for ((name, ..), times) in ROWS.iter().zip(measured(meters.collect(), rounds)) {
         let cells = times.map(|t| format!("{:9.3}{:9.3}{:9.2}", t[0], t[1], t[0] / t[1]));
-        println!("{name:22}{}", cells.concat());
+        println!("{name:24}{}", cells.concat());
     }
 }
 
@@ -42,12 +43,12 @@ pub fn grow(rounds: usize) {
     println!("microseconds a call, proved; a ratio of 4 is linear, one of 16 quadratic");
     println!();
     println!(
-        "{:22}{:>9}{:>9}{:>9}",
+        "{:24}{:>9}{:>9}{:>9}",
         "corners", STEPS[0], STEPS[1], "ratio"
     );
     for ((name, _), times) in GROWTH.iter().zip(measured(meters.collect(), rounds)) {
         let (few, many) = (times[0][0], times[1][0]);
-        println!("{name:22}{few:9.3}{many:9.3}{:9.2}", many / few);
+        println!("{name:24}{few:9.3}{many:9.3}{:9.2}", many / few);
     }
 }
 

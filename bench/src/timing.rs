@@ -1,5 +1,6 @@
 //! Times: small blocks of calls on inputs that change from call to call, the ways of answering by
 //! turns, many rounds over, the least time of each block counted.
+use crate::plain::MOST;
 use crate::shapes::Case;
 use std::hint::black_box;
 use std::time::Instant;
@@ -17,7 +18,7 @@ const BLOCK: usize = 2_000;
 /// way of answering waits for them.
 #[inline(always)]
 pub fn block<T>(cases: &[Case], ask: impl Fn(&Case, &mut [i32]) -> T) -> u64 {
-    let mut out = [0; 1024];
+    let mut out = [0; 2 * MOST];
     black_box(cases.iter().map(Case::read).fold(0, i32::wrapping_add));
     let start = Instant::now();
     for case in cases {

@@ -4,7 +4,9 @@
 
 use crate::answer::answer;
 use crate::make::dice::Dice;
+use crate::make::edges::{edges_of, shape_from_edges};
 use crate::make::{line, long, shape_text};
+use crate::plane::Shape;
 use std::io::{self, Write};
 
 mod log;
@@ -234,7 +236,7 @@ pub fn groups() -> Vec<Group> {
     groups.extend(spelled(SEGMENTS_AND_RANGE));
     groups.push(corner_limit());
     groups.extend(spelled(INSIDE_AND_SUMS));
-    groups.push(sum_too_long());
+    groups.push(long_sums());
     groups.extend(spelled(LEFT_RULE));
     groups.extend(spelled(TANGENTS));
     groups.extend(spelled(CLEARANCE));
@@ -283,20 +285,28 @@ fn corner_limit() -> Group {
     let mut dice = Dice::new(1);
     let mut judged = |count| line("judge", &[shape_text(&long::of_corners(&mut dice, count))]);
     Group {
-        words: "512 corners pass, 513 get 2".to_string(),
+        words: "1,024 corners pass, 1,025 get 2 (W7)".to_string(),
         cases: vec![
-            (judged(512), "ok 512".to_string()),
-            (judged(513), "no 2 shape 1".to_string()),
+            (judged(1024), "ok 1024".to_string()),
+            (judged(1025), "no 2 shape 1".to_string()),
         ],
     }
 }
 
-fn sum_too_long() -> Group {
-    let (a, b) = long::sharing(&mut Dice::new(2), (300, 300), 0);
-    let question = line("sum", &[shape_text(&a), shape_text(&b)]);
+/// The edges of both in order of direction are the edges of their sum.
+fn long_sums() -> Group {
+    let mut dice = Dice::new(2);
+    let mut pair = |count| long::sharing(&mut dice, (count, count), 0);
+    let sum = |(a, b): &(Shape, Shape)| line("sum", &[shape_text(a), shape_text(b)]);
+    let (short, long) = (pair(300), pair(600));
+    let whole = shape_from_edges(&[edges_of(&short.0), edges_of(&short.1)].concat());
     Group {
-        words: "Two shapes of 300 corners, no shared edge direction: 6".to_string(),
-        cases: vec![(question, "no 6".to_string())],
+        words: "Shapes of 300 corners, no shared edge direction: answered; of 600: 6 (W7)"
+            .to_string(),
+        cases: vec![
+            (sum(&short), format!("ok 600 | {}", shape_text(&whole))),
+            (sum(&long), "no 6".to_string()),
+        ],
     }
 }
 

@@ -85,8 +85,8 @@ mod tests {
 
     #[test]
     fn refusals_come_in_number_order() {
-        assert_eq!(answer(&[0; 2001]), "no 1 shape 1");
-        assert_eq!(answer(&[2_000_000; 2000]), "no 2 shape 1");
+        assert_eq!(answer(&[0; 2 * MOST_CORNERS + 3]), "no 1 shape 1");
+        assert_eq!(answer(&[2_000_000; 2 * MOST_CORNERS + 2]), "no 2 shape 1");
         assert_eq!(answer(&[2_000_000; 4]), "no 3 shape 1");
         assert_eq!(answer(&[7; 4]), "no 4 shape 1 edge 0 corner 1");
         assert_eq!(answer(&[0, 0, -1, 0]), "no 5 shape 1");

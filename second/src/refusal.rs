@@ -2,7 +2,7 @@
 
 use std::fmt;
 
-pub const MOST_CORNERS: usize = 512;
+pub const MOST_CORNERS: usize = 1024;
 pub const MOST_COORDINATE: i64 = 1_000_000;
 pub const MOST_DIRECTION: i64 = 2_000_000;
 

@@ -4,7 +4,7 @@ use super::corner::{Corner, cross, edge, is_up};
 use crate::reply::Numbers;
 
 /// The most corners of a shape.
-pub const MOST: usize = 512;
+pub const MOST: usize = 1024;
 
 /// A judged list: its corners, and the position of the last corner that edges go up to.
 #[derive(Clone, Copy)]

@@ -14,7 +14,7 @@ mod sum;
 mod width;
 
 pub use inside::inside;
-pub use judge::judge;
+pub use judge::{MOST, judge};
 pub use length::length;
 pub use merge::merge;
 pub use relation::relation;

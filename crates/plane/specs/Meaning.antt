@@ -216,7 +216,7 @@ module _ (l : List ℤ) (v : Valid l) where
   pub mirror-keeps-count : length (shapeOf (mirrored (points l))) ≡ length (points l)
   mirror-keeps-count = mirror-count (points l) (v .shape)
 
-  -- so 6, "the answer has more than 512 corners", cannot come of it
+  -- so 6, that the answer has too many corners, cannot come of it
   pub mirror-is-never-too-many : tooMany (shapeOf (mirrored (points l))) ≡ false
   mirror-is-never-too-many = mirror-few l v
 

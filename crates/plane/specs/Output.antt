@@ -16,7 +16,7 @@ use Rattle.plane.specs.Refusal.{tooMany, someOutside}
 unfoldable pub noRoom : List Point → List ℤ → Bool
 noRoom shape out = ltb (length out) (length (numbers shape))
 
--- 6: "the answer has more than 512 corners"; 7: "a corner of the answer is out of range"
+-- 6: the answer has more corners than a shape may have; 7: "a corner of the answer is out of range"
 abbrev pub answerRows : List Point → List ℤ → List Row
 answerRows shape out =
     row 6 (tooMany shape) [] ∷ row 7 (someOutside (numbers shape)) [] ∷ row 8 (noRoom shape out) [] ∷ []

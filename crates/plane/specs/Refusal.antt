@@ -21,7 +21,7 @@ use Rattle.plane.specs.Reply.{Row, row}
 unfoldable pub badCount : List ℤ → Bool
 badCount l = eqb (length l) 0 || eqb (length l % 2) 1
 
--- 2: "more than 512 corners"
+-- 2: more corners than a shape may have
 unfoldable pub tooMany : List Point → Bool
 tooMany ps = ltb maxCorners (length ps)
 

@@ -1,4 +1,4 @@
-// Document 01's limits, and the tests against them. No other code knows the numbers.
+// The limits of documents 01 and 02, and the tests against them. No other code knows the numbers.
 ghost use mathlib.Core.Bool.{_||_};
 ghost use mathlib.Core.Path.{_≡_};
 ghost use lib.Dec.{ltb};
@@ -7,7 +7,7 @@ ghost use lib.Signed.{ltZ};
 ghost use Rattle.plane.specs.Limits.{maxCorners, maxPart};
 ghost use Rattle.plane.specs.Refusal.{outside as Refusal·outside};
 
-pub const MAX_CORNERS: usize = 512;
+pub const MAX_CORNERS: usize = 1_024;
 
 const MAX_COORDINATE: i32 = 1_000_000;
 
@@ -20,7 +20,7 @@ pub const SHAPE_NUMBERS: usize = 2 * MAX_CORNERS;
 pub const PAIR_NUMBERS: usize = 2 * SHAPE_NUMBERS;
 
 // Whether so many corners are more than a shape may have.
-// Ruled out: one corner more.
+// Ruled out: one corner fewer.
 pub fn exceeds_corners(n: usize) -> bool
     ensures { λ r. ⌜ r ≡ ltb maxCorners n ⌝ }
 {

@@ -58,7 +58,7 @@ pub use tablet::reading::Reading;
 // list, too many corners, a coordinate out of range, two equal corners or a broken left rule (with the first edge, then
 // the first corner, that breaks it; three corners in line do), and a list begun at another corner than the lowest,
 // leftmost one.
-// Ruled out: consecutive turns only; one corner more; positions swapped.
+// Ruled out: consecutive turns only; one corner fewer; positions swapped.
 pub fn judge(list: &[i32]) -> Answer
     ensures { λ r. ⌜ ofAnswer r ≡ judged (now (list .entry)) ⌝ }
 {

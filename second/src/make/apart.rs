@@ -7,7 +7,7 @@ use super::shapes::{self, moved, scaled, vector};
 use super::{long, pairs};
 use crate::hull::hull_of;
 use crate::plane::{Point, Shape, dot, edge_ends, point};
-use crate::refusal::MOST_COORDINATE;
+use crate::refusal::{MOST_COORDINATE, MOST_CORNERS};
 use crate::separation::gap;
 
 /// Two shapes in either order, most of them apart.
@@ -158,7 +158,10 @@ fn dealt(dice: &mut Dice) -> (Shape, Shape) {
 
 /// Many corners each, some edges parallel.
 fn long_ones(dice: &mut Dice) -> (Shape, Shape) {
-    let counts = (dice.pick(&[64, 200, 512]), dice.pick(&[65, 300, 511]));
+    let counts = (
+        dice.pick(&[64, 200, MOST_CORNERS]),
+        dice.pick(&[65, 300, MOST_CORNERS - 1]),
+    );
     let (a, b) = long::sharing(dice, counts, 20);
     let step = along(vector(dice, 9));
     let b = away(dice, &a, &b, step);

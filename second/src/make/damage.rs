@@ -5,7 +5,7 @@ use super::edges::closed_edges;
 use super::shapes::{self, vector};
 use super::{List, long, numbers};
 use crate::plane::{Point, Shape, point};
-use crate::refusal::MOST_COORDINATE;
+use crate::refusal::{MOST_COORDINATE, MOST_CORNERS};
 
 /// A list with one fault or two, in 32 bits; some near misses are good shapes still.
 pub fn damaged(dice: &mut Dice) -> List {
@@ -62,7 +62,7 @@ fn hurt_corners(dice: &mut Dice, list: &[i64], choice: usize) -> Vec<Point> {
         10 => corners.reverse(),
         11 => corners[1..].reverse(),
         12 => corners.rotate_left(at),
-        _ if count <= 512 => corners.extend_from_within(..),
+        _ if count <= MOST_CORNERS => corners.extend_from_within(..),
         _ => {}
     }
     corners
@@ -173,13 +173,13 @@ fn star(dice: &mut Dice) -> Vec<Point> {
     (0..count).map(|i| shape[i * step % count]).collect()
 }
 
-/// More than 512 corners, good or not otherwise, at times an odd count of numbers.
+/// More corners than a shape may have, good or not otherwise, at times an odd count of numbers.
 fn too_many(dice: &mut Dice) -> List {
-    let count = dice.pick(&[513, 513, 514, 600]);
+    let count = MOST_CORNERS + dice.pick(&[1, 1, 2, 88]);
     let mut list = match dice.below(3) {
         0 => numbers(&long::of_corners(dice, count)),
         1 => vec![dice.between(-2, 2) * MOST_COORDINATE; 2 * count],
-        _ => hurt_twice_at_times(dice, vec![7; 1026]),
+        _ => hurt_twice_at_times(dice, vec![7; 2 * MOST_CORNERS + 2]),
     };
     if dice.one_in(5) {
         list.push(0);

@@ -1,9 +1,10 @@
-//! Shapes with a wanted number of corners, up to 1,024, and pairs of them at the limit of 512.
+//! Shapes with a wanted number of corners, and pairs of them whose answers have about the most.
 
 use super::dice::Dice;
 use super::edges::{shape_from_edges, shortest_primitives};
 use crate::hull::standard_list;
 use crate::plane::{Point, Shape, point};
+use crate::refusal::MOST_CORNERS;
 
 /// A shape of exactly `count` corners, 3 or more: opposite edges in pairs, three more if odd.
 pub fn of_corners(dice: &mut Dice, count: usize) -> Shape {
@@ -23,9 +24,14 @@ pub fn sharing(dice: &mut Dice, counts: (usize, usize), shared: usize) -> (Shape
 
 /// Two shapes whose sum has `total` corners; at most one has an odd count.
 pub fn summing_to(dice: &mut Dice, total: usize) -> (Shape, Shape) {
-    let first = 2 * dice.between(70, 180) as usize;
+    let first = 2 * (MOST_CORNERS / 7 + dice.below(MOST_CORNERS / 5));
     let shared = dice.pick(&[0, 0, 1, 7]);
     sharing(dice, (first, total - first + 2 * shared), shared)
+}
+
+/// About as many corners as a shape may have: two less to two more.
+pub fn about_most(dice: &mut Dice) -> usize {
+    MOST_CORNERS - 2 + dice.below(5)
 }
 
 /// One shape of `count` corners, its corners dealt out to two: their merge is that shape again.
@@ -88,7 +94,7 @@ mod tests {
     #[test]
     fn counts_are_exact() {
         let mut dice = Dice::new(6);
-        for count in (3..1025).step_by(17) {
+        for count in (3..2 * MOST_CORNERS + 2).step_by(34) {
             assert_eq!(of_corners(&mut dice, count).len(), count);
         }
     }
@@ -96,7 +102,8 @@ mod tests {
     #[test]
     fn sums_and_merges_hit_the_limit() {
         let mut dice = Dice::new(7);
-        for (total, good) in [(511, true), (512, true), (513, false), (514, false)] {
+        for total in MOST_CORNERS - 1..MOST_CORNERS + 3 {
+            let good = total <= MOST_CORNERS;
             let (a, b) = summing_to(&mut dice, total);
             assert_eq!(sum(&a, &b).is_ok_and(|s| s.len() == total), good);
             let (a, b) = dealt(&mut dice, total);

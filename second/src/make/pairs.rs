@@ -6,7 +6,7 @@ use super::long;
 use super::shapes::{self, moved, scaled, vector};
 use crate::hull::hull_of;
 use crate::plane::{Point, Shape, point};
-use crate::refusal::MOST_COORDINATE;
+use crate::refusal::{MOST_COORDINATE, MOST_CORNERS};
 
 /// Any two shapes, in either order.
 pub fn any(dice: &mut Dice) -> (Shape, Shape) {
@@ -31,17 +31,17 @@ pub fn in_either_order(dice: &mut Dice, a: Shape, b: Shape) -> (Shape, Shape) {
     together(dice, a, b)
 }
 
-/// Sums that end just within the range or just past it, or have about 512 corners.
+/// Sums that end just within the range or just past it, or have about as many corners as a shape may.
 pub fn for_sum(dice: &mut Dice) -> (Shape, Shape) {
     match dice.below(100) {
         0..15 => at_the_range_end(dice),
         15..17 => {
-            let total = dice.pick(&[510, 511, 512, 513, 514]);
+            let total = long::about_most(dice);
             long::summing_to(dice, total)
         }
         17 => {
             let shared = dice.pick(&[0, 0, 20, 100]);
-            let (a, b) = long::sharing(dice, (300, 300), shared);
+            let (a, b) = long::sharing(dice, (3 * MOST_CORNERS / 5, 3 * MOST_CORNERS / 5), shared);
             (shapes::settled(dice, &a), shapes::settled(dice, &b))
         }
         18 => longest_with_few(dice),
@@ -49,7 +49,7 @@ pub fn for_sum(dice: &mut Dice) -> (Shape, Shape) {
     }
 }
 
-/// Merges that use every corner of both, with about 512 in the worst case.
+/// Merges that use every corner of both, with about as many as a shape may have in the worst case.
 pub fn for_merge(dice: &mut Dice) -> (Shape, Shape) {
     match dice.below(100) {
         0..8 => {
@@ -57,7 +57,16 @@ pub fn for_merge(dice: &mut Dice) -> (Shape, Shape) {
             long::dealt(dice, count)
         }
         8..10 => {
-            let count = dice.pick(&[511, 512, 513, 514, 700, 1000, 1024]);
+            let many = [
+                3 * MOST_CORNERS / 2,
+                2 * MOST_CORNERS - 24,
+                2 * MOST_CORNERS,
+            ];
+            let count = if dice.one_in(2) {
+                long::about_most(dice)
+            } else {
+                dice.pick(&many)
+            };
             long::dealt(dice, count)
         }
         10 => longest_with_few(dice),
@@ -213,9 +222,9 @@ fn at_the_range_end(dice: &mut Dice) -> (Shape, Shape) {
     (a, moved(&b, by))
 }
 
-/// 511 or 512 corners with a point, a segment or a small shape.
+/// As many corners as a shape may have, or a few less, with a point, a segment or a small shape.
 fn longest_with_few(dice: &mut Dice) -> (Shape, Shape) {
-    let count = dice.pick(&[509, 510, 511, 512]);
+    let count = MOST_CORNERS - dice.below(4);
     let a = long::of_corners(dice, count);
     let b = match dice.below(4) {
         0 => vec![dice.pick(&a)],

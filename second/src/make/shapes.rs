@@ -5,7 +5,7 @@ use super::edges::{divisor, shape_from_edges};
 use super::long;
 use crate::hull::hull_of;
 use crate::plane::{Point, Shape, point};
-use crate::refusal::MOST_COORDINATE;
+use crate::refusal::{MOST_COORDINATE, MOST_CORNERS};
 
 /// Any shape, somewhere in range.
 pub fn any(dice: &mut Dice) -> Shape {
@@ -241,6 +241,16 @@ fn medium(dice: &mut Dice) -> Shape {
 }
 
 fn many(dice: &mut Dice) -> Shape {
-    let count = dice.pick(&[64, 100, 127, 200, 255, 256, 300, 511, 512]);
+    let count = dice.pick(&[
+        64,
+        100,
+        127,
+        200,
+        255,
+        256,
+        300,
+        MOST_CORNERS - 1,
+        MOST_CORNERS,
+    ]);
     long::of_corners(dice, count)
 }
