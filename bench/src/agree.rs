@@ -5,15 +5,20 @@ use crate::random::Random;
 use crate::reply::Numbers;
 use crate::shapes::List;
 use crate::{plain, proved};
+use std::cmp::Ordering;
 use std::collections::BTreeSet;
 
 /// What must have been compared at least once: a question, and a refusal or the first value.
-const KINDS: [(&str, &str); 19] = [
+const KINDS: [(&str, &str); 23] = [
     ("judge", "no 1"),
     ("judge", "no 2"),
     ("judge", "no 3"),
     ("judge", "no 4"),
     ("judge", "no 5"),
+    ("furthest", "ok, one corner"),
+    ("furthest", "ok, an edge"),
+    ("furthest", "ok, over the end"),
+    ("furthest", "no 11"),
     ("sum", "ok"),
     ("sum", "no 6"),
     ("sum", "no 7"),
@@ -61,8 +66,31 @@ pub fn agree(seed: u64, answers: u64) -> Result<u64, String> {
 /// The questions of one shape.
 fn ask_one(tally: &mut Tally, a: &[i32]) -> Result<(), String> {
     tally.add("judge", [a, &[]], plain::judge(a), proved::judge(a))?;
+    for d in directions(a) {
+        let by_hand = plain::furthest(a, d[0], d[1]).numbers();
+        let by_proof = proved::furthest(a, d[0], d[1]).numbers();
+        tally.add("furthest", [a, &d], by_hand, by_proof)?;
+    }
     tally.add("length", [a, &[]], plain::length(a), proved::length(a))?;
     tally.add("width", [a, &[]], plain::width(a), proved::width(a))
+}
+
+/// Out of the first edge and the last, back into the first, along it, and nowhere.
+fn directions(a: &[i32]) -> [[i32; 2]; 5] {
+    let corner = |i: usize| match a.get(i..i + 2) {
+        Some(c) => [c[0], c[1]],
+        None => [1, 1],
+    };
+    let step = |p: [i32; 2], q: [i32; 2]| [q[0].wrapping_sub(p[0]), q[1].wrapping_sub(p[1])];
+    let [x, y] = step(corner(0), corner(2));
+    let [z, w] = step(corner(a.len().saturating_sub(2)), corner(0));
+    [
+        [y, x.wrapping_neg()],
+        [w, z.wrapping_neg()],
+        [y.wrapping_neg(), x],
+        [x, y],
+        [0, 0],
+    ]
 }
 
 /// The questions of two shapes that write nothing.
@@ -116,6 +144,15 @@ fn room(random: &mut Random, a: &[i32], b: &[i32], ask: Writes) -> usize {
     }
 }
 
+/// How the first and the last of the furthest corners stand.
+fn face(first: u64, last: u64) -> &'static str {
+    match first.cmp(&last) {
+        Ordering::Less => "an edge",
+        Ordering::Equal => "one corner",
+        Ordering::Greater => "over the end",
+    }
+}
+
 impl Tally {
     /// Counts one answer, or says that it differs.
     fn add(
@@ -132,6 +169,7 @@ impl Tally {
         }
         let kind = match (plain.refusal, word) {
             (0, "relation" | "inside") => format!("ok {}", plain.values[0]),
+            (0, "furthest") => format!("ok, {}", face(plain.values[0], plain.values[1])),
             (0, _) => "ok".to_string(),
             (number, _) => format!("no {number}"),
         };

@@ -54,6 +54,28 @@ pub struct Signed {
     pub value: i64,
 }
 
+impl Signed {
+    /// A refusal that blames no shape.
+    #[inline]
+    pub fn refused(refusal: u64) -> Signed {
+        Signed {
+            refusal,
+            shape: 0,
+            values: [0; 2],
+            value: 0,
+        }
+    }
+
+    /// The same numbers, the last by its bits.
+    pub fn numbers(self) -> Numbers {
+        Numbers {
+            refusal: self.refusal,
+            shape: self.shape,
+            values: [self.values[0], self.values[1], self.value as u64, 0, 0],
+        }
+    }
+}
+
 /// The same for a clearance: its kind, two positions and at most three numbers.
 #[repr(C)]
 #[derive(Clone, Copy, Debug, PartialEq, Eq)]

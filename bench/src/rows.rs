@@ -20,6 +20,10 @@ macro_rules! run {
 
 /// Proved and plain.
 const JUDGE: [Run; 2] = [run!(proved::judge(a)), run!(plain::judge(a))];
+const FURTHEST: [Run; 2] = [
+    |cases| block(cases, |c, _| proved::furthest(&c.a, 3, 1)),
+    |cases| block(cases, |c, _| plain::furthest(&c.a, 3, 1)),
+];
 const SUM: [Run; 2] = [run!(proved::sum(a, b; out)), run!(plain::sum(a, b; out))];
 const MERGE: [Run; 2] = [
     run!(proved::merge(a, b; out)),
@@ -31,8 +35,9 @@ const RELATION: [Run; 2] = [run!(proved::relation(a, b)), run!(plain::relation(a
 const INSIDE: [Run; 2] = [run!(proved::inside(a, b)), run!(plain::inside(a, b))];
 
 /// The questions that are asked in both ways.
-pub const ROWS: [(&str, [Run; 2], Make); 10] = [
+pub const ROWS: [(&str, [Run; 2], Make); 11] = [
     ("judge", JUDGE, single),
+    ("furthest", FURTHEST, single),
     ("sum", SUM, summed),
     ("sum, refused 6 at 1,024", SUM, crossing),
     ("merge", MERGE, merged),
@@ -49,9 +54,7 @@ pub const ROWS: [(&str, [Run; 2], Make); 10] = [
 /// as the shape has corners.
 pub const GROWTH: [(&str, Run); 16] = [
     ("judge", JUDGE[0]),
-    ("furthest", |cases| {
-        block(cases, |c, _| proved::furthest(&c.a, 3, 1))
-    }),
+    ("furthest", FURTHEST[0]),
     ("mirror", run!(proved::mirror(a; out))),
     ("sum", SUM[0]),
     ("begin", run!(proved::begin(a, b))),

@@ -21,21 +21,18 @@ fn judge_counts_or_blames() {
 
 #[test]
 fn furthest_has_a_signed_value() {
-    let told = |position, value| Signed {
+    let told = |first, last, value| Signed {
         refusal: 0,
         shape: 0,
-        values: [position, 0],
+        values: [first, last],
         value,
     };
-    assert_eq!(proved::furthest(&SQUARE, 1, 1), told(2, 4));
-    assert_eq!(proved::furthest(&[1, 1], -3, -2), told(0, -5));
-    let bad = Signed {
-        refusal: 11,
-        shape: 0,
-        values: [0, 0],
-        value: 0,
-    };
-    assert_eq!(proved::furthest(&SQUARE, 0, 0), bad);
+    assert_eq!(proved::furthest(&SQUARE, 1, 1), told(2, 2, 4));
+    assert_eq!(proved::furthest(&SQUARE, 1, 0), told(1, 2, 2));
+    assert_eq!(proved::furthest(&SQUARE, -1, 0), told(3, 0, 0));
+    assert_eq!(proved::furthest(&[0, 0, 2, 0], 0, -1), told(0, 1, 0));
+    assert_eq!(proved::furthest(&[1, 1], -3, -2), told(0, 0, -5));
+    assert_eq!(proved::furthest(&SQUARE, 0, 0), Signed::refused(11));
     let star = Signed {
         refusal: 4,
         shape: 1,

@@ -22,8 +22,8 @@ pub fn judge(given: &Given) -> Answer {
 
 pub fn furthest(given: &Given) -> Answer {
     let [a] = given.shapes()?;
-    let (corner, value) = measure::furthest(&a, given.direction())?;
-    Ok(format!("{corner} {value}"))
+    let (first, last, value) = measure::furthest(&a, given.direction())?;
+    Ok(format!("{first} {last} {value}"))
 }
 
 pub fn mirror(given: &Given) -> Answer {

@@ -3,14 +3,20 @@
 use crate::plane::{Point, edge_ends, squared_distance, turn, value};
 use crate::refusal::{MOST_DIRECTION, Refusal};
 
-/// The smallest position of the corner with the greatest value, and that value.
-pub fn furthest(shape: &[Point], direction: Point) -> Result<(usize, i128), Refusal> {
+/// The first and the last of the corners with the greatest value, counterclockwise, and that value.
+/// Where all have it there is no turn: a point is 0 and 0, a segment 0 and 1.
+pub fn furthest(shape: &[Point], direction: Point) -> Result<(usize, usize, i128), Refusal> {
     let within = |part: i64| (-MOST_DIRECTION..=MOST_DIRECTION).contains(&part);
     let nowhere = direction.x == 0 && direction.y == 0;
     if nowhere || !within(direction.x) || !within(direction.y) {
         return Err(Refusal::plain(11));
     }
-    Ok(first_greatest(shape.iter().map(|&c| value(direction, c))))
+    let n = shape.len();
+    let (_, greatest) = first_greatest(shape.iter().map(|&c| value(direction, c)));
+    let tied = |i: usize| value(direction, shape[i % n]) == greatest;
+    let first = (0..n).find(|&i| tied(i) && !tied(i + n - 1));
+    let last = (0..n).find(|&i| tied(i) && !tied(i + 1));
+    Ok((first.unwrap_or(0), last.unwrap_or(n - 1), greatest))
 }
 
 /// The greatest squared distance with its positions i ≤ j, smallest i and then smallest j.

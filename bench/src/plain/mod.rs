@@ -5,6 +5,7 @@ mod calipers;
 mod corner;
 mod deliver;
 mod edges;
+mod furthest;
 mod inside;
 mod judge;
 mod length;
@@ -13,6 +14,7 @@ mod relation;
 mod sum;
 mod width;
 
+pub use furthest::furthest;
 pub use inside::inside;
 pub use judge::{MOST, judge};
 pub use length::length;

@@ -5,11 +5,13 @@
 --     looking-end                      all are passed, and the first corner is left
 use mathlib.Core.Path.{_≡_, refl, sym, _∙_, ap, ap₂, subst}
 use mathlib.Core.Bool.{Bool, true, false, _&&_, false≢true}
-use mathlib.Core.Logic.{inl, inr}
+use mathlib.Core.Logic.{_⊎_, inl, inr}
 use mathlib.Core.List.{List, [], _∷_}
 use Prim.Native.Nat.{ℕ, zero, suc, _+_, _≤_, _<_, zero-le}
 use native.Mathlib.Numerals.{add-one}
 use native.Mathlib.Omega.{arith}
+use borrow.Author.Tests.{ltb-true, ltb-false}
+use lib.Dec.{ltb}
 use lib.IntN.{ℤ}
 use lib.ListN.{length}
 use lib.Signed.{leZ}
@@ -24,8 +26,15 @@ use Rattle.calipers.specs.Walk.{Walk, here, begun, advanced, stepped, At}
 use Rattle.calipers.specs.theory.Steps.{at-stepped}
 use Rattle.separation.proofs.Stops.{on-below, over-end, corner-here, stop-here}
 use Rattle.separation.specs.theory.Sector.{square-positive}
-use Rattle.clearance.specs.theory.Scan.{last-or}
 use Rattle.clearance.specs.Stop.{rests, crosses, leftward, behind, after, Stopped, at-corner, at-edge, at-first}
+
+-- the last of k + 1 positions, or one before it
+last-or : (k j : ℕ) → j < k + 1 → (j ≡ k) ⊎ (j < k)
+last-or k j h = go (ltb j k) refl
+  where
+    go : (b : Bool) → ltb j k ≡ b → (j ≡ k) ⊎ (j < k)
+    go true e = inr (ltb-true j k e)
+    go false e = inl (omega (arith, ltb-false j k e))
 
 pub record Looking (a b : List ℤ) (walk : Walk) (back : Point) : Type 0 where
   pub start : At a b begun

@@ -1,19 +1,20 @@
--- The faces of two shapes that are against each other, by their first and last positions, and the first pair of their ends that passes a test.
--- Our own, not of document 02.
---     IsFace n ps f           corners f .first and f .last are lowest in n, and no corner before or behind them
---     extendedBy f i u v      the face of the positions before i, whose value is u, and position i with value v
+-- The faces of two shapes that are against each other, by their smaller and larger positions, and the first pair of their ends that passes
+-- a test. Our own, not of document 02.
+--     IsFace n ps f           corners f .first and f .last are lowest in n, in the order of their positions, and no other corner is
 --     Ends l f                both are positions of a list in range
 --     isEnd f i               i is one of the two
 --     isAlong n A B i j       the step from corner j of B to corner i of A is along n
 --     isFoot g A B c e        corner c of A falls strictly inside edge e of B, whose other end is in the face g
 --     pickedOf, tried         of the four pairs of ends the first that passes
+use mathlib.Core.Path.{_≡_}
 use mathlib.Core.Bool.{Bool, cond, _&&_, _||_}
+use mathlib.Core.Logic.{_⊎_}
 use mathlib.Core.List.{List}
 use Prim.Native.Nat.{ℕ, _≤_, _<_}
 use lib.Dec.{eqb}
 use lib.IntN.{ℤ, pos}
 use lib.ListN.{length}
-use lib.Signed.{ltZ, leZ}
+use lib.Signed.{leZ}
 use Rattle.plane.specs.Point.{Point, points, corner, _⊖_}
 use Rattle.plane.specs.Turn.{cross}
 use Rattle.plane.specs.Shape.{next}
@@ -27,10 +28,8 @@ use Rattle.clearance.specs.declared.reach.Spot.the-variants.{At, Nowhere
 pub record IsFace (n : Point) (ps : List Point) (f : Face) : Type 0 where
   pub first-lowest : Lowest n ps (f .first)
   pub last-lowest : Lowest n ps (f .last)
-  pub outside-none : (k : ℕ) → Lowest n ps k → (f .first ≤ k) × (k ≤ f .last)
-
-unfoldable pub extendedBy : Face → ℕ → ℤ → ℤ → Face
-extendedBy f i u v = cond (ltZ v u) (record { first = i; last = i }) (cond (ltZ u v) f (record { first = f .first; last = i }))
+  pub ordered : f .first ≤ f .last
+  pub no-other : (k : ℕ) → Lowest n ps k → (k ≡ f .first) ⊎ (k ≡ f .last)
 
 pub record Ends (l : List ℤ) (f : Face) : Type 0 where
   pub near : InRange l

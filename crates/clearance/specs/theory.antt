@@ -5,6 +5,7 @@ pub mod First
 pub mod Segments
 pub mod Along
 pub mod Closest
+pub mod Lowest
 pub mod Faces
 pub mod Pairs
 pub mod Stop
@@ -12,7 +13,6 @@ pub mod Means
 pub mod Attained
 pub mod Nearest
 pub mod Common
-pub mod Scan
 pub mod Ends
 pub mod Walked
 pub mod Rounding

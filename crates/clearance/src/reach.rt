@@ -89,7 +89,6 @@ fn first_foot(a: &[i32], f: Face, b: &[i32], g: Face) -> Spot
 }
 
 // The first of four pairs of ends that passed.
-// Ruled out: ties the other way.
 fn picked(f: Face, g: Face, first: bool, second: bool, third: bool, fourth: bool) -> Spot
     ensures { λ r. ⌜ r ≡ pickedOf f g first second third fourth ⌝ }
 {

@@ -12,30 +12,27 @@ use mir.Facts.{toZ-ofZ}
 use Rattle.integer.specs.Machine.{known, machine-fits}
 use Rattle.plane.specs.Point.{Point, points}
 use Rattle.plane.specs.Direction.{support}
-use Rattle.plane.specs.Reply.{Reply, answered, Row, row}
+use Rattle.plane.specs.Reply.{Reply, answered, Row}
 use Rattle.plane.specs.Refusal.{shapeRows, Valid}
-use Rattle.plane.specs.Furthest.{badDirection, furthestReply}
+use Rattle.plane.specs.Furthest.{directionRows, furthestReply}
 use Rattle.plane.specs.theory.refusals.Accept.{accepted→valid}
 use Rattle.plane.specs.theory.refusals.Rows.{NoneApply, firstRow-answered, firstRow-none}
 use Rattle.plane.specs.theory.support.Bounds.{support-size}
 use Rattle.polygon.specs.theory.Furthest.{direction-near}
-use Rattle.exports.specs.Crossing.{crossedBehind}
+use Rattle.exports.specs.Crossing.{crossed}
 
 judged-first : (which : ℕ) (l : List ℤ) (ws : List Row) → NoneApply (shapeRows which l ++ ws) → Valid l × NoneApply ws
 judged-first which l ws n =
     (accepted→valid l which (n .0, (n .1 .0, (n .1 .1 .0, (n .1 .1 .1 .0, (n .1 .1 .1 .1 .0, tt))))), n .1 .1 .1 .1 .1)
 
--- the value that stands behind the others
-abbrev behind : ℕ → Reply → ℤ
-behind j r = getD (crossedBehind j r) 4 (pos 0)
-
-pub furthest-kept : (l : List ℤ) (d : Point) (p : ℕ) (z : ℤ) → answered (pos p ∷ z ∷ []) ≡ furthestReply l d → toZ w64 (ofZ w64 z) ≡ z
+pub furthest-kept : (l : List ℤ) (d : Point) (p q : ℕ) (z : ℤ) → answered (pos p ∷ pos q ∷ z ∷ []) ≡ furthestReply l d
+    → toZ w64 (ofZ w64 z) ≡ z
 unfolding furthestReply
-furthest-kept l d p z h =
-    let rows = shapeRows 1 l ++ (row 11 (badDirection d) [] ∷ []) in
+furthest-kept l d p q z h =
+    let rows = shapeRows 1 l ++ directionRows d in
     let none = firstRow-answered rows _ _ (sym h) in
-    let first = judged-first 1 l (row 11 (badDirection d) [] ∷ []) none in
+    let first = judged-first 1 l (directionRows d) none in
     let v = first .0 in
     let near = direction-near d (first .1 .0) in
-    let is : z ≡ support d (points l) = ap (behind 1) (h ∙ firstRow-none rows _ none) in
+    let is : z ≡ support d (points l) = ap (λ (r : Reply). getD (crossed 3 r) 4 (pos 0)) (h ∙ firstRow-none rows _ none) in
     toZ-ofZ (machine-fits (known is (support-size l (v .inRange) (near .0) (near .1) (v .shape .some))) tt)

@@ -15,7 +15,7 @@ ghost use Rattle.calipers.specs.Advance.{state};
 ghost use Rattle.calipers.specs.Part.{beginReply, partWritten};
 ghost use Rattle.journal.specs.Reading.{readWritten};
 ghost use Rattle.journal.specs.Adding.{added};
-ghost use Rattle.exports.specs.Crossing.{crossed, crossedBehind};
+ghost use Rattle.exports.specs.Crossing.{crossed};
 ghost use Rattle.exports.specs.Numbers.{numbers, signedNumbers, lineNumbers, nearestNumbers};
 use questions::answer::Furthest;
 use questions::walk;
@@ -33,17 +33,17 @@ pub extern "C" fn cocklesway_judge(list: &[i32]) -> Numbers
     reply::of_answer(questions::judge(list))
 }
 
-// The position of the furthest corner in the direction (u, v), and its value.
+// The first and the last of the furthest corners in the direction (u, v), and their value.
 #[no_mangle]
 pub extern "C" fn cocklesway_furthest(list: &[i32], u: i32, v: i32) -> Signed
-    ensures { λ r. ⌜ signedNumbers r ≡ crossedBehind 1 (furthestReply (now (list .entry)) (point u v)) ⌝ }
+    ensures { λ r. ⌜ signedNumbers r ≡ crossed 3 (furthestReply (now (list .entry)) (point u v)) ⌝ }
 {
     match questions::furthest(list, u, v) {
-        Furthest::At { position, value } => Signed {
+        Furthest::At { first, last, value } => Signed {
             refusal: 0,
             shape: 0,
-            first: position as u64,
-            second: 0,
+            first: first as u64,
+            second: last as u64,
             value,
         },
         Furthest::No(refusal) => reply::signed_refusal(refusal),

@@ -1,9 +1,8 @@
 // Inner functions: answers taken apart into structs of numbers, since an enum does not cross to a host.
 ghost use mathlib.Core.Bool.{cond};
 ghost use mathlib.Core.Path.{_≡_};
-ghost use mathlib.Core.List.{[], _∷_, _++_};
+ghost use mathlib.Core.List.{[], _∷_};
 ghost use lib.IntN.{pos};
-ghost use lib.ListN.{take};
 ghost use Rattle.questions.specs.Answer.{ofRefusal, ofAnswer, ofBegun, ofPart, ofLength, ofWidth};
 ghost use Rattle.questions.specs.Answer.{ofRelation, ofInside, ofTangents, ofClearance, ofAddition};
 ghost use Rattle.exports.specs.Crossing.{crossed};
@@ -257,7 +256,7 @@ pub fn of_inside(answer: Inside) -> Numbers
 
 // A refusal where an answer would have a signed value.
 pub fn signed_refusal(refusal: Refusal) -> Signed
-    ensures { λ r. ⌜ signedNumbers r ≡ take 4 (crossed 5 (ofRefusal refusal)) ++ pos 0 ∷ [] ⌝ }
+    ensures { λ r. ⌜ signedNumbers r ≡ crossed 3 (ofRefusal refusal) ⌝ }
 {
     let told = refused(refusal);
     Signed {

@@ -1,6 +1,5 @@
 -- The theory of length and width, which only proves: the half walk, and what stands at its places.
 pub mod Longest
-pub mod Tied
 pub mod CutCorner
 pub mod Chains
 pub mod HalfWalk

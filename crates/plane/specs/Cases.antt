@@ -1,6 +1,6 @@
 -- Document 01's starred cases ("Cases to hold against"), as one table over the definitions and one fact about all its rows, by computing.
--- The rows are quoted in 01's order; a row is what the definition gives and what 01 states. The last six are of document 02, requests W1
--- and W3.
+-- The rows are quoted in 01's order; a row is what the definition gives and what 01 states. The last eleven are of document 02, requests
+-- W1, W3 and W8.
 use mathlib.Core.Path.{_≡_, refl}
 use mathlib.Core.Bool.{cond}
 use mathlib.Core.List.{List, [], _∷_, _++_, map}
@@ -9,16 +9,18 @@ use lib.IntN.{ℤ, pos, negsuc}
 use lib.ListN.{length, replicate}
 use lib.Signed.{ltZ}
 use Rattle.plane.specs.Limits.{maxCorners, maxCoordinate, maxPart}
-use Rattle.plane.specs.Point.{points, corner, samePoint}
+use Rattle.plane.specs.Point.{point, points, corner, samePoint}
 use Rattle.plane.specs.Turn.{turn}
 use Rattle.plane.specs.Shape.{next, breaks, precedes}
 use Rattle.plane.specs.Reply.{Reply, answered, refused}
 use Rattle.plane.specs.Refusal.{badCount, tooMany, outside, someOutside, equalPair, leftBroken, breakingEdge, breakingCorner}
 use Rattle.plane.specs.Refusal.{ruleBroken, brokenEdge, brokenCorner, badStart}
 use Rattle.plane.specs.Judge.{judged}
-use Rattle.plane.specs.Direction.{max, value}
+use Rattle.plane.specs.Direction.{max, value, support, furthest}
 use Rattle.plane.specs.Corner.{shapeOf}
 use Rattle.plane.specs.Output.{Written, noRoom, overwritten}
+use Rattle.plane.specs.Face.{faceFirst, faceLast}
+use Rattle.plane.specs.Furthest.{badDirection, furthestReply}
 use Rattle.plane.specs.Combine.{sumWritten, mergeWritten}
 use Rattle.plane.specs.Measure.{squared, lengthSquared, furthestPair, lengthFrom, lengthTo, lengthReply, edgeTurn, height}
 use Rattle.plane.specs.Measure.{edgeSquared, noWider, widthEdge, widthCorner, widthRounded, widthReply}
@@ -127,6 +129,12 @@ rows =
     ∷ says (clearanceReply S (pair 2 1)) (answered (pos 0 ∷ []))
     -- four feet on parallel edges: the first corner of the first shape that falls on the second
     ∷ says (clearanceReply under over) (answered (pos 2 ∷ pos 2 ∷ pos 0 ∷ pos 5 ∷ pos 25 ∷ pos 1 ∷ []))
+    -- the face of S to the right, and to the left, over the end of the list; one corner; a segment across, both ways
+    ∷ says (furthestReply S (point (pos 1) (pos 0))) (answered (pos 1 ∷ pos 2 ∷ pos 2 ∷ []))
+    ∷ says (furthestReply S (point (negsuc 0) (pos 0))) (answered (pos 3 ∷ pos 0 ∷ pos 0 ∷ []))
+    ∷ says (furthestReply S (point (pos 1) (pos 1))) (answered (pos 2 ∷ pos 2 ∷ pos 4 ∷ []))
+    ∷ says (furthestReply (segment 0 1 2 1) (point (pos 0) (pos 1))) (answered (pos 0 ∷ pos 1 ∷ pos 1 ∷ []))
+    ∷ says (furthestReply (segment 0 1 2 1) (point (pos 0) (negsuc 0))) (answered (pos 0 ∷ pos 1 ∷ negsuc 0 ∷ []))
     ∷ []
 
 pub rows-hold : map (λ (r : Case). r .given) rows ≡ map (λ (r : Case). r .stated) rows
@@ -138,4 +146,5 @@ unfolding rows maxCorners maxCoordinate maxPart turn breaks precedes samePoint m
     inside apart notLeft onRim touching relationReply
     onSide touches nearer tangent tangentFrom tangentTo tangentsReply
     value falls top bottom noFurther nearest clearanceReply
+    support furthest faceFirst faceLast badDirection furthestReply
 rows-hold = refl

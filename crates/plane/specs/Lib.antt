@@ -13,6 +13,7 @@ pub mod Direction
 pub mod Corner
 pub mod Output
 pub mod VectorSum
+pub mod Face
 pub mod Furthest
 pub mod Combine
 pub mod Measure

@@ -4,27 +4,31 @@
 --     corners        the shape of a set is the standard list of its corners, and the only one
 --     forms          three ways to say that a list is a shape
 --     directions     how far sums, lists taken together and mirrored lists reach; a shape is known by how far it reaches
+--     faces          the furthest corners of a shape, from the first to the last counterclockwise
 --     mirror         refusals 6 and 7 cannot come of it
 use mathlib.Core.Path.{_≡_, refl}
 use mathlib.Core.Bool.{true, false}
 use mathlib.Core.List.{List, [], _∷_, _++_}
+use mathlib.Core.Logic.{_⊎_}
 use Prim.Native.Nat.{ℕ, _<_}
 use lib.ListN.{length, drop}
 use lib.IntN.{ℤ, pos, _+ℤ_}
+use lib.Signed.{_≤ℤ_, _<ℤ_}
 use Rattle.integer.specs.Bound.{Within}
 use Rattle.plane.specs.Limits.{maxPart}
 use Rattle.plane.specs.Point.{Point, points, numbers, corner, opposite}
-use Rattle.plane.specs.Turn.{turn}
-use Rattle.plane.specs.Shape.{breaks, IsShape}
+use Rattle.plane.specs.Turn.{turn, Left}
+use Rattle.plane.specs.Shape.{next, breaks, IsShape}
 use Rattle.plane.specs.Reply.{answered, refused, Row}
 use Rattle.plane.specs.Refusal.{tooMany, someOutside, equalPair, leftBroken, breakingEdge, breakingCorner, shapeRows, InRange, Valid}
 use Rattle.plane.specs.Judge.{judged}
-use Rattle.plane.specs.Direction.{value, support, max}
+use Rattle.plane.specs.Direction.{value, support, max, furthest}
 use Rattle.plane.specs.Corner.{Corner, shapeOf, sums, mirrored}
-use Rattle.plane.specs.Forms.{Ordered, Sorted, edges}
+use Rattle.plane.specs.Forms.{Ordered, Sorted, NonZero, edges}
 use Rattle.plane.specs.Output.{overwritten, written}
+use Rattle.plane.specs.Face.{faceFirst, faceLast}
 use Rattle.plane.specs.Question.{Question, reply, table}
-use Rattle.plane.specs.theory.lists.Members.{_∈_, _⊆_}
+use Rattle.plane.specs.theory.lists.Members.{_∈_, _⊆_, position-member}
 use Rattle.plane.specs.theory.refusals.Rows.{NoneApply, First, firstRow-none, firstRow-answered}
 use Rattle.plane.specs.theory.lists.Flat.{points-near}
 use Rattle.plane.specs.theory.refusals.Tests.{equalPair-equal, break-found, break-first-edge, break-first-corner}
@@ -32,13 +36,15 @@ use Rattle.plane.specs.theory.refusals.Accept.{accepted→valid, valid�
 use Rattle.plane.specs.theory.refusals.Write.{refused-output, answered-output}
 use Rattle.plane.specs.theory.refusals.Tables.{table-given, table-refused, table-none, table-answered}
 use Rattle.plane.specs.theory.forms.Standard.{shape→sorted, sorted→ordered, ordered→shape}
-use Rattle.plane.specs.theory.support.Support.{support-append, support-sums, support-mirrored}
+use Rattle.plane.specs.theory.support.Support.{value-le-support, support-append, support-sums, support-mirrored}
 use Rattle.plane.specs.theory.hull.ShapeOf.{shapeOf-support, shapeOf-shape, shapeOf-corner, corner-shapeOf, shapeOf-unique}
 use Rattle.plane.specs.theory.hull.ShapeOf.{shapeOf-same, shape-extensional, shape-known, shape-own}
 use Rattle.plane.specs.theory.support.Bounds.{turn-size, value-size, support-size}
 use Rattle.plane.specs.theory.sum.Cut.{cutSum, cut-formula}
 use Rattle.plane.specs.VectorSum.{vectorSum}
 use Rattle.plane.specs.theory.sum.EdgeSum.{vectorSum-shape}
+use Rattle.plane.specs.theory.face.FirstFurthest.{furthest-greatest}
+use Rattle.plane.specs.theory.face.Face.{Face, face-is, face-unique, face-left, segment-face}
 use Rattle.plane.specs.theory.mirror.Mirror.{mirror-count}
 use Rattle.plane.specs.theory.mirror.MirrorWritten.{mirror-few, mirror-near}
 
@@ -208,6 +214,46 @@ shapes-with-equal-reach A B s t same = shape-extensional A B s t same
 pub shape-with-reach-of-set : (ps S : List Point) → IsShape ps → 0 < length S → ((d : Point) → support d ps ≡ support d S)
     → ps ≡ shapeOf S
 shape-with-reach-of-set ps S s some same = shape-known ps S s some same
+
+-- ---- faces (document 02, request W8)
+
+-- "the corner with the greatest u·x + v·y": no corner has a greater one than the value that is answered
+pub none-is-further : (d : Point) (ps : List Point) (i : ℕ) → i < length ps → value d (corner ps i) ≤ℤ support d ps
+none-is-further d ps i h = value-le-support d (position-member ps i h)
+
+-- of corners with the greatest value `furthest` is the smallest position
+pub earlier-is-less-far : (d : Point) (ps : List Point) → 0 < length ps → (i : ℕ) → i < furthest d ps
+    → value d (corner ps i) <ℤ support d ps
+earlier-is-less-far d ps some i h = furthest-greatest d ps some .earliest i h
+
+module _ (d : Point) (ps : List Point) (s : IsShape ps) (some : NonZero d) where
+  -- "the first and the last of the tied corners": both have the greatest value
+  pub first-is-furthest : (faceFirst d ps < length ps) × (value d (corner ps (faceFirst d ps)) ≡ support d ps)
+  first-is-furthest = let f = face-is s some .first-furthest in (f .within, f .has)
+
+  pub last-is-furthest : (faceLast d ps < length ps) × (value d (corner ps (faceLast d ps)) ≡ support d ps)
+  last-is-furthest = let f = face-is s some .last-furthest in (f .within, f .has)
+
+  -- and no other corner has it
+  pub no-other-is-furthest : (i : ℕ) → i < length ps → value d (corner ps i) ≡ support d ps → (i ≡ faceFirst d ps) ⊎ (i ≡ faceLast d ps)
+  no-other-is-furthest i h e = face-is s some .no-other i (record { within = h; has = e })
+
+  -- "counterclockwise, equal if there is one": the last is the first, or follows it on the way round, over the end of the list as well
+  pub face-is-corner-or-edge : (faceLast d ps ≡ faceFirst d ps) ⊎ (faceLast d ps ≡ next (length ps) (faceFirst d ps))
+  face-is-corner-or-edge = face-is s some .neighbours
+
+  -- so that all other corners are left of the step from the first to the last
+  pub others-are-left-of-face : (faceLast d ps ≡ faceFirst d ps → ⊥) → (i : ℕ) → i < length ps → (i ≡ faceFirst d ps → ⊥)
+      → (i ≡ faceLast d ps → ⊥) → Left (corner ps (faceFirst d ps)) (corner ps (faceLast d ps)) (corner ps i)
+  others-are-left-of-face two i h p q = face-left s some (face-is s some) two i h p q
+
+  -- "A segment lying across the direction, whichever of the two ways that points, gives 0 and 1"
+  pub segment-across : length ps ≡ 2 → value d (corner ps 0) ≡ value d (corner ps 1) → (faceFirst d ps ≡ 0) × (faceLast d ps ≡ 1)
+  segment-across two level = segment-face s some two level
+
+  -- "this is the one exception": these promises, for a segment that the first is not behind the last, leave no choice
+  pub face-is-only-one : (i j : ℕ) → Face d ps i j → (i ≡ faceFirst d ps) × (j ≡ faceLast d ps)
+  face-is-only-one i j f = face-unique s some (face-is s some) f
 
 -- ---- mirror
 

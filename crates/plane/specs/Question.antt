@@ -15,7 +15,7 @@ use Rattle.plane.specs.Refusal.{shapeRows}
 use Rattle.plane.specs.Judge.{judged}
 use Rattle.plane.specs.Corner.{shapeOf, sums, mirrored}
 use Rattle.plane.specs.Output.{answerRows}
-use Rattle.plane.specs.Furthest.{badDirection, furthestReply}
+use Rattle.plane.specs.Furthest.{directionRows, furthestReply}
 use Rattle.plane.specs.Combine.{mirrorWritten, sumWritten, mergeWritten}
 use Rattle.plane.specs.Measure.{lengthReply, widthReply}
 use Rattle.plane.specs.Separation.{apart, relationReply, insideReply}
@@ -51,7 +51,7 @@ reply (Tangents a b) = tangentsReply a b
 
 abbrev pub table : Question → List Row
 table (Judge l) = shapeRows 1 l
-table (Furthest l d) = shapeRows 1 l ++ (row 11 (badDirection d) [] ∷ [])
+table (Furthest l d) = shapeRows 1 l ++ directionRows d
 table (Mirror l out) = shapeRows 1 l ++ answerRows (shapeOf (mirrored (points l))) out
 table (Sum a b out) = shapeRows 1 a ++ (shapeRows 2 b ++ answerRows (shapeOf (sums (points a) (points b))) out)
 table (Merge a b out) = shapeRows 1 a ++ (shapeRows 2 b ++ answerRows (shapeOf (points a ++ points b)) out)

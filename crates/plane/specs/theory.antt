@@ -5,6 +5,7 @@
 --     support      how far a list reaches, and that a shape is known by it
 --     hull         the hull scan, and the shape of a set
 --     sum          paths along edges, the cut, the sum of sorted edges
+--     face         the furthest corners of a shape in a direction
 --     mirror       the mirror image
 pub mod lists
 pub mod forms
@@ -12,4 +13,5 @@ pub mod refusals
 pub mod support
 pub mod hull
 pub mod sum
+pub mod face
 pub mod mirror

@@ -1,8 +1,6 @@
--- The code's points and what the functions of this crate promise, beside the plane's definitions; what the furthest corner means; then the
--- theory behind it.
+-- The code's points and what the functions of this crate promise, beside the plane's definitions; then the theory behind it.
 pub mod Point
 pub mod Broken
 pub mod Front
 pub mod Peak
-pub mod Meaning
 pub mod theory

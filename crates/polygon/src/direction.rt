@@ -1,15 +1,17 @@
-// Inner functions on directions (u, v): refusal 11, and the greatest value over the corners of a list.
+// Inner functions on directions: refusal 11, and the corners of a shape that have the greatest value.
 ghost use mathlib.Core.Bool.{_&&_};
 ghost use mathlib.Core.Path.{_≡_};
 ghost use Prim.Native.Nat.{_^_, _<_};
 ghost use lib.Dec.{eqb};
 ghost use lib.IntN.{natAbs};
 ghost use lib.ListN.{length};
-ghost use Rattle.integer.specs.Bound.{Within};
-ghost use Rattle.plane.specs.Limits.{maxPart};
+ghost use lib.Signed.{leZ};
 ghost use Rattle.plane.specs.Point.{point, points, corner};
+ghost use Rattle.plane.specs.Shape.{IsShape};
+ghost use Rattle.plane.specs.Forms.{NonZero};
 ghost use Rattle.plane.specs.Refusal.{InRange};
 ghost use Rattle.plane.specs.Direction.{value, support, furthest};
+ghost use Rattle.plane.specs.Face.{faceFirst, faceLast};
 ghost use Rattle.plane.specs.Furthest.{badDirection};
 ghost use Rattle.polygon.specs.Point.{at, Small};
 use crate::corners;
@@ -38,21 +40,66 @@ fn zero(u: i32, v: i32) -> bool
     u == 0 && v == 0
 }
 
-// A position, and the value there.
-pub struct Reach {
-    pub position: usize,
+// The first and the last of the corners with the greatest value, counterclockwise, and that value.
+pub struct Face {
+    pub first: usize,
+    pub last: usize,
     pub value: i64,
 }
 
-// The greatest value, at its smallest position.
-// Ruled out: last position on a tie.
-pub fn greatest(list: &[i32], u: i32, v: i32) -> Reach
-    requires { ⌜ (0 < length (points (now list))) × InRange (now list)
-        × Within maxPart u × Within maxPart v ⌝ }
-    ensures { λ r. ⌜ r .position ≡ furthest (point u v) (points (now (list .entry))) ⌝ }
-    ensures { λ r. ⌜ r .value ≡ support (point u v) (points (now (list .entry))) ⌝ }
+// The face of a shape in a direction other than (0, 0). Over the end of the list it begins with the last corner; of a
+// segment across the direction it is always 0 and 1.
+// Ruled out: first and last exchanged; segment taken over the end; smallest position over the end.
+pub fn face_towards(list: &[i32], d: Point) -> Face
+    requires { ⌜ InRange (now list) × IsShape (points (now list)) × Small (2 ^ 22) (at d) × NonZero (at d) ⌝ }
+    ensures { λ r. ⌜ r .first ≡ faceFirst (at d) (points (now (list .entry))) ⌝ }
+    ensures { λ r. ⌜ r .last ≡ faceLast (at d) (points (now (list .entry))) ⌝ }
+    ensures { λ r. ⌜ r .value ≡ support (at d) (points (now (list .entry))) ⌝ }
 {
-    let d = Point { x: u, y: v };
+    let here = first_furthest(list, d);
+    let value = value_at(list, here, d);
+    let n = corners::count(list);
+    let end = n - 1;
+    let next = here + 1;
+    if here == 0 && 2 < n {
+        if reaches(list, end, d, value) {
+            return Face {
+                first: end,
+                last: here,
+                value,
+            };
+        }
+    }
+    if next < n {
+        if reaches(list, next, d, value) {
+            return Face {
+                first: here,
+                last: next,
+                value,
+            };
+        }
+    }
+    Face {
+        first: here,
+        last: here,
+        value,
+    }
+}
+
+// Whether a corner has at least a value.
+fn reaches(list: &[i32], i: usize, d: Point, least: i64) -> bool
+    requires { ⌜ (i < length (points (now list))) × InRange (now list) × Small (2 ^ 22) (at d) ⌝ }
+    ensures { λ r. ⌜ r ≡ leZ least (value (at d) (corner (points (now (list .entry))) i)) ⌝ }
+{
+    least <= value_at(list, i, d)
+}
+
+// The smallest position of the greatest value.
+// Ruled out: last position on a tie.
+fn first_furthest(list: &[i32], d: Point) -> usize
+    requires { ⌜ (0 < length (points (now list))) × InRange (now list) × Small (2 ^ 22) (at d) ⌝ }
+    ensures { λ r. ⌜ r ≡ furthest (at d) (points (now (list .entry))) ⌝ }
+{
     let n = corners::count(list);
     let mut position = 0;
     let mut value = value_at(list, 0, d);
@@ -65,12 +112,12 @@ pub fn greatest(list: &[i32], u: i32, v: i32) -> Reach
         }
         i += 1;
     }
-    Reach { position, value }
+    position
 }
 
 // The value of corner i in a direction.
 fn value_at(list: &[i32], i: usize, d: Point) -> i64
-    requires { ⌜ (i < length (points (now list))) × InRange (now list) × Small (2 ^ 21) (at d) ⌝ }
+    requires { ⌜ (i < length (points (now list))) × InRange (now list) × Small (2 ^ 22) (at d) ⌝ }
     ensures { λ r. ⌜ r ≡ value (at d) (corner (points (now (list .entry))) i) ⌝ }
 {
     point::dot(d, corners::corner_at(list, i))

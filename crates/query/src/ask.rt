@@ -100,15 +100,15 @@ fn judge(out: &mut [u8], filled: usize, list: &[i32]) -> usize {
     }
 }
 
-// The position and the value of the furthest corner in a direction.
+// The first and the last of the furthest corners in a direction, and their value.
 fn furthest(out: &mut [u8], filled: usize, list: &[i32], direction: &[i32]) -> usize {
     match questions::furthest(
         list,
         fields::number(direction, 0),
         fields::number(direction, 1),
     ) {
-        Furthest::At { position, value } => {
-            let now = answers::ok(out, filled, &[position as u64]);
+        Furthest::At { first, last, value } => {
+            let now = answers::ok(out, filled, &[first as u64, last as u64]);
             answers::number(out, now, value)
         }
         Furthest::No(refusal) => replies::refuse(out, filled, refusal),

@@ -71,7 +71,7 @@ ofPart (Part.Corners n w) = answered (pos n ∷ walkNumbers (stateOf w))
 ofPart (Part.No r) = ofRefusal r
 
 abbrev pub ofFurthest : Furthest → Reply
-ofFurthest (Furthest.At position value) = answered (pos position ∷ value ∷ [])
+ofFurthest (Furthest.At first last value) = answered (pos first ∷ pos last ∷ value ∷ [])
 ofFurthest (Furthest.No r) = ofRefusal r
 
 abbrev pub ofLength : Length → Reply

@@ -81,9 +81,13 @@ pub enum Part {
     No(Refusal),
 }
 
-// The position of the furthest corner, and its value.
+// The first and the last of the furthest corners, counterclockwise, and their value.
 pub enum Furthest {
-    At { position: usize, value: i64 },
+    At {
+        first: usize,
+        last: usize,
+        value: i64,
+    },
     No(Refusal),
 }
 

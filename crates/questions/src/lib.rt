@@ -51,6 +51,7 @@ use polygon::direction;
 use polygon::limits;
 pub use polygon::limits::SHAPE_NUMBERS;
 use polygon::opposite;
+use polygon::point::Point;
 use separation::place::Place;
 pub use tablet::reading::Reading;
 
@@ -68,10 +69,12 @@ pub fn judge(list: &[i32]) -> Answer
     Answer::Corners(corners::count(list))
 }
 
-// The corner that is furthest in the direction (u, v): the smallest position of the greatest u·x + v·y, and that value.
-// The one corner of a point is furthest in every direction, and of a segment that lies across the direction the first.
-// Refused: 1 to 5, then the direction (0, 0) and one with a part out of range.
-// Ruled out: last position on a tie; upright direction refused.
+// The corners that are furthest in the direction (u, v): the first and the last, counterclockwise, of those with the
+// greatest u·x + v·y, and that value. They are one or two neighbours: where one corner is furthest alone, as that of a
+// point always is, it is given twice; the last and the first of the list are given in this order; of a segment that
+// lies across the direction 0 and 1. Refused: 1 to 5, then the direction (0, 0) and one with a part out of range.
+// Ruled out: first and last exchanged; segment taken over the end; smallest position over the end; last position on a
+// tie; upright direction refused.
 pub fn furthest(list: &[i32], u: i32, v: i32) -> Furthest
     ensures { λ r. ⌜ ofFurthest r ≡ furthestReply (now (list .entry)) (point u v) ⌝ }
 {
@@ -81,10 +84,11 @@ pub fn furthest(list: &[i32], u: i32, v: i32) -> Furthest
     if direction::bad_direction(u, v) {
         return Furthest::No(Refusal::Direction);
     }
-    let reach = direction::greatest(list, u, v);
+    let face = direction::face_towards(list, Point { x: u, y: v });
     Furthest::At {
-        position: reach.position,
-        value: reach.value,
+        first: face.first,
+        last: face.last,
+        value: face.value,
     }
 }
 

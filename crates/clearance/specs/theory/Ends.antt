@@ -1,6 +1,5 @@
 -- The first candidate that is reached, by the ends of the two faces.
 --     End f i                   i is the first or the last position of the face
---     face-ends                 a face has no corner but its ends: three corners of a shape are not in line
 --     Tried test f g r          r is the first pair of ends that passes, or none does; `tried-is`: what the code picks
 --     corners-first, second-first, first-first     the nearest candidate, where such a pair is reached and none of an earlier kind
 --     some-reached              one is reached
@@ -11,23 +10,19 @@ use mathlib.Core.Logic.{_⊎_, inl, inr}
 use mathlib.Core.List.{List, [], _∷_}
 use Prim.Native.Nat.{ℕ, _≤_, _<_}
 use native.Mathlib.Omega.{arith}
-use borrow.Author.Tests.{eq-eqb, eqb-true, eqb-false}
+use borrow.Author.Tests.{eq-eqb, eqb-true}
 use lib.Dec.{eqb}
-use lib.IntN.{ℤ, pos, _-ℤ_, _*ℤ_}
+use lib.IntN.{ℤ, pos}
 use lib.ListN.{length}
-use lib.Signed.{_<ℤ_, leZ, <ℤ-irrefl}
+use lib.Signed.{leZ, <ℤ-irrefl}
 use Rattle.integer.specs.Ring.{ring, reify}
-use Rattle.integer.specs.Linear.{linear, lia, _&_}
-use Rattle.integer.specs.Order.{le-antisym, leZ-true, _≡×_}
+use Rattle.integer.specs.Order.{le-antisym, leZ-true}
 use Rattle.plane.specs.Point.{Point, origin, corner, opposite}
-use Rattle.plane.specs.Turn.{turn}
 use Rattle.plane.specs.Shape.{next, IsShape}
 use Rattle.plane.specs.Direction.{value}
-use Rattle.plane.specs.Forms.{NonZero, Triples, Ordered}
+use Rattle.plane.specs.Forms.{NonZero}
 use Rattle.plane.specs.Clearance.{Candidate, corners, onSecond, onFirst, nearest}
 use Rattle.plane.specs.theory.lists.Members.{point-path, position-member}
-use Rattle.plane.specs.theory.forms.Standard.{triples-at, shape→ordered}
-use Rattle.separation.specs.theory.Sector.{zero-factor}
 use Rattle.clearance.specs.Order.{Sooner, Earlier}
 use Rattle.clearance.specs.Facing.{Lowest, Foot, Across, Reached, Facing}
 use Rattle.clearance.specs.Faces.{IsFace, isEnd, isAlong, isFoot, pickedOf, tried}
@@ -40,48 +35,6 @@ use Rattle.clearance.specs.declared.reach.Spot.the-variants.{At, Nowhere
 
 abbrev pub End : Face → ℕ → Type 0
 End f i = (i ≡ f .first) ⊎ (i ≡ f .last)
-
--- three corners of one value are in line, unless the direction is (0,0)
-across-x : (n a b c : Point) → n .x *ℤ turn a b c
-    ≡ (value n b -ℤ value n a) *ℤ (c .y -ℤ a .y) -ℤ (value n c -ℤ value n a) *ℤ (b .y -ℤ a .y)
-unfolding value turn
-across-x n a b c = ring (n .x ∷ n .y ∷ a .x ∷ a .y ∷ b .x ∷ b .y ∷ c .x ∷ c .y ∷ []) (search reify depth 40) tt
-
-across-y : (n a b c : Point) → n .y *ℤ turn a b c
-    ≡ (value n c -ℤ value n a) *ℤ (b .x -ℤ a .x) -ℤ (value n b -ℤ value n a) *ℤ (c .x -ℤ a .x)
-unfolding value turn
-across-y n a b c = ring (n .x ∷ n .y ∷ a .x ∷ a .y ∷ b .x ∷ b .y ∷ c .x ∷ c .y ∷ []) (search reify depth 40) tt
-
-level-turn : (n a b c : Point) → NonZero n → value n b ≡ value n a → value n c ≡ value n a → pos 0 <ℤ turn a b c → ⊥
-level-turn n a b c some e f t =
-    let t' = turn a b c in
-    let u = value n a in
-    let x : t' *ℤ n .x ≡ pos 0 = lia (n .x ∷ t' ∷ value n b ∷ value n c ∷ u ∷ a .y ∷ b .y ∷ c .y ∷ [])
-    (across-x n a b c & e ≡× (c .y -ℤ a .y) & f ≡× (b .y -ℤ a .y)) (search linear depth 40) (omega arith) in
-    let y : t' *ℤ n .y ≡ pos 0 = lia (n .y ∷ t' ∷ value n b ∷ value n c ∷ u ∷ a .x ∷ b .x ∷ c .x ∷ [])
-    (across-y n a b c & f ≡× (b .x -ℤ a .x) & e ≡× (c .x -ℤ a .x)) (search linear depth 40) (omega arith) in
-    some .non-zero (point-path (zero-factor t x) (zero-factor t y))
-
-same-value : {n : Point} {ps : List Point} {i j : ℕ} → Lowest n ps i → Lowest n ps j → value n (corner ps j) ≡ value n (corner ps i)
-same-value {n} {ps} {i} {j} l m = le-antisym (m .lowest i (l .within)) (l .lowest j (m .within))
-
-ordered-triples : (ps : List Point) → Ordered ps → Triples ps
-ordered-triples [] o = absurd o
-ordered-triples (p ∷ ps) o = o .1
-
--- a corner between them would be in line with them
-pub face-ends : {n : Point} {ps : List Point} {f : Face} {i : ℕ} → IsShape ps → NonZero n → IsFace n ps f → Lowest n ps i → End f i
-face-ends {n} {ps} {f} {i} s some face l = go (eqb i (f .first)) refl (eqb i (f .last)) refl
-  where
-    go : (b : Bool) → eqb i (f .first) ≡ b → (c : Bool) → eqb i (f .last) ≡ c → End f i
-    go true e c q = inl (eqb-true i (f .first) e)
-    go false e true q = inr (eqb-true i (f .last) q)
-    go false e false q =
-        let low : f .first < i = omega (arith, eqb-false i (f .first) e, face .outside-none i l .0) in
-        let high : i < f .last = omega (arith, eqb-false i (f .last) q, face .outside-none i l .1) in
-        absurd (level-turn n (corner ps (f .first)) (corner ps i) (corner ps (f .last)) some (same-value (face .first-lowest) l)
-        (same-value (face .first-lowest) (face .last-lowest))
-        (triples-at ps (ordered-triples ps (shape→ordered ps s)) (f .first) i (f .last) low high (face .last-lowest .within)))
 
 pub end-lowest : {n : Point} {ps : List Point} {f : Face} {i : ℕ} → IsFace n ps f → End f i → Lowest n ps i
 end-lowest {n} {ps} face (inl e) = subst (Lowest n ps) (sym e) (face .first-lowest)
@@ -189,12 +142,11 @@ is-end g i (inr e) = go (eqb i (g .first))
     go false = eq-eqb i (g .last) e
 
 -- faces of qs and ps that are against each other
-module _ (n : Point) (qs ps : List Point) (s : IsShape qs) (t : IsShape ps) (some : NonZero n) (turned : NonZero (opposite n)) {f g : Face}
-    (F : IsFace n qs f) (G : IsFace (opposite n) ps g) where
+module _ (n : Point) (qs ps : List Point) {f g : Face} (F : IsFace n qs f) (G : IsFace (opposite n) ps g) where
   pub foot-test : {c e : ℕ} → Foot n qs ps c e → End f c × End g e × (isFoot g qs ps c e ≡ true)
   unfolding isFoot
   foot-test {c} {e} r =
-      (face-ends s some F (r .from), face-ends t turned G (r .start), rw (is-end g _ (face-ends t turned G (r .end)), r .inside) refl)
+      (F .no-other c (r .from), G .no-other e (r .start), rw (is-end g _ (G .no-other _ (r .end)), r .inside) refl)
 
   pub test-foot : {c e : ℕ} → End f c → End g e → isFoot g qs ps c e ≡ true → Foot n qs ps c e
   unfolding isFoot
@@ -204,20 +156,13 @@ module _ (n : Point) (qs ps : List Point) (s : IsShape qs) (t : IsShape ps) (som
 
   pub across-test : {i j : ℕ} → Across n qs ps i j → End f i × End g j × (isAlong n qs ps i j ≡ true)
   unfolding isAlong
-  across-test r = (face-ends s some F (r .one), face-ends t turned G (r .other), zero-along (r .along))
+  across-test {i} {j} r = (F .no-other i (r .one), G .no-other j (r .other), zero-along (r .along))
 
   pub test-across : {i j : ℕ} → End f i → End g j → isAlong n qs ps i j ≡ true → Across n qs ps i j
   unfolding isAlong
   test-across a b h = record { one = end-lowest F a; other = end-lowest G b; along = along-zero h }
 
 -- ---- the nearest candidate
-
-pub opposite-some : {n : Point} → NonZero n → NonZero (opposite n)
-opposite-some {n} some = record {
-  non-zero = λ e. some .non-zero (point-path
-      (lia (n .x ∷ []) (ap (λ (z : Point). z .x) e) (search linear depth 40) (omega arith))
-      (lia (n .y ∷ []) (ap (λ (z : Point). z .y) e) (search linear depth 40) (omega arith)));
-}
 
 pub opposite-twice : (n : Point) → opposite (opposite n) ≡ n
 opposite-twice n = point-path (ring (n .x ∷ []) (search reify depth 40) tt) (ring (n .y ∷ []) (search reify depth 40) tt)
@@ -233,18 +178,9 @@ facing-some {A} {B} {n} a b h = record {
 
 module _ (A B : List Point) (n : Point) (s : IsShape A) (t : IsShape B) (h : Facing A B n) {f g : Face} (F : IsFace n A f)
     (G : IsFace (opposite n) B g) where
-  some : NonZero n
-  some = facing-some (s .some) (t .some) h
-
-  turned : NonZero (opposite n)
-  turned = opposite-some some
-
   -- the other way round
   F' : IsFace (opposite (opposite n)) A f
   F' = subst (λ m. IsFace m A f) (sym (opposite-twice n)) F
-
-  turned-twice : NonZero (opposite (opposite n))
-  turned-twice = opposite-some turned
 
   abbrev Corners : Spot → Type 0
   Corners = Tried (isAlong n A B) f g
@@ -256,40 +192,40 @@ module _ (A B : List Point) (n : Point) (s : IsShape A) (t : IsShape B) (h : Fac
   OnFirst = Tried (isFoot f B A) g f
 
   no-corners : Corners Nowhere → (i j : ℕ) → Across n A B i j → ⊥
-  no-corners none i j r = let w = across-test n A B s t some turned F G r in none i j (w .0) (w .1) (w .2)
+  no-corners none i j r = let w = across-test n A B F G r in none i j (w .0) (w .1) (w .2)
 
   no-second : OnSecond Nowhere → (c e : ℕ) → Foot n A B c e → ⊥
-  no-second none c e r = let w = foot-test n A B s t some turned F G r in none c e (w .0) (w .1) (w .2)
+  no-second none c e r = let w = foot-test n A B F G r in none c e (w .0) (w .1) (w .2)
 
   no-first : OnFirst Nowhere → (c e : ℕ) → Foot (opposite n) B A c e → ⊥
-  no-first none c e r = let w = foot-test (opposite n) B A t s turned turned-twice G F' r in none c e (w .0) (w .1) (w .2)
+  no-first none c e r = let w = foot-test (opposite n) B A G F' r in none c e (w .0) (w .1) (w .2)
 
   pub corners-first : {i j : ℕ} → Corners (At i j) → nearest A B ≡ corners i j
   corners-first {i} {j} r = nearest-is A B (s .some) (t .some) n h (corners i j)
-      (test-across n A B s t some turned F G (r .one-end) (r .other-end) (r .passes)) none
+      (test-across n A B F G (r .one-end) (r .other-end) (r .passes)) none
     where
       none : (d : Candidate) → Reached A B n d → Earlier d (corners i j) → ⊥
-      none (corners k l) w e = let v = across-test n A B s t some turned F G w in r .none-sooner k l (v .0) (v .1) (v .2) e
+      none (corners k l) w e = let v = across-test n A B F G w in r .none-sooner k l (v .0) (v .1) (v .2) e
       none (onSecond k l) w e = e
       none (onFirst k l) w e = e
 
   pub second-first : Corners Nowhere → {c e : ℕ} → OnSecond (At c e) → nearest A B ≡ onSecond c e
   second-first off {c} {e} r = nearest-is A B (s .some) (t .some) n h (onSecond c e)
-      (test-foot n A B s t some turned F G (r .one-end) (r .other-end) (r .passes)) none
+      (test-foot n A B F G (r .one-end) (r .other-end) (r .passes)) none
     where
       none : (d : Candidate) → Reached A B n d → Earlier d (onSecond c e) → ⊥
       none (corners k l) w q = no-corners off k l w
-      none (onSecond k l) w q = let v = foot-test n A B s t some turned F G w in r .none-sooner k l (v .0) (v .1) (v .2) q
+      none (onSecond k l) w q = let v = foot-test n A B F G w in r .none-sooner k l (v .0) (v .1) (v .2) q
       none (onFirst k l) w q = q
 
   pub first-first : Corners Nowhere → OnSecond Nowhere → {c e : ℕ} → OnFirst (At c e) → nearest A B ≡ onFirst c e
   first-first off neither {c} {e} r = nearest-is A B (s .some) (t .some) n h (onFirst c e)
-      (test-foot (opposite n) B A t s turned turned-twice G F' (r .one-end) (r .other-end) (r .passes)) none
+      (test-foot (opposite n) B A G F' (r .one-end) (r .other-end) (r .passes)) none
     where
       none : (d : Candidate) → Reached A B n d → Earlier d (onFirst c e) → ⊥
       none (corners k l) w q = no-corners off k l w
       none (onSecond k l) w q = no-second neither k l w
-      none (onFirst k l) w q = let v = foot-test (opposite n) B A t s turned turned-twice G F' w in r .none-sooner k l (v .0) (v .1) (v .2) q
+      none (onFirst k l) w q = let v = foot-test (opposite n) B A G F' w in r .none-sooner k l (v .0) (v .1) (v .2) q
 
   pub some-reached : Corners Nowhere → OnSecond Nowhere → OnFirst Nowhere → ⊥
   some-reached off neither nor = go (h .some) (h .reached)

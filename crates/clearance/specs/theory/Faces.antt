@@ -1,5 +1,4 @@
 -- The faces of two shapes in a direction n, and the candidate that two differences in them give.
---     adjacent          two corners of a shape that are lowest are neighbours
 --     falls-between     a corner between the ends of an edge, along it, falls strictly inside, whichever way the edge goes
 --     Level A B n       differences of which one is short of the foot and one past it, all four corners in the faces
 --     level-reached     then some candidate is reached
@@ -8,86 +7,26 @@ use mathlib.Core.Bool.{true}
 use mathlib.Core.Logic.{_⊎_, inl, inr}
 use mathlib.Core.List.{List, [], _∷_}
 use Prim.Native.Nat.{ℕ, _<_}
-use native.Mathlib.Decide.{ℕ-discrete}
 use native.Mathlib.Omega.{arith}
-use lib.IntN.{pos, negℤ, _-ℤ_, _*ℤ_}
+use lib.IntN.{pos, negℤ}
 use lib.ListN.{length}
 use lib.Signed.{_≤ℤ_, _<ℤ_}
 use Rattle.integer.specs.Ring.{ring, reify}
 use Rattle.integer.specs.Linear.{linear, lia, _&_}
-use Rattle.integer.specs.Order.{_<×<_, _<×≤_, _≤×≤_, _≡×_, Compared, is-below, is-equal, is-above, compared, contra<}
-use Rattle.integer.specs.Order.{lt-or-le, lt-ltZ, le-antisym}
+use Rattle.integer.specs.Order.{_<×<_, _<×≤_, _≡×_, Compared, is-below, is-equal, is-above, compared, contra<}
+use Rattle.integer.specs.Order.{lt-ltZ}
 use Rattle.plane.specs.Point.{Point, corner, opposite, _⊖_}
-use Rattle.plane.specs.Turn.{turn, cross, turn-cycle, turn-swap}
+use Rattle.plane.specs.Turn.{cross}
 use Rattle.plane.specs.Shape.{next, IsShape}
 use Rattle.plane.specs.Direction.{value}
 use Rattle.plane.specs.Measure.{squared}
 use Rattle.plane.specs.Clearance.{falls, fallsOn, Candidate, corners, onSecond, onFirst}
-use Rattle.plane.specs.theory.lists.Next.{next-below}
 use Rattle.plane.specs.theory.forms.Vector.{quarter, value-turned}
 use Rattle.clearance.specs.Facing.{Lowest, Reached}
 use Rattle.clearance.specs.theory.Bound.{squared-back, value-⊖}
 use Rattle.clearance.specs.theory.First.{lowest-twice, turned-square}
 use Rattle.clearance.specs.theory.Along.{by-edge}
-
--- ---- two lowest corners are neighbours
-
-across-level : (n a b x : Point) → turn a b x *ℤ value n n
-    ≡ (value n x -ℤ value n a) *ℤ cross (b ⊖ a) n -ℤ (value n b -ℤ value n a) *ℤ cross (x ⊖ a) n
-unfolding turn value cross
-across-level n a b x = ring (n .x ∷ n .y ∷ a .x ∷ a .y ∷ b .x ∷ b .y ∷ x .x ∷ x .y ∷ []) (search reify depth 40) tt
-
-module _ (ps : List Point) (s : IsShape ps) (n : Point) (some : pos 0 <ℤ value n n) (i j : ℕ) (l : Lowest n ps i) (m : Lowest n ps j)
-    (other : i ≡ j → ⊥) where
-  abbrev a : Point
-  a = corner ps i
-
-  abbrev b : Point
-  b = corner ps j
-
-  level : value n b ≡ value n a
-  level = le-antisym (m .lowest i (l .within)) (l .lowest j (m .within))
-
-  -- both neighbours are on one side of the line from a to b
-  side : (k : ℕ) → k < length ps → turn a b (corner ps k) *ℤ value n n ≡ (value n (corner ps k) -ℤ value n a) *ℤ cross (b ⊖ a) n
-  side k h = lia (turn a b (corner ps k) ∷ value n n ∷ value n (corner ps k) ∷ value n a ∷ value n b ∷ cross (b ⊖ a) n
-      ∷ cross (corner ps k ⊖ a) n ∷ []) (across-level n a b (corner ps k) & level ≡× cross (corner ps k ⊖ a) n) (search linear depth 40)
-      (omega arith)
-
-  pub adjacent : (next (length ps) i ≡ j) ⊎ (next (length ps) j ≡ i)
-  adjacent = go (ℕ-discrete (next (length ps) i) j) (ℕ-discrete (next (length ps) j) i)
-    where
-      p : ℕ
-      p = next (length ps) i
-
-      q : ℕ
-      q = next (length ps) j
-
-      p-in : p < length ps
-      p-in = next-below (length ps) i (l .within)
-
-      q-in : q < length ps
-      q-in = next-below (length ps) j (m .within)
-
-      go : Dec (p ≡ j) → Dec (q ≡ i) → (p ≡ j) ⊎ (q ≡ i)
-      go (yes e) f = inl e
-      go (no e) (yes f) = inr f
-      go (no e) (no f) = absurd (clash (lt-or-le (pos 0) (cross (b ⊖ a) n)))
-        where
-          right : turn a b (corner ps p) <ℤ pos 0
-          right =
-              let t = s .left i j (l .within) (m .within) (λ r. other (sym r)) (λ r. e (sym r)) in
-              lia (turn a b (corner ps p) ∷ turn a (corner ps p) b ∷ turn b a (corner ps p) ∷ [])
-              (t & turn-cycle b a (corner ps p) & turn-swap a b (corner ps p)) (search linear depth 40) (omega arith)
-
-          left : pos 0 <ℤ turn a b (corner ps q)
-          left = rw (turn-cycle a b (corner ps q)) (s .left j i (m .within) (l .within) other (λ r. f (sym r)))
-
-          clash : (pos 0 <ℤ cross (b ⊖ a) n) ⊎ (cross (b ⊖ a) n ≤ℤ pos 0) → ⊥
-          clash (inl g) = lia (turn a b (corner ps p) ∷ value n n ∷ value n (corner ps p) ∷ value n a ∷ cross (b ⊖ a) n ∷ [])
-              (side p p-in & some <×< right & g <×≤ l .lowest p p-in) (search linear depth 40) (omega arith)
-          clash (inr g) = lia (turn a b (corner ps q) ∷ value n n ∷ value n (corner ps q) ∷ value n a ∷ cross (b ⊖ a) n ∷ [])
-              (side q q-in & some <×< left & g ≤×≤ l .lowest q q-in) (search linear depth 40) (omega arith)
+use Rattle.clearance.specs.theory.Lowest.{turned-back, lowest-neighbours}
 
 -- ---- a point over an edge
 
@@ -132,7 +71,7 @@ reversed e p q = ring (e .x ∷ e .y ∷ p .x ∷ p .y ∷ q .x ∷ q .y ∷ [])
 edge-under : (ps : List Point) → IsShape ps → (m e c : Point) → pos 0 <ℤ value m m → pos 0 <ℤ value e e → (i j : ℕ)
     → Lowest m ps i → Lowest m ps j → cross e (corner ps j ⊖ corner ps i) ≡ pos 0
     → value e (corner ps i) <ℤ value e c → value e c <ℤ value e (corner ps j) → Under m ps c
-edge-under ps s m e c some long i j l k flat after before = go (adjacent ps s m some i j l k different)
+edge-under ps s m e c some long i j l k flat after before = go (lowest-neighbours s some i j l k different)
   where
     different : i ≡ j → ⊥
     different r =
@@ -149,15 +88,15 @@ edge-under ps s m e c some long i j l k flat after before = go (adjacent ps s m 
         level : cross (opposite e) (corner ps i ⊖ corner ps j) ≡ pos 0
         level = reversed e (corner ps i) (corner ps j) ∙ flat
 
-    go : (next (length ps) i ≡ j) ⊎ (next (length ps) j ≡ i) → Under m ps c
+    go : (j ≡ next (length ps) i) ⊎ (i ≡ next (length ps) j) → Under m ps c
     go (inl r) = record {
       edge = i;
       start = l;
-      end = rw r k;
-      inside = rw r
+      end = rw (← r) k;
+      inside = rw (← r)
           (falls-between e (corner ps i) (corner ps j) c long flat after before);
     }
-    go (inr r) = record { edge = j; start = k; end = rw r l; inside = rw r back }
+    go (inr r) = record { edge = j; start = k; end = rw (← r) l; inside = rw (← r) back }
 
 -- ---- two differences in the faces against n, which is e turned left by a quarter: one short of the foot and one past it
 
@@ -200,12 +139,8 @@ module _ (A B : List Point) (e : Point) (s : IsShape A) (t : IsShape B) (r : Lev
   flat-low i j l k = flat (corner A i) (corner A j) (l .lowest j (k .within)) (k .lowest i (l .within))
 
   flat-high : (i j : ℕ) → Lowest (opposite n) B i → Lowest (opposite n) B j → cross e (corner B j ⊖ corner B i) ≡ pos 0
-  flat-high i j l k = flat (corner B i) (corner B j) (back j i (k .lowest i (l .within))) (back i j (l .lowest j (k .within)))
-    where
-      back : (i j : ℕ) → value (opposite n) (corner B i) ≤ℤ value (opposite n) (corner B j) → value n (corner B j) ≤ℤ value n (corner B i)
-      back i j h = lia (value n (corner B i) ∷ value n (corner B j) ∷ value (opposite n) (corner B i) ∷ value (opposite n) (corner B j)
-          ∷ [])
-          (h & value-turned n (corner B i) & value-turned n (corner B j)) (search linear depth 40) (omega arith)
+  flat-high i j l k = flat (corner B i) (corner B j) (turned-back n (corner B i) (corner B j) (k .lowest i (l .within)))
+      (turned-back n (corner B j) (corner B i) (l .lowest j (k .within)))
 
   pub level-reached : (c : Candidate) × Reached A B n c
   level-reached = go (compared (value e (corner A (r .low-short))) (value e (corner B (r .high-past))))

@@ -7,8 +7,7 @@ use Rattle.plane.specs.Point.{Point, point}
 use Rattle.plane.specs.Reply.{Reply}
 use Rattle.plane.specs.Furthest.{furthestReply}
 use Rattle.questions.specs.Answer.{ofFurthest}
-use Rattle.exports.specs.Crossing.{crossedBehind}
-use Rattle.exports.proofs.Refused.{refusal-crosses}
+use Rattle.exports.specs.Crossing.{crossed}
 use Rattle.exports.proofs.Small.{furthest-kept}
 use borrow.Author.Needs.{needs}
 use Rattle.exports.proofs.cocklesway_furthest.Statement.{statement}
@@ -24,8 +23,8 @@ reply-is c =
 furthest-requires : tie.Need-furthest-requires
 furthest-requires c κs = search needs
 
-enum-known-position : tie.Need-enum-known-position
-enum-known-position c = search needs
+enum-known-first : tie.Need-enum-known-first
+enum-known-first c = search needs
 
 enum-known-refusal : tie.Need-enum-known-refusal
 enum-known-refusal c = search needs
@@ -35,18 +34,19 @@ signed-refusal-requires c κs = search needs
 
 returns : tie.Need-returns
 returns c =
-    let at = c .before .position .given in
+    let at = c .before .first .given in
     let p = at .0 .0 in
+    let q = at .0 .1 .0 in
     let h = ap ofFurthest (sym (at .1)) ∙ reply-is (c .before .before .before) in
-    ap (λ (z : ℤ). pos 0 ∷ pos 0 ∷ pos p ∷ pos 0 ∷ z ∷ []) (furthest-kept _ _ p _ h) ∙ ap (λ (x : Reply). crossedBehind 1 x) h
+    ap (λ (z : ℤ). pos 0 ∷ pos 0 ∷ pos p ∷ pos q ∷ z ∷ []) (furthest-kept _ _ p q _ h) ∙ ap (λ (x : Reply). crossed 3 x) h
 
 returns-2 : tie.Need-returns-2
 returns-2 c =
     let at = c .before .before .refusal .given in
-    c .signed-refusal .ensures ∙ sym (refusal-crosses 1 0 (at .0 .0) .0)
-    ∙ ap (λ (x : Reply). crossedBehind 1 x) (ap ofFurthest (sym (at .1)) ∙ reply-is (c .before .before .before .before))
+    c .signed-refusal .ensures
+    ∙ ap (λ (x : Reply). crossed 3 x) (ap ofFurthest (sym (at .1)) ∙ reply-is (c .before .before .before .before))
 
 pub cocklesway-furthest-spec : {M : Type 1} → statement M
 cocklesway-furthest-spec =
     tie.close
-    (tie.spec furthest-requires enum-known-position enum-known-refusal signed-refusal-requires returns returns-2)
+    (tie.spec furthest-requires enum-known-first enum-known-refusal signed-refusal-requires returns returns-2)

@@ -27,9 +27,9 @@ use Rattle.plane.specs.theory.forms.HalfPlane.{up-opposite}
 use Rattle.plane.specs.theory.forms.Angle.{before-alike}
 use Rattle.plane.specs.theory.forms.SameWay.{SameWay, neither-same}
 use Rattle.plane.specs.theory.sum.Positions.{edgeOf, edge-at, edges-some, in-order-non-zero}
+use Rattle.plane.specs.theory.face.Tied.{opposite-non-zero, quarter-non-zero, Tied, after, behind, tied}
 use Rattle.measure.specs.Comparison.{Facing}
 use Rattle.measure.specs.Half.{Chains, Antipodal, HalfStep, right, left}
-use Rattle.measure.specs.theory.Tied.{opposite-non-zero, Tied, after, behind, tied}
 use Rattle.plane.specs.theory.sum.Positions.{shape-in-order}
 use Rattle.measure.specs.theory.CutCorner.{Cut, cut-furthest, cut-next}
 use Rattle.measure.specs.theory.Chains.{chains-in, up-right, up-left, chain-turns, cross-facing, back-below, late-cross}
@@ -143,7 +143,7 @@ module _ {A : List Point} (s : IsShape A) (wide : 1 < length A) {e c : ℕ} (e-i
 
   -- an earlier corner that has it too is the one before, or the first
   beside : (k : ℕ) → k < c → edgeTurn A e k ≡ height A e → (k + 1 ≡ c) ⊎ (k ≡ 0)
-  beside k l also = go (tied A s (quarter (edgeOf A e)) c k (opposite-non-zero edge-non-zero) c-in (omega arith) (λ q. omega arith)
+  beside k l also = go (tied A s (quarter (edgeOf A e)) c k (quarter-non-zero edge-non-zero) c-in (omega arith) (λ q. omega arith)
       (height-furthest A e (s .some) c has) (height-furthest A e (s .some) k also))
     where
       go : Tied A (quarter (edgeOf A e)) c k → (k + 1 ≡ c) ⊎ (k ≡ 0)

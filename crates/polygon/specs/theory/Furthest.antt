@@ -1,10 +1,8 @@
--- The invariant of a walk that keeps the greatest value so far and its smallest position, and what it has found at the end.
---     Greatest f i at z      of f's values below i, z is the greatest, and `at` the smallest position that has it
+-- A walk that keeps the greatest value so far and its smallest position (`Greatest`), and what it has found at the end.
 --     greatest-start, greatest-keep, greatest-rise      the moves of the walk
---     greatest-support, greatest-furthest               past the last corner: the support value, and the position of the furthest corner
---     furthest-greatest      the furthest corner of a list, as it is defined, is what the walk finds
---     direction-near         a direction that refusal 11 lets pass has its parts in range
---     furthest-refused, furthest-answered       what is answered of a valid list
+--     greatest-furthest                                 past the last corner: the position of the furthest corner
+--     direction-near, direction-some                    a direction that refusal 11 lets pass has its parts in range, and is not (0,0)
+--     furthest-refused, furthest-answered               what is answered of a valid list
 use mathlib.Core.Path.{_≡_, refl, sym, _∙_, ap, subst}
 use mathlib.Core.Bool.{Bool, true, false, _&&_, _||_, true≢false}
 use mathlib.Core.List.{List, [], _∷_}
@@ -15,27 +13,24 @@ use borrow.Author.Tests.{ltb-false}
 use lib.Dec.{eqb, ltb}
 use lib.IntN.{ℤ, pos, natAbs}
 use lib.ListN.{length}
-use lib.Signed.{_≤ℤ_, _<ℤ_, leZ}
+use lib.Signed.{_≤ℤ_, _<ℤ_}
 use Rattle.integer.specs.Bound.{Within}
 use Rattle.integer.specs.Linear.{lia, linear, _&_}
-use Rattle.integer.specs.Order.{weaken, le-of-eq, le-antisym, le-leZ, lt-leZ, leZ-true, leZ-false}
+use Rattle.integer.specs.Order.{weaken, le-of-eq, le-leZ, lt-leZ}
 use Rattle.plane.specs.Limits.{maxPart}
 use Rattle.plane.specs.Point.{Point, points, corner}
+use Rattle.plane.specs.Forms.{NonZero}
 use Rattle.plane.specs.Direction.{value, support, furthest}
+use Rattle.plane.specs.Face.{isFurthest, faceFirst, faceLast}
 use Rattle.plane.specs.Reply.{Reply, answered, refused, Row, row, firstRow}
 use Rattle.plane.specs.Refusal.{shapeRows, Valid}
-use Rattle.plane.specs.Furthest.{badDirection, furthestReply}
+use Rattle.plane.specs.Furthest.{badDirection, directionRows, furthestReply}
 use Rattle.plane.specs.theory.refusals.Rows.{row-given, firstRow-append, firstRow-none}
 use Rattle.plane.specs.theory.refusals.Accept.{valid→accepted}
 use Rattle.plane.specs.theory.lists.Members.{position-member, member-position}
-use Rattle.plane.specs.theory.lists.Sought.{first-true, first-least, first-at-most, first-unique}
-use Rattle.plane.specs.theory.support.Support.{value-le-support, support-attained, support-unique}
-
-pub record Greatest (f : ℕ → ℤ) (i at : ℕ) (z : ℤ) : Type 0 where
-  pub within : at < i
-  pub has : z ≡ f at
-  pub highest : (k : ℕ) → k < i → f k ≤ℤ z
-  pub earliest : (k : ℕ) → k < at → f k <ℤ z
+use Rattle.plane.specs.theory.lists.Sought.{first-unique, true-not-false}
+use Rattle.plane.specs.theory.support.Support.{support-unique}
+use Rattle.plane.specs.theory.face.FirstFurthest.{Greatest}
 
 -- ---- the moves
 
@@ -70,7 +65,7 @@ module _ (f : ℕ → ℤ) where
 -- ---- the end
 
 module _ (d : Point) (ps : List Point) {i at : ℕ} {z : ℤ} (g : Greatest (λ k. value d (corner ps k)) i at z) (end : i ≡ length ps) where
-  pub greatest-support : z ≡ support d ps
+  greatest-support : z ≡ support d ps
   greatest-support =
       let here : at < length ps = omega (arith, g .within) in
       g .has ∙ sym (support-unique d (position-member ps at here) (λ q m. below q (member-position m)))
@@ -82,33 +77,9 @@ module _ (d : Point) (ps : List Point) {i at : ℕ} {z : ℤ} (g : Greatest (λ 
   unfolding furthest
   greatest-furthest =
       let here : at < length ps = omega (arith, g .within) in
-      sym (first-unique (λ k. leZ (support d ps) (value d (corner ps k))) (length ps) at (omega arith)
+      sym (first-unique (isFurthest d ps) (length ps) at (omega arith)
       (λ h. le-leZ (le-of-eq (sym greatest-support ∙ g .has)))
       (λ k h. lt-leZ (subst (λ s. value d (corner ps k) <ℤ s) greatest-support (g .earliest k h))))
-
--- ---- the furthest corner is what such a walk finds
-
-pub furthest-greatest : (d : Point) (ps : List Point) → 0 < length ps
-    → Greatest (λ k. value d (corner ps k)) (length ps) (furthest d ps) (support d ps)
-unfolding furthest
-furthest-greatest d ps some = record {
-  within = found;
-  has = le-antisym (leZ-true (first-true passes (length ps) found)) (below (furthest d ps) found);
-  highest = below;
-  earliest = λ k h. leZ-false (first-least passes (length ps) k h);
-}
-  where
-    passes : ℕ → Bool
-    passes k = leZ (support d ps) (value d (corner ps k))
-
-    below : (k : ℕ) → k < length ps → value d (corner ps k) ≤ℤ support d ps
-    below k h = value-le-support d (position-member ps k h)
-
-    found : furthest d ps < length ps
-    found = let top = support-attained d ps some in
-        let at = member-position (top .at-in) in
-        let has : value d (corner ps (at .0)) ≡ support d ps = ap (value d) (at .2) ∙ top .at-value in
-        omega (arith, first-at-most passes (length ps) (at .0) (le-leZ (le-of-eq (sym has))), at .1)
 
 -- ---- the direction
 
@@ -124,14 +95,18 @@ direction-near d h = go (eqb (natAbs (d .x)) 0 && eqb (natAbs (d .y)) 0)
     go false false p true q h = absurd (true≢false h)
     go false false p false q h = (record { size = ltb-false _ _ p }, record { size = ltb-false _ _ q })
 
+pub direction-some : (d : Point) → badDirection d ≡ false → NonZero d
+unfolding badDirection
+direction-some d h = record { non-zero = λ e. true-not-false (ap badDirection e) h }
+
 -- ---- the answer
 
 module _ (l : List ℤ) (v : Valid l) (d : Point) where
   rows : List Row
-  rows = row 11 (badDirection d) [] ∷ []
+  rows = directionRows d
 
   answer : Reply
-  answer = answered (pos (furthest d (points l)) ∷ support d (points l) ∷ [])
+  answer = answered (pos (faceFirst d (points l)) ∷ pos (faceLast d (points l)) ∷ support d (points l) ∷ [])
 
   reply-is : furthestReply l d ≡ firstRow rows answer
   unfolding furthestReply rows answer
@@ -141,6 +116,7 @@ module _ (l : List ℤ) (v : Valid l) (d : Point) where
   unfolding rows answer
   furthest-refused h = row-given (row 11 (badDirection d) []) [] answer h ∙ sym reply-is
 
-  pub furthest-answered : badDirection d ≡ false → answered (pos (furthest d (points l)) ∷ support d (points l) ∷ []) ≡ furthestReply l d
+  pub furthest-answered : badDirection d ≡ false
+      → answered (pos (faceFirst d (points l)) ∷ pos (faceLast d (points l)) ∷ support d (points l) ∷ []) ≡ furthestReply l d
   unfolding rows answer
   furthest-answered h = sym (firstRow-none rows answer (h, tt)) ∙ sym reply-is

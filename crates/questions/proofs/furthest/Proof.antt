@@ -1,5 +1,5 @@
--- `furthest` meets its contract: the list is refused, or the direction, or the greatest value sought.
-use mathlib.Core.Path.{_≡_, sym, _∙_, ap, ap₂, subst}
+-- `furthest` meets its contract: the list is refused, or the direction, or the face sought.
+use mathlib.Core.Path.{_≡_, refl, sym, _∙_, ap, ap₂, subst}
 use mathlib.Core.List.{[], _∷_}
 use Prim.Native.Nat.{ℕ}
 use lib.IntN.{ℤ, pos}
@@ -7,12 +7,18 @@ use mir.Syntax.{w32, w64}
 use mir.Val.{toZ, ofZ}
 use mir.Facts.{toZ-ofZ}
 use Rattle.integer.specs.Machine.{known, machine-read, machine-is}
+use Rattle.integer.specs.Bound.{within-widen}
+use Rattle.plane.specs.Limits.{part-small}
 use Rattle.plane.specs.Point.{Point, point, points}
-use Rattle.plane.specs.Direction.{support, furthest}
-use Rattle.plane.specs.Reply.{answered, row}
-use Rattle.plane.specs.Furthest.{badDirection, furthestReply}
+use Rattle.plane.specs.Forms.{NonZero}
+use Rattle.plane.specs.Direction.{support}
+use Rattle.plane.specs.Face.{faceFirst, faceLast}
+use Rattle.plane.specs.Reply.{answered}
+use Rattle.plane.specs.Furthest.{badDirection, directionRows, furthestReply}
 use Rattle.plane.specs.theory.support.Bounds.{support-size}
-use Rattle.polygon.specs.theory.Furthest.{direction-near, furthest-refused, furthest-answered}
+use Rattle.polygon.specs.Point.{Small}
+use Rattle.polygon.specs.theory.Small.{small-wide}
+use Rattle.polygon.specs.theory.Furthest.{direction-near, direction-some, furthest-refused, furthest-answered}
 use Rattle.questions.specs.theory.Rows.{refuses-more}
 use borrow.Author.Needs.{needs}
 use Rattle.plane.specs.Refusal.{shapeRows, Valid}
@@ -52,7 +58,7 @@ returns : tie.Need-returns
 unfolding furthestReply
 returns c =
     let args = c .before .before .before .before .args in
-    refuses-more (refusal c) (row 11 (badDirection (point (args .u) (args .v))) [] ∷ []) _
+    refuses-more (refusal c) (directionRows (point (args .u) (args .v))) _
 
 bad-direction-requires : tie.Need-bad-direction-requires
 bad-direction-requires c κs = search needs
@@ -60,29 +66,35 @@ bad-direction-requires c κs = search needs
 returns-2 : tie.Need-returns-2
 returns-2 c = furthest-refused _ (valid (c .before .before)) _ (sym (bad-is (c .before)) ∙ c .if1 .taken)
 
-greatest-requires : tie.Need-greatest-requires
-greatest-requires c κs =
-    let start = c .before .before .before .before .before in
+face-towards-requires : tie.Need-face-towards-requires
+face-towards-requires c κs =
+    let direction = sym (direction-is (c .before .before .before .before .before)) in
     let v = valid (c .before .before) in
-    let near = direction-near _ (sym (bad-is (c .before)) ∙ c .if1 .left) in
-    (v .shape .some, v .inRange, rw (toZ-ofZ (start .fits .u)) (near .0), rw (toZ-ofZ (start .fits .v)) (near .1))
+    let good = sym (bad-is (c .before)) ∙ c .if1 .left in
+    let near = direction-near _ good in
+    let small : Small 2097152 _ = record { small-x = within-widen part-small (near .0); small-y = within-widen part-small (near .1) } in
+    (v .inRange, v .shape, subst (Small 4194304) direction (small-wide small), subst NonZero direction (direction-some _ good))
+
+told : {p q i j : ℕ} {y z : ℤ} → p ≡ i → q ≡ j → y ≡ z → answered (pos p ∷ pos q ∷ y ∷ []) ≡ answered (pos i ∷ pos j ∷ z ∷ [])
+told e f g = rw (e, f, g) refl
 
 returns-3 : tie.Need-returns-3
 returns-3 c =
     let at-else = c .before .before in
     let start = at-else .before .before .before .before .before in
     let ps = points (start .args .list .now) in
-    let position = c .before .greatest .ensures .0 ∙ ap (λ (d : Point). furthest d ps) (direction-is start) in
+    let face = c .before .face-towards .ensures in
+    let first = face .0 ∙ ap (λ (d : Point). faceFirst d ps) (direction-is start) in
+    let last = face .1 .0 ∙ ap (λ (d : Point). faceLast d ps) (direction-is start) in
     let good = sym (bad-is (at-else .before)) ∙ at-else .if1 .left in
     let v = valid (at-else .before .before) in
     let near = direction-near _ good in
-    let small = known (c .before .greatest .ensures .1 ∙ ap (λ (d : Point). support d ps) (direction-is start))
+    let small = known (face .1 .1 ∙ ap (λ (d : Point). support d ps) (direction-is start))
     (support-size _ (v .inRange) (near .0) (near .1) (v .shape .some)) in
     let value = machine-is (machine-read w64 _ small) tt in
-    ap₂ (λ (p : ℕ) (z : ℤ). answered (pos p ∷ z ∷ [])) position value
-    ∙ furthest-answered _ v _ good
+    told first last value ∙ furthest-answered _ v _ good
 
 pub furthest-spec : {M : Type 1} → statement M
 furthest-spec =
     tie.close
-    (tie.spec admit-requires enum-known-refusal returns enum-told bad-direction-requires returns-2 greatest-requires returns-3)
+    (tie.spec admit-requires enum-known-refusal returns enum-told bad-direction-requires returns-2 face-towards-requires returns-3)

@@ -1,73 +1,54 @@
--- `lowest` meets its contract. The invariant: of the corners before i it is the face; the measure is what is left.
-use mathlib.Core.Path.{_≡_, sym, subst}
-use Prim.Native.Nat.{ℕ, _+_, _-_, _≤_}
-use native.Mathlib.Omega.{arith}
-use lib.ListN.{length}
-use mir.Syntax.{w64}
-use Rattle.integer.specs.Machine.{result-is}
-use Rattle.plane.specs.Point.{points, corner}
-use Rattle.plane.specs.Direction.{value}
-use Rattle.polygon.specs.Point.{at}
-use Rattle.clearance.specs.theory.Scan.{Scanned, scanned-start, scanned-more, scanned-face}
+-- `lowest` meets its contract: the face in the opposite direction, its ends put in order.
+use mathlib.Core.Path.{_≡_, sym, _∙_, ap, subst}
+use borrow.Author.Needs.{needs}
+use Rattle.integer.specs.Bound.{within-neg}
+use Rattle.plane.specs.Point.{Point, points, opposite}
+use Rattle.plane.specs.Forms.{NonZero}
+use Rattle.plane.specs.Face.{faceFirst, faceLast}
+use Rattle.plane.specs.theory.face.Tied.{opposite-non-zero}
+use Rattle.polygon.specs.Point.{at, Small}
+use Rattle.clearance.specs.theory.Lowest.{face-lowest, face-turned}
 use Rattle.clearance.proofs.face.lowest.Statement.{statement}
 use Rattle.clearance.proofs.face.lowest.Tie as tie
 
-abbrev Inv-loop : tie.InvT-loop
-Inv-loop list n count face₀ i₀ face i = Scanned (λ k. value (at n) (corner (points list) k)) i face × (i ≤ count)
+against-requires : tie.Need-against-requires
+against-requires c κs = search needs
 
-abbrev μ-loop : tie.MeasureT-loop
-μ-loop list n count face₀ i₀ face i = count - i
-
-count-requires : tie.Need-count-requires Inv-loop μ-loop
-count-requires c κs = tt
-
-loop-holds : tie.Need-loop-holds Inv-loop μ-loop
-loop-holds c = (scanned-start _, omega (arith, c .count .ensures, c .before .pre .0))
-
-value-at-requires : tie.Need-value-at-requires Inv-loop μ-loop
-value-at-requires c κs =
-    let at-loop = c .before in
-    let start = at-loop .before .before in
-    (omega (arith, at-loop .loop .inv .0 .first-in, at-loop .loop .inv .1, at-loop .before .count .ensures), start .pre .1, start .pre .2)
-
-value-at-requires-2 : tie.Need-value-at-requires-2 Inv-loop μ-loop
-value-at-requires-2 c κs =
-    let at-loop = c .before .before in
-    let start = at-loop .before .before in
-    (omega (arith, at-loop .before .count .ensures), start .pre .1, start .pre .2)
-
-extended-requires : tie.Need-extended-requires Inv-loop μ-loop
-extended-requires c κs = tt
-
-add-i : tie.Need-add-i Inv-loop μ-loop
-add-i c = omega arith
-
-loop-less : tie.Need-loop-less Inv-loop μ-loop
-loop-less c = omega arith
-
-loop-again : tie.Need-loop-again Inv-loop μ-loop
-loop-again c =
-    let second = c .before in
-    let first = second .before in
-    let at-loop = first .before .before in
-    let start = at-loop .before .before in (
-      subst (Scanned (λ (k : ℕ). value (at (start .args .n)) (corner (points (start .args .list .now)) k)) (at-loop .loop .i + 1))
-          (sym (c .extended .ensures)) (scanned-more _ (at-loop .loop .inv .0) (result-is w64 (first .value-at .ok) (first .value-at .ensures))
-          (result-is w64 (second .value-at2 .ok) (second .value-at2 .ensures))),
-      omega arith,
+face-towards-requires : tie.Need-face-towards-requires
+face-towards-requires c κs =
+    let start = c .before in
+    let small = start .pre .1 in (
+      start .pre .0 .inRange,
+      start .pre .0 .shape,
+      subst (Small 4194304) (sym (c .against .ensures))
+          (record { small-x = within-neg (small .small-x); small-y = within-neg (small .small-y) }),
+      subst NonZero (sym (c .against .ensures)) (opposite-non-zero (start .pre .2)),
     )
 
-returns : tie.Need-returns Inv-loop μ-loop
+-- the two ends, in the opposite direction
+first-is : (c : tie.After-face-towards) → let args = c .before .before .args in
+    c .face-towards .result .first ≡ faceFirst (opposite (at (args .n))) (points (args .list .now))
+first-is c =
+    let ps = points (c .before .before .args .list .now) in
+    c .face-towards .ensures .0 ∙ ap (λ (d : Point). faceFirst d ps) (c .before .against .ensures)
+
+last-is : (c : tie.After-face-towards) → let args = c .before .before .args in
+    c .face-towards .result .last ≡ faceLast (opposite (at (args .n))) (points (args .list .now))
+last-is c =
+    let ps = points (c .before .before .args .list .now) in
+    c .face-towards .ensures .1 .0 ∙ ap (λ (d : Point). faceLast d ps) (c .before .against .ensures)
+
+returns : tie.Need-returns
 returns c =
-    let at-loop = c .before in
-    let start = at-loop .before .before in
-    let end : at-loop .loop .i ≡ length (points (start .args .list .now)) =
-    omega (arith, at-loop .before .count .ensures, at-loop .loop .inv .1, c .loop-test .left) in
-    scanned-face _ _ (subst (λ (k : ℕ). Scanned (λ (j : ℕ). value (at (start .args .n)) (corner (points (start .args .list .now)) j)) k
-    (at-loop .loop .face)) end (at-loop .loop .inv .0))
+    let found = c .before .before in
+    let pre = found .before .before .pre in
+    face-turned (pre .0 .shape) (pre .2) (first-is found) (last-is found) (c .if1 .taken)
+
+returns-2 : tie.Need-returns-2
+returns-2 c =
+    let found = c .before .before in
+    let pre = found .before .before .pre in
+    face-lowest (pre .0 .shape) (pre .2) (first-is found) (last-is found) (c .if1 .left)
 
 pub lowest-spec : {M : Type 1} → statement M
-lowest-spec =
-    tie.close
-    (tie.spec Inv-loop μ-loop count-requires loop-holds value-at-requires value-at-requires-2 extended-requires add-i loop-less
-    loop-again returns)
+lowest-spec = tie.close (tie.spec against-requires face-towards-requires returns returns-2)

@@ -1,19 +1,23 @@
 -- `first_reached` meets its contract: the ends of the two faces, tried in the ticket's order.
 use mathlib.Core.Path.{_≡_, sym, _∙_, subst}
-use Prim.Native.Nat.{_≤_}
 use borrow.Author.Needs.{needs}
 use Rattle.integer.specs.Bound.{within-neg}
 use Rattle.plane.specs.Point.{Point, points, opposite}
+use Rattle.plane.specs.Forms.{NonZero}
+use Rattle.plane.specs.theory.face.Tied.{opposite-non-zero}
 use Rattle.polygon.specs.Point.{at, Small}
 use Rattle.clearance.specs.Faces.{IsFace, Ends, isAlong, isFoot}
-use Rattle.clearance.specs.theory.Ends.{Tried, tried-is, corners-first, second-first, first-first, some-reached}
-use Rattle.clearance.specs.declared.face.Face.{Face}
+use Rattle.clearance.specs.theory.Ends.{facing-some, Tried, tried-is, corners-first, second-first, first-first, some-reached}
 use Rattle.clearance.specs.declared.reach.Spot.{Spot}
 use Rattle.clearance.proofs.reach.first_reached.Statement.{statement}
 use Rattle.clearance.proofs.reach.first_reached.Tie as tie
 
+-- a direction in which the shapes are apart is not (0,0)
+some : (c : tie.Start) → NonZero (at (c .args .n))
+some c = facing-some (c .pre .0 .shape .some) (c .pre .1 .shape .some) (c .pre .3)
+
 lowest-requires : tie.Need-lowest-requires
-lowest-requires c κs = search needs
+lowest-requires c κs = (c .pre .0, c .pre .2, some c)
 
 against-requires : tie.Need-against-requires
 against-requires c κs = search needs
@@ -22,9 +26,9 @@ lowest-requires-2 : tie.Need-lowest-requires-2
 lowest-requires-2 c κs =
     let start = c .before .before in
     let small = start .pre .2 in (
-      start .pre .1 .shape .some,
-      start .pre .1 .inRange,
+      start .pre .1,
       subst (Small 4194304) (sym (c .against .ensures)) (record { small-x = within-neg (small .small-x); small-y = within-neg (small .small-y) }),
+      subst NonZero (sym (c .against .ensures)) (opposite-non-zero (some start)),
     )
 
 -- the two faces
@@ -37,9 +41,6 @@ second-face : (c : tie.After-lowest2) → let start = c .before .before .before 
 second-face c =
     let start = c .before .before .before in
     subst (λ (m : Point). IsFace m (points (start .args .b .now)) (c .lowest2 .result)) (c .before .against .ensures) (c .lowest2 .ensures)
-
-ordered : {m : Point} {ps : _} {f : Face} → IsFace m ps f → f .first ≤ f .last
-ordered face = face .outside-none _ (face .first-lowest) .1
 
 ends : (c : tie.After-lowest2) → let start = c .before .before .before in
     Ends (start .args .a .now) (c .before .before .lowest .result) × Ends (start .args .b .now) (c .lowest2 .result)
@@ -61,7 +62,7 @@ along-found c e =
     let args = c .before .before .before .before .args in
     let test = isAlong (at (args .n)) (points (args .a .now)) (points (args .b .now)) in
     subst (Tried test (c .before .before .before .lowest .result) (c .before .lowest2 .result)) (sym (c .first-along .ensures) ∙ e)
-    (tried-is test _ _ (ordered (first-face (c .before))) (ordered (second-face (c .before))))
+    (tried-is test _ _ (first-face (c .before) .ordered) (second-face (c .before) .ordered))
 
 enum-known-one : tie.Need-enum-known-one
 enum-known-one c = search needs
@@ -90,7 +91,7 @@ second-found c e =
     let g = at-face .lowest2 .result in
     let test = isFoot g (points (args .a .now)) (points (args .b .now)) in
     subst (Tried test (at-face .before .before .lowest .result) g) (sym (c .first-foot .ensures) ∙ e)
-    (tried-is test _ _ (ordered (first-face at-face)) (ordered (second-face at-face)))
+    (tried-is test _ _ (first-face at-face .ordered) (second-face at-face .ordered))
 
 enum-known-one-2 : tie.Need-enum-known-one-2
 enum-known-one-2 c = search needs
@@ -121,7 +122,7 @@ first-found c e =
     let f = at-face .before .before .lowest .result in
     let test = isFoot f (points (args .b .now)) (points (args .a .now)) in
     subst (Tried test (at-face .lowest2 .result) f) (sym (c .first-foot2 .ensures) ∙ e)
-    (tried-is test _ _ (ordered (second-face at-face)) (ordered (first-face at-face)))
+    (tried-is test _ _ (second-face at-face .ordered) (first-face at-face .ordered))
 
 enum-known-one-3 : tie.Need-enum-known-one-3
 enum-known-one-3 c = search needs

@@ -1,8 +1,9 @@
 -- `signed_refusal` meets its contract: the first four numbers of the refusal.
-use mathlib.Core.Path.{ap}
+use mathlib.Core.Path.{_∙_, ap, sym}
 use mathlib.Core.List.{List, [], _∷_, _++_}
 use lib.IntN.{ℤ, pos}
 use lib.ListN.{take}
+use Rattle.exports.proofs.Refused.{refusal-crosses}
 use borrow.Author.Needs.{needs}
 use Rattle.exports.proofs.reply.signed_refusal.Statement.{statement}
 use Rattle.exports.proofs.reply.signed_refusal.Tie as tie
@@ -11,7 +12,8 @@ refused-requires : tie.Need-refused-requires
 refused-requires c κs = search needs
 
 returns : tie.Need-returns
-returns c = ap (λ (l : List ℤ). take 4 l ++ pos 0 ∷ []) (c .refused .ensures)
+returns c =
+    ap (λ (l : List ℤ). take 4 l ++ pos 0 ∷ []) (c .refused .ensures) ∙ sym (refusal-crosses 1 (c .before .args .refusal))
 
 pub signed-refusal-spec : {M : Type 1} → statement M
 signed-refusal-spec = tie.close (tie.spec refused-requires returns)

@@ -15,7 +15,7 @@ corner-at-requires c κs = search needs
 dot-requires : tie.Need-dot-requires
 dot-requires c κs =
     let pre = c .before .pre in
-    (small-wide (pre .2), small-wide (small-corner _ (pre .1) _ (pre .0) (c .corner-at .ensures)))
+    (pre .2, small-wide (small-corner _ (pre .1) _ (pre .0) (c .corner-at .ensures)))
 
 returns : tie.Need-returns
 returns c = result-is w64 (c .dot .ok) (c .dot .ensures ∙ ap (value (at (c .before .before .args .d))) (c .before .corner-at .ensures))

@@ -1,7 +1,8 @@
 -- When two corners of a shape are furthest in one direction: they are the ends of an edge that points across it.
---     opposite-non-zero   the opposite of a vector that is not zero
+--     opposite-non-zero, quarter-non-zero     a vector that is not zero, turned round or left by a quarter
 --     Tied ps d r k       corner k ends the edge from r, or r the edge from k, and the edge points the way of `quarter d`
 --     tied                so stand two furthest corners
+--     tied-alone          and no third corner is furthest
 use mathlib.Core.Path.{_≡_, refl, sym, _∙_, ap}
 use mathlib.Core.Bool.{Bool, true, false, not}
 use mathlib.Core.List.{List, [], _∷_}
@@ -16,18 +17,18 @@ use lib.Signed.{_≤ℤ_, _<ℤ_}
 use Rattle.integer.specs.Ring.{ring, reify}
 use Rattle.integer.specs.Linear.{lia, linear, _&_}
 use Rattle.integer.specs.Order.{_<×<_, _≤×<_, _≡×_, contra<, le-of-eq, le-ltZ}
 use Rattle.plane.specs.Point.{Point, corner, _⊖_, opposite}
 use Rattle.plane.specs.Turn.{cross, turn-cross}
 use Rattle.plane.specs.Shape.{next, IsShape}
 use Rattle.plane.specs.Direction.{value, support}
 use Rattle.plane.specs.Forms.{up, NonZero}
 use Rattle.plane.specs.theory.lists.Members.{point-path, position-member}
-use Rattle.plane.specs.theory.forms.Vector.{quarter, cross-swap, ⊖-zero}
+use Rattle.plane.specs.theory.forms.Vector.{quarter, cross-swap, cross-opposite, cross-nonzero, ⊖-zero}
 use Rattle.plane.specs.theory.forms.HalfPlane.{up-opposite}
 use Rattle.plane.specs.theory.forms.Angle.{before-alike}
 use Rattle.plane.specs.theory.forms.SameWay.{SameWay, neither-same}
 use Rattle.plane.specs.theory.support.Support.{value-le-support}
 use Rattle.plane.specs.theory.sum.Positions.{edgeOf, round-within, corner-injective}
 
 -- ---- no turn between two vectors
 
@@ -41,6 +42,12 @@ opposite-non-zero {v} n = record {
   non-zero = λ e. n .non-zero (point-path
       (lia (v .x ∷ []) (ap (λ (p : Point). p .x) e) (search linear depth 40) (omega arith))
       (lia (v .y ∷ []) (ap (λ (p : Point). p .y) e) (search linear depth 40) (omega arith)));
+}
+
+pub quarter-non-zero : {v : Point} → NonZero v → NonZero (quarter v)
+quarter-non-zero {v} n = record {
+  non-zero = λ e. n .non-zero (point-path (ap (λ (p : Point). p .y) e)
+      (lia (v .y ∷ []) (ap (λ (p : Point). p .x) e) (search linear depth 40) (omega arith)));
 }
 
 opposite-flat : (v t : Point) → cross v t ≡ pos 0 → cross (opposite v) t ≡ pos 0
@@ -64,6 +71,15 @@ same-positive : {v t : Point} → SameWay v t → (w : Point) → pos 0 <ℤ cro
 unfolding cross
 same-positive {v} {t} s w h = contra< (λ g. lia (s .m ∷ s .n ∷ v .x ∷ v .y ∷ t .x ∷ t .y ∷ w .x ∷ w .y ∷ [])
     (s .along-x ≡× w .y & s .along-y ≡× w .x & s .m-above <×< h & g ≤×< s .n-above) (search linear depth 40) (omega arith))
+
+-- of two vectors that both have no turn against a third, neither is left of the other
+flat-not-left : (v w t : Point) → NonZero t → cross v t ≡ pos 0 → cross w t ≡ pos 0 → pos 0 <ℤ cross w v → ⊥
+flat-not-left v w t nt e f h = go (parallel-same v t (cross-nonzero h .1) nt e)
+  where
+    go : SameWay v t ⊎ SameWay (opposite v) t → ⊥
+    go (inl s) = lia (cross w t ∷ []) (f & same-positive s w h) (search linear depth 40) (omega arith)
+    go (inr s) = lia (cross (opposite w) t ∷ [])
+        (opposite-flat w t f & same-positive s (opposite w) (rw (cross-opposite w v) h)) (search linear depth 40) (omega arith)
 
 -- ---- two furthest corners
 
@@ -101,9 +117,14 @@ module _ (ps : List Point) (s : IsShape ps) (d : Point) where
           (far & value-step d a b & value-le-support d (position-member ps m (round-within (length ps) (r + 1) (s .some) (omega arith)))
           & same-positive w (b ⊖ a) (rw turn-cross at (s .left r k hr hk other (eqb-false k m e)))) (search linear depth 40) (omega arith))
 
-  pub tied : (r k : ℕ) → NonZero (quarter d) → r < length ps → k < length ps → (k ≡ r → ⊥)
+  -- the step from a furthest corner to another one
+  flat : (a c : Point) → value d a ≡ support d ps → value d c ≡ support d ps → cross (c ⊖ a) (quarter d) ≡ pos 0
+  flat a c far also = lia (value d a ∷ value d c ∷ support d ps ∷ cross (c ⊖ a) (quarter d) ∷ []) (far & also & value-step d a c)
+      (search linear depth 40) (omega arith)
+
+  pub tied : (r k : ℕ) → NonZero d → r < length ps → k < length ps → (k ≡ r → ⊥)
       → value d (corner ps r) ≡ support d ps → value d (corner ps k) ≡ support d ps → Tied ps d r k
-  tied r k nz hr hk other far also = go (parallel-same (c ⊖ a) (quarter d) differ nz flat)
+  tied r k nz hr hk other far also = go (parallel-same (c ⊖ a) (quarter d) differ (quarter-non-zero nz) (flat a c far also))
     where
       a : Point
       a = corner ps r
@@ -114,13 +135,18 @@ module _ (ps : List Point) (s : IsShape ps) (d : Point) where
       differ : NonZero (c ⊖ a)
       differ = record { non-zero = λ e. other (sym (corner-injective ps s r k hr hk (⊖-zero a c e))) }
 
-      flat : cross (c ⊖ a) (quarter d) ≡ pos 0
-      flat = lia (value d a ∷ value d c ∷ support d ps ∷ cross (c ⊖ a) (quarter d) ∷ []) (far & also & value-step d a c)
-          (search linear depth 40) (omega arith)
-
       go : SameWay (c ⊖ a) (quarter d) ⊎ SameWay (opposite (c ⊖ a)) (quarter d) → Tied ps d r k
       go (inl w) = let e = tied-next r k hr hk other far w in after e (rw (← e) w)
       go (inr w) =
           let v : SameWay (a ⊖ c) (quarter d) = rw (opposite-step a c) at w in
           let e = tied-next k r hk hr (λ q. other (sym q)) also v in
           behind e (rw (← e) v)
+
+  -- a third would be left of the step from the one to the other
+  pub tied-alone : (r k : ℕ) → NonZero d → r < length ps → k < length ps → (k ≡ r → ⊥) → (k ≡ next (length ps) r → ⊥)
+      → value d (corner ps r) ≡ support d ps → value d (corner ps (next (length ps) r)) ≡ support d ps
+      → value d (corner ps k) ≡ support d ps → ⊥
+  tied-alone r k nz hr hk other third far also again =
+      let a = corner ps r in
+      flat-not-left (corner ps k ⊖ a) (corner ps (next (length ps) r) ⊖ a) (quarter d) (quarter-non-zero nz) (flat a _ far again)
+      (flat a _ far also) (rw turn-cross at (s .left r k hr hk other third))

@@ -1,0 +1,53 @@
+//! Furthest corner: one pass over the corners, then the two beside the first that is furthest.
+use super::corner::Corner;
+use super::judge::admitted;
+use crate::reply::Signed;
+
+/// The first and the last of the furthest corners, counterclockwise, and their value.
+#[inline(never)]
+pub fn furthest(list: &[i32], u: i32, v: i32) -> Signed {
+    match admitted(list, 1) {
+        Ok(_) if bad_direction(u, v) => Signed::refused(11),
+        Ok(shape) => face(shape.corners, [u, v]),
+        Err(refusal) => Signed {
+            refusal: refusal.refusal,
+            shape: refusal.shape,
+            values: [refusal.values[0], refusal.values[1]],
+            value: 0,
+        },
+    }
+}
+
+/// Whether the direction is (0, 0), or has a part out of range.
+fn bad_direction(u: i32, v: i32) -> bool {
+    let outside = |part: i32| part.unsigned_abs() > 2_000_000;
+    (u == 0 && v == 0) || outside(u) || outside(v)
+}
+
+/// The corners with the greatest value are one or two neighbours. A segment across the direction is
+/// 0 and 1.
+#[inline(always)]
+fn face(corners: &[Corner], d: Corner) -> Signed {
+    let value = |c: Corner| d[0] as i64 * c[0] as i64 + d[1] as i64 * c[1] as i64;
+    let (mut here, mut greatest) = (0, value(corners[0]));
+    for (i, &corner) in corners.iter().enumerate().skip(1) {
+        let next = value(corner);
+        if greatest < next {
+            (here, greatest) = (i, next);
+        }
+    }
+    let end = corners.len() - 1;
+    let (first, last) = if here == 0 && end >= 2 && value(corners[end]) == greatest {
+        (end, here)
+    } else if here < end && value(corners[here + 1]) == greatest {
+        (here, here + 1)
+    } else {
+        (here, here)
+    };
+    Signed {
+        refusal: 0,
+        shape: 0,
+        values: [first as u64, last as u64],
+        value: greatest,
+    }
+}
