@@ -32,6 +32,8 @@ mod plane;
 mod questions;
 mod refusal;
 mod separation;
+#[cfg(test)]
+mod strips;
 mod tablet;
 mod tangents;
 mod text;

@@ -34,7 +34,7 @@ pub turned-back : (n p q : Point) → value (opposite n) q ≤ℤ value (opposit
 turned-back n p q h = lia (value n p ∷ value n q ∷ value (opposite n) p ∷ value (opposite n) q ∷ [])
     (h & value-turned n p & value-turned n q) (search linear depth 40) (omega arith)
 
-positive-some : (n : Point) → pos 0 <ℤ value n n → NonZero n
+pub positive-some : (n : Point) → pos 0 <ℤ value n n → NonZero n
 positive-some n h = record {
   non-zero = λ e. lia (value n n ∷ []) (h & ap (value n) e ∙ value-origin n) (search linear depth 40) (omega arith);
 }

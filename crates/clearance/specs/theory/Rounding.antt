@@ -1,5 +1,6 @@
 -- The distance rounded down, bounded as width is.
 --     Bounded n d w          w·w·d ≤ n < (w+1)·(w+1)·d
+--     size-square            the square of a number's size
 --     nearest-rounded        the last number of the answer is so bounded by the nearest candidate's fraction
 use mathlib.Core.Path.{_≡_, refl}
 use mathlib.Core.Bool.{true}
@@ -28,7 +29,7 @@ pub record Bounded (n d : ℤ) (w : ℕ) : Type 0 where
   pub low : (pos w *ℤ pos w *ℤ d) ≤ℤ n
   pub high : n <ℤ ((pos w +ℤ pos 1) *ℤ (pos w +ℤ pos 1) *ℤ d)
 
-size-square : (t : ℤ) → pos (natAbs t) *ℤ pos (natAbs t) ≡ t *ℤ t
+pub size-square : (t : ℤ) → pos (natAbs t) *ℤ pos (natAbs t) ≡ t *ℤ t
 size-square (pos n) = refl
 size-square (negsuc n) = refl
 

@@ -5,6 +5,7 @@
 --     next-left                        the corner after an edge is left of it
 --     sector                           the step from a corner to a point, written by the two edges at the corner
 --     sector-weak                      between the two edges nothing is further than a corner that is no less far than its neighbours
+--     level-zero                       a direction in which both edges at a corner are level is (0,0)
 --     edge-outermost, edge-nonzero     in it no corner is further than the edge; in a polygon it is not zero
 --     left→reached                     a point that is right of no edge of a polygon is in every direction no further than the polygon
 --     left→passed                      left of all edges: the polygon is further in every direction other than (0,0)
@@ -112,7 +113,7 @@ module _ (d a p c x : Point) (t : Left a p c) (before : value d a ≤ℤ value d
       (sector d a p c x & t <×< g & h ≤×≤ after & k ≤×≤ before) (search linear depth 40) (omega arith))
 
   -- a direction in which both edges are level is zero
-  level-zero : value d a ≡ value d p → value d c ≡ value d p → d ≡ origin
+  pub level-zero : value d a ≡ value d p → value d c ≡ value d p → d ≡ origin
   unfolding turn value
   level-zero e f = point-path (zero-factor t across) (zero-factor t along)
     where

@@ -1,0 +1,36 @@
+-- What the answers of width and clearance say of strips (document 02, request W9): their own directions, and the clearance as a fraction.
+--     outOf ps e                 the direction out of edge e
+--     towards A B c              the direction from B to A along a candidate c of the clearance
+--     answerTop, answerBottom    the squared distance that an answer of clearance tells, as a fraction
+-- Our own, not of document 02. What they mean: `EveryDirection.antt`.
+use mathlib.Core.Bool.{cond}
+use mathlib.Core.List.{List}
+use Prim.Native.Nat.{ℕ}
+use lib.Dec.{eqb}
+use lib.IntN.{ℤ, pos, negℤ, _-ℤ_, _*ℤ_}
+use lib.ListN.{length, getD}
+use Rattle.plane.specs.Point.{Point, point, corner, _⊖_}
+use Rattle.plane.specs.Shape.{next}
+use Rattle.plane.specs.Mean.{times}
+use Rattle.plane.specs.Clearance.{Candidate, corners, onSecond, onFirst, turnOn}
+
+-- the edge turned right by a quarter
+abbrev pub outOf : List Point → ℕ → Point
+outOf ps e =
+    let a = corner ps e in
+    let b = corner ps (next (length ps) e) in
+    point (b .y -ℤ a .y) (a .x -ℤ b .x)
+
+-- the step between the two corners; or that between the foot on an edge and the corner, times the edge's squared length: the sign of the
+-- corner's turn says on which side of the edge it stands
+abbrev pub towards : List Point → List Point → Candidate → Point
+towards A B (corners i j) = corner A i ⊖ corner B j
+towards A B (onSecond i e) = times (negℤ (turnOn B e (corner A i))) (outOf B e)
+towards A B (onFirst j e) = times (turnOn A e (corner B j)) (outOf A e)
+
+-- "their squared distance" is the fourth of five numbers; t and q are the fourth and the fifth of six; "shapes not apart still answer 0"
+abbrev pub answerTop : List ℤ → ℤ
+answerTop v = let fourth = getD v 3 (pos 0) in cond (eqb (length v) 6) (fourth *ℤ fourth) fourth
+
+abbrev pub answerBottom : List ℤ → ℤ
+answerBottom v = cond (eqb (length v) 6) (getD v 4 (pos 0)) (pos 1)

@@ -1,0 +1,8 @@
+-- The theory of strips, which only proves: spread; directions on one line; directions out of edges; every direction; the corridor; what
+-- answers say.
+pub mod Spread
+pub mod Parallel
+pub mod Edges
+pub mod Every
+pub mod Corridors
+pub mod Answers
