@@ -1,5 +1,5 @@
 //! Compares the answers of plain and proved questions, and the whole outputs that they leave.
-use crate::lists::{beside, shape, spoilt};
+use crate::lists::{beside, points, shape, spoilt};
 use crate::plain::MOST;
 use crate::random::Random;
 use crate::reply::Numbers;
@@ -9,7 +9,7 @@ use std::cmp::Ordering;
 use std::collections::BTreeSet;
 
 /// What must have been compared at least once: a question, and a refusal or the first value.
-const KINDS: [(&str, &str); 23] = [
+const KINDS: [(&str, &str); 28] = [
     ("judge", "no 1"),
     ("judge", "no 2"),
     ("judge", "no 3"),
@@ -26,6 +26,11 @@ const KINDS: [(&str, &str); 23] = [
     ("merge", "ok"),
     ("merge", "no 6"),
     ("merge", "no 8"),
+    ("sweep", "ok"),
+    ("sweep", "no 1"),
+    ("sweep", "no 2"),
+    ("sweep", "no 3"),
+    ("sweep", "no 8"),
     ("width", "ok"),
     ("width", "no 10"),
     ("relation", "ok 0"),
@@ -58,7 +63,11 @@ pub fn agree(seed: u64, answers: u64) -> Result<u64, String> {
         ask_one(&mut tally, &a)?;
         ask_two(&mut tally, &a, &b)?;
         ask_two(&mut tally, &b, &a)?;
-        ask_written(&mut tally, &mut random, &a, &b)?;
+        for question in PAIRED {
+            ask_written(&mut tally, &mut random, question, &a, &b)?;
+        }
+        let swept = points(&mut random, &a, &b);
+        ask_written(&mut tally, &mut random, SWEPT, &swept, &b)?;
     }
     tally.missing().map_or(Ok(tally.answers), Err)
 }
@@ -107,27 +116,42 @@ fn ask_two(tally: &mut Tally, a: &[i32], b: &[i32]) -> Result<(), String> {
 /// A question that writes.
 type Writes = fn(&[i32], &[i32], &mut [i32]) -> Numbers;
 
-/// The questions that write, into outputs of any room; then others of what was written, since its
+/// Its word, the plain one and the proved one.
+type Written = (&'static str, Writes, Writes);
+
+const PAIRED: [Written; 2] = [
+    ("sum", plain::sum, proved::sum),
+    ("merge", plain::merge, proved::merge),
+];
+
+/// A sweep has one list: the second is not read.
+const SWEPT: Written = (
+    "sweep",
+    |points, _, out| plain::sweep(points, out),
+    |points, _, out| proved::sweep(points, out),
+);
+
+/// A question that writes, into an output of any room; then others of what was written, since its
 /// rim meets that of both shapes.
-fn ask_written(tally: &mut Tally, random: &mut Random, a: &[i32], b: &[i32]) -> Result<(), String> {
-    let both: [(&'static str, Writes, Writes); 2] = [
-        ("sum", plain::sum, proved::sum),
-        ("merge", plain::merge, proved::merge),
-    ];
-    for (word, by_hand, by_proof) in both {
-        let before = vec![random.bits() as i32; room(random, a, b, by_hand)];
-        let (mut out, mut other): (List, List) = (before.clone(), before);
-        let (one, two) = (by_hand(a, b, &mut out), by_proof(a, b, &mut other));
-        tally.add(word, [a, b], one, two)?;
-        if out != other {
-            return Err(format!("{word} of {a:?} and {b:?}: the outputs differ"));
-        }
-        if one.refusal == 0 {
-            let written = &out[..2 * one.values[0] as usize];
-            ask_one(tally, written)?;
-            ask_two(tally, a, written)?;
-            ask_two(tally, written, b)?;
-        }
+fn ask_written(
+    tally: &mut Tally,
+    random: &mut Random,
+    (word, by_hand, by_proof): Written,
+    a: &[i32],
+    b: &[i32],
+) -> Result<(), String> {
+    let before = vec![random.bits() as i32; room(random, a, b, by_hand)];
+    let (mut out, mut other): (List, List) = (before.clone(), before);
+    let (one, two) = (by_hand(a, b, &mut out), by_proof(a, b, &mut other));
+    tally.add(word, [a, b], one, two)?;
+    if out != other {
+        return Err(format!("{word} of {a:?} and {b:?}: the outputs differ"));
+    }
+    if one.refusal == 0 {
+        let written = &out[..2 * one.values[0] as usize];
+        ask_one(tally, written)?;
+        ask_two(tally, a, written)?;
+        ask_two(tally, written, b)?;
     }
     Ok(())
 }

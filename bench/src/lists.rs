@@ -133,3 +133,35 @@ fn between(list: &mut List, k: usize) {
     );
     list.splice(k + 2..k + 2, [x, y]);
 }
+
+/// Points of a sweep: the corners of two lists, few points of a small square or many of any, some of
+/// them twice and some between two others, in any order.
+pub fn points(random: &mut Random, a: &[i32], b: &[i32]) -> List {
+    let reach = [2, 9, 1_000_000][random.below(3) as usize];
+    let count = [3, 40, 1100][random.below(3) as usize];
+    let mut points: Vec<[i32; 2]> = match random.below(2) {
+        0 => [a, b]
+            .iter()
+            .flat_map(|list| list.as_chunks::<2>().0)
+            .copied()
+            .collect(),
+        _ => (0..1 + random.below(count))
+            .map(|_| [random.between(-reach, reach), random.between(-reach, reach)])
+            .collect(),
+    };
+    for _ in 0..random.below(4) * points.len().min(4) as u64 {
+        let [p, q] = [0; 2].map(|_: i32| points[random.below(points.len() as u64) as usize]);
+        let middle = |k: usize| ((p[k] as i64 + q[k] as i64) / 2) as i32;
+        points.push([middle(0), middle(1)]);
+        points.push(p);
+    }
+    for k in (1..points.len()).rev() {
+        points.swap(k, random.below(k as u64 + 1) as usize);
+    }
+    let list = points.into_flattened();
+    if random.below(8) == 0 && list.len() > 1 {
+        spoilt(random, &list)
+    } else {
+        list
+    }
+}

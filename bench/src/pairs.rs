@@ -11,6 +11,12 @@ pub fn single(random: &mut Random, n: usize) -> Case {
     Case::new(polygon(random, n, size, 0, 0), List::new())
 }
 
+/// Points anywhere on the floor.
+pub fn scattered(random: &mut Random, n: usize) -> Case {
+    let numbers = (0..2 * n).map(|_| random.between(-1_000_000, 1_000_000));
+    Case::new(numbers.collect(), List::new())
+}
+
 /// Two shapes that overlap, the second with 4 corners less; neither is inside the other.
 pub fn crossing(random: &mut Random, n: usize) -> Case {
     overlapping(random, n, n - 4, 25_000)

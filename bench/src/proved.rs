@@ -43,6 +43,7 @@ mod archive {
             out: Output,
             room: usize,
         ) -> Numbers;
+        pub fn cocklesway_sweep(list: List, n: usize, out: Output, room: usize) -> Numbers;
         pub fn cocklesway_length(list: List, n: usize) -> Numbers;
         pub fn cocklesway_width(list: List, n: usize) -> Numbers;
         pub fn cocklesway_relation(a: List, n: usize, b: List, m: usize) -> Numbers;
@@ -128,6 +129,10 @@ pub fn merge(a: &[i32], b: &[i32], out: &mut [i32]) -> Numbers {
             out.len(),
         )
     }
+}
+
+pub fn sweep(list: &[i32], out: &mut [i32]) -> Numbers {
+    unsafe { archive::cocklesway_sweep(list.as_ptr(), list.len(), out.as_mut_ptr(), out.len()) }
 }
 
 pub fn length(list: &[i32]) -> Numbers {

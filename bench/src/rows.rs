@@ -1,5 +1,5 @@
 //! The rows of the two tables: a question, and cases for which it does its work.
-use crate::pairs::{apart, crossing, merged, nested, single, summed};
+use crate::pairs::{apart, crossing, merged, nested, scattered, single, summed};
 use crate::random::Random;
 use crate::shapes::Case;
 use crate::timing::{Run, block};
@@ -29,18 +29,20 @@ const MERGE: [Run; 2] = [
     run!(proved::merge(a, b; out)),
     run!(plain::merge(a, b; out)),
 ];
+const SWEEP: [Run; 2] = [run!(proved::sweep(a; out)), run!(plain::sweep(a; out))];
 const LENGTH: [Run; 2] = [run!(proved::length(a)), run!(plain::length(a))];
 const WIDTH: [Run; 2] = [run!(proved::width(a)), run!(plain::width(a))];
 const RELATION: [Run; 2] = [run!(proved::relation(a, b)), run!(plain::relation(a, b))];
 const INSIDE: [Run; 2] = [run!(proved::inside(a, b)), run!(plain::inside(a, b))];
 
 /// The questions that are asked in both ways.
-pub const ROWS: [(&str, [Run; 2], Make); 11] = [
+pub const ROWS: [(&str, [Run; 2], Make); 12] = [
     ("judge", JUDGE, single),
     ("furthest", FURTHEST, single),
     ("sum", SUM, summed),
     ("sum, refused 6 at 1,024", SUM, crossing),
     ("merge", MERGE, merged),
+    ("sweep", SWEEP, scattered),
     ("length", LENGTH, single),
     ("width", WIDTH, single),
     ("relation, apart", RELATION, apart),
@@ -52,7 +54,7 @@ pub const ROWS: [(&str, [Run; 2], Make); 11] = [
 /// Every proved question, on a shape and the same one moved away (`pairs::moved_away`). It takes the
 /// whole walk to find that a shape overlaps itself, or is inside itself. A log has as many records
 /// as the shape has corners.
-pub const GROWTH: [(&str, Run); 16] = [
+pub const GROWTH: [(&str, Run); 17] = [
     ("judge", JUDGE[0]),
     ("furthest", FURTHEST[0]),
     ("mirror", run!(proved::mirror(a; out))),
@@ -65,6 +67,7 @@ pub const GROWTH: [(&str, Run); 16] = [
         block(cases, |c, out| proved::part(&c.a, &c.b, 16, out))
     }),
     ("merge", MERGE[0]),
+    ("sweep", SWEEP[0]),
     ("length", LENGTH[0]),
     ("width", WIDTH[0]),
     ("relation", run!(proved::relation(a, a))),

@@ -51,6 +51,10 @@ fn shapes_are_written_to_the_front() {
     assert_eq!(out, [0, 0, 3, 0, 3, 2, 2, 3, 0, 3, 7, 7]);
     assert_eq!(proved::merge(&SQUARE, &[5, 1], &mut out), Numbers::one(5));
     assert_eq!(out, [0, 0, 2, 0, 5, 1, 2, 2, 0, 2, 7, 7]);
+    let points = [2, 2, 1, 0, 0, 2, 1, 1, 2, 2, 2, 0, 0, 0];
+    assert_eq!(proved::sweep(&points, &mut out), Numbers::one(4));
+    assert_eq!(out, [0, 0, 2, 0, 2, 2, 0, 2, 0, 2, 7, 7]);
+    assert_eq!(proved::sweep(&[1], &mut out), Numbers::blamed(1, 1));
     assert_eq!(
         proved::sum(&SQUARE, &TRIANGLE, &mut out[..9]),
         Numbers::refused(8)

@@ -9,6 +9,7 @@ use crate::parts::{self, State};
 use crate::plane::{Point, Shape};
 use crate::refusal::Refusal;
 use crate::separation::{self, Relation};
+use crate::sweep;
 use crate::tablet;
 use crate::tangents;
 use crate::text::given::Given;
@@ -64,6 +65,11 @@ pub fn part(given: &Given) -> Answer {
 pub fn merge(given: &Given) -> Answer {
     let [a, b] = given.shapes()?;
     written(given, combine::merge(&a, &b)?)
+}
+
+pub fn sweep(given: &Given) -> Answer {
+    let points = sweep::judged(given.list())?;
+    written(given, sweep::shape(points))
 }
 
 pub fn length(given: &Given) -> Answer {

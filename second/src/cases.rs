@@ -225,6 +225,28 @@ const PARTS: &[Stated] = &[
     ]),
 ];
 
+#[rustfmt::skip]
+const SWEEPS: &[Stated] = &[
+    ("W10: any order, repeats and points in line", &[
+        ("sweep | 2 2 1 0 0 2 1 1 2 2 2 0 0 0", "ok 4 | 0 0 2 0 2 2 0 2"),
+        ("sweep | 0 0 0 2 2 0 2 2", "ok 4 | 0 0 2 0 2 2 0 2"),
+        ("sweep | 5 1 S", "ok 5 | 0 0 2 0 5 1 2 2 0 2"),
+    ]),
+    ("W10: points that are all equal, and points in one line", &[
+        ("sweep | 3 1 3 1 3 1", "ok 1 | 3 1"),
+        ("sweep | 2 1 3 1 0 1 3 1", "ok 2 | 0 1 3 1"),
+        ("sweep | 2 2 0 0 1 1", "ok 2 | 0 0 2 2"),
+        ("sweep | 7 -7", "ok 1 | 7 -7"),
+    ]),
+    ("W10: refusals 1, 3 and 8", &[
+        ("sweep |", "no 1 shape 1"),
+        ("sweep | 1 1 1", "no 1 shape 1"),
+        ("sweep | 1 1 1000001 0", "no 3 shape 1"),
+        ("sweep | 3 1 3 1 0 1 | 3", "no 8"),
+        ("sweep | 3 1 3 1 0 1 | 4", "ok 2 | 0 1 3 1"),
+    ]),
+];
+
 pub struct Group {
     pub words: String,
     pub cases: Vec<(String, String)>,
@@ -242,6 +264,8 @@ pub fn groups() -> Vec<Group> {
     groups.extend(spelled(CLEARANCE));
     groups.extend(spelled(log::LOG));
     groups.extend(spelled(PARTS));
+    groups.extend(spelled(SWEEPS));
+    groups.push(point_limit());
     groups
 }
 
@@ -289,6 +313,17 @@ fn corner_limit() -> Group {
         cases: vec![
             (judged(1024), "ok 1024".to_string()),
             (judged(1025), "no 2 shape 1".to_string()),
+        ],
+    }
+}
+
+fn point_limit() -> Group {
+    let swept = |count: usize| line("sweep", &[["3 1"].repeat(count).join(" ")]);
+    Group {
+        words: "W10: 1,024 points pass, 1,025 get 2 though all are equal".to_string(),
+        cases: vec![
+            (swept(1024), "ok 1 | 3 1".to_string()),
+            (swept(1025), "no 2 shape 1".to_string()),
         ],
     }
 }

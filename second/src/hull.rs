@@ -1,6 +1,7 @@
 //! Corners of a finite set of points, and the shape of the set ("What each question asks" of 01).
 //!
 //!     hull_of points       the standard list of the corners; repeats count once
+//!     hull_by_meaning      the same, every point tried against every other however many there are
 //!     standard_list        puts corners in order: lowest, then leftmost first, counterclockwise
 //!
 //! Small sets go by the meaning of the definition, large ones by a sorted chain; the tests hold the
@@ -22,6 +23,13 @@ pub fn hull_of(mut points: Vec<Point>) -> Shape {
         corners_by_chain(&points)
     };
     standard_list(corners)
+}
+
+/// The same by the meaning of the definition alone.
+pub fn hull_by_meaning(mut points: Vec<Point>) -> Shape {
+    points.sort_unstable_by_key(Point::low_then_left);
+    points.dedup();
+    standard_list(corners_by_meaning(&points))
 }
 
 /// The corners of a shape in any order, put in standard order.

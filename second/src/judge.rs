@@ -29,7 +29,8 @@ pub fn in_range(corner: &Point) -> bool {
     within(corner.x) && within(corner.y)
 }
 
-fn corners_in(list: &[i32]) -> Shape {
+/// The points that a list of numbers holds.
+pub fn corners_in(list: &[i32]) -> Shape {
     list.chunks_exact(2)
         .map(|pair| point(i64::from(pair[0]), i64::from(pair[1])))
         .collect()

@@ -34,6 +34,7 @@ mod refusal;
 mod separation;
 #[cfg(test)]
 mod strips;
+mod sweep;
 mod tablet;
 mod tangents;
 mod text;

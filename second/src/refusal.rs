@@ -3,6 +3,8 @@
 use std::fmt;
 
 pub const MOST_CORNERS: usize = 1024;
+/// Of a sweep (document 02, W10).
+pub const MOST_POINTS: usize = 1024;
 pub const MOST_COORDINATE: i64 = 1_000_000;
 pub const MOST_DIRECTION: i64 = 2_000_000;
 

@@ -9,10 +9,7 @@ use crate::reply::Numbers;
 pub fn merge(a: &[i32], b: &[i32], out: &mut [i32]) -> Numbers {
     match admitted_pair(a, b) {
         Ok((a, b)) => {
-            let mut hull = Hull {
-                answer: Buffer::empty(),
-                floor: 0,
-            };
+            let mut hull = Hull::empty();
             hull.scan::<true>(Chain::right(a), Chain::right(b));
             hull.turn();
             hull.scan::<false>(Chain::left(a), Chain::left(b));
@@ -80,12 +77,21 @@ impl<'a> Chain<'a> {
 }
 
 /// The corners kept so far; none below the floor is dropped any more.
-struct Hull {
-    answer: Buffer,
+pub struct Hull {
+    pub answer: Buffer,
     floor: usize,
 }
 
 impl Hull {
+    /// Nothing yet.
+    #[inline(always)]
+    pub fn empty() -> Hull {
+        Hull {
+            answer: Buffer::empty(),
+            floor: 0,
+        }
+    }
+
     /// Adds two chains in one order, a corner that both have once.
     #[inline(always)]
     fn scan<const UP: bool>(&mut self, mut a: Chain, mut b: Chain) {
@@ -115,8 +121,8 @@ impl Hull {
 
     /// Drops what a new corner leaves behind, and keeps the corner.
     #[inline(always)]
-    fn add(&mut self, corner: Corner) {
-        // SAFETY: two are held above the floor, and each corner of the shapes is pushed once.
+    pub fn add(&mut self, corner: Corner) {
+        // SAFETY: two are held above the floor, and on each way no corner is pushed twice.
         unsafe {
             while self.answer.len() >= self.floor + 2 {
                 let (last, before) = (self.answer.back(0), self.answer.back(1));
@@ -131,14 +137,14 @@ impl Hull {
 
     /// The topmost corner ends the way up; the way down begins with it again.
     #[inline(always)]
-    fn turn(&mut self) {
+    pub fn turn(&mut self) {
         self.answer.pop();
         self.floor = self.answer.len();
     }
 
     /// The way down ends at the first corner, which stands at the front unless it is the only one.
     #[inline(always)]
-    fn close(&mut self) {
+    pub fn close(&mut self) {
         if self.answer.len() > 1 {
             self.answer.pop();
         }
@@ -147,6 +153,6 @@ impl Hull {
 
 /// Numbers in the order of corners: by height, then from the left.
 #[inline(always)]
-fn key(p: Corner) -> i64 {
+pub fn key(p: Corner) -> i64 {
     p[1] as i64 * 4_194_304 + p[0] as i64
 }

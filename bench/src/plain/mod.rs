@@ -1,4 +1,4 @@
-//! The questions of document 01, written plainly and for speed: the judged floor that the proved
+//! The questions of documents 01 and 02, written plainly and for speed: the judged floor that the proved
 //! ones are measured against. Each judges its lists first.
 mod blame;
 mod calipers;
@@ -12,6 +12,7 @@ mod length;
 mod merge;
 mod relation;
 mod sum;
+mod sweep;
 mod width;
 
 pub use furthest::furthest;
@@ -21,4 +22,5 @@ pub use length::length;
 pub use merge::merge;
 pub use relation::relation;
 pub use sum::sum;
+pub use sweep::{MOST_POINTS, sweep};
 pub use width::width;

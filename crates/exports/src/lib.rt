@@ -7,6 +7,7 @@ ghost use Rattle.plane.specs.Point.{point};
 ghost use Rattle.plane.specs.Judge.{judged};
 ghost use Rattle.plane.specs.Furthest.{furthestReply};
 ghost use Rattle.plane.specs.Combine.{mirrorWritten, sumWritten, mergeWritten};
+ghost use Rattle.plane.specs.Sweep.{sweepWritten};
 ghost use Rattle.plane.specs.Measure.{lengthReply, widthReply};
 ghost use Rattle.plane.specs.Separation.{relationReply, insideReply};
 ghost use Rattle.plane.specs.Clearance.{clearanceReply};
@@ -108,6 +109,15 @@ pub extern "C" fn cocklesway_merge(a: &[i32], b: &[i32], out: &mut [i32]) -> Num
         × (now (out .exit) ≡ mergeWritten (now (a .entry)) (now (b .entry)) (now (out .entry)) .output) ⌝ }
 {
     reply::of_answer(questions::merge(a, b, out))
+}
+
+// How many corners the shape of many points has, which is written to the output.
+#[no_mangle]
+pub extern "C" fn cocklesway_sweep(list: &[i32], out: &mut [i32]) -> Numbers
+    ensures { λ r. ⌜ (numbers r ≡ crossed 5 (sweepWritten (now (list .entry)) (now (out .entry)) .reply))
+        × (now (out .exit) ≡ sweepWritten (now (list .entry)) (now (out .entry)) .output) ⌝ }
+{
+    reply::of_answer(questions::sweep(list, out))
 }
 
 // The greatest squared distance of two corners, and their positions.

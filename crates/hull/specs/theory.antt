@@ -1,11 +1,12 @@
 -- The theory of rows and buffers, which only proves: points in order, what a scan of them leaves in a buffer, and that the two chains of
--- two shapes are the shape of both.
+-- two shapes are the shape of both; that two sorted halves are united, and that both chains of sorted points are their outline.
 pub mod Ahead
 pub mod Least
 pub mod Run
 pub mod Unite
 pub mod Stored
 pub mod Pour
+pub mod Key
 pub mod Stack
 pub mod Reading
 pub mod Peak
@@ -15,3 +16,5 @@ pub mod Counted
 pub mod Spread
 pub mod Same
 pub mod Written
+pub mod Halves
+pub mod Route

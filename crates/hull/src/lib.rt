@@ -1,23 +1,27 @@
-// Inner functions for the shape of two shapes together, chain by chain (document 01, "Merge"). Callers ask the crate
-// `questions`.
+// Inner functions for the shape of two shapes together, chain by chain (document 01, "Merge"), and for the shape of
+// many points (document 02, W10). Callers ask the crate `questions`.
 mod buffer;
 mod chains;
-pub mod order;
+mod order;
+mod outline;
 mod rows;
-pub mod scan;
+mod scan;
+mod sort;
 
 ghost use mathlib.Core.Bool.{false, true};
-ghost use Prim.Native.Nat.{suc, _+_, _≤_};
+ghost use Prim.Native.Nat.{suc, _+_, _*_, _≤_};
 ghost use lib.ListN.{length};
 ghost use mathlib.Core.List.{_++_};
 ghost use Rattle.plane.specs.Point.{points};
 ghost use Rattle.plane.specs.Refusal.{Valid};
 ghost use Rattle.plane.specs.Corner.{shapeOf};
+ghost use Rattle.plane.specs.Sweep.{ValidPoints};
 ghost use Rattle.polygon.specs.Front.{Front};
 ghost use Rattle.polygon.specs.Point.{at};
 ghost use Rattle.hull.specs.Buffer.{Chained};
 ghost use Rattle.hull.specs.Chain.{rightRows, leftRows, Spread};
 use polygon::corners;
+use polygon::limits;
 use polygon::peak;
 use polygon::point;
 use polygon::point::Point;
@@ -42,6 +46,19 @@ pub fn merge(a: &[i32], b: &[i32], buf: &mut [i32]) -> usize
     }
     corners::put(buf, 0, bottom);
     1
+}
+
+// Writes the shape of many points at the front of the buffer, and says how many corners it has. The points stand in any
+// order; one that is repeated counts once, and one in line between two others is dropped. Points that are all equal
+// make a point, and points in one line a segment. The buffer has room for both chains, and is lent to the sort before.
+// Ruled out: points in line kept; repeats kept.
+pub fn sweep(list: &[i32], buf: &mut [i32]) -> usize
+    requires { ⌜ ValidPoints (now list) × (2 * length (points (now list)) ≤ length (points (now buf))) ⌝ }
+    ensures { λ r. ⌜ Front (shapeOf (points (now (list .entry)))) r (now (buf .exit)) ⌝ }
+{
+    let mut sorted = [0i32; limits::POINTS_NUMBERS];
+    let n = sort::sort(list, 0, corners::count(list), &mut sorted, buf);
+    outline::outline(&sorted, n, buf)
 }
 
 // Writes the right-hand chain of both shapes, and behind it the left-hand one. The shapes' own tops are at positions i

@@ -1,6 +1,5 @@
 // Inner functions: the scan, one point at a time. The corners that it keeps stand at the front of a buffer, and every
-// three neighbours of them turn strictly left. The chains of a merge push by it; so may any points that run up, or
-// down.
+// three neighbours of them turn strictly left. The chains of a merge push by it, and so do the sides of a sweep.
 ghost use mathlib.Core.Path.{_≡_};
 ghost use mathlib.Core.List.{[], _∷_};
 ghost use Prim.Native.Nat.{_-_, _^_, _<_, _≤_};

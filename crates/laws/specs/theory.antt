@@ -1,8 +1,9 @@
 -- The theory of the laws: what an answered call says, and when it is answered; when a grouping has a result; how far that reaches; that it
--- is the shape of the whole list; the laws of two and three shapes.
+-- is the shape of the whole list; the laws of two and three shapes; those of a sweep.
 pub mod Answer
 pub mod Acceptance
 pub mod Refused
 pub mod Fold
 pub mod Whole
 pub mod Pair
+pub mod Sweep

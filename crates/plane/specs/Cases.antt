@@ -1,6 +1,6 @@
 -- Document 01's starred cases ("Cases to hold against"), as one table over the definitions and one fact about all its rows, by computing.
--- The rows are quoted in 01's order; a row is what the definition gives and what 01 states. The last eleven are of document 02, requests
--- W1, W3 and W8.
+-- The rows are quoted in 01's order; a row is what the definition gives and what 01 states. The last are of document 02, requests W1, W3,
+-- W8 and W10.
 use mathlib.Core.Path.{_≡_, refl}
 use mathlib.Core.Bool.{cond}
 use mathlib.Core.List.{List, [], _∷_, _++_, map}
@@ -8,7 +8,7 @@ use Prim.Native.Nat.{ℕ, _+_}
 use lib.IntN.{ℤ, pos, negsuc}
 use lib.ListN.{length, replicate}
 use lib.Signed.{ltZ}
-use Rattle.plane.specs.Limits.{maxCorners, maxCoordinate, maxPart}
+use Rattle.plane.specs.Limits.{maxCorners, maxCoordinate, maxPoints, maxPart}
 use Rattle.plane.specs.Point.{point, points, corner, samePoint}
 use Rattle.plane.specs.Turn.{turn}
 use Rattle.plane.specs.Shape.{next, breaks, precedes}
@@ -22,6 +22,7 @@ use Rattle.plane.specs.Output.{Written, noRoom, overwritten}
 use Rattle.plane.specs.Face.{faceFirst, faceLast}
 use Rattle.plane.specs.Furthest.{badDirection, furthestReply}
 use Rattle.plane.specs.Combine.{sumWritten, mergeWritten}
+use Rattle.plane.specs.Sweep.{tooManyPoints, sweepWritten}
 use Rattle.plane.specs.Measure.{squared, lengthSquared, furthestPair, lengthFrom, lengthTo, lengthReply, edgeTurn, height}
 use Rattle.plane.specs.Measure.{edgeSquared, noWider, widthEdge, widthCorner, widthRounded, widthReply}
 use Rattle.plane.specs.Separation.{inside, apart, notLeft, onRim, touching, relationReply}
@@ -135,12 +136,18 @@ rows =
     ∷ says (furthestReply S (point (pos 1) (pos 1))) (answered (pos 2 ∷ pos 2 ∷ pos 4 ∷ []))
     ∷ says (furthestReply (segment 0 1 2 1) (point (pos 0) (pos 1))) (answered (pos 0 ∷ pos 1 ∷ pos 1 ∷ []))
     ∷ says (furthestReply (segment 0 1 2 1) (point (pos 0) (negsuc 0))) (answered (pos 0 ∷ pos 1 ∷ negsuc 0 ∷ []))
+    -- a sweep of S in another order, with 2 2 twice, 1 0 in line and 1 1 inside; of one point three times; of three in line; of none: 1
+    ∷ writes (λ out. sweepWritten (pos 2 ∷ pos 2 ∷ pos 1 ∷ pos 0 ∷ pos 0 ∷ pos 2 ∷ pos 1 ∷ pos 1 ∷ pos 2 ∷ pos 2 ∷ pos 2 ∷ pos 0
+    ∷ pos 0 ∷ pos 0 ∷ []) out) 4 S
+    ∷ writes (λ out. sweepWritten (pair 3 1 ++ (pair 3 1 ++ pair 3 1)) out) 1 (pair 3 1)
+    ∷ writes (λ out. sweepWritten (pair 2 1 ++ segment 3 1 0 1) out) 2 (segment 0 1 3 1)
+    ∷ says (sweepWritten [] [] .reply) (refused 1 (1 ∷ []))
     ∷ []
 
 pub rows-hold : map (λ (r : Case). r .given) rows ≡ map (λ (r : Case). r .stated) rows
-unfolding rows maxCorners maxCoordinate maxPart turn breaks precedes samePoint max shapeOf
+unfolding rows maxCorners maxCoordinate maxPoints maxPart turn breaks precedes samePoint max shapeOf
     badCount tooMany outside someOutside equalPair leftBroken breakingEdge breakingCorner ruleBroken brokenEdge brokenCorner badStart judged
-    noRoom overwritten sumWritten mergeWritten
+    noRoom overwritten sumWritten mergeWritten tooManyPoints sweepWritten
     squared lengthSquared furthestPair lengthFrom lengthTo lengthReply
     edgeTurn height edgeSquared noWider widthEdge widthCorner widthRounded widthReply
     inside apart notLeft onRim touching relationReply

@@ -16,6 +16,7 @@ pub mod VectorSum
 pub mod Face
 pub mod Furthest
 pub mod Combine
+pub mod Sweep
 pub mod Measure
 pub mod Separation
 pub mod Tangent

@@ -5,12 +5,12 @@
 --     forms          three ways to say that a list is a shape
 --     directions     how far sums, lists taken together and mirrored lists reach; a shape is known by how far it reaches
 --     faces          the furthest corners of a shape, from the first to the last counterclockwise
---     mirror         refusals 6 and 7 cannot come of it
+--     mirror, sweep  refusals 6 and 7 cannot come of them
 use mathlib.Core.Path.{_≡_, refl}
 use mathlib.Core.Bool.{true, false}
 use mathlib.Core.List.{List, [], _∷_, _++_}
 use mathlib.Core.Logic.{_⊎_}
-use Prim.Native.Nat.{ℕ, _<_}
+use Prim.Native.Nat.{ℕ, _≤_, _<_}
 use lib.ListN.{length, drop}
 use lib.IntN.{ℤ, pos, _+ℤ_}
 use lib.Signed.{_≤ℤ_, _<ℤ_}
@@ -27,6 +27,7 @@ use Rattle.plane.specs.Corner.{Corner, shapeOf, sums, mirrored}
 use Rattle.plane.specs.Forms.{Ordered, Sorted, NonZero, edges}
 use Rattle.plane.specs.Output.{overwritten, written}
 use Rattle.plane.specs.Face.{faceFirst, faceLast}
+use Rattle.plane.specs.Sweep.{ValidPoints}
 use Rattle.plane.specs.Question.{Question, reply, table}
 use Rattle.plane.specs.theory.lists.Members.{_∈_, _⊆_, position-member}
 use Rattle.plane.specs.theory.refusals.Rows.{NoneApply, First, firstRow-none, firstRow-answered}
@@ -47,6 +48,8 @@ use Rattle.plane.specs.theory.face.FirstFurthest.{furthest-greatest}
 use Rattle.plane.specs.theory.face.Face.{Face, face-is, face-unique, face-left, segment-face}
 use Rattle.plane.specs.theory.mirror.Mirror.{mirror-count}
 use Rattle.plane.specs.theory.mirror.MirrorWritten.{mirror-few, mirror-near}
+use Rattle.plane.specs.theory.sweep.Few.{shapeOf-few}
+use Rattle.plane.specs.theory.sweep.SweepWritten.{sweep-few, sweep-near}
 
 -- ---- judging
 
@@ -151,6 +154,10 @@ module _ (S : List Point) (some : 0 < length S) where
   pub shape-of-set-is-only-one : (ps : List Point) → IsShape ps → ((p : Point) → p ∈ ps → Corner S p)
       → ((p : Point) → Corner S p → p ∈ ps) → ps ≡ shapeOf S
   shape-of-set-is-only-one ps s f g = shapeOf-unique S ps some s f g
+
+  -- "those points of it": it has at most as many corners as the set has points, repeats counted
+  pub shape-of-set-has-few-corners : length (shapeOf S) ≤ length S
+  shape-of-set-has-few-corners = shapeOf-few S some
 
   -- in every direction it reaches as far as the set
   pub shape-of-set-reaches : (d : Point) → support d (shapeOf S) ≡ support d S
@@ -269,3 +276,14 @@ module _ (l : List ℤ) (v : Valid l) where
   -- nor 7, "a corner of the answer is out of range"
   pub mirror-is-never-out-of-range : someOutside (numbers (shapeOf (mirrored (points l)))) ≡ false
   mirror-is-never-out-of-range = mirror-near l v
+
+-- ---- sweep
+
+module _ (l : List ℤ) (v : ValidPoints l) where
+  -- "Refusals are 1, 2, 3 and 8 only": 6, an answer of too many corners, cannot come of it
+  pub sweep-is-never-too-many : tooMany (shapeOf (points l)) ≡ false
+  sweep-is-never-too-many = sweep-few l v
+
+  -- nor 7, "a corner of the answer is out of range"
+  pub sweep-is-never-out-of-range : someOutside (numbers (shapeOf (points l))) ≡ false
+  sweep-is-never-out-of-range = sweep-near l v

@@ -17,6 +17,7 @@ use Rattle.plane.specs.Corner.{shapeOf, sums, mirrored}
 use Rattle.plane.specs.Output.{answerRows}
 use Rattle.plane.specs.Furthest.{directionRows, furthestReply}
 use Rattle.plane.specs.Combine.{mirrorWritten, sumWritten, mergeWritten}
+use Rattle.plane.specs.Sweep.{pointRows, roomRows, sweepWritten}
 use Rattle.plane.specs.Measure.{lengthReply, widthReply}
 use Rattle.plane.specs.Separation.{apart, relationReply, insideReply}
 use Rattle.plane.specs.Tangent.{tangentsReply}
@@ -29,6 +30,7 @@ pub data Question : Type 0 where
   Mirror : List ℤ → List ℤ → Question
   Sum : List ℤ → List ℤ → List ℤ → Question
   Merge : List ℤ → List ℤ → List ℤ → Question
+  Sweep : List ℤ → List ℤ → Question
   Length : List ℤ → Question
   Width : List ℤ → Question
   Relation : List ℤ → List ℤ → Question
@@ -42,6 +44,7 @@ reply (Furthest l d) = furthestReply l d
 reply (Mirror l out) = mirrorWritten l out .reply
 reply (Sum a b out) = sumWritten a b out .reply
 reply (Merge a b out) = mergeWritten a b out .reply
+reply (Sweep l out) = sweepWritten l out .reply
 reply (Length l) = lengthReply l
 reply (Width l) = widthReply l
 reply (Relation a b) = relationReply a b
@@ -55,6 +58,7 @@ table (Furthest l d) = shapeRows 1 l ++ directionRows d
 table (Mirror l out) = shapeRows 1 l ++ answerRows (shapeOf (mirrored (points l))) out
 table (Sum a b out) = shapeRows 1 a ++ (shapeRows 2 b ++ answerRows (shapeOf (sums (points a) (points b))) out)
 table (Merge a b out) = shapeRows 1 a ++ (shapeRows 2 b ++ answerRows (shapeOf (points a ++ points b)) out)
+table (Sweep l out) = pointRows l ++ roomRows (shapeOf (points l)) out
 table (Length l) = shapeRows 1 l
 table (Width l) = shapeRows 1 l ++ (row 10 (ltb (length (points l)) 3) [] ∷ [])
 table (Relation a b) = shapeRows 1 a ++ shapeRows 2 b

@@ -7,6 +7,7 @@
 --     sum          paths along edges, the cut, the sum of sorted edges
 --     face         the furthest corners of a shape in a direction
 --     mirror       the mirror image
+--     sweep        how large the shape of a set is
 pub mod lists
 pub mod forms
 pub mod refusals
@@ -15,3 +16,4 @@ pub mod hull
 pub mod sum
 pub mod face
 pub mod mirror
+pub mod sweep

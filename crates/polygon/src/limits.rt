@@ -4,10 +4,13 @@ ghost use mathlib.Core.Path.{_≡_};
 ghost use lib.Dec.{ltb};
 ghost use lib.IntN.{natAbs};
 ghost use lib.Signed.{ltZ};
-ghost use Rattle.plane.specs.Limits.{maxCorners, maxPart};
+ghost use Rattle.plane.specs.Limits.{maxCorners, maxPoints, maxPart};
 ghost use Rattle.plane.specs.Refusal.{outside as Refusal·outside};
 
 pub const MAX_CORNERS: usize = 1_024;
+
+// How many points a sweep may have: the paper's dots.
+const MAX_POINTS: usize = 1_024;
 
 const MAX_COORDINATE: i32 = 1_000_000;
 
@@ -19,12 +22,25 @@ pub const SHAPE_NUMBERS: usize = 2 * MAX_CORNERS;
 // So many numbers hold the corners of any two shapes.
 pub const PAIR_NUMBERS: usize = 2 * SHAPE_NUMBERS;
 
+// So many numbers hold the points of any sweep.
+pub const POINTS_NUMBERS: usize = 2 * MAX_POINTS;
+
+// So many numbers hold both chains of the points of any sweep.
+pub const CHAINS_NUMBERS: usize = 2 * POINTS_NUMBERS;
+
 // Whether so many corners are more than a shape may have.
 // Ruled out: one corner fewer.
 pub fn exceeds_corners(n: usize) -> bool
     ensures { λ r. ⌜ r ≡ ltb maxCorners n ⌝ }
 {
     MAX_CORNERS < n
+}
+
+// Whether so many points are more than a sweep may have.
+pub fn exceeds_points(n: usize) -> bool
+    ensures { λ r. ⌜ r ≡ ltb maxPoints n ⌝ }
+{
+    MAX_POINTS < n
 }
 
 // Whether a coordinate is out of its range.

@@ -6,6 +6,7 @@ ghost use lib.ListN.{length};
 ghost use Rattle.plane.specs.Point.{points, corner};
 ghost use Rattle.plane.specs.Shape.{next as Shape·next, breaks};
 ghost use Rattle.plane.specs.Refusal.{InRange, badCount, tooMany, someOutside, equalPair, badStart};
+ghost use Rattle.plane.specs.Sweep.{tooManyPoints};
 ghost use Rattle.polygon.specs.Broken.{leftBreak, broken};
 use crate::corners;
 use crate::limits;
@@ -23,6 +24,14 @@ pub fn too_many(list: &[i32]) -> bool
     ensures { λ r. ⌜ r ≡ tooMany (points (now (list .entry))) ⌝ }
 {
     limits::exceeds_corners(corners::count(list))
+}
+
+// Refusal 2 of a sweep: more points than the limit, repeats counted.
+// Ruled out: repeats not counted.
+pub fn too_many_points(list: &[i32]) -> bool
+    ensures { λ r. ⌜ r ≡ tooManyPoints (points (now (list .entry))) ⌝ }
+{
+    limits::exceeds_points(corners::count(list))
 }
 
 // Refusal 3: some coordinate is out of range. All are looked at, so that the loop has no second way out.

@@ -83,12 +83,13 @@ fn write(
     }
 }
 
-// The mirror image, the vector sum, or the shape of both together.
+// The mirror image, the vector sum, the shape of both together, or that of the points of a sweep.
 fn shape(which: Written, a: &[i32], b: &[i32], out: &mut [i32]) -> Answer {
     match which {
         Written::Mirror => questions::mirror(a, out),
         Written::Sum => questions::sum(a, b, out),
         Written::Merge => questions::merge(a, b, out),
+        Written::Sweep => questions::sweep(a, out),
     }
 }
 

@@ -32,6 +32,7 @@ pub enum Written {
     Mirror,
     Sum,
     Merge,
+    Sweep,
 }
 
 // What a word stands for: a question and the kinds of its fields.
@@ -83,7 +84,8 @@ fn shapes(found: Entry, word: &[u8]) -> Entry {
     let mut entry = found;
     entry = write(entry, word, b"mirror", Written::Mirror, one);
     entry = write(entry, word, b"sum", Written::Sum, two);
-    write(entry, word, b"merge", Written::Merge, two)
+    entry = write(entry, word, b"merge", Written::Merge, two);
+    write(entry, word, b"sweep", Written::Sweep, one)
 }
 
 // The pictures.

@@ -5,6 +5,7 @@
 --     Admitted which l r      the list is a shape, or its rows refuse it and blame the shape `which`
 --     AdmittedPair a b r      two shapes, or the rows of the first and then of the second refuse them
 --     Surveyed shape r        refusals 6 and 7 of an answer: neither applies, or the first that does is given
+--     AdmittedPoints l r      the list holds the points of a sweep, or its rows refuse it
 --     Coordinated part x r    a reading's whole number, or its rows refuse it and blame the part
 use mathlib.Core.Path.{_≡_}
 use mathlib.Core.Bool.{false}
@@ -15,6 +16,7 @@ use Rattle.plane.specs.Reply.{Reply, Row, firstRow}
 use Rattle.plane.specs.Point.{Point, numbers}
 use Rattle.plane.specs.Refusal.{tooMany, someOutside, shapeRows, Valid}
 use Rattle.calipers.specs.Part.{surveyRows}
+use Rattle.plane.specs.Sweep.{pointRows, ValidPoints}
 use Rattle.tablet.specs.Reading.{readAs, readingRows}
 use Rattle.tablet.specs.declared.reading.Reading.{Reading}
 use Rattle.tablet.specs.declared.reading.Read.the-variants.{Whole}
@@ -38,6 +40,10 @@ AdmittedPair a b (Admission.No r) = Refuses (shapeRows 1 a ++ shapeRows 2 b) (of
 abbrev pub Surveyed : List Point → Admission → Type 0
 Surveyed shape Admission.Valid = (tooMany shape ≡ false) × (someOutside (numbers shape) ≡ false)
 Surveyed shape (Admission.No r) = Refuses (surveyRows shape) (ofRefusal r)
+
+abbrev pub AdmittedPoints : List ℤ → Admission → Type 0
+AdmittedPoints l Admission.Valid = ValidPoints l
+AdmittedPoints l (Admission.No r) = Refuses (pointRows l) (ofRefusal r)
 
 abbrev pub Coordinated : ℕ → Reading → Coordinate → Type 0
 Coordinated part x (Coordinate.Whole n) = readAs x ≡ Whole n

@@ -1,11 +1,11 @@
 // Inner functions: lists judged, each once, before a question is asked of them.
-ghost use Rattle.questions.specs.Admission.{Admitted, AdmittedPair};
+ghost use Rattle.questions.specs.Admission.{Admitted, AdmittedPair, AdmittedPoints};
 use crate::answer::Refusal;
 use calipers::sorted;
 use polygon::rules;
 use polygon::rules::Broken;
 
-// A list that is a shape, two lists that are, or the first refusal of 1 to 5.
+// A list that is a shape, two lists that are, the points of a sweep, or the first refusal of 1 to 5.
 pub enum Admission {
     Valid,
     No(Refusal),
@@ -51,4 +51,21 @@ pub fn admit_pair(a: &[i32], b: &[i32]) -> Admission
         return Admission::No(refusal);
     }
     admit(b, 2)
+}
+
+// Judges the points of a sweep: refusals 1 to 3 in their order. Points are counted as they come, repeats and all. A
+// sweep has one list, so that the first shape is blamed.
+pub fn admit_points(list: &[i32]) -> Admission
+    ensures { λ r. ⌜ AdmittedPoints (now (list .entry)) r ⌝ }
+{
+    if rules::bad_count(list) {
+        return Admission::No(Refusal::Count { shape: 1 });
+    }
+    if rules::too_many_points(list) {
+        return Admission::No(Refusal::Corners { shape: 1 });
+    }
+    if rules::some_outside(list) {
+        return Admission::No(Refusal::Range { shape: 1 });
+    }
+    Admission::Valid
 }

@@ -8,7 +8,7 @@ pub enum Refusal {
     Count {
         shape: usize,
     },
-    // 2: more corners than a shape may have
+    // 2: more corners than a shape may have, or more points than a sweep may have
     Corners {
         shape: usize,
     },

@@ -16,6 +16,7 @@ ghost use Rattle.plane.specs.Refusal.{Valid};
 ghost use Rattle.plane.specs.Judge.{judged};
 ghost use Rattle.plane.specs.Furthest.{furthestReply};
 ghost use Rattle.plane.specs.Combine.{mirrorWritten, sumWritten, mergeWritten};
+ghost use Rattle.plane.specs.Sweep.{sweepWritten};
 ghost use Rattle.plane.specs.Measure.{lengthReply, widthReply};
 ghost use Rattle.plane.specs.Separation.{apart, relationReply, insideReply};
 ghost use Rattle.plane.specs.Clearance.{clearanceReply};
@@ -141,6 +142,23 @@ pub fn merge(a: &[i32], b: &[i32], out: &mut [i32]) -> Answer
     }
     let mut shape = [0i32; limits::PAIR_NUMBERS];
     let n = hull::merge(a, b, &mut shape);
+    deliver::deliver(&shape[..2 * n], out)
+}
+
+// Writes the shape of up to as many points as a sweep may have, in any order, at the front of the output, and answers
+// how many corners it has. A point that is repeated counts once in the shape, and one in line between two others is no
+// corner of it; points that are all equal make a point, and points in one line a segment. Refused, with the output as
+// it was: 1 to 3, points counted before repeats are dropped, and then an output that is too small.
+// Ruled out: points in line kept; repeats kept; repeats not counted; output written before the room is known.
+pub fn sweep(list: &[i32], out: &mut [i32]) -> Answer
+    ensures { λ r. ⌜ (ofAnswer r ≡ sweepWritten (now (list .entry)) (now (out .entry)) .reply)
+        × (now (out .exit) ≡ sweepWritten (now (list .entry)) (now (out .entry)) .output) ⌝ }
+{
+    if let Admission::No(refusal) = admission::admit_points(list) {
+        return Answer::No(refusal);
+    }
+    let mut shape = [0i32; limits::CHAINS_NUMBERS];
+    let n = hull::sweep(list, &mut shape);
     deliver::deliver(&shape[..2 * n], out)
 }
 

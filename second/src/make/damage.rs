@@ -38,7 +38,7 @@ fn hurt_twice_at_times(dice: &mut Dice, list: List) -> List {
 }
 
 /// One fault put into a list.
-fn hurt(dice: &mut Dice, list: List) -> List {
+pub fn hurt(dice: &mut Dice, list: List) -> List {
     match dice.below(14) {
         0 => odd(dice, list),
         1..3 => out_of_range(dice, list),

@@ -1,7 +1,7 @@
 //! The fields of random questions, a function for each row of the table or for several alike.
 
 use super::dice::Dice;
-use super::{List, apart, damage, line, list_text, numbers, pairs, shapes, tails};
+use super::{List, apart, damage, line, list_text, numbers, pairs, points, shapes, tails};
 use crate::answer::answer;
 use crate::plane::Shape;
 
@@ -47,6 +47,11 @@ pub fn sum(dice: &mut Dice) -> Vec<String> {
 pub fn merge(dice: &mut Dice) -> Vec<String> {
     let lists = two_lists(dice, pairs::for_merge);
     with_room(dice, "merge", lists)
+}
+
+pub fn sweep(dice: &mut Dice) -> Vec<String> {
+    let list = points::list(dice);
+    with_room(dice, "sweep", vec![list])
 }
 
 fn one_list(dice: &mut Dice) -> Vec<List> {

@@ -3,6 +3,7 @@
 //!
 //!     fields                the fields of each question
 //!     shapes, pairs, long   good shapes, alone and in pairs; damage: lists that are refused
+//!     points                points of sweeps
 //!     apart                 pairs of good shapes that are mostly apart
 //!     parts                 walks and calls of sums in parts; all of them for small sums
 //!     tails                 directions and rooms; readings: bits of doubles; logs: their bytes
@@ -20,6 +21,7 @@ pub mod logs;
 pub mod long;
 pub mod pairs;
 pub mod parts;
+pub mod points;
 pub mod readings;
 mod shapes;
 mod spoil;

@@ -1,5 +1,5 @@
 -- The scan on a stack that stands at the front of a buffer.
---     take-stack             the front of a list is its stack, read backwards
+--     stack-length, stack-reverse, take-stack     a stack has as many points as it says; it is the front of the list read backwards
 --     Settling, settle-drop, settle-keep, settle-short      the loop that drops corners until the new point turns left
 --     settled-scanned        the point is written behind what stays
 --     Scanning, scanning-start, -one, -rest, -end           the loop that reads points; `scanning-room`: there is room for the next;
@@ -28,11 +28,15 @@ use Rattle.hull.specs.theory.Stored.{stored-points, stored-length}
 
 -- ---- stacks
 
+pub stack-length : (ps : List Point) (k : ℕ) → length (stack ps k) ≡ k
+stack-length ps zero = refl
+stack-length ps (suc k) = ap suc (stack-length ps k)
+
 stack-set : (ps : List Point) (k r : ℕ) (p : Point) → r ≤ k → stack (set ps k p) r ≡ stack ps r
 stack-set ps k zero p h = refl
 stack-set ps k (suc r) p h = ap₂ (λ q l. q ∷ l) (getD-set-other ps k r p origin (λ e. omega arith)) (stack-set ps k r p (omega arith))
 
-stack-reverse : (ps : List Point) (k : ℕ) → k ≤ length ps → stack ps k ≡ reverse (take k ps)
+pub stack-reverse : (ps : List Point) (k : ℕ) → k ≤ length ps → stack ps k ≡ reverse (take k ps)
 stack-reverse ps zero h = refl
 stack-reverse ps (suc k) h =
     ap (λ l. corner ps k ∷ l) (stack-reverse ps k (omega arith))

@@ -1,5 +1,6 @@
 -- Both chains in one buffer, one behind the other.
 --     chains-shape      one behind the other they are the shape of both
+--     numbers-front     the numbers of the first corners are the first numbers
 --     front-put         corners at the front of a buffer, and at the front of its rest; `front-one`: one corner written there
 use mathlib.Core.Path.{_≡_, refl, sym, _∙_, ap, ap₂, subst}
 use mathlib.Core.Bool.{true, false}
@@ -33,7 +34,7 @@ chains-shape shape other c {xs = xs} {ys = ys} {m = m} {n = n} up down i j =
 
 -- ---- the buffer
 
-numbers-front : (l : List ℤ) (m : ℕ) → m ≤ length (points l) → numbers (take m (points l)) ≡ take (2 * m) l
+pub numbers-front : (l : List ℤ) (m : ℕ) → m ≤ length (points l) → numbers (take m (points l)) ≡ take (2 * m) l
 numbers-front l zero h = refl
 numbers-front [] (suc m) h = absurd (omega arith)
 numbers-front (a ∷ []) (suc m) h = absurd (omega arith)

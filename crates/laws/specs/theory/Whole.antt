@@ -30,7 +30,7 @@ use Rattle.laws.specs.theory.Fold.{reach, act, result-acts, result-valid
 
 -- ---- no group is empty
 
-order-length : {L M : List (List ℤ)} → List·Permᴰ L M → length L ≡ length M
+pub order-length : {A : Type 0} {L M : List A} → List·Permᴰ L M → length L ≡ length M
 order-length List·Permᴰ·nil = refl
 order-length (List·Permᴰ·cons e p) = let h = order-length p in omega arith
 order-length (List·Permᴰ·swap e f) = refl

@@ -3,7 +3,8 @@
 --     little-room         row 8 applies
 --     all-delivered       no row does: the numbers are copied
 --     pair-delivered      what is delivered of the front of a buffer, where a shape made of two shapes stands; `front-paired`: its numbers
---     pair-refused, mirror-refused     a list is refused; `mirror-answered`: the image is written
+--     sweep-delivered     the same where the shape of a sweep stands
+--     pair-refused, mirror-refused, sweep-refused     a list is refused; `mirror-answered`: the image is written
 use mathlib.Core.Path.{_≡_, sym, _∙_, ap, ap₂, subst}
 use mathlib.Core.Bool.{Bool, false}
 use mathlib.Core.List.{List, [], _∷_, _++_}
@@ -17,12 +18,14 @@ use Rattle.plane.specs.Point.{Point, points, numbers}
 use Rattle.plane.specs.Reply.{Reply, answered, refused}
 use Rattle.plane.specs.Refusal.{tooMany, someOutside, shapeRows, Valid}
 use Rattle.plane.specs.Corner.{shapeOf, mirrored}
-use Rattle.plane.specs.Output.{noRoom, answerRows, overwritten}
+use Rattle.plane.specs.Output.{Written, noRoom, answerRows, overwritten}
 use Rattle.plane.specs.Combine.{mirrorWritten, pairWritten}
+use Rattle.plane.specs.Sweep.{pointRows, roomRows, ValidPoints, sweepWritten}
 use Rattle.plane.specs.theory.lists.Flat.{numbers-points}
 use Rattle.plane.specs.theory.refusals.Write.{Wrote, wrote-room, wrote-all}
 use Rattle.plane.specs.theory.mirror.Mirror.{topmost, mirror-known}
 use Rattle.plane.specs.theory.mirror.MirrorWritten.{mirror-written}
+use Rattle.plane.specs.theory.sweep.SweepWritten.{sweep-answered}
 use Rattle.polygon.specs.Front.{Front}
 use Rattle.polygon.specs.theory.Fronts.{front-points, front-length}
 use Rattle.questions.specs.Delivery.{delivered}
@@ -69,6 +72,14 @@ module _ {ps : List Point} {n : ℕ} {l : List ℤ} (f : Front ps n l) where
       (subst (λ s. Wrote (answerRows s old) s old r out) (front-points f) (record { reply-is = h; output-is = k })) in
       (w .reply-is, w .output-is)
 
+-- what is delivered of the front is written of the shape of a sweep
+pub sweep-delivered : (list : List ℤ) {n : ℕ} {l : List ℤ} → Front (shapeOf (points list)) n l → ValidPoints list → (old : List ℤ)
+    {r : Reply} {out : List ℤ} → r ≡ delivered (points (take (2 * n) l)) old .reply → out ≡ delivered (points (take (2 * n) l)) old .output
+    → (r ≡ sweepWritten list old .reply) × (out ≡ sweepWritten list old .output)
+sweep-delivered list f v old h k =
+    let same = ap (λ s. delivered s old) (front-points f) ∙ sweep-answered list v old in
+    (h ∙ ap (λ (w : Written). w .reply) same, k ∙ ap (λ (w : Written). w .output) same)
+
 -- a list that is refused: nothing is written
 pub pair-refused : (a b : List ℤ) (shape : List Point) (old : List ℤ) {r : Reply} → Refuses (shapeRows 1 a ++ shapeRows 2 b) r
     → (r ≡ pairWritten a b shape old .reply) × (old ≡ pairWritten a b shape old .output)
@@ -80,6 +91,13 @@ unfolding mirrorWritten
 mirror-refused l old f =
     let shape = shapeOf (mirrored (points l)) in
     let w = refuses-written f (answerRows shape old) shape old in (w .reply-is, w .output-is)
+
+pub sweep-refused : (l old : List ℤ) {r : Reply} → Refuses (pointRows l) r
+    → (r ≡ sweepWritten l old .reply) × (old ≡ sweepWritten l old .output)
+unfolding sweepWritten
+sweep-refused l old f =
+    let shape = shapeOf (points l) in
+    let w = refuses-written f (roomRows shape old) shape old in (w .reply-is, w .output-is)
 
 pub mirror-answered : (l : List ℤ) → Valid l → (old : List ℤ) → 2 * length (points l) ≤ length old → {n : ℕ} {out : List ℤ} → n
     ≡ length (points l)

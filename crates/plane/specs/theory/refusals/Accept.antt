@@ -1,7 +1,7 @@
 -- The rows of refusals 1 to 5 against "What makes a shape".
 --     near→inRange, inRange→near      row 3 does not apply exactly if every coordinate is in range
 --     few-corners, corners-few            row 2 does not apply exactly if there are few enough corners
---     counted                 row 1 does not apply: there is a corner, and an even count of numbers
+--     counted, count-good     row 1 does not apply exactly if there is a corner, and an even count of numbers
 --     accepted→valid          no row applies: the list is valid; `shape→valid`: rows 1 to 3 do not, and the corners are a shape
 --     valid→accepted          a valid list: no row applies
 use mathlib.Core.Path.{_≡_, refl, sym, _∙_, ap, ap₂}
@@ -58,7 +58,7 @@ counted l h =
     let odd = eqb-false (length l % 2) 1 (tests .1) in
     (omega (arith, points-length l), omega arith)
 
-count-good : (l : List ℤ) → 0 < length (points l) → length l % 2 ≡ 0 → badCount l ≡ false
+pub count-good : (l : List ℤ) → 0 < length (points l) → length l % 2 ≡ 0 → badCount l ≡ false
 unfolding badCount
 count-good l h e =
     ap₂ (λ a b. a || b) (ne-eqb (length l) 0 (λ z. omega (arith, points-length l))) (ne-eqb (length l % 2) 1 (λ z. omega arith))

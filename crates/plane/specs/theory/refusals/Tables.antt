@@ -9,22 +9,24 @@ use Rattle.plane.specs.Reply.{answered, refused, Row, firstRow}
 use Rattle.plane.specs.Judge.{judged}
 use Rattle.plane.specs.Furthest.{furthestReply}
 use Rattle.plane.specs.Combine.{mirrorWritten, sumWritten, mergeWritten}
+use Rattle.plane.specs.Sweep.{sweepWritten}
 use Rattle.plane.specs.Measure.{lengthReply, widthReply}
 use Rattle.plane.specs.Separation.{relationReply, insideReply}
 use Rattle.plane.specs.Tangent.{tangentsReply}
 use Rattle.plane.specs.Clearance.{clearanceReply}
-use Rattle.plane.specs.Question.{Question, Judge, Furthest, Mirror, Sum, Merge, Length, Width, Relation, Inside, Clearance, Tangents}
-use Rattle.plane.specs.Question.{reply, table}
+use Rattle.plane.specs.Question.{Question, Judge, Furthest, Mirror, Sum, Merge, Sweep, Length, Width, Relation, Inside, Clearance}
+use Rattle.plane.specs.Question.{Tangents, reply, table}
 use Rattle.plane.specs.theory.refusals.Rows.{NoneApply, First, firstRow-given, firstRow-none, firstRow-answered, firstRow-refused}
 
 pub follows : (q : Question) → (values : List ℤ) × (reply q ≡ firstRow (table q) (answered values))
-unfolding judged furthestReply mirrorWritten sumWritten mergeWritten lengthReply widthReply relationReply insideReply clearanceReply
-    tangentsReply
+unfolding judged furthestReply mirrorWritten sumWritten mergeWritten sweepWritten lengthReply widthReply relationReply insideReply
+    clearanceReply tangentsReply
 follows (Judge l) = (_, refl)
 follows (Furthest l d) = (_, refl)
 follows (Mirror l out) = (_, refl)
 follows (Sum a b out) = (_, refl)
 follows (Merge a b out) = (_, refl)
+follows (Sweep l out) = (_, refl)
 follows (Length l) = (_, refl)
 follows (Width l) = (_, refl)
 follows (Relation a b) = (_, refl)

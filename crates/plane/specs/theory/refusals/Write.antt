@@ -4,6 +4,7 @@
 --     wrote-passed                         rows that do not apply may be left out
 --     wrote-many, -far, -room, -all        refusals 6, 7 and 8, and none
 --     refused-output, answered-output      a refusal leaves the output untouched; an answer writes the shape at its front
+--     written-passed                       the same of all that is written
 --     passed-output, none-output           the output alone: a table of which no row applies can be left out, and leaves what is new
 use mathlib.Core.Path.{_≡_, refl, sym, _∙_, ap}
 use mathlib.Core.Bool.{Bool, true, false, cond}
@@ -16,7 +17,7 @@ use Rattle.plane.specs.Reply.{Reply, answered, refused, Row}
 use Rattle.plane.specs.Refusal.{tooMany, someOutside}
 use Rattle.plane.specs.Output.{noRoom, answerRows, overwritten, unlessRefused, written}
 use Rattle.plane.specs.theory.refusals.Rows.{NoneApply, First, here, later, row-given, row-passed, firstRow-none, firstRow-answered}
-use Rattle.plane.specs.theory.refusals.Rows.{firstRow-refused}
+use Rattle.plane.specs.theory.refusals.Rows.{firstRow-passed, firstRow-refused}
 
 pub record Wrote (rows : List Row) (shape : List Point) (old : List ℤ) (reply : Reply) (out : List ℤ) : Type 0 where
   pub reply-is : reply ≡ written rows shape old .reply
@@ -77,6 +78,13 @@ passed-output (v ∷ vs) ws kept new n =
 pub none-output : (ws : List Row) (kept new : List ℤ) → NoneApply ws → unlessRefused ws kept new ≡ new
 none-output [] kept new n = refl
 none-output (w ∷ ws) kept new n = ap (λ (b : Bool). cond b kept (unlessRefused ws kept new)) (n .0) ∙ none-output ws kept new (n .1)
+
+pub written-passed : (vs ws : List Row) (shape : List Point) (out : List ℤ) → NoneApply vs
+    → written (vs ++ ws) shape out ≡ written ws shape out
+written-passed vs ws shape out n = λ i. record {
+  reply = firstRow-passed vs ws (answered (pos (length shape) ∷ [])) n i;
+  output = passed-output vs ws out (overwritten (numbers shape) out) n i;
+}
 
 -- ---- what is written, by the reply
 
