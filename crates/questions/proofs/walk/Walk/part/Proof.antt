@@ -98,9 +98,8 @@ same-length c = search needs
 
 returns-4 : tie.Need-returns-4
 returns-4 c =
-    let at-told = c .before .before in
-    let at-place = at-told .before .before .before .before in
-    let start = at-place .before .before .before .before .before in
+    let at-place = c .before .before .before .before .before .before .before in
+    let start = at-place .before .before .before .before in
     pair-written (one start) (other start) (shapes (at-place .before)) (asked start) (start .args .out .now)
     (c .before .write .ensures .0) (c .before .write .ensures .1)
 
