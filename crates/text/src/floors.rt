@@ -22,12 +22,7 @@ pub fn read(text: &[u8]) -> Floor {
         return Floor::On(0);
     }
     let mut number = [0i32; 1];
-    let taken = numbers::read(
-        words::between(word, 1, word.len()),
-        &mut number,
-        0,
-        false,
-    );
+    let taken = numbers::read(words::between(word, 1, word.len()), &mut number, 0, false);
     of_number(taken, number[0])
 }
 
