@@ -58,12 +58,12 @@ returns-3 c =
     let at-told = c .before in
     let at-first = at-told .before .before .before in
     let start = at-first .before .before .before in
-    floors-refused (one start) (other start) (first at-first) (second at-told) (c .if3 .taken)
+    floors-refused (one start) (other start) (first at-first) (second at-told) (c .if1 .taken)
 
 returns-4 : tie.Need-returns-4
 returns-4 c =
     let at-told = c .before in
-    (first (at-told .before .before .before), second at-told, c .if3 .left)
+    (first (at-told .before .before .before), second at-told, c .if1 .left)
 
 pub admit-pair-spec : {M : Type 1} → statement M
 admit-pair-spec =
