@@ -22,9 +22,10 @@ use Rattle.plane.specs.Corner.{shapeOf, sums}
 use Rattle.plane.specs.Floor.{Floored, on, withFloor}
 use Rattle.plane.specs.Meaning.{accepted-is-valid, valid-is-accepted}
 use Rattle.plane.specs.theory.lists.Flat.{points-length}
+use Rattle.plane.specs.theory.refusals.Floors.{withFloor-answered}
 use Rattle.laws.specs.Grouping.{corners, ShapeOn, AllOn, originPoint, Call, sumCall, mergeCall, answeredWith, Gives, Fits, Called}
 use Rattle.laws.specs.Grouping.{Grouping, Result, Refused, sumOfAll, mergeOfAll}
-use Rattle.laws.specs.theory.Answer.{withFloor-answered, sum-combines, merge-combines, floored-same}
+use Rattle.laws.specs.theory.Answer.{sum-combines, merge-combines, floored-same}
 use Rattle.laws.specs.theory.Refused.{refused→no-result}
 use Rattle.laws.specs.theory.Fold.{grouping-some, result-floor, result-on}
 use Rattle.laws.specs.theory.Whole.{sums-whole, merges-whole, sums-result, merges-result}

@@ -1,5 +1,4 @@
 -- What an answered sum or merge says: first of the table, the floors and the output, then of how far its shape reaches in each direction.
---     withFloor-answered               what is answered with a floor was answered without it
 --     pairQuestion set                 a question on two lists that writes the shape of a set of theirs
 --     pair-answered                    answered, its shapes are on one floor; its count, floor and shape are those it is defined to have
 --     floored-same                     shapes with the same numbers and the same floor are equal
@@ -9,9 +8,9 @@
 --     sum-combines, merge-combines     a sum adds, a merge takes the greater
 --     called-reaches                   also where the two shapes stand in the other order
 --     valid-same                       valid shapes on one floor that reach as far in every direction are equal
-use mathlib.Core.Path.{_≡_, refl, sym, _∙_, ap, subst}
+use mathlib.Core.Path.{_≡_, sym, _∙_, ap, subst}
 use mathlib.Core.List.{List, [], _∷_, _++_}
-use Prim.Native.Nat.{ℕ, _*_, _≤_, _<_}
+use Prim.Native.Nat.{_*_, _≤_, _<_}
 use native.Mathlib.Omega.{arith}
 use lib.IntN.{ℤ, pos, _+ℤ_, +ℤ-comm, +ℤ-assoc, +ℤ-idr}
 use lib.ListN.{length, take, length-append}
@@ -20,17 +19,17 @@ use Rattle.integer.specs.Order.{le-of-eq, le-trans, le-antisym}
 use Rattle.plane.specs.Limits.{maxCorners}
 use Rattle.plane.specs.Point.{Point, points, numbers}
 use Rattle.plane.specs.Shape.{IsShape}
-use Rattle.plane.specs.Reply.{Reply, answered, refused, Row}
+use Rattle.plane.specs.Reply.{answered, Row}
 use Rattle.plane.specs.Refusal.{Valid, InRange, shapeRows}
 use Rattle.plane.specs.Direction.{support, max}
 use Rattle.plane.specs.Corner.{shapeOf, sums}
 use Rattle.plane.specs.Output.{Written, answerRows, overwritten}
 use Rattle.plane.specs.Combine.{pairWritten, sumWritten, mergeWritten}
-use Rattle.plane.specs.Floor.{Floored, on, withFloor, writtenBetween}
+use Rattle.plane.specs.Floor.{Floored, on, writtenBetween}
 use Rattle.plane.specs.theory.refusals.Rows.{NoneApply, none-append, firstRow-answered}
 use Rattle.plane.specs.theory.refusals.Write.{answered-output}
 use Rattle.plane.specs.theory.refusals.Accept.{few-corners, near→inRange}
-use Rattle.plane.specs.theory.refusals.Floors.{Same, written-same, between-answered}
+use Rattle.plane.specs.theory.refusals.Floors.{Same, withFloor-answered, written-same, between-answered}
 use Rattle.plane.specs.theory.lists.Flat.{points-numbers, numbers-points, numbers-length}
 use Rattle.plane.specs.theory.lists.Members.{sums-some}
 use Rattle.plane.specs.theory.lists.Max.{left-le-max, max-comm, max-assoc, max-idem}
@@ -42,11 +41,6 @@ use Rattle.laws.specs.Grouping.{corners, Call, sumCall, mergeCall, Gives
 
 abbrev pub pairQuestion : (List ℤ → List ℤ → List Point) → List ℤ → List ℤ → List ℤ → Written
 pairQuestion set l m out = pairWritten l m (shapeOf (set l m)) out
-
-pub withFloor-answered : (f : ℕ) (r : Reply) (v : List ℤ) → withFloor f r ≡ answered v
-    → (u : List ℤ) × (r ≡ answered u) × (v ≡ u ++ (pos f ∷ []))
-withFloor-answered f (answered u) v h = (u, refl, cc)
-withFloor-answered f (refused n carries) v h = absurd (let z : _≡_ {A = ℕ} 0 1 = cc in let b : ⊥ = omega arith in b)
 
 module _ (set : List ℤ → List ℤ → List Point) (a b : Floored) (out : List ℤ) where
   abbrev shape : List Point
