@@ -44,15 +44,15 @@ pub fn admit(list: &[i32], shape: usize) -> Admission
 }
 
 // Judges the first list, then the second, and then whether they are on one floor.
-// Ruled out: second shape judged first; other shape blamed; floors compared before the second shape.
+// Ruled out: second shape judged first; other shape blamed; thirteen for a bad second shape; floors not compared.
 pub fn admit_pair(a: &[i32], f: u16, b: &[i32], g: u16) -> Admission
     ensures { λ r. ⌜ AdmittedPair (on (now (a .entry)) f) (on (now (b .entry)) g) r ⌝ }
 {
-    if let Admission::No(refusal) = admit(a, 1) {
-        return Admission::No(refusal);
+    if let Admission::No(first) = admit(a, 1) {
+        return Admission::No(first);
     }
-    if let Admission::No(refusal) = admit(b, 2) {
-        return Admission::No(refusal);
+    if let Admission::No(second) = admit(b, 2) {
+        return Admission::No(second);
     }
     if f != g {
         return Admission::No(Refusal::Floors);

@@ -1,5 +1,7 @@
 // The questions of documents 01 and 02, and all that callers need of this library. Each judges its own lists, once
-// each, gives its refusals in the order of the table, and asks one inner function.
+// each, gives its refusals in the order of the table, and asks one inner function. A shape is lent with its floor, and
+// every answer on shapes carries it: of two shapes, a on floor f and b on floor g, both have the same, or are refused 13
+// behind 1 to 5 of the first and of the second.
 mod admission;
 pub mod answer;
 mod coordinate;
@@ -121,8 +123,8 @@ pub fn mirror(list: &[i32], floor: u16, out: &mut [i32]) -> Answer
 
 // Writes the shape of all corner-plus-corner points at the front of the output, and answers how many corners it has.
 // Edges of equal direction make one step, so no three corners of the answer are in line. Refused, with the output as it
-// was: 1 to 5 of the first shape, then of the second; then an answer of too many corners, one out of range, and too
-// small an output. On success all behind the written numbers is kept.
+// was: 1 to 5 of the first shape, then of the second; different floors; then an answer of too many corners, one out of
+// range, and too small an output. On success all behind the written numbers is kept.
 // Ruled out: parallel corners kept; segment passed once; origin for every sum; second shape judged first.
 pub fn sum(a: &[i32], f: u16, b: &[i32], g: u16, out: &mut [i32]) -> Answer
     ensures { λ r. ⌜
@@ -141,8 +143,8 @@ pub fn sum(a: &[i32], f: u16, b: &[i32], g: u16, out: &mut [i32]) -> Answer
 
 // Writes the shape of both corner lists taken together at the front of the output, and answers how many corners it has.
 // The shapes may overlap, lie one in the other, share corners or edges. Refused, with the output as it was: 1 to 5 of
-// the first shape, then of the second; then an answer of too many corners, and too small an output. No corner of the
-// answer is out of range, since each is a corner of one of the two.
+// the first shape, then of the second; different floors; then an answer of too many corners, and too small an output. No
+// corner of the answer is out of range, since each is a corner of one of the two.
 // Ruled out: points in line kept; second shape forgotten; count one more.
 pub fn merge(a: &[i32], f: u16, b: &[i32], g: u16, out: &mut [i32]) -> Answer
     ensures { λ r. ⌜
@@ -223,8 +225,9 @@ pub fn width(list: &[i32], floor: u16) -> Width
 // Whether the shapes are apart, touching or overlapping. Equal points touch, and so do segments in line that share a
 // point, and segments of which one ends on the other; segments that cross overlap. A point or a segment that meets a
 // polygon touches it if it meets the rim only, and overlaps it otherwise. A polygon overlaps itself and every polygon
-// that is inside it. Refused: 1 to 5 of the first shape, then of the second.
-// Ruled out: touching read as apart; less or equal for less; segments in line by normals only.
+// that is inside it. Refused: 1 to 5 of the first shape, then of the second; different floors.
+// Ruled out: touching read as apart; less or equal for less; segments in line by normals only; floor zero in every
+// answer.
 pub fn relation(a: &[i32], f: u16, b: &[i32], g: u16) -> Relation
     ensures { λ r. ⌜ ofRelation r ≡ between (on (now (a .entry)) f) (on (now (b .entry)) g) relationReply ⌝ }
 {
@@ -247,7 +250,7 @@ fn stand(place: Place, floor: u16) -> Relation
 
 // Whether the first shape is inside the second: in no direction does it reach further. A shape is inside itself, and so
 // is one that only reaches the other's rim; inside a point is that point alone, inside a segment what lies on it.
-// Refused: 1 to 5 of the first shape, then of the second.
+// Refused: 1 to 5 of the first shape, then of the second; different floors.
 // Ruled out: shape not inside itself; inside the other way round.
 pub fn inside(a: &[i32], f: u16, b: &[i32], g: u16) -> Inside
     ensures { λ r. ⌜ ofInside r ≡ between (on (now (a .entry)) f) (on (now (b .entry)) g) insideReply ⌝ }
@@ -264,7 +267,8 @@ pub fn inside(a: &[i32], f: u16, b: &[i32], g: u16) -> Inside
 // Where two shapes are nearest, and how near: the least distance between any point of one and any point of the other.
 // Nothing if they are not apart. Either two corners, or a corner and an edge that it is over, strictly between its ends.
 // On a tie two corners go first, then a corner of the first shape, then one of the second; each by the smallest
-// positions. Two points have their own distance. Refused: 1 to 5 of the first shape, then of the second.
+// positions. Two points have their own distance. Refused: 1 to 5 of the first shape, then of the second; different
+// floors.
 // Ruled out: clearance where shapes touch; foot at the end counted as inside; ties the other way; only one edge of a
 // parallel pair tried; rounded up.
 pub fn clearance(a: &[i32], f: u16, b: &[i32], g: u16) -> Clearance
@@ -330,8 +334,8 @@ fn measured(found: Distance, floor: u16) -> Clearance
 // The four lines that just touch both of two shapes that are apart, each from a corner of the first to a corner of the
 // second: both shapes on the left or on the line; both on the right; the first left and the second right; the reverse.
 // A corner on the line counts for either side, and of several pairs on a line the nearest is meant; shapes that all lie
-// in one line have four equal answers. Refused: 1 to 5 of the first shape, then of the second; then shapes that touch
-// or overlap.
+// in one line have four equal answers. Refused: 1 to 5 of the first shape, then of the second; different floors; then
+// shapes that touch or overlap.
 // Ruled out: far pair for the near one; sides taken strictly; crossing lines exchanged; touching shapes answered.
 pub fn tangents(a: &[i32], f: u16, b: &[i32], g: u16) -> Tangents
     ensures { λ r. ⌜ ofTangents r ≡ between (on (now (a .entry)) f) (on (now (b .entry)) g) tangentsReply ⌝ }

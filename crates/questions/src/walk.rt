@@ -55,8 +55,8 @@ impl Walk {
     // none, and the walk stays as it is. Refused, with the output as it was: 1 to 5 of the first shape, then of the
     // second; different floors; a walk that is at no place of their sum; then a sum of too many corners, and one out of
     // range; and an output too small for the corners of this call.
-    // Ruled out: fourteen after six; thirteen after fourteen; one corner too few; walk handed back unmoved; room counted
-    // from k.
+    // Ruled out: fourteen after six; fourteen before thirteen; one corner too few; walk handed back unmoved; room
+    // counted from k.
     pub fn part(self, a: &[i32], f: u16, b: &[i32], g: u16, k: usize, out: &mut [i32]) -> Part
         ensures { λ r. ⌜
             (ofPart r
@@ -72,8 +72,8 @@ impl Walk {
         if !calipers::walk::is_place(a, b, self.first, self.second, self.over) {
             return Part::No(Refusal::NotAPlace);
         }
-        if let Admission::No(refusal) = survey(a, b) {
-            return Part::No(refusal);
+        if let Admission::No(whole) = survey(a, b) {
+            return Part::No(whole);
         }
         self.write(a, b, f, k, out)
     }

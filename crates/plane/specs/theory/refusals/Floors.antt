@@ -1,7 +1,8 @@
 -- Floors in the table: 13 stands between the rows of two shapes and those of the question.
 --     ByTable r ws         the reply r is refused by the first of the rows ws that applies, and else answered
 --     withFloor-table      so is the reply with its floor
---     between-table        and of a question on two shapes, its own rows stand behind 13
+--     withFloor-answered   what is answered with its floor was answered without it
+--     between-rows, between-table     and of a question on two shapes, its own rows stand behind 13
 --     Same a b             two shapes on one floor
 --     same→none, none→same     no row of two shapes applies exactly if they are such
 --     between-same, written-same   then the question is replied to as on one floor, with the floor
@@ -54,20 +55,28 @@ ByTable r ws = (values : List ℤ) × (r ≡ firstRow ws (answered values))
 pub withFloor-table : (f : ℕ) (r : Reply) (ws : List Row) → ByTable r ws → ByTable (withFloor f r) ws
 withFloor-table f r ws t = (t .0 ++ (pos f ∷ []), ap (withFloor f) (t .1) ∙ withFloor-rows f ws (t .0))
 
+pub withFloor-answered : (f : ℕ) (r : Reply) (answer : List ℤ) → withFloor f r ≡ answered answer
+    → (values : List ℤ) × (r ≡ answered values) × (answer ≡ values ++ (pos f ∷ []))
+withFloor-answered f (answered values) answer h = (values, refl, cc)
+withFloor-answered f (refused n carries) answer h = absurd (let z : _≡_ {A = ℕ} 0 1 = cc in let b : ⊥ = omega arith in b)
+
 module _ (a b : Floored) where
   -- the rows of both shapes
   abbrev shapes : List Row
   shapes = shapeRows 1 (a .list) ++ shapeRows 2 (b .list)
 
+  pub between-rows : (question : List ℤ → List ℤ → Reply) (ws : List Row) (values : List ℤ)
+      → question (a .list) (b .list) ≡ firstRow (shapes ++ ws) (answered values)
+      → between a b question ≡ firstRow (pairRows a b ++ ws) (answered (values ++ (pos (a .floor) ∷ [])))
+  unfolding between
+  between-rows question ws values h =
+      ap (λ r. firstRow (pairRows a b) (withFloor (a .floor) r)) h
+      ∙ ap (firstRow (pairRows a b)) (withFloor-rows (a .floor) (shapes ++ ws) values)
+      ∙ asked-once shapes (floorRow (a .floor) (b .floor) ∷ []) ws (answered (values ++ (pos (a .floor) ∷ [])))
+
   pub between-table : (question : List ℤ → List ℤ → Reply) (ws : List Row) → ByTable (question (a .list) (b .list)) (shapes ++ ws)
       → ByTable (between a b question) (pairRows a b ++ ws)
-  unfolding between
-  between-table question ws t =
-      let carried = withFloor-table (a .floor) (question (a .list) (b .list)) (shapes ++ ws) t in (
-        carried .0,
-        ap (firstRow (pairRows a b)) (carried .1)
-            ∙ asked-once shapes (floorRow (a .floor) (b .floor) ∷ []) ws (answered (carried .0)),
-      )
+  between-table question ws t = (_, between-rows question ws (t .0) (t .1))
 
 -- ---- one floor
 

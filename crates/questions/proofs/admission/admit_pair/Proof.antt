@@ -26,13 +26,13 @@ second c = subst (Admitted 2 _) (c .enum-told2 .given .1) (c .before .before .ad
 admit-requires : tie.Need-admit-requires
 admit-requires c κs = search needs
 
-enum-known-refusal : tie.Need-enum-known-refusal
-enum-known-refusal c = search needs
+enum-known-first : tie.Need-enum-known-first
+enum-known-first c = search needs
 
 returns : tie.Need-returns
 returns c =
     let start = c .before .before .before .before in
-    first-refused (one start) (other start) (subst (Admitted 1 _) (c .before .refusal .given .1) (c .before .before .before .admit .ensures))
+    first-refused (one start) (other start) (subst (Admitted 1 _) (c .before .first .given .1) (c .before .before .before .admit .ensures))
 
 enum-told : tie.Need-enum-told
 enum-told c = search needs
@@ -40,15 +40,15 @@ enum-told c = search needs
 admit-requires-2 : tie.Need-admit-requires-2
 admit-requires-2 c κs = search needs
 
-enum-known-refusal-2 : tie.Need-enum-known-refusal-2
-enum-known-refusal-2 c = search needs
+enum-known-second : tie.Need-enum-known-second
+enum-known-second c = search needs
 
 returns-2 : tie.Need-returns-2
 returns-2 c =
     let at-second = c .before .before .before in
     let start = at-second .before .before .before .before in
     second-refused (one start) (other start) (first (at-second .before))
-    (subst (Admitted 2 _) (c .before .refusal2 .given .1) (at-second .admit2 .ensures))
+    (subst (Admitted 2 _) (c .before .second .given .1) (at-second .admit2 .ensures))
 
 enum-told-2 : tie.Need-enum-told-2
 enum-told-2 c = search needs
@@ -58,15 +58,15 @@ returns-3 c =
     let at-told = c .before in
     let at-first = at-told .before .before .before in
     let start = at-first .before .before .before in
-    floors-refused (one start) (other start) (first at-first) (second at-told) (c .if3 .taken)
+    floors-refused (one start) (other start) (first at-first) (second at-told) (c .if1 .taken)
 
 returns-4 : tie.Need-returns-4
 returns-4 c =
     let at-told = c .before in
-    (first (at-told .before .before .before), second at-told, c .if3 .left)
+    (first (at-told .before .before .before), second at-told, c .if1 .left)
 
 pub admit-pair-spec : {M : Type 1} → statement M
 admit-pair-spec =
     tie.close
-    (tie.spec admit-requires enum-known-refusal returns enum-told admit-requires-2 enum-known-refusal-2 returns-2 enum-told-2
+    (tie.spec admit-requires enum-known-first returns enum-told admit-requires-2 enum-known-second returns-2 enum-told-2
     returns-3 returns-4)

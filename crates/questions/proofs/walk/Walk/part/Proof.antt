@@ -69,8 +69,8 @@ returns-2 c =
 survey-requires : tie.Need-survey-requires
 survey-requires c κs = let both = shapes (c .before .before) in (both .0, both .1)
 
-enum-known-refusal-2 : tie.Need-enum-known-refusal-2
-enum-known-refusal-2 c = search needs
+enum-known-whole : tie.Need-enum-known-whole
+enum-known-whole c = search needs
 
 returns-3 : tie.Need-returns-3
 returns-3 c =
@@ -80,7 +80,7 @@ returns-3 c =
     let args = start .args in
     let part = part-surveyed (args .a .now) (args .b .now) (stateOf (args .self)) (args .k) (args .out .now) (args .f) (both .0) (both .1)
     (told (at-survey .before .before) (not-false _ (at-survey .before .if1 .left)))
-    (subst (Surveyed _) (c .before .refusal2 .given .1) (at-survey .survey .ensures)) in
+    (subst (Surveyed _) (c .before .whole .given .1) (at-survey .survey .ensures)) in
     pair-written (one start) (other start) both (asked start) (args .out .now) (part .0) (part .1)
 
 enum-told-2 : tie.Need-enum-told-2
@@ -106,5 +106,5 @@ returns-4 c =
 pub part-spec : {M : Type 1} → statement M
 part-spec =
     tie.close
-    (tie.spec admit-pair-requires enum-known-refusal returns enum-told is-place-requires returns-2 survey-requires enum-known-refusal-2
+    (tie.spec admit-pair-requires enum-known-refusal returns enum-told is-place-requires returns-2 survey-requires enum-known-whole
     returns-3 enum-told-2 write-requires same-length returns-4)
