@@ -2,9 +2,10 @@
 ghost use mathlib.Core.Bool.{true};
 ghost use mathlib.Core.Path.{_≡_};
 ghost use Rattle.plane.specs.Refusal.{Valid};
-ghost use Rattle.plane.specs.Floor.{on, withFloor, between, writtenBetween};
+ghost use Rattle.plane.specs.Floor.{on, withFloor};
 ghost use Rattle.calipers.specs.PlaceAfter.{wholeSum, isPlace};
-ghost use Rattle.calipers.specs.Part.{beginReply, partWritten};
+ghost use Rattle.calipers.specs.Part.{partWritten};
+ghost use Rattle.calipers.specs.PartFloor.{beginOn, partOn};
 ghost use Rattle.questions.specs.Admission.{Surveyed};
 ghost use Rattle.questions.specs.declared.admission.Admission.the-variants.{Valid as Admission·Valid};
 ghost use Rattle.questions.specs.Answer.{ofBegun, ofPart};
@@ -31,7 +32,7 @@ pub struct Walk {
 // of the first shape, then of the second; different floors; then a sum of too many corners, and one out of range. No
 // output is asked for yet.
 pub fn begin(a: &[i32], f: u16, b: &[i32], g: u16) -> Begun
-    ensures { λ r. ⌜ ofBegun r ≡ between (on (now (a .entry)) f) (on (now (b .entry)) g) beginReply ⌝ }
+    ensures { λ r. ⌜ ofBegun r ≡ beginOn (on (now (a .entry)) f) (on (now (b .entry)) g) ⌝ }
 {
     if let Admission::No(refusal) = admission::admit_pair(a, f, b, g) {
         return Begun::No(refusal);
@@ -55,16 +56,14 @@ impl Walk {
     // none, and the walk stays as it is. Refused, with the output as it was: 1 to 5 of the first shape, then of the
     // second; different floors; a walk that is at no place of their sum; then a sum of too many corners, and one out of
     // range; and an output too small for the corners of this call.
-    // Ruled out: fourteen after six; fourteen before thirteen; one corner too few; walk handed back unmoved; room
+    // Ruled out: fourteen after six; fourteen before thirteen; thirteen after fourteen; one corner too few; walk handed back unmoved; room
     // counted from k.
     pub fn part(self, a: &[i32], f: u16, b: &[i32], g: u16, k: usize, out: &mut [i32]) -> Part
         ensures { λ r. ⌜
             (ofPart r
-            ≡ writtenBetween (on (now (a .entry)) f) (on (now (b .entry)) g)
-            (λ l m o. partWritten l m (stateOf self) k o) (now (out .entry)) .reply)
+            ≡ partOn (on (now (a .entry)) f) (on (now (b .entry)) g) (stateOf self) k (now (out .entry)) .reply)
             × (now (out .exit)
-            ≡ writtenBetween (on (now (a .entry)) f) (on (now (b .entry)) g)
-            (λ l m o. partWritten l m (stateOf self) k o) (now (out .entry)) .output) ⌝ }
+            ≡ partOn (on (now (a .entry)) f) (on (now (b .entry)) g) (stateOf self) k (now (out .entry)) .output) ⌝ }
     {
         if let Admission::No(refusal) = admission::admit_pair(a, f, b, g) {
             return Part::No(refusal);
