@@ -44,6 +44,6 @@ fn newer(log: &[u8], p: usize, name: u16, found: Found) -> Found
     Found::At {
         place: p + (1 + fixed),
         count: (bytes::pair_at(log, p) - fixed) / 4,
-        floor: records::floor_at(log, p),
+        floor: records::floor_at(log, p, fixed),
     }
 }

@@ -4,7 +4,8 @@ ghost use mathlib.Core.Path.{_≡_};
 ghost use Prim.Native.Nat.{_+_, _*_, _≤_};
 ghost use lib.ListN.{length, take, drop};
 ghost use Rattle.plane.specs.Limits.{maxCorners};
-ghost use Rattle.journal.specs.Format.{size as Format·size, floor, whole, bad, fixedBytes, otherKind};
+ghost use Rattle.journal.specs.Format.{size as Format·size, kind as Format·kind, floor};
+ghost use Rattle.journal.specs.Format.{whole, bad, fixedBytes, otherKind};
 ghost use Rattle.journal.specs.Survey.{Legible};
 use crate::bytes;
 use crate::corners;
@@ -86,13 +87,13 @@ pub fn fixed_bytes(kind: usize) -> usize
     PLAIN_BYTES
 }
 
-// The floor of the record at a place: 0 if it says none.
-// Ruled out: plain record read as floored.
-pub fn floor_at(log: &[u8], p: usize) -> u16
-    requires { ⌜ Legible (now log) p ⌝ }
+// The floor of the record at a place, whose length counts so many bytes besides the corners: 0 if none are a floor's.
+// Ruled out: kind 1 read as its own floor.
+pub fn floor_at(log: &[u8], p: usize, fixed: usize) -> u16
+    requires { ⌜ Legible (now log) p × (fixed ≡ fixedBytes (Format·kind (drop p (now log)))) ⌝ }
     ensures { λ r. ⌜ r ≡ floor (drop p (now (log .entry))) ⌝ }
 {
-    if bytes::pair_at(log, p + 2) != FLOORED {
+    if fixed < FLOORED_BYTES {
         return 0;
     }
     bytes::pair_at(log, p + 6) as u16

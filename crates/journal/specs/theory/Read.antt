@@ -1,5 +1,5 @@
 -- What a record says.
---     fixed-least, fixed-floored                          how many bytes a record has besides its corners
+--     fixed-least, floored-if, plain-if                   how many bytes a record has besides its corners
 --     other-bad                                           a record of another kind is bad
 --     size-front, kind-front, name-front, content-front   of the record at the front of t, read in place
 --     recorded-length, -entry                             a recorded shape is a whole record, and nothing more
@@ -53,7 +53,24 @@ module _ (k : ℕ) where
       go true = omega arith
       go false = omega arith
 
-  pub fixed-floored : eqb k 2 ≡ true → fixedBytes k ≡ 7
+  -- so it tells the kind
+  pub floored-if : 7 ≤ fixedBytes k → eqb k 2 ≡ true
+  unfolding fixedBytes
+  floored-if h = go (eqb k 2) h
+    where
+      go : (t : Bool) → 7 ≤ cond t 7 5 → t ≡ true
+      go true g = refl
+      go false g = absurd (omega (arith, g))
+
+  pub plain-if : fixedBytes k < 7 → eqb k 2 ≡ false
+  unfolding fixedBytes
+  plain-if h = go (eqb k 2) h
+    where
+      go : (t : Bool) → cond t 7 5 < 7 → t ≡ false
+      go true g = absurd (omega (arith, g))
+      go false g = refl
+
+  fixed-floored : eqb k 2 ≡ true → fixedBytes k ≡ 7
   unfolding fixedBytes
   fixed-floored e = ap (λ (t : Bool). cond t 7 5) e
 

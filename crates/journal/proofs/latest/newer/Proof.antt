@@ -72,7 +72,9 @@ sub-t10 c =
     omega (arith, start .pre .long, fixed-read (c .before), size-read c)
 
 floor-at-requires : tie.Need-floor-at-requires
-floor-at-requires c κs = search needs
+floor-at-requires c κs =
+    let at-fixed = c .before in
+    (at-fixed .before .before .before .before .before .pre, sym (fixed-read at-fixed))
 
 returns-2 : tie.Need-returns-2
 returns-2 c =
