@@ -21,18 +21,20 @@ use Rattle.journal.specs.Bytes.{pair, pairAt, words, wordsAt}
 abbrev pub lastByte : ℕ
 lastByte = 90
 
--- what the length counts besides the corners, in a record of the kind k: kind, name and last byte, and the floor in kind 2
+-- what the length counts besides the corners: kind, name and last byte, and in a record of kind 2 the floor
 unfoldable pub fixedBytes : ℕ → ℕ
 fixedBytes k = cond (eqb k 2) 7 5
 
--- "Record: two-byte length of what follows it, two-byte kind .., two-byte name, the corners .., and a last byte 0x5A"; the bytes e stand
--- after the name
+-- W5: "Record: two-byte length of what follows it, two-byte kind .., two-byte name, the corners as four-byte two's-complement numbers, and
+-- a last byte 0x5A"; here of the kind k, with the bytes e after the name
 unfoldable pub recordedAs : ℕ → ℕ → List ℕ → List ℤ → List ℕ
 recordedAs k n e l = pair (fixedBytes k + 4 * length l) ++ (pair k ++ (pair n ++ (e ++ (words l ++ (lastByte ∷ [])))))
 
+-- W11: "Book kind 2 puts a two-byte floor after the name"
 unfoldable pub recorded : ℕ → ℕ → List ℤ → List ℕ
 recorded n f l = recordedAs 2 n (pair f) l
 
+-- kind 1 puts nothing there
 unfoldable pub recordedPlain : ℕ → List ℤ → List ℕ
 recordedPlain n l = recordedAs 1 n [] l
 
@@ -55,14 +57,15 @@ kind r = pairAt r 2
 unfoldable pub name : List ℕ → ℕ
 name r = pairAt r 4
 
--- "kind 1 still reads as floor 0"
+-- W11: "kind 1 still reads as floor 0"
 unfoldable pub floor : List ℕ → ℕ
 floor r = cond (eqb (kind r) 2) (pairAt r 6) 0
 
--- the corners end before the last byte
+-- before the corners stand the two bytes of the length and all other bytes but the last
 unfoldable pub list : List ℕ → List ℤ
 list r = wordsAt ((size r - fixedBytes (kind r)) / 4) r (1 + fixedBytes (kind r))
 
+-- a list of numbers on a floor
 pub record Floored : Type 0 where
   pub floor : ℕ
   pub list : List ℤ
@@ -82,6 +85,7 @@ isAnswer (refused n c) = false
 unfoldable pub wrongLength : List ℕ → Bool
 wrongLength r = ltb (size r) (fixedBytes (kind r)) || not (eqb ((size r - fixedBytes (kind r)) % 8) 0)
 
+-- W11: "another kind is now one other than 1 and 2"
 unfoldable pub otherKind : ℕ → Bool
 otherKind k = not (eqb k 1 || eqb k 2)
 

@@ -1,6 +1,6 @@
 -- What the definitions mean, in the words of document 02, W5 and W11. Each theorem is proved in the theory; here it is only cited.
---     records       when a record is whole; a log is its records and a torn rest; what a recorded shape of either kind reads as; other
---                   kinds are bad; the latest counts
+--     records       when a record is whole; a log is its records and a torn rest; what a recorded shape of either kind reads as; when a
+--                   record is bad; the latest counts
 --     reading       the table, in its order, and the place that 15 gives
 --     adding        the table, in its order; a refused, a finished and a cut addition; allowances; whatever is torn behind the end
 --     histories     the whole claim: reading gives for each name the last finished addition, and 15 does not come; from a new log, and
@@ -17,13 +17,14 @@ use Rattle.plane.specs.Reply.{answered, refused, Row, row}
 use Rattle.plane.specs.Refusal.{Valid}
 use Rattle.plane.specs.Output.{Written, written, noRoom}
 use Rattle.plane.specs.theory.refusals.Rows.{NoneApply, First, firstRow-given, firstRow-none, firstRow-answered, firstRow-refused}
-use Rattle.journal.specs.Format.{recorded, recordedPlain, whole, records, kind, name, floor, list, bad, Floored, onFloor}
+use Rattle.journal.specs.Format.{recorded, recordedPlain, whole, records, name, floor, list, bad, Floored, onFloor}
 use Rattle.journal.specs.Reading.{withFloor, writtenOn, damaged, badPlace, latest, readRows, readWritten}
 use Rattle.journal.specs.Adding.{joined, end, stores, addRows, addReply, added}
 use Rattle.journal.specs.History.{Addition, fresh, after, isFinished, lastSince, lastFinished}
+use Rattle.journal.specs.theory.Kind.{Good, good→facts, facts→good}
 use Rattle.journal.specs.theory.Records.{Whole, whole→facts, facts→whole, split, end-torn}
 use Rattle.journal.specs.theory.Read.{recorded-name, recorded-floor, recorded-list, recorded-good}
-use Rattle.journal.specs.theory.Read.{plain-name, plain-floor, plain-list, plain-good, other-bad}
+use Rattle.journal.specs.theory.Read.{plain-name, plain-floor, plain-list, plain-good}
 use Rattle.journal.specs.theory.Reading.{FirstBad, first-bad, latest-snoc, floor-refused, floor-answered, read-same}
 use Rattle.journal.specs.theory.Added.{kept-log, added-seen, finished-log, finished-read, finished-others, unfinished-seen}
 use Rattle.journal.specs.theory.Added.{nothing-allowed, one-more-allowed, enough-allowed, sound-added}
@@ -53,9 +54,13 @@ pub plain-record-reads-as-floor-0 : (n : ℕ) (l : List ℤ) → n < 65536 → V
     (name r ≡ n) × (floor r ≡ 0) × (list r ≡ l) × (bad r ≡ false)
 plain-record-reads-as-floor-0 n l h v = (plain-name n l v h, plain-floor n l v, plain-list n l v, plain-good n l v)
 
--- "In refusal 15 another kind is now one other than 1 and 2"
-pub another-kind-is-bad : (r : List ℕ) → (kind r ≡ 1 → ⊥) → (kind r ≡ 2 → ⊥) → bad r ≡ true
-another-kind-is-bad r one two = other-bad r one two
+-- "A whole record of another kind or a wrong length, or one whose corners are no shape", where "another kind is now one other than 1 and
+-- 2": none of the three, and the record is not bad
+pub record-not-bad-has-all : (r : List ℕ) → bad r ≡ false → Good r
+record-not-bad-has-all r h = good→facts r h
+
+pub record-with-all-is-not-bad : (r : List ℕ) → Good r → bad r ≡ false
+record-with-all-is-not-bad r g = facts→good r g
 
 -- "The latest record of a name counts"
 pub latest-record-counts : (n : ℕ) (rs : List (List ℕ)) (r : List ℕ)

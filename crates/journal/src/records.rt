@@ -10,14 +10,16 @@ ghost use Rattle.journal.specs.Survey.{Legible};
 use crate::bytes;
 use crate::corners;
 
-// The kind of a record that says its floor, and of one that says none.
+// The kind of a record that says its floor: the one that is written.
 pub const FLOORED: usize = 2;
 
+// The kind of a record that says none, and is on floor 0.
 const PLAIN: usize = 1;
 
-// What the length counts besides the corners: kind, name and last byte, and the floor.
+// What the length counts besides the corners: kind, name, floor and last byte.
 pub const FLOORED_BYTES: usize = 7;
 
+// The same without a floor.
 const PLAIN_BYTES: usize = 5;
 
 // The last byte of a record.

@@ -2,28 +2,26 @@
 --     SoFar n b p r          what is found up to place p of b, and what is still to come
 --     so-far-start, so-far-next, so-far-end     the moves of the pass
 --     legible                the record where it stands can be read
-use mathlib.Core.Path.{_≡_, refl, sym, _∙_, ap, ap₂}
-use mathlib.Core.Bool.{Bool, true, false, not, cond, _||_, or-true}
+use mathlib.Core.Path.{_≡_, refl, sym, _∙_, ap}
+use mathlib.Core.Bool.{Bool, true, false, cond, _||_, or-true}
 use mathlib.Core.List.{List, [], _∷_}
 use Prim.Native.Nat.{ℕ, _+_, _*_, _-_, _/_, _%_, _≤_}
 use native.Mathlib.Omega.{arith}
-use borrow.Author.Tests.{ltb-false, eqb-true, not-false}
-use lib.Dec.{eqb, ltb}
+use lib.Dec.{eqb}
 use lib.ListN.{length, take, drop}
 use lib.Seq.{drop-drop}
-use Rattle.plane.specs.Judge.{judged}
 use Rattle.journal.specs.Bytes.{wordsAt}
 use Rattle.journal.specs.Format.{fixedBytes, size, whole, records, kind, name, floor, list, Floored, onFloor, content}
-use Rattle.journal.specs.Format.{isAnswer, wrongLength, otherKind, bad}
+use Rattle.journal.specs.Format.{bad}
 use Rattle.journal.specs.Reading.{damaged, held, nothing, latest}
 use Rattle.journal.specs.Survey.{Legible, foundAt, newer, Latest}
 use Rattle.journal.specs.declared.latest.Found.{Found}
 use Rattle.journal.specs.declared.latest.Found.the-variants as Found
 use Rattle.journal.specs.theory.Bytes.{wordsAt-drop}
 use Rattle.journal.specs.theory.Records.{records-none, records-front}
-use Rattle.journal.specs.theory.Reading.{neither}
+use Rattle.journal.specs.theory.Kind.{neither, fixed-least, good→facts}
 use Rattle.journal.specs.theory.Survey.{next-inside, eighth}
-use Rattle.journal.specs.theory.Read.{fixed-least, size-front, kind-front, name-front, content-front}
+use Rattle.journal.specs.theory.Read.{size-front, kind-front, name-front, content-front}
 
 -- ---- what is found
 
@@ -86,16 +84,12 @@ module _ {n : ℕ} {b : List ℕ} {p : ℕ} {r : Found} (f : SoFar n b p r) (w :
   fixed = fixedBytes (kind at)
 
   length-good : (5 ≤ size at) × (fixed ≤ size at) × ((size at - fixed) % 8 ≡ 0)
-  unfolding bad wrongLength
   length-good =
-      let right = neither (wrongLength front) (otherKind (kind front) || not (isAnswer (judged (list front)))) (both-good .0) .0 in
-      let parts = neither (ltb (size front) (fixedBytes (kind front))) (not (eqb ((size front - fixedBytes (kind front)) % 8) 0)) right in
+      let good = good→facts front (both-good .0) .length-is in
       let same = size-front at in
-      let fits = ltb-false (size front) (fixedBytes (kind front)) (parts .0) in
       let least : 5 ≤ size at = omega (arith, fixed-least (kind front)) in
       let kinds = ap fixedBytes (kind-front at least) in
-      let even = eqb-true ((size front - fixedBytes (kind front)) % 8) 0 (not-false _ (parts .1)) in
-      (least, omega arith, ap₂ (λ (i j : ℕ). (i - j) % 8) (sym same) (sym kinds) ∙ even)
+      (least, omega arith, omega arith)
 
   pub legible : Legible b p
   legible = record { inside = next-inside b p w; long = length-good .1 }

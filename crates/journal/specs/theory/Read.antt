@@ -1,17 +1,15 @@
 -- What a record says.
---     fixed-least, floored-if, plain-if                   how many bytes a record has besides its corners
---     other-bad                                           a record of another kind is bad
 --     size-front, kind-front, name-front, content-front   of the record at the front of t, read in place
 --     recorded-length, -entry                             a recorded shape is a whole record, and nothing more
 --     recorded-name, -floor, -list, -content, -good       and it says what was recorded
 --     plain-name, -floor, -list, -good                    the same of a record of kind 1, which is on floor 0
-use mathlib.Core.Path.{_≡_, refl, _∙_, ap, ap₂}
-use mathlib.Core.Bool.{Bool, true, false, not, cond, _||_, or-true}
+use mathlib.Core.Path.{_≡_, refl, sym, _∙_, ap, ap₂, subst}
+use mathlib.Core.Bool.{Bool, true, false, cond}
+use mathlib.Core.Logic.{_⊎_, inl, inr}
 use mathlib.Core.List.{List, [], _∷_, _++_}
-use Prim.Native.Nat.{ℕ, _+_, _*_, _-_, _/_, _%_, _^_, _≤_, _<_}
+use Prim.Native.Nat.{ℕ, _+_, _*_, _-_, _/_, _^_, _≤_, _<_}
 use native.Mathlib.Omega.{arith}
-use borrow.Author.Tests.{le-ltb, eq-eqb, ne-eqb}
-use lib.Dec.{lit<, eqb, ltb}
+use lib.Dec.{lit<, eqb}
 use lib.ListN.{length, getD, take, length-append}
 use lib.Seq.{getD-at}
 use lib.IntN.{ℤ, pos}
@@ -29,59 +27,11 @@ use Rattle.plane.specs.theory.refusals.Rows.{firstRow-none}
 use Rattle.plane.specs.theory.refusals.Accept.{valid→accepted}
 use Rattle.journal.specs.Bytes.{pair, pairAt, words, wordsAt}
 use Rattle.journal.specs.Format.{lastByte, fixedBytes, recordedAs, recorded, recordedPlain, size, kind, name, floor, list, onFloor}
-use Rattle.journal.specs.Format.{content, isAnswer, wrongLength, otherKind, bad}
+use Rattle.journal.specs.Format.{content, isAnswer, bad}
 use Rattle.journal.specs.theory.Bytes.{pair-length, words-length, getD-past, pairAt-past, wordsAt-past, pairAt-take, wordsAt-take}
 use Rattle.journal.specs.theory.Bytes.{pairAt-pair, wordsAt-words}
+use Rattle.journal.specs.theory.Kind.{fixed-least, fixed-most, fixed-floored, facts→good}
 use Rattle.journal.specs.theory.Records.{Entry, size-take}
-
--- ---- the kind
-
-module _ (k : ℕ) where
-  pub fixed-least : 5 ≤ fixedBytes k
-  unfolding fixedBytes
-  fixed-least = go (eqb k 2)
-    where
-      go : (t : Bool) → 5 ≤ cond t 7 5
-      go true = omega arith
-      go false = omega arith
-
-  fixed-most : fixedBytes k ≤ 7
-  unfolding fixedBytes
-  fixed-most = go (eqb k 2)
-    where
-      go : (t : Bool) → cond t 7 5 ≤ 7
-      go true = omega arith
-      go false = omega arith
-
-  -- so it tells the kind
-  pub floored-if : 7 ≤ fixedBytes k → eqb k 2 ≡ true
-  unfolding fixedBytes
-  floored-if h = go (eqb k 2) h
-    where
-      go : (t : Bool) → 7 ≤ cond t 7 5 → t ≡ true
-      go true g = refl
-      go false g = absurd (omega (arith, g))
-
-  pub plain-if : fixedBytes k < 7 → eqb k 2 ≡ false
-  unfolding fixedBytes
-  plain-if h = go (eqb k 2) h
-    where
-      go : (t : Bool) → cond t 7 5 < 7 → t ≡ false
-      go true g = absurd (omega (arith, g))
-      go false g = refl
-
-  fixed-floored : eqb k 2 ≡ true → fixedBytes k ≡ 7
-  unfolding fixedBytes
-  fixed-floored e = ap (λ (t : Bool). cond t 7 5) e
-
-  other-kind : (k ≡ 1 → ⊥) → (k ≡ 2 → ⊥) → otherKind k ≡ true
-  unfolding otherKind
-  other-kind one two = ap₂ (λ (a b : Bool). not (a || b)) (ne-eqb k 1 one) (ne-eqb k 2 two)
-
-pub other-bad : (r : List ℕ) → (kind r ≡ 1 → ⊥) → (kind r ≡ 2 → ⊥) → bad r ≡ true
-unfolding bad
-other-bad r one two =
-    ap (λ (x : Bool). wrongLength r || (x || not (isAnswer (judged (list r))))) (other-kind (kind r) one two) ∙ or-true (wrongLength r)
 
 -- ---- in place
 
@@ -210,23 +160,17 @@ module _ (k n : ℕ) (e : List ℕ) (l : List ℤ) (behind-name : fixedBytes k �
           ap (λ (i : ℕ). wordsAt ((size (recordedAs k n e l) - fixedBytes i) / 4) (recordedAs k n e l) (1 + fixedBytes i)) as-kind
           ∙ ap (λ (c : ℕ). wordsAt c (recordedAs k n e l) (1 + fixedBytes k)) count ∙ numbers-back
 
-      right-length : wrongLength (recordedAs k n e l) ≡ false
-      unfolding wrongLength
-      right-length =
-          ap₂ (λ (s i : ℕ). ltb s (fixedBytes i) || not (eqb ((s - fixedBytes i) % 8) 0)) as-size as-kind
-          ∙ ap₂ (λ (a b : Bool). a || not b) (le-ltb all (fixedBytes k) (omega arith))
-          (eq-eqb ((all - fixedBytes k) % 8) 0 (omega (arith, v .paired)))
-
       accepted : judged l ≡ answered (pos (length (points l)) ∷ [])
       unfolding judged
       accepted = firstRow-none (shapeRows 1 l) _ (valid→accepted l 1 v)
 
-      as-good : otherKind k ≡ false → bad (recordedAs k n e l) ≡ false
-      unfolding bad
-      as-good known =
-          ap₂ (λ (a b : Bool). a || b) right-length
-          (ap₂ (λ (i : ℕ) (m : List ℤ). otherKind i || not (isAnswer (judged m))) as-kind as-list
-          ∙ ap₂ (λ (a b : Bool). a || not b) known (ap isAnswer accepted))
+      as-good : (k ≡ 1) ⊎ (k ≡ 2) → bad (recordedAs k n e l) ≡ false
+      as-good known = facts→good (recordedAs k n e l) (record {
+        kind-is = subst (λ (i : ℕ). (i ≡ 1) ⊎ (i ≡ 2)) (sym as-kind) known;
+        corners = length l / 2;
+        length-is = omega (arith, as-size, ap fixedBytes as-kind, v .paired);
+        shape = ap (λ m. isAnswer (judged m)) as-list ∙ ap isAnswer accepted;
+      })
 
 -- ---- of kind 2
 
@@ -264,8 +208,8 @@ module _ (n f : ℕ) (l : List ℤ) where
     recorded-content h = ap₂ onFloor (recorded-floor h) recorded-list
 
     pub recorded-good : bad (recorded n f l) ≡ false
-    unfolding recorded otherKind
-    recorded-good = as-good 2 n (pair f) l (two-behind f) v (omega arith) refl
+    unfolding recorded
+    recorded-good = as-good 2 n (pair f) l (two-behind f) v (omega arith) (inr refl)
 
 -- ---- of kind 1
 
@@ -287,5 +231,5 @@ module _ (n : ℕ) (l : List ℤ) (v : Valid l) where
   plain-list = as-list 1 n [] l none-behind v (omega arith)
 
   pub plain-good : bad (recordedPlain n l) ≡ false
-  unfolding recordedPlain otherKind
-  plain-good = as-good 1 n [] l none-behind v (omega arith) refl
+  unfolding recordedPlain
+  plain-good = as-good 1 n [] l none-behind v (omega arith) (inl refl)

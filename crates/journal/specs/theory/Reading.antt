@@ -1,5 +1,4 @@
 -- Reading, by the log's records alone.
---     neither                    a test of two that fails
 --     FirstBad, first-bad        what `badPlace` is
 --     read-same                  logs with the same records read alike
 --     floor-refused, floor-answered   what a reply with a floor was before
@@ -11,7 +10,7 @@ use mathlib.Core.Bool.{Bool, true, false, not, cond, _||_, true≢false, or-fals
 use mathlib.Core.List.{List, [], _∷_, _++_}
 use Prim.Native.Nat.{ℕ, _+_, _<_}
 use native.Mathlib.Omega.{arith}
-use borrow.Author.Tests.{ne-eqb, not-false}
+use borrow.Author.Tests.{ne-eqb}
 use lib.Dec.{eqb}
 use lib.ListN.{length, length-append}
 use lib.IntN.{ℤ}
@@ -20,13 +19,10 @@ use Rattle.plane.specs.Reply.{Reply, answered, refused, row}
 use Rattle.plane.specs.Refusal.{badCount}
 use Rattle.plane.specs.Judge.{judged}
 use Rattle.plane.specs.Output.{Written, written, noRoom}
-use Rattle.journal.specs.Format.{records, name, list, Floored, content, isAnswer, wrongLength, otherKind, kind, bad}
+use Rattle.journal.specs.Format.{records, name, list, Floored, content, isAnswer, bad}
 use Rattle.journal.specs.Reading.{withFloor, writtenOn, damaged, badPlace, held, nothing, latest, readWritten}
 use Rattle.journal.specs.Adding.{joined}
-
-pub neither : (a b : Bool) → (a || b) ≡ false → (a ≡ false) × (b ≡ false)
-neither true b h = absurd (true≢false h)
-neither false b h = (refl, h)
+use Rattle.journal.specs.theory.Kind.{neither, good→facts}
 
 -- ---- the first bad record
 
@@ -104,10 +100,7 @@ accepted-some [] h = absurd (true≢false (sym h))
 accepted-some (z ∷ l) h = ne-eqb (length (z ∷ l)) 0 (λ e. omega arith)
 
 good-some : (r : List ℕ) → bad r ≡ false → eqb (length (list r)) 0 ≡ false
-unfolding bad
-good-some r h =
-    let shape = neither (otherKind (kind r)) (not (isAnswer (judged (list r)))) (neither (wrongLength r) _ h .1) .1 in
-    accepted-some (list r) (not-false (isAnswer (judged (list r))) shape)
+good-some r h = accepted-some (list r) (good→facts r h .shape)
 
 held-latest : (n : ℕ) (rs : List (List ℕ)) → damaged rs ≡ false → not (held n rs) ≡ eqb (length (latest n rs .list)) 0
 held-latest n [] d = refl

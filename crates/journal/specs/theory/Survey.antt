@@ -25,8 +25,9 @@ use Rattle.journal.specs.Survey.{surveyed}
 use Rattle.journal.specs.declared.survey.Surveyed.{Surveyed}
 use Rattle.journal.specs.declared.survey.Surveyed.the-variants as Surveyed
 use Rattle.journal.specs.theory.Bytes.{pairAt-drop}
+use Rattle.journal.specs.theory.Kind.{fixed-least}
 use Rattle.journal.specs.theory.Records.{Whole, whole→facts, records-none, records-front, end-none, end-front}
-use Rattle.journal.specs.theory.Read.{fixed-least, size-front, kind-front, content-front}
+use Rattle.journal.specs.theory.Read.{size-front, kind-front, content-front}
 
 -- ---- whether there is one
 

@@ -9,7 +9,7 @@ use lib.ListN.{drop}
 use Rattle.journal.specs.Format.{fixedBytes, size, kind, name}
 use Rattle.journal.specs.Survey.{foundAt}
 use Rattle.journal.specs.declared.latest.Found.the-variants as Found
-use Rattle.journal.specs.theory.Read.{fixed-least}
+use Rattle.journal.specs.theory.Kind.{fixed-least}
 use Rattle.journal.specs.theory.Survey.{size-at, kind-at, name-at}
 use Rattle.journal.proofs.latest.newer.Statement.{statement}
 use Rattle.journal.proofs.latest.newer.Tie as tie

@@ -1,5 +1,5 @@
 -- `floor_at` meets its contract: a record with bytes for a floor is of kind 2, and long enough to have them.
-use mathlib.Core.Path.{_≡_, sym, _∙_, ap}
+use mathlib.Core.Path.{sym, _∙_, ap}
 use mathlib.Core.Bool.{Bool, cond}
 use native.Mathlib.Omega.{arith}
 use borrow.Author.Needs.{needs}
@@ -7,7 +7,7 @@ use lib.ListN.{drop}
 use Rattle.journal.specs.Bytes.{pairAt}
 use Rattle.journal.specs.Format.{kind, floor}
 use Rattle.journal.specs.theory.Bytes.{pairAt-drop}
-use Rattle.journal.specs.theory.Read.{floored-if, plain-if}
+use Rattle.journal.specs.theory.Kind.{floored-if, plain-if}
 use Rattle.journal.proofs.records.floor_at.Statement.{statement}
 use Rattle.journal.proofs.records.floor_at.Tie as tie
 
