@@ -15,17 +15,18 @@ use lib.IntN.{ℤ, pos}
 use Rattle.plane.specs.Point.{points}
 use Rattle.plane.specs.Reply.{answered, refused, Row, row}
 use Rattle.plane.specs.Refusal.{Valid}
-use Rattle.plane.specs.Output.{Written, written, noRoom}
+use Rattle.plane.specs.Output.{written, noRoom}
 use Rattle.plane.specs.theory.refusals.Rows.{NoneApply, First, firstRow-given, firstRow-none, firstRow-answered, firstRow-refused}
-use Rattle.journal.specs.Format.{recorded, recordedPlain, whole, records, name, floor, list, bad, Floored, onFloor}
-use Rattle.journal.specs.Reading.{withFloor, writtenOn, damaged, badPlace, latest, readRows, readWritten}
-use Rattle.journal.specs.Adding.{joined, end, stores, addRows, addReply, added}
+use Rattle.journal.specs.Format.{recorded, recordedPlain, whole, records, name, floor, list, bad, onFloor}
+use Rattle.journal.specs.Reading.{withFloor, writtenOn, damaged, badPlace, latest, readRows, readWritten, showing}
+use Rattle.journal.specs.Adding.{joined, end, stores, made, addRows, addReply, added}
 use Rattle.journal.specs.History.{Addition, fresh, after, isFinished, lastSince, lastFinished}
 use Rattle.journal.specs.theory.Kind.{Good, good→facts, facts→good}
 use Rattle.journal.specs.theory.Records.{Whole, whole→facts, facts→whole, split, end-torn}
 use Rattle.journal.specs.theory.Read.{recorded-name, recorded-floor, recorded-list, recorded-good}
-use Rattle.journal.specs.theory.Read.{plain-name, plain-floor, plain-list, plain-good}
+use Rattle.journal.specs.theory.Read.{plain-entry, plain-name, plain-floor, plain-list, plain-good}
 use Rattle.journal.specs.theory.Reading.{FirstBad, first-bad, latest-snoc, floor-refused, floor-answered, read-same}
+use Rattle.journal.specs.theory.Stores.{cut-seen}
 use Rattle.journal.specs.theory.Added.{kept-log, added-seen, finished-log, finished-read, finished-others, unfinished-seen}
 use Rattle.journal.specs.theory.Added.{nothing-allowed, one-more-allowed, enough-allowed, sound-added}
 use Rattle.journal.specs.theory.History.{after-sound, after-read, fresh-sound, fresh-read, AllRecorded, written-sound}
@@ -171,19 +172,19 @@ module _ (b : List ℕ) (n f : ℕ) (l : List ℤ) (k : ℕ) where
       → added b n f l k .reply ≡ answered (pos 1 ∷ [])
   twice-the-bytes-finish h values e = enough-allowed b n f l k h values e
 
--- ---- histories
+-- an addition as W5 made it, of kind 1, left the records so, cut or not: a log from then has no others
+pub plain-addition-shows-old-or-new : (b : List ℕ) (n : ℕ) (l : List ℤ) (k : ℕ) → Valid l → let r = recordedPlain n l in
+    length r ≤ length b - end b
+    → records (made (take k (stores b r)) b) ≡ cond (leb (length (stores b r)) k) (records b ++ (r ∷ [])) (records b)
+plain-addition-shows-old-or-new b n l k v room = cut-seen b (recordedPlain n l) (plain-entry n l v) room k
 
--- what is written where `found` is what a name has: 19 if it has nothing, then 8, and no 15
-abbrev shown : Floored → List ℤ → Written
-shown found out =
-    let shape = points (found .list) in
-    writtenOn (found .floor) (written (row 19 (eqb (length (found .list)) 0) [] ∷ row 8 (noRoom shape out) [] ∷ []) shape out)
+-- ---- histories
 
 module _ (hs : List Addition) where
   -- "From a new book, under any additions and any cuts after any store, reading gives for each name the last finished addition", with its
-  -- floor. "or a later cut one if stored whole": by the above none is
+  -- floor: 19 if there is none, then 8, and no 15. "or a later cut one if stored whole": by the above none is
   pub history-reads-last-finished : (m n : ℕ) (out : List ℤ)
-      → readWritten (after hs (fresh m)) n out ≡ shown (lastFinished n hs (fresh m)) out
+      → readWritten (after hs (fresh m)) n out ≡ showing (lastFinished n hs (fresh m)) out
   history-reads-last-finished m n out = fresh-read hs m n out
 
   -- nor does 15 come of a further addition
@@ -195,13 +196,13 @@ module _ (hs : List Addition) where
   -- the same from a log b in which no record is bad, of whichever kinds they are: the last finished addition, or what b held
   module _ (b : List ℕ) (sound : damaged (records b) ≡ false) where
     pub history-reads-last-since : (n : ℕ) (out : List ℤ)
-        → readWritten (after hs b) n out ≡ shown (lastSince (latest n (records b)) n hs b) out
+        → readWritten (after hs b) n out ≡ showing (lastSince (latest n (records b)) n hs b) out
     history-reads-last-since n out = after-read hs b sound n out
 
     pub history-adds-without-new-damage : (n f : ℕ) (l : List ℤ) (k : ℕ) (carries : List ℕ)
         → added (after hs b) n f l k .reply ≡ refused 15 carries → ⊥
     history-adds-without-new-damage n f l k carries h = sound-added (after hs b) (after-sound hs b sound) n f l k carries h
 
--- such is every log whose records were recorded, be it by kind 1 or by kind 2
+-- such is every log whose records were recorded, be it by kind 1 or by kind 2, whatever is torn behind them
 pub recorded-log-is-sound : (b : List ℕ) → AllRecorded (records b) → damaged (records b) ≡ false
 recorded-log-is-sound b all = written-sound (records b) all

@@ -3,6 +3,7 @@
 --     held n rs, latest n rs    some record has the name, and "The latest record of a name counts": its floor and its corners' numbers
 --     readWritten b n out       refusals 15, 19 and 8 in this order; else the latest shape of the name at the front of the output, and
 --                               its floor: "Answers carry the floor"
+--     showing found out         the same, of what a name has
 use mathlib.Core.Bool.{Bool, false, not, cond, _||_}
 use mathlib.Core.List.{List, [], _∷_, _++_}
 use Prim.Native.Nat.{ℕ, _+_}
@@ -59,3 +60,9 @@ unfoldable pub readWritten : List ℕ → ℕ → List ℤ → Written
 readWritten b n out =
     let found = latest n (records b) in
     writtenOn (found .floor) (written (readRows b n out) (points (found .list)) out)
+
+-- what is read where no record is bad and a name has `found`: 19 if that is nothing, then 8. Our own, for what histories come to
+abbrev pub showing : Floored → List ℤ → Written
+showing found out =
+    let shape = points (found .list) in
+    writtenOn (found .floor) (written (row 19 (eqb (length (found .list)) 0) [] ∷ row 8 (noRoom shape out) [] ∷ []) shape out)

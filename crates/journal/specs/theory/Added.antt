@@ -25,11 +25,11 @@ use Rattle.plane.specs.theory.refusals.Rows.{NoneApply, First, here, later, Out
 use Rattle.plane.specs.theory.refusals.Rows.{firstRow-answered, firstRow-refused}
 use Rattle.plane.specs.theory.refusals.Accept.{accepted→valid}
 use Rattle.journal.specs.Format.{recorded, records, name, Floored, onFloor, content}
-use Rattle.journal.specs.Reading.{writtenOn, damaged, latest, readWritten}
+use Rattle.journal.specs.Reading.{writtenOn, damaged, latest, readWritten, showing}
 use Rattle.journal.specs.Adding.{Store, end, stores, made, addRows, addReply, unlessRefusal, added}
 use Rattle.journal.specs.History.{isFinished}
 use Rattle.journal.specs.theory.Read.{recorded-entry, recorded-name, recorded-content, recorded-good}
-use Rattle.journal.specs.theory.Reading.{showing, showing-some, read-sound, sound-snoc, latest-snoc}
+use Rattle.journal.specs.theory.Reading.{showing-some, read-sound, sound-snoc, latest-snoc}
 use Rattle.journal.specs.theory.Stores.{one-byte, left, withNew, stores-done, stores-few, cut-seen}
 
 pub record Accepted (b : List ℕ) (n f : ℕ) (l : List ℤ) : Type 0 where

@@ -12,11 +12,11 @@ use lib.Dec.{eqb}
 use lib.IntN.{ℤ}
 use Rattle.plane.specs.Refusal.{Valid}
 use Rattle.journal.specs.Format.{records, recordedPlain, recorded, Floored, onFloor, bad}
-use Rattle.journal.specs.Reading.{damaged, latest, readWritten}
+use Rattle.journal.specs.Reading.{damaged, latest, readWritten, showing}
 use Rattle.journal.specs.History.{Addition, fresh, step, after, isFinished, finishes, lastSince, lastFinished}
 use Rattle.journal.specs.theory.Records.{records-none}
 use Rattle.journal.specs.theory.Read.{recorded-name, recorded-content, recorded-good, plain-good}
-use Rattle.journal.specs.theory.Reading.{showing, read-sound}
+use Rattle.journal.specs.theory.Reading.{read-sound}
 use Rattle.journal.specs.theory.Stores.{zeros-torn}
 use Rattle.journal.specs.theory.Added.{finished-accepted, finished-sound, finished-latest, unfinished-seen}
 

@@ -2,7 +2,7 @@
 --     size-front, kind-front, name-front, content-front   of the record at the front of t, read in place
 --     recorded-length, -entry                             a recorded shape is a whole record, and nothing more
 --     recorded-name, -floor, -list, -content, -good       and it says what was recorded
---     plain-name, -floor, -list, -good                    the same of a record of kind 1, which is on floor 0
+--     plain-entry, -name, -floor, -list, -good            the same of a record of kind 1, which is on floor 0
 use mathlib.Core.Path.{_≡_, refl, sym, _∙_, ap, ap₂, subst}
 use mathlib.Core.Bool.{Bool, true, false, cond}
 use mathlib.Core.Logic.{_⊎_, inl, inr}
@@ -218,6 +218,10 @@ unfolding fixedBytes
 none-behind = refl
 
 module _ (n : ℕ) (l : List ℤ) (v : Valid l) where
+  pub plain-entry : Entry (recordedPlain n l)
+  unfolding recordedPlain
+  plain-entry = as-entry 1 n [] l none-behind v
+
   pub plain-name : n < 65536 → name (recordedPlain n l) ≡ n
   unfolding recordedPlain
   plain-name h = as-name 1 n [] l none-behind v h

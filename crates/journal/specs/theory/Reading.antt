@@ -2,7 +2,7 @@
 --     FirstBad, first-bad        what `badPlace` is
 --     read-same                  logs with the same records read alike
 --     floor-refused, floor-answered   what a reply with a floor was before
---     showing found out          what is written where `found` is the latest shape of the name; `showing-some` where it is not empty
+--     showing-some               what is read where a name has a shape
 --     read-sound                 a log with no bad record is read so
 --     sound-snoc, latest-snoc    one record more
 use mathlib.Core.Path.{_≡_, refl, sym, _∙_, ap, ap₂}
@@ -20,7 +20,7 @@ use Rattle.plane.specs.Refusal.{badCount}
 use Rattle.plane.specs.Judge.{judged}
 use Rattle.plane.specs.Output.{Written, written, noRoom}
 use Rattle.journal.specs.Format.{records, name, list, Floored, content, isAnswer, bad}
-use Rattle.journal.specs.Reading.{withFloor, writtenOn, damaged, badPlace, held, nothing, latest, readWritten}
+use Rattle.journal.specs.Reading.{withFloor, writtenOn, damaged, badPlace, held, nothing, latest, readWritten, showing}
 use Rattle.journal.specs.Adding.{joined}
 use Rattle.journal.specs.theory.Kind.{neither, good→facts}
 
@@ -114,12 +114,6 @@ held-latest n (r ∷ rs) d =
     go true false h g = sym g
     go false true h g = h
     go false false h g = refl
-
--- what is written where this is found; nothing is found where the list is empty
-abbrev pub showing : Floored → List ℤ → Written
-showing found out =
-    let shape = points (found .list) in
-    writtenOn (found .floor) (written (row 19 (eqb (length (found .list)) 0) [] ∷ row 8 (noRoom shape out) [] ∷ []) shape out)
 
 -- a list with a corner is found
 pub showing-some : (found : Floored) (out : List ℤ) → 0 < length (found .list) → let shape = points (found .list) in
