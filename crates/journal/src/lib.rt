@@ -1,4 +1,4 @@
-// A log of shapes in a lent run of bytes (document 02, W5: the floor book). Inner functions; callers ask the crate
+// A log of shapes in a lent run of bytes (document 02, W5 and W11: the floor book). Inner functions; callers ask the crate
 // `questions`.
 mod bytes;
 pub mod corners;
