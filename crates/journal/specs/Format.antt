@@ -5,7 +5,7 @@
 --                     missing last byte ends the book"
 --     walked k t      the whole records at the front of t, k at most; `records b` all of them: each has a byte, so the count is enough
 --     size, kind, name, floor, list   what a record says: its length field, its kind, its name, its floor, its corners' numbers
---     Floored, content r  a list on a floor, and that of a record
+--     content r       the list of a record, on its floor
 --     bad r           "A whole record of another kind or a wrong length, or one whose corners are no shape"; "another kind is now one
 --                     other than 1 and 2"
 use mathlib.Core.Bool.{Bool, true, false, not, cond, _&&_, _||_}
@@ -16,6 +16,7 @@ use lib.ListN.{length, getD, take, drop}
 use lib.IntN.{ℤ}
 use Rattle.plane.specs.Reply.{Reply, answered, refused}
 use Rattle.plane.specs.Judge.{judged}
+use Rattle.plane.specs.Floor.{Floored, on}
 use Rattle.journal.specs.Bytes.{pair, pairAt, words, wordsAt}
 
 abbrev pub lastByte : ℕ
@@ -65,16 +66,9 @@ floor r = cond (eqb (kind r) 2) (pairAt r 6) 0
 unfoldable pub list : List ℕ → List ℤ
 list r = wordsAt ((size r - fixedBytes (kind r)) / 4) r (1 + fixedBytes (kind r))
 
--- a list of numbers on a floor
-pub record Floored : Type 0 where
-  pub floor : ℕ
-  pub list : List ℤ
-
-abbrev pub onFloor : ℕ → List ℤ → Floored
-onFloor f l = record { floor = f; list = l }
-
+-- the shape that a record holds, with its floor
 abbrev pub content : List ℕ → Floored
-content r = onFloor (floor r) (list r)
+content r = on (list r) (floor r)
 
 -- judging answers, and does not refuse
 abbrev pub isAnswer : Reply → Bool

@@ -12,7 +12,8 @@ use lib.Dec.{eqb}
 use lib.ListN.{replicate}
 use lib.IntN.{ℤ, pos, negsuc}
 use Rattle.plane.specs.Reply.{Reply, answered, refused}
-use Rattle.journal.specs.Format.{Floored, onFloor}
+use Rattle.plane.specs.Floor.{Floored, on}
+use Rattle.journal.specs.Format.{}
 use Rattle.journal.specs.Reading.{nothing}
 use Rattle.journal.specs.Adding.{Added, added}
 
@@ -46,7 +47,7 @@ finishes h b n = eqb (h .name) n && isFinished (step h b .reply)
 
 abbrev pub lastSince : Floored → ℕ → List Addition → List ℕ → Floored
 lastSince found n [] b = found
-lastSince found n (h ∷ hs) b = lastSince (cond (finishes h b n) (onFloor (h .floor) (h .list)) found) n hs (step h b .log)
+lastSince found n (h ∷ hs) b = lastSince (cond (finishes h b n) (on (h .list) (h .floor)) found) n hs (step h b .log)
 
 abbrev pub lastFinished : ℕ → List Addition → List ℕ → Floored
 lastFinished n hs b = lastSince nothing n hs b

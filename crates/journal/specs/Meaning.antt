@@ -17,15 +17,17 @@ use Rattle.plane.specs.Reply.{answered, refused, Row, row}
 use Rattle.plane.specs.Refusal.{Valid}
 use Rattle.plane.specs.Output.{written, noRoom}
 use Rattle.plane.specs.theory.refusals.Rows.{NoneApply, First, firstRow-given, firstRow-none, firstRow-answered, firstRow-refused}
-use Rattle.journal.specs.Format.{recorded, recordedPlain, whole, records, name, floor, list, bad, onFloor}
-use Rattle.journal.specs.Reading.{withFloor, writtenOn, damaged, badPlace, latest, readRows, readWritten, showing}
+use Rattle.plane.specs.Floor.{on, withFloor, writtenOn}
+use Rattle.plane.specs.theory.refusals.Floors.{withFloor-answered, withFloor-refused}
+use Rattle.journal.specs.Format.{recorded, recordedPlain, whole, records, name, floor, list, bad}
+use Rattle.journal.specs.Reading.{damaged, badPlace, latest, readRows, readWritten, showing}
 use Rattle.journal.specs.Adding.{joined, end, stores, made, addRows, addReply, added}
 use Rattle.journal.specs.History.{Addition, fresh, after, isFinished, lastSince, lastFinished}
 use Rattle.journal.specs.theory.Kind.{Good, good→facts, facts→good}
 use Rattle.journal.specs.theory.Records.{Whole, whole→facts, facts→whole, split, end-torn}
 use Rattle.journal.specs.theory.Read.{recorded-name, recorded-floor, recorded-list, recorded-good}
 use Rattle.journal.specs.theory.Read.{plain-entry, plain-name, plain-floor, plain-list, plain-good}
-use Rattle.journal.specs.theory.Reading.{FirstBad, first-bad, latest-snoc, floor-refused, floor-answered, read-same}
+use Rattle.journal.specs.theory.Reading.{FirstBad, first-bad, latest-snoc, read-same}
 use Rattle.journal.specs.theory.Stores.{cut-seen}
 use Rattle.journal.specs.theory.Added.{kept-log, added-seen, finished-log, finished-read, finished-others, unfinished-seen}
 use Rattle.journal.specs.theory.Added.{nothing-allowed, one-more-allowed, enough-allowed, sound-added}
@@ -65,7 +67,7 @@ record-with-all-is-not-bad r g = facts→good r g
 
 -- "The latest record of a name counts"
 pub latest-record-counts : (n : ℕ) (rs : List (List ℕ)) (r : List ℕ)
-    → latest n (rs ++ (r ∷ [])) ≡ cond (eqb (name r) n) (onFloor (floor r) (list r)) (latest n rs)
+    → latest n (rs ++ (r ∷ [])) ≡ cond (eqb (name r) n) (on (list r) (floor r)) (latest n rs)
 latest-record-counts n rs r = latest-snoc r n rs
 
 -- ---- reading
@@ -84,7 +86,7 @@ module _ (b : List ℕ) (n : ℕ) (out : List ℤ) where
   pub reading-refused-by-first-row : (m : ℕ) (carries : List ℕ) → readWritten b n out .reply ≡ refused m carries
       → (w : Row) × First w (readRows b n out) × (w .number ≡ m) × (w .carries ≡ carries)
   unfolding readWritten
-  reading-refused-by-first-row m carries h = firstRow-refused (readRows b n out) _ m carries (floor-refused _ m carries _ h)
+  reading-refused-by-first-row m carries h = firstRow-refused (readRows b n out) _ m carries (withFloor-refused _ _ m carries h)
 
   -- where no row applies, the reading is answered: the count of corners, and "Answers carry the floor"
   pub reading-answered-if-none : NoneApply (readRows b n out) → let found = latest n (records b) in
@@ -96,7 +98,7 @@ module _ (b : List ℕ) (n : ℕ) (out : List ℤ) where
   pub none-if-reading-answered : (values : List ℤ) → readWritten b n out .reply ≡ answered values → NoneApply (readRows b n out)
   unfolding readWritten
   none-if-reading-answered values h =
-      let plain = floor-answered _ values _ h in firstRow-answered (readRows b n out) _ (plain .0) (plain .1)
+      let plain = withFloor-answered _ _ values h in firstRow-answered (readRows b n out) _ (plain .0) (plain .1)
 
 -- ---- adding
 

@@ -5,26 +5,16 @@
 --                               its floor: "Answers carry the floor"
 --     showing found out         the same, of what a name has
 use mathlib.Core.Bool.{Bool, false, not, cond, _||_}
-use mathlib.Core.List.{List, [], _∷_, _++_}
+use mathlib.Core.List.{List, [], _∷_}
 use Prim.Native.Nat.{ℕ, _+_}
 use lib.Dec.{eqb}
 use lib.ListN.{length}
-use lib.IntN.{ℤ, pos}
+use lib.IntN.{ℤ}
 use Rattle.plane.specs.Point.{points}
-use Rattle.plane.specs.Reply.{Reply, answered, refused, Row, row}
+use Rattle.plane.specs.Reply.{Row, row}
 use Rattle.plane.specs.Output.{Written, written, noRoom}
-use Rattle.journal.specs.Format.{records, name, bad, Floored, onFloor, content}
-
--- moves to plane/specs/Floor.antt
--- "Answers carry the floor": it stands behind the values of an answer; a refusal carries none
-abbrev pub withFloor : ℕ → Reply → Reply
-withFloor f (answered vs) = answered (vs ++ (pos f ∷ []))
-withFloor f (refused n c) = refused n c
-
-abbrev pub writtenOn : ℕ → Written → Written
-writtenOn f w = record { reply = withFloor f (w .reply); output = w .output }
-
--- end of what moves
+use Rattle.plane.specs.Floor.{Floored, on, writtenOn}
+use Rattle.journal.specs.Format.{records, name, bad, content}
 
 abbrev pub damaged : List (List ℕ) → Bool
 damaged [] = false
@@ -40,7 +30,7 @@ held n (r ∷ rs) = eqb (name r) n || held n rs
 
 -- what no record holds
 abbrev pub nothing : Floored
-nothing = onFloor 0 []
+nothing = on [] 0
 
 abbrev pub latest : ℕ → List (List ℕ) → Floored
 latest n [] = nothing

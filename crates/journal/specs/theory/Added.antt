@@ -24,8 +24,9 @@ use Rattle.plane.specs.theory.lists.Flat.{points-length}
 use Rattle.plane.specs.theory.refusals.Rows.{NoneApply, First, here, later, Outcome, given, passed, outcome, firstRow-given, firstRow-none}
 use Rattle.plane.specs.theory.refusals.Rows.{firstRow-answered, firstRow-refused}
 use Rattle.plane.specs.theory.refusals.Accept.{accepted→valid}
-use Rattle.journal.specs.Format.{recorded, records, name, Floored, onFloor, content}
-use Rattle.journal.specs.Reading.{writtenOn, damaged, latest, readWritten, showing}
+use Rattle.plane.specs.Floor.{Floored, on, writtenOn}
+use Rattle.journal.specs.Format.{recorded, records, name, content}
+use Rattle.journal.specs.Reading.{damaged, latest, readWritten, showing}
 use Rattle.journal.specs.Adding.{Store, end, stores, made, addRows, addReply, unlessRefusal, added}
 use Rattle.journal.specs.History.{isFinished}
 use Rattle.journal.specs.theory.Read.{recorded-entry, recorded-name, recorded-content, recorded-good}
@@ -147,7 +148,7 @@ module _ (b : List ℕ) (n f : ℕ) (l : List ℤ) (k : ℕ) where
       finished-read floor-fits =
           read-by n true (eq-eqb _ n named)
           ∙ ap (λ (x : Floored). showing x out) (recorded-content n f l (finished-accepted .valid) floor-fits)
-          ∙ showing-some (onFloor f l) out (valid-some l (finished-accepted .valid))
+          ∙ showing-some (on l f) out (valid-some l (finished-accepted .valid))
 
       pub finished-others : (m : ℕ) → (m ≡ n → ⊥) → readWritten (added b n f l k .log) m out ≡ readWritten b m out
       finished-others m other =

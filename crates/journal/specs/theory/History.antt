@@ -11,7 +11,8 @@ use Prim.Native.Nat.{ℕ}
 use lib.Dec.{eqb}
 use lib.IntN.{ℤ}
 use Rattle.plane.specs.Refusal.{Valid}
-use Rattle.journal.specs.Format.{records, recordedPlain, recorded, Floored, onFloor, bad}
+use Rattle.plane.specs.Floor.{Floored, on}
+use Rattle.journal.specs.Format.{records, recordedPlain, recorded, bad}
 use Rattle.journal.specs.Reading.{damaged, latest, readWritten, showing}
 use Rattle.journal.specs.History.{Addition, fresh, step, after, isFinished, finishes, lastSince, lastFinished}
 use Rattle.journal.specs.theory.Records.{records-none}
@@ -28,11 +29,11 @@ module _ (h : Addition) (b : List ℕ) where
       go true e = finished-sound b (h .name) (h .floor) (h .list) (h .allowed) e
       go false e = ap damaged (unfinished-seen b (h .name) (h .floor) (h .list) (h .allowed) e) ∙ d
 
-  next-latest : (n : ℕ) → latest n (records (step h b .log)) ≡ cond (finishes h b n) (onFloor (h .floor) (h .list)) (latest n (records b))
+  next-latest : (n : ℕ) → latest n (records (step h b .log)) ≡ cond (finishes h b n) (on (h .list) (h .floor)) (latest n (records b))
   next-latest n = go (isFinished (step h b .reply)) refl
     where
       choice : Bool → Floored
-      choice t = cond t (onFloor (h .floor) (h .list)) (latest n (records b))
+      choice t = cond t (on (h .list) (h .floor)) (latest n (records b))
 
       go : (t : Bool) → isFinished (step h b .reply) ≡ t → latest n (records (step h b .log)) ≡ choice (finishes h b n)
       go true e =

@@ -11,7 +11,8 @@ use lib.Dec.{eqb}
 use lib.ListN.{length, take, drop}
 use lib.Seq.{drop-drop}
 use Rattle.journal.specs.Bytes.{wordsAt}
-use Rattle.journal.specs.Format.{fixedBytes, size, whole, records, kind, name, floor, list, Floored, onFloor, content}
+use Rattle.plane.specs.Floor.{Floored, on}
+use Rattle.journal.specs.Format.{fixedBytes, size, whole, records, kind, name, floor, list, content}
 use Rattle.journal.specs.Format.{bad}
 use Rattle.journal.specs.Reading.{damaged, held, nothing, latest}
 use Rattle.journal.specs.Survey.{Legible, foundAt, newer, Latest}
@@ -31,7 +32,7 @@ isAt (Found.At place count floor) = true
 
 abbrev shapeOf : List ℕ → Found → Floored
 shapeOf b Found.Nowhere = nothing
-shapeOf b (Found.At place count floor) = onFloor floor (wordsAt count b place)
+shapeOf b (Found.At place count floor) = on (wordsAt count b place) floor
 
 abbrev Placed : List ℕ → Found → Type 0
 Placed b Found.Nowhere = Unit {0}
@@ -103,9 +104,9 @@ module _ {n : ℕ} {b : List ℕ} {p : ℕ} {r : Found} (f : SoFar n b p r) (w :
       let long = legible .long in
       (omega arith, eighth (size at - fixed) (length-good .2))
 
-  content-here : content front ≡ onFloor (floor at) (wordsAt count b (p + (1 + fixed)))
+  content-here : content front ≡ on (wordsAt count b (p + (1 + fixed))) (floor at)
   unfolding list
-  content-here = content-front at (legible .long) ∙ ap (onFloor (floor at)) (wordsAt-drop b count p (1 + fixed))
+  content-here = content-front at (legible .long) ∙ ap (λ l. on l (floor at)) (wordsAt-drop b count p (1 + fixed))
 
   named : (e : Bool) → eqb (name at) n ≡ e → eqb (name front) n ≡ e
   named e h = ap (λ (k : ℕ). eqb k n) (name-front at (length-good .0)) ∙ h
@@ -143,8 +144,8 @@ module _ {n : ℕ} {b : List ℕ} {p : ℕ} {r : Found} (f : SoFar n b p r) (w :
 pub so-far-end : (n : ℕ) (b : List ℕ) (p : ℕ) (r : Found) → SoFar n b p r → whole (drop p b) ≡ false → Latest n b r
 so-far-end n b p Found.Nowhere f w = f .has ∙ ap (held n) (records-none (drop p b) w)
 so-far-end n b p (Found.At place count floor) f w =
-    let whole-is : latest n (records b) ≡ onFloor floor (wordsAt count b place) =
-    f .latest-is ∙ ap (λ (rs : List (List ℕ)). cond (held n rs) (latest n rs) (onFloor floor (wordsAt count b place)))
+    let whole-is : latest n (records b) ≡ on (wordsAt count b place) floor =
+    f .latest-is ∙ ap (λ (rs : List (List ℕ)). cond (held n rs) (latest n rs) (on (wordsAt count b place) floor))
     (records-none (drop p b) w) in record {
       has = f .has;
       inside = f .placed .0;

@@ -26,7 +26,8 @@ use Rattle.plane.specs.theory.lists.Flat.{points-length}
 use Rattle.plane.specs.theory.refusals.Rows.{firstRow-none}
 use Rattle.plane.specs.theory.refusals.Accept.{valid→accepted}
 use Rattle.journal.specs.Bytes.{pair, pairAt, words, wordsAt}
-use Rattle.journal.specs.Format.{lastByte, fixedBytes, recordedAs, recorded, recordedPlain, size, kind, name, floor, list, onFloor}
+use Rattle.plane.specs.Floor.{on}
+use Rattle.journal.specs.Format.{lastByte, fixedBytes, recordedAs, recorded, recordedPlain, size, kind, name, floor, list}
 use Rattle.journal.specs.Format.{content, isAnswer, bad}
 use Rattle.journal.specs.theory.Bytes.{pair-length, words-length, getD-past, pairAt-past, wordsAt-past, pairAt-take, wordsAt-take}
 use Rattle.journal.specs.theory.Bytes.{pairAt-pair, wordsAt-words}
@@ -73,7 +74,7 @@ module _ (t : List ℕ) where
         go false e = refl
 
     pub content-front : content front ≡ content t
-    content-front = ap₂ onFloor floor-front list-front
+    content-front = ap₂ on list-front floor-front
 
 -- ---- a recorded shape, of either kind
 
@@ -204,8 +205,8 @@ module _ (n f : ℕ) (l : List ℤ) where
     unfolding recorded
     recorded-list = as-list 2 n (pair f) l (two-behind f) v (omega arith)
 
-    pub recorded-content : f < 65536 → content (recorded n f l) ≡ onFloor f l
-    recorded-content h = ap₂ onFloor (recorded-floor h) recorded-list
+    pub recorded-content : f < 65536 → content (recorded n f l) ≡ on l f
+    recorded-content h = ap₂ on recorded-list (recorded-floor h)
 
     pub recorded-good : bad (recorded n f l) ≡ false
     unfolding recorded

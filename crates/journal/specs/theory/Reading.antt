@@ -1,7 +1,6 @@
 -- Reading, by the log's records alone.
 --     FirstBad, first-bad        what `badPlace` is
 --     read-same                  logs with the same records read alike
---     floor-refused, floor-answered   what a reply with a floor was before
 --     showing-some               what is read where a name has a shape
 --     read-sound                 a log with no bad record is read so
 --     sound-snoc, latest-snoc    one record more
@@ -19,8 +18,9 @@ use Rattle.plane.specs.Reply.{Reply, answered, refused, row}
 use Rattle.plane.specs.Refusal.{badCount}
 use Rattle.plane.specs.Judge.{judged}
 use Rattle.plane.specs.Output.{Written, written, noRoom}
-use Rattle.journal.specs.Format.{records, name, list, Floored, content, isAnswer, bad}
-use Rattle.journal.specs.Reading.{withFloor, writtenOn, damaged, badPlace, held, nothing, latest, readWritten, showing}
+use Rattle.plane.specs.Floor.{Floored, withFloor, writtenOn}
+use Rattle.journal.specs.Format.{records, name, list, content, isAnswer, bad}
+use Rattle.journal.specs.Reading.{damaged, badPlace, held, nothing, latest, readWritten, showing}
 use Rattle.journal.specs.Adding.{joined}
 use Rattle.journal.specs.theory.Kind.{neither, good→facts}
 
@@ -122,15 +122,6 @@ showing-some found out h =
     let shape = points (found .list) in
     ap (λ (b : Bool). writtenOn (found .floor) (written (row 19 b [] ∷ row 8 (noRoom shape out) [] ∷ []) shape out))
     (ne-eqb (length (found .list)) 0 (λ e. omega arith))
-
--- a reply with a floor is a refusal, or an answer, where it was one before
-pub floor-refused : (f m : ℕ) (c : List ℕ) (r : Reply) → withFloor f r ≡ refused m c → r ≡ refused m c
-floor-refused f m c (answered values) h = absurd (let z : _≡_ {A = ℕ} 0 1 = cc in let no : ⊥ = omega arith in no)
-floor-refused f m c (refused n d) h = h
-
-pub floor-answered : (f : ℕ) (values : List ℤ) (r : Reply) → withFloor f r ≡ answered values → (before : List ℤ) × (r ≡ answered before)
-floor-answered f values (answered before) h = (before, refl)
-floor-answered f values (refused n c) h = absurd (let z : _≡_ {A = ℕ} 0 1 = cc in let no : ⊥ = omega arith in no)
 
 module _ (b : List ℕ) (n : ℕ) (out : List ℤ) where
   pub read-same : (c : List ℕ) → records b ≡ records c → readWritten b n out ≡ readWritten c n out

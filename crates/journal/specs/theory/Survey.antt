@@ -17,7 +17,8 @@ use lib.Seq.{drop-drop, length-take-le}
 use lib.IntN.{ℤ}
 use Rattle.plane.specs.Judge.{judged}
 use Rattle.journal.specs.Bytes.{pairAt, wordsAt}
-use Rattle.journal.specs.Format.{lastByte, fixedBytes, size, whole, records, kind, name, list, Floored, isAnswer, wrongLength}
+use Rattle.plane.specs.Floor.{Floored}
+use Rattle.journal.specs.Format.{lastByte, fixedBytes, size, whole, records, kind, name, list, isAnswer, wrongLength}
 use Rattle.journal.specs.Format.{otherKind, bad}
 use Rattle.journal.specs.Reading.{damaged, badPlace}
 use Rattle.journal.specs.Adding.{end}
