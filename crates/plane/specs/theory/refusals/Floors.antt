@@ -1,7 +1,7 @@
 -- Floors in the table: 13 stands between the rows of two shapes and those of the question.
 --     ByTable r ws         the reply r is refused by the first of the rows ws that applies, and else answered
 --     withFloor-table      so is the reply with its floor
---     withFloor-answered   what is answered with its floor was answered without it
+--     withFloor-answered, withFloor-refused     what is answered, or refused, with its floor was so without it
 --     between-rows, between-table     and of a question on two shapes, its own rows stand behind 13
 --     Same a b             two shapes on one floor
 --     same→none, none→same     no row of two shapes applies exactly if they are such
@@ -13,13 +13,12 @@ use mathlib.Core.List.{List, [], _∷_, _++_}
 use Prim.Native.Nat.{ℕ}
 use native.Mathlib.Omega.{arith}
 use borrow.Author.Tests.{eqb-true, eq-eqb, ne-eqb, not-false}
-use lib.Dec.{eqb}
 use lib.IntN.{ℤ, pos}
 use Rattle.plane.specs.Reply.{Reply, answered, refused, Row, firstRow}
 use Rattle.plane.specs.Refusal.{shapeRows, Valid}
-use Rattle.plane.specs.Output.{Written, unlessRefused}
+use Rattle.plane.specs.Output.{Written}
 use Rattle.plane.specs.Floor.{Floored, withFloor, writtenOn, floorRow, pairRows, between, writtenBetween}
-use Rattle.plane.specs.theory.refusals.Rows.{NoneApply, First, Outcome, given, passed, outcome, none-append, none-join}
+use Rattle.plane.specs.theory.refusals.Rows.{NoneApply, Outcome, given, passed, outcome, none-append, none-join}
 use Rattle.plane.specs.theory.refusals.Rows.{firstRow-append, firstRow-given, firstRow-none, firstRow-passed, row-given}
 use Rattle.plane.specs.theory.refusals.Accept.{valid→accepted, accepted→valid}
 use Rattle.plane.specs.theory.refusals.Write.{none-output}
@@ -59,6 +58,10 @@ pub withFloor-answered : (f : ℕ) (r : Reply) (answer : List ℤ) → withFloor
     → (values : List ℤ) × (r ≡ answered values) × (answer ≡ values ++ (pos f ∷ []))
 withFloor-answered f (answered values) answer h = (values, refl, cc)
 withFloor-answered f (refused n carries) answer h = absurd (let z : _≡_ {A = ℕ} 0 1 = cc in let b : ⊥ = omega arith in b)
+
+pub withFloor-refused : (f : ℕ) (r : Reply) (n : ℕ) (carries : List ℕ) → withFloor f r ≡ refused n carries → r ≡ refused n carries
+withFloor-refused f (answered values) n carries h = absurd (let z : _≡_ {A = ℕ} 0 1 = cc in let b : ⊥ = omega arith in b)
+withFloor-refused f (refused m c) n carries h = h
 
 module _ (a b : Floored) where
   -- the rows of both shapes
