@@ -1,5 +1,5 @@
 -- Calls of a sum in parts, one after the other (document 02, request W6: "With the same shapes throughout, .. each call given the walk last
--- handed back").
+-- handed back"; request W11: with a floor each, and answers that carry it).
 --     Calls a b w ks l u    calls that may write ks corners, each lent some output: the first is given the walk w, a later one the walk
 --                           last handed back, in the end u; l is what they wrote, joined; a refusal writes nothing and hands none back
 use mathlib.Core.Path.{_≡_}
@@ -8,13 +8,15 @@ use Prim.Native.Nat.{ℕ, _*_}
 use lib.IntN.{ℤ, pos}
 use lib.ListN.{take}
 use Rattle.plane.specs.Reply.{answered, refused}
+use Rattle.plane.specs.Floor.{Floored}
 use Rattle.calipers.specs.Walk.{Walk}
-use Rattle.calipers.specs.Part.{walkNumbers, partWritten}
+use Rattle.calipers.specs.Part.{walkNumbers}
+use Rattle.calipers.specs.PartFloor.{partOn}
 
-pub data Calls (a b : List ℤ) : Walk → List ℕ → List ℤ → Walk → Type 0 where
+pub data Calls (a b : Floored) : Walk → List ℕ → List ℤ → Walk → Type 0 where
   stop : {w : Walk} → Calls a b w [] [] w
   part : {w u x : Walk} {n : ℕ} {ks : List ℕ} {l : List ℤ} (k : ℕ) (out : List ℤ)
-      → partWritten a b w k out .reply ≡ answered (pos n ∷ walkNumbers u) → Calls a b u ks l x
-      → Calls a b w (k ∷ ks) (take (2 * n) (partWritten a b w k out .output) ++ l) x
+      → partOn a b w k out .reply ≡ answered (pos n ∷ walkNumbers u ++ (pos (a .floor) ∷ [])) → Calls a b u ks l x
+      → Calls a b w (k ∷ ks) (take (2 * n) (partOn a b w k out .output) ++ l) x
   refusal : {w x : Walk} {n : ℕ} {carries : List ℕ} {ks : List ℕ} {l : List ℤ} (k : ℕ) (out : List ℤ)
-      → partWritten a b w k out .reply ≡ refused n carries → Calls a b w ks l x → Calls a b w (k ∷ ks) l x
+      → partOn a b w k out .reply ≡ refused n carries → Calls a b w ks l x → Calls a b w (k ∷ ks) l x

@@ -3,10 +3,10 @@
 --     handedBack a b w k       the walk that it hands back
 --     walkNumbers w            a walk as values of a reply: the edges passed of either shape, and 1 if it is over
 --     surveyRows shape         6 and 7 of an answer: here they "speak of the whole sum"
---     partRows a b w k out     its refusals, in order
+--     callRows a b w k out     its own refusals, behind those of the shapes; partRows a b w k out: all, in order
 --     beginReply a b           the beginning: the walk with which the first call is made
 --     partWritten a b w k out  a call: the count and the walk handed back, and the whole output
--- What it means: `Meaning.antt`.
+-- All of it is of two lists on one floor; with floors: `PartFloor.antt`. What it means: `Meaning.antt`.
 use mathlib.Core.Bool.{not, cond}
 use mathlib.Core.List.{List, [], _∷_, _++_}
 use Prim.Native.Nat.{ℕ, _+_}
@@ -33,11 +33,15 @@ walkNumbers w = pos (w .i) ∷ pos (w .j) ∷ cond (w .over) (pos 1) (pos 0) ∷
 abbrev pub surveyRows : List Point → List Row
 surveyRows shape = row 6 (tooMany shape) [] ∷ row 7 (someOutside (numbers shape)) [] ∷ []
 
--- "refused 14, after 1 to 5 and before 6 and 7", "8 of this call's corners"
+-- "refused 14, .. before 6 and 7", "8 of this call's corners"
+abbrev pub callRows : List ℤ → List ℤ → Walk → ℕ → List ℤ → List Row
+callRows a b w k out =
+    row 14 (not (isPlace a b w)) []
+    ∷ surveyRows (wholeSum a b) ++ (row 8 (noRoom (partCorners a b w k) out) [] ∷ [])
+
+-- "after 1 to 5"
 abbrev pub partRows : List ℤ → List ℤ → Walk → ℕ → List ℤ → List Row
-partRows a b w k out =
-    shapeRows 1 a ++ (shapeRows 2 b ++ (row 14 (not (isPlace a b w)) []
-    ∷ surveyRows (wholeSum a b) ++ (row 8 (noRoom (partCorners a b w k) out) [] ∷ [])))
+partRows a b w k out = shapeRows 1 a ++ (shapeRows 2 b ++ callRows a b w k out)
 
 -- "Beginning is refused as the sum is, but for 8"
 unfoldable pub beginReply : List ℤ → List ℤ → Reply

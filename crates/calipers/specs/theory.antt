@@ -14,4 +14,5 @@ pub mod Reached
 pub mod PlaceTest
 pub mod Parts
 pub mod PartRows
+pub mod Calls
 pub mod Sorted

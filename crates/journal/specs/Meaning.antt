@@ -1,8 +1,10 @@
--- What the definitions mean, in the words of document 02, W5. Each theorem is proved in the theory; here it is only cited.
---     records       when a record is whole; a log is its records and a torn rest; what a recorded shape reads as; the latest counts
+-- What the definitions mean, in the words of document 02, W5 and W11. Each theorem is proved in the theory; here it is only cited.
+--     records       when a record is whole; a log is its records and a torn rest; what a recorded shape of either kind reads as; when a
+--                   record is bad; the latest counts
 --     reading       the table, in its order, and the place that 15 gives
 --     adding        the table, in its order; a refused, a finished and a cut addition; allowances; whatever is torn behind the end
---     histories     the whole claim: reading gives for each name the last finished addition, and 15 does not come
+--     histories     the whole claim: reading gives for each name the last finished addition, and 15 does not come; from a new log, and
+--                   from any log without a bad record, so from one of kind 1 as well
 use mathlib.Core.Path.{_≡_, ap}
 use mathlib.Core.Bool.{true, false, cond}
 use mathlib.Core.List.{List, [], _∷_, _++_}
@@ -15,16 +17,21 @@ use Rattle.plane.specs.Reply.{answered, refused, Row, row}
 use Rattle.plane.specs.Refusal.{Valid}
 use Rattle.plane.specs.Output.{written, noRoom}
 use Rattle.plane.specs.theory.refusals.Rows.{NoneApply, First, firstRow-given, firstRow-none, firstRow-answered, firstRow-refused}
-use Rattle.journal.specs.Format.{recorded, whole, records, name, list, bad}
-use Rattle.journal.specs.Reading.{damaged, badPlace, latest, readRows, readWritten}
-use Rattle.journal.specs.Adding.{joined, end, stores, addRows, addReply, added}
-use Rattle.journal.specs.History.{Addition, fresh, after, isFinished, lastFinished}
+use Rattle.plane.specs.Floor.{on, withFloor, writtenOn}
+use Rattle.plane.specs.theory.refusals.Floors.{withFloor-answered, withFloor-refused}
+use Rattle.journal.specs.Format.{recorded, recordedPlain, whole, records, name, floor, list, bad}
+use Rattle.journal.specs.Reading.{damaged, badPlace, latest, readRows, readWritten, showing}
+use Rattle.journal.specs.Adding.{joined, end, stores, made, addRows, addReply, added}
+use Rattle.journal.specs.History.{Addition, fresh, after, isFinished, lastSince, lastFinished}
+use Rattle.journal.specs.theory.Kind.{Good, good→facts, facts→good}
 use Rattle.journal.specs.theory.Records.{Whole, whole→facts, facts→whole, split, end-torn}
-use Rattle.journal.specs.theory.Read.{recorded-name, recorded-list, recorded-good}
+use Rattle.journal.specs.theory.Read.{recorded-name, recorded-floor, recorded-list, recorded-good}
+use Rattle.journal.specs.theory.Read.{plain-entry, plain-name, plain-floor, plain-list, plain-good}
 use Rattle.journal.specs.theory.Reading.{FirstBad, first-bad, latest-snoc, read-same}
+use Rattle.journal.specs.theory.Stores.{cut-seen}
 use Rattle.journal.specs.theory.Added.{kept-log, added-seen, finished-log, finished-read, finished-others, unfinished-seen}
 use Rattle.journal.specs.theory.Added.{nothing-allowed, one-more-allowed, enough-allowed, sound-added}
-use Rattle.journal.specs.theory.History.{history-sound, history-read}
+use Rattle.journal.specs.theory.History.{after-sound, after-read, fresh-sound, fresh-read, AllRecorded, written-sound}
 
 -- ---- records
 
@@ -40,14 +47,27 @@ record-with-all-is-whole t w = facts→whole t w
 pub log-is-its-records : (b : List ℕ) → (b ≡ joined (records b) ++ drop (end b) b) × (whole (drop (end b) b) ≡ false)
 log-is-its-records b = (split b, end-torn b)
 
--- what was recorded is read back, and is not refused
-pub recorded-shape-reads-back : (n : ℕ) (l : List ℤ) → n < 65536 → Valid l
-    → (name (recorded n l) ≡ n) × (list (recorded n l) ≡ l) × (bad (recorded n l) ≡ false)
-recorded-shape-reads-back n l h v = (recorded-name n l v h, recorded-list n l v, recorded-good n l v)
+-- "Book kind 2 puts a two-byte floor after the name": what was recorded is read back, and is not refused
+pub recorded-shape-reads-back : (n f : ℕ) (l : List ℤ) → n < 65536 → f < 65536 → Valid l → let r = recorded n f l in
+    (name r ≡ n) × (floor r ≡ f) × (list r ≡ l) × (bad r ≡ false)
+recorded-shape-reads-back n f l h k v = (recorded-name n f l v h, recorded-floor n f l v k, recorded-list n f l v, recorded-good n f l v)
+
+-- "kind 1 still reads as floor 0"
+pub plain-record-reads-as-floor-0 : (n : ℕ) (l : List ℤ) → n < 65536 → Valid l → let r = recordedPlain n l in
+    (name r ≡ n) × (floor r ≡ 0) × (list r ≡ l) × (bad r ≡ false)
+plain-record-reads-as-floor-0 n l h v = (plain-name n l v h, plain-floor n l v, plain-list n l v, plain-good n l v)
+
+-- "A whole record of another kind or a wrong length, or one whose corners are no shape", where "another kind is now one other than 1 and
+-- 2": none of the three, and the record is not bad
+pub record-not-bad-has-all : (r : List ℕ) → bad r ≡ false → Good r
+record-not-bad-has-all r h = good→facts r h
+
+pub record-with-all-is-not-bad : (r : List ℕ) → Good r → bad r ≡ false
+record-with-all-is-not-bad r g = facts→good r g
 
 -- "The latest record of a name counts"
 pub latest-record-counts : (n : ℕ) (rs : List (List ℕ)) (r : List ℕ)
-    → latest n (rs ++ (r ∷ [])) ≡ cond (eqb (name r) n) (list r) (latest n rs)
+    → latest n (rs ++ (r ∷ [])) ≡ cond (eqb (name r) n) (on (list r) (floor r)) (latest n rs)
 latest-record-counts n rs r = latest-snoc r n rs
 
 -- ---- reading
@@ -60,110 +80,131 @@ module _ (b : List ℕ) (n : ℕ) (out : List ℤ) where
   -- 15, 19 and 8, in this order: a row that applies, with none before it, gives its refusal
   pub first-row-refuses-reading : {w : Row} → First w (readRows b n out) → readWritten b n out .reply ≡ refused (w .number) (w .carries)
   unfolding readWritten
-  first-row-refuses-reading f = firstRow-given _ f
+  first-row-refuses-reading f = ap (withFloor (latest n (records b) .floor)) (firstRow-given _ f)
 
   -- and nothing else does
   pub reading-refused-by-first-row : (m : ℕ) (carries : List ℕ) → readWritten b n out .reply ≡ refused m carries
       → (w : Row) × First w (readRows b n out) × (w .number ≡ m) × (w .carries ≡ carries)
   unfolding readWritten
-  reading-refused-by-first-row m carries h = firstRow-refused (readRows b n out) _ m carries h
+  reading-refused-by-first-row m carries h = firstRow-refused (readRows b n out) _ m carries (withFloor-refused _ _ m carries h)
 
-  -- where no row applies, the reading is answered
-  pub reading-answered-if-none : NoneApply (readRows b n out)
-      → readWritten b n out .reply ≡ answered (pos (length (points (latest n (records b)))) ∷ [])
+  -- where no row applies, the reading is answered: the count of corners, and "Answers carry the floor"
+  pub reading-answered-if-none : NoneApply (readRows b n out) → let found = latest n (records b) in
+      readWritten b n out .reply ≡ answered (pos (length (points (found .list))) ∷ pos (found .floor) ∷ [])
   unfolding readWritten
-  reading-answered-if-none none = firstRow-none (readRows b n out) _ none
+  reading-answered-if-none none = ap (withFloor (latest n (records b) .floor)) (firstRow-none (readRows b n out) _ none)
 
   -- and only there
   pub none-if-reading-answered : (values : List ℤ) → readWritten b n out .reply ≡ answered values → NoneApply (readRows b n out)
   unfolding readWritten
-  none-if-reading-answered values h = firstRow-answered (readRows b n out) _ values h
+  none-if-reading-answered values h =
+      let plain = withFloor-answered _ _ values h in firstRow-answered (readRows b n out) _ (plain .0) (plain .1)
 
 -- ---- adding
 
-module _ (b : List ℕ) (n : ℕ) (l : List ℤ) (k : ℕ) where
+module _ (b : List ℕ) (n f : ℕ) (l : List ℤ) (k : ℕ) where
   -- "Adding is refused 16 exactly when .., after 1 to 5 and 15": a row that applies, with none before it, gives its refusal
-  pub first-row-refuses-adding : {w : Row} → First w (addRows b n l) → added b n l k .reply ≡ refused (w .number) (w .carries)
+  pub first-row-refuses-adding : {w : Row} → First w (addRows b n f l) → added b n f l k .reply ≡ refused (w .number) (w .carries)
   unfolding added addReply
-  first-row-refuses-adding f = firstRow-given _ f
+  first-row-refuses-adding first = firstRow-given _ first
 
   -- and nothing else does
-  pub adding-refused-by-first-row : (m : ℕ) (carries : List ℕ) → added b n l k .reply ≡ refused m carries
-      → (w : Row) × First w (addRows b n l) × (w .number ≡ m) × (w .carries ≡ carries)
+  pub adding-refused-by-first-row : (m : ℕ) (carries : List ℕ) → added b n f l k .reply ≡ refused m carries
+      → (w : Row) × First w (addRows b n f l) × (w .number ≡ m) × (w .carries ≡ carries)
   unfolding added addReply
-  adding-refused-by-first-row m carries h = firstRow-refused (addRows b n l) _ m carries h
+  adding-refused-by-first-row m carries h = firstRow-refused (addRows b n f l) _ m carries h
 
   -- where no row applies, the addition "says whether it finished": 1 exactly if the stores that it may make are enough. "one that runs
   -- out is a cut, and no refusal"
-  pub adding-answered-if-none : NoneApply (addRows b n l)
-      → added b n l k .reply ≡ answered (cond (leb (length (stores b (recorded n l))) k) (pos 1) (pos 0) ∷ [])
+  pub adding-answered-if-none : NoneApply (addRows b n f l)
+      → added b n f l k .reply ≡ answered (cond (leb (length (stores b (recorded n f l))) k) (pos 1) (pos 0) ∷ [])
   unfolding added addReply
-  adding-answered-if-none none = firstRow-none (addRows b n l) _ none
+  adding-answered-if-none none = firstRow-none (addRows b n f l) _ none
 
   -- and only there
-  pub none-if-adding-answered : (values : List ℤ) → added b n l k .reply ≡ answered values → NoneApply (addRows b n l)
+  pub none-if-adding-answered : (values : List ℤ) → added b n f l k .reply ≡ answered values → NoneApply (addRows b n f l)
   unfolding added addReply
-  none-if-adding-answered values h = firstRow-answered (addRows b n l) _ values h
+  none-if-adding-answered values h = firstRow-answered (addRows b n f l) _ values h
 
   -- "A refused addition stores nothing"
-  pub refused-addition-stores-nothing : (m : ℕ) (carries : List ℕ) → added b n l k .reply ≡ refused m carries → added b n l k .log ≡ b
-  refused-addition-stores-nothing m carries h = kept-log b n l k m carries h
+  pub refused-addition-stores-nothing : (m : ℕ) (carries : List ℕ) → added b n f l k .reply ≡ refused m carries → added b n f l k .log ≡ b
+  refused-addition-stores-nothing m carries h = kept-log b n f l k m carries h
 
-  module _ (done : added b n l k .reply ≡ answered (pos 1 ∷ [])) where
+  module _ (done : added b n f l k .reply ≡ answered (pos 1 ∷ [])) where
     -- "a finished one leaves the bytes before its record alone and all after it 0"
-    pub finished-addition-leaves : added b n l k .log
-        ≡ take (end b) b ++ (recorded n l ++ replicate (length b - (end b + length (recorded n l))) 0)
-    finished-addition-leaves = finished-log b n l k (ap isFinished done)
+    pub finished-addition-leaves : added b n f l k .log
+        ≡ take (end b) b ++ (recorded n f l ++ replicate (length b - (end b + length (recorded n f l))) 0)
+    finished-addition-leaves = finished-log b n f l k (ap isFinished done)
 
-    module _ (two-bytes : n < 65536) (out : List ℤ) where
-      -- its name then reads as its shape: only 8 can come
-      pub finished-addition-is-read : readWritten (added b n l k .log) n out
-          ≡ written (row 8 (noRoom (points l) out) [] ∷ []) (points l) out
-      finished-addition-is-read = finished-read b n l k (ap isFinished done) two-bytes out
+    module _ (name-fits : n < 65536) (out : List ℤ) where
+      -- its name then reads as its shape, on its floor: only 8 can come
+      pub finished-addition-is-read : f < 65536 → readWritten (added b n f l k .log) n out
+          ≡ writtenOn f (written (row 8 (noRoom (points l) out) [] ∷ []) (points l) out)
+      finished-addition-is-read floor-fits = finished-read b n f l k (ap isFinished done) name-fits out floor-fits
 
       -- and every other name as before
-      pub finished-addition-keeps-other-names : (m : ℕ) → (m ≡ n → ⊥) → readWritten (added b n l k .log) m out ≡ readWritten b m out
-      finished-addition-keeps-other-names m other = finished-others b n l k (ap isFinished done) two-bytes out m other
+      pub finished-addition-keeps-other-names : (m : ℕ) → (m ≡ n → ⊥) → readWritten (added b n f l k .log) m out ≡ readWritten b m out
+      finished-addition-keeps-other-names m other = finished-others b n f l k (ap isFinished done) name-fits out m other
 
-  module _ (cut : added b n l k .reply ≡ answered (pos 0 ∷ [])) where
+  module _ (cut : added b n f l k .reply ≡ answered (pos 0 ∷ [])) where
     -- a cut addition is never stored whole: the log's records are those from before
-    pub cut-addition-is-not-stored-whole : records (added b n l k .log) ≡ records b
-    cut-addition-is-not-stored-whole = unfinished-seen b n l k (ap isFinished cut)
+    pub cut-addition-is-not-stored-whole : records (added b n f l k .log) ≡ records b
+    cut-addition-is-not-stored-whole = unfinished-seen b n f l k (ap isFinished cut)
 
     -- and every name reads as before
-    pub cut-addition-changes-no-reading : (m : ℕ) (out : List ℤ) → readWritten (added b n l k .log) m out ≡ readWritten b m out
-    cut-addition-changes-no-reading m out = read-same (added b n l k .log) m out b cut-addition-is-not-stored-whole
+    pub cut-addition-changes-no-reading : (m : ℕ) (out : List ℤ) → readWritten (added b n f l k .log) m out ≡ readWritten b m out
+    cut-addition-changes-no-reading m out = read-same (added b n f l k .log) m out b cut-addition-is-not-stored-whole
 
   -- whatever log it is added to, torn or not, and whatever is allowed: the new record is there if the addition finished, and nothing
   -- else changes
-  pub any-log-shows-old-or-new : records (added b n l k .log)
-      ≡ cond (isFinished (added b n l k .reply)) (records b ++ (recorded n l ∷ [])) (records b)
-  any-log-shows-old-or-new = added-seen b n l k
+  pub any-log-shows-old-or-new : records (added b n f l k .log)
+      ≡ cond (isFinished (added b n f l k .reply)) (records b ++ (recorded n f l ∷ [])) (records b)
+  any-log-shows-old-or-new = added-seen b n f l k
 
   -- "With none allowed the book stays as it was"
-  pub none-allowed-keeps-log : added b n l 0 .log ≡ b
-  none-allowed-keeps-log = nothing-allowed b n l
+  pub none-allowed-keeps-log : added b n f l 0 .log ≡ b
+  none-allowed-keeps-log = nothing-allowed b n f l
 
   -- "the books left by some allowance and by one store more differ in at most one byte": at the place p, which has x afterwards
-  pub one-store-more-changes-one-byte : (p : ℕ) × (x : ℕ) × (added b n l (suc k) .log ≡ set (added b n l k .log) p x)
-  one-store-more-changes-one-byte = one-more-allowed b n l k
+  pub one-store-more-changes-one-byte : (p : ℕ) × (x : ℕ) × (added b n f l (suc k) .log ≡ set (added b n f l k .log) p x)
+  one-store-more-changes-one-byte = one-more-allowed b n f l k
 
   -- "twice the book's count of bytes is always enough to finish"
-  pub twice-the-bytes-finish : 2 * length b ≤ k → (values : List ℤ) → added b n l k .reply ≡ answered values
-      → added b n l k .reply ≡ answered (pos 1 ∷ [])
-  twice-the-bytes-finish h values e = enough-allowed b n l k h values e
+  pub twice-the-bytes-finish : 2 * length b ≤ k → (values : List ℤ) → added b n f l k .reply ≡ answered values
+      → added b n f l k .reply ≡ answered (pos 1 ∷ [])
+  twice-the-bytes-finish h values e = enough-allowed b n f l k h values e
+
+-- an addition as W5 made it, of kind 1, left the records so, cut or not: a log from then has no others
+pub plain-addition-shows-old-or-new : (b : List ℕ) (n : ℕ) (l : List ℤ) (k : ℕ) → Valid l → let r = recordedPlain n l in
+    length r ≤ length b - end b
+    → records (made (take k (stores b r)) b) ≡ cond (leb (length (stores b r)) k) (records b ++ (r ∷ [])) (records b)
+plain-addition-shows-old-or-new b n l k v room = cut-seen b (recordedPlain n l) (plain-entry n l v) room k
 
 -- ---- histories
 
-module _ (m : ℕ) (hs : List Addition) where
-  -- "From a new book, under any additions and any cuts after any store, reading gives for each name the last finished addition": 19 if
-  -- there is none, then 8, and no 15. "or a later cut one if stored whole": by the above none is
-  pub history-reads-last-finished : (n : ℕ) (out : List ℤ) → let found = lastFinished n hs (fresh m) in
-      readWritten (after hs (fresh m)) n out
-      ≡ written (row 19 (eqb (length found) 0) [] ∷ row 8 (noRoom (points found) out) [] ∷ []) (points found) out
-  history-reads-last-finished n out = history-read m hs n out
+module _ (hs : List Addition) where
+  -- "From a new book, under any additions and any cuts after any store, reading gives for each name the last finished addition", with its
+  -- floor: 19 if there is none, then 8, and no 15. "or a later cut one if stored whole": by the above none is
+  pub history-reads-last-finished : (m n : ℕ) (out : List ℤ)
+      → readWritten (after hs (fresh m)) n out ≡ showing (lastFinished n hs (fresh m)) out
+  history-reads-last-finished m n out = fresh-read hs m n out
 
   -- nor does 15 come of a further addition
-  pub history-adds-without-damage : (n : ℕ) (l : List ℤ) (k : ℕ) (carries : List ℕ)
-      → added (after hs (fresh m)) n l k .reply ≡ refused 15 carries → ⊥
-  history-adds-without-damage n l k carries h = sound-added (after hs (fresh m)) (history-sound m hs) n l k carries h
+  pub history-adds-without-damage : (m n f : ℕ) (l : List ℤ) (k : ℕ) (carries : List ℕ)
+      → added (after hs (fresh m)) n f l k .reply ≡ refused 15 carries → ⊥
+  history-adds-without-damage m n f l k carries h =
+      sound-added (after hs (fresh m)) (after-sound hs (fresh m) (fresh-sound m)) n f l k carries h
+
+  -- the same from a log b in which no record is bad, of whichever kinds they are: the last finished addition, or what b held
+  module _ (b : List ℕ) (sound : damaged (records b) ≡ false) where
+    pub history-reads-last-since : (n : ℕ) (out : List ℤ)
+        → readWritten (after hs b) n out ≡ showing (lastSince (latest n (records b)) n hs b) out
+    history-reads-last-since n out = after-read hs b sound n out
+
+    pub history-adds-without-new-damage : (n f : ℕ) (l : List ℤ) (k : ℕ) (carries : List ℕ)
+        → added (after hs b) n f l k .reply ≡ refused 15 carries → ⊥
+    history-adds-without-new-damage n f l k carries h = sound-added (after hs b) (after-sound hs b sound) n f l k carries h
+
+-- such is every log whose records were recorded, be it by kind 1 or by kind 2, whatever is torn behind them
+pub recorded-log-is-sound : (b : List ℕ) → AllRecorded (records b) → damaged (records b) ≡ false
+recorded-log-is-sound b all = written-sound (records b) all

@@ -1,5 +1,6 @@
 -- What the meaning stands on, in reading order:
---     Bytes, Records, Read    numbers as bytes; a log is its records and a torn rest; what a record says
+--     Bytes, Records          numbers as bytes; a log is its records and a torn rest
+--     Kind, Read              the kind of a record; what a record says
 --     Reading                 reading, by the records alone
 --     Parts, Stores           what stands behind the records after each store of an addition
 --     Added, History          one addition; any history of them
@@ -8,6 +9,7 @@
 --     Storing                 stores made as far as they are allowed
 pub mod Bytes
 pub mod Records
+pub mod Kind
 pub mod Read
 pub mod Reading
 pub mod Parts

@@ -1,18 +1,19 @@
 // Inner functions: the latest record of a name.
 ghost use mathlib.Core.Bool.{false};
 ghost use mathlib.Core.Path.{_≡_};
-ghost use Prim.Native.Nat.{_+_, _≤_};
-ghost use lib.ListN.{length};
-ghost use Rattle.journal.specs.Bytes.{pairAt};
-ghost use Rattle.journal.specs.Format.{fixedBytes, records};
+ghost use Rattle.journal.specs.Format.{records};
 ghost use Rattle.journal.specs.Reading.{damaged};
-ghost use Rattle.journal.specs.Survey.{Latest, newer as Survey·newer};
+ghost use Rattle.journal.specs.Survey.{Legible, Latest, newer as Survey·newer};
 use crate::bytes;
 use crate::records;
 
-// Where the numbers of the latest record of a name stand, and how many they are.
+// Where the numbers of the latest record of a name stand, how many they are, and the floor of the record.
 pub enum Found {
-    At { place: usize, count: usize },
+    At {
+        place: usize,
+        count: usize,
+        floor: u16,
+    },
     Nowhere,
 }
 
@@ -33,14 +34,16 @@ pub fn latest(log: &[u8], name: u16) -> Found
 
 // What is found once the record at a place is looked at: a later record of the name counts.
 fn newer(log: &[u8], p: usize, name: u16, found: Found) -> Found
-    requires { ⌜ (p + 7 ≤ length (now log)) × (fixedBytes ≤ pairAt (now log) p) ⌝ }
+    requires { ⌜ Legible (now log) p ⌝ }
     ensures { λ r. ⌜ r ≡ Survey·newer name (now (log .entry)) p found ⌝ }
 {
     if bytes::pair_at(log, p + 4) != name as usize {
         return found;
     }
+    let fixed = records::fixed_bytes(bytes::pair_at(log, p + 2));
     Found::At {
-        place: p + 6,
-        count: (bytes::pair_at(log, p) - records::FIXED_BYTES) / 4,
+        place: p + (1 + fixed),
+        count: (bytes::pair_at(log, p) - fixed) / 4,
+        floor: records::floor_at(log, p, fixed),
     }
 }

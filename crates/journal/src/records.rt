@@ -4,12 +4,23 @@ ghost use mathlib.Core.Path.{_≡_};
 ghost use Prim.Native.Nat.{_+_, _*_, _≤_};
 ghost use lib.ListN.{length, take, drop};
 ghost use Rattle.plane.specs.Limits.{maxCorners};
-ghost use Rattle.journal.specs.Format.{size as Format·size, whole, bad, fixedBytes};
+ghost use Rattle.journal.specs.Format.{size as Format·size, kind as Format·kind, floor};
+ghost use Rattle.journal.specs.Format.{whole, bad, fixedBytes, otherKind};
+ghost use Rattle.journal.specs.Survey.{Legible};
 use crate::bytes;
 use crate::corners;
 
-// What the length counts besides the corners: kind, name and last byte.
-pub const FIXED_BYTES: usize = 5;
+// The kind of a record that says its floor: the one that is written.
+pub const FLOORED: usize = 2;
+
+// The kind of a record that says none, and is on floor 0.
+const PLAIN: usize = 1;
+
+// What the length counts besides the corners: kind, name, floor and last byte.
+pub const FLOORED_BYTES: usize = 7;
+
+// The same without a floor.
+const PLAIN_BYTES: usize = 5;
 
 // The last byte of a record.
 pub const LAST_BYTE: u8 = 90;
@@ -34,21 +45,58 @@ pub fn whole_at(log: &[u8], p: usize) -> bool
 }
 
 // Whether the whole record at a place is one of another kind or a wrong length, or has corners that are no shape. The
-// length is tested first, since a record may end before its kind. The buffer holds the corners of any shape.
+// least length is tested first, since a record may end before its kind. The buffer holds the corners of any shape.
 pub fn bad_at(log: &[u8], p: usize, buffer: &mut [i32]) -> bool
     requires { ⌜ (whole (drop p (now log)) ≡ true) × (length (now buffer) ≡ 2 * maxCorners) ⌝ }
     ensures { λ r. ⌜ (r ≡ bad (take (2 + Format·size (drop p (now (log .entry)))) (drop p (now (log .entry)))))
         × (length (now (buffer .exit)) ≡ 2 * maxCorners) ⌝ }
 {
     let size = bytes::pair_at(log, p);
-    if size < FIXED_BYTES {
+    if size < PLAIN_BYTES {
         return true;
     }
-    if (size - FIXED_BYTES) % 8 != 0 {
+    let kind = bytes::pair_at(log, p + 2);
+    if is_other(kind) {
         return true;
     }
-    if bytes::pair_at(log, p + 2) != 1 {
+    let fixed = fixed_bytes(kind);
+    if size < fixed {
         return true;
     }
-    !corners::is_shape_at(log, p + 6, (size - FIXED_BYTES) / 4, buffer)
+    if (size - fixed) % 8 != 0 {
+        return true;
+    }
+    !corners::is_shape_at(log, p + 1 + fixed, (size - fixed) / 4, buffer)
+}
+
+// Whether no record may have the kind.
+fn is_other(kind: usize) -> bool
+    ensures { λ r. ⌜ r ≡ otherKind kind ⌝ }
+{
+    if kind == PLAIN {
+        return false;
+    }
+    kind != FLOORED
+}
+
+// What the length counts besides the corners in a record of the kind.
+pub fn fixed_bytes(kind: usize) -> usize
+    ensures { λ r. ⌜ r ≡ fixedBytes kind ⌝ }
+{
+    if kind == FLOORED {
+        return FLOORED_BYTES;
+    }
+    PLAIN_BYTES
+}
+
+// The floor of the record at a place, whose length counts so many bytes besides the corners: 0 if none are a floor's.
+// Ruled out: kind 1 read as its own floor.
+pub fn floor_at(log: &[u8], p: usize, fixed: usize) -> u16
+    requires { ⌜ Legible (now log) p × (fixed ≡ fixedBytes (Format·kind (drop p (now log)))) ⌝ }
+    ensures { λ r. ⌜ r ≡ floor (drop p (now (log .entry))) ⌝ }
+{
+    if fixed < FLOORED_BYTES {
+        return 0;
+    }
+    bytes::pair_at(log, p + 6) as u16
 }

@@ -11,44 +11,47 @@ ghost use Rattle.journal.specs.Allowance.{Ran, cleared};
 use crate::bytes;
 use crate::records;
 
-// Whether a record of the list, whatever its name, has too little room from a place on. Its length, kind, name and last
-// byte take seven bytes.
+// Whether a record of the list, whatever its name and floor, has too little room from a place on: two bytes for the
+// length, and what it counts.
 // Ruled out: full one byte early.
 pub fn is_full(log: &[u8], end: usize, list: &[i32]) -> bool
     requires { ⌜ end ≤ length (now log) ⌝ }
-    ensures { λ r. ⌜ ((n : ℕ) → r ≡ ltb (length (now (log .entry)) - end) (length (recorded n (now (list .entry))))) ⌝ }
+    ensures { λ r. ⌜ ((n f : ℕ)
+        → r ≡ ltb (length (now (log .entry)) - end) (length (recorded n f (now (list .entry))))) ⌝ }
 {
-    log.len() - end < 7 + 4 * list.len()
+    log.len() - end < 2 + records::FLOORED_BYTES + 4 * list.len()
 }
 
 // Clears what stands from the end of the last whole record on, then stores the record there: at most so many stores as
 // are allowed. Whether all were made.
-pub fn add(log: &mut [u8], end: usize, name: u16, list: &[i32], allowed: usize) -> bool
-    requires { ⌜ (end ≡ Adding·end (now log)) × (end + length (recorded name (now list)) ≤ length (now log)) ⌝ }
-    ensures { λ r. ⌜ (r ≡ leb (length (stores (now (log .entry)) (recorded name (now (list .entry))))) allowed)
+pub fn add(log: &mut [u8], end: usize, name: u16, floor: u16, list: &[i32], allowed: usize) -> bool
+    requires { ⌜ (end ≡ Adding·end (now log)) × (end + length (recorded name floor (now list)) ≤ length (now log)) ⌝ }
+    ensures { λ r. ⌜ (r ≡ leb (length (stores (now (log .entry)) (recorded name floor (now (list .entry))))) allowed)
         × (now (log .exit)
-        ≡ made (take allowed (stores (now (log .entry)) (recorded name (now (list .entry))))) (now (log .entry))) ⌝ }
+        ≡ made (take allowed (stores (now (log .entry)) (recorded name floor (now (list .entry)))))
+        (now (log .entry))) ⌝ }
 {
     let left = clear(log, end, allowed);
-    write(log, end, name, list, left)
+    write(log, end, name, floor, list, left)
 }
 
 // Stores a record from a place on, its last byte last. Whether all stores were made.
 // Ruled out: cut called finished; last byte stored first.
-fn write(log: &mut [u8], p: usize, name: u16, list: &[i32], allowed: usize) -> bool
-    requires { ⌜ p + length (recorded name (now list)) ≤ length (now log) ⌝ }
-    ensures { λ r. ⌜ (r ≡ leb (length (writes p (recorded name (now (list .entry))))) allowed)
+fn write(log: &mut [u8], p: usize, name: u16, floor: u16, list: &[i32], allowed: usize) -> bool
+    requires { ⌜ p + length (recorded name floor (now list)) ≤ length (now log) ⌝ }
+    ensures { λ r. ⌜ (r ≡ leb (length (writes p (recorded name floor (now (list .entry))))) allowed)
         × (now (log .exit)
-        ≡ made (take allowed (writes p (recorded name (now (list .entry))))) (now (log .entry))) ⌝ }
+        ≡ made (take allowed (writes p (recorded name floor (now (list .entry))))) (now (log .entry))) ⌝ }
 {
-    let size = records::FIXED_BYTES + 4 * list.len();
+    let size = records::FLOORED_BYTES + 4 * list.len();
     let last = p + 1 + size;
     let low = (size % 256) as u8;
     let mut left = byte(log, p, low, allowed);
     left = byte(log, p + 1, (size / 256 % 256) as u8, left);
-    left = pair(log, p + 2, 1, left);
+    left = pair(log, p + 2, records::FLOORED, left);
     left = pair(log, p + 4, name as usize, left);
-    left = words(log, p + 6, list, left);
+    left = pair(log, p + 6, floor as usize, left);
+    left = words(log, p + 8, list, left);
     byte(log, last, records::LAST_BYTE, left);
     0 < left
 }

@@ -1,6 +1,6 @@
 -- Document 01's starred cases ("Cases to hold against"), as one table over the definitions and one fact about all its rows, by computing.
 -- The rows are quoted in 01's order; a row is what the definition gives and what 01 states. The last are of document 02, requests W1, W3,
--- W8 and W10.
+-- W8, W10 and W11.
 use mathlib.Core.Path.{_≡_, refl}
 use mathlib.Core.Bool.{cond}
 use mathlib.Core.List.{List, [], _∷_, _++_, map}
@@ -27,6 +27,7 @@ use Rattle.plane.specs.Measure.{squared, lengthSquared, furthestPair, le
 use Rattle.plane.specs.Measure.{edgeSquared, noWider, widthEdge, widthCorner, widthRounded, widthReply}
 use Rattle.plane.specs.Separation.{inside, apart, notLeft, onRim, touching, relationReply}
 use Rattle.plane.specs.Tangent.{onSide, touches, nearer, tangent, tangentFrom, tangentTo, tangentsReply}
+use Rattle.plane.specs.Floor.{on, between, writtenBetween}
 use Rattle.plane.specs.Clearance.{falls, top, bottom, noFurther, nearest, clearanceReply}
 
 -- what the definition gives and what 01 states: each a reply and a whole output
@@ -142,6 +143,17 @@ rows =
     ∷ writes (λ out. sweepWritten (pair 3 1 ++ (pair 3 1 ++ pair 3 1)) out) 1 (pair 3 1)
     ∷ writes (λ out. sweepWritten (pair 2 1 ++ segment 3 1 0 1) out) 2 (segment 0 1 3 1)
     ∷ says (sweepWritten [] [] .reply) (refused 1 (1 ∷ []))
+    -- floors: S and point 3 1 both on floor 2; on two floors; the second shape's own checks come first, whatever its floor
+    ∷ says (between (on S 2) (on (pair 3 1) 2) relationReply) (answered (pos 0 ∷ pos 2 ∷ []))
+    ∷ says (between (on S 2) (on (pair 3 1) 0) relationReply) (refused 13 [])
+    ∷ says (between (on S 2) (on [] 0) relationReply) (refused 1 (2 ∷ []))
+    -- 13 before the rest: S and point 2 1 touch; the floor behind the count; an output of 7s is left alone
+    ∷ says (between (on S 65535) (on (pair 2 1) 0) tangentsReply) (refused 13 [])
+    ∷ says (writtenBetween (on S 7) (on (pair 1 1) 7) mergeWritten (S ++ S) .reply) (answered (pos 4 ∷ pos 7 ∷ []))
+    ∷ record {
+      given = writtenBetween (on S 7) (on T 8) sumWritten (pair 7 7);
+      stated = record { reply = refused 13 []; output = pair 7 7 };
+    }
     ∷ []
 
 pub rows-hold : map (λ (r : Case). r .given) rows ≡ map (λ (r : Case). r .stated) rows
@@ -154,4 +166,5 @@ unfolding rows maxCorners maxCoordinate maxPoints maxPart turn breaks precedes s
     onSide touches nearer tangent tangentFrom tangentTo tangentsReply
     value falls top bottom noFurther nearest clearanceReply
     support furthest faceFirst faceLast badDirection furthestReply
+    between writtenBetween
 rows-hold = refl

@@ -22,6 +22,7 @@ pub mod Separation
 pub mod Tangent
 pub mod Mean
 pub mod Clearance
+pub mod Floor
 pub mod Question
 pub mod Cases
 pub mod Meaning

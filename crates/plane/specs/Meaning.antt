@@ -1,6 +1,6 @@
 -- What the definitions mean, in document 01's words. Each theorem is proved in the theory; here it is only cited.
 --     judging        accepted and valid are the same; how large turns and values get; where row 4 finds the rules broken
---     the table      of every question, a refusal is given exactly when its row says; what is written, and what is left untouched
+--     the table      of every question, a refusal is given exactly when its row says; floors; what is written, and what is left untouched
 --     corners        the shape of a set is the standard list of its corners, and the only one
 --     forms          three ways to say that a list is a shape
 --     directions     how far sums, lists taken together and mirrored lists reach; a shape is known by how far it reaches
@@ -19,15 +19,16 @@ use Rattle.plane.specs.Limits.{maxPart}
 use Rattle.plane.specs.Point.{Point, points, numbers, corner, opposite}
 use Rattle.plane.specs.Turn.{turn, Left}
 use Rattle.plane.specs.Shape.{next, breaks, IsShape}
-use Rattle.plane.specs.Reply.{answered, refused, Row}
+use Rattle.plane.specs.Reply.{Reply, answered, refused, Row}
 use Rattle.plane.specs.Refusal.{tooMany, someOutside, equalPair, leftBroken, breakingEdge, breakingCorner, shapeRows, InRange, Valid}
 use Rattle.plane.specs.Judge.{judged}
 use Rattle.plane.specs.Direction.{value, support, max, furthest}
 use Rattle.plane.specs.Corner.{Corner, shapeOf, sums, mirrored}
 use Rattle.plane.specs.Forms.{Ordered, Sorted, NonZero, edges}
-use Rattle.plane.specs.Output.{overwritten, written}
+use Rattle.plane.specs.Output.{Written, overwritten, written}
 use Rattle.plane.specs.Face.{faceFirst, faceLast}
 use Rattle.plane.specs.Sweep.{ValidPoints}
+use Rattle.plane.specs.Floor.{Floored, withFloor, writtenOn, between, writtenBetween}
 use Rattle.plane.specs.Question.{Question, reply, table}
 use Rattle.plane.specs.theory.lists.Members.{_∈_, _⊆_, position-member}
 use Rattle.plane.specs.theory.refusals.Rows.{NoneApply, First, firstRow-none, firstRow-answered}
@@ -35,6 +36,7 @@ use Rattle.plane.specs.theory.lists.Flat.{points-near}
 use Rattle.plane.specs.theory.refusals.Tests.{equalPair-equal, break-found, break-first-edge, break-first-corner}
 use Rattle.plane.specs.theory.refusals.Accept.{accepted→valid, valid→accepted}
 use Rattle.plane.specs.theory.refusals.Write.{refused-output, answered-output}
+use Rattle.plane.specs.theory.refusals.Floors.{between-same, written-same, between-different}
 use Rattle.plane.specs.theory.refusals.Tables.{table-given, table-refused, table-none, table-answered}
 use Rattle.plane.specs.theory.forms.Standard.{shape→sorted, sorted→ordered, ordered→shape}
 use Rattle.plane.specs.theory.support.Support.{value-le-support, support-append, support-sums, support-mirrored}
@@ -121,6 +123,23 @@ module _ (q : Question) where
   -- and only there
   pub none-if-answered : (values : List ℤ) → reply q ≡ answered values → NoneApply (table q)
   none-if-answered values h = table-answered q values h
+
+-- floors
+module _ (a b : Floored) (v : Valid (a .list)) (w : Valid (b .list)) where
+  -- "Any question on two shapes of different floors is refused 13, after both shapes' own checks and before the rest"
+  pub different-floors-are-refused : (a .floor ≡ b .floor → ⊥) → (question : List ℤ → List ℤ → Reply)
+      → between a b question ≡ refused 13 []
+  different-floors-are-refused f question = between-different v w f question
+
+  module _ (one : a .floor ≡ b .floor) where
+    -- on one floor each is replied to as it was, and "Answers carry the floor"
+    pub one-floor-is-answered : (question : List ℤ → List ℤ → Reply)
+        → between a b question ≡ withFloor (a .floor) (question (a .list) (b .list))
+    one-floor-is-answered question = between-same (record { first-valid = v; second-valid = w; one-floor = one }) question
+
+    pub one-floor-is-written : (question : List ℤ → List ℤ → List ℤ → Written) (out : List ℤ)
+        → writtenBetween a b question out ≡ writtenOn (a .floor) (question (a .list) (b .list) out)
+    one-floor-is-written question out = written-same (record { first-valid = v; second-valid = w; one-floor = one }) question out
 
 -- whatever the table and the shape of a question that writes
 module _ (rows : List Row) (shape : List Point) (out : List ℤ) where

@@ -1,11 +1,13 @@
 -- The questions, each with its reply and its table of refusals (document 01, "When the map desk says no": "Several at once: the first
--- shape by 1 to 5 in number order, then the second shape likewise, then 10 or 11, then 6, 7, 8").
+-- shape by 1 to 5 in number order, then the second shape likewise, then 10 or 11, then 6, 7, 8"; document 02, W11: 13 "after both shapes'
+-- own checks and before the rest").
 --     Question     a question, and what it is lent
---     reply q      what the public function promises to answer; what it promises to write is in `Output.antt`
+--     reply q      what the public function promises to answer; what it promises to write is in `Output.antt` and `Floor.antt`
 --     table q      its rows, in order
 -- What it means: `first-row-refuses`, `refused-by-first-row`, `answered-if-none`, `none-if-answered` of `Meaning.antt`.
 use mathlib.Core.Bool.{not}
 use mathlib.Core.List.{List, [], _∷_, _++_}
+use Prim.Native.Nat.{ℕ}
 use lib.Dec.{ltb}
 use lib.IntN.{ℤ}
 use lib.ListN.{length}
@@ -22,46 +24,47 @@ use Rattle.plane.specs.Measure.{lengthReply, widthReply}
 use Rattle.plane.specs.Separation.{apart, relationReply, insideReply}
 use Rattle.plane.specs.Tangent.{tangentsReply}
 use Rattle.plane.specs.Clearance.{clearanceReply}
+use Rattle.plane.specs.Floor.{Floored, withFloor, writtenOn, pairRows, between, writtenBetween}
 
--- the shapes, then the direction or the output
+-- the shapes, then the direction or the output; a sweep's points with their floor
 pub data Question : Type 0 where
-  Judge : List ℤ → Question
-  Furthest : List ℤ → Point → Question
-  Mirror : List ℤ → List ℤ → Question
-  Sum : List ℤ → List ℤ → List ℤ → Question
-  Merge : List ℤ → List ℤ → List ℤ → Question
-  Sweep : List ℤ → List ℤ → Question
-  Length : List ℤ → Question
-  Width : List ℤ → Question
-  Relation : List ℤ → List ℤ → Question
-  Inside : List ℤ → List ℤ → Question
-  Clearance : List ℤ → List ℤ → Question
-  Tangents : List ℤ → List ℤ → Question
+  Judge : Floored → Question
+  Furthest : Floored → Point → Question
+  Mirror : Floored → List ℤ → Question
+  Sum : Floored → Floored → List ℤ → Question
+  Merge : Floored → Floored → List ℤ → Question
+  Sweep : Floored → List ℤ → Question
+  Length : Floored → Question
+  Width : Floored → Question
+  Relation : Floored → Floored → Question
+  Inside : Floored → Floored → Question
+  Clearance : Floored → Floored → Question
+  Tangents : Floored → Floored → Question
 
 abbrev pub reply : Question → Reply
-reply (Judge l) = judged l
-reply (Furthest l d) = furthestReply l d
-reply (Mirror l out) = mirrorWritten l out .reply
-reply (Sum a b out) = sumWritten a b out .reply
-reply (Merge a b out) = mergeWritten a b out .reply
-reply (Sweep l out) = sweepWritten l out .reply
-reply (Length l) = lengthReply l
-reply (Width l) = widthReply l
-reply (Relation a b) = relationReply a b
-reply (Inside a b) = insideReply a b
-reply (Clearance a b) = clearanceReply a b
-reply (Tangents a b) = tangentsReply a b
+reply (Judge a) = withFloor (a .floor) (judged (a .list))
+reply (Furthest a d) = withFloor (a .floor) (furthestReply (a .list) d)
+reply (Mirror a out) = writtenOn (a .floor) (mirrorWritten (a .list) out) .reply
+reply (Sum a b out) = writtenBetween a b sumWritten out .reply
+reply (Merge a b out) = writtenBetween a b mergeWritten out .reply
+reply (Sweep a out) = writtenOn (a .floor) (sweepWritten (a .list) out) .reply
+reply (Length a) = withFloor (a .floor) (lengthReply (a .list))
+reply (Width a) = withFloor (a .floor) (widthReply (a .list))
+reply (Relation a b) = between a b relationReply
+reply (Inside a b) = between a b insideReply
+reply (Clearance a b) = between a b clearanceReply
+reply (Tangents a b) = between a b tangentsReply
 
 abbrev pub table : Question → List Row
-table (Judge l) = shapeRows 1 l
-table (Furthest l d) = shapeRows 1 l ++ directionRows d
-table (Mirror l out) = shapeRows 1 l ++ answerRows (shapeOf (mirrored (points l))) out
-table (Sum a b out) = shapeRows 1 a ++ (shapeRows 2 b ++ answerRows (shapeOf (sums (points a) (points b))) out)
-table (Merge a b out) = shapeRows 1 a ++ (shapeRows 2 b ++ answerRows (shapeOf (points a ++ points b)) out)
-table (Sweep l out) = pointRows l ++ roomRows (shapeOf (points l)) out
-table (Length l) = shapeRows 1 l
-table (Width l) = shapeRows 1 l ++ (row 10 (ltb (length (points l)) 3) [] ∷ [])
-table (Relation a b) = shapeRows 1 a ++ shapeRows 2 b
-table (Inside a b) = shapeRows 1 a ++ shapeRows 2 b
-table (Clearance a b) = shapeRows 1 a ++ shapeRows 2 b
-table (Tangents a b) = shapeRows 1 a ++ (shapeRows 2 b ++ (row 9 (not (apart (points a) (points b))) [] ∷ []))
+table (Judge a) = shapeRows 1 (a .list)
+table (Furthest a d) = shapeRows 1 (a .list) ++ directionRows d
+table (Mirror a out) = shapeRows 1 (a .list) ++ answerRows (shapeOf (mirrored (points (a .list)))) out
+table (Sum a b out) = pairRows a b ++ answerRows (shapeOf (sums (points (a .list)) (points (b .list)))) out
+table (Merge a b out) = pairRows a b ++ answerRows (shapeOf (points (a .list) ++ points (b .list))) out
+table (Sweep a out) = pointRows (a .list) ++ roomRows (shapeOf (points (a .list))) out
+table (Length a) = shapeRows 1 (a .list)
+table (Width a) = shapeRows 1 (a .list) ++ (row 10 (ltb (length (points (a .list))) 3) [] ∷ [])
+table (Relation a b) = pairRows a b
+table (Inside a b) = pairRows a b
+table (Clearance a b) = pairRows a b
+table (Tangents a b) = pairRows a b ++ (row 9 (not (apart (points (a .list)) (points (b .list)))) [] ∷ [])

@@ -1,9 +1,9 @@
 -- Document 01's number and values for each case of the enums ("Where an answer is an enum ..").
 --     ofRefusal r     the number of the table's row, and what it carries: 1 to 5 the shape, 4 also the edge and the corner; of a
 --                     reading the part of its corner, of a log the byte place of the record
---     ofAnswer r, ofFurthest r, ..     the reply of each question: its values, or a refusal
+--     ofAnswer r, ofFurthest r, ..     the reply of each question: its values, the floor last, or a refusal
 use mathlib.Core.Bool.{cond}
-use mathlib.Core.List.{[], _∷_}
+use mathlib.Core.List.{[], _∷_, _++_}
 use lib.IntN.{pos}
 use Rattle.plane.specs.Reply.{Reply, answered, refused}
 use Rattle.tablet.specs.Reading.{Sent}
@@ -49,6 +49,7 @@ ofRefusal Refusal.Room = refused 8 []
 ofRefusal Refusal.NotApart = refused 9 []
 ofRefusal Refusal.Flat = refused 10 []
 ofRefusal Refusal.Direction = refused 11 []
+ofRefusal Refusal.Floors = refused 13 []
 ofRefusal Refusal.NotAPlace = refused 14 []
 ofRefusal (Refusal.Damaged place) = refused 15 (place ∷ [])
 ofRefusal Refusal.Full = refused 16 []
@@ -58,56 +59,56 @@ ofRefusal Refusal.NoRecord = refused 19 []
 ofRefusal (Refusal.FarReading part) = refused 3 (part ∷ [])
 
 abbrev pub ofAnswer : Answer → Reply
-ofAnswer (Answer.Corners n) = answered (pos n ∷ [])
+ofAnswer (Answer.Corners n floor) = answered (pos n ∷ pos floor ∷ [])
 ofAnswer (Answer.No r) = ofRefusal r
 
 -- the edges passed of either shape, and 1 if the walk is over; a part has before them the count of its corners
 abbrev pub ofBegun : Begun → Reply
-ofBegun (Begun.At w) = answered (walkNumbers (stateOf w))
+ofBegun (Begun.At w floor) = answered (walkNumbers (stateOf w) ++ (pos floor ∷ []))
 ofBegun (Begun.No r) = ofRefusal r
 
 abbrev pub ofPart : Part → Reply
-ofPart (Part.Corners n w) = answered (pos n ∷ walkNumbers (stateOf w))
+ofPart (Part.Corners n w floor) = answered (pos n ∷ walkNumbers (stateOf w) ++ (pos floor ∷ []))
 ofPart (Part.No r) = ofRefusal r
 
 abbrev pub ofFurthest : Furthest → Reply
-ofFurthest (Furthest.At first last value) = answered (pos first ∷ pos last ∷ value ∷ [])
+ofFurthest (Furthest.At first last value floor) = answered (pos first ∷ pos last ∷ value ∷ pos floor ∷ [])
 ofFurthest (Furthest.No r) = ofRefusal r
 
 abbrev pub ofLength : Length → Reply
-ofLength (Length.Between squared from to) = answered (pos squared ∷ pos from ∷ pos to ∷ [])
+ofLength (Length.Between squared from to floor) = answered (pos squared ∷ pos from ∷ pos to ∷ pos floor ∷ [])
 ofLength (Length.No r) = ofRefusal r
 
 abbrev pub ofWidth : Width → Reply
-ofWidth (Width.Across edge corner turn squared rounded) =
-    answered (pos edge ∷ pos corner ∷ pos turn ∷ pos squared ∷ pos rounded ∷ [])
+ofWidth (Width.Across edge corner turn squared rounded floor) =
+    answered (pos edge ∷ pos corner ∷ pos turn ∷ pos squared ∷ pos rounded ∷ pos floor ∷ [])
 ofWidth (Width.No r) = ofRefusal r
 
 -- 0 apart, 1 touching, 2 overlapping
 abbrev pub ofRelation : Relation → Reply
-ofRelation Relation.Apart = answered (pos 0 ∷ [])
-ofRelation Relation.Touching = answered (pos 1 ∷ [])
-ofRelation Relation.Overlapping = answered (pos 2 ∷ [])
+ofRelation (Relation.Apart floor) = answered (pos 0 ∷ pos floor ∷ [])
+ofRelation (Relation.Touching floor) = answered (pos 1 ∷ pos floor ∷ [])
+ofRelation (Relation.Overlapping floor) = answered (pos 2 ∷ pos floor ∷ [])
 ofRelation (Relation.No r) = ofRefusal r
 
 -- 1 yes, 0 no
 abbrev pub ofInside : Inside → Reply
-ofInside (Inside.Is within) = answered (cond within (pos 1) (pos 0) ∷ [])
+ofInside (Inside.Is within floor) = answered (cond within (pos 1) (pos 0) ∷ pos floor ∷ [])
 ofInside (Inside.No r) = ofRefusal r
 
 -- 0 not apart, 1 two corners, 2 a corner of the first and an edge of the second, 3 a corner of the second and an edge of the first
 abbrev pub ofClearance : Clearance → Reply
-ofClearance Clearance.None = answered (pos 0 ∷ [])
-ofClearance (Clearance.Corners i j d w) = answered (pos 1 ∷ pos i ∷ pos j ∷ pos d ∷ pos w ∷ [])
-ofClearance (Clearance.CornerEdge c e t q w) = answered (pos 2 ∷ pos c ∷ pos e ∷ pos t ∷ pos q ∷ pos w ∷ [])
-ofClearance (Clearance.EdgeCorner c e t q w) = answered (pos 3 ∷ pos c ∷ pos e ∷ pos t ∷ pos q ∷ pos w ∷ [])
+ofClearance (Clearance.None floor) = answered (pos 0 ∷ pos floor ∷ [])
+ofClearance (Clearance.Corners i j d w floor) = answered (pos 1 ∷ pos i ∷ pos j ∷ pos d ∷ pos w ∷ pos floor ∷ [])
+ofClearance (Clearance.CornerEdge c e t q w floor) = answered (pos 2 ∷ pos c ∷ pos e ∷ pos t ∷ pos q ∷ pos w ∷ pos floor ∷ [])
+ofClearance (Clearance.EdgeCorner c e t q w floor) = answered (pos 3 ∷ pos c ∷ pos e ∷ pos t ∷ pos q ∷ pos w ∷ pos floor ∷ [])
 ofClearance (Clearance.No r) = ofRefusal r
 
 -- of each line the position in the first shape, then in the second
 abbrev pub ofTangents : Tangents → Reply
-ofTangents (Tangents.Lines p q r s) =
+ofTangents (Tangents.Lines p q r s floor) =
     answered (pos (p .from) ∷ pos (p .to) ∷ pos (q .from) ∷ pos (q .to)
-    ∷ pos (r .from) ∷ pos (r .to) ∷ pos (s .from) ∷ pos (s .to) ∷ [])
+    ∷ pos (r .from) ∷ pos (r .to) ∷ pos (s .from) ∷ pos (s .to) ∷ pos floor ∷ [])
 ofTangents (Tangents.No r) = ofRefusal r
 
 -- the whole numbers, and the doubles that go back

@@ -1,11 +1,12 @@
 // Inner functions: lists judged, each once, before a question is asked of them.
+ghost use Rattle.plane.specs.Floor.{on};
 ghost use Rattle.questions.specs.Admission.{Admitted, AdmittedPair, AdmittedPoints};
 use crate::answer::Refusal;
 use calipers::sorted;
 use polygon::rules;
 use polygon::rules::Broken;
 
-// A list that is a shape, two lists that are, the points of a sweep, or the first refusal of 1 to 5.
+// A list that is a shape, two shapes on one floor, the points of a sweep, or the first refusal of 1 to 5 and 13.
 pub enum Admission {
     Valid,
     No(Refusal),
@@ -42,15 +43,21 @@ pub fn admit(list: &[i32], shape: usize) -> Admission
     Admission::Valid
 }
 
-// Judges the first list, then the second.
-// Ruled out: second shape judged first; other shape blamed.
-pub fn admit_pair(a: &[i32], b: &[i32]) -> Admission
-    ensures { λ r. ⌜ AdmittedPair (now (a .entry)) (now (b .entry)) r ⌝ }
+// Judges the first list, then the second, and then whether they are on one floor.
+// Ruled out: second shape judged first; other shape blamed; thirteen for a bad second shape; floors not compared.
+pub fn admit_pair(a: &[i32], f: u16, b: &[i32], g: u16) -> Admission
+    ensures { λ r. ⌜ AdmittedPair (on (now (a .entry)) f) (on (now (b .entry)) g) r ⌝ }
 {
-    if let Admission::No(refusal) = admit(a, 1) {
-        return Admission::No(refusal);
+    if let Admission::No(first) = admit(a, 1) {
+        return Admission::No(first);
     }
-    admit(b, 2)
+    if let Admission::No(second) = admit(b, 2) {
+        return Admission::No(second);
+    }
+    if f != g {
+        return Admission::No(Refusal::Floors);
+    }
+    Admission::Valid
 }
 
 // Judges the points of a sweep: refusals 1 to 3 in their order. Points are counted as they come, repeats and all. A

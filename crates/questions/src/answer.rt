@@ -1,4 +1,4 @@
-// What the questions answer.
+// What the questions answer. Every answer on shapes carries their floor; a refusal carries none.
 use crate::walk::Walk;
 
 // A row of document 01's table, and what it carries: 1 to 5 the shape that is blamed, the first or the second, and 4
@@ -38,6 +38,8 @@ pub enum Refusal {
     Flat,
     // 11: a direction (0, 0), or with a part out of range
     Direction,
+    // 13: two shapes on different floors
+    Floors,
     // 14: a walk that is at no place of the sum of these two shapes
     NotAPlace,
     // 15: a whole record of a log that is of another kind or a wrong length, or whose corners are no shape: the byte
@@ -65,19 +67,23 @@ pub enum Refusal {
 
 // How many corners a shape has that was judged or written.
 pub enum Answer {
-    Corners(usize),
+    Corners { count: usize, floor: u16 },
     No(Refusal),
 }
 
 // A walk begun: where a sum in parts is taken up.
 pub enum Begun {
-    At(Walk),
+    At { walk: Walk, floor: u16 },
     No(Refusal),
 }
 
 // How many corners were written of a sum in parts, and the walk that the next call is given.
 pub enum Part {
-    Corners { count: usize, walk: Walk },
+    Corners {
+        count: usize,
+        walk: Walk,
+        floor: u16,
+    },
     No(Refusal),
 }
 
@@ -87,6 +93,7 @@ pub enum Furthest {
         first: usize,
         last: usize,
         value: i64,
+        floor: u16,
     },
     No(Refusal),
 }
@@ -97,6 +104,7 @@ pub enum Length {
         squared: u64,
         from: usize,
         to: usize,
+        floor: u16,
     },
     No(Refusal),
 }
@@ -110,21 +118,22 @@ pub enum Width {
         turn: u64,
         squared: u64,
         rounded: u64,
+        floor: u16,
     },
     No(Refusal),
 }
 
 // How two shapes stand to each other.
 pub enum Relation {
-    Apart,
-    Touching,
-    Overlapping,
+    Apart { floor: u16 },
+    Touching { floor: u16 },
+    Overlapping { floor: u16 },
     No(Refusal),
 }
 
 // Whether the first shape is inside the second.
 pub enum Inside {
-    Is(bool),
+    Is { within: bool, floor: u16 },
     No(Refusal),
 }
 
@@ -132,12 +141,15 @@ pub enum Inside {
 // corner of the first and inside an edge of the second, or the reverse, with the size of the corner's turn against the
 // edge and the edge's squared length. Last the distance rounded down.
 pub enum Clearance {
-    None,
+    None {
+        floor: u16,
+    },
     Corners {
         first: usize,
         second: usize,
         squared: u64,
         rounded: u64,
+        floor: u16,
     },
     CornerEdge {
         corner: usize,
@@ -145,6 +157,7 @@ pub enum Clearance {
         turn: u64,
         squared: u64,
         rounded: u64,
+        floor: u16,
     },
     EdgeCorner {
         corner: usize,
@@ -152,6 +165,7 @@ pub enum Clearance {
         turn: u64,
         squared: u64,
         rounded: u64,
+        floor: u16,
     },
     No(Refusal),
 }
@@ -170,6 +184,7 @@ pub enum Tangents {
         right: Line,
         crossing: Line,
         reverse: Line,
+        floor: u16,
     },
     No(Refusal),
 }

@@ -3,6 +3,7 @@ ghost use mathlib.Core.Path.{_≡_};
 ghost use Prim.Native.Nat.{_%_};
 ghost use lib.ListN.{length};
 ghost use Rattle.plane.specs.Point.{points};
+ghost use Rattle.plane.specs.Floor.{withFloor};
 ghost use Rattle.questions.specs.Answer.{ofAnswer};
 ghost use Rattle.questions.specs.Admission.{Surveyed};
 ghost use Rattle.questions.specs.Delivery.{delivered};
@@ -29,11 +30,11 @@ pub fn survey(shape: &[i32]) -> Admission
 }
 
 // Writes a shape's numbers at the front of the output, all behind them being kept, and answers how many corners it has;
-// or refuses 6, 7 and 8 in their order, with the output as it was.
+// with its floor; or refuses 6, 7 and 8 in their order, with the output as it was.
 // Ruled out: exact room refused; tail cleared.
-pub fn deliver(shape: &[i32], out: &mut [i32]) -> Answer
+pub fn deliver(shape: &[i32], floor: u16, out: &mut [i32]) -> Answer
     requires paired { ⌜ length (now shape) % 2 ≡ 0 ⌝ }
-    ensures { λ r. ⌜ (ofAnswer r ≡ delivered (points (now (shape .entry))) (now (out .entry)) .reply)
+    ensures { λ r. ⌜ (ofAnswer r ≡ withFloor floor (delivered (points (now (shape .entry))) (now (out .entry)) .reply))
         × (now (out .exit) ≡ delivered (points (now (shape .entry))) (now (out .entry)) .output) ⌝ }
 {
     if let Admission::No(refusal) = survey(shape) {
@@ -43,5 +44,8 @@ pub fn deliver(shape: &[i32], out: &mut [i32]) -> Answer
         return Answer::No(Refusal::Room);
     }
     numbers::copy(shape, shape.len(), out, 0);
-    Answer::Corners(corners::count(shape))
+    Answer::Corners {
+        count: corners::count(shape),
+        floor,
+    }
 }

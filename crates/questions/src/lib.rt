@@ -1,5 +1,7 @@
 // The questions of documents 01 and 02, and all that callers need of this library. Each judges its own lists, once
-// each, gives its refusals in the order of the table, and asks one inner function.
+// each, gives its refusals in the order of the table, and asks one inner function. A shape is lent with its floor, and
+// every answer on shapes carries it: of two shapes, a on floor f and b on floor g, both have the same, or are refused 13
+// behind 1 to 5 of the first and of the second.
 mod admission;
 pub mod answer;
 mod coordinate;
@@ -13,6 +15,7 @@ ghost use Rattle.separation.specs.Place.{placeNumber};
 ghost use mathlib.Core.Bool.{true, false};
 ghost use Rattle.plane.specs.Point.{point, points};
 ghost use Rattle.plane.specs.Refusal.{Valid};
+ghost use Rattle.plane.specs.Floor.{on, withFloor, between, writtenBetween};
 ghost use Rattle.plane.specs.Judge.{judged};
 ghost use Rattle.plane.specs.Furthest.{furthestReply};
 ghost use Rattle.plane.specs.Combine.{mirrorWritten, sumWritten, mergeWritten};
@@ -61,13 +64,16 @@ pub use tablet::reading::Reading;
 // the first corner, that breaks it; three corners in line do), and a list begun at another corner than the lowest,
 // leftmost one.
 // Ruled out: consecutive turns only; one corner fewer; positions swapped.
-pub fn judge(list: &[i32]) -> Answer
-    ensures { λ r. ⌜ ofAnswer r ≡ judged (now (list .entry)) ⌝ }
+pub fn judge(list: &[i32], floor: u16) -> Answer
+    ensures { λ r. ⌜ ofAnswer r ≡ withFloor floor (judged (now (list .entry))) ⌝ }
 {
     if let Admission::No(refusal) = admission::admit(list, 1) {
         return Answer::No(refusal);
     }
-    Answer::Corners(corners::count(list))
+    Answer::Corners {
+        count: corners::count(list),
+        floor,
+    }
 }
 
 // The corners that are furthest in the direction (u, v): the first and the last, counterclockwise, of those with the
@@ -76,8 +82,8 @@ pub fn judge(list: &[i32]) -> Answer
 // lies across the direction 0 and 1. Refused: 1 to 5, then the direction (0, 0) and one with a part out of range.
 // Ruled out: first and last exchanged; segment taken over the end; smallest position over the end; last position on a
 // tie; upright direction refused.
-pub fn furthest(list: &[i32], u: i32, v: i32) -> Furthest
-    ensures { λ r. ⌜ ofFurthest r ≡ furthestReply (now (list .entry)) (point u v) ⌝ }
+pub fn furthest(list: &[i32], floor: u16, u: i32, v: i32) -> Furthest
+    ensures { λ r. ⌜ ofFurthest r ≡ withFloor floor (furthestReply (now (list .entry)) (point u v)) ⌝ }
 {
     if let Admission::No(refusal) = admission::admit(list, 1) {
         return Furthest::No(refusal);
@@ -90,6 +96,7 @@ pub fn furthest(list: &[i32], u: i32, v: i32) -> Furthest
         first: face.first,
         last: face.last,
         value: face.value,
+        floor,
     }
 }
 
@@ -97,8 +104,8 @@ pub fn furthest(list: &[i32], u: i32, v: i32) -> Furthest
 // as many as the list. All behind the image is kept. Refused, with the output as it was: 1 to 5, then an output that
 // holds fewer numbers than the image.
 // Ruled out: mirror begun at the old start; output left alone; coordinates swapped; tail cleared.
-pub fn mirror(list: &[i32], out: &mut [i32]) -> Answer
-    ensures { λ r. ⌜ (ofAnswer r ≡ mirrorWritten (now (list .entry)) (now (out .entry)) .reply)
+pub fn mirror(list: &[i32], floor: u16, out: &mut [i32]) -> Answer
+    ensures { λ r. ⌜ (ofAnswer r ≡ withFloor floor (mirrorWritten (now (list .entry)) (now (out .entry)) .reply))
         × (now (out .exit) ≡ mirrorWritten (now (list .entry)) (now (out .entry)) .output) ⌝ }
 {
     if let Admission::No(refusal) = admission::admit(list, 1) {
@@ -108,41 +115,50 @@ pub fn mirror(list: &[i32], out: &mut [i32]) -> Answer
         return Answer::No(Refusal::Room);
     }
     opposite::mirror(list, out);
-    Answer::Corners(corners::count(list))
+    Answer::Corners {
+        count: corners::count(list),
+        floor,
+    }
 }
 
 // Writes the shape of all corner-plus-corner points at the front of the output, and answers how many corners it has.
 // Edges of equal direction make one step, so no three corners of the answer are in line. Refused, with the output as it
-// was: 1 to 5 of the first shape, then of the second; then an answer of too many corners, one out of range, and too
-// small an output. On success all behind the written numbers is kept.
+// was: 1 to 5 of the first shape, then of the second; different floors; then an answer of too many corners, one out of
+// range, and too small an output. On success all behind the written numbers is kept.
 // Ruled out: parallel corners kept; segment passed once; origin for every sum; second shape judged first.
-pub fn sum(a: &[i32], b: &[i32], out: &mut [i32]) -> Answer
-    ensures { λ r. ⌜ (ofAnswer r ≡ sumWritten (now (a .entry)) (now (b .entry)) (now (out .entry)) .reply)
-        × (now (out .exit) ≡ sumWritten (now (a .entry)) (now (b .entry)) (now (out .entry)) .output) ⌝ }
+pub fn sum(a: &[i32], f: u16, b: &[i32], g: u16, out: &mut [i32]) -> Answer
+    ensures { λ r. ⌜
+        (ofAnswer r
+        ≡ writtenBetween (on (now (a .entry)) f) (on (now (b .entry)) g) sumWritten (now (out .entry)) .reply)
+        × (now (out .exit)
+        ≡ writtenBetween (on (now (a .entry)) f) (on (now (b .entry)) g) sumWritten (now (out .entry)) .output) ⌝ }
 {
-    if let Admission::No(refusal) = admission::admit_pair(a, b) {
+    if let Admission::No(refusal) = admission::admit_pair(a, f, b, g) {
         return Answer::No(refusal);
     }
     let mut shape = [0i32; limits::PAIR_NUMBERS];
     let n = calipers::sum(a, b, &mut shape);
-    deliver::deliver(&shape[..2 * n], out)
+    deliver::deliver(&shape[..2 * n], f, out)
 }
 
 // Writes the shape of both corner lists taken together at the front of the output, and answers how many corners it has.
 // The shapes may overlap, lie one in the other, share corners or edges. Refused, with the output as it was: 1 to 5 of
-// the first shape, then of the second; then an answer of too many corners, and too small an output. No corner of the
-// answer is out of range, since each is a corner of one of the two.
+// the first shape, then of the second; different floors; then an answer of too many corners, and too small an output. No
+// corner of the answer is out of range, since each is a corner of one of the two.
 // Ruled out: points in line kept; second shape forgotten; count one more.
-pub fn merge(a: &[i32], b: &[i32], out: &mut [i32]) -> Answer
-    ensures { λ r. ⌜ (ofAnswer r ≡ mergeWritten (now (a .entry)) (now (b .entry)) (now (out .entry)) .reply)
-        × (now (out .exit) ≡ mergeWritten (now (a .entry)) (now (b .entry)) (now (out .entry)) .output) ⌝ }
+pub fn merge(a: &[i32], f: u16, b: &[i32], g: u16, out: &mut [i32]) -> Answer
+    ensures { λ r. ⌜
+        (ofAnswer r
+        ≡ writtenBetween (on (now (a .entry)) f) (on (now (b .entry)) g) mergeWritten (now (out .entry)) .reply)
+        × (now (out .exit)
+        ≡ writtenBetween (on (now (a .entry)) f) (on (now (b .entry)) g) mergeWritten (now (out .entry)) .output) ⌝ }
 {
-    if let Admission::No(refusal) = admission::admit_pair(a, b) {
+    if let Admission::No(refusal) = admission::admit_pair(a, f, b, g) {
         return Answer::No(refusal);
     }
     let mut shape = [0i32; limits::PAIR_NUMBERS];
     let n = hull::merge(a, b, &mut shape);
-    deliver::deliver(&shape[..2 * n], out)
+    deliver::deliver(&shape[..2 * n], f, out)
 }
 
 // Writes the shape of up to as many points as a sweep may have, in any order, at the front of the output, and answers
@@ -150,8 +166,8 @@ pub fn merge(a: &[i32], b: &[i32], out: &mut [i32]) -> Answer
 // corner of it; points that are all equal make a point, and points in one line a segment. Refused, with the output as
 // it was: 1 to 3, points counted before repeats are dropped, and then an output that is too small.
 // Ruled out: points in line kept; repeats kept; repeats not counted; output written before the room is known.
-pub fn sweep(list: &[i32], out: &mut [i32]) -> Answer
-    ensures { λ r. ⌜ (ofAnswer r ≡ sweepWritten (now (list .entry)) (now (out .entry)) .reply)
+pub fn sweep(list: &[i32], floor: u16, out: &mut [i32]) -> Answer
+    ensures { λ r. ⌜ (ofAnswer r ≡ withFloor floor (sweepWritten (now (list .entry)) (now (out .entry)) .reply))
         × (now (out .exit) ≡ sweepWritten (now (list .entry)) (now (out .entry)) .output) ⌝ }
 {
     if let Admission::No(refusal) = admission::admit_points(list) {
@@ -159,15 +175,15 @@ pub fn sweep(list: &[i32], out: &mut [i32]) -> Answer
     }
     let mut shape = [0i32; limits::CHAINS_NUMBERS];
     let n = hull::sweep(list, &mut shape);
-    deliver::deliver(&shape[..2 * n], out)
+    deliver::deliver(&shape[..2 * n], floor, out)
 }
 
 // The greatest squared distance between two corners, and the positions of two corners that are so far apart. Of several
 // such pairs: the smallest first position, then the smallest second. A point answers 0 at 0, 0, and a segment its own
 // two corners. Refused: 1 to 5.
 // Ruled out: ties to the larger position; first position given twice; search stopped where distance falls.
-pub fn length(list: &[i32]) -> Length
-    ensures { λ r. ⌜ ofLength r ≡ lengthReply (now (list .entry)) ⌝ }
+pub fn length(list: &[i32], floor: u16) -> Length
+    ensures { λ r. ⌜ ofLength r ≡ withFloor floor (lengthReply (now (list .entry))) ⌝ }
 {
     if let Admission::No(refusal) = admission::admit(list, 1) {
         return Length::No(refusal);
@@ -177,6 +193,7 @@ pub fn length(list: &[i32]) -> Length
         squared: found.squared,
         from: found.from,
         to: found.to,
+        floor,
     }
 }
 
@@ -185,8 +202,8 @@ pub fn length(list: &[i32]) -> Length
 // smallest position; of two corners equally far from it, as where the opposite edge is parallel, the smallest position.
 // Refused: 1 to 5, then a point and a segment.
 // Ruled out: later edge on a tie; widths compared after rounding down; rounded width one too large.
-pub fn width(list: &[i32]) -> Width
-    ensures { λ r. ⌜ ofWidth r ≡ widthReply (now (list .entry)) ⌝ }
+pub fn width(list: &[i32], floor: u16) -> Width
+    ensures { λ r. ⌜ ofWidth r ≡ withFloor floor (widthReply (now (list .entry))) ⌝ }
 {
     if let Admission::No(refusal) = admission::admit(list, 1) {
         return Width::No(refusal);
@@ -201,68 +218,74 @@ pub fn width(list: &[i32]) -> Width
         turn: found.turn,
         squared: found.squared,
         rounded: found.rounded,
+        floor,
     }
 }
 
 // Whether the shapes are apart, touching or overlapping. Equal points touch, and so do segments in line that share a
 // point, and segments of which one ends on the other; segments that cross overlap. A point or a segment that meets a
 // polygon touches it if it meets the rim only, and overlaps it otherwise. A polygon overlaps itself and every polygon
-// that is inside it. Refused: 1 to 5 of the first shape, then of the second.
-// Ruled out: touching read as apart; less or equal for less; segments in line by normals only.
-pub fn relation(a: &[i32], b: &[i32]) -> Relation
-    ensures { λ r. ⌜ ofRelation r ≡ relationReply (now (a .entry)) (now (b .entry)) ⌝ }
+// that is inside it. Refused: 1 to 5 of the first shape, then of the second; different floors.
+// Ruled out: touching read as apart; less or equal for less; segments in line by normals only; floor zero in every
+// answer.
+pub fn relation(a: &[i32], f: u16, b: &[i32], g: u16) -> Relation
+    ensures { λ r. ⌜ ofRelation r ≡ between (on (now (a .entry)) f) (on (now (b .entry)) g) relationReply ⌝ }
 {
-    if let Admission::No(refusal) = admission::admit_pair(a, b) {
+    if let Admission::No(refusal) = admission::admit_pair(a, f, b, g) {
         return Relation::No(refusal);
     }
-    stand(separation::relation(a, b))
+    stand(separation::relation(a, b), f)
 }
 
 // How two shapes stand, as an answer.
-fn stand(place: Place) -> Relation
-    ensures { λ r. ⌜ ofRelation r ≡ answered (placeNumber place ∷ []) ⌝ }
+fn stand(place: Place, floor: u16) -> Relation
+    ensures { λ r. ⌜ ofRelation r ≡ withFloor floor (answered (placeNumber place ∷ [])) ⌝ }
 {
     match place {
-        Place::Apart => Relation::Apart,
-        Place::Touching => Relation::Touching,
-        Place::Overlapping => Relation::Overlapping,
+        Place::Apart => Relation::Apart { floor },
+        Place::Touching => Relation::Touching { floor },
+        Place::Overlapping => Relation::Overlapping { floor },
     }
 }
 
 // Whether the first shape is inside the second: in no direction does it reach further. A shape is inside itself, and so
 // is one that only reaches the other's rim; inside a point is that point alone, inside a segment what lies on it.
-// Refused: 1 to 5 of the first shape, then of the second.
+// Refused: 1 to 5 of the first shape, then of the second; different floors.
 // Ruled out: shape not inside itself; inside the other way round.
-pub fn inside(a: &[i32], b: &[i32]) -> Inside
-    ensures { λ r. ⌜ ofInside r ≡ insideReply (now (a .entry)) (now (b .entry)) ⌝ }
+pub fn inside(a: &[i32], f: u16, b: &[i32], g: u16) -> Inside
+    ensures { λ r. ⌜ ofInside r ≡ between (on (now (a .entry)) f) (on (now (b .entry)) g) insideReply ⌝ }
 {
-    if let Admission::No(refusal) = admission::admit_pair(a, b) {
+    if let Admission::No(refusal) = admission::admit_pair(a, f, b, g) {
         return Inside::No(refusal);
     }
-    Inside::Is(separation::inside(a, b))
+    Inside::Is {
+        within: separation::inside(a, b),
+        floor: f,
+    }
 }
 
 // Where two shapes are nearest, and how near: the least distance between any point of one and any point of the other.
 // Nothing if they are not apart. Either two corners, or a corner and an edge that it is over, strictly between its ends.
 // On a tie two corners go first, then a corner of the first shape, then one of the second; each by the smallest
-// positions. Two points have their own distance. Refused: 1 to 5 of the first shape, then of the second.
+// positions. Two points have their own distance. Refused: 1 to 5 of the first shape, then of the second; different
+// floors.
 // Ruled out: clearance where shapes touch; foot at the end counted as inside; ties the other way; only one edge of a
 // parallel pair tried; rounded up.
-pub fn clearance(a: &[i32], b: &[i32]) -> Clearance
-    ensures { λ r. ⌜ ofClearance r ≡ clearanceReply (now (a .entry)) (now (b .entry)) ⌝ }
+pub fn clearance(a: &[i32], f: u16, b: &[i32], g: u16) -> Clearance
+    ensures { λ r. ⌜ ofClearance r ≡ between (on (now (a .entry)) f) (on (now (b .entry)) g) clearanceReply ⌝ }
 {
-    if let Admission::No(refusal) = admission::admit_pair(a, b) {
+    if let Admission::No(refusal) = admission::admit_pair(a, f, b, g) {
         return Clearance::No(refusal);
     }
     let Place::Apart = separation::relation(a, b) else {
-        return Clearance::None;
+        return Clearance::None { floor: f };
     };
-    measured(clearance::nearest(a, b))
+    measured(clearance::nearest(a, b), f)
 }
 
 // How near two shapes are, as an answer.
-fn measured(found: Distance) -> Clearance
-    ensures { λ r. ⌜ ofClearance r ≡ answered (valuesOf found) ⌝ }
+fn measured(found: Distance, floor: u16) -> Clearance
+    ensures { λ r. ⌜ ofClearance r ≡ withFloor floor (answered (valuesOf found)) ⌝ }
 {
     match found {
         Distance::Corners {
@@ -275,6 +298,7 @@ fn measured(found: Distance) -> Clearance
             second,
             squared,
             rounded,
+            floor,
         },
         Distance::OnSecond {
             corner,
@@ -288,6 +312,7 @@ fn measured(found: Distance) -> Clearance
             turn,
             squared,
             rounded,
+            floor,
         },
         Distance::OnFirst {
             corner,
@@ -301,6 +326,7 @@ fn measured(found: Distance) -> Clearance
             turn,
             squared,
             rounded,
+            floor,
         },
     }
 }
@@ -308,13 +334,13 @@ fn measured(found: Distance) -> Clearance
 // The four lines that just touch both of two shapes that are apart, each from a corner of the first to a corner of the
 // second: both shapes on the left or on the line; both on the right; the first left and the second right; the reverse.
 // A corner on the line counts for either side, and of several pairs on a line the nearest is meant; shapes that all lie
-// in one line have four equal answers. Refused: 1 to 5 of the first shape, then of the second; then shapes that touch
-// or overlap.
+// in one line have four equal answers. Refused: 1 to 5 of the first shape, then of the second; different floors; then
+// shapes that touch or overlap.
 // Ruled out: far pair for the near one; sides taken strictly; crossing lines exchanged; touching shapes answered.
-pub fn tangents(a: &[i32], b: &[i32]) -> Tangents
-    ensures { λ r. ⌜ ofTangents r ≡ tangentsReply (now (a .entry)) (now (b .entry)) ⌝ }
+pub fn tangents(a: &[i32], f: u16, b: &[i32], g: u16) -> Tangents
+    ensures { λ r. ⌜ ofTangents r ≡ between (on (now (a .entry)) f) (on (now (b .entry)) g) tangentsReply ⌝ }
 {
-    if let Admission::No(refusal) = admission::admit_pair(a, b) {
+    if let Admission::No(refusal) = admission::admit_pair(a, f, b, g) {
         return Tangents::No(refusal);
     }
     let place = separation::relation(a, b);
@@ -326,6 +352,7 @@ pub fn tangents(a: &[i32], b: &[i32]) -> Tangents
         right: line(a, b, false, false),
         crossing: line(a, b, true, false),
         reverse: line(a, b, false, true),
+        floor: f,
     }
 }
 
@@ -366,8 +393,8 @@ pub fn tablet(x: Reading, y: Reading) -> Tablet
     }
 }
 
-// Writes the corners of the latest record of a name at the front of the output, and answers how many they are. All
-// behind them is kept. A log ends where no whole record stands. Refused, with the output as it was: a log in which some
+// Writes the corners of the latest record of a name at the front of the output, and answers how many they are, and the
+// floor of the record: 0 of one of kind 1, which says none. All behind them is kept. A log ends where no whole record stands. Refused, with the output as it was: a log in which some
 // record is of another kind, a wrong length, or no shape (with the byte place of the first); a name that no record has;
 // too small an output.
 // Ruled out: first record of a name.
@@ -378,44 +405,59 @@ pub fn log_read(log: &[u8], name: u16, out: &mut [i32]) -> Answer
     if let Surveyed::Bad(place) = journal::survey::survey(log) {
         return Answer::No(Refusal::Damaged { place });
     }
-    let Found::At { place, count } = journal::latest::latest(log, name) else {
+    let Found::At {
+        place,
+        count,
+        floor,
+    } = journal::latest::latest(log, name)
+    else {
         return Answer::No(Refusal::NoRecord);
     };
     if out.len() < count {
         return Answer::No(Refusal::Room);
     }
     journal::corners::decode(log, place, count, out);
-    Answer::Corners(count / 2)
+    Answer::Corners {
+        count: count / 2,
+        floor,
+    }
 }
 
-// Adds a shape under a name behind the last whole record of a log, with at most so many stores of single bytes as are
+// Adds a shape on a floor under a name behind the last whole record of a log, with at most so many stores of single bytes as are
 // allowed, and says whether it finished. What was torn there is cleared first, and the record's last byte is stored
 // last: a cut addition changes no answer of `log_read`. Refused, with nothing stored: 1 to 5 of the list; a log in
 // which some record is bad; too little room.
 // Ruled out: full one byte early; cut called finished; last byte stored first; tail cleared from its front.
-pub fn log_add(log: &mut [u8], name: u16, list: &[i32], allowed: usize) -> Addition
-    ensures { λ r. ⌜ (ofAddition r ≡ added (now (log .entry)) name (now (list .entry)) allowed .reply)
-        × (now (log .exit) ≡ added (now (log .entry)) name (now (list .entry)) allowed .log) ⌝ }
+pub fn log_add(log: &mut [u8], name: u16, floor: u16, list: &[i32], allowed: usize) -> Addition
+    ensures { λ r. ⌜ (ofAddition r ≡ added (now (log .entry)) name floor (now (list .entry)) allowed .reply)
+        × (now (log .exit) ≡ added (now (log .entry)) name floor (now (list .entry)) allowed .log) ⌝ }
 {
     if let Admission::No(refusal) = admission::admit(list, 1) {
         return Addition::No(refusal);
     }
     match journal::survey::survey(log) {
         Surveyed::Bad(place) => Addition::No(Refusal::Damaged { place }),
-        Surveyed::Ends(end) => add_behind(log, end, name, list, allowed),
+        Surveyed::Ends(end) => add_behind(log, end, name, floor, list, allowed),
     }
 }
 
 // Adds a shape behind the last whole record, or refuses 16.
-fn add_behind(log: &mut [u8], end: usize, name: u16, list: &[i32], allowed: usize) -> Addition
+fn add_behind(
+    log: &mut [u8],
+    end: usize,
+    name: u16,
+    floor: u16,
+    list: &[i32],
+    allowed: usize,
+) -> Addition
     requires { ⌜ Valid (now list) × (damaged (records (now log)) ≡ false) × (end ≡ Adding·end (now log)) ⌝ }
-    ensures { λ r. ⌜ (ofAddition r ≡ added (now (log .entry)) name (now (list .entry)) allowed .reply)
-        × (now (log .exit) ≡ added (now (log .entry)) name (now (list .entry)) allowed .log) ⌝ }
+    ensures { λ r. ⌜ (ofAddition r ≡ added (now (log .entry)) name floor (now (list .entry)) allowed .reply)
+        × (now (log .exit) ≡ added (now (log .entry)) name floor (now (list .entry)) allowed .log) ⌝ }
 {
     if storing::is_full(log, end, list) {
         return Addition::No(Refusal::Full);
     }
-    if storing::add(log, end, name, list, allowed) {
+    if storing::add(log, end, name, floor, list, allowed) {
         Addition::Finished
     } else {
         Addition::Cut

@@ -2,8 +2,10 @@
 ghost use mathlib.Core.Bool.{true};
 ghost use mathlib.Core.Path.{_≡_};
 ghost use Rattle.plane.specs.Refusal.{Valid};
+ghost use Rattle.plane.specs.Floor.{on, withFloor};
 ghost use Rattle.calipers.specs.PlaceAfter.{wholeSum, isPlace};
-ghost use Rattle.calipers.specs.Part.{beginReply, partWritten};
+ghost use Rattle.calipers.specs.Part.{partWritten};
+ghost use Rattle.calipers.specs.PartFloor.{beginOn, partOn};
 ghost use Rattle.questions.specs.Admission.{Surveyed};
 ghost use Rattle.questions.specs.declared.admission.Admission.the-variants.{Valid as Admission·Valid};
 ghost use Rattle.questions.specs.Answer.{ofBegun, ofPart};
@@ -26,57 +28,62 @@ pub struct Walk {
     pub over: bool,
 }
 
-// Begins a sum in parts: the walk for the first of them. Refused as the sum is: 1 to 5 of the first shape, then of the
-// second; then a sum of too many corners, and one out of range. No output is asked for yet.
-pub fn begin(a: &[i32], b: &[i32]) -> Begun
-    ensures { λ r. ⌜ ofBegun r ≡ beginReply (now (a .entry)) (now (b .entry)) ⌝ }
+// Begins a sum in parts, of a on floor f and b on floor g: the walk for the first of them. Refused as the sum is: 1 to 5
+// of the first shape, then of the second; different floors; then a sum of too many corners, and one out of range. No
+// output is asked for yet.
+pub fn begin(a: &[i32], f: u16, b: &[i32], g: u16) -> Begun
+    ensures { λ r. ⌜ ofBegun r ≡ beginOn (on (now (a .entry)) f) (on (now (b .entry)) g) ⌝ }
 {
-    if let Admission::No(refusal) = admission::admit_pair(a, b) {
+    if let Admission::No(refusal) = admission::admit_pair(a, f, b, g) {
         return Begun::No(refusal);
     }
     if let Admission::No(refusal) = survey(a, b) {
         return Begun::No(refusal);
     }
-    Begun::At(Walk {
-        first: 0,
-        second: 0,
-        over: false,
-    })
+    Begun::At {
+        walk: Walk {
+            first: 0,
+            second: 0,
+            over: false,
+        },
+        floor: f,
+    }
 }
 
 impl Walk {
     // Writes the next corners of the sum at the front of the output, k or what remains, whichever is less, and answers
     // how many, with the walk after them; all behind them is kept. Of 0 corners, and of a walk that is over, there are
     // none, and the walk stays as it is. Refused, with the output as it was: 1 to 5 of the first shape, then of the
-    // second; a walk that is at no place of their sum; then a sum of too many corners, and one out of range; and an
-    // output too small for the corners of this call.
-    // Ruled out: fourteen after six; one corner too few; walk handed back unmoved; room counted from k.
-    pub fn part(self, a: &[i32], b: &[i32], k: usize, out: &mut [i32]) -> Part
+    // second; different floors; a walk that is at no place of their sum; then a sum of too many corners, and one out of
+    // range; and an output too small for the corners of this call.
+    // Ruled out: fourteen after six; fourteen before thirteen; thirteen after fourteen; one corner too few; walk handed back unmoved; room
+    // counted from k.
+    pub fn part(self, a: &[i32], f: u16, b: &[i32], g: u16, k: usize, out: &mut [i32]) -> Part
         ensures { λ r. ⌜
             (ofPart r
-            ≡ partWritten (now (a .entry)) (now (b .entry)) (stateOf self) k (now (out .entry)) .reply)
+            ≡ partOn (on (now (a .entry)) f) (on (now (b .entry)) g) (stateOf self) k (now (out .entry)) .reply)
             × (now (out .exit)
-            ≡ partWritten (now (a .entry)) (now (b .entry)) (stateOf self) k (now (out .entry)) .output) ⌝ }
+            ≡ partOn (on (now (a .entry)) f) (on (now (b .entry)) g) (stateOf self) k (now (out .entry)) .output) ⌝ }
     {
-        if let Admission::No(refusal) = admission::admit_pair(a, b) {
+        if let Admission::No(refusal) = admission::admit_pair(a, f, b, g) {
             return Part::No(refusal);
         }
         if !calipers::walk::is_place(a, b, self.first, self.second, self.over) {
             return Part::No(Refusal::NotAPlace);
         }
-        if let Admission::No(refusal) = survey(a, b) {
-            return Part::No(refusal);
+        if let Admission::No(whole) = survey(a, b) {
+            return Part::No(whole);
         }
-        self.write(a, b, k, out)
+        self.write(a, b, f, k, out)
     }
 
-    // The same at a place of a sum that is answered.
-    fn write(self, a: &[i32], b: &[i32], k: usize, out: &mut [i32]) -> Part
+    // The same at a place of a sum that is answered, of two shapes on one floor.
+    fn write(self, a: &[i32], b: &[i32], floor: u16, k: usize, out: &mut [i32]) -> Part
         requires { ⌜ Valid (now a) × Valid (now b) × (isPlace (now a) (now b) (stateOf self) ≡ true)
             × Surveyed (wholeSum (now a) (now b)) Admission·Valid ⌝ }
         ensures { λ r. ⌜
             (ofPart r
-            ≡ partWritten (now (a .entry)) (now (b .entry)) (stateOf self) k (now (out .entry)) .reply)
+            ≡ withFloor floor (partWritten (now (a .entry)) (now (b .entry)) (stateOf self) k (now (out .entry)) .reply))
             × (now (out .exit)
             ≡ partWritten (now (a .entry)) (now (b .entry)) (stateOf self) k (now (out .entry)) .output) ⌝ }
     {
@@ -84,12 +91,14 @@ impl Walk {
             return Part::Corners {
                 count: 0,
                 walk: self,
+                floor,
             };
         }
         if k == 0 {
             return Part::Corners {
                 count: 0,
                 walk: self,
+                floor,
             };
         }
         let mut corners = [0i32; limits::PAIR_NUMBERS];
@@ -105,6 +114,7 @@ impl Walk {
                 second: went.second,
                 over: went.over,
             },
+            floor,
         }
     }
 }

@@ -1,24 +1,26 @@
--- The refusals of a sum in parts.
---     part-answered                    where no row applies, a call is answered with its count and its walk
---     off-place, place-off             of two shapes, 14 is given exactly off the places
+-- The refusals of a sum in parts, and what an answer says.
+--     part-rows, begin-rows            a call, and the beginning, by their tables
+--     part-known                       what an answer says; `part-written`: what was written
+--     part-answered                    where no row applies, a call is answered with its count, its walk and its floor
+--     off-place, place-off             of two shapes on one floor, 14 is given exactly off the places
 --     begin-refused, begin-answered    the beginning is refused as the sum is, but for 8
---     calls-answered                   with room for the sum, calls that may write any counts go on as far as these reach
-use mathlib.Core.Path.{_≡_, refl, sym, _∙_, ap, ap₂, subst}
-use mathlib.Core.Bool.{Bool, true, false, not}
+--     begun-values, begun-same         a sum that is begun answers its walk and its floor, and is of two shapes on one floor
+use mathlib.Core.Path.{_≡_, refl, sym, _∙_, ap, ap₂}
+use mathlib.Core.Bool.{Bool, true, false, not, cond}
 use mathlib.Core.List.{List, [], _∷_, _++_}
-use Prim.Native.Nat.{ℕ, _+_, _-_, _≤_, min}
+use Prim.Native.Nat.{ℕ, _*_}
 use native.Mathlib.Omega.{arith}
-use borrow.Author.Tests.{le-ltb}
 use lib.IntN.{ℤ, pos}
-use lib.ListN.{length, take, drop, length-take, length-drop}
+use lib.ListN.{length, take}
 use Rattle.plane.specs.Point.{Point, numbers}
-use Rattle.plane.specs.Reply.{Reply, answered, refused, Row, row, firstRow}
-use Rattle.plane.specs.Refusal.{tooMany, someOutside, shapeRows, Valid}
-use Rattle.plane.specs.Output.{noRoom}
+use Rattle.plane.specs.Reply.{answered, refused, Row, row, firstRow}
+use Rattle.plane.specs.Refusal.{tooMany, someOutside, shapeRows}
+use Rattle.plane.specs.Output.{noRoom, answerRows, overwritten}
 use Rattle.plane.specs.Combine.{sumWritten}
-use Rattle.plane.specs.theory.lists.Flat.{numbers-length}
+use Rattle.plane.specs.Floor.{Floored, pairRows, writtenBetween}
 use Rattle.plane.specs.theory.refusals.Rows.{
   NoneApply,
+  none-append,
   none-join,
   firstRow-append,
   firstRow-passed,
@@ -27,15 +29,30 @@ use Rattle.plane.specs.theory.refusals.Rows.{
   firstRow-refused,
   firstRow-answered,
 }
+use Rattle.plane.specs.theory.refusals.Write.{none-output}
 use Rattle.plane.specs.theory.refusals.Accept.{valid→accepted}
+use Rattle.plane.specs.theory.refusals.Floors.{Same, between-rows, same→none, none→same}
+use Rattle.polygon.specs.theory.Fronts.{overwritten-front}
 use Rattle.calipers.specs.Walk.{Walk, begun}
-use Rattle.calipers.specs.PlaceAfter.{wholeSum, placeAfter, isPlace}
-use Rattle.calipers.specs.Part.{partCorners, handedBack, walkNumbers, surveyRows, beginReply, partWritten}
-use Rattle.calipers.specs.Calls.{Calls, stop, part}
-use Rattle.calipers.specs.theory.Reached.{place-at}
-use Rattle.calipers.specs.theory.Parts.{part-from, handed-from}
+use Rattle.calipers.specs.PlaceAfter.{wholeSum, isPlace}
+use Rattle.calipers.specs.Part.{partCorners, handedBack, walkNumbers, surveyRows, callRows, partRows, beginReply, partWritten}
+use Rattle.calipers.specs.PartFloor.{beginOn, partOn, partRowsOn}
+use Rattle.calipers.specs.theory.Reached.{walk-equal}
 
--- ---- the rows of a call
+-- ---- the table of a call
+
+-- a walk is known by its numbers
+walk-known : (u x : Walk) → walkNumbers u ≡ walkNumbers x → u ≡ x
+walk-known u x e = walk-equal (cc e) (cc e) (go (u .over) refl (x .over) refl)
+  where
+    flag : _≡_ {A = ℤ} (cond (u .over) (pos 1) (pos 0)) (cond (x .over) (pos 1) (pos 0))
+    flag = cc e
+
+    go : (o : Bool) → u .over ≡ o → (p : Bool) → x .over ≡ p → u .over ≡ x .over
+    go true f true g = f ∙ sym g
+    go true f false g = absurd (let z : _≡_ {A = ℕ} 1 0 = cc (rw (f, g) at flag) in let n : ⊥ = omega arith in n)
+    go false f true g = absurd (let z : _≡_ {A = ℕ} 0 1 = cc (rw (f, g) at flag) in let n : ⊥ = omega arith in n)
+    go false f false g = f ∙ sym g
 
 -- past 14 there are only 6, 7 and 8
 never-14 : (values : List ℤ) (s t r : Bool) → firstRow (row 6 s [] ∷ row 7 t [] ∷ row 8 r [] ∷ []) (answered values) ≡ refused 14 [] → ⊥
@@ -44,101 +61,107 @@ never-14 values false true r e = let z : _≡_ {A = ℕ} 7 14 = cc in let n : �
 never-14 values false false true e = let z : _≡_ {A = ℕ} 8 14 = cc in let n : ⊥ = omega arith in n
 never-14 values false false false e = let z : _≡_ {A = ℕ} 0 1 = cc in let n : ⊥ = omega arith in n
 
-module _ (a b : List ℤ) (v : Valid a) (w : Valid b) where
-  -- those of the two shapes may be left out
-  shapes-passed : (ws : List Row) (x : Reply) → firstRow (shapeRows 1 a ++ (shapeRows 2 b ++ ws)) x ≡ firstRow ws x
-  shapes-passed ws x = firstRow-passed (shapeRows 1 a) (shapeRows 2 b ++ ws) x (valid→accepted a 1 v)
-      ∙ firstRow-passed (shapeRows 2 b) ws x (valid→accepted b 2 w)
+module _ (a b : Floored) (u : Walk) (k : ℕ) (out : List ℤ) where
+  -- the part, and the walk handed back
+  abbrev corners : List Point
+  corners = partCorners (a .list) (b .list) u k
 
-  module _ (u : Walk) (k : ℕ) (out : List ℤ) where
-    -- what is left of the table
-    own-rows : List Row
-    own-rows = surveyRows (wholeSum a b) ++ (row 8 (noRoom (partCorners a b u k) out) [] ∷ [])
+  abbrev next : Walk
+  next = handedBack (a .list) (b .list) u k
 
-    pub off-place : isPlace a b u ≡ false → partWritten a b u k out .reply ≡ refused 14 []
-    unfolding partWritten own-rows
-    off-place e = shapes-passed (row 14 (not (isPlace a b u)) [] ∷ own-rows) _ ∙ rw e
+  -- the call's own rows
+  abbrev own : List Row
+  own = callRows (a .list) (b .list) u k out
 
-    pub place-off : partWritten a b u k out .reply ≡ refused 14 [] → isPlace a b u ≡ false
-    unfolding partWritten own-rows
-    place-off h = go (isPlace a b u) _ (sym (shapes-passed (row 14 (not (isPlace a b u)) [] ∷ own-rows) _) ∙ h)
+  pub part-rows : partOn a b u k out .reply
+      ≡ firstRow (partRowsOn a b u k out) (answered (pos (length corners) ∷ walkNumbers next ++ (pos (a .floor) ∷ [])))
+  unfolding partWritten writtenBetween
+  part-rows = between-rows a b (λ l m. partWritten l m u k out .reply) own (pos (length corners) ∷ walkNumbers next) refl
+
+  pub part-known : (x : Walk) (n f : ℕ) → partOn a b u k out .reply ≡ answered (pos n ∷ walkNumbers x ++ (pos f ∷ []))
+      → (n ≡ length corners) × (x ≡ next) × (f ≡ a .floor) × (partOn a b u k out .output ≡ overwritten (numbers corners) out)
+  unfolding partWritten writtenBetween
+  part-known x n f h =
+      let none = firstRow-answered (partRowsOn a b u k out) _ _ (sym part-rows ∙ h) in
+      let same = sym h ∙ part-rows ∙ firstRow-none (partRowsOn a b u k out) _ none in
+      let apart = none-append (pairRows a b) own none in
+      let one : Same a b = none→same (apart .0) in
+      let plain = none-join (shapeRows 1 (a .list)) (shapeRows 2 (b .list) ++ own) (valid→accepted (a .list) 1 (one .first-valid))
+      (none-join (shapeRows 2 (b .list)) own (valid→accepted (b .list) 2 (one .second-valid)) (apart .1)) in (
+        cc same,
+        walk-known x next (cc same),
+        cc same,
+        none-output (pairRows a b) out _ (apart .0) ∙ none-output (partRows (a .list) (b .list) u k out) out _ plain,
+      )
+
+  pub part-written : (x : Walk) (n f : ℕ) → partOn a b u k out .reply ≡ answered (pos n ∷ walkNumbers x ++ (pos f ∷ []))
+      → take (2 * n) (partOn a b u k out .output) ≡ numbers corners
+  part-written x n f h = let r = part-known x n f h in overwritten-front corners n out _ (r .0) (r .3) .front
+
+  -- ---- shapes on one floor
+
+  module _ (one : Same a b) where
+    -- their rows may be left out
+    shapes-passed : partOn a b u k out .reply
+        ≡ firstRow own (answered (pos (length corners) ∷ walkNumbers next ++ (pos (a .floor) ∷ [])))
+    shapes-passed = part-rows ∙ firstRow-passed (pairRows a b) own _ (same→none one)
+
+    pub off-place : isPlace (a .list) (b .list) u ≡ false → partOn a b u k out .reply ≡ refused 14 []
+    off-place e = shapes-passed ∙ rw e
+
+    pub place-off : partOn a b u k out .reply ≡ refused 14 [] → isPlace (a .list) (b .list) u ≡ false
+    place-off h = go (isPlace (a .list) (b .list) u) _ (sym shapes-passed ∙ h)
       where
-        go : (t : Bool) (values : List ℤ) → firstRow (row 14 (not t) [] ∷ own-rows) (answered values) ≡ refused 14 [] → t ≡ false
+        later : List Row
+        later = surveyRows (wholeSum (a .list) (b .list)) ++ (row 8 (noRoom corners out) [] ∷ [])
+
+        go : (t : Bool) (values : List ℤ) → firstRow (row 14 (not t) [] ∷ later) (answered values) ≡ refused 14 [] → t ≡ false
         go true values q =
-            absurd (never-14 values (tooMany (wholeSum a b)) (someOutside (numbers (wholeSum a b))) (noRoom (partCorners a b u k) out) q)
+            let S = wholeSum (a .list) (b .list) in
+            absurd (never-14 values (tooMany S) (someOutside (numbers S)) (noRoom corners out) q)
         go false values q = refl
 
-    pub part-answered : NoneApply (surveyRows (wholeSum a b)) → isPlace a b u ≡ true → noRoom (partCorners a b u k) out ≡ false
-        → partWritten a b u k out .reply ≡ answered (pos (length (partCorners a b u k)) ∷ walkNumbers (handedBack a b u k))
-    unfolding partWritten own-rows
-    part-answered survey e room = shapes-passed (row 14 (not (isPlace a b u)) [] ∷ own-rows) _
-        ∙ firstRow-none (row 14 (not (isPlace a b u)) [] ∷ own-rows) _
-        (ap not e, none-join (surveyRows (wholeSum a b)) (row 8 (noRoom (partCorners a b u k) out) [] ∷ []) survey (room, tt))
+    pub part-answered : NoneApply (surveyRows (wholeSum (a .list) (b .list))) → isPlace (a .list) (b .list) u ≡ true
+        → noRoom corners out ≡ false
+        → partOn a b u k out .reply ≡ answered (pos (length corners) ∷ walkNumbers next ++ (pos (a .floor) ∷ []))
+    part-answered survey e room = shapes-passed ∙ firstRow-none own _ (
+      ap not e,
+      none-join (surveyRows (wholeSum (a .list) (b .list))) (row 8 (noRoom corners out) [] ∷ []) survey (room, tt),
+    )
 
 -- ---- the beginning
 
-module _ (a b : List ℤ) where
-  -- the rows of the sum are those of the beginning, and 8
-  sum-rows : (out : List ℤ) → sumWritten a b out .reply ≡ firstRow (shapeRows 1 a ++ (shapeRows 2 b ++ surveyRows (wholeSum a b)))
-      (firstRow (row 8 (noRoom (wholeSum a b) out) [] ∷ []) (answered (pos (length (wholeSum a b)) ∷ [])))
-  unfolding sumWritten
-  sum-rows out = firstRow-append (shapeRows 1 a ++ (shapeRows 2 b ++ surveyRows (wholeSum a b)))
-      (row 8 (noRoom (wholeSum a b) out) [] ∷ []) _
+module _ (a b : Floored) where
+  abbrev S : List Point
+  S = wholeSum (a .list) (b .list)
 
-  pub begin-refused : (n : ℕ) (carries : List ℕ) → beginReply a b ≡ refused n carries → (out : List ℤ)
-      → sumWritten a b out .reply ≡ refused n carries
+  pub begin-rows : beginOn a b ≡ firstRow (pairRows a b ++ surveyRows S) (answered (walkNumbers begun ++ (pos (a .floor) ∷ [])))
   unfolding beginReply
+  begin-rows = between-rows a b beginReply (surveyRows S) (walkNumbers begun) refl
+
+  -- the rows of the sum are those of the beginning, and 8
+  sum-rows : (out : List ℤ) → writtenBetween a b sumWritten out .reply ≡ firstRow (pairRows a b ++ surveyRows S)
+      (firstRow (row 8 (noRoom S out) [] ∷ []) (answered (pos (length S) ∷ pos (a .floor) ∷ [])))
+  unfolding sumWritten writtenBetween
+  sum-rows out = between-rows a b (λ l m. sumWritten l m out .reply) (answerRows S out) (pos (length S) ∷ []) refl
+      ∙ firstRow-append (pairRows a b ++ surveyRows S) (row 8 (noRoom S out) [] ∷ []) _
+
+  pub begin-refused : (n : ℕ) (carries : List ℕ) → beginOn a b ≡ refused n carries → (out : List ℤ)
+      → writtenBetween a b sumWritten out .reply ≡ refused n carries
   begin-refused n carries h out =
-      let r = firstRow-refused (shapeRows 1 a ++ (shapeRows 2 b ++ surveyRows (wholeSum a b))) _ n carries h in
+      let r = firstRow-refused (pairRows a b ++ surveyRows S) _ n carries (sym begin-rows ∙ h) in
       sum-rows out ∙ firstRow-given _ (r .1) ∙ ap₂ refused (r .2) (r .3)
 
-  pub begin-answered : (values : List ℤ) → beginReply a b ≡ answered values → (out : List ℤ)
-      → sumWritten a b out .reply ≡ firstRow (row 8 (noRoom (wholeSum a b) out) [] ∷ []) (answered (pos (length (wholeSum a b)) ∷ []))
-  unfolding beginReply
-  begin-answered values h out = sum-rows out ∙ firstRow-none (shapeRows 1 a ++ (shapeRows 2 b ++ surveyRows (wholeSum a b))) _
-      (firstRow-answered (shapeRows 1 a ++ (shapeRows 2 b ++ surveyRows (wholeSum a b))) _ values h)
+  module _ (values : List ℤ) (begins : beginOn a b ≡ answered values) where
+    none : NoneApply (pairRows a b ++ surveyRows S)
+    none = firstRow-answered (pairRows a b ++ surveyRows S) _ values (sym begin-rows ∙ begins)
 
--- ---- any counts
+    pub begin-answered : (out : List ℤ) → writtenBetween a b sumWritten out .reply
+        ≡ firstRow (row 8 (noRoom S out) [] ∷ []) (answered (pos (length S) ∷ pos (a .floor) ∷ []))
+    begin-answered out = sum-rows out ∙ firstRow-none (pairRows a b ++ surveyRows S) _ none
 
--- so many corners may be written together
-abbrev pub total : List ℕ → ℕ
-total [] = 0
-total (k ∷ ks) = k + total ks
+    pub begun-values : values ≡ walkNumbers begun ++ (pos (a .floor) ∷ [])
+    begun-values = cc (sym begins ∙ begin-rows ∙ firstRow-none (pairRows a b ++ surveyRows S) _ none)
 
-module _ (a b : List ℤ) (v : Valid a) (w : Valid b) (survey : NoneApply (surveyRows (wholeSum a b))) (out : List ℤ)
-    (room : length (numbers (wholeSum a b)) ≤ length out) where
-  abbrev S : List Point
-  S = wholeSum a b
-
-  part-fits : (c k : ℕ) → c ≤ length S → noRoom (partCorners a b (placeAfter a b c) k) out ≡ false
-  unfolding noRoom
-  part-fits c k h = le-ltb (length out) (length (numbers (partCorners a b (placeAfter a b c) k))) (omega (
-    arith,
-    numbers-length (partCorners a b (placeAfter a b c) k),
-    ap length (part-from a b v w c k h),
-    length-take k (drop c S),
-    length-drop c S,
-    numbers-length S,
-  ))
-
-  call-first : (c k : ℕ) → c ≤ length S → {ks : List ℕ} {x : Walk}
-      → (l : List ℤ) × Calls a b (placeAfter a b (c + length (take k (drop c S)))) ks l x
-      → (l : List ℤ) × Calls a b (placeAfter a b c) (k ∷ ks) l x
-  call-first c k h {ks} {x} r = (
-    _,
-    part k out (part-answered a b v w (placeAfter a b c) k out survey (place-at a b v w c h) (part-fits c k h))
-        (subst (λ (y : Walk). Calls a b y ks (r .0) x) (sym (handed-from a b v w c k h)) (r .1)),
-  )
-
-  calls-from : (ks : List ℕ) (c d : ℕ) → c ≤ length S → d ≡ c + min (total ks) (length S - c)
-      → (l : List ℤ) × Calls a b (placeAfter a b c) ks l (placeAfter a b d)
-  calls-from [] c d h e =
-      let same : c ≡ d = omega arith in
-      ([], subst (λ (n : ℕ). Calls a b (placeAfter a b c) [] [] (placeAfter a b n)) same stop)
-  calls-from (k ∷ ks) c d h e =
-      let n = length (take k (drop c S)) in
-      let counts : n ≡ min k (length S - c) = length-take k (drop c S) ∙ ap (min k) (length-drop c S) in
-      call-first c k h (calls-from ks (c + n) d (omega (arith, counts)) (omega (arith, counts)))
-
-  pub calls-answered : (ks : List ℕ) → (l : List ℤ) × Calls a b begun ks l (placeAfter a b (min (total ks) (length S)))
-  calls-answered ks = calls-from ks 0 (min (total ks) (length S)) (omega arith) (omega arith)
+    pub begun-same : Same a b × NoneApply (surveyRows S)
+    begun-same = let r = none-append (pairRows a b) (surveyRows S) none in (none→same (r .0), r .1)

@@ -1,5 +1,5 @@
--- What one addition comes to, for any log, name, list and allowance.
---     Accepted b n l, accepted      no row applies: the list is valid, no record is bad, and there is room
+-- What one addition comes to, for any log, name, floor, list and allowance.
+--     Accepted b n f l, accepted    no row applies: the list is valid, no record is bad, and there is room
 --     kept-log                      a refusal keeps the log
 --     added-seen                    the records afterwards: the new one joins exactly where the addition finished
 --     finished-accepted, -log, -seen, -sound, -latest, -read, -others      where it finished: the log, its records, what names read
@@ -24,21 +24,22 @@ use Rattle.plane.specs.theory.lists.Flat.{points-length}
 use Rattle.plane.specs.theory.refusals.Rows.{NoneApply, First, here, later, Outcome, given, passed, outcome, firstRow-given, firstRow-none}
 use Rattle.plane.specs.theory.refusals.Rows.{firstRow-answered, firstRow-refused}
 use Rattle.plane.specs.theory.refusals.Accept.{accepted→valid}
-use Rattle.journal.specs.Format.{recorded, records, name}
-use Rattle.journal.specs.Reading.{damaged, latest, readWritten}
+use Rattle.plane.specs.Floor.{Floored, on, writtenOn}
+use Rattle.journal.specs.Format.{recorded, records, name, content}
+use Rattle.journal.specs.Reading.{damaged, latest, readWritten, showing}
 use Rattle.journal.specs.Adding.{Store, end, stores, made, addRows, addReply, unlessRefusal, added}
 use Rattle.journal.specs.History.{isFinished}
-use Rattle.journal.specs.theory.Read.{recorded-entry, recorded-name, recorded-list, recorded-good}
-use Rattle.journal.specs.theory.Reading.{showing, showing-some, read-sound, sound-snoc, latest-snoc}
+use Rattle.journal.specs.theory.Read.{recorded-entry, recorded-name, recorded-content, recorded-good}
+use Rattle.journal.specs.theory.Reading.{showing-some, read-sound, sound-snoc, latest-snoc}
 use Rattle.journal.specs.theory.Stores.{one-byte, left, withNew, stores-done, stores-few, cut-seen}
 
-pub record Accepted (b : List ℕ) (n : ℕ) (l : List ℤ) : Type 0 where
+pub record Accepted (b : List ℕ) (n f : ℕ) (l : List ℤ) : Type 0 where
   pub valid : Valid l
   pub sound : damaged (records b) ≡ false
-  pub room : length (recorded n l) ≤ length b - end b
+  pub room : length (recorded n f l) ≤ length b - end b
 
-pub accepted : (b : List ℕ) (n : ℕ) (l : List ℤ) → NoneApply (addRows b n l) → Accepted b n l
-accepted b n l none =
+pub accepted : (b : List ℕ) (n f : ℕ) (l : List ℤ) → NoneApply (addRows b n f l) → Accepted b n f l
+accepted b n f l none =
     let later = none .1 .1 .1 .1 .1 in record {
       valid = accepted→valid l 1 (none .0, (none .1 .0, (none .1 .1 .0, (none .1 .1 .1 .0, (none .1 .1 .1 .1 .0, tt)))));
       sound = later .0;
@@ -58,132 +59,138 @@ said-finished : (b : Bool) → isFinished (answered (said b)) ≡ b
 said-finished true = refl
 said-finished false = refl
 
-module _ (b : List ℕ) (n : ℕ) (l : List ℤ) (k : ℕ) where
-  pub kept-log : (m : ℕ) (c : List ℕ) → added b n l k .reply ≡ refused m c → added b n l k .log ≡ b
+module _ (b : List ℕ) (n f : ℕ) (l : List ℤ) (k : ℕ) where
+  pub kept-log : (m : ℕ) (c : List ℕ) → added b n f l k .reply ≡ refused m c → added b n f l k .log ≡ b
   unfolding added
-  kept-log m c h = ap (λ (r : Reply). unlessRefusal r b (made (take k (stores b (recorded n l))) b)) h
+  kept-log m c h = ap (λ (r : Reply). unlessRefusal r b (made (take k (stores b (recorded n f l))) b)) h
 
-  given-reply : {w : Row} → First w (addRows b n l) → added b n l k .reply ≡ refused (w .number) (w .carries)
+  given-reply : {w : Row} → First w (addRows b n f l) → added b n f l k .reply ≡ refused (w .number) (w .carries)
   unfolding added addReply
-  given-reply f = firstRow-given _ f
+  given-reply first = firstRow-given _ first
 
-  module _ (none : NoneApply (addRows b n l)) where
-    passed-reply : added b n l k .reply ≡ answered (said (leb (length (stores b (recorded n l))) k))
+  module _ (none : NoneApply (addRows b n f l)) where
+    passed-reply : added b n f l k .reply ≡ answered (said (leb (length (stores b (recorded n f l))) k))
     unfolding added addReply
-    passed-reply = firstRow-none (addRows b n l) _ none
+    passed-reply = firstRow-none (addRows b n f l) _ none
 
-    passed-log : added b n l k .log ≡ made (take k (stores b (recorded n l))) b
+    passed-log : added b n f l k .log ≡ made (take k (stores b (recorded n f l))) b
     unfolding added
-    passed-log = ap (λ (r : Reply). unlessRefusal r b (made (take k (stores b (recorded n l))) b)) passed-reply
+    passed-log = ap (λ (r : Reply). unlessRefusal r b (made (take k (stores b (recorded n f l))) b)) passed-reply
 
   -- an answer comes only where no row applies
-  answered-none : (values : List ℤ) → added b n l k .reply ≡ answered values → NoneApply (addRows b n l)
+  answered-none : (values : List ℤ) → added b n f l k .reply ≡ answered values → NoneApply (addRows b n f l)
   unfolding added addReply
-  answered-none values h = firstRow-answered (addRows b n l) _ values h
+  answered-none values h = firstRow-answered (addRows b n f l) _ values h
 
   -- ---- the records afterwards
 
-  pub added-seen : records (added b n l k .log) ≡ withNew b (recorded n l) (isFinished (added b n l k .reply))
-  added-seen = go (outcome (addRows b n l))
+  pub added-seen : records (added b n f l k .log) ≡ withNew b (recorded n f l) (isFinished (added b n f l k .reply))
+  added-seen = go (outcome (addRows b n f l))
     where
       seen : Reply → List (List ℕ)
-      seen r = withNew b (recorded n l) (isFinished r)
+      seen r = withNew b (recorded n f l) (isFinished r)
 
-      go : Outcome (addRows b n l) → records (added b n l k .log) ≡ seen (added b n l k .reply)
-      go (given w f) = ap records (kept-log (w .number) (w .carries) (given-reply f)) ∙ sym (ap seen (given-reply f))
+      go : Outcome (addRows b n f l) → records (added b n f l k .log) ≡ seen (added b n f l k .reply)
+      go (given w first) = ap records (kept-log (w .number) (w .carries) (given-reply first)) ∙ sym (ap seen (given-reply first))
       go (passed none) =
-          let a = accepted b n l none in
-          ap records (passed-log none) ∙ cut-seen b (recorded n l) (recorded-entry n l (a .valid)) (a .room) k
-          ∙ ap (withNew b (recorded n l)) (sym (said-finished (leb (length (stores b (recorded n l))) k)))
+          let a = accepted b n f l none in
+          ap records (passed-log none) ∙ cut-seen b (recorded n f l) (recorded-entry n f l (a .valid)) (a .room) k
+          ∙ ap (withNew b (recorded n f l)) (sym (said-finished (leb (length (stores b (recorded n f l))) k)))
           ∙ sym (ap seen (passed-reply none))
 
   -- ---- one that finished
 
-  finished-none : isFinished (added b n l k .reply) ≡ true → NoneApply (addRows b n l)
-  finished-none h = go (outcome (addRows b n l))
+  finished-none : isFinished (added b n f l k .reply) ≡ true → NoneApply (addRows b n f l)
+  finished-none h = go (outcome (addRows b n f l))
     where
-      go : Outcome (addRows b n l) → NoneApply (addRows b n l)
-      go (given w f) = absurd (true≢false (sym h ∙ ap isFinished (given-reply f)))
+      go : Outcome (addRows b n f l) → NoneApply (addRows b n f l)
+      go (given w first) = absurd (true≢false (sym h ∙ ap isFinished (given-reply first)))
       go (passed none) = none
 
-  module _ (done : isFinished (added b n l k .reply) ≡ true) where
-    pub finished-accepted : Accepted b n l
-    finished-accepted = accepted b n l (finished-none done)
+  module _ (done : isFinished (added b n f l k .reply) ≡ true) where
+    pub finished-accepted : Accepted b n f l
+    finished-accepted = accepted b n f l (finished-none done)
 
-    all-made : length (stores b (recorded n l)) ≤ k
+    all-made : length (stores b (recorded n f l)) ≤ k
     all-made = leb-true _ _ (sym (said-finished _) ∙ sym (ap isFinished (passed-reply (finished-none done))) ∙ done)
 
-    pub finished-log : added b n l k .log ≡ take (end b) b ++ (recorded n l ++ replicate (left b (recorded n l)) 0)
+    pub finished-log : added b n f l k .log ≡ take (end b) b ++ (recorded n f l ++ replicate (left b (recorded n f l)) 0)
     finished-log =
-        passed-log (finished-none done) ∙ ap (λ (ss : List Store). made ss b) (take-all k (stores b (recorded n l)) all-made)
-        ∙ stores-done b (recorded n l) (recorded-entry n l (finished-accepted .valid)) (finished-accepted .room)
+        passed-log (finished-none done) ∙ ap (λ (ss : List Store). made ss b) (take-all k (stores b (recorded n f l)) all-made)
+        ∙ stores-done b (recorded n f l) (recorded-entry n f l (finished-accepted .valid)) (finished-accepted .room)
 
-    pub finished-seen : records (added b n l k .log) ≡ records b ++ (recorded n l ∷ [])
-    finished-seen = added-seen ∙ ap (withNew b (recorded n l)) done
+    pub finished-seen : records (added b n f l k .log) ≡ records b ++ (recorded n f l ∷ [])
+    finished-seen = added-seen ∙ ap (withNew b (recorded n f l)) done
 
-    pub finished-sound : damaged (records (added b n l k .log)) ≡ false
+    pub finished-sound : damaged (records (added b n f l k .log)) ≡ false
     finished-sound =
         ap damaged finished-seen
-        ∙ sound-snoc (recorded n l) (records b) (finished-accepted .sound) (recorded-good n l (finished-accepted .valid))
+        ∙ sound-snoc (recorded n f l) (records b) (finished-accepted .sound) (recorded-good n f l (finished-accepted .valid))
 
-    pub finished-latest : (m : ℕ) → latest m (records (added b n l k .log)) ≡ cond (eqb (name (recorded n l)) m) l (latest m (records b))
-    finished-latest m =
-        ap (latest m) finished-seen ∙ latest-snoc (recorded n l) m (records b)
-        ∙ ap (λ (x : List ℤ). cond (eqb (name (recorded n l)) m) x (latest m (records b))) (recorded-list n l (finished-accepted .valid))
+    pub finished-latest : (m : ℕ) → latest m (records (added b n f l k .log))
+        ≡ cond (eqb (name (recorded n f l)) m) (content (recorded n f l)) (latest m (records b))
+    finished-latest m = ap (latest m) finished-seen ∙ latest-snoc (recorded n f l) m (records b)
 
-    module _ (two-bytes : n < 65536) (out : List ℤ) where
-      pub finished-read : readWritten (added b n l k .log) n out ≡ written (row 8 (noRoom (points l) out) [] ∷ []) (points l) out
-      finished-read =
-          read-sound (added b n l k .log) n out finished-sound
-          ∙ ap (λ (x : List ℤ). showing x out) (finished-latest n
-          ∙ ap (λ (t : Bool). cond t l (latest n (records b))) (eq-eqb _ n (recorded-name n l (finished-accepted .valid) two-bytes)))
-          ∙ showing-some l out (valid-some l (finished-accepted .valid))
+    module _ (name-fits : n < 65536) (out : List ℤ) where
+      named : name (recorded n f l) ≡ n
+      named = recorded-name n f l (finished-accepted .valid) name-fits
 
-      pub finished-others : (m : ℕ) → (m ≡ n → ⊥) → readWritten (added b n l k .log) m out ≡ readWritten b m out
+      -- what a name reads, by whether it is this one
+      read-by : (m : ℕ) (t : Bool) → eqb (name (recorded n f l)) m ≡ t
+          → readWritten (added b n f l k .log) m out ≡ showing (cond t (content (recorded n f l)) (latest m (records b))) out
+      read-by m t e =
+          read-sound (added b n f l k .log) m out finished-sound
+          ∙ ap (λ (x : Floored). showing x out)
+          (finished-latest m ∙ ap (λ (u : Bool). cond u (content (recorded n f l)) (latest m (records b))) e)
+
+      pub finished-read : f < 65536 → readWritten (added b n f l k .log) n out
+          ≡ writtenOn f (written (row 8 (noRoom (points l) out) [] ∷ []) (points l) out)
+      finished-read floor-fits =
+          read-by n true (eq-eqb _ n named)
+          ∙ ap (λ (x : Floored). showing x out) (recorded-content n f l (finished-accepted .valid) floor-fits)
+          ∙ showing-some (on l f) out (valid-some l (finished-accepted .valid))
+
+      pub finished-others : (m : ℕ) → (m ≡ n → ⊥) → readWritten (added b n f l k .log) m out ≡ readWritten b m out
       finished-others m other =
-          let named = recorded-name n l (finished-accepted .valid) two-bytes in
-          read-sound (added b n l k .log) m out finished-sound
-          ∙ ap (λ (x : List ℤ). showing x out) (finished-latest m
-          ∙ ap (λ (t : Bool). cond t l (latest m (records b))) (ne-eqb _ m (λ e. other (sym e ∙ named))))
-          ∙ sym (read-sound b m out (finished-accepted .sound))
+          read-by m false (ne-eqb _ m (λ e. other (sym e ∙ named))) ∙ sym (read-sound b m out (finished-accepted .sound))
 
   -- ---- one that was cut or refused
 
-  pub unfinished-seen : isFinished (added b n l k .reply) ≡ false → records (added b n l k .log) ≡ records b
-  unfinished-seen h = added-seen ∙ ap (withNew b (recorded n l)) h
+  pub unfinished-seen : isFinished (added b n f l k .reply) ≡ false → records (added b n f l k .log) ≡ records b
+  unfinished-seen h = added-seen ∙ ap (withNew b (recorded n f l)) h
 
   -- ---- allowances
 
-  pub enough-allowed : 2 * length b ≤ k → (values : List ℤ) → added b n l k .reply ≡ answered values
-      → added b n l k .reply ≡ answered (pos 1 ∷ [])
+  pub enough-allowed : 2 * length b ≤ k → (values : List ℤ) → added b n f l k .reply ≡ answered values
+      → added b n f l k .reply ≡ answered (pos 1 ∷ [])
   enough-allowed h values e =
       let none = answered-none values e in
-      let a = accepted b n l none in
-      let few = stores-few b (recorded n l) (recorded-entry n l (a .valid)) (a .room) in
+      let a = accepted b n f l none in
+      let few = stores-few b (recorded n f l) (recorded-entry n f l (a .valid)) (a .room) in
       passed-reply none ∙ ap (λ (t : Bool). answered (said t)) (le-leb _ k (omega arith))
 
-pub nothing-allowed : (b : List ℕ) (n : ℕ) (l : List ℤ) → added b n l 0 .log ≡ b
+pub nothing-allowed : (b : List ℕ) (n f : ℕ) (l : List ℤ) → added b n f l 0 .log ≡ b
 unfolding added
-nothing-allowed b n l = either (addReply b n l 0)
+nothing-allowed b n f l = either (addReply b n f l 0)
   where
     either : (r : Reply) → unlessRefusal r b b ≡ b
     either (answered ns) = refl
     either (refused m c) = refl
 
-pub one-more-allowed : (b : List ℕ) (n : ℕ) (l : List ℤ) (k : ℕ)
-    → (p : ℕ) × (x : ℕ) × (added b n l (suc k) .log ≡ set (added b n l k .log) p x)
-one-more-allowed b n l k = go (outcome (addRows b n l))
+pub one-more-allowed : (b : List ℕ) (n f : ℕ) (l : List ℤ) (k : ℕ)
+    → (p : ℕ) × (x : ℕ) × (added b n f l (suc k) .log ≡ set (added b n f l k .log) p x)
+one-more-allowed b n f l k = go (outcome (addRows b n f l))
   where
-    go : Outcome (addRows b n l) → (p : ℕ) × (x : ℕ) × (added b n l (suc k) .log ≡ set (added b n l k .log) p x)
-    go (given w f) =
-        let before = kept-log b n l k (w .number) (w .carries) (given-reply b n l k f) in
-        let after = kept-log b n l (suc k) (w .number) (w .carries) (given-reply b n l (suc k) f) in
+    go : Outcome (addRows b n f l) → (p : ℕ) × (x : ℕ) × (added b n f l (suc k) .log ≡ set (added b n f l k .log) p x)
+    go (given w first) =
+        let before = kept-log b n f l k (w .number) (w .carries) (given-reply b n f l k first) in
+        let after = kept-log b n f l (suc k) (w .number) (w .carries) (given-reply b n f l (suc k) first) in
         (length b, 0, after ∙ sym (set-out b (length b) 0 (omega arith)) ∙ ap (λ (c : List ℕ). set c (length b) 0) (sym before))
     go (passed none) =
-        let step = one-byte (stores b (recorded n l)) b k in (
+        let step = one-byte (stores b (recorded n f l)) b k in (
           step .0,
           step .1,
-          passed-log b n l (suc k) none ∙ step .2 ∙ ap (λ (c : List ℕ). set c (step .0) (step .1)) (sym (passed-log b n l k none)),
+          passed-log b n f l (suc k) none ∙ step .2 ∙ ap (λ (c : List ℕ). set c (step .0) (step .1)) (sym (passed-log b n f l k none)),
         )
 
 -- ---- refusal 15
@@ -198,9 +205,9 @@ absent {w} x without (here e) same =
     true≢false (sym (ap₂ (λ (s t : Bool). s && t) (eq-eqb (w .number) x same) e) ∙ without .0)
 absent x without (later e f) same = absent x (without .1) f same
 
-pub sound-added : (b : List ℕ) → damaged (records b) ≡ false → (n : ℕ) (l : List ℤ) (k : ℕ) (c : List ℕ)
-    → added b n l k .reply ≡ refused 15 c → ⊥
+pub sound-added : (b : List ℕ) → damaged (records b) ≡ false → (n f : ℕ) (l : List ℤ) (k : ℕ) (c : List ℕ)
+    → added b n f l k .reply ≡ refused 15 c → ⊥
 unfolding added addReply
-sound-added b sound n l k c h =
-    let first = firstRow-refused (addRows b n l) _ 15 c h in
+sound-added b sound n f l k c h =
+    let first = firstRow-refused (addRows b n f l) _ 15 c h in
     absent 15 (refl, (refl, (refl, (refl, (refl, (sound, (refl, tt))))))) (first .1) (first .2)

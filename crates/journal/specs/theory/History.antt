@@ -1,69 +1,94 @@
--- Histories: a log that has only seen additions, cut or not, has no bad record, and each name's latest list is the last that finished.
---     history-sound    no record of a log that was new is bad
---     history-read     what a name reads
-use mathlib.Core.Path.{_≡_, refl, sym, _∙_, ap}
-use mathlib.Core.Bool.{Bool, true, false, cond, _&&_, and-false, and-true}
+-- Histories: a log in which no record is bad still has none after any additions, cut or not, and each name's latest shape is the last that
+-- finished, or the one from before.
+--     after-sound, after-read    from a log with no bad record, of either kind
+--     fresh-sound, fresh-read    a new log is one, and holds nothing
+--     Recorded r, written-sound  r is a recorded shape, of either kind; a log of such records is one, whatever is torn behind them
+use mathlib.Core.Path.{_≡_, refl, sym, _∙_, ap, ap₂}
+use mathlib.Core.Bool.{Bool, true, false, cond, _&&_, _||_, and-false, and-true}
+use mathlib.Core.Logic.{_⊎_, ⊎-elim}
 use mathlib.Core.List.{List, [], _∷_}
 use Prim.Native.Nat.{ℕ}
 use lib.Dec.{eqb}
 use lib.IntN.{ℤ}
-use Rattle.journal.specs.Format.{records, name}
-use Rattle.journal.specs.Reading.{damaged, latest, readWritten}
-use Rattle.journal.specs.Adding.{added}
-use Rattle.journal.specs.History.{Addition, fresh, after, isFinished, finishes, lastSince, lastFinished}
+use Rattle.plane.specs.Refusal.{Valid}
+use Rattle.plane.specs.Floor.{Floored, on}
+use Rattle.journal.specs.Format.{records, recordedPlain, recorded, bad}
+use Rattle.journal.specs.Reading.{damaged, latest, readWritten, showing}
+use Rattle.journal.specs.History.{Addition, fresh, step, after, isFinished, finishes, lastSince, lastFinished}
 use Rattle.journal.specs.theory.Records.{records-none}
-use Rattle.journal.specs.theory.Read.{recorded-name}
-use Rattle.journal.specs.theory.Reading.{showing, read-sound}
+use Rattle.journal.specs.theory.Read.{recorded-name, recorded-content, recorded-good, plain-good}
+use Rattle.journal.specs.theory.Reading.{read-sound}
 use Rattle.journal.specs.theory.Stores.{zeros-torn}
 use Rattle.journal.specs.theory.Added.{finished-accepted, finished-sound, finished-latest, unfinished-seen}
 
--- the log after one addition
-abbrev next : Addition → List ℕ → List ℕ
-next h b = added b (h .name) (h .list) (h .allowed) .log
-
 module _ (h : Addition) (b : List ℕ) where
-  next-sound : damaged (records b) ≡ false → damaged (records (next h b)) ≡ false
-  next-sound d = go (isFinished (added b (h .name) (h .list) (h .allowed) .reply)) refl
+  next-sound : damaged (records b) ≡ false → damaged (records (step h b .log)) ≡ false
+  next-sound d = go (isFinished (step h b .reply)) refl
     where
-      go : (t : Bool) → isFinished (added b (h .name) (h .list) (h .allowed) .reply) ≡ t → damaged (records (next h b)) ≡ false
-      go true e = finished-sound b (h .name) (h .list) (h .allowed) e
-      go false e = ap damaged (unfinished-seen b (h .name) (h .list) (h .allowed) e) ∙ d
+      go : (t : Bool) → isFinished (step h b .reply) ≡ t → damaged (records (step h b .log)) ≡ false
+      go true e = finished-sound b (h .name) (h .floor) (h .list) (h .allowed) e
+      go false e = ap damaged (unfinished-seen b (h .name) (h .floor) (h .list) (h .allowed) e) ∙ d
 
-  next-latest : (n : ℕ) → latest n (records (next h b)) ≡ cond (finishes h b n) (h .list) (latest n (records b))
-  next-latest n = go (isFinished (added b (h .name) (h .list) (h .allowed) .reply)) refl
+  next-latest : (n : ℕ) → latest n (records (step h b .log)) ≡ cond (finishes h b n) (on (h .list) (h .floor)) (latest n (records b))
+  next-latest n = go (isFinished (step h b .reply)) refl
     where
-      choice : Bool → List ℤ
-      choice t = cond t (h .list) (latest n (records b))
+      choice : Bool → Floored
+      choice t = cond t (on (h .list) (h .floor)) (latest n (records b))
 
-      go : (t : Bool) → isFinished (added b (h .name) (h .list) (h .allowed) .reply) ≡ t
-          → latest n (records (next h b)) ≡ choice (finishes h b n)
+      go : (t : Bool) → isFinished (step h b .reply) ≡ t → latest n (records (step h b .log)) ≡ choice (finishes h b n)
       go true e =
-          finished-latest b (h .name) (h .list) (h .allowed) e n
-          ∙ ap (λ (m : ℕ). choice (eqb m n))
-          (recorded-name (h .name) (h .list) (finished-accepted b (h .name) (h .list) (h .allowed) e .valid) (h .two-bytes))
+          let valid = finished-accepted b (h .name) (h .floor) (h .list) (h .allowed) e .valid in
+          finished-latest b (h .name) (h .floor) (h .list) (h .allowed) e n
+          ∙ ap₂ (λ (m : ℕ) (x : Floored). cond (eqb m n) x (latest n (records b)))
+          (recorded-name (h .name) (h .floor) (h .list) valid (h .name-fits))
+          (recorded-content (h .name) (h .floor) (h .list) valid (h .floor-fits))
           ∙ ap choice (sym (and-true (eqb (h .name) n)) ∙ ap (λ (t : Bool). eqb (h .name) n && t) (sym e))
       go false e =
-          ap (latest n) (unfinished-seen b (h .name) (h .list) (h .allowed) e)
+          ap (latest n) (unfinished-seen b (h .name) (h .floor) (h .list) (h .allowed) e)
           ∙ ap choice (sym (and-false (eqb (h .name) n)) ∙ ap (λ (t : Bool). eqb (h .name) n && t) (sym e))
 
-after-sound : (hs : List Addition) (b : List ℕ) → damaged (records b) ≡ false → damaged (records (after hs b)) ≡ false
+pub after-sound : (hs : List Addition) (b : List ℕ) → damaged (records b) ≡ false → damaged (records (after hs b)) ≡ false
 after-sound [] b d = d
-after-sound (h ∷ hs) b d = after-sound hs (next h b) (next-sound h b d)
+after-sound (h ∷ hs) b d = after-sound hs (step h b .log) (next-sound h b d)
 
 after-latest : (n : ℕ) (hs : List Addition) (b : List ℕ) → latest n (records (after hs b)) ≡ lastSince (latest n (records b)) n hs b
 after-latest n [] b = refl
-after-latest n (h ∷ hs) b = after-latest n hs (next h b) ∙ ap (λ (l : List ℤ). lastSince l n hs (next h b)) (next-latest h b n)
+after-latest n (h ∷ hs) b = after-latest n hs (step h b .log) ∙ ap (λ (x : Floored). lastSince x n hs (step h b .log)) (next-latest h b n)
 
--- ---- from a new log
+pub after-read : (hs : List Addition) (b : List ℕ) → damaged (records b) ≡ false → (n : ℕ) (out : List ℤ)
+    → readWritten (after hs b) n out ≡ showing (lastSince (latest n (records b)) n hs b) out
+after-read hs b d n out =
+    read-sound (after hs b) n out (after-sound hs b d) ∙ ap (λ (x : Floored). showing x out) (after-latest n hs b)
 
-module _ (m : ℕ) (hs : List Addition) where
-  pub history-sound : damaged (records (after hs (fresh m))) ≡ false
-  history-sound = after-sound hs (fresh m) (ap damaged (records-none (fresh m) (zeros-torn m)))
+-- ---- a new log
 
-  history-latest : (n : ℕ) → latest n (records (after hs (fresh m))) ≡ lastFinished n hs (fresh m)
-  history-latest n =
-      after-latest n hs (fresh m)
-      ∙ ap (λ (rs : List (List ℕ)). lastSince (latest n rs) n hs (fresh m)) (records-none (fresh m) (zeros-torn m))
+pub fresh-sound : (m : ℕ) → damaged (records (fresh m)) ≡ false
+fresh-sound m = ap damaged (records-none (fresh m) (zeros-torn m))
 
-  pub history-read : (n : ℕ) (out : List ℤ) → readWritten (after hs (fresh m)) n out ≡ showing (lastFinished n hs (fresh m)) out
-  history-read n out = read-sound (after hs (fresh m)) n out history-sound ∙ ap (λ (l : List ℤ). showing l out) (history-latest n)
+pub fresh-read : (hs : List Addition) (m n : ℕ) (out : List ℤ)
+    → readWritten (after hs (fresh m)) n out ≡ showing (lastFinished n hs (fresh m)) out
+fresh-read hs m n out =
+    after-read hs (fresh m) (fresh-sound m) n out
+    ∙ ap (λ (rs : List (List ℕ)). showing (lastSince (latest n rs) n hs (fresh m)) out) (records-none (fresh m) (zeros-torn m))
+
+-- ---- a log that was written to
+
+pub record Recorded (r : List ℕ) : Type 0 where
+  pub name : ℕ
+  pub floor : ℕ
+  pub list : List ℤ
+  pub valid : Valid list
+  pub is : (r ≡ recordedPlain name list) ⊎ (r ≡ recorded name floor list)
+
+abbrev pub AllRecorded : List (List ℕ) → Type 0
+AllRecorded [] = Unit {0}
+AllRecorded (r ∷ rs) = Recorded r × AllRecorded rs
+
+recorded-sound : (r : List ℕ) → Recorded r → bad r ≡ false
+recorded-sound r w =
+    ⊎-elim (λ e. ap bad e ∙ plain-good (w .name) (w .list) (w .valid))
+    (λ e. ap bad e ∙ recorded-good (w .name) (w .floor) (w .list) (w .valid)) (w .is)
+
+pub written-sound : (rs : List (List ℕ)) → AllRecorded rs → damaged rs ≡ false
+written-sound [] ws = refl
+written-sound (r ∷ rs) ws = ap₂ (λ (a c : Bool). a || c) (recorded-sound r (ws .0)) (written-sound rs (ws .1))

@@ -1,8 +1,7 @@
 -- Reading, by the log's records alone.
---     neither                    a test of two that fails
 --     FirstBad, first-bad        what `badPlace` is
 --     read-same                  logs with the same records read alike
---     showing found out          what is written where `found` is the latest list of the name; `showing-some` where it is not empty
+--     showing-some               what is read where a name has a shape
 --     read-sound                 a log with no bad record is read so
 --     sound-snoc, latest-snoc    one record more
 use mathlib.Core.Path.{_≡_, refl, sym, _∙_, ap, ap₂}
@@ -10,22 +9,20 @@ use mathlib.Core.Bool.{Bool, true, false, not, cond, _||_, true≢false, or-fals
 use mathlib.Core.List.{List, [], _∷_, _++_}
 use Prim.Native.Nat.{ℕ, _+_, _<_}
 use native.Mathlib.Omega.{arith}
-use borrow.Author.Tests.{ne-eqb, not-false}
+use borrow.Author.Tests.{ne-eqb}
 use lib.Dec.{eqb}
 use lib.ListN.{length, length-append}
 use lib.IntN.{ℤ}
 use Rattle.plane.specs.Point.{points}
-use Rattle.plane.specs.Reply.{row}
+use Rattle.plane.specs.Reply.{Reply, answered, refused, row}
 use Rattle.plane.specs.Refusal.{badCount}
 use Rattle.plane.specs.Judge.{judged}
 use Rattle.plane.specs.Output.{Written, written, noRoom}
-use Rattle.journal.specs.Format.{records, name, list, isAnswer, wrongLength, kind, bad}
-use Rattle.journal.specs.Reading.{damaged, badPlace, held, latest, readWritten}
+use Rattle.plane.specs.Floor.{Floored, withFloor, writtenOn}
+use Rattle.journal.specs.Format.{records, name, list, content, isAnswer, bad}
+use Rattle.journal.specs.Reading.{damaged, badPlace, held, nothing, latest, readWritten, showing}
 use Rattle.journal.specs.Adding.{joined}
-
-pub neither : (a b : Bool) → (a || b) ≡ false → (a ≡ false) × (b ≡ false)
-neither true b h = absurd (true≢false h)
-neither false b h = (refl, h)
+use Rattle.journal.specs.theory.Kind.{neither, good→facts}
 
 -- ---- the first bad record
 
@@ -81,14 +78,14 @@ module _ (r : List ℕ) where
     held-snoc (s ∷ rs) =
         ap (λ (b : Bool). eqb (name s) n || b) (held-snoc rs) ∙ sym (or-assoc (eqb (name s) n) (held n rs) (eqb (name r) n))
 
-    pub latest-snoc : (rs : List (List ℕ)) → latest n (rs ++ (r ∷ [])) ≡ cond (eqb (name r) n) (list r) (latest n rs)
+    pub latest-snoc : (rs : List (List ℕ)) → latest n (rs ++ (r ∷ [])) ≡ cond (eqb (name r) n) (content r) (latest n rs)
     latest-snoc [] = refl
     latest-snoc (s ∷ rs) =
-        ap₂ (λ (b : Bool) (l : List ℤ). cond b l (cond (eqb (name s) n) (list s) [])) (held-snoc rs) (latest-snoc rs)
+        ap₂ (λ (b : Bool) (l : Floored). cond b l (cond (eqb (name s) n) (content s) nothing)) (held-snoc rs) (latest-snoc rs)
         ∙ later (held n rs) (eqb (name r) n)
       where
-        later : (a b : Bool) → cond (a || b) (cond b (list r) (latest n rs)) (cond (eqb (name s) n) (list s) [])
-            ≡ cond b (list r) (cond a (latest n rs) (cond (eqb (name s) n) (list s) []))
+        later : (a b : Bool) → cond (a || b) (cond b (content r) (latest n rs)) (cond (eqb (name s) n) (content s) nothing)
+            ≡ cond b (content r) (cond a (latest n rs) (cond (eqb (name s) n) (content s) nothing))
         later true true = refl
         later true false = refl
         later false true = refl
@@ -103,32 +100,28 @@ accepted-some [] h = absurd (true≢false (sym h))
 accepted-some (z ∷ l) h = ne-eqb (length (z ∷ l)) 0 (λ e. omega arith)
 
 good-some : (r : List ℕ) → bad r ≡ false → eqb (length (list r)) 0 ≡ false
-unfolding bad
-good-some r h =
-    let shape = neither (not (eqb (kind r) 1)) (not (isAnswer (judged (list r)))) (neither (wrongLength r) _ h .1) .1 in
-    accepted-some (list r) (not-false (isAnswer (judged (list r))) shape)
+good-some r h = accepted-some (list r) (good→facts r h .shape)
 
-held-latest : (n : ℕ) (rs : List (List ℕ)) → damaged rs ≡ false → not (held n rs) ≡ eqb (length (latest n rs)) 0
+held-latest : (n : ℕ) (rs : List (List ℕ)) → damaged rs ≡ false → not (held n rs) ≡ eqb (length (latest n rs .list)) 0
 held-latest n [] d = refl
 held-latest n (r ∷ rs) d =
     let parts = neither (bad r) (damaged rs) d in
     go (eqb (name r) n) (held n rs) (held-latest n rs (parts .1)) (good-some r (parts .0))
   where
-    go : (a b : Bool) → not b ≡ eqb (length (latest n rs)) 0 → eqb (length (list r)) 0 ≡ false
-        → not (a || b) ≡ eqb (length (cond b (latest n rs) (cond a (list r) []))) 0
+    go : (a b : Bool) → not b ≡ eqb (length (latest n rs .list)) 0 → eqb (length (list r)) 0 ≡ false
+        → not (a || b) ≡ eqb (length (cond b (latest n rs) (cond a (content r) nothing) .list)) 0
     go true true h g = h
     go true false h g = sym g
     go false true h g = h
     go false false h g = refl
 
--- what is written where this list is found; nothing is found where it is empty
-abbrev pub showing : List ℤ → List ℤ → Written
-showing found out = written (row 19 (eqb (length found) 0) [] ∷ row 8 (noRoom (points found) out) [] ∷ []) (points found) out
-
 -- a list with a corner is found
-pub showing-some : (l out : List ℤ) → 0 < length l → showing l out ≡ written (row 8 (noRoom (points l) out) [] ∷ []) (points l) out
-showing-some l out h =
-    ap (λ (b : Bool). written (row 19 b [] ∷ row 8 (noRoom (points l) out) [] ∷ []) (points l) out) (ne-eqb (length l) 0 (λ e. omega arith))
+pub showing-some : (found : Floored) (out : List ℤ) → 0 < length (found .list) → let shape = points (found .list) in
+    showing found out ≡ writtenOn (found .floor) (written (row 8 (noRoom shape out) [] ∷ []) shape out)
+showing-some found out h =
+    let shape = points (found .list) in
+    ap (λ (b : Bool). writtenOn (found .floor) (written (row 19 b [] ∷ row 8 (noRoom shape out) [] ∷ []) shape out))
+    (ne-eqb (length (found .list)) 0 (λ e. omega arith))
 
 module _ (b : List ℕ) (n : ℕ) (out : List ℤ) where
   pub read-same : (c : List ℕ) → records b ≡ records c → readWritten b n out ≡ readWritten c n out
@@ -137,16 +130,19 @@ module _ (b : List ℕ) (n : ℕ) (out : List ℤ) where
     where
       reading : List (List ℕ) → Written
       reading rs =
-          written (row 15 (damaged rs) (badPlace rs ∷ []) ∷ row 19 (not (held n rs)) [] ∷ row 8 (noRoom (points (latest n rs)) out) [] ∷ [])
-          (points (latest n rs)) out
+          let shape = points (latest n rs .list) in
+          writtenOn (latest n rs .floor)
+          (written (row 15 (damaged rs) (badPlace rs ∷ []) ∷ row 19 (not (held n rs)) [] ∷ row 8 (noRoom shape out) [] ∷ []) shape out)
 
   pub read-sound : damaged (records b) ≡ false → readWritten b n out ≡ showing (latest n (records b)) out
   unfolding readWritten
   read-sound d = ap₂ reading d (held-latest n (records b) d)
     where
-      found : List ℤ
+      found : Floored
       found = latest n (records b)
 
       reading : Bool → Bool → Written
       reading a h =
-          written (row 15 a (badPlace (records b) ∷ []) ∷ row 19 h [] ∷ row 8 (noRoom (points found) out) [] ∷ []) (points found) out
+          let shape = points (found .list) in
+          writtenOn (found .floor)
+          (written (row 15 a (badPlace (records b) ∷ []) ∷ row 19 h [] ∷ row 8 (noRoom shape out) [] ∷ []) shape out)

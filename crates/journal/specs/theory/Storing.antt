@@ -21,7 +21,7 @@ use lib.Seq.{take-nil, take-take, take-set-le, take-suc, length-take-le, getD-ta
 use mir.Syntax.{w32}
 use mir.Val.{ofZ}
 use Rattle.journal.specs.Bytes.{pair, word, words}
-use Rattle.journal.specs.Format.{lastByte, fixedBytes, recorded}
+use Rattle.journal.specs.Format.{lastByte, fixedBytes, recordedAs, recorded}
 use Rattle.journal.specs.Adding.{Store, store, end, clears, writes, stores, made}
 use Rattle.journal.specs.Allowance.{cleared, Ran}
 use Rattle.journal.specs.theory.Bytes.{pair-length, words-length}
@@ -170,38 +170,43 @@ enough a w k m h e = go (leb w m) refl
     go false g = let lt = leb-false w m g in sym (lt-leb (a + w) k (omega arith))
 
 -- a record, field by field
-pub ran-recorded : {k s m₁ m₂ m₃ m₄ m₅ : ℕ} {b c₁ c₂ c₃ c₄ c₅ : List ℕ} (p n : ℕ) (l : List ℤ) → s ≡ fixedBytes + 4 * length l
-    → Ran k (writes p (pair s)) b m₁ c₁ → Ran m₁ (writes (p + 2) (pair 1)) c₁ m₂ c₂ → Ran m₂ (writes (p + 4) (pair n)) c₂ m₃ c₃
-    → Ran m₃ (writes (p + 6) (words l)) c₃ m₄ c₄ → Ran m₄ (writes (p + 1 + s) (lastByte ∷ [])) c₄ m₅ c₅
-    → (ltb 0 m₄ ≡ leb (length (writes p (recorded n l))) k) × (c₅ ≡ made (take k (writes p (recorded n l))) b)
-unfolding recorded
-ran-recorded {k} {s} {m₁} {m₂} {m₃} {m₄} {m₅} {b} {c₁} {c₂} {c₃} {c₄} {c₅} p n l e f₁ f₂ f₃ f₄ f₅ =
+pub ran-recorded : {k s m₁ m₂ m₃ m₄ m₅ m₆ : ℕ} {b c₁ c₂ c₃ c₄ c₅ c₆ : List ℕ} (p n f : ℕ) (l : List ℤ) → s ≡ 7 + 4 * length l
+    → Ran k (writes p (pair s)) b m₁ c₁ → Ran m₁ (writes (p + 2) (pair 2)) c₁ m₂ c₂ → Ran m₂ (writes (p + 4) (pair n)) c₂ m₃ c₃
+    → Ran m₃ (writes (p + 6) (pair f)) c₃ m₄ c₄ → Ran m₄ (writes (p + 8) (words l)) c₄ m₅ c₅
+    → Ran m₅ (writes (p + 1 + s) (lastByte ∷ [])) c₅ m₆ c₆
+    → (ltb 0 m₅ ≡ leb (length (writes p (recorded n f l))) k) × (c₆ ≡ made (take k (writes p (recorded n f l))) b)
+unfolding recorded recordedAs fixedBytes
+ran-recorded {k} {s} {m₁} {m₂} {m₃} {m₄} {m₅} {m₆} {b} {c₁} {c₂} {c₃} {c₄} {c₅} {c₆} p n f l e f₁ f₂ f₃ f₄ f₅ f₆ =
     let last = lastByte ∷ [] in
-    let all : Ran k (writes p (pair s ++ (pair 1 ++ (pair n ++ (words l ++ last))))) b m₅ c₅ =
+    let all : Ran k (writes p (pair s ++ (pair 2 ++ (pair n ++ (pair f ++ (words l ++ last)))))) b m₆ c₆ =
     ran-writes p (p + 2) (pair s) _ f₁ (omega (arith, pair-length s))
-    (ran-writes (p + 2) (p + 4) (pair 1) _ f₂ (omega (arith, pair-length 1))
+    (ran-writes (p + 2) (p + 4) (pair 2) _ f₂ (omega (arith, pair-length 2))
     (ran-writes (p + 4) (p + 6) (pair n) _ f₃ (omega (arith, pair-length n))
-    (ran-writes (p + 6) (p + 1 + s) (words l) last f₄ (omega (arith, words-length l)) f₅))) in
-    let left : m₄ ≡ k - (6 + 4 * length l) =
+    (ran-writes (p + 6) (p + 8) (pair f) _ f₄ (omega (arith, pair-length f))
+    (ran-writes (p + 8) (p + 1 + s) (words l) last f₅ (omega (arith, words-length l)) f₆)))) in
+    let left : m₅ ≡ k - (8 + 4 * length l) =
     omega (
       arith,
       f₁ .left-is,
       f₂ .left-is,
       f₃ .left-is,
       f₄ .left-is,
+      f₅ .left-is,
       writes-length p (pair s),
-      writes-length (p + 2) (pair 1),
+      writes-length (p + 2) (pair 2),
       writes-length (p + 4) (pair n),
-      writes-length (p + 6) (words l),
+      writes-length (p + 6) (pair f),
+      writes-length (p + 8) (words l),
       pair-length s,
-      pair-length 1,
+      pair-length 2,
       pair-length n,
+      pair-length f,
       words-length l,
     ) in
-    let count : (6 + 4 * length l) + 1 ≡ length (writes p (recorded n l)) =
-    omega (arith, writes-length p (recorded n l), recorded-length n l) in (
-      enough (6 + 4 * length l) 1 k m₄ (omega arith) left ∙ ap (λ (i : ℕ). leb i k) count,
-      all .log-is ∙ ap (λ (i : ℕ). made (take k (writes p (pair i ++ (pair 1 ++ (pair n ++ (words l ++ last)))))) b) e,
+    let count : (8 + 4 * length l) + 1 ≡ length (writes p (recorded n f l)) =
+    omega (arith, writes-length p (recorded n f l), recorded-length n f l) in (
+      enough (8 + 4 * length l) 1 k m₅ (omega arith) left ∙ ap (λ (i : ℕ). leb i k) count,
+      all .log-is ∙ ap (λ (i : ℕ). made (take k (writes p (pair i ++ (pair 2 ++ (pair n ++ (pair f ++ (words l ++ last))))))) b) e,
     )
 
 -- the torn end cleared, then a record written

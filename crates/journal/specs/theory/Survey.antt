@@ -1,35 +1,48 @@
 -- A pass over the records of a log that judges each.
---     size-at, next-inside, no-record, ends-whole     whether a whole record stands at a place
---     bad-short, bad-length, bad-kind, bad-shape      whether the record at the front of t is bad, test by test
+--     size-at, kind-at, name-at                       what the record at a place says, read there
+--     next-inside, no-record, ends-whole              whether a whole record stands at a place
+--     bad-short, -kind, -small, -length, -shape       whether the record at the front of t is bad, test by test
 --     Along b p                                       the records up to place p of b are good
 --     along-start, along-good, along-bad, along-end   the moves of the pass
 --     surveyed-bad, surveyed-ends                     read off the result
 use mathlib.Core.Path.{_≡_, refl, sym, _∙_, ap, ap₂}
-use mathlib.Core.Bool.{Bool, true, false, not, cond, _&&_, _||_}
+use mathlib.Core.Bool.{Bool, true, false, not, cond, _&&_, _||_, or-true}
 use mathlib.Core.List.{List}
 use Prim.Native.Nat.{ℕ, _+_, _-_, _/_, _%_, _≤_, _<_}
 use native.Mathlib.Omega.{arith}
 use borrow.Author.Tests.{le-leb, lt-ltb, le-ltb, eq-eqb, ne-eqb}
-use lib.Dec.{eqb}
+use lib.Dec.{eqb, ltb}
 use lib.ListN.{length, getD, take, drop, length-drop}
 use lib.Seq.{drop-drop, length-take-le}
+use lib.IntN.{ℤ}
 use Rattle.plane.specs.Judge.{judged}
 use Rattle.journal.specs.Bytes.{pairAt, wordsAt}
-use Rattle.journal.specs.Format.{lastByte, fixedBytes, size, whole, records, kind, list, isAnswer, wrongLength, bad}
+use Rattle.plane.specs.Floor.{Floored}
+use Rattle.journal.specs.Format.{lastByte, fixedBytes, size, whole, records, kind, name, list, isAnswer, wrongLength}
+use Rattle.journal.specs.Format.{otherKind, bad}
 use Rattle.journal.specs.Reading.{damaged, badPlace}
 use Rattle.journal.specs.Adding.{end}
 use Rattle.journal.specs.Survey.{surveyed}
 use Rattle.journal.specs.declared.survey.Surveyed.{Surveyed}
 use Rattle.journal.specs.declared.survey.Surveyed.the-variants as Surveyed
 use Rattle.journal.specs.theory.Bytes.{pairAt-drop}
+use Rattle.journal.specs.theory.Kind.{fixed-least}
 use Rattle.journal.specs.theory.Records.{Whole, whole→facts, records-none, records-front, end-none, end-front}
-use Rattle.journal.specs.theory.Read.{size-front, kind-front, list-front}
+use Rattle.journal.specs.theory.Read.{size-front, kind-front, content-front}
 
 -- ---- whether there is one
 
 pub size-at : (b : List ℕ) (p : ℕ) → size (drop p b) ≡ pairAt b p
 unfolding size
 size-at b p = pairAt-drop b p 0 ∙ ap (pairAt b) (let e : p + 0 ≡ p = omega arith in e)
+
+pub kind-at : (b : List ℕ) (p : ℕ) → kind (drop p b) ≡ pairAt b (p + 2)
+unfolding kind
+kind-at b p = pairAt-drop b p 2
+
+pub name-at : (b : List ℕ) (p : ℕ) → name (drop p b) ≡ pairAt b (p + 4)
+unfolding name
+name-at b p = pairAt-drop b p 4
 
 -- a whole record is inside the log
 pub next-inside : (b : List ℕ) (p : ℕ) → whole (drop p b) ≡ true → p + (2 + size (drop p b)) ≤ length b
@@ -60,38 +73,47 @@ module _ (t : List ℕ) where
   abbrev front : List ℕ
   front = take (2 + size t) t
 
-  length-wrong : (b : Bool) → wrongLength front ≡ b → bad front ≡ (b || (not (eqb (kind front) 1) || not (isAnswer (judged (list front)))))
+  length-wrong : (b : Bool) → wrongLength front ≡ b → bad front ≡ (b || (otherKind (kind front) || not (isAnswer (judged (list front)))))
   unfolding bad
-  length-wrong b e = ap (λ (x : Bool). x || (not (eqb (kind front) 1) || not (isAnswer (judged (list front))))) e
+  length-wrong b e = ap (λ (x : Bool). x || (otherKind (kind front) || not (isAnswer (judged (list front))))) e
 
-  pub bad-short : size t < fixedBytes → bad front ≡ true
+  short-front : size front < fixedBytes (kind front) → bad front ≡ true
   unfolding wrongLength
-  bad-short h =
-      length-wrong true (ap (λ (x : Bool). x || not (eqb ((size front - fixedBytes) % 8) 0))
-      (lt-ltb (size front) fixedBytes (omega (arith, size-front t))))
+  short-front h =
+      length-wrong true (ap (λ (x : Bool). x || not (eqb ((size front - fixedBytes (kind front)) % 8) 0))
+      (lt-ltb (size front) (fixedBytes (kind front)) h))
 
-  module _ (long : fixedBytes ≤ size t) where
-    rest : (b : Bool) → eqb ((size t - fixedBytes) % 8) 0 ≡ b → wrongLength front ≡ not b
-    unfolding wrongLength
-    rest b e =
-        ap₂ (λ (x y : Bool). x || not y) (le-ltb (size front) fixedBytes (omega (arith, size-front t)))
-        (ap (λ (n : ℕ). eqb ((n - fixedBytes) % 8) 0) (size-front t) ∙ e)
+  -- before its kind is read
+  pub bad-short : size t < 5 → bad front ≡ true
+  bad-short h = short-front (omega (arith, size-front t, fixed-least (kind front)))
 
-    pub bad-length : ((size t - fixedBytes) % 8 ≡ 0 → ⊥) → bad front ≡ true
-    bad-length h = length-wrong true (rest false (ne-eqb ((size t - fixedBytes) % 8) 0 h))
+  module _ (least : 5 ≤ size t) where
+    pub bad-kind : otherKind (kind t) ≡ true → bad front ≡ true
+    unfolding bad
+    bad-kind h =
+        ap (λ (x : Bool). wrongLength front || (x || not (isAnswer (judged (list front))))) (ap otherKind (kind-front t least) ∙ h)
+        ∙ or-true (wrongLength front)
 
-    module _ (even : (size t - fixedBytes) % 8 ≡ 0) where
-      right : bad front ≡ (not (eqb (kind front) 1) || not (isAnswer (judged (list front))))
-      right = length-wrong false (rest true (eq-eqb ((size t - fixedBytes) % 8) 0 even))
+    pub bad-small : size t < fixedBytes (kind t) → bad front ≡ true
+    bad-small h = short-front (omega (arith, size-front t, ap fixedBytes (kind-front t least)))
 
-      pub bad-kind : (pairAt t 2 ≡ 1 → ⊥) → bad front ≡ true
-      bad-kind h = right ∙ ap (λ (x : Bool). not x || not (isAnswer (judged (list front))))
-          (ap (λ (k : ℕ). eqb k 1) (kind-front t long) ∙ ne-eqb (pairAt t 2) 1 h)
+    module _ (long : fixedBytes (kind t) ≤ size t) where
+      rest : (b : Bool) → eqb ((size t - fixedBytes (kind t)) % 8) 0 ≡ b → wrongLength front ≡ not b
+      unfolding wrongLength
+      rest b e =
+          ap₂ (λ (n k : ℕ). ltb n (fixedBytes k) || not (eqb ((n - fixedBytes k) % 8) 0)) (size-front t) (kind-front t least)
+          ∙ ap₂ (λ (x y : Bool). x || not y) (le-ltb (size t) (fixedBytes (kind t)) long) e
 
-      pub bad-shape : pairAt t 2 ≡ 1 → bad front ≡ not (isAnswer (judged (wordsAt ((size t - fixedBytes) / 4) t 6)))
-      bad-shape h = right ∙ ap₂ (λ (x y : Bool). not x || not y)
-          (ap (λ (k : ℕ). eqb k 1) (kind-front t long) ∙ eq-eqb (pairAt t 2) 1 h)
-          (ap (λ l. isAnswer (judged l)) (list-front t long))
+      pub bad-length : ((size t - fixedBytes (kind t)) % 8 ≡ 0 → ⊥) → bad front ≡ true
+      bad-length h = length-wrong true (rest false (ne-eqb ((size t - fixedBytes (kind t)) % 8) 0 h))
+
+      pub bad-shape : (size t - fixedBytes (kind t)) % 8 ≡ 0 → otherKind (kind t) ≡ false
+          → bad front ≡ not (isAnswer (judged (wordsAt ((size t - fixedBytes (kind t)) / 4) t (1 + fixedBytes (kind t)))))
+      unfolding list
+      bad-shape even known =
+          length-wrong false (rest true (eq-eqb ((size t - fixedBytes (kind t)) % 8) 0 even))
+          ∙ ap₂ (λ (x : Bool) (l : List ℤ). x || not (isAnswer (judged l))) (ap otherKind (kind-front t least) ∙ known)
+          (ap (λ (x : Floored). x .list) (content-front t long))
 
 -- ---- the pass
 

@@ -2,11 +2,10 @@
 -- their lists applies.
 --     sweep-rearranged      points in another order are answered, written and refused alike
 --     sweep-merge           the corners of two shapes are swept as they are merged
-use mathlib.Core.Path.{_≡_, refl, sym, _∙_, ap}
+use mathlib.Core.Path.{_≡_, refl, sym, _∙_, ap, ap₂}
 use mathlib.Core.Bool.{Bool, true, false, _||_}
-use mathlib.Core.List.{List, [], _∷_, _++_, List·Permᴰ, List·Permᴰ·nil, List·Permᴰ·cons, List·Permᴰ·swap, List·Permᴰ·trans, Permᴰ·symm}
-use mathlib.Core.List.{List·Memᴰ·head, List·Memᴰ·tail}
-use Prim.Native.Nat.{_+_, _*_, _%_, _≤_}
+use mathlib.Core.List.{List, [], _∷_, _++_, List·Permᴰ, Permᴰ·symm}
+use Prim.Native.Nat.{ℕ, _+_, _*_, _%_, _≤_}
 use native.Mathlib.Omega.{arith}
 use lib.Dec.{eqb, ltb}
 use lib.IntN.{ℤ}
@@ -19,25 +18,18 @@ use Rattle.plane.specs.Corner.{shapeOf}
 use Rattle.plane.specs.Output.{written, answerRows}
 use Rattle.plane.specs.Combine.{mergeWritten}
 use Rattle.plane.specs.Sweep.{tooManyPoints, roomRows, ValidPoints, sweepWritten}
-use Rattle.plane.specs.theory.lists.Members.{_⊆_}
 use Rattle.plane.specs.theory.lists.Flat.{points-numbers, numbers-length}
+use Rattle.plane.specs.Floor.{Floored, writtenOn}
 use Rattle.plane.specs.theory.refusals.Write.{written-passed}
+use Rattle.plane.specs.theory.refusals.Floors.{Same, written-same}
 use Rattle.plane.specs.theory.refusals.Accept.{near→inRange, valid→accepted}
 use Rattle.plane.specs.theory.hull.ShapeOf.{shapeOf-same}
 use Rattle.plane.specs.theory.sweep.Few.{list-near, subset-near, append-near}
 use Rattle.plane.specs.theory.sweep.SweepWritten.{sweep-answered}
-use Rattle.laws.specs.theory.Whole.{order-length}
+use Rattle.laws.specs.Grouping.{corners, ShapeOn, mergeCall}
+use Rattle.laws.specs.theory.Order.{order-length, order-member}
 
 -- ---- another order
-
-order-within : {S T : List Point} → List·Permᴰ S T → S ⊆ T
-order-within List·Permᴰ·nil p m = m
-order-within (List·Permᴰ·cons e d) p (List·Memᴰ·head f) = List·Memᴰ·head (f ∙ e)
-order-within (List·Permᴰ·cons e d) p (List·Memᴰ·tail m) = List·Memᴰ·tail (order-within d p m)
-order-within (List·Permᴰ·swap e f) p (List·Memᴰ·head g) = List·Memᴰ·tail (List·Memᴰ·head (g ∙ e))
-order-within (List·Permᴰ·swap e f) p (List·Memᴰ·tail (List·Memᴰ·head g)) = List·Memᴰ·head (g ∙ f)
-order-within (List·Permᴰ·swap e f) p (List·Memᴰ·tail (List·Memᴰ·tail m)) = List·Memᴰ·tail (List·Memᴰ·tail m)
-order-within (List·Permᴰ·trans c d) p m = order-within d p (order-within c p m)
 
 -- two tests of which each is false where the other is
 same-test : (s t : Bool) → (s ≡ false → t ≡ false) → (t ≡ false → s ≡ false) → s ≡ t
@@ -48,7 +40,7 @@ same-test false t f g = sym (f refl)
 module _ (S T : List Point) (order : List·Permᴰ S T) where
   same-outside : someOutside (numbers S) ≡ someOutside (numbers T)
   same-outside = same-test (someOutside (numbers S)) (someOutside (numbers T))
-      (λ h. subset-near (order-within (Permᴰ·symm order)) h) (λ h. subset-near (order-within order) h)
+      (λ h. subset-near (order-member (Permᴰ·symm order)) h) (λ h. subset-near (order-member order) h)
 
   same-count : badCount (numbers S) ≡ badCount (numbers T)
   unfolding badCount
@@ -59,7 +51,7 @@ module _ (S T : List Point) (order : List·Permᴰ S T) where
   same-many = ap (ltb maxPoints) (ap length (points-numbers S) ∙ order-length order ∙ sym (ap length (points-numbers T)))
 
   same-shape : shapeOf (points (numbers S)) ≡ shapeOf (points (numbers T))
-  same-shape = ap shapeOf (points-numbers S) ∙ shapeOf-same S T (order-within order) (order-within (Permᴰ·symm order))
+  same-shape = ap shapeOf (points-numbers S) ∙ shapeOf-same S T (order-member order) (order-member (Permᴰ·symm order))
       ∙ sym (ap shapeOf (points-numbers T))
 
   pub sweep-rearranged : (out : List ℤ) → sweepWritten (numbers S) out ≡ sweepWritten (numbers T) out
@@ -71,33 +63,41 @@ module _ (S T : List Point) (order : List·Permᴰ S T) where
 -- ---- the corners of two shapes
 
 module _ (a b : List ℤ) (v : Valid a) (w : Valid b) (few : length (points a) + length (points b) ≤ maxPoints) where
-  abbrev corners : List Point
-  corners = points a ++ points b
+  abbrev both : List Point
+  both = points a ++ points b
 
-  listed : ValidPoints (numbers corners)
+  listed : ValidPoints (numbers both)
   listed = record {
-    paired = omega (arith, numbers-length corners);
+    paired = omega (arith, numbers-length both);
     some = omega (arith, counted, v .shape .some);
     few = omega (arith, counted);
-    inRange = near→inRange (numbers corners)
+    inRange = near→inRange (numbers both)
         (append-near (points a) (points b) (list-near a (v .paired) (v .inRange)) (list-near b (w .paired) (w .inRange)));
   }
     where
-      counted : length (points (numbers corners)) ≡ length (points a) + length (points b)
-      counted = ap length (points-numbers corners) ∙ length-append (points a) (points b)
+      counted : length (points (numbers both)) ≡ length (points a) + length (points b)
+      counted = ap length (points-numbers both) ∙ length-append (points a) (points b)
 
   -- behind the rows of the lists, which do not apply, both answer the same shape
-  swept : (out : List ℤ) → sweepWritten (numbers corners) out ≡ mergeWritten a b out
+  swept : (out : List ℤ) → sweepWritten (numbers both) out ≡ mergeWritten a b out
   unfolding mergeWritten
   swept out =
-      sym (sweep-answered (numbers corners) listed out)
-      ∙ ap (λ ps. written (answerRows (shapeOf ps) out) (shapeOf ps) out) (points-numbers corners)
+      sym (sweep-answered (numbers both) listed out)
+      ∙ ap (λ ps. written (answerRows (shapeOf ps) out) (shapeOf ps) out) (points-numbers both)
       ∙ sym (written-passed (shapeRows 1 a) (shapeRows 2 b ++ answerRows shape out) shape out (valid→accepted a 1 v)
       ∙ written-passed (shapeRows 2 b) (answerRows shape out) shape out (valid→accepted b 2 w))
     where
       shape : List Point
-      shape = shapeOf corners
+      shape = shapeOf both
 
-  pub sweep-merge : (S : List Point) → List·Permᴰ S (points a ++ points b) → (out : List ℤ)
+  swept-as-merged : (S : List Point) → List·Permᴰ S (points a ++ points b) → (out : List ℤ)
       → sweepWritten (numbers S) out ≡ mergeWritten a b out
-  sweep-merge S order out = sweep-rearranged S (points a ++ points b) order out ∙ swept out
+  swept-as-merged S order out = sweep-rearranged S (points a ++ points b) order out ∙ swept out
+
+module _ (f : ℕ) (a b : Floored) (v : ShapeOn f a) (w : ShapeOn f b) (few : length (corners a) + length (corners b) ≤ maxPoints) where
+  pub sweep-merge : (S : List Point) → List·Permᴰ S (corners a ++ corners b) → (out : List ℤ)
+      → writtenOn f (sweepWritten (numbers S) out) ≡ mergeCall a b out
+  sweep-merge S order out =
+      let one : Same a b = record { first-valid = v .valid; second-valid = w .valid; one-floor = v .onFloor ∙ sym (w .onFloor) } in
+      ap₂ writtenOn (sym (v .onFloor)) (swept-as-merged (a .list) (b .list) (v .valid) (w .valid) few S order out)
+      ∙ sym (written-same one mergeWritten out)

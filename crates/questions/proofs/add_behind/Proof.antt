@@ -13,13 +13,13 @@ use Rattle.questions.proofs.add_behind.Tie as tie
 
 -- the record has room
 room : (c : tie.Else1) → let args = c .before .before .before .before .args in
-    args .end + length (recorded (args .name) (args .list .now)) ≤ length (args .log .now)
+    args .end + length (recorded (args .name) (args .floor) (args .list .now)) ≤ length (args .log .now)
 room c =
     let start = c .before .before .before .before in
     let args = start .args in
     let end = start .pre .2 in
-    let large = ltb-false (length (args .log .now) - args .end) (length (recorded (args .name) (args .list .now)))
-    (sym (c .before .is-full .ensures (args .name)) ∙ c .if1 .left) in
+    let large = ltb-false (length (args .log .now) - args .end) (length (recorded (args .name) (args .floor) (args .list .now)))
+    (sym (c .before .is-full .ensures (args .name) (args .floor)) ∙ c .if1 .left) in
     omega (arith, large, end, end-le (args .log .now))
 
 is-full-requires : tie.Need-is-full-requires
@@ -35,9 +35,9 @@ returns c =
     let start = c .before .before .before .before in
     let args = start .args in
     let end = start .pre .2 in
-    let small = ltb-true (length (args .log .now) - args .end) (length (recorded (args .name) (args .list .now)))
-    (sym (c .before .is-full .ensures (args .name)) ∙ c .if1 .taken) in
-    add-full _ _ _ _ (start .pre .0) (start .pre .1) (omega (arith, small, end))
+    let small = ltb-true (length (args .log .now) - args .end) (length (recorded (args .name) (args .floor) (args .list .now)))
+    (sym (c .before .is-full .ensures (args .name) (args .floor)) ∙ c .if1 .taken) in
+    add-full _ _ _ _ _ (start .pre .0) (start .pre .1) (omega (arith, small, end))
 
 add-requires : tie.Need-add-requires
 add-requires c κs = (c .before .before .before .before .before .pre .2, room (c .before))
@@ -51,7 +51,7 @@ returns-2 c =
     let at-room = at-add .before .before in
     let start = at-room .before .before .before .before in
     let end = start .pre .2 in
-    add-done _ _ _ _ (start .pre .0) (start .pre .1) (omega (arith, room at-room, end)) (c .if2 .taken) (at-add .add .ensures .0)
+    add-done _ _ _ _ _ (start .pre .0) (start .pre .1) (omega (arith, room at-room, end)) (c .if2 .taken) (at-add .add .ensures .0)
     (at-add .add .ensures .1)
 
 same-length-3 : tie.Need-same-length-3
@@ -63,7 +63,7 @@ returns-3 c =
     let at-room = at-add .before .before in
     let start = at-room .before .before .before .before in
     let end = start .pre .2 in
-    add-done _ _ _ _ (start .pre .0) (start .pre .1) (omega (arith, room at-room, end)) (c .if2 .left) (at-add .add .ensures .0)
+    add-done _ _ _ _ _ (start .pre .0) (start .pre .1) (omega (arith, room at-room, end)) (c .if2 .left) (at-add .add .ensures .0)
     (at-add .add .ensures .1)
 
 pub add-behind-spec : {M : Type 1} → statement M

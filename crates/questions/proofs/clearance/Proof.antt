@@ -1,30 +1,38 @@
 -- `clearance` meets its contract: a list is refused, or the shapes are placed, and the nearest candidate sought if they are apart.
 use mathlib.Core.Path.{_≡_, sym, _∙_, ap, subst}
-use mathlib.Core.List.{List, [], _∷_, _++_}
+use mathlib.Core.List.{List, [], _∷_}
 use mathlib.Core.Bool.{Bool, true, cond}
-use lib.IntN.{pos}
+use lib.IntN.{ℤ, pos}
 use Rattle.plane.specs.Point.{Point, points}
 use Rattle.plane.specs.Reply.{answered}
 use Rattle.plane.specs.Separation.{apart}
 use Rattle.plane.specs.Clearance.{numbersOf, nearest, clearanceReply}
 use Rattle.separation.specs.Place.{placeNumber}
 use Rattle.separation.specs.theory.Around.{related-apart}
-use Rattle.questions.specs.theory.Rows.{pair-answer}
+use Rattle.questions.specs.theory.Rows.{refuses-between, pair-answer, pair-carried}
 use borrow.Author.Needs.{needs}
-use Rattle.plane.specs.Refusal.{shapeRows, Valid}
+use Rattle.plane.specs.Floor.{Floored, on, withFloor, pairRows}
 use Rattle.questions.specs.Answer.{ofRefusal}
+use Rattle.questions.specs.declared.admission.Admission.the-variants as Admission
 use Rattle.questions.specs.Admission.{Refuses, AdmittedPair}
 use Rattle.questions.proofs.Placed.{not-apart}
 use Rattle.questions.proofs.clearance.Statement.{statement}
 use Rattle.questions.proofs.clearance.Tie as tie
 
--- past the judging both lists are shapes
-shapes : (c : tie.After-enum-told) → Valid (c .before .before .before .args .a .now) × Valid (c .before .before .before .args .b .now)
+-- the two shapes
+abbrev one : tie.Start → Floored
+one c = on (c .args .a .now) (c .args .f)
+
+abbrev other : tie.Start → Floored
+other c = on (c .args .b .now) (c .args .g)
+
+-- past the judging they are shapes on one floor
+shapes : (c : tie.After-enum-told) → let start = c .before .before .before in AdmittedPair (one start) (other start) Admission.Valid
 shapes c = subst (AdmittedPair _ _) (c .enum-told .given .1) (c .before .before .admit-pair .ensures)
 
--- before it, one of them is refused
+-- before it, they are refused
 refusal : (c : tie.After-known-told) → let start = c .before .before .before .before in
-    Refuses (shapeRows 1 (start .args .a .now) ++ shapeRows 2 (start .args .b .now)) (ofRefusal (c .before .refusal .given .0 .0))
+    Refuses (pairRows (one start) (other start)) (ofRefusal (c .before .refusal .given .0 .0))
 refusal c = subst (AdmittedPair _ _) (c .before .refusal .given .1) (c .before .before .before .admit-pair .ensures)
 
 admit-pair-requires : tie.Need-admit-pair-requires
@@ -37,11 +45,10 @@ enum-told : tie.Need-enum-told
 enum-told c = search needs
 
 returns : tie.Need-returns
-unfolding clearanceReply
-returns c = refusal c .whatever _
+returns c = let start = c .before .before .before .before in refuses-between (one start) (other start) (refusal c) clearanceReply
 
 relation-requires : tie.Need-relation-requires
-relation-requires c κs = shapes c
+relation-requires c κs = let both = shapes c in (both .0, both .1)
 
 enum-told-2 : tie.Need-enum-told-2
 enum-told-2 c = search needs
@@ -56,19 +63,18 @@ unfolding clearanceReply
 returns-2 c =
     let at-place = c .before in
     let both = shapes (at-place .before) in
-    apart-numbers _ _ (not-apart _ _ (at-place .relation .result) (c .match2 .keys2) (at-place .relation .ensures))
-    ∙ pair-answer _ (both .0) _ (both .1) _
+    let start = at-place .before .before .before .before in
+    pair-carried (one start) (other start) both clearanceReply
+    (apart-numbers _ _ (not-apart _ _ (at-place .relation .result) (c .match2 .keys2) (at-place .relation .ensures))
+    ∙ pair-answer _ (both .0) _ (both .1) _)
 
 -- past the relation the shapes are apart
 ready : (c : tie.After-enum-told2) → let args = c .before .before .before .before .before .before .args in
-    Valid (args .a .now) × Valid (args .b .now) × (apart (points (args .a .now)) (points (args .b .now)) ≡ true)
-ready c =
-    let at-place = c .before .before in
-    let both = shapes (at-place .before) in
-    (both .0, both .1, related-apart _ _ (ap placeNumber (sym (c .enum-told2 .given .1)) ∙ at-place .relation .ensures))
+    apart (points (args .a .now)) (points (args .b .now)) ≡ true
+ready c = related-apart _ _ (ap placeNumber (sym (c .enum-told2 .given .1)) ∙ c .before .before .relation .ensures)
 
 nearest-requires : tie.Need-nearest-requires
-nearest-requires c κs = ready c
+nearest-requires c κs = let both = shapes (c .before .before .before) in (both .0, both .1, ready c)
 
 measured-requires : tie.Need-measured-requires
 measured-requires c κs = search needs
@@ -76,8 +82,12 @@ measured-requires c κs = search needs
 returns-3 : tie.Need-returns-3
 unfolding clearanceReply
 returns-3 c =
-    let r = ready (c .before .before) in
-    c .measured .ensures ∙ ap answered (c .before .nearest .ensures) ∙ apart-numbers _ _ (r .2) ∙ pair-answer _ (r .0) _ (r .1) _
+    let at-told = c .before .before in
+    let both = shapes (at-told .before .before .before) in
+    let start = at-told .before .before .before .before .before .before in
+    c .measured .ensures ∙ ap (λ (vs : List ℤ). withFloor (start .args .f) (answered vs)) (c .before .nearest .ensures)
+    ∙ pair-carried (one start) (other start) both clearanceReply
+    (apart-numbers _ _ (ready at-told) ∙ pair-answer _ (both .0) _ (both .1) _)
 
 pub clearance-spec : {M : Type 1} → statement M
 clearance-spec =

@@ -14,12 +14,13 @@ use Rattle.plane.specs.Forms.{NonZero}
 use Rattle.plane.specs.Direction.{support}
 use Rattle.plane.specs.Face.{faceFirst, faceLast}
 use Rattle.plane.specs.Reply.{answered}
+use Rattle.plane.specs.Floor.{withFloor}
 use Rattle.plane.specs.Furthest.{badDirection, directionRows, furthestReply}
 use Rattle.plane.specs.theory.support.Bounds.{support-size}
 use Rattle.polygon.specs.Point.{Small}
 use Rattle.polygon.specs.theory.Small.{small-wide}
 use Rattle.polygon.specs.theory.Furthest.{direction-near, direction-some, furthest-refused, furthest-answered}
-use Rattle.questions.specs.theory.Rows.{refuses-more}
+use Rattle.questions.specs.theory.Rows.{refuses-more, refuses-carried}
 use borrow.Author.Needs.{needs}
 use Rattle.plane.specs.Refusal.{shapeRows, Valid}
 use Rattle.questions.specs.Answer.{ofRefusal}
@@ -58,13 +59,14 @@ returns : tie.Need-returns
 unfolding furthestReply
 returns c =
     let args = c .before .before .before .before .args in
-    refuses-more (refusal c) (directionRows (point (args .u) (args .v))) _
+    refuses-carried (refusal c) (args .floor) (refuses-more (refusal c) (directionRows (point (args .u) (args .v))) _)
 
 bad-direction-requires : tie.Need-bad-direction-requires
 bad-direction-requires c κs = search needs
 
 returns-2 : tie.Need-returns-2
-returns-2 c = furthest-refused _ (valid (c .before .before)) _ (sym (bad-is (c .before)) ∙ c .if1 .taken)
+returns-2 c = ap (withFloor (c .before .before .before .before .before .args .floor))
+    (furthest-refused _ (valid (c .before .before)) _ (sym (bad-is (c .before)) ∙ c .if1 .taken))
 
 face-towards-requires : tie.Need-face-towards-requires
 face-towards-requires c κs =
@@ -92,7 +94,7 @@ returns-3 c =
     let small = known (face .1 .1 ∙ ap (λ (d : Point). support d ps) (direction-is start))
     (support-size _ (v .inRange) (near .0) (near .1) (v .shape .some)) in
     let value = machine-is (machine-read w64 _ small) tt in
-    told first last value ∙ furthest-answered _ v _ good
+    ap (withFloor (start .args .floor)) (told first last value ∙ furthest-answered _ v _ good)
 
 pub furthest-spec : {M : Type 1} → statement M
 furthest-spec =

@@ -5,21 +5,29 @@ use mathlib.Core.List.{[], _∷_, _++_}
 use lib.IntN.{pos}
 use Rattle.plane.specs.Reply.{answered}
 use Rattle.plane.specs.Separation.{insideReply}
-use Rattle.questions.specs.theory.Rows.{pair-answer}
+use Rattle.questions.specs.theory.Rows.{refuses-between, pair-answer, pair-carried}
 use borrow.Author.Needs.{needs}
-use Rattle.plane.specs.Refusal.{shapeRows, Valid}
+use Rattle.plane.specs.Floor.{Floored, on, pairRows}
 use Rattle.questions.specs.Answer.{ofRefusal}
+use Rattle.questions.specs.declared.admission.Admission.the-variants as Admission
 use Rattle.questions.specs.Admission.{Refuses, AdmittedPair}
 use Rattle.questions.proofs.inside.Statement.{statement}
 use Rattle.questions.proofs.inside.Tie as tie
 
--- past the judging both lists are shapes
-shapes : (c : tie.After-enum-told) → Valid (c .before .before .before .args .a .now) × Valid (c .before .before .before .args .b .now)
+-- the two shapes
+abbrev one : tie.Start → Floored
+one c = on (c .args .a .now) (c .args .f)
+
+abbrev other : tie.Start → Floored
+other c = on (c .args .b .now) (c .args .g)
+
+-- past the judging they are shapes on one floor
+shapes : (c : tie.After-enum-told) → let start = c .before .before .before in AdmittedPair (one start) (other start) Admission.Valid
 shapes c = subst (AdmittedPair _ _) (c .enum-told .given .1) (c .before .before .admit-pair .ensures)
 
--- before it, one of them is refused
+-- before it, they are refused
 refusal : (c : tie.After-known-told) → let start = c .before .before .before .before in
-    Refuses (shapeRows 1 (start .args .a .now) ++ shapeRows 2 (start .args .b .now)) (ofRefusal (c .before .refusal .given .0 .0))
+    Refuses (pairRows (one start) (other start)) (ofRefusal (c .before .refusal .given .0 .0))
 refusal c = subst (AdmittedPair _ _) (c .before .refusal .given .1) (c .before .before .before .admit-pair .ensures)
 
 admit-pair-requires : tie.Need-admit-pair-requires
@@ -32,17 +40,18 @@ enum-told : tie.Need-enum-told
 enum-told c = search needs
 
 returns : tie.Need-returns
-unfolding insideReply
-returns c = refusal c .whatever _
+returns c = let start = c .before .before .before .before in refuses-between (one start) (other start) (refusal c) insideReply
 
 inside-requires : tie.Need-inside-requires
-inside-requires c κs = shapes c
+inside-requires c κs = let both = shapes c in (both .0, both .1)
 
 returns-2 : tie.Need-returns-2
 unfolding insideReply
 returns-2 c =
     let both = shapes (c .before) in
-    ap (λ (t : Bool). answered (cond t (pos 1) (pos 0) ∷ [])) (c .inside .ensures) ∙ pair-answer _ (both .0) _ (both .1) _
+    let start = c .before .before .before .before in
+    pair-carried (one start) (other start) both insideReply
+    (ap (λ (t : Bool). answered (cond t (pos 1) (pos 0) ∷ [])) (c .inside .ensures) ∙ pair-answer _ (both .0) _ (both .1) _)
 
 pub inside-spec : {M : Type 1} → statement M
 inside-spec = tie.close (tie.spec admit-pair-requires enum-known-refusal returns enum-told inside-requires returns-2)

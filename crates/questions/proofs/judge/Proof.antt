@@ -4,8 +4,9 @@ use mathlib.Core.List.{[], _∷_}
 use Prim.Native.Nat.{ℕ}
 use lib.IntN.{pos}
 use Rattle.plane.specs.Reply.{answered}
+use Rattle.plane.specs.Floor.{withFloor}
 use Rattle.plane.specs.Judge.{judged}
-use Rattle.questions.specs.theory.Rows.{valid-answer}
+use Rattle.questions.specs.theory.Rows.{valid-answer, refuses-carried}
 use borrow.Author.Needs.{needs}
 use Rattle.plane.specs.Refusal.{shapeRows, Valid}
 use Rattle.questions.specs.Answer.{ofRefusal}
@@ -33,14 +34,15 @@ enum-told c = search needs
 
 returns : tie.Need-returns
 unfolding judged
-returns c = refusal c .whatever _
+returns c = refuses-carried (refusal c) (c .before .before .before .before .args .floor) (refusal c .whatever _)
 
 count-requires : tie.Need-count-requires
 count-requires c κs = search needs
 
 returns-2 : tie.Need-returns-2
 unfolding judged
-returns-2 c = ap (λ (n : ℕ). answered (pos n ∷ [])) (c .count .ensures) ∙ valid-answer _ (valid (c .before)) _
+returns-2 c = ap (withFloor (c .before .before .before .before .args .floor))
+    (ap (λ (n : ℕ). answered (pos n ∷ [])) (c .count .ensures) ∙ valid-answer _ (valid (c .before)) _)
 
 pub judge-spec : {M : Type 1} → statement M
 judge-spec = tie.close (tie.spec admit-requires enum-known-refusal returns enum-told count-requires returns-2)

@@ -1,5 +1,7 @@
 -- `length` meets its contract: the list is refused, or its furthest pair of corners sought.
-use mathlib.Core.Path.{subst}
+use mathlib.Core.Path.{ap, subst}
+use Rattle.plane.specs.Floor.{withFloor}
+use Rattle.questions.specs.theory.Rows.{refuses-carried}
 use Rattle.questions.specs.theory.Measures.{length-refused, length-answered}
 use borrow.Author.Needs.{needs}
 use Rattle.plane.specs.Refusal.{shapeRows, Valid}
@@ -27,13 +29,14 @@ enum-told : tie.Need-enum-told
 enum-told c = search needs
 
 returns : tie.Need-returns
-returns c = length-refused _ (refusal c)
+returns c = refuses-carried (refusal c) (c .before .before .before .before .args .floor) (length-refused _ (refusal c))
 
 furthest-pair-requires : tie.Need-furthest-pair-requires
 furthest-pair-requires c κs = valid c
 
 returns-2 : tie.Need-returns-2
-returns-2 c = length-answered _ (valid (c .before)) (c .furthest-pair .ensures)
+returns-2 c = ap (withFloor (c .before .before .before .before .args .floor))
+    (length-answered _ (valid (c .before)) (c .furthest-pair .ensures))
 
 pub length-spec : {M : Type 1} → statement M
 length-spec = tie.close (tie.spec admit-requires enum-known-refusal returns enum-told furthest-pair-requires returns-2)

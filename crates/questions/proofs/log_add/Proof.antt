@@ -25,7 +25,7 @@ enum-known-refusal : tie.Need-enum-known-refusal
 enum-known-refusal c = search needs
 
 returns : tie.Need-returns
-returns c = add-refused _ _ _ _ (refusal c)
+returns c = add-refused _ _ _ _ _ (refusal c)
 
 enum-told : tie.Need-enum-told
 enum-told c = search needs
@@ -51,7 +51,7 @@ same-length c = search needs
 returns-2 : tie.Need-returns-2
 returns-2 c =
     let at-place = c .before in
-    add-damaged _ _ _ _ (valid (at-place .before .before .before .before)) _
+    add-damaged _ _ _ _ _ (valid (at-place .before .before .before .before)) _
     (sym (at-place .before .before .survey .ensures) ∙ at-place .place .given .1)
 
 same-length-2 : tie.Need-same-length-2

@@ -15,9 +15,9 @@ use Rattle.questions.proofs.log_read.Tie as tie
 sound : (c : tie.After-enum-told) → damaged (records (c .before .before .before .before .args .log .now)) ≡ false
 sound c = surveyed-ends _ (c .enum-told .given .0 .0) (sym (c .before .before .survey .ensures) ∙ c .enum-told .given .1) .0
 
--- past the search, the place and the count of numbers are those of the latest record
+-- past the search, the place, the count of numbers and the floor are those of the latest record
 found : (c : tie.After-place2) → let start = c .before .before .before .before .before .before .before in
-    LatestAt (start .args .name) (start .args .log .now) (c .place2 .given .0 .0) (c .place2 .given .0 .1 .0)
+    LatestAt (start .args .name) (start .args .log .now) (c .place2 .given .0 .0) (c .place2 .given .0 .1 .0) (c .place2 .given .0 .1 .1 .0)
 found c = subst (Latest _ _) (c .place2 .given .1) (c .before .before .latest .ensures)
 
 survey-requires : tie.Need-survey-requires
@@ -49,7 +49,7 @@ returns-2 c =
 returns-3 : tie.Need-returns-3
 returns-3 c =
     let at-found = c .before .before in
-    read-room _ _ _ (sound (at-found .before .before .before)) _ _ (found at-found) (c .if1 .taken)
+    read-room _ _ _ (sound (at-found .before .before .before)) _ _ _ (found at-found) (c .if1 .taken)
 
 decode-requires : tie.Need-decode-requires
 decode-requires c κs = (found (c .before .before .before) .inside, omega (arith, c .before .if1 .left))
@@ -61,7 +61,7 @@ returns-4 : tie.Need-returns-4
 returns-4 c =
     let at-room = c .before .before .before in
     let at-found = at-room .before .before in
-    read-found _ _ _ (sound (at-found .before .before .before)) _ _ (found at-found) (omega (arith, at-room .if1 .left))
+    read-found _ _ _ (sound (at-found .before .before .before)) _ _ _ (found at-found) (omega (arith, at-room .if1 .left))
     (c .before .decode .ensures)
 
 pub log-read-spec : {M : Type 1} → statement M

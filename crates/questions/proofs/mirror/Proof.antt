@@ -1,9 +1,10 @@
 -- `mirror` meets its contract: the list is refused, or its output is too small, or the image is written.
-use mathlib.Core.Path.{_≡_, subst}
+use mathlib.Core.Path.{_≡_, ap, subst}
 use Prim.Native.Nat.{_*_}
 use native.Mathlib.Omega.{arith}
 use lib.ListN.{length}
 use Rattle.plane.specs.Point.{points}
+use Rattle.plane.specs.Floor.{withFloor}
 use Rattle.plane.specs.theory.lists.Flat.{points-length}
 use Rattle.plane.specs.theory.mirror.MirrorWritten.{mirror-room}
 use Rattle.questions.specs.theory.Delivery.{mirror-refused, mirror-answered}
@@ -33,14 +34,17 @@ enum-told : tie.Need-enum-told
 enum-told c = search needs
 
 returns : tie.Need-returns
-returns c = let args = c .before .before .before .before .args in mirror-refused (args .list .now) (args .out .now) (refusal c)
+returns c = let args = c .before .before .before .before .args in mirror-refused (args .list .now) (args .out .now) (args .floor) (refusal c)
 
 -- twice as many numbers as corners
 doubled : (c : tie.After-enum-told) → let l = c .before .before .before .args .list .now in length l ≡ 2 * length (points l)
 doubled c = omega (arith, points-length (c .before .before .before .args .list .now), valid c .paired)
 
 returns-2 : tie.Need-returns-2
-returns-2 c = mirror-room _ (valid (c .before)) _ (omega (arith, c .if1 .taken, doubled (c .before)))
+returns-2 c =
+    let args = c .before .before .before .before .args in
+    let w = mirror-room (args .list .now) (valid (c .before)) (args .out .now) (omega (arith, c .if1 .taken, doubled (c .before))) in
+    (ap (withFloor (args .floor)) (w .0), w .1)
 
 mirror-requires : tie.Need-mirror-requires
 mirror-requires c κs =
@@ -59,9 +63,9 @@ returns-3 c =
     let at-else = at-mirror .before .before in
     let at-told = at-else .before in
     let args = at-told .before .before .before .args in
-    mirror-answered (args .list .now) (valid at-told) (args .out .now) (omega (arith, at-else .if1 .left, doubled at-told))
-    (c .count .ensures)
-    (at-mirror .mirror .ensures)
+    let w = mirror-answered (args .list .now) (valid at-told) (args .out .now) (omega (arith, at-else .if1 .left, doubled at-told))
+    (c .count .ensures) (at-mirror .mirror .ensures) in
+    (ap (withFloor (args .floor)) (w .0), w .1)
 
 pub mirror-spec : {M : Type 1} → statement M
 mirror-spec =

@@ -1,27 +1,33 @@
 -- `sum` meets its contract: a list is refused, or the shape is made in a buffer and delivered.
-use mathlib.Core.Path.{sym, subst}
-use mathlib.Core.List.{_++_}
+use mathlib.Core.Path.{refl, sym, subst}
 use native.Mathlib.Omega.{arith}
 use Rattle.plane.specs.Limits.{maxCorners}
-use Rattle.plane.specs.Point.{points}
-use Rattle.plane.specs.Corner.{shapeOf, sums}
+use Rattle.plane.specs.Floor.{Floored, on, pairRows}
 use Rattle.plane.specs.Combine.{sumWritten}
 use Rattle.polygon.specs.theory.Fronts.{front-length}
-use Rattle.questions.specs.theory.Delivery.{front-paired, pair-delivered, pair-refused}
+use Rattle.questions.specs.theory.Delivery.{front-paired, pair-delivered}
+use Rattle.questions.specs.theory.Rows.{refuses-output}
 use borrow.Author.Needs.{needs}
-use Rattle.plane.specs.Refusal.{shapeRows, Valid}
 use Rattle.questions.specs.Answer.{ofRefusal}
+use Rattle.questions.specs.declared.admission.Admission.the-variants as Admission
 use Rattle.questions.specs.Admission.{Refuses, AdmittedPair}
 use Rattle.questions.proofs.sum.Statement.{statement}
 use Rattle.questions.proofs.sum.Tie as tie
 
--- past the judging both lists are shapes
-shapes : (c : tie.After-enum-told) → Valid (c .before .before .before .args .a .now) × Valid (c .before .before .before .args .b .now)
+-- the two shapes
+abbrev one : tie.Start → Floored
+one c = on (c .args .a .now) (c .args .f)
+
+abbrev other : tie.Start → Floored
+other c = on (c .args .b .now) (c .args .g)
+
+-- past the judging they are shapes on one floor
+shapes : (c : tie.After-enum-told) → let start = c .before .before .before in AdmittedPair (one start) (other start) Admission.Valid
 shapes c = subst (AdmittedPair _ _) (c .enum-told .given .1) (c .before .before .admit-pair .ensures)
 
--- before it, one of them is refused
+-- before it, they are refused
 refusal : (c : tie.After-known-told) → let start = c .before .before .before .before in
-    Refuses (shapeRows 1 (start .args .a .now) ++ shapeRows 2 (start .args .b .now)) (ofRefusal (c .before .refusal .given .0 .0))
+    Refuses (pairRows (one start) (other start)) (ofRefusal (c .before .refusal .given .0 .0))
 refusal c = subst (AdmittedPair _ _) (c .before .refusal .given .1) (c .before .before .before .admit-pair .ensures)
 
 admit-pair-requires : tie.Need-admit-pair-requires
@@ -34,10 +40,9 @@ enum-told : tie.Need-enum-told
 enum-told c = search needs
 
 returns : tie.Need-returns
-unfolding sumWritten
 returns c =
-    let args = c .before .before .before .before .args in
-    pair-refused (args .a .now) (args .b .now) (shapeOf (sums (points (args .a .now)) (points (args .b .now)))) (args .out .now) (refusal c)
+    let start = c .before .before .before .before in
+    refuses-output (one start) (other start) (refusal c) sumWritten (start .args .out .now)
 
 slice-aggregate-sum : tie.Need-slice-aggregate-sum
 slice-aggregate-sum c = search needs
@@ -66,9 +71,8 @@ unfolding sumWritten
 returns-2 c =
     let at-made = c .before .before .before .before .before in
     let at-told = at-made .before .before in
-    let args = at-told .before .before .before .args in
-    let both = shapes at-told in
-    pair-delivered (at-made .sum .ensures) (args .a .now) (args .b .now) (both .0) (both .1) (args .out .now)
+    let start = at-told .before .before .before in
+    pair-delivered (at-made .sum .ensures) (one start) (other start) (shapes at-told) sumWritten (start .args .out .now) refl
     (c .before .deliver .ensures .0) (c .before .deliver .ensures .1)
 
 pub sum-spec : {M : Type 1} → statement M

@@ -30,7 +30,7 @@ enum-told : tie.Need-enum-told
 enum-told c = search needs
 
 returns : tie.Need-returns
-returns c = let args = c .before .before .before .before .args in sweep-refused (args .list .now) (args .out .now) (refusal c)
+returns c = let args = c .before .before .before .before .args in sweep-refused (args .list .now) (args .out .now) (args .floor) (refusal c)
 
 slice-aggregate-sweep : tie.Need-slice-aggregate-sweep
 slice-aggregate-sweep c = search needs
@@ -59,8 +59,8 @@ returns-2 c =
     let at-made = c .before .before .before .before .before in
     let at-told = at-made .before .before in
     let args = at-told .before .before .before .args in
-    sweep-delivered (args .list .now) (at-made .sweep .ensures) (valid at-told) (args .out .now) (c .before .deliver .ensures .0)
-    (c .before .deliver .ensures .1)
+    sweep-delivered (args .list .now) (at-made .sweep .ensures) (valid at-told) (args .out .now) (args .floor)
+    (c .before .deliver .ensures .0) (c .before .deliver .ensures .1)
 
 pub sweep-spec : {M : Type 1} → statement M
 sweep-spec =

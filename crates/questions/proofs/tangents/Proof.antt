@@ -1,28 +1,38 @@
 -- `tangents` meets its contract: a list is refused, or the shapes are not apart, or the four lines are sought.
 use mathlib.Core.Path.{_≡_, sym, _∙_, ap, subst}
 use mathlib.Core.Bool.{true}
-use mathlib.Core.List.{_++_}
 use borrow.Author.Needs.{needs}
 use Rattle.plane.specs.Point.{points}
-use Rattle.plane.specs.Refusal.{shapeRows, Valid}
+use Rattle.plane.specs.Refusal.{Valid}
+use Rattle.plane.specs.Floor.{Floored, on, pairRows}
+use Rattle.plane.specs.Tangent.{tangentsReply}
 use Rattle.plane.specs.Separation.{apart}
 use Rattle.separation.specs.Place.{placeNumber}
 use Rattle.separation.specs.theory.Around.{related-apart}
 use Rattle.tangents.specs.theory.Rows.{tangents-refused}
 use Rattle.questions.specs.Answer.{ofRefusal}
+use Rattle.questions.specs.declared.admission.Admission.the-variants as Admission
 use Rattle.questions.specs.Admission.{Refuses, AdmittedPair}
-use Rattle.questions.specs.theory.Lines.{tangents-faulty, tangents-found}
+use Rattle.questions.specs.theory.Rows.{refuses-between, pair-carried}
+use Rattle.questions.specs.theory.Lines.{tangents-found}
 use Rattle.questions.proofs.Placed.{not-apart}
 use Rattle.questions.proofs.tangents.Statement.{statement}
 use Rattle.questions.proofs.tangents.Tie as tie
 
--- past the judging both lists are shapes
-shapes : (c : tie.After-enum-told) → Valid (c .before .before .before .args .a .now) × Valid (c .before .before .before .args .b .now)
+-- the two shapes
+abbrev one : tie.Start → Floored
+one c = on (c .args .a .now) (c .args .f)
+
+abbrev other : tie.Start → Floored
+other c = on (c .args .b .now) (c .args .g)
+
+-- past the judging they are shapes on one floor
+shapes : (c : tie.After-enum-told) → let start = c .before .before .before in AdmittedPair (one start) (other start) Admission.Valid
 shapes c = subst (AdmittedPair _ _) (c .enum-told .given .1) (c .before .before .admit-pair .ensures)
 
--- before it, one of them is refused
+-- before it, they are refused
 refusal : (c : tie.After-known-told) → let start = c .before .before .before .before in
-    Refuses (shapeRows 1 (start .args .a .now) ++ shapeRows 2 (start .args .b .now)) (ofRefusal (c .before .refusal .given .0 .0))
+    Refuses (pairRows (one start) (other start)) (ofRefusal (c .before .refusal .given .0 .0))
 refusal c = subst (AdmittedPair _ _) (c .before .refusal .given .1) (c .before .before .before .admit-pair .ensures)
 
 admit-pair-requires : tie.Need-admit-pair-requires
@@ -35,10 +45,10 @@ enum-told : tie.Need-enum-told
 enum-told c = search needs
 
 returns : tie.Need-returns
-returns c = let args = c .before .before .before .before .args in tangents-faulty (args .a .now) (args .b .now) (refusal c)
+returns c = let start = c .before .before .before .before in refuses-between (one start) (other start) (refusal c) tangentsReply
 
 relation-requires : tie.Need-relation-requires
-relation-requires c κs = shapes c
+relation-requires c κs = let both = shapes c in (both .0, both .1)
 
 enum-told-2 : tie.Need-enum-told-2
 enum-told-2 c = search needs
@@ -48,8 +58,9 @@ returns-2 c =
     let at-place = c .before in
     let both = shapes (at-place .before) in
     let start = at-place .before .before .before .before in
-    sym (tangents-refused (start .args .a .now) (start .args .b .now) (both .0) (both .1)
-    (not-apart _ _ (at-place .relation .result) (c .match2 .keys2) (at-place .relation .ensures)))
+    pair-carried (one start) (other start) both tangentsReply
+    (sym (tangents-refused (start .args .a .now) (start .args .b .now) (both .0) (both .1)
+    (not-apart _ _ (at-place .relation .result) (c .match2 .keys2) (at-place .relation .ensures))))
 
 -- past the relation the shapes are apart
 ready : (c : tie.After-enum-told2) → let args = c .before .before .before .before .before .before .args in
@@ -73,9 +84,12 @@ line-requires-4 c κs = ready (c .before .before .before)
 
 returns-3 : tie.Need-returns-3
 returns-3 c =
-    let r = ready (c .before .before .before .before) in
-    tangents-found _ _ (r .0) (r .1) (r .2) (c .before .before .before .line .ensures) (c .before .before .line2 .ensures)
-    (c .before .line3 .ensures) (c .line4 .ensures)
+    let at-told = c .before .before .before .before in
+    let r = ready at-told in
+    let start = at-told .before .before .before .before .before .before in
+    pair-carried (one start) (other start) (shapes (at-told .before .before .before)) tangentsReply
+    (tangents-found _ _ (r .0) (r .1) (r .2) (c .before .before .before .line .ensures) (c .before .before .line2 .ensures)
+    (c .before .line3 .ensures) (c .line4 .ensures))
 
 pub tangents-spec : {M : Type 1} → statement M
 tangents-spec =

@@ -1,5 +1,7 @@
 -- `width` meets its contract: the list is refused, or is flat, or its narrowest edge sought.
-use mathlib.Core.Path.{subst}
+use mathlib.Core.Path.{ap, subst}
+use Rattle.plane.specs.Floor.{withFloor}
+use Rattle.questions.specs.theory.Rows.{refuses-carried}
 use Prim.Native.Nat.{_≤_}
 use native.Mathlib.Omega.{arith}
 use lib.ListN.{length}
@@ -35,19 +37,23 @@ three : (c : tie.Else1) → 3 ≤ length (points (c .before .before .before .bef
 three c = omega (arith, c .if1 .left, c .before .count .ensures)
 
 returns : tie.Need-returns
-returns c = width-refused _ (refusal c)
+returns c = refuses-carried (refusal c) (c .before .before .before .before .args .floor) (width-refused _ (refusal c))
 
 count-requires : tie.Need-count-requires
 count-requires c κs = search needs
 
 returns-2 : tie.Need-returns-2
-returns-2 c = width-flat _ (valid (c .before .before)) (omega (arith, c .if1 .taken, c .before .count .ensures))
+returns-2 c = ap (withFloor (c .before .before .before .before .before .args .floor))
+    (width-flat _ (valid (c .before .before)) (omega (arith, c .if1 .taken, c .before .count .ensures)))
 
 narrowest-edge-requires : tie.Need-narrowest-edge-requires
 narrowest-edge-requires c κs = (valid (c .before .before), three c)
 
 returns-3 : tie.Need-returns-3
-returns-3 c = let at-else = c .before in width-answered _ (valid (at-else .before .before)) (three at-else) (c .narrowest-edge .ensures)
+returns-3 c =
+    let at-else = c .before in
+    ap (withFloor (at-else .before .before .before .before .before .args .floor))
+    (width-answered _ (valid (at-else .before .before)) (three at-else) (c .narrowest-edge .ensures))
 
 pub width-spec : {M : Type 1} → statement M
 width-spec =

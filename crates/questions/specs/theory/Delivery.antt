@@ -4,7 +4,7 @@
 --     all-delivered       no row does: the numbers are copied
 --     pair-delivered      what is delivered of the front of a buffer, where a shape made of two shapes stands; `front-paired`: its numbers
 --     sweep-delivered     the same where the shape of a sweep stands
---     pair-refused, mirror-refused, sweep-refused     a list is refused; `mirror-answered`: the image is written
+--     mirror-refused, sweep-refused     a list is refused; `mirror-answered`: the image is written
 use mathlib.Core.Path.{_≡_, sym, _∙_, ap, ap₂, subst}
 use mathlib.Core.Bool.{Bool, false}
 use mathlib.Core.List.{List, [], _∷_, _++_}
@@ -20,17 +20,20 @@ use Rattle.plane.specs.Refusal.{tooMany, someOutside, shapeRows, Valid}
 use Rattle.plane.specs.Corner.{shapeOf, mirrored}
 use Rattle.plane.specs.Output.{Written, noRoom, answerRows, overwritten}
 use Rattle.plane.specs.Combine.{mirrorWritten, pairWritten}
+use Rattle.plane.specs.Floor.{Floored, withFloor, writtenBetween}
 use Rattle.plane.specs.Sweep.{pointRows, roomRows, ValidPoints, sweepWritten}
 use Rattle.plane.specs.theory.lists.Flat.{numbers-points}
-use Rattle.plane.specs.theory.refusals.Write.{Wrote, wrote-room, wrote-all}
+use Rattle.plane.specs.theory.refusals.Accept.{valid→accepted}
+use Rattle.plane.specs.theory.refusals.Write.{Wrote, wrote-room, wrote-all, written-passed}
 use Rattle.plane.specs.theory.mirror.Mirror.{topmost, mirror-known}
 use Rattle.plane.specs.theory.mirror.MirrorWritten.{mirror-written}
 use Rattle.plane.specs.theory.sweep.SweepWritten.{sweep-answered}
 use Rattle.polygon.specs.Front.{Front}
 use Rattle.polygon.specs.theory.Fronts.{front-points, front-length}
 use Rattle.questions.specs.Delivery.{delivered}
-use Rattle.questions.specs.Admission.{Refuses}
-use Rattle.questions.specs.theory.Rows.{refuses-written, pair-wrote}
+use Rattle.questions.specs.declared.admission.Admission.the-variants as Admission
+use Rattle.questions.specs.Admission.{Refuses, AdmittedPair}
+use Rattle.questions.specs.theory.Rows.{refuses-written, refuses-carried, pair-written}
 
 module _ (l : List ℤ) (paired : length l % 2 ≡ 0) where
   pub numbers-outside : {t : Bool} → someOutside l ≡ t → someOutside (numbers (points l)) ≡ t
@@ -64,40 +67,42 @@ module _ {ps : List Point} {n : ℕ} {l : List ℤ} (f : Front ps n l) where
   front-paired = omega (arith, front-length f)
 
   -- what is delivered of the front is written of the shape, behind the rows of two shapes
-  pub pair-delivered : (a b : List ℤ) → Valid a → Valid b → (old : List ℤ) {r : Reply} {out : List ℤ}
-      → r ≡ delivered (points (take (2 * n) l)) old .reply → out ≡ delivered (points (take (2 * n) l)) old .output
-      → (r ≡ pairWritten a b ps old .reply) × (out ≡ pairWritten a b ps old .output)
-  pair-delivered a b u v old {r} {out} h k =
-      let w = pair-wrote a u b v
-      (subst (λ s. Wrote (answerRows s old) s old r out) (front-points f) (record { reply-is = h; output-is = k })) in
-      (w .reply-is, w .output-is)
+  pub pair-delivered : (a b : Floored) → AdmittedPair a b Admission.Valid → (question : List ℤ → List ℤ → List ℤ → Written) (old : List ℤ)
+      → pairWritten (a .list) (b .list) ps old ≡ question (a .list) (b .list) old → {r : Reply} {out : List ℤ}
+      → r ≡ withFloor (a .floor) (delivered (points (take (2 * n) l)) old .reply)
+      → out ≡ delivered (points (take (2 * n) l)) old .output
+      → (r ≡ writtenBetween a b question old .reply) × (out ≡ writtenBetween a b question old .output)
+  pair-delivered a b s question old e h k =
+      let passed = written-passed (shapeRows 1 (a .list)) (shapeRows 2 (b .list) ++ answerRows ps old) ps old
+      (valid→accepted (a .list) 1 (s .0))
+      ∙ written-passed (shapeRows 2 (b .list)) (answerRows ps old) ps old (valid→accepted (b .list) 2 (s .1)) in
+      let same = ap (λ qs. delivered qs old) (front-points f) ∙ sym passed ∙ e in
+      pair-written a b s question old (h ∙ ap (λ (w : Written). withFloor (a .floor) (w .reply)) same)
+      (k ∙ ap (λ (w : Written). w .output) same)
 
 -- what is delivered of the front is written of the shape of a sweep
 pub sweep-delivered : (list : List ℤ) {n : ℕ} {l : List ℤ} → Front (shapeOf (points list)) n l → ValidPoints list → (old : List ℤ)
-    {r : Reply} {out : List ℤ} → r ≡ delivered (points (take (2 * n) l)) old .reply → out ≡ delivered (points (take (2 * n) l)) old .output
-    → (r ≡ sweepWritten list old .reply) × (out ≡ sweepWritten list old .output)
-sweep-delivered list f v old h k =
+    (floor : ℕ) {r : Reply} {out : List ℤ} → r ≡ withFloor floor (delivered (points (take (2 * n) l)) old .reply)
+    → out ≡ delivered (points (take (2 * n) l)) old .output
+    → (r ≡ withFloor floor (sweepWritten list old .reply)) × (out ≡ sweepWritten list old .output)
+sweep-delivered list f v old floor h k =
     let same = ap (λ s. delivered s old) (front-points f) ∙ sweep-answered list v old in
-    (h ∙ ap (λ (w : Written). w .reply) same, k ∙ ap (λ (w : Written). w .output) same)
+    (h ∙ ap (λ (w : Written). withFloor floor (w .reply)) same, k ∙ ap (λ (w : Written). w .output) same)
 
 -- a list that is refused: nothing is written
-pub pair-refused : (a b : List ℤ) (shape : List Point) (old : List ℤ) {r : Reply} → Refuses (shapeRows 1 a ++ shapeRows 2 b) r
-    → (r ≡ pairWritten a b shape old .reply) × (old ≡ pairWritten a b shape old .output)
-pair-refused a b shape old f = let w = refuses-written f (answerRows shape old) shape old in (w .reply-is, w .output-is)
-
-pub mirror-refused : (l old : List ℤ) {r : Reply} → Refuses (shapeRows 1 l) r
-    → (r ≡ mirrorWritten l old .reply) × (old ≡ mirrorWritten l old .output)
+pub mirror-refused : (l old : List ℤ) (floor : ℕ) {r : Reply} → Refuses (shapeRows 1 l) r
+    → (r ≡ withFloor floor (mirrorWritten l old .reply)) × (old ≡ mirrorWritten l old .output)
 unfolding mirrorWritten
-mirror-refused l old f =
+mirror-refused l old floor f =
     let shape = shapeOf (mirrored (points l)) in
-    let w = refuses-written f (answerRows shape old) shape old in (w .reply-is, w .output-is)
+    let w = refuses-written f (answerRows shape old) shape old in (refuses-carried f floor (w .reply-is), w .output-is)
 
-pub sweep-refused : (l old : List ℤ) {r : Reply} → Refuses (pointRows l) r
-    → (r ≡ sweepWritten l old .reply) × (old ≡ sweepWritten l old .output)
+pub sweep-refused : (l old : List ℤ) (floor : ℕ) {r : Reply} → Refuses (pointRows l) r
+    → (r ≡ withFloor floor (sweepWritten l old .reply)) × (old ≡ sweepWritten l old .output)
 unfolding sweepWritten
-sweep-refused l old f =
+sweep-refused l old floor f =
     let shape = shapeOf (points l) in
-    let w = refuses-written f (roomRows shape old) shape old in (w .reply-is, w .output-is)
+    let w = refuses-written f (roomRows shape old) shape old in (refuses-carried f floor (w .reply-is), w .output-is)
 
 pub mirror-answered : (l : List ℤ) → Valid l → (old : List ℤ) → 2 * length (points l) ≤ length old → {n : ℕ} {out : List ℤ} → n
     ≡ length (points l)

@@ -1,26 +1,18 @@
 -- The four tangents: what is answered of the lines that the inner function finds.
---     tangents-faulty     a list is refused
 --     tangents-found      the four lines are the answer
 use mathlib.Core.Path.{_≡_, sym, _∙_}
-use mathlib.Core.Bool.{Bool, true, false, not}
-use mathlib.Core.List.{List, [], _∷_, _++_}
+use mathlib.Core.Bool.{Bool, true, false}
+use mathlib.Core.List.{List, [], _∷_}
 use lib.IntN.{ℤ, pos}
 use Rattle.plane.specs.Point.{points}
-use Rattle.plane.specs.Reply.{Reply, answered, row}
-use Rattle.plane.specs.Refusal.{shapeRows, Valid}
+use Rattle.plane.specs.Reply.{answered}
+use Rattle.plane.specs.Refusal.{Valid}
 use Rattle.plane.specs.Separation.{apart}
-use Rattle.plane.specs.Tangent.{tangentFrom, tangentTo, tangentPositions, tangentsReply}
+use Rattle.plane.specs.Tangent.{tangentFrom, tangentTo, tangentsReply}
 use Rattle.tangents.specs.theory.Rows.{tangents-answered}
 use Rattle.questions.specs.declared.answer.Line.{Line}
-use Rattle.questions.specs.Admission.{Refuses}
-use Rattle.questions.specs.theory.Rows.{refuses-more}
 
 module _ (a b : List ℤ) where
-  pub tangents-faulty : {r : Reply} → Refuses (shapeRows 1 a ++ shapeRows 2 b) r → r ≡ tangentsReply a b
-  unfolding tangentsReply
-  tangents-faulty f =
-      refuses-more f (row 9 (not (apart (points a) (points b))) [] ∷ []) (answered (tangentPositions (points a) (points b)))
-
   -- the line with the shapes on these sides
   abbrev IsLine : Bool → Bool → Line → Type 0
   IsLine s t l = (l .from ≡ tangentFrom s t (points a) (points b)) × (l .to ≡ tangentTo s t (points a) (points b))

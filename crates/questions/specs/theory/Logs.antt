@@ -1,7 +1,7 @@
 -- Reading and adding: what is answered of what the inner functions find.
 --     read-damaged, read-missing, read-room, read-found     15, 19, 8, or the corners
 --     add-refused, add-damaged, add-full, add-done          1 to 5, 15, 16, or the stores
-use mathlib.Core.Path.{_≡_, refl, sym, _∙_, ap}
+use mathlib.Core.Path.{_≡_, refl, sym, _∙_, ap, ap₂}
 use mathlib.Core.Bool.{Bool, false, cond}
 use mathlib.Core.List.{List, [], _∷_}
 use Prim.Native.Nat.{ℕ, _-_, _/_, _≤_, _<_}
@@ -43,51 +43,51 @@ module _ (b : List ℕ) (n : ℕ) (out : List ℤ) where
     unfolding readWritten
     read-missing h = (rw (sound, h), rw (sound, h))
 
-    module _ (p c : ℕ) (f : LatestAt n b p c) where
+    module _ (p c f : ℕ) (at : LatestAt n b p c f) where
       abbrev found : List ℤ
-      found = latest n (records b)
+      found = latest n (records b) .list
 
       count : length found ≡ c
-      count = ap length (f .list-is) ∙ wordsAt-length b c p
+      count = ap length (at .list-is) ∙ wordsAt-length b c p
 
       same : numbers (points found) ≡ found
-      same = numbers-points found (omega (arith, count, f .paired))
+      same = numbers-points found (omega (arith, count, at .paired))
 
       pub read-room : length out < c → Read (refused 8 []) out
       unfolding readWritten noRoom
       read-room h =
           let small = lt-ltb (length out) (length (numbers (points found))) (omega (arith, ap length same, count)) in
-          (rw (sound, f .has, small), rw (sound, f .has, small))
+          (rw (sound, at .has, small), rw (sound, at .has, small))
 
-      pub read-found : c ≤ length out → {o : List ℤ} → o ≡ overwritten (wordsAt c b p) out → Read (answered (pos (c / 2) ∷ [])) o
+      pub read-found : c ≤ length out → {o : List ℤ} → o ≡ overwritten (wordsAt c b p) out → Read (answered (pos (c / 2) ∷ pos f ∷ [])) o
       unfolding readWritten noRoom
       read-found h {o} e =
           let large = le-ltb (length out) (length (numbers (points found))) (omega (arith, ap length same, count)) in
           let half : c / 2 ≡ length (points found) = sym (points-length found ∙ ap (λ (k : ℕ). k / 2) count) in (
-            rw (sound, f .has, large) (ap (λ (k : ℕ). answered (pos k ∷ [])) half),
-            rw (sound, f .has, large) (e ∙ ap (λ (l : List ℤ). overwritten l out) (sym (f .list-is) ∙ sym same)),
+            rw (sound, at .has, large) (ap₂ (λ (k m : ℕ). answered (pos k ∷ pos m ∷ [])) half (sym (at .floor-is))),
+            rw (sound, at .has, large) (e ∙ ap (λ (l : List ℤ). overwritten l out) (sym (at .list-is) ∙ sym same)),
           )
 
 -- ---- adding
 
-module _ (b : List ℕ) (n : ℕ) (l : List ℤ) (k : ℕ) where
+module _ (b : List ℕ) (n floor : ℕ) (l : List ℤ) (k : ℕ) where
   -- this reply, with this log
   abbrev Adds : Reply → List ℕ → Type 0
-  Adds r c = (r ≡ added b n l k .reply) × (c ≡ added b n l k .log)
+  Adds r c = (r ≡ added b n floor l k .reply) × (c ≡ added b n floor l k .log)
 
   abbrev all : List ℕ
-  all = made (take k (stores b (recorded n l))) b
+  all = made (take k (stores b (recorded n floor l))) b
 
   -- the log follows from the reply
-  follows : (r : Reply) (c : List ℕ) → r ≡ addReply b n l k → c ≡ unlessRefusal r b all → Adds r c
+  follows : (r : Reply) (c : List ℕ) → r ≡ addReply b n floor l k → c ≡ unlessRefusal r b all → Adds r c
   unfolding added
   follows r c h e = (h, e ∙ ap (λ (x : Reply). unlessRefusal x b all) h)
 
   abbrev full : Row
-  full = row 16 (ltb (length b - end b) (length (recorded n l))) []
+  full = row 16 (ltb (length b - end b) (length (recorded n floor l))) []
 
   abbrev done : Reply
-  done = answered (cond (leb (length (stores b (recorded n l))) k) (pos 1) (pos 0) ∷ [])
+  done = answered (cond (leb (length (stores b (recorded n floor l))) k) (pos 1) (pos 0) ∷ [])
 
   pub add-refused : {r : Reply} → Refuses (shapeRows 1 l) r → Adds r b
   unfolding addReply
@@ -95,7 +95,7 @@ module _ (b : List ℕ) (n : ℕ) (l : List ℤ) (k : ℕ) where
       follows r b (refuses-more f (damageRow b ∷ full ∷ []) done) (ap (λ (x : Reply). unlessRefusal x b all) (sym (refuses-first f .2)))
 
   module _ (v : Valid l) where
-    past : firstRow (damageRow b ∷ full ∷ []) done ≡ addReply b n l k
+    past : firstRow (damageRow b ∷ full ∷ []) done ≡ addReply b n floor l k
     unfolding addReply
     past = valid-passed l v (damageRow b ∷ full ∷ []) done
 
@@ -107,16 +107,16 @@ module _ (b : List ℕ) (n : ℕ) (l : List ℤ) (k : ℕ) where
         follows (refused 15 (p ∷ [])) b (given ∙ past) refl
 
     module _ (sound : damaged (records b) ≡ false) where
-      pub add-full : length b - end b < length (recorded n l) → Adds (refused 16 []) b
+      pub add-full : length b - end b < length (recorded n floor l) → Adds (refused 16 []) b
       add-full h =
-          let small = lt-ltb (length b - end b) (length (recorded n l)) h in
+          let small = lt-ltb (length b - end b) (length (recorded n floor l)) h in
           let given : refused 16 [] ≡ firstRow (damageRow b ∷ full ∷ []) done = rw (sound, small) in
           follows (refused 16 []) b (given ∙ past) refl
 
-      pub add-done : length (recorded n l) ≤ length b - end b → {r t : Bool} {c : List ℕ} → r ≡ t
-          → r ≡ leb (length (stores b (recorded n l))) k → c ≡ all → Adds (answered (cond t (pos 1) (pos 0) ∷ [])) c
+      pub add-done : length (recorded n floor l) ≤ length b - end b → {r t : Bool} {c : List ℕ} → r ≡ t
+          → r ≡ leb (length (stores b (recorded n floor l))) k → c ≡ all → Adds (answered (cond t (pos 1) (pos 0) ∷ [])) c
       add-done h {r} {t} {c} q e w =
-          let large = le-ltb (length b - end b) (length (recorded n l)) h in
+          let large = le-ltb (length b - end b) (length (recorded n floor l)) h in
           let given : answered (cond t (pos 1) (pos 0) ∷ []) ≡ firstRow (damageRow b ∷ full ∷ []) done =
           rw (sound, large) (ap (λ (x : Bool). answered (cond x (pos 1) (pos 0) ∷ [])) (sym q ∙ e)) in
           follows (answered (cond t (pos 1) (pos 0) ∷ [])) c (given ∙ past) w

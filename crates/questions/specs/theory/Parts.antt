@@ -1,7 +1,7 @@
 -- A sum in parts: what is answered of the walk that went on.
---     begin-faulty, begin-surveyed, begin-done      the beginning: a list is refused, the sum is, neither
---     part-faulty, part-off-place, part-surveyed    a part likewise; a walk that is at no place
---     part-little-room, part-done                   no room for its corners; they are written; `part-idle`: there are none
+--     begin-surveyed, begin-done          the beginning of a sum of shapes on one floor: the sum is refused, or not
+--     part-off-place, part-surveyed       a part: the walk is at no place, the sum is refused
+--     part-little-room, part-done         no room for its corners; they are written; `part-idle`: there are none
 use mathlib.Core.Path.{_≡_, refl, sym, _∙_, ap, ap₂}
 use mathlib.Core.Bool.{true, false, not}
 use mathlib.Core.List.{List, [], _∷_, _++_}
@@ -15,6 +15,7 @@ use lib.Seq.{paste}
 use Rattle.plane.specs.Point.{Point, numbers}
 use Rattle.plane.specs.Reply.{Reply, answered, refused, Row, row, firstRow}
 use Rattle.plane.specs.Refusal.{shapeRows, Valid}
+use Rattle.plane.specs.Floor.{withFloor}
 use Rattle.plane.specs.Output.{noRoom, overwritten, unlessRefused}
 use Rattle.plane.specs.theory.lists.Flat.{numbers-length}
 use Rattle.plane.specs.theory.refusals.Accept.{valid→accepted}
@@ -27,7 +28,7 @@ use Rattle.calipers.specs.Part.{partCorners, handedBack, walkNumbers, surveyRow
 use Rattle.calipers.specs.theory.Parts.{part-none}
 use Rattle.questions.specs.declared.admission.Admission.the-variants as Admission
 use Rattle.questions.specs.Admission.{Refuses, Surveyed}
-use Rattle.questions.specs.theory.Rows.{refuses-more, refuses-behind, refuses-row, refuses-written}
+use Rattle.questions.specs.theory.Rows.{refuses-more, refuses-behind, refuses-row, refuses-written, refuses-carried}
 
 module _ (a b : List ℤ) where
   -- the rows of both shapes
@@ -38,10 +39,6 @@ module _ (a b : List ℤ) where
   shapes-pass v w = none-join (shapeRows 1 a) (shapeRows 2 b) (valid→accepted a 1 v) (valid→accepted b 2 w)
 
   -- ---- the beginning
-
-  pub begin-faulty : {r : Reply} → Refuses shapes r → r ≡ beginReply a b
-  unfolding beginReply
-  begin-faulty f = refuses-more f (surveyRows (wholeSum a b)) (answered (walkNumbers begun))
 
   module _ (v : Valid a) (w : Valid b) where
     pub begin-surveyed : {r : Reply} → Refuses (surveyRows (wholeSum a b)) r → r ≡ beginReply a b
@@ -55,10 +52,10 @@ module _ (a b : List ℤ) where
 
   -- ---- a part
 
-  module _ (u : Walk) (k : ℕ) (old : List ℤ) where
-    -- the reply and the whole output
+  module _ (u : Walk) (k : ℕ) (old : List ℤ) (floor : ℕ) where
+    -- the reply, with the floor, and the whole output
     abbrev pub IsPart : Reply → List ℤ → Type 0
-    IsPart r out = (r ≡ partWritten a b u k old .reply) × (out ≡ partWritten a b u k old .output)
+    IsPart r out = (r ≡ withFloor floor (partWritten a b u k old .reply)) × (out ≡ partWritten a b u k old .output)
 
     -- the first rows refuse it
     first-refuse : {vs : List Row} (ws : List Row) {r : Reply} → Refuses vs r → partRows a b u k old ≡ vs ++ ws → IsPart r old
@@ -66,13 +63,10 @@ module _ (a b : List ℤ) where
     first-refuse {vs} ws f e =
         let part = partCorners a b u k in
         let answer = answered (pos (length part) ∷ walkNumbers (handedBack a b u k)) in (
-          refuses-more f ws answer ∙ ap (λ (rs : List Row). firstRow rs answer) (sym e),
+          refuses-carried f floor (refuses-more f ws answer ∙ ap (λ (rs : List Row). firstRow rs answer) (sym e)),
           refuses-written f ws part old .output-is
               ∙ ap (λ (rs : List Row). unlessRefused rs old (overwritten (numbers part) old)) (sym e),
         )
-
-    pub part-faulty : {r : Reply} → Refuses shapes r → IsPart r old
-    part-faulty f = first-refuse _ f refl
 
     module _ (v : Valid a) (w : Valid b) where
       pub part-off-place : isPlace a b u ≡ false → IsPart (refused 14 []) old
@@ -106,7 +100,8 @@ module _ (a b : List ℤ) where
                 (omega (arith, counted, numbers-length (partCorners a b u k)))))) refl
 
             pub part-done : 2 * n ≤ length old → {x : Walk} → x ≡ handedBack a b u k → {out : List ℤ}
-                → out ≡ overwritten (numbers (partCorners a b u k)) old → IsPart (answered (pos n ∷ walkNumbers x)) out
+                → out ≡ overwritten (numbers (partCorners a b u k)) old
+                → IsPart (answered (pos n ∷ walkNumbers x ++ (pos floor ∷ []))) out
             unfolding partWritten noRoom
             part-done h e f =
                 let none = none-join (placed ++ surveyRows (wholeSum a b)) (own ∷ []) surveyed-pass (
@@ -114,13 +109,13 @@ module _ (a b : List ℤ) where
                       (omega (arith, counted, numbers-length (partCorners a b u k))),
                   tt,
                 ) in (
-                  ap₂ (λ (m : ℕ) (y : Walk). answered (pos m ∷ walkNumbers y)) counted e
-                      ∙ sym (firstRow-none (partRows a b u k old) _ none),
+                  ap (withFloor floor) (ap₂ (λ (m : ℕ) (y : Walk). answered (pos m ∷ walkNumbers y)) counted e
+                      ∙ sym (firstRow-none (partRows a b u k old) _ none)),
                   f ∙ sym (none-output (partRows a b u k old) old _ none),
                 )
 
           -- nothing is written
-          pub part-idle : (u .over ≡ true) ⊎ (k ≡ 0) → IsPart (answered (pos 0 ∷ walkNumbers u)) old
+          pub part-idle : (u .over ≡ true) ⊎ (k ≡ 0) → IsPart (answered (pos 0 ∷ walkNumbers u ++ (pos floor ∷ []))) old
           unfolding overwritten
           part-idle t =
               let r = part-none a b v w u k p t in

@@ -2,20 +2,26 @@
 --     refuses-more        a refusal stands whatever rows come behind
 --     refuses-behind      rows that do not apply may stand before it; `refuses-row`: a row that applies
 --     refuses-first       some row of the list applies
---     admitted-pair       a shape, and what judging the second list says
 --     refuses-written     a question that writes gives it, and writes nothing
 --     valid-passed, valid-answer      of a valid list the rows may be left out
---     pair-passed, pair-answer        likewise of two
---     valid-wrote, pair-wrote         likewise of a question that writes
-use mathlib.Core.Path.{_≡_, sym, _∙_, subst}
-use mathlib.Core.Bool.{true}
+--     pair-answer                     likewise of two
+--     valid-wrote                     likewise of a question that writes
+--     refuses-carried                 a refusal carries no floor
+--     refuses-between, refuses-output     two shapes are refused, whatever is asked of them, and nothing is written
+--     first-refused, second-refused, floors-refused, pair-admitted     what judging two shapes says
+--     pair-carried, pair-written      two shapes on one floor: the reply on one floor, with the floor
+use mathlib.Core.Path.{_≡_, sym, _∙_, ap, subst}
+use mathlib.Core.Bool.{true, not}
 use mathlib.Core.List.{List, [], _∷_, _++_}
 use Prim.Native.Nat.{ℕ}
 use native.Mathlib.Omega.{arith}
+use borrow.Author.Tests.{ne-eqb}
 use lib.IntN.{ℤ}
 use Rattle.plane.specs.Point.{Point}
 use Rattle.plane.specs.Reply.{Reply, answered, refused, Row, firstRow}
 use Rattle.plane.specs.Refusal.{shapeRows, Valid}
+use Rattle.plane.specs.Output.{Written}
+use Rattle.plane.specs.Floor.{Floored, withFloor, floorRow, pairRows, between, writtenBetween}
 use Rattle.plane.specs.theory.refusals.Accept.{valid→accepted}
 use Rattle.plane.specs.theory.refusals.Rows.{
   NoneApply,
@@ -30,10 +36,10 @@ use Rattle.plane.specs.theory.refusals.Rows.{
   firstRow-none,
   firstRow-passed,
 }
-use Rattle.plane.specs.theory.refusals.Write.{Wrote, wrote-given, wrote-passed}
-use Rattle.questions.specs.declared.admission.Admission.{Admission}
+use Rattle.plane.specs.theory.refusals.Write.{Wrote, wrote-given, wrote-passed, first-output}
+use Rattle.plane.specs.theory.refusals.Floors.{Same, between-same, written-same}
 use Rattle.questions.specs.declared.admission.Admission.the-variants as Admission
-use Rattle.questions.specs.Admission.{Refuses, Admitted, AdmittedPair}
+use Rattle.questions.specs.Admission.{Refuses, AdmittedPair}
 
 -- ---- a refusal
 
@@ -45,10 +51,6 @@ refuses-behind vs n {ws} f = record { whatever = λ x. f .whatever x ∙ sym (fi
 
 pub refuses-row : (w : Row) (ws : List Row) → w .applies ≡ true → Refuses (w ∷ ws) (refused (w .number) (w .carries))
 refuses-row w ws e = record { whatever = λ x. row-given w ws x e }
-
-pub admitted-pair : (a b : List ℤ) → Valid a → (r : Admission) → Admitted 2 b r → AdmittedPair a b r
-admitted-pair a b v Admission.Valid w = (v, w)
-admitted-pair a b v (Admission.No r) f = refuses-behind (shapeRows 1 a) (valid→accepted a 1 v) f
 
 -- whatever the answer would be: so some row applies
 pub refuses-first : {vs : List Row} {r : Reply} → Refuses vs r → (w : Row) × First w vs × (r ≡ refused (w .number) (w .carries))
@@ -83,6 +85,49 @@ module _ (a : List ℤ) (u : Valid a) where
     pub pair-answer : (x : Reply) → x ≡ firstRow (shapeRows 1 a ++ shapeRows 2 b) x
     pair-answer x = sym (firstRow-none (shapeRows 2 b) x (valid→accepted b 2 v)) ∙ valid-passed (shapeRows 2 b) x
 
-    pub pair-wrote : {ws : List Row} {shape : List Point} {old : List ℤ} {r : Reply} {out : List ℤ}
-        → Wrote ws shape old r out → Wrote (shapeRows 1 a ++ (shapeRows 2 b ++ ws)) shape old r out
-    pair-wrote s = valid-wrote (wrote-passed (shapeRows 2 b) (valid→accepted b 2 v) s)
+-- ---- floors
+
+pub refuses-carried : {vs : List Row} {r : Reply} → Refuses vs r → (f : ℕ) {x : Reply} → r ≡ x → r ≡ withFloor f x
+refuses-carried f n h = let first = refuses-first f .2 in first ∙ sym (ap (withFloor n) (sym h ∙ first))
+
+module _ (a b : Floored) where
+  pub refuses-between : {r : Reply} → Refuses (pairRows a b) r → (question : List ℤ → List ℤ → Reply) → r ≡ between a b question
+  unfolding between
+  refuses-between f question = f .whatever _
+
+  pub refuses-output : {r : Reply} → Refuses (pairRows a b) r → (question : List ℤ → List ℤ → List ℤ → Written) (old : List ℤ)
+      → (r ≡ writtenBetween a b question old .reply) × (old ≡ writtenBetween a b question old .output)
+  unfolding writtenBetween
+  refuses-output f question old = (refuses-between f _, sym (first-output old _ (refuses-first f .1)))
+
+  -- ---- judging them
+
+  pub first-refused : {r : Reply} → Refuses (shapeRows 1 (a .list)) r → Refuses (pairRows a b) r
+  first-refused f = record { whatever = λ x. refuses-more f (shapeRows 2 (b .list) ++ (floorRow (a .floor) (b .floor) ∷ [])) x }
+
+  module _ (u : Valid (a .list)) where
+    pub second-refused : {r : Reply} → Refuses (shapeRows 2 (b .list)) r → Refuses (pairRows a b) r
+    second-refused f = refuses-behind (shapeRows 1 (a .list)) (valid→accepted (a .list) 1 u)
+        (record { whatever = λ x. refuses-more f (floorRow (a .floor) (b .floor) ∷ []) x })
+
+    module _ (v : Valid (b .list)) where
+      pub floors-refused : (a .floor ≡ b .floor → ⊥) → Refuses (pairRows a b) (refused 13 [])
+      floors-refused f = refuses-behind (shapeRows 1 (a .list)) (valid→accepted (a .list) 1 u)
+          (refuses-behind (shapeRows 2 (b .list)) (valid→accepted (b .list) 2 v)
+          (refuses-row (floorRow (a .floor) (b .floor)) [] (ap not (ne-eqb (a .floor) (b .floor) f))))
+
+  module _ (s : AdmittedPair a b Admission.Valid) where
+    -- two shapes on one floor
+    together : Same a b
+    together = record { first-valid = s .0; second-valid = s .1; one-floor = s .2 }
+
+    pub pair-carried : (question : List ℤ → List ℤ → Reply) {x : Reply} → x ≡ question (a .list) (b .list)
+        → withFloor (a .floor) x ≡ between a b question
+    pair-carried question e = ap (withFloor (a .floor)) e ∙ sym (between-same together question)
+
+    pub pair-written : (question : List ℤ → List ℤ → List ℤ → Written) (old : List ℤ) {r : Reply} {out : List ℤ}
+        → r ≡ withFloor (a .floor) (question (a .list) (b .list) old .reply) → out ≡ question (a .list) (b .list) old .output
+        → (r ≡ writtenBetween a b question old .reply) × (out ≡ writtenBetween a b question old .output)
+    pair-written question old h k =
+        let same = sym (written-same together question old) in
+        (h ∙ ap (λ (w : Written). w .reply) same, k ∙ ap (λ (w : Written). w .output) same)

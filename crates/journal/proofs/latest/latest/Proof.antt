@@ -8,7 +8,7 @@ use Rattle.journal.specs.Format.{size, whole}
 use Rattle.journal.specs.Survey.{newer}
 use Rattle.journal.specs.declared.latest.Found.{Found}
 use Rattle.journal.specs.theory.Survey.{size-at, next-inside}
-use Rattle.journal.specs.theory.Latest.{SoFar, long, so-far-start, so-far-next, so-far-end}
+use Rattle.journal.specs.theory.Latest.{SoFar, legible, so-far-start, so-far-next, so-far-end}
 use Rattle.journal.proofs.latest.latest.Statement.{statement}
 use Rattle.journal.proofs.latest.latest.Tie as tie
 
@@ -41,13 +41,7 @@ whole-at-requires : tie.Need-whole-at-requires Inv-loop μ-loop
 whole-at-requires c κs = c .loop .inv .inside
 
 newer-requires : tie.Need-newer-requires Inv-loop μ-loop
-newer-requires c κs =
-    let at-loop = c .before .before in
-    let big = long (at-loop .loop .inv) (here c) in
-    let log = at-loop .before .before .args .log .now in
-    let inside = next-inside log (at-loop .loop .p) (here c) in
-    let same = size-at log (at-loop .loop .p) in
-    (omega arith, omega arith)
+newer-requires c κs = legible (c .before .before .loop .inv) (here c)
 
 pair-at-requires : tie.Need-pair-at-requires Inv-loop μ-loop
 pair-at-requires c κs =

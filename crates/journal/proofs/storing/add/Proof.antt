@@ -20,8 +20,9 @@ returns : tie.Need-returns
 returns c =
     let at-clear = c .before .before .before .before .before .before in
     let start = at-clear .before .before .before in
-    let r = recorded (start .args .name) (start .args .list .now) in
-    ran-stores (start .args .end) r (start .pre .0) (omega (arith, recorded-length (start .args .name) (start .args .list .now)))
+    let args = start .args in
+    let r = recorded (args .name) (args .floor) (args .list .now) in
+    ran-stores (args .end) r (start .pre .0) (omega (arith, recorded-length (args .name) (args .floor) (args .list .now)))
     (at-clear .clear .ensures) (c .before .before .write .ensures .0) (c .before .before .write .ensures .1)
 
 pub add-spec : {M : Type 1} → statement M

@@ -1,4 +1,4 @@
--- `is_full` meets its contract: how long a record is does not hang on its name.
+-- `is_full` meets its contract: how long a record is does not hang on its name and floor.
 use mathlib.Core.Path.{_≡_, ap}
 use Prim.Native.Nat.{_+_, _*_, _-_}
 use native.Mathlib.Omega.{arith}
@@ -13,18 +13,21 @@ use Rattle.journal.proofs.storing.is_full.Tie as tie
 sub-result : tie.Need-sub-result
 sub-result c = search needs
 
-mul-result : tie.Need-mul-result
-mul-result c = search needs
-
 add-result : tie.Need-add-result
 add-result c = search needs
 
+mul-result : tie.Need-mul-result
+mul-result c = search needs
+
+add-result-2 : tie.Need-add-result-2
+add-result-2 c = search needs
+
 returns : tie.Need-returns
-returns c n =
+returns c n f =
     let args = c .args in
-    let count : 7 + 4 * length (args .list .now) ≡ length (recorded n (args .list .now)) =
-    omega (arith, recorded-length n (args .list .now)) in
+    let count : 2 + 7 + 4 * length (args .list .now) ≡ length (recorded n f (args .list .now)) =
+    omega (arith, recorded-length n f (args .list .now)) in
     ap (ltb (length (args .log .now) - args .end)) count
 
 pub is-full-spec : {M : Type 1} → statement M
-is-full-spec = tie.close (tie.spec sub-result mul-result add-result returns)
+is-full-spec = tie.close (tie.spec sub-result add-result mul-result add-result-2 returns)

@@ -10,8 +10,8 @@ use Rattle.journal.proofs.storing.write.Statement.{statement}
 use Rattle.journal.proofs.storing.write.Tie as tie
 
 -- the record is inside the log
-inside : (c : tie.Start) → c .args .p + (7 + 4 * length (c .args .list .now)) ≤ length (c .args .log .now)
-inside c = omega (arith, c .pre, recorded-length (c .args .name) (c .args .list .now))
+inside : (c : tie.Start) → c .args .p + (9 + 4 * length (c .args .list .now)) ≤ length (c .args .log .now)
+inside c = omega (arith, c .pre, recorded-length (c .args .name) (c .args .floor) (c .args .list .now))
 
 -- the log is as long as it was, after two calls and after four
 room-2 : (c : tie.After-byte2) → let at-1 = c .before .before .before .before in
@@ -70,38 +70,51 @@ pair-requires-2 c κs =
     let at-2 = at-3 .before .before .before .before in
     omega (arith, inside (at-2 .before .before .before .before .before .before .before), room-2 at-2, ran-length (at-3 .pair .ensures))
 
+add-pair-3 : tie.Need-add-pair-3
+add-pair-3 c = search needs
+
+pair-requires-3 : tie.Need-pair-requires-3
+pair-requires-3 c κs =
+    let at-4 = c .before .before .before in
+    let at-2 = at-4 .before .before .before .before .before .before .before .before in
+    omega (arith, inside (at-2 .before .before .before .before .before .before .before), room-4 at-4)
+
 add-words : tie.Need-add-words
 add-words c = search needs
 
 words-requires : tie.Need-words-requires
 words-requires c κs =
-    let at-4 = c .before .before .before in
-    let at-2 = at-4 .before .before .before .before .before .before .before .before in
-    omega (arith, inside (at-2 .before .before .before .before .before .before .before), room-4 at-4)
-
-byte-requires-3 : tie.Need-byte-requires-3
-byte-requires-3 c κs =
     let at-5 = c .before .before .before in
     let at-4 = at-5 .before .before .before .before in
     let at-2 = at-4 .before .before .before .before .before .before .before .before in
-    omega (arith, inside (at-2 .before .before .before .before .before .before .before), room-4 at-4, ran-length (at-5 .words .ensures))
+    omega (arith, inside (at-2 .before .before .before .before .before .before .before), room-4 at-4, ran-length (at-5 .pair3 .ensures))
+
+byte-requires-3 : tie.Need-byte-requires-3
+byte-requires-3 c κs =
+    let at-6 = c .before .before .before in
+    let at-5 = at-6 .before .before .before .before in
+    let at-4 = at-5 .before .before .before .before in
+    let at-2 = at-4 .before .before .before .before .before .before .before .before in
+    let same = ran-length (at-6 .words .ensures) ∙ ran-length (at-5 .pair3 .ensures) ∙ room-4 at-4 in
+    omega (arith, inside (at-2 .before .before .before .before .before .before .before))
 
 same-length : tie.Need-same-length
 same-length c = search needs
 
 returns : tie.Need-returns
 returns c =
-    let at-5 = c .before .before .before .before .before .before in
+    let at-6 = c .before .before .before .before .before .before in
+    let at-5 = at-6 .before .before .before .before in
     let at-4 = at-5 .before .before .before .before in
     let at-3 = at-4 .before .before .before .before in
     let at-2 = at-3 .before .before .before .before in
     let at-1 = at-2 .before .before .before .before in
     let args = at-1 .before .before .before .args in
-    ran-recorded (args .p) (args .name) (args .list .now) refl (ran-pair _ _ (at-1 .byte .ensures) (at-2 .byte2 .ensures))
-    (at-3 .pair .ensures) (at-4 .pair2 .ensures) (at-5 .words .ensures) (c .before .before .byte3 .ensures)
+    ran-recorded (args .p) (args .name) (args .floor) (args .list .now) refl (ran-pair _ _ (at-1 .byte .ensures) (at-2 .byte2 .ensures))
+    (at-3 .pair .ensures) (at-4 .pair2 .ensures) (at-5 .pair3 .ensures) (at-6 .words .ensures) (c .before .before .byte3 .ensures)
 
 pub write-spec : {M : Type 1} → statement M
 write-spec =
     tie.close
     (tie.spec mul-size add-size add-last add-last-2 cast-low byte-requires add-byte cast-byte byte-requires-2 add-pair pair-requires
-    add-pair-2 pair-requires-2 add-words words-requires byte-requires-3 same-length returns)
+    add-pair-2 pair-requires-2 add-pair-3 pair-requires-3 add-words words-requires byte-requires-3 same-length returns)

@@ -2,37 +2,46 @@
 --     follows     the reply is the first row of the table that applies, and some answer where none does
 --     table-given, table-refused, table-none, table-answered      exactly when
 use mathlib.Core.Path.{_≡_, refl, sym, _∙_}
-use mathlib.Core.List.{List}
+use mathlib.Core.Bool.{not}
+use mathlib.Core.List.{List, [], _∷_, _++_}
 use Prim.Native.Nat.{ℕ}
 use lib.IntN.{ℤ}
-use Rattle.plane.specs.Reply.{answered, refused, Row, firstRow}
+use Rattle.plane.specs.Point.{points}
+use Rattle.plane.specs.Reply.{answered, refused, Row, row}
 use Rattle.plane.specs.Judge.{judged}
+use Rattle.plane.specs.Corner.{shapeOf, sums}
+use Rattle.plane.specs.Output.{answerRows}
 use Rattle.plane.specs.Furthest.{furthestReply}
 use Rattle.plane.specs.Combine.{mirrorWritten, sumWritten, mergeWritten}
 use Rattle.plane.specs.Sweep.{sweepWritten}
 use Rattle.plane.specs.Measure.{lengthReply, widthReply}
-use Rattle.plane.specs.Separation.{relationReply, insideReply}
+use Rattle.plane.specs.Separation.{apart, relationReply, insideReply}
 use Rattle.plane.specs.Tangent.{tangentsReply}
 use Rattle.plane.specs.Clearance.{clearanceReply}
+use Rattle.plane.specs.Floor.{writtenBetween}
 use Rattle.plane.specs.Question.{Question, Judge, Furthest, Mirror, Sum, Merge, Sweep, Length, Width, Relation, Inside, Clearance}
 use Rattle.plane.specs.Question.{Tangents, reply, table}
 use Rattle.plane.specs.theory.refusals.Rows.{NoneApply, First, firstRow-given, firstRow-none, firstRow-answered, firstRow-refused}
+use Rattle.plane.specs.theory.refusals.Floors.{ByTable, withFloor-table, between-table}
 
-pub follows : (q : Question) → (values : List ℤ) × (reply q ≡ firstRow (table q) (answered values))
+pub follows : (q : Question) → ByTable (reply q) (table q)
 unfolding judged furthestReply mirrorWritten sumWritten mergeWritten sweepWritten lengthReply widthReply relationReply insideReply
-    clearanceReply tangentsReply
-follows (Judge l) = (_, refl)
-follows (Furthest l d) = (_, refl)
-follows (Mirror l out) = (_, refl)
-follows (Sum a b out) = (_, refl)
-follows (Merge a b out) = (_, refl)
-follows (Sweep l out) = (_, refl)
-follows (Length l) = (_, refl)
-follows (Width l) = (_, refl)
-follows (Relation a b) = (_, refl)
-follows (Inside a b) = (_, refl)
-follows (Clearance a b) = (_, refl)
-follows (Tangents a b) = (_, refl)
+    clearanceReply tangentsReply writtenBetween
+follows (Judge a) = withFloor-table (a .floor) (judged (a .list)) (table (Judge a)) (_, refl)
+follows (Furthest a d) = withFloor-table (a .floor) (furthestReply (a .list) d) (table (Furthest a d)) (_, refl)
+follows (Mirror a out) = withFloor-table (a .floor) (mirrorWritten (a .list) out .reply) (table (Mirror a out)) (_, refl)
+follows (Sum a b out) =
+    between-table a b (λ l m. sumWritten l m out .reply) (answerRows (shapeOf (sums (points (a .list)) (points (b .list)))) out) (_, refl)
+follows (Merge a b out) =
+    between-table a b (λ l m. mergeWritten l m out .reply) (answerRows (shapeOf (points (a .list) ++ points (b .list))) out) (_, refl)
+follows (Sweep a out) = withFloor-table (a .floor) (sweepWritten (a .list) out .reply) (table (Sweep a out)) (_, refl)
+follows (Length a) = withFloor-table (a .floor) (lengthReply (a .list)) (table (Length a)) (_, refl)
+follows (Width a) = withFloor-table (a .floor) (widthReply (a .list)) (table (Width a)) (_, refl)
+follows (Relation a b) = between-table a b relationReply [] (_, refl)
+follows (Inside a b) = between-table a b insideReply [] (_, refl)
+follows (Clearance a b) = between-table a b clearanceReply [] (_, refl)
+follows (Tangents a b) =
+    between-table a b tangentsReply (row 9 (not (apart (points (a .list)) (points (b .list)))) [] ∷ []) (_, refl)
 
 module _ (q : Question) where
   pub table-given : {w : Row} → First w (table q) → reply q ≡ refused (w .number) (w .carries)

@@ -5,7 +5,8 @@
 --     wrote-many, -far, -room, -all        refusals 6, 7 and 8, and none
 --     refused-output, answered-output      a refusal leaves the output untouched; an answer writes the shape at its front
 --     written-passed                       the same of all that is written
---     passed-output, none-output           the output alone: a table of which no row applies can be left out, and leaves what is new
+--     passed-output, none-output           the output alone: a table of which no row applies can be left out, and leaves what is new;
+--                                          `first-output`: a row that applies keeps it
 use mathlib.Core.Path.{_≡_, refl, sym, _∙_, ap}
 use mathlib.Core.Bool.{Bool, true, false, cond}
 use mathlib.Core.List.{List, [], _∷_, _++_}
@@ -88,7 +89,7 @@ written-passed vs ws shape out n = λ i. record {
 
 -- ---- what is written, by the reply
 
-first-output : {w : Row} {ws : List Row} (kept new : List ℤ) → First w ws → unlessRefused ws kept new ≡ kept
+pub first-output : {w : Row} {ws : List Row} (kept new : List ℤ) → First w ws → unlessRefused ws kept new ≡ kept
 first-output kept new (here {ws = ws} e) = ap (λ (b : Bool). cond b kept (unlessRefused ws kept new)) e
 first-output kept new (later {ws = ws} e f) = ap (λ (b : Bool). cond b kept (unlessRefused ws kept new)) e ∙ first-output kept new f
 

@@ -1,23 +1,38 @@
--- `admit_pair` meets its contract: the first list's refusal is given before the second's.
-use mathlib.Core.Path.{subst}
+-- `admit_pair` meets its contract: the first list's refusal is given before the second's, and that before 13.
+use mathlib.Core.Path.{_≡_, subst}
+use native.Mathlib.Omega.{arith}
 use borrow.Author.Needs.{needs}
-use Rattle.plane.specs.Refusal.{shapeRows}
+use Rattle.plane.specs.Refusal.{Valid}
+use Rattle.plane.specs.Floor.{Floored, on}
 use Rattle.questions.specs.Admission.{Admitted}
-use Rattle.questions.specs.theory.Rows.{refuses-more, admitted-pair}
+use Rattle.questions.specs.theory.Rows.{first-refused, second-refused, floors-refused}
 use Rattle.questions.proofs.admission.admit_pair.Statement.{statement}
 use Rattle.questions.proofs.admission.admit_pair.Tie as tie
+
+-- the two shapes
+abbrev one : tie.Start → Floored
+one c = on (c .args .a .now) (c .args .f)
+
+abbrev other : tie.Start → Floored
+other c = on (c .args .b .now) (c .args .g)
+
+-- past its judging each is valid
+first : (c : tie.After-enum-told) → Valid (c .before .before .before .args .a .now)
+first c = subst (Admitted 1 _) (c .enum-told .given .1) (c .before .before .admit .ensures)
+
+second : (c : tie.After-enum-told2) → Valid (c .before .before .before .before .before .before .args .b .now)
+second c = subst (Admitted 2 _) (c .enum-told2 .given .1) (c .before .before .admit2 .ensures)
 
 admit-requires : tie.Need-admit-requires
 admit-requires c κs = search needs
 
-enum-known-refusal : tie.Need-enum-known-refusal
-enum-known-refusal c = search needs
+enum-known-first : tie.Need-enum-known-first
+enum-known-first c = search needs
 
 returns : tie.Need-returns
 returns c =
-    let at-admit = c .before .before .before in
-    let first = subst (Admitted 1 _) (c .before .refusal .given .1) (at-admit .admit .ensures) in
-    record { whatever = λ x. refuses-more first (shapeRows 2 (at-admit .before .args .b .now)) x }
+    let start = c .before .before .before .before in
+    first-refused (one start) (other start) (subst (Admitted 1 _) (c .before .first .given .1) (c .before .before .before .admit .ensures))
 
 enum-told : tie.Need-enum-told
 enum-told c = search needs
@@ -25,13 +40,33 @@ enum-told c = search needs
 admit-requires-2 : tie.Need-admit-requires-2
 admit-requires-2 c κs = search needs
 
+enum-known-second : tie.Need-enum-known-second
+enum-known-second c = search needs
+
 returns-2 : tie.Need-returns-2
 returns-2 c =
+    let at-second = c .before .before .before in
+    let start = at-second .before .before .before .before in
+    second-refused (one start) (other start) (first (at-second .before))
+    (subst (Admitted 2 _) (c .before .second .given .1) (at-second .admit2 .ensures))
+
+enum-told-2 : tie.Need-enum-told-2
+enum-told-2 c = search needs
+
+returns-3 : tie.Need-returns-3
+returns-3 c =
     let at-told = c .before in
-    let start = at-told .before .before .before in
-    admitted-pair (start .args .a .now) (start .args .b .now)
-    (subst (Admitted 1 _) (at-told .enum-told .given .1) (at-told .before .before .admit .ensures)) (c .admit2 .result)
-    (c .admit2 .ensures)
+    let at-first = at-told .before .before .before in
+    let start = at-first .before .before .before in
+    floors-refused (one start) (other start) (first at-first) (second at-told) (c .if1 .taken)
+
+returns-4 : tie.Need-returns-4
+returns-4 c =
+    let at-told = c .before in
+    (first (at-told .before .before .before), second at-told, c .if1 .left)
 
 pub admit-pair-spec : {M : Type 1} → statement M
-admit-pair-spec = tie.close (tie.spec admit-requires enum-known-refusal returns enum-told admit-requires-2 returns-2)
+admit-pair-spec =
+    tie.close
+    (tie.spec admit-requires enum-known-first returns enum-told admit-requires-2 enum-known-second returns-2 enum-told-2
+    returns-3 returns-4)

@@ -1,14 +1,15 @@
 -- `deliver` meets its contract: refusals 6, 7 and 8 in their order, and a copy makes the answer.
-use mathlib.Core.Path.{subst}
+use mathlib.Core.Path.{ap, subst}
 use mathlib.Core.List.{[], _∷_}
 use native.Mathlib.Omega.{arith}
 use borrow.Author.Needs.{needs}
 use Rattle.plane.specs.Point.{points}
 use Rattle.plane.specs.Reply.{row}
 use Rattle.plane.specs.Output.{noRoom}
+use Rattle.plane.specs.Floor.{withFloor}
 use Rattle.questions.specs.declared.admission.Admission.the-variants as Admission
 use Rattle.questions.specs.Admission.{Surveyed}
-use Rattle.questions.specs.theory.Rows.{refuses-written}
+use Rattle.questions.specs.theory.Rows.{refuses-written, refuses-carried}
 use Rattle.questions.specs.theory.Delivery.{little-room, all-delivered}
 use Rattle.questions.proofs.deliver.deliver.Statement.{statement}
 use Rattle.questions.proofs.deliver.deliver.Tie as tie
@@ -28,9 +29,9 @@ returns c =
     let start = c .before .before .before .before in
     let ps = points (start .args .shape .now) in
     let old = start .args .out .now in
-    let w = refuses-written (subst (Surveyed ps) (c .before .refusal .given .1) (c .before .before .before .survey .ensures))
-    (row 8 (noRoom ps old) [] ∷ []) ps old in
-    (w .reply-is, w .output-is)
+    let refusal = subst (Surveyed ps) (c .before .refusal .given .1) (c .before .before .before .survey .ensures) in
+    let w = refuses-written refusal (row 8 (noRoom ps old) [] ∷ []) ps old in
+    (refuses-carried refusal (start .args .floor) (w .reply-is), w .output-is)
 
 enum-told : tie.Need-enum-told
 enum-told c = search needs
@@ -40,7 +41,7 @@ returns-2 c =
     let start = c .before .before .before .before in
     let pass = surveyed (c .before) in
     let w = little-room (start .args .shape .now) (start .pre) (start .args .out .now) (pass .0) (pass .1) (c .if1 .taken) in
-    (w .reply-is, w .output-is)
+    (ap (withFloor (start .args .floor)) (w .reply-is), w .output-is)
 
 copy-requires : tie.Need-copy-requires
 copy-requires c κs = search needs
@@ -59,7 +60,7 @@ returns-3 c =
     let pass = surveyed (at-8 .before) in
     let w = all-delivered (start .args .shape .now) (start .pre) (start .args .out .now) (pass .0) (pass .1)
     (omega (arith, at-8 .if1 .left)) (c .count .ensures) (at-copy .copy .ensures) in
-    (w .reply-is, w .output-is)
+    (ap (withFloor (start .args .floor)) (w .reply-is), w .output-is)
 
 pub deliver-spec : {M : Type 1} → statement M
 deliver-spec =

@@ -34,13 +34,13 @@ returns : tie.Need-returns
 returns c =
     let start = c .before in
     part-idle (start .args .a .now) (start .args .b .now) (stateOf (start .args .self)) (start .args .k) (start .args .out .now)
-    (start .pre .0) (start .pre .1) (start .pre .2) (start .pre .3) (inl (c .if1 .taken))
+    (start .args .floor) (start .pre .0) (start .pre .1) (start .pre .2) (start .pre .3) (inl (c .if1 .taken))
 
 returns-2 : tie.Need-returns-2
 returns-2 c =
     let start = c .before .before in
     part-idle (start .args .a .now) (start .args .b .now) (stateOf (start .args .self)) (start .args .k) (start .args .out .now)
-    (start .pre .0) (start .pre .1) (start .pre .2) (start .pre .3) (inr (c .if2 .taken))
+    (start .args .floor) (start .pre .0) (start .pre .1) (start .pre .2) (start .pre .3) (inr (c .if2 .taken))
 
 slice-aggregate-walk-on : tie.Need-slice-aggregate-walk-on
 slice-aggregate-walk-on c = search needs
@@ -67,7 +67,7 @@ returns-3 c =
     let at-walk = c .before .before .before in
     let start = at-walk .before .before .before .before in
     part-little-room (start .args .a .now) (start .args .b .now) (stateOf (start .args .self)) (start .args .k) (start .args .out .now)
-    (start .pre .0) (start .pre .1) (start .pre .2) (start .pre .3) (went at-walk .0 .counted) (c .if3 .taken)
+    (start .args .floor) (start .pre .0) (start .pre .1) (start .pre .2) (start .pre .3) (went at-walk .0 .counted) (c .if3 .taken)
 
 slice-aggregate-copy : tie.Need-slice-aggregate-copy
 slice-aggregate-copy c = search needs
@@ -89,7 +89,7 @@ returns-4 c =
     let start = at-walk .before .before .before .before in
     let w = went at-walk in
     part-done (start .args .a .now) (start .args .b .now) (stateOf (start .args .self)) (start .args .k) (start .args .out .now)
-    (start .pre .0) (start .pre .1) (start .pre .2) (start .pre .3) (w .0 .counted) (omega (arith, at-room .if3 .left)) (w .1)
+    (start .args .floor) (start .pre .0) (start .pre .1) (start .pre .2) (start .pre .3) (w .0 .counted) (omega (arith, at-room .if3 .left)) (w .1)
     (copied-over (w .0) (start .args .out .now) (c .before .copy .ensures))
 
 pub write-spec : {M : Type 1} → statement M
