@@ -295,7 +295,8 @@ module _ (d : Point) (good : badDirection d ≡ false) where
   greatest-value-is-multiple ps = sym (primitive-support d (direction-some d good) ps)
 
 -- "Logs held (2,4) and (1,2)": all directions that point the same way have the same furthest corners
-pub same-way-same-face : {d e : Point} → SameWay d e → (ps : List Point) → (faceFirst d ps ≡ faceFirst e ps) × (faceLast d ps ≡ faceLast e ps)
+pub same-way-same-face : {d e : Point} → SameWay d e → (ps : List Point)
+    → (faceFirst d ps ≡ faceFirst e ps) × (faceLast d ps ≡ faceLast e ps)
 same-way-same-face s ps = (same-face-first s ps, same-face-last s ps)
 
 -- ---- mirror
