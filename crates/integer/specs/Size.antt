@@ -2,7 +2,7 @@
 -- the least number itself would not.
 --     Below w z, below-zero      what is known of that difference
 --     from-zero                  a number that is not below 0 is its own size
-use mathlib.Core.Path.{_≡_, refl, sym, _∙_, ap, subst}
+use mathlib.Core.Path.{_≡_, _∙_, ap}
 use mathlib.Core.Bool.{true, false, true≢false}
 use Prim.Native.Nat.{ℕ, suc, _+_, _-_, _<_}
 use native.Mathlib.Omega.{arith}

@@ -4,15 +4,15 @@
 --     primitive-bad, primitive-common     11 and 12 let the name pass
 --     primitive-unique         two directions of divisor 1 that point the same way are equal
 --     primitive-only           so that no other name passes
-use mathlib.Core.Path.{_≡_, refl, sym, _∙_, ap, ap₂, subst}
+use mathlib.Core.Path.{_≡_, refl, sym, _∙_, ap, ap₂}
 use mathlib.Core.Bool.{false, false≢true}
 use mathlib.Core.List.{List, [], _∷_}
-use Prim.Native.Nat.{ℕ, zero, suc, _*_, _/_, _≤_, _<_, _∣_}
+use Prim.Native.Nat.{ℕ, suc, _*_, _/_, _<_, _∣_}
 use native.Mathlib.Nat.{le-refl, mul-one, mul-le-mul, mul-div-cancel', eq-of-mul-eq-mul-left}
 use native.Mathlib.Omega.{arith}
 use borrow.Author.Tests.{ltb-true, lt-ltb}
 use lib.IntN.{ℤ, pos, negsuc, negℤ, natAbs, _*ℤ_}
-use lib.Signed.{quotZ, _<ℤ_, _≤ℤ_}
+use lib.Signed.{quotZ, _<ℤ_}
 use Rattle.integer.specs.Ring.{ring, reify}
 use Rattle.integer.specs.Linear.{linear, lia, _&_}
 use Rattle.integer.specs.Order.{_<×<_, contra≤, le-antisym, ltZ-true, lt-ltZ}
@@ -20,7 +20,7 @@ use Rattle.integer.specs.Bound.{Within, natAbs-*}
 use Rattle.divisor.specs.Divisor.{gcd}
 use Rattle.divisor.specs.Euclid.{gcd-is, gcd-scale}
 use Rattle.plane.specs.Limits.{maxPart}
-use Rattle.plane.specs.Point.{Point, origin}
+use Rattle.plane.specs.Point.{Point}
 use Rattle.plane.specs.Forms.{NonZero}
 use Rattle.plane.specs.Direction.{support}
 use Rattle.plane.specs.Furthest.{badDirection, partsDivisor, commonDivisor}

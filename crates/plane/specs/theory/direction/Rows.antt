@@ -3,7 +3,7 @@
 --     near-direction                     and every such direction passes
 --     some-divisor                       its divisor is positive
 --     one-divisor, divisor-one           then 12 lets it pass exactly if the divisor is 1
-use mathlib.Core.Path.{_≡_, refl, ap, ap₂}
+use mathlib.Core.Path.{_≡_, refl, ap}
 use mathlib.Core.Bool.{Bool, true, false, _&&_, _||_, true≢false}
 use mathlib.Core.Logic.{inl, inr}
 use Prim.Native.Nat.{ℕ, zero, suc, _<_}
@@ -14,7 +14,7 @@ use lib.IntN.{ℤ, pos, negsuc, natAbs}
 use Rattle.integer.specs.Bound.{Within}
 use Rattle.divisor.specs.Euclid.{gcd-positive}
 use Rattle.plane.specs.Limits.{maxPart}
-use Rattle.plane.specs.Point.{Point, point, origin}
+use Rattle.plane.specs.Point.{Point}
 use Rattle.plane.specs.Forms.{NonZero}
 use Rattle.plane.specs.Furthest.{badDirection, partsDivisor, commonDivisor}
 use Rattle.plane.specs.theory.lists.Members.{point-path}

@@ -1,19 +1,17 @@
 -- Directions that point the same way: the values of the one are those of the other, scaled, so that the same corners are furthest.
 --     same-value, same-support      a value in the one direction and in the other, each times its number
 --     same-face-first, same-face-last     the same corners are furthest
-use mathlib.Core.Path.{_≡_, refl, sym, _∙_, ap, ap₂}
-use mathlib.Core.Bool.{Bool}
+use mathlib.Core.Path.{_≡_, sym, _∙_, ap₂}
 use mathlib.Core.List.{List, [], _∷_}
-use Prim.Native.Nat.{ℕ, zero, suc}
+use Prim.Native.Nat.{ℕ}
 use native.Mathlib.Omega.{arith}
-use lib.IntN.{ℤ, pos, _*ℤ_}
+use lib.IntN.{ℤ, _*ℤ_}
 use lib.ListN.{length}
-use lib.Signed.{leZ, _≤ℤ_}
+use lib.Signed.{_≤ℤ_}
 use Rattle.integer.specs.Ring.{ring, reify}
 use Rattle.integer.specs.Linear.{linear, lia, _&_}
 use Rattle.integer.specs.Order.{_<×<_, _<×≤_, _≡×_, weaken, contra≤, leZ-true, le-leZ}
 use Rattle.plane.specs.Point.{Point, corner}
-use Rattle.plane.specs.Search.{first}
 use Rattle.plane.specs.Shape.{next}
 use Rattle.plane.specs.Direction.{value, max, support, furthest}
 use Rattle.plane.specs.Face.{isFurthest, isFlat, flatEdge, faceFirst, faceLast}

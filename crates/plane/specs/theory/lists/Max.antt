@@ -11,7 +11,7 @@ use mathlib.Core.Logic.{_⊎_, inl, inr}
 use native.Mathlib.Omega.{arith}
 use lib.IntN.{ℤ, pos, _+ℤ_, _*ℤ_, +ℤ-comm}
 use lib.Signed.{_≤ℤ_, leZ, ≤ℤ-refl}
-use Rattle.integer.specs.Linear.{lia, linear, _&_}
+use Rattle.integer.specs.Linear.{lia, linear}
 use Rattle.integer.specs.Order.{_≤×≤_, weaken, le-trans, le-antisym, leZ-true, leZ-false}
 use Rattle.plane.specs.Direction.{max}
 

@@ -1,5 +1,4 @@
 -- `magnitude` meets its contract: below 0, -1 less the number is one less than its size, and fits.
-use mathlib.Core.Path.{_∙_}
 use borrow.Author.Needs.{needs}
 use mir.Syntax.{w32}
 use mir.Facts.{toZ-ofZ}
