@@ -9,7 +9,7 @@ use std::cmp::Ordering;
 use std::collections::BTreeSet;
 
 /// What must have been compared at least once: a question, and a refusal or the first value.
-const KINDS: [(&str, &str); 28] = [
+const KINDS: [(&str, &str); 29] = [
     ("judge", "no 1"),
     ("judge", "no 2"),
     ("judge", "no 3"),
@@ -19,6 +19,7 @@ const KINDS: [(&str, &str); 28] = [
     ("furthest", "ok, an edge"),
     ("furthest", "ok, over the end"),
     ("furthest", "no 11"),
+    ("furthest", "no 12"),
     ("sum", "ok"),
     ("sum", "no 6"),
     ("sum", "no 7"),
@@ -75,7 +76,7 @@ pub fn agree(seed: u64, answers: u64) -> Result<u64, String> {
 /// The questions of one shape.
 fn ask_one(tally: &mut Tally, a: &[i32]) -> Result<(), String> {
     tally.add("judge", [a, &[]], plain::judge(a), proved::judge(a))?;
-    for d in directions(a) {
+    for d in directions(a).into_iter().flat_map(|d| [d, shortest(d)]) {
         let by_hand = plain::furthest(a, d[0], d[1]).numbers();
         let by_proof = proved::furthest(a, d[0], d[1]).numbers();
         tally.add("furthest", [a, &d], by_hand, by_proof)?;
@@ -100,6 +101,18 @@ fn directions(a: &[i32]) -> [[i32; 2]; 5] {
         [x, y],
         [0, 0],
     ]
+}
+
+/// The direction over the divisor of its parts: the one that refusal 12 lets pass.
+fn shortest(d: [i32; 2]) -> [i32; 2] {
+    let [mut common, mut rest] = d.map(i64::from);
+    while rest != 0 {
+        (common, rest) = (rest, common % rest);
+    }
+    match common.abs() {
+        0 => d,
+        common => d.map(|part| (i64::from(part) / common) as i32),
+    }
 }
 
 /// The questions of two shapes that write nothing.
