@@ -9,7 +9,7 @@ use std::cmp::Ordering;
 use std::collections::BTreeSet;
 
 /// What must have been compared at least once: a question, and a refusal or the first value.
-const KINDS: [(&str, &str); 32] = [
+const KINDS: [(&str, &str); 33] = [
     ("judge", "no 1"),
     ("judge", "no 2"),
     ("judge", "no 3"),
@@ -19,6 +19,7 @@ const KINDS: [(&str, &str); 32] = [
     ("furthest", "ok, an edge"),
     ("furthest", "ok, over the end"),
     ("furthest", "no 11"),
+    ("furthest", "no 12"),
     ("sum", "ok"),
     ("sum", "no 6"),
     ("sum", "no 7"),
@@ -85,7 +86,7 @@ pub fn agree(seed: u64, answers: u64) -> Result<u64, String> {
 fn ask_one(tally: &mut Tally, (a, f): Lent) -> Result<(), String> {
     let of: [Lent; 2] = [(a, f), (&[], f)];
     tally.add("judge", of, plain::judge(a, f), proved::judge(a, f))?;
-    for d in directions(a) {
+    for d in directions(a).into_iter().flat_map(|d| [d, shortest(d)]) {
         let by_hand = plain::furthest(a, f, d[0], d[1]).numbers();
         let by_proof = proved::furthest(a, f, d[0], d[1]).numbers();
         tally.add("furthest", [(a, f), (&d, f)], by_hand, by_proof)?;
@@ -110,6 +111,18 @@ fn directions(a: &[i32]) -> [[i32; 2]; 5] {
         [x, y],
         [0, 0],
     ]
+}
+
+/// The direction over the divisor of its parts: the one that refusal 12 lets pass.
+fn shortest(d: [i32; 2]) -> [i32; 2] {
+    let [mut common, mut rest] = d.map(i64::from);
+    while rest != 0 {
+        (common, rest) = (rest, common % rest);
+    }
+    match common.abs() {
+        0 => d,
+        common => d.map(|part| (i64::from(part) / common) as i32),
+    }
 }
 
 /// The questions of two shapes that write nothing.

@@ -246,6 +246,24 @@ const SWEEPS: &[Stated] = &[
         ("sweep | 3 1 3 1 0 1 | 3", "no 8"),
         ("sweep | 3 1 3 1 0 1 | 4", "ok 2 @0 | 0 1 3 1"),
     ]),
+    ("W12: (0,1) passes and (0,5) does not, nor (2,4), which (1,2) names", &[
+        ("furthest | S | 0 1", "ok 2 3 2 @0"),
+        ("furthest | S | 0 5", "no 12"),
+        ("furthest | S | 2 4", "no 12"),
+        ("furthest | S | 1 2", "ok 2 2 6 @0"),
+        ("furthest | S | -1 0", "ok 3 0 0 @0"),
+        ("furthest | S | -2 0", "no 12"),
+        ("furthest | S | 6 -35", "ok 1 1 12 @0"),
+        ("furthest | S | -1048576 1572864", "no 12"),
+        ("furthest | S | 2000000 1999999", "ok 2 2 7999998 @0"),
+        ("furthest | S | -2000000 -2000000", "no 12"),
+    ]),
+    ("W12: 12 comes after 11, and after 1 to 5", &[
+        ("furthest | S | 0 0", "no 11"),
+        ("furthest | S | 4000000 2000000", "no 11"),
+        ("furthest | S | 0 -2147483648", "no 11"),
+        ("furthest | 1 0 0 1 0 0 | 2 4", "no 5 shape 1"),
+    ]),
 ];
 
 pub struct Group {

@@ -3,6 +3,7 @@
 //!     turn a b c    positive if c lies to the left of the edge a to b, 0 on its line
 //!     value d p     u·x + v·y of the point p in the direction d = (u, v)
 //!     cross, dot    the two products of vectors
+//!     divisor       the greatest common divisor, by Euclid's remainders; of (0, v) the size of v
 //!
 //! Coordinates are i64, products i128: nothing here comes near the end of either.
 
@@ -72,6 +73,10 @@ pub fn cross(a: Point, b: Point) -> i128 {
 
 pub fn dot(a: Point, b: Point) -> i128 {
     i128::from(a.x) * i128::from(b.x) + i128::from(a.y) * i128::from(b.y)
+}
+
+pub fn divisor(a: i64, b: i64) -> i64 {
+    if b == 0 { a.abs() } else { divisor(b, a % b) }
 }
 
 /// (bx-ax)(cy-ay) - (by-ay)(cx-ax)

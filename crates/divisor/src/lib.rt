@@ -1,4 +1,4 @@
-// The greatest common divisor of two numbers (document 02, request W12). No question asks it yet.
+// The greatest common divisor of two numbers (document 02, request W12): refusal 12 asks it.
 ghost use mathlib.Core.Path.{_≡_};
 ghost use Prim.Native.Nat.{_/_, _%_, _^_, _<_};
 ghost use Rattle.divisor.specs.Divisor.{gcd};

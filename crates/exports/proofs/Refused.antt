@@ -20,6 +20,7 @@ refusal-crosses k Refusal.Room = refl
 refusal-crosses k Refusal.NotApart = refl
 refusal-crosses k Refusal.Flat = refl
 refusal-crosses k Refusal.Direction = refl
+refusal-crosses k Refusal.NotPrimitive = refl
 refusal-crosses k Refusal.Floors = refl
 refusal-crosses k Refusal.NotAPlace = refl
 refusal-crosses k (Refusal.Damaged p) = refl

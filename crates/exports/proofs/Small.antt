@@ -20,7 +20,7 @@ use Rattle.plane.specs.theory.refusals.Accept.{accepted→valid}
 use Rattle.plane.specs.theory.refusals.Rows.{NoneApply, firstRow-answered, firstRow-none}
 use Rattle.plane.specs.theory.refusals.Floors.{withFloor-answered}
 use Rattle.plane.specs.theory.support.Bounds.{support-size}
-use Rattle.polygon.specs.theory.Furthest.{direction-near}
+use Rattle.plane.specs.theory.direction.Rows.{direction-near}
 use Rattle.exports.specs.Crossing.{crossed}
 
 judged-first : (which : ℕ) (l : List ℤ) (ws : List Row) → NoneApply (shapeRows which l ++ ws) → Valid l × NoneApply ws

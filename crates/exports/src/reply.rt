@@ -119,6 +119,7 @@ pub fn refused(refusal: Refusal) -> Numbers
         Refusal::NotApart => pair(9, 0, 0, 0),
         Refusal::Flat => pair(10, 0, 0, 0),
         Refusal::Direction => pair(11, 0, 0, 0),
+        Refusal::NotPrimitive => pair(12, 0, 0, 0),
         Refusal::Floors => pair(13, 0, 0, 0),
         Refusal::NotAPlace => pair(14, 0, 0, 0),
         Refusal::NotFinite { part } => pair(17, part as u64, 0, 0),

@@ -1,7 +1,7 @@
 -- Bounds on the size of an integer.
 --     Within n x      x is from -n to n
 -- `beyond-size`: a bound as two tests. `within-le`, `within-ge` read it as two orders, `within-of` makes it of them; `within-widen` takes
--- a larger bound.
+-- a larger bound. `natAbs-*`: the size of a product.
 use mathlib.Core.Path.{_≡_, refl, sym, subst}
 use mathlib.Core.Bool.{Bool, true, false, _||_}
 use mathlib.Core.Logic.{_⊎_, inl, inr}
@@ -53,7 +53,7 @@ within-add {m} {n} {x} {y} v w = record { size = go (one-part (x +ℤ y)) (one-p
     go (inl h) p q = omega (arith, size-parts x, size-parts y, size-parts (x +ℤ y), same, v .size, w .size)
     go (inr h) p q = omega (arith, size-parts x, size-parts y, size-parts (x +ℤ y), same, v .size, w .size)
 
-natAbs-* : (x y : ℤ) → natAbs (x *ℤ y) ≡ natAbs x * natAbs y
+pub natAbs-* : (x y : ℤ) → natAbs (x *ℤ y) ≡ natAbs x * natAbs y
 natAbs-* (pos a) (pos b) = refl
 natAbs-* (pos a) (negsuc b) = neg-size (a * suc b)
 natAbs-* (negsuc a) (pos b) = neg-size (suc a * b)

@@ -7,3 +7,4 @@ pub mod Linear
 pub mod Order
 pub mod Bound
 pub mod Machine
+pub mod Size

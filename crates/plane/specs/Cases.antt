@@ -1,6 +1,6 @@
 -- Document 01's starred cases ("Cases to hold against"), as one table over the definitions and one fact about all its rows, by computing.
 -- The rows are quoted in 01's order; a row is what the definition gives and what 01 states. The last are of document 02, requests W1, W3,
--- W8, W10 and W11.
+-- W8 and W10 to W12.
 use mathlib.Core.Path.{_≡_, refl}
 use mathlib.Core.Bool.{cond}
 use mathlib.Core.List.{List, [], _∷_, _++_, map}
@@ -8,8 +8,9 @@ use Prim.Native.Nat.{ℕ, _+_}
 use lib.IntN.{ℤ, pos, negsuc}
 use lib.ListN.{length, replicate}
 use lib.Signed.{ltZ}
+use Rattle.divisor.specs.Divisor.{gcd, euclid}
 use Rattle.plane.specs.Limits.{maxCorners, maxCoordinate, maxPoints, maxPart}
-use Rattle.plane.specs.Point.{point, points, corner, samePoint}
+use Rattle.plane.specs.Point.{Point, point, points, corner, samePoint}
 use Rattle.plane.specs.Turn.{turn}
 use Rattle.plane.specs.Shape.{next, breaks, precedes}
 use Rattle.plane.specs.Reply.{Reply, answered, refused}
@@ -20,7 +21,8 @@ use Rattle.plane.specs.Direction.{max, value, support, furthest}
 use Rattle.plane.specs.Corner.{shapeOf}
 use Rattle.plane.specs.Output.{Written, noRoom, overwritten}
 use Rattle.plane.specs.Face.{faceFirst, faceLast}
-use Rattle.plane.specs.Furthest.{badDirection, furthestReply}
+use Rattle.plane.specs.Furthest.{badDirection, commonDivisor, furthestReply}
+use Rattle.plane.specs.Primitive.{primitive}
 use Rattle.plane.specs.Combine.{sumWritten, mergeWritten}
 use Rattle.plane.specs.Sweep.{tooManyPoints, sweepWritten}
 use Rattle.plane.specs.Measure.{squared, lengthSquared, furthestPair, lengthFrom, lengthTo, lengthReply, edgeTurn, height}
@@ -90,6 +92,10 @@ turnsLeft l e =
     let f = next (length ps) e in
     cond (ltZ (pos 0) (turn (corner ps e) (corner ps f) (corner ps (next (length ps) f)))) (pos 1) (pos 0)
 
+-- a direction's name, as a reply
+abbrev named : Point → Reply
+named d = answered (primitive d .x ∷ primitive d .y ∷ [])
+
 pub rows : List Case
 rows =
     -- S plus T, whole output: 5 corners
@@ -154,6 +160,14 @@ rows =
       given = writtenBetween (on S 7) (on T 8) sumWritten (pair 7 7);
       stated = record { reply = refused 13 []; output = pair 7 7 };
     }
+    -- "(0,1) passes and (0,5) does not"; 2 4: 12; (0,0), and 4000000 2000000, out of range: 11; the name of 0 -5, and that of 2 4
+    ∷ says (furthestReply S (point (pos 0) (pos 1))) (answered (pos 2 ∷ pos 3 ∷ pos 2 ∷ []))
+    ∷ says (furthestReply S (point (pos 0) (pos 5))) (refused 12 [])
+    ∷ says (furthestReply S (point (pos 2) (pos 4))) (refused 12 [])
+    ∷ says (furthestReply S (point (pos 0) (pos 0))) (refused 11 [])
+    ∷ says (furthestReply S (point (pos 4_000_000) (pos 2_000_000))) (refused 11 [])
+    ∷ says (named (point (pos 0) (negsuc 4))) (answered (pos 0 ∷ negsuc 0 ∷ []))
+    ∷ says (named (point (pos 2) (pos 4))) (answered (pos 1 ∷ pos 2 ∷ []))
     ∷ []
 
 pub rows-hold : map (λ (r : Case). r .given) rows ≡ map (λ (r : Case). r .stated) rows
@@ -165,6 +179,6 @@ unfolding rows maxCorners maxCoordinate maxPoints maxPart turn breaks precedes s
     inside apart notLeft onRim touching relationReply
     onSide touches nearer tangent tangentFrom tangentTo tangentsReply
     value falls top bottom noFurther nearest clearanceReply
-    support furthest faceFirst faceLast badDirection furthestReply
+    support furthest faceFirst faceLast badDirection euclid gcd commonDivisor furthestReply primitive
     between writtenBetween
 rows-hold = refl

@@ -15,6 +15,7 @@ pub mod Output
 pub mod VectorSum
 pub mod Face
 pub mod Furthest
+pub mod Primitive
 pub mod Combine
 pub mod Sweep
 pub mod Measure

@@ -5,14 +5,15 @@
 --     forms          three ways to say that a list is a shape
 --     directions     how far sums, lists taken together and mirrored lists reach; a shape is known by how far it reaches
 --     faces          the furthest corners of a shape, from the first to the last counterclockwise
+--     names          of all directions that point one way, 11 and 12 let exactly one pass
 --     mirror, sweep  refusals 6 and 7 cannot come of them
-use mathlib.Core.Path.{_≡_, refl}
+use mathlib.Core.Path.{_≡_, refl, sym}
 use mathlib.Core.Bool.{true, false}
 use mathlib.Core.List.{List, [], _∷_, _++_}
 use mathlib.Core.Logic.{_⊎_}
 use Prim.Native.Nat.{ℕ, _≤_, _<_}
 use lib.ListN.{length, drop}
-use lib.IntN.{ℤ, pos, _+ℤ_}
+use lib.IntN.{ℤ, pos, _+ℤ_, _*ℤ_}
 use lib.Signed.{_≤ℤ_, _<ℤ_}
 use Rattle.integer.specs.Bound.{Within}
 use Rattle.plane.specs.Limits.{maxPart}
@@ -27,6 +28,8 @@ use Rattle.plane.specs.Corner.{Corner, shapeOf, sums, mirrored}
 use Rattle.plane.specs.Forms.{Ordered, Sorted, NonZero, edges}
 use Rattle.plane.specs.Output.{Written, overwritten, written}
 use Rattle.plane.specs.Face.{faceFirst, faceLast}
+use Rattle.plane.specs.Furthest.{badDirection, partsDivisor, commonDivisor}
+use Rattle.plane.specs.Primitive.{primitive}
 use Rattle.plane.specs.Sweep.{ValidPoints}
 use Rattle.plane.specs.Floor.{Floored, withFloor, writtenOn, between, writtenBetween}
 use Rattle.plane.specs.Question.{Question, reply, table}
@@ -39,6 +42,7 @@ use Rattle.plane.specs.theory.refusals.Write.{refused-output, answered-o
 use Rattle.plane.specs.theory.refusals.Floors.{between-same, written-same, between-different}
 use Rattle.plane.specs.theory.refusals.Tables.{table-given, table-refused, table-none, table-answered}
 use Rattle.plane.specs.theory.forms.Standard.{shape→sorted, sorted→ordered, ordered→shape}
+use Rattle.plane.specs.theory.forms.SameWay.{SameWay}
 use Rattle.plane.specs.theory.support.Support.{value-le-support, support-append, support-sums, support-mirrored}
 use Rattle.plane.specs.theory.hull.ShapeOf.{shapeOf-support, shapeOf-shape, shapeOf-corner, corner-shapeOf, shapeOf-unique}
 use Rattle.plane.specs.theory.hull.ShapeOf.{shapeOf-same, shape-extensional, shape-known, shape-own}
@@ -48,6 +52,10 @@ use Rattle.plane.specs.VectorSum.{vectorSum}
 use Rattle.plane.specs.theory.sum.EdgeSum.{vectorSum-shape}
 use Rattle.plane.specs.theory.face.FirstFurthest.{furthest-greatest}
 use Rattle.plane.specs.theory.face.Face.{Face, face-is, face-unique, face-left, segment-face}
+use Rattle.plane.specs.theory.direction.Rows.{direction-some}
+use Rattle.plane.specs.theory.direction.Scaled.{same-face-first, same-face-last}
+use Rattle.plane.specs.theory.direction.Primitive.{primitive-multiple, primitive-support, primitive-same, primitive-bad}
+use Rattle.plane.specs.theory.direction.Primitive.{primitive-common, primitive-only}
 use Rattle.plane.specs.theory.mirror.Mirror.{mirror-count}
 use Rattle.plane.specs.theory.mirror.MirrorWritten.{mirror-few, mirror-near}
 use Rattle.plane.specs.theory.sweep.Few.{shapeOf-few}
@@ -280,6 +288,35 @@ module _ (d : Point) (ps : List Point) (s : IsShape ps) (some : NonZero d) where
   -- "this is the one exception": these promises, for a segment that the first is not behind the last, leave no choice
   pub face-is-only-one : (i j : ℕ) → Face d ps i j → (i ≡ faceFirst d ps) × (j ≡ faceLast d ps)
   face-is-only-one i j f = face-unique s some (face-is s some) f
+
+-- ---- names (document 02, request W12)
+
+-- a direction that is not (0,0) and has its parts in range
+module _ (d : Point) (good : badDirection d ≡ false) where
+  -- "One name for a direction": its parts over their divisor pass 11 and 12
+  pub name-passes : (badDirection (primitive d) ≡ false) × (commonDivisor (primitive d) ≡ false)
+  name-passes = (primitive-bad d good, primitive-common d (direction-some d good))
+
+  -- they point the same way: some positive multiples of the two are equal
+  pub name-points-same-way : SameWay (primitive d) d
+  name-points-same-way = primitive-same d (direction-some d good)
+
+  -- and no other direction that does so passes
+  pub name-is-only-one : (e : Point) → badDirection e ≡ false → commonDivisor e ≡ false → SameWay e d → e ≡ primitive d
+  name-is-only-one e h passes s = primitive-only d e (direction-some d good) passes s
+
+  -- the direction is its divisor times its name
+  pub direction-is-multiple : (pos (partsDivisor d) *ℤ primitive d .x ≡ d .x) × (pos (partsDivisor d) *ℤ primitive d .y ≡ d .y)
+  direction-is-multiple = primitive-multiple d
+
+  -- and so is the greatest value
+  pub greatest-value-is-multiple : (ps : List Point) → support d ps ≡ pos (partsDivisor d) *ℤ support (primitive d) ps
+  greatest-value-is-multiple ps = sym (primitive-support d (direction-some d good) ps)
+
+-- "Logs held (2,4) and (1,2)": all directions that point the same way have the same furthest corners
+pub same-way-same-face : {d e : Point} → SameWay d e → (ps : List Point)
+    → (faceFirst d ps ≡ faceFirst e ps) × (faceLast d ps ≡ faceLast e ps)
+same-way-same-face s ps = (same-face-first s ps, same-face-last s ps)
 
 -- ---- mirror
 

@@ -6,6 +6,7 @@
 --     hull         the hull scan, and the shape of a set
 --     sum          paths along edges, the cut, the sum of sorted edges
 --     face         the furthest corners of a shape in a direction
+--     direction    what refusals 11 and 12 let pass, and the one name of a direction
 --     mirror       the mirror image
 --     sweep        how large the shape of a set is
 pub mod lists
@@ -15,5 +16,6 @@ pub mod support
 pub mod hull
 pub mod sum
 pub mod face
+pub mod direction
 pub mod mirror
 pub mod sweep

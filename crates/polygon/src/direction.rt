@@ -1,4 +1,4 @@
-// Inner functions on directions: refusal 11, and the corners of a shape that have the greatest value.
+// Inner functions on directions: refusals 11 and 12, and the corners of a shape that have the greatest value.
 ghost use mathlib.Core.Bool.{_&&_};
 ghost use mathlib.Core.Path.{_≡_};
 ghost use Prim.Native.Nat.{_^_, _<_};
@@ -12,7 +12,7 @@ ghost use Rattle.plane.specs.Forms.{NonZero};
 ghost use Rattle.plane.specs.Refusal.{InRange};
 ghost use Rattle.plane.specs.Direction.{value, support, furthest};
 ghost use Rattle.plane.specs.Face.{faceFirst, faceLast};
-ghost use Rattle.plane.specs.Furthest.{badDirection};
+ghost use Rattle.plane.specs.Furthest.{badDirection, commonDivisor};
 ghost use Rattle.polygon.specs.Point.{at, Small};
 use crate::corners;
 use crate::limits;
@@ -38,6 +38,25 @@ fn zero(u: i32, v: i32) -> bool
     ensures { λ r. ⌜ r ≡ (eqb (natAbs u) 0 && eqb (natAbs v) 0) ⌝ }
 {
     u == 0 && v == 0
+}
+
+// Refusal 12: the parts have a common divisor above 1. That of 0 and v is v without its sign, so that (0, 1) passes and
+// (0, 5) does not.
+// Ruled out: one taken for a common divisor; twos stripped from one part only; divisor one of a part and zero.
+pub fn common_divisor(u: i32, v: i32) -> bool
+    ensures { λ r. ⌜ r ≡ commonDivisor (point u v) ⌝ }
+{
+    1 < divisor::divisor(magnitude(u), magnitude(v))
+}
+
+// A number without its sign.
+pub fn magnitude(z: i32) -> u32
+    ensures { λ r. ⌜ r ≡ natAbs z ⌝ }
+{
+    if z < 0 {
+        return (-1 - z) as u32 + 1;
+    }
+    z as u32
 }
 
 // The first and the last of the corners with the greatest value, counterclockwise, and that value.

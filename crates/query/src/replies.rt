@@ -81,6 +81,7 @@ fn number(refusal: Refusal) -> u64 {
         Refusal::NotApart => 9,
         Refusal::Flat => 10,
         Refusal::Direction => 11,
+        Refusal::NotPrimitive => 12,
         Refusal::Floors => 13,
         Refusal::NotAPlace => 14,
         Refusal::Damaged { place: _ } => 15,

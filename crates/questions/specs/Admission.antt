@@ -5,6 +5,7 @@
 --     AdmittedPair a b r      two shapes on one floor, or the rows of the first, of the second, or 13 refuse them
 --     Surveyed shape r        refusals 6 and 7 of an answer: neither applies, or the first that does is given
 --     AdmittedPoints l r      the list holds the points of a sweep, or its rows refuse it
+--     AdmittedDirection d r   neither 11 nor 12 applies to the direction, or the first that does is given
 --     Coordinated part x r    a reading's whole number, or its rows refuse it and blame the part
 use mathlib.Core.Path.{_≡_}
 use mathlib.Core.Bool.{false}
@@ -14,6 +15,7 @@ use lib.IntN.{ℤ}
 use Rattle.plane.specs.Reply.{Reply, Row, firstRow}
 use Rattle.plane.specs.Point.{Point, numbers}
 use Rattle.plane.specs.Refusal.{tooMany, someOutside, shapeRows, Valid}
+use Rattle.plane.specs.Furthest.{badDirection, commonDivisor, directionRows}
 use Rattle.calipers.specs.Part.{surveyRows}
 use Rattle.plane.specs.Floor.{Floored, pairRows}
 use Rattle.plane.specs.Sweep.{pointRows, ValidPoints}
@@ -44,6 +46,10 @@ Surveyed shape (Admission.No r) = Refuses (surveyRows shape) (ofRefusal r)
 abbrev pub AdmittedPoints : List ℤ → Admission → Type 0
 AdmittedPoints l Admission.Valid = ValidPoints l
 AdmittedPoints l (Admission.No r) = Refuses (pointRows l) (ofRefusal r)
+
+abbrev pub AdmittedDirection : Point → Admission → Type 0
+AdmittedDirection d Admission.Valid = (badDirection d ≡ false) × (commonDivisor d ≡ false)
+AdmittedDirection d (Admission.No r) = Refuses (directionRows d) (ofRefusal r)
 
 abbrev pub Coordinated : ℕ → Reading → Coordinate → Type 0
 Coordinated part x (Coordinate.Whole n) = readAs x ≡ Whole n

@@ -49,6 +49,7 @@ ofRefusal Refusal.Room = refused 8 []
 ofRefusal Refusal.NotApart = refused 9 []
 ofRefusal Refusal.Flat = refused 10 []
 ofRefusal Refusal.Direction = refused 11 []
+ofRefusal Refusal.NotPrimitive = refused 12 []
 ofRefusal Refusal.Floors = refused 13 []
 ofRefusal Refusal.NotAPlace = refused 14 []
 ofRefusal (Refusal.Damaged place) = refused 15 (place ∷ [])

@@ -1,12 +1,14 @@
-// Inner functions: lists judged, each once, before a question is asked of them.
+// Inner functions: lists judged, each once, before a question is asked of them, and the direction of a question.
+ghost use Rattle.plane.specs.Point.{point};
 ghost use Rattle.plane.specs.Floor.{on};
-ghost use Rattle.questions.specs.Admission.{Admitted, AdmittedPair, AdmittedPoints};
+ghost use Rattle.questions.specs.Admission.{Admitted, AdmittedPair, AdmittedPoints, AdmittedDirection};
 use crate::answer::Refusal;
 use calipers::sorted;
+use polygon::direction;
 use polygon::rules;
 use polygon::rules::Broken;
 
-// A list that is a shape, two shapes on one floor, the points of a sweep, or the first refusal of 1 to 5 and 13.
+// A list that is a shape, two shapes on one floor, the points of a sweep, a direction that passes, or the first refusal.
 pub enum Admission {
     Valid,
     No(Refusal),
@@ -73,6 +75,20 @@ pub fn admit_points(list: &[i32]) -> Admission
     }
     if rules::some_outside(list) {
         return Admission::No(Refusal::Range { shape: 1 });
+    }
+    Admission::Valid
+}
+
+// Judges a direction that a caller gives: 11, then 12. Of directions that point the same way one passes.
+// Ruled out: eleven and twelve exchanged; twelve before eleven; one taken for a common divisor.
+pub fn admit_direction(u: i32, v: i32) -> Admission
+    ensures { λ r. ⌜ AdmittedDirection (point u v) r ⌝ }
+{
+    if direction::bad_direction(u, v) {
+        return Admission::No(Refusal::Direction);
+    }
+    if direction::common_divisor(u, v) {
+        return Admission::No(Refusal::NotPrimitive);
     }
     Admission::Valid
 }

@@ -38,6 +38,8 @@ pub enum Refusal {
     Flat,
     // 11: a direction (0, 0), or with a part out of range
     Direction,
+    // 12: a direction whose parts have a common divisor above 1
+    NotPrimitive,
     // 13: two shapes on different floors
     Floors,
     // 14: a walk that is at no place of the sum of these two shapes

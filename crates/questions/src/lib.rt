@@ -79,17 +79,18 @@ pub fn judge(list: &[i32], floor: u16) -> Answer
 // The corners that are furthest in the direction (u, v): the first and the last, counterclockwise, of those with the
 // greatest u·x + v·y, and that value. They are one or two neighbours: where one corner is furthest alone, as that of a
 // point always is, it is given twice; the last and the first of the list are given in this order; of a segment that
-// lies across the direction 0 and 1. Refused: 1 to 5, then the direction (0, 0) and one with a part out of range.
+// lies across the direction 0 and 1. Refused: 1 to 5, then the direction (0, 0) and one with a part out of range, then
+// one whose parts have a common divisor above 1: of directions that point the same way one is answered.
 // Ruled out: first and last exchanged; segment taken over the end; smallest position over the end; last position on a
-// tie; upright direction refused.
+// tie; upright direction refused; eleven and twelve exchanged.
 pub fn furthest(list: &[i32], floor: u16, u: i32, v: i32) -> Furthest
     ensures { λ r. ⌜ ofFurthest r ≡ withFloor floor (furthestReply (now (list .entry)) (point u v)) ⌝ }
 {
     if let Admission::No(refusal) = admission::admit(list, 1) {
         return Furthest::No(refusal);
     }
-    if direction::bad_direction(u, v) {
-        return Furthest::No(Refusal::Direction);
+    if let Admission::No(refusal) = admission::admit_direction(u, v) {
+        return Furthest::No(refusal);
     }
     let face = direction::face_towards(list, Point { x: u, y: v });
     Furthest::At {

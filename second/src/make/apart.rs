@@ -2,7 +2,7 @@
 //! that edges of both stay on one line or side by side.
 
 use super::dice::Dice;
-use super::edges::{edges_of, shape_from_edges};
+use super::edges::{along, edges_of, shape_from_edges};
 use super::shapes::{self, moved, scaled, vector};
 use super::{long, pairs};
 use crate::hull::hull_of;
@@ -176,12 +176,4 @@ fn away(dice: &mut Dice, a: &[Point], b: &[Point], step: Point) -> Shape {
     let steps =
         i64::try_from(least).expect("coordinates are small") + dice.pick(&[0, 0, 0, 1, 3, -1, -2]);
     moved(b, step * steps)
-}
-
-/// The shortest whole vector in the direction; along x for none.
-fn along(direction: Point) -> Point {
-    match super::edges::divisor(direction.x, direction.y) {
-        0 => point(1, 0),
-        common => point(direction.x / common, direction.y / common),
-    }
 }

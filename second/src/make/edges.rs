@@ -1,6 +1,6 @@
 //! Shapes from edge vectors: sorted by angle and walked from the standard corner.
 
-use crate::plane::{Point, Shape, cross, point};
+use crate::plane::{Point, Shape, cross, divisor, point};
 use std::cmp::Ordering;
 
 /// The shape whose edges are the vectors and one more that closes them; vectors of one direction
@@ -46,9 +46,12 @@ pub fn shortest_primitives(count: usize) -> Vec<Point> {
     found
 }
 
-/// The greatest common divisor.
-pub fn divisor(a: i64, b: i64) -> i64 {
-    if b == 0 { a.abs() } else { divisor(b, a % b) }
+/// The shortest whole vector in the direction; along x for none.
+pub fn along(direction: Point) -> Point {
+    match divisor(direction.x, direction.y) {
+        0 => point(1, 0),
+        common => point(direction.x / common, direction.y / common),
+    }
 }
 
 fn upper(v: Point) -> bool {

@@ -1,10 +1,10 @@
 //! Good shapes of every sort: points, segments, polygons small and large, thin, tied, long.
 
 use super::dice::Dice;
-use super::edges::{divisor, shape_from_edges};
+use super::edges::shape_from_edges;
 use super::long;
 use crate::hull::hull_of;
-use crate::plane::{Point, Shape, point};
+use crate::plane::{Point, Shape, divisor, point};
 use crate::refusal::{MOST_COORDINATE, MOST_CORNERS};
 
 /// Any shape, somewhere in range.

@@ -1,7 +1,8 @@
-//! What stands behind the shapes: directions with ties and past the limits, rooms around the need.
+//! What stands behind the shapes: directions with ties, past the limits, and some times their
+//! shortest, rooms around the need.
 
 use super::dice::Dice;
-use super::edges::edges_of;
+use super::edges::{along, edges_of};
 use super::shapes::vector;
 use crate::plane::{Point, point};
 use crate::refusal::{MOST_CORNERS, MOST_DIRECTION};
@@ -10,11 +11,30 @@ pub fn direction(dice: &mut Dice, list: &[i64]) -> Point {
     match dice.below(20) {
         0 => point(0, 0),
         1..4 => point(limit_part(dice), limit_part(dice)),
-        4..10 => normal(dice, list),
-        10..15 => vector(dice, 3),
-        15..17 => dice.pick(&[point(1, 0), point(0, 1), point(-1, 0), point(0, -1)]),
-        _ => vector(dice, MOST_DIRECTION),
+        4..6 => dice.pick(&[point(1, 0), point(0, 1), point(-1, 0), point(0, -1)]),
+        sort => {
+            let any = match sort {
+                6..12 => normal(dice, list),
+                12..17 => vector(dice, 3),
+                _ => vector(dice, MOST_DIRECTION),
+            };
+            shortened(dice, any)
+        }
     }
+}
+
+/// Mostly over the divisor of its parts; else as it is, or some times as long.
+fn shortened(dice: &mut Dice, direction: Point) -> Point {
+    match dice.below(8) {
+        0 if fits(direction * 9) => direction * dice.between(2, 9),
+        0..2 => direction,
+        _ => along(direction),
+    }
+}
+
+/// Whether both parts are numbers of 32 bits.
+fn fits(direction: Point) -> bool {
+    i32::try_from(direction.x).is_ok() && i32::try_from(direction.y).is_ok()
 }
 
 /// A part at, before or past the limit, or any number of 32 bits.
@@ -44,12 +64,7 @@ fn normal(dice: &mut Dice, list: &[i64]) -> Point {
     };
     let inward = edge.quarter_turned();
     let away = if dice.one_in(6) { inward } else { -inward };
-    let fits = |part: i64| i32::try_from(part).is_ok();
-    if fits(away.x) && fits(away.y) {
-        away
-    } else {
-        vector(dice, 3)
-    }
+    if fits(away) { away } else { vector(dice, 3) }
 }
 
 /// How many numbers the output holds: about what the answer needs, none, enough for any, or more

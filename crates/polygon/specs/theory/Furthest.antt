@@ -1,34 +1,28 @@
 -- A walk that keeps the greatest value so far and its smallest position (`Greatest`), and what it has found at the end.
 --     greatest-start, greatest-keep, greatest-rise      the moves of the walk
 --     greatest-furthest                                 past the last corner: the position of the furthest corner
---     direction-near, direction-some                    a direction that refusal 11 lets pass has its parts in range, and is not (0,0)
---     furthest-refused, furthest-answered               what is answered of a valid list
-use mathlib.Core.Path.{_≡_, refl, sym, _∙_, ap, subst}
-use mathlib.Core.Bool.{Bool, true, false, _&&_, _||_, true≢false}
-use mathlib.Core.List.{List, [], _∷_}
+--     furthest-answered                                 what is answered of a valid list and a direction that passes
+use mathlib.Core.Path.{_≡_, sym, _∙_, ap, subst}
+use mathlib.Core.Bool.{false}
+use mathlib.Core.List.{List, [], _∷_, _++_}
 use Prim.Native.Nat.{ℕ, _+_, _<_}
 use native.Mathlib.Omega.{arith}
 use borrow.Author.Count.{below-more}
-use borrow.Author.Tests.{ltb-false}
-use lib.Dec.{eqb, ltb}
-use lib.IntN.{ℤ, pos, natAbs}
+use lib.IntN.{ℤ, pos}
 use lib.ListN.{length}
 use lib.Signed.{_≤ℤ_, _<ℤ_}
-use Rattle.integer.specs.Bound.{Within}
 use Rattle.integer.specs.Linear.{lia, linear, _&_}
 use Rattle.integer.specs.Order.{weaken, le-of-eq, le-leZ, lt-leZ}
-use Rattle.plane.specs.Limits.{maxPart}
 use Rattle.plane.specs.Point.{Point, points, corner}
-use Rattle.plane.specs.Forms.{NonZero}
 use Rattle.plane.specs.Direction.{value, support, furthest}
 use Rattle.plane.specs.Face.{isFurthest, faceFirst, faceLast}
-use Rattle.plane.specs.Reply.{Reply, answered, refused, Row, row, firstRow}
+use Rattle.plane.specs.Reply.{answered}
 use Rattle.plane.specs.Refusal.{shapeRows, Valid}
-use Rattle.plane.specs.Furthest.{badDirection, directionRows, furthestReply}
-use Rattle.plane.specs.theory.refusals.Rows.{row-given, firstRow-append, firstRow-none}
+use Rattle.plane.specs.Furthest.{badDirection, commonDivisor, directionRows, furthestReply}
+use Rattle.plane.specs.theory.refusals.Rows.{none-join, firstRow-none}
 use Rattle.plane.specs.theory.refusals.Accept.{valid→accepted}
 use Rattle.plane.specs.theory.lists.Members.{position-member, member-position}
-use Rattle.plane.specs.theory.lists.Sought.{first-unique, true-not-false}
+use Rattle.plane.specs.theory.lists.Sought.{first-unique}
 use Rattle.plane.specs.theory.support.Support.{support-unique}
 use Rattle.plane.specs.theory.face.FirstFurthest.{Greatest}
 
@@ -81,42 +75,11 @@ module _ (d : Point) (ps : List Point) {i at : ℕ} {z : ℤ} (g : Greatest (λ 
       (λ h. le-leZ (le-of-eq (sym greatest-support ∙ g .has)))
       (λ k h. lt-leZ (subst (λ s. value d (corner ps k) <ℤ s) greatest-support (g .earliest k h))))
 
--- ---- the direction
-
-pub direction-near : (d : Point) → badDirection d ≡ false → Within maxPart (d .x) × Within maxPart (d .y)
-unfolding badDirection
-direction-near d h = go (eqb (natAbs (d .x)) 0 && eqb (natAbs (d .y)) 0)
-    (ltb maxPart (natAbs (d .x))) refl (ltb maxPart (natAbs (d .y))) refl h
-  where
-    go : (z s : Bool) → ltb maxPart (natAbs (d .x)) ≡ s → (t : Bool) → ltb maxPart (natAbs (d .y)) ≡ t → (z || (s || t)) ≡ false
-        → Within maxPart (d .x) × Within maxPart (d .y)
-    go true s p t q h = absurd (true≢false h)
-    go false true p t q h = absurd (true≢false h)
-    go false false p true q h = absurd (true≢false h)
-    go false false p false q h = (record { size = ltb-false _ _ p }, record { size = ltb-false _ _ q })
-
-pub direction-some : (d : Point) → badDirection d ≡ false → NonZero d
-unfolding badDirection
-direction-some d h = record { non-zero = λ e. true-not-false (ap badDirection e) h }
-
 -- ---- the answer
 
-module _ (l : List ℤ) (v : Valid l) (d : Point) where
-  rows : List Row
-  rows = directionRows d
-
-  answer : Reply
-  answer = answered (pos (faceFirst d (points l)) ∷ pos (faceLast d (points l)) ∷ support d (points l) ∷ [])
-
-  reply-is : furthestReply l d ≡ firstRow rows answer
-  unfolding furthestReply rows answer
-  reply-is = firstRow-append (shapeRows 1 l) rows answer ∙ firstRow-none (shapeRows 1 l) (firstRow rows answer) (valid→accepted l 1 v)
-
-  pub furthest-refused : badDirection d ≡ true → refused 11 [] ≡ furthestReply l d
-  unfolding rows answer
-  furthest-refused h = row-given (row 11 (badDirection d) []) [] answer h ∙ sym reply-is
-
-  pub furthest-answered : badDirection d ≡ false
-      → answered (pos (faceFirst d (points l)) ∷ pos (faceLast d (points l)) ∷ support d (points l) ∷ []) ≡ furthestReply l d
-  unfolding rows answer
-  furthest-answered h = sym (firstRow-none rows answer (h, tt)) ∙ sym reply-is
+pub furthest-answered : (l : List ℤ) → Valid l → (d : Point) → badDirection d ≡ false → commonDivisor d ≡ false
+    → answered (pos (faceFirst d (points l)) ∷ pos (faceLast d (points l)) ∷ support d (points l) ∷ []) ≡ furthestReply l d
+unfolding furthestReply
+furthest-answered l v d h k =
+    let none = none-join (shapeRows 1 l) (directionRows d) (valid→accepted l 1 v) (h, (k, tt)) in
+    sym (firstRow-none (shapeRows 1 l ++ directionRows d) _ none)

@@ -15,16 +15,19 @@ use Rattle.plane.specs.Direction.{support}
 use Rattle.plane.specs.Face.{faceFirst, faceLast}
 use Rattle.plane.specs.Reply.{answered}
 use Rattle.plane.specs.Floor.{withFloor}
-use Rattle.plane.specs.Furthest.{badDirection, directionRows, furthestReply}
+use Rattle.plane.specs.Furthest.{directionRows, furthestReply}
+use Rattle.plane.specs.theory.refusals.Accept.{valid→accepted}
 use Rattle.plane.specs.theory.support.Bounds.{support-size}
+use Rattle.plane.specs.theory.direction.Rows.{direction-near, direction-some}
 use Rattle.polygon.specs.Point.{Small}
 use Rattle.polygon.specs.theory.Small.{small-wide}
-use Rattle.polygon.specs.theory.Furthest.{direction-near, direction-some, furthest-refused, furthest-answered}
-use Rattle.questions.specs.theory.Rows.{refuses-more, refuses-carried}
+use Rattle.polygon.specs.theory.Furthest.{furthest-answered}
+use Rattle.questions.specs.theory.Rows.{refuses-more, refuses-behind, refuses-carried}
 use borrow.Author.Needs.{needs}
 use Rattle.plane.specs.Refusal.{shapeRows, Valid}
 use Rattle.questions.specs.Answer.{ofRefusal}
-use Rattle.questions.specs.Admission.{Refuses, Admitted}
+use Rattle.questions.specs.declared.admission.Admission.the-variants as Admission
+use Rattle.questions.specs.Admission.{Refuses, Admitted, AdmittedDirection}
 use Rattle.questions.proofs.furthest.Statement.{statement}
 use Rattle.questions.proofs.furthest.Tie as tie
 
@@ -37,6 +40,22 @@ refusal : (c : tie.After-known-told) → Refuses (shapeRows 1 (c .before .before
     (ofRefusal (c .before .refusal .given .0 .0))
 refusal c = subst (Admitted 1 _) (c .before .refusal .given .1) (c .before .before .before .admit .ensures)
 
+-- the direction, read back from its bits
+direction-is : (c : tie.Start) → point (toZ w32 (ofZ w32 (c .args .u))) (toZ w32 (ofZ w32 (c .args .v))) ≡ point (c .args .u) (c .args .v)
+direction-is c = ap₂ point (toZ-ofZ (c .fits .u)) (toZ-ofZ (c .fits .v))
+
+-- what judging it says
+judged-direction : (c : tie.After-admit-direction) → let start = c .before .before .before .before in
+    AdmittedDirection (point (start .args .u) (start .args .v)) (c .admit-direction .result)
+judged-direction c =
+    subst (λ (d : Point). AdmittedDirection d (c .admit-direction .result)) (direction-is (c .before .before .before .before))
+    (c .admit-direction .ensures)
+
+-- past it, neither row applies
+passed : (c : tie.After-enum-told2) → let start = c .before .before .before .before .before .before in
+    AdmittedDirection (point (start .args .u) (start .args .v)) Admission.Valid
+passed c = subst (AdmittedDirection _) (c .enum-told2 .given .1) (judged-direction (c .before .before))
+
 admit-requires : tie.Need-admit-requires
 admit-requires c κs = search needs
 
@@ -46,33 +65,35 @@ enum-known-refusal c = search needs
 enum-told : tie.Need-enum-told
 enum-told c = search needs
 
--- the direction, read back from its bits
-direction-is : (c : tie.Start) → point (toZ w32 (ofZ w32 (c .args .u))) (toZ w32 (ofZ w32 (c .args .v))) ≡ point (c .args .u) (c .args .v)
-direction-is c = ap₂ point (toZ-ofZ (c .fits .u)) (toZ-ofZ (c .fits .v))
-
-bad-is : (c : tie.After-bad-direction)
-    → c .bad-direction .result ≡ badDirection
-    (point (c .before .before .before .before .args .u) (c .before .before .before .before .args .v))
-bad-is c = c .bad-direction .ensures ∙ ap badDirection (direction-is (c .before .before .before .before))
-
 returns : tie.Need-returns
 unfolding furthestReply
 returns c =
     let args = c .before .before .before .before .args in
     refuses-carried (refusal c) (args .floor) (refuses-more (refusal c) (directionRows (point (args .u) (args .v))) _)
 
-bad-direction-requires : tie.Need-bad-direction-requires
-bad-direction-requires c κs = search needs
+admit-direction-requires : tie.Need-admit-direction-requires
+admit-direction-requires c κs = search needs
+
+enum-known-refusal-2 : tie.Need-enum-known-refusal-2
+enum-known-refusal-2 c = search needs
 
 returns-2 : tie.Need-returns-2
-returns-2 c = ap (withFloor (c .before .before .before .before .before .args .floor))
-    (furthest-refused _ (valid (c .before .before)) _ (sym (bad-is (c .before)) ∙ c .if1 .taken))
+unfolding furthestReply
+returns-2 c =
+    let at-judged = c .before .before .before in
+    let args = at-judged .before .before .before .before .args in
+    let refused = refuses-behind (shapeRows 1 _) (valid→accepted _ 1 (valid (at-judged .before)))
+    (subst (AdmittedDirection _) (c .before .refusal2 .given .1) (judged-direction at-judged)) in
+    refuses-carried refused (args .floor) (refused .whatever _)
+
+enum-told-2 : tie.Need-enum-told-2
+enum-told-2 c = search needs
 
 face-towards-requires : tie.Need-face-towards-requires
 face-towards-requires c κs =
-    let direction = sym (direction-is (c .before .before .before .before .before)) in
-    let v = valid (c .before .before) in
-    let good = sym (bad-is (c .before)) ∙ c .if1 .left in
+    let direction = sym (direction-is (c .before .before .before .before .before .before)) in
+    let v = valid (c .before .before .before) in
+    let good = passed c .0 in
     let near = direction-near _ good in
     let small : Small 2097152 _ = record { small-x = within-widen part-small (near .0); small-y = within-widen part-small (near .1) } in
     (v .inRange, v .shape, subst (Small 4194304) direction (small-wide small), subst NonZero direction (direction-some _ good))
@@ -82,21 +103,22 @@ told e f g = rw (e, f, g) refl
 
 returns-3 : tie.Need-returns-3
 returns-3 c =
-    let at-else = c .before .before in
-    let start = at-else .before .before .before .before .before in
+    let at-passed = c .before .before in
+    let start = at-passed .before .before .before .before .before .before in
     let ps = points (start .args .list .now) in
     let face = c .before .face-towards .ensures in
     let first = face .0 ∙ ap (λ (d : Point). faceFirst d ps) (direction-is start) in
     let last = face .1 .0 ∙ ap (λ (d : Point). faceLast d ps) (direction-is start) in
-    let good = sym (bad-is (at-else .before)) ∙ at-else .if1 .left in
-    let v = valid (at-else .before .before) in
-    let near = direction-near _ good in
+    let good = passed at-passed in
+    let v = valid (at-passed .before .before .before) in
+    let near = direction-near _ (good .0) in
     let small = known (face .1 .1 ∙ ap (λ (d : Point). support d ps) (direction-is start))
     (support-size _ (v .inRange) (near .0) (near .1) (v .shape .some)) in
     let value = machine-is (machine-read w64 _ small) tt in
-    ap (withFloor (start .args .floor)) (told first last value ∙ furthest-answered _ v _ good)
+    ap (withFloor (start .args .floor)) (told first last value ∙ furthest-answered _ v _ (good .0) (good .1))
 
 pub furthest-spec : {M : Type 1} → statement M
 furthest-spec =
     tie.close
-    (tie.spec admit-requires enum-known-refusal returns enum-told bad-direction-requires returns-2 face-towards-requires returns-3)
+    (tie.spec admit-requires enum-known-refusal returns enum-told admit-direction-requires enum-known-refusal-2 returns-2 enum-told-2
+    face-towards-requires returns-3)

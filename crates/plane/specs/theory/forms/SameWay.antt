@@ -1,5 +1,5 @@
 -- Vectors that point the same way: some positive multiples of them are equal.
---     SameWay e f, same-sym             with the two numbers; either way round
+--     SameWay e f, same-sym             with the two numbers; either way round; `same-trans`: and on to a third
 --     same-up, same-left, same-right    the order by angle cannot tell them apart
 --     from-same                         what follows the one in order follows the other
 --     neither-same                      vectors that are not zero, neither before the other, point the same way
@@ -38,6 +38,18 @@ pub record SameWay (e f : Point) : Type 0 where
 abbrev pub same-sym : {e f : Point} → SameWay e f → SameWay f e
 same-sym s =
     record { m = s .n; n = s .m; m-above = s .n-above; n-above = s .m-above; along-x = sym (s .along-x); along-y = sym (s .along-y) }
+
+pub same-trans : {e f g : Point} → SameWay e f → SameWay f g → SameWay e g
+same-trans {e} {f} {g} s t = record {
+  m = t .m *ℤ s .m;
+  n = s .n *ℤ t .n;
+  m-above = lia (s .m ∷ t .m ∷ []) (t .m-above <×< s .m-above) (search linear depth 40) (omega arith);
+  n-above = lia (s .n ∷ t .n ∷ []) (s .n-above <×< t .n-above) (search linear depth 40) (omega arith);
+  along-x = lia (s .m ∷ s .n ∷ t .m ∷ t .n ∷ e .x ∷ f .x ∷ g .x ∷ []) (s .along-x ≡× t .m & t .along-x ≡× s .n)
+      (search linear depth 40) (omega arith);
+  along-y = lia (s .m ∷ s .n ∷ t .m ∷ t .n ∷ e .y ∷ f .y ∷ g .y ∷ []) (s .along-y ≡× t .m & t .along-y ≡× s .n)
+      (search linear depth 40) (omega arith);
+}
 
 -- ---- the order by angle cannot tell them apart
 

@@ -3,15 +3,16 @@
 --     max-either                              it is one of the two
 --     max-comm, max-assoc, max-idem           it is commutative, associative, idempotent
 --     plus-max, max-plus                      the sum distributes over it, from the left and from the right
+--     times-max                               so does the product by a number that is not negative
 use mathlib.Core.Path.{_≡_, refl}
 use mathlib.Core.Bool.{Bool, true, false}
 use mathlib.Core.List.{[], _∷_}
 use mathlib.Core.Logic.{_⊎_, inl, inr}
 use native.Mathlib.Omega.{arith}
-use lib.IntN.{ℤ, _+ℤ_, +ℤ-comm}
+use lib.IntN.{ℤ, pos, _+ℤ_, _*ℤ_, +ℤ-comm}
 use lib.Signed.{_≤ℤ_, leZ, ≤ℤ-refl}
 use Rattle.integer.specs.Linear.{lia, linear}
-use Rattle.integer.specs.Order.{weaken, le-trans, le-antisym, leZ-true, leZ-false}
+use Rattle.integer.specs.Order.{_≤×≤_, weaken, le-trans, le-antisym, leZ-true, leZ-false}
 use Rattle.plane.specs.Direction.{max}
 
 -- ---- the least number above both
@@ -81,3 +82,15 @@ plus-max a b c = go (max-either b c)
 
 pub max-plus : (a b c : ℤ) → max a b +ℤ c ≡ max (a +ℤ c) (b +ℤ c)
 max-plus a b c = rw (+ℤ-comm (max a b) c, +ℤ-comm a c, +ℤ-comm b c) (plus-max c a b)
+
+pub times-max : {m : ℤ} → pos 0 ≤ℤ m → (b c : ℤ) → m *ℤ max b c ≡ max (m *ℤ b) (m *ℤ c)
+times-max {m} h b c = go (max-either b c)
+  where
+    above : max (m *ℤ b) (m *ℤ c) ≤ℤ (m *ℤ max b c)
+    above = max-least
+        (lia (m ∷ b ∷ max b c ∷ []) (h ≤×≤ left-le-max b c) (search linear depth 40) (omega arith))
+        (lia (m ∷ c ∷ max b c ∷ []) (h ≤×≤ right-le-max b c) (search linear depth 40) (omega arith))
+
+    go : (max b c ≡ b) ⊎ (max b c ≡ c) → m *ℤ max b c ≡ max (m *ℤ b) (m *ℤ c)
+    go (inl e) = le-antisym (rw e (left-le-max (m *ℤ b) (m *ℤ c))) above
+    go (inr e) = le-antisym (rw e (right-le-max (m *ℤ b) (m *ℤ c))) above

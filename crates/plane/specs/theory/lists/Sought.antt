@@ -2,6 +2,7 @@
 --     first-le, first-true, first-least      `first p n` is at most n; below n the test passes there; before it nowhere
 --     first-unique                           these three say which number it is
 --     first-at-most                          it is at most any number at which the test passes
+--     first-agree                            tests that agree find the same number
 --     Sought p n i                           the search has come to i and found nothing
 --     sought-start, -more, -found, -none     the moves of the loop  while i < n { if p(i) { found } i += 1 }
 --     sought-yes, sought-no                  its ends, where only whether there is such a number is asked
@@ -71,6 +72,10 @@ first-at-most p n i h = go (ltb i (first p n)) refl
     go : (b : Bool) → ltb i (first p n) ≡ b → first p n ≤ i
     go true e = true-not-false h (first-least p n i (ltb-true i (first p n) e))
     go false e = ltb-false i (first p n) e
+
+pub first-agree : (p q : ℕ → Bool) (n : ℕ) → ((i : ℕ) → p i ≡ q i) → first p n ≡ first q n
+first-agree p q n f = first-unique p n (first q n) (first-le q n) (λ h. f (first q n) ∙ first-true q n h)
+    (λ k h. f k ∙ first-least q n k h)
 
 -- ---- whether there is such a number
 
