@@ -1,6 +1,6 @@
 -- What a separating direction means, in document 02's words (request W13). Each theorem is proved in the theory; here it is only cited.
 --     below       "every corner of the first is strictly below every corner of the second in it"; acceptance means apart
---     Witness     shapes apart have an acceptable direction
+--     Witness     what is found means apart as well; shapes apart have an acceptable direction
 -- Lists of corners have a corner: 0 < length.
 use mathlib.Core.Bool.{true, false}
 use mathlib.Core.List.{List}
@@ -17,6 +17,7 @@ use Rattle.plane.specs.Furthest.{badDirection}
 use Rattle.plane.specs.Separation.{apart}
 use Rattle.plane.specs.theory.lists.Members.{_∈_}
 use Rattle.witness.specs.Below.{below}
+use Rattle.witness.specs.Found.{Witness}
 use Rattle.witness.specs.theory.Below.{below→all, all→below, below→apart}
 use Rattle.witness.specs.theory.Exists.{witness-exists}
 
@@ -32,6 +33,10 @@ module _ (d : Point) (A B : List Point) where
   -- "Whoever offered it, acceptance means apart."
   pub acceptance-means-apart : 0 < length A → 0 < length B → below d A B ≡ true → apart A B ≡ true
   acceptance-means-apart a b h = below→apart d A B a b h
+
+  -- so does what the search finds; it finds nothing only if they are not apart (`Finds`)
+  pub found-means-apart : 0 < length A → 0 < length B → Witness A B d → apart A B ≡ true
+  found-means-apart a b w = below→apart d A B a b (w .is-below)
 
 -- "For any shapes apart on one floor, an acceptable direction exists": rows 11 and 12 let it pass, and the first is below the second in it
 pub acceptable-direction-exists : (a b : List ℤ) → Valid a → Valid b → apart (points a) (points b) ≡ true

@@ -18,9 +18,7 @@ here-requires-2 : tie.Need-here-requires-2
 here-requires-2 c κs = search needs
 
 normal-requires : tie.Need-normal-requires
-normal-requires c κs =
-    let pre = c .before .before .before .before .before .pre in
-    (small-plus (pre .0) (pre .1) (c .before .here .ensures), small-plus (pre .2) (pre .1) (c .here2 .ensures))
+normal-requires c κs = search (needs, small-plus)
 
 -- which edge it is, by the test
 picked : (c : tie.After-struct-known2) {t : Bool} → let args = c .before .before .args in
@@ -45,9 +43,7 @@ here-requires-4 : tie.Need-here-requires-4
 here-requires-4 c κs = search needs
 
 normal-requires-2 : tie.Need-normal-requires-2
-normal-requires-2 c κs =
-    let pre = c .before .before .before .before .before .pre in
-    (small-plus (pre .0) (pre .1) (c .before .here3 .ensures), small-plus (pre .0) (pre .3) (c .here4 .ensures))
+normal-requires-2 c κs = search (needs, small-plus)
 
 returns-2 : tie.Need-returns-2
 returns-2 c =
