@@ -1,6 +1,4 @@
--- When a direction is accepted, what the search for one answers, and what it finds on the way; then their meaning, and the theory.
-pub mod Below
-pub mod Primitive
+-- What the search for a direction answers, and what it finds on the way; then what an accepted direction means, and the theory.
 pub mod Found
 pub mod Away
 pub mod Meaning

@@ -11,18 +11,19 @@ use mir.Val.{toZ, ofZ}
 use Rattle.plane.specs.Limits.{maxCorners}
 use Rattle.plane.specs.Point.{Point, point, points, numbers}
 use Rattle.plane.specs.Furthest.{badDirection}
+use Rattle.plane.specs.Primitive.{primitive}
+use Rattle.plane.specs.Offer.{below}
 use Rattle.plane.specs.VectorSum.{vectorSum}
 use Rattle.plane.specs.theory.lists.Flat.{points-length}
+use Rattle.plane.specs.theory.direction.Primitive.{primitive-bad}
 use Rattle.polygon.specs.Point.{at}
 use Rattle.polygon.specs.Front.{Front}
 use Rattle.polygon.specs.theory.Fronts.{front-length}
 use Rattle.calipers.specs.Walk.{At, begun}
 use Rattle.separation.specs.theory.Image.{image, image-front, image-begun}
-use Rattle.witness.specs.Below.{below}
-use Rattle.witness.specs.Primitive.{primitive}
 use Rattle.witness.specs.Found.{Witness}
 use Rattle.witness.specs.Away.{Away}
-use Rattle.witness.specs.theory.Primitive.{primitive-limits, primitive-small}
+use Rattle.witness.specs.theory.Direction.{primitive-small}
 use Rattle.witness.specs.theory.Exists.{away-refused, away-not-below, divided-witness}
 use Rattle.witness.proofs.Parts.{point-read}
 use Rattle.witness.proofs.find.Statement.{statement}
@@ -91,7 +92,7 @@ is-below-requires c κs =
     let start = c .before .before .before .before .before .before .before .before .before .before .before in (
       start .pre .0,
       start .pre .1,
-      subst (λ (d : Point). badDirection d ≡ false) (sym (c .primitive .ensures)) (primitive-limits _ (good (c .before))),
+      subst (λ (d : Point). badDirection d ≡ false) (sym (c .primitive .ensures)) (primitive-bad _ (good (c .before))),
     )
 
 -- what is tried, by the direction that was found

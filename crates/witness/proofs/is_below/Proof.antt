@@ -13,9 +13,9 @@ use Rattle.plane.specs.Forms.{NonZero}
 use Rattle.plane.specs.theory.support.Bounds.{support-size}
 use Rattle.polygon.specs.Point.{at, Small}
 use Rattle.polygon.specs.theory.Small.{small-wide}
-use Rattle.polygon.specs.theory.Furthest.{direction-near, direction-some}
-use Rattle.witness.specs.theory.Limits.{good-small, opposite-good}
+use Rattle.plane.specs.theory.direction.Rows.{direction-near, direction-some}
 use Rattle.witness.specs.theory.Below.{below-support}
+use Rattle.witness.specs.theory.Direction.{good-small, opposite-good}
 use Rattle.witness.proofs.is_below.Statement.{statement}
 use Rattle.witness.proofs.is_below.Tie as tie
 

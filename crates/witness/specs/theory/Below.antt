@@ -27,7 +27,7 @@ use Rattle.plane.specs.theory.forms.Vector.{value-turned}
 use Rattle.plane.specs.theory.support.Support.{value-le-support, support-attained}
 use Rattle.plane.specs.theory.hull.ShapeOf.{shapeOf-support}
 use Rattle.separation.specs.theory.Apart.{value-difference, differences-some, difference-member, direction→apart}
-use Rattle.witness.specs.Below.{below}
+use Rattle.plane.specs.Offer.{below}
 
 module _ (d : Point) (A B : List Point) where
   -- the corners at two positions

@@ -15,20 +15,21 @@ use Rattle.plane.specs.Direction.{support}
 use Rattle.plane.specs.Corner.{shapeOf}
 use Rattle.plane.specs.Separation.{differences, apart}
 use Rattle.plane.specs.Furthest.{badDirection}
+use Rattle.plane.specs.Primitive.{primitive}
+use Rattle.plane.specs.Offer.{below}
 use Rattle.plane.specs.VectorSum.{vectorSum}
 use Rattle.plane.specs.theory.lists.Flat.{points-numbers}
 use Rattle.plane.specs.theory.lists.Sought.{true-not-false}
+use Rattle.plane.specs.theory.direction.Rows.{direction-some, near-direction}
+use Rattle.plane.specs.theory.direction.Primitive.{primitive-same, primitive-bad, primitive-common}
 use Rattle.separation.specs.Around.{related}
 use Rattle.separation.specs.theory.Apart.{differences-shape}
 use Rattle.separation.specs.theory.Around.{refuted}
 use Rattle.separation.specs.theory.Image.{image, image-begun, image-related}
-use Rattle.witness.specs.Below.{below}
-use Rattle.witness.specs.Primitive.{primitive}
 use Rattle.witness.specs.Found.{Witness}
 use Rattle.witness.specs.Away.{Away}
 use Rattle.witness.specs.theory.Below.{negative→below, below→nonzero}
-use Rattle.witness.specs.theory.Limits.{small-good}
-use Rattle.witness.specs.theory.Primitive.{primitive-limits, primitive-coprime, primitive-below}
+use Rattle.witness.specs.theory.Direction.{same-below}
 use Rattle.witness.specs.theory.Away.{some-away}
 
 apart-related : (A B : List Point) → apart A B ≡ true → related A B ≡ pos 0
@@ -36,7 +37,11 @@ unfolding related
 apart-related A B h = rw h
 
 pub divided-witness : (A B : List Point) (d : Point) → badDirection d ≡ false → below (primitive d) A B ≡ true → Witness A B (primitive d)
-divided-witness A B d good h = record { in-limits = primitive-limits d good; coprime = primitive-coprime d good; is-below = h }
+divided-witness A B d good h = record {
+  in-limits = primitive-bad d good;
+  coprime = primitive-common d (direction-some d good);
+  is-below = h;
+}
 
 module _ (a b : List ℤ) (u : Valid a) (v : Valid b) where
   abbrev A : List Point
@@ -58,16 +63,20 @@ module _ (a b : List ℤ) (u : Valid a) (v : Valid b) where
         (subst (λ C. support d C <ℤ pos 0) visited (w .negative (image-related b v a u ∙ apart-related A B h)))
 
     good : apart A B ≡ true → badDirection d ≡ false
-    good h = small-good (w .in-limits) (below→nonzero d A B (u .shape .some) (v .shape .some) (away→below h))
+    good h = near-direction d (w .in-limits .small-x) (w .in-limits .small-y) (below→nonzero d A B (u .shape .some) (v .shape .some) (away→below h))
+
+    -- its name does as well
+    divided : badDirection d ≡ false → below (primitive d) A B ≡ below d A B
+    divided fine = same-below A B (primitive-same d (direction-some d fine))
 
     pub away-refused : badDirection d ≡ true → apart A B ≡ false
     away-refused bad = refuted (apart A B) (λ h. true-not-false bad (good h))
 
     pub away-not-below : below (primitive d) A B ≡ false → apart A B ≡ false
     away-not-below no-more =
-        refuted (apart A B) (λ h. true-not-false (primitive-below d (good h) A B ∙ away→below h) no-more)
+        refuted (apart A B) (λ h. true-not-false (divided (good h) ∙ away→below h) no-more)
 
   pub witness-exists : apart A B ≡ true → (d : Point) × Witness A B d
   witness-exists h =
       let (d, w) = some-away a (numbers (image b)) (image-begun b v a u) in
-      (primitive d, divided-witness A B d (good d w h) (primitive-below d (good d w h) A B ∙ away→below d w h))
+      (primitive d, divided-witness A B d (good d w h) (divided d w (good d w h) ∙ away→below d w h))

@@ -12,36 +12,36 @@ use Rattle.integer.specs.Bound.{Within}
 use Rattle.divisor.specs.Divisor.{gcd}
 use Rattle.plane.specs.Limits.{maxPart, part-small}
 use Rattle.plane.specs.Point.{point}
+use Rattle.plane.specs.Furthest.{partsDivisor}
+use Rattle.plane.specs.Primitive.{primitive}
+use Rattle.plane.specs.theory.direction.Rows.{direction-near, direction-some, some-divisor}
 use Rattle.polygon.specs.Point.{at, Small}
-use Rattle.polygon.specs.theory.Furthest.{direction-near}
-use Rattle.witness.specs.Primitive.{primitive}
-use Rattle.witness.specs.theory.Primitive.{divisor-positive, divisor-limit, primitive-small}
+use Rattle.witness.specs.theory.Direction.{divisor-limit, primitive-small}
 use Rattle.witness.proofs.Parts.{part-fits, part-read, point-read}
 use Rattle.witness.proofs.primitive.primitive.Statement.{statement}
 use Rattle.witness.proofs.primitive.primitive.Tie as tie
 
-size-requires : tie.Need-size-requires
-size-requires c κs = let near = direction-near _ (c .before .pre) in subst (Within maxPart) (sym (part-read (near .0))) (near .0)
+magnitude-requires : tie.Need-magnitude-requires
+magnitude-requires c κs = search needs
 
-size-requires-2 : tie.Need-size-requires-2
-size-requires-2 c κs =
-    let near = direction-near _ (c .before .before .before .pre) in subst (Within maxPart) (sym (part-read (near .1))) (near .1)
+magnitude-requires-2 : tie.Need-magnitude-requires-2
+magnitude-requires-2 c κs = search needs
 
 divisor-requires : tie.Need-divisor-requires
 divisor-requires c κs = search needs
 
 -- the divisor, and that it fits
 divided : (c : tie.After-divisor) → let d = at (c .before .before .before .before .before .args .d) in
-    c .divisor .result ≡ gcd (natAbs (d .x)) (natAbs (d .y))
+    c .divisor .result ≡ partsDivisor d
 divided c =
     let near = direction-near _ (c .before .before .before .before .before .pre) in
-    c .divisor .ensures ∙ ap₂ gcd (c .before .before .before .size .ensures ∙ ap natAbs (part-read (near .0)))
-    (c .before .size2 .ensures ∙ ap natAbs (part-read (near .1)))
+    c .divisor .ensures ∙ ap₂ gcd (c .before .before .before .magnitude .ensures ∙ ap natAbs (part-read (near .0)))
+    (c .before .magnitude2 .ensures ∙ ap natAbs (part-read (near .1)))
 
 fits : (c : tie.After-divisor) → (0 < c .divisor .result) × (c .divisor .result ≤ 2 ^ 21)
 fits c =
     let start = c .before .before .before .before .before in
-    let some = divisor-positive (at (start .args .d)) (start .pre) in
+    let some = some-divisor (direction-some (at (start .args .d)) (start .pre)) in
     let limit = divisor-limit (at (start .args .d)) (start .pre) in
     (omega (arith, divided c), omega (arith, divided c, part-small))
 
@@ -50,7 +50,7 @@ cast-g c = record { sfits = omega (arith, fits c) }
 
 -- a part over it
 quotient : (c : tie.After-divisor) {z : ℤ} → Within maxPart z → let d = at (c .before .before .before .before .before .args .d) in
-    quotZ (toZ w32 (ofZ w32 z)) (toZ w32 (c .divisor .result)) ≡ quotZ z (pos (gcd (natAbs (d .x)) (natAbs (d .y))))
+    quotZ (toZ w32 (ofZ w32 z)) (toZ w32 (c .divisor .result)) ≡ quotZ z (pos (partsDivisor d))
 quotient c h = ap₂ quotZ (part-read h) (toZ-pos w32 (omega (arith, fits c)) ∙ ap pos (divided c))
 
 first : (c : tie.After-divisor) → let d = at (c .before .before .before .before .before .args .d) in
@@ -81,4 +81,4 @@ returns c =
     ∙ point-read (small at-divisor)
 
 pub primitive-spec : {M : Type 1} → statement M
-primitive-spec = tie.close (tie.spec size-requires size-requires-2 divisor-requires cast-g div-t6 div-t7 returns)
+primitive-spec = tie.close (tie.spec magnitude-requires magnitude-requires-2 divisor-requires cast-g div-t6 div-t7 returns)
