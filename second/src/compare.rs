@@ -88,7 +88,7 @@ mod tests {
 
     #[test]
     fn equal_answers_do_not_differ() {
-        let (different, text) = told(b"ok 1\nok apart\n");
+        let (different, text) = told(b"ok 1 @0\nok apart @0\n");
         assert_eq!(
             (different, &text[..]),
             (0, "second: 2 answers compared, 0 differ\n")
@@ -97,7 +97,7 @@ mod tests {
 
     #[test]
     fn a_difference_is_told_with_its_question() {
-        let (different, text) = told(b"ok 1\nok touching\n");
+        let (different, text) = told(b"ok 1 @0\nok touching @0\n");
         assert_eq!(different, 1);
         let lines: Vec<&str> = text.lines().collect();
         assert!(
@@ -112,9 +112,9 @@ mod tests {
 
     #[test]
     fn missing_and_surplus_answers_differ() {
-        assert_eq!(told(b"ok 1\n").0, 1);
-        assert_eq!(told(b"ok 1\nok apart").0, 1);
-        assert_eq!(told(b"ok 1\nok apart\nok 7\n").0, 1);
+        assert_eq!(told(b"ok 1 @0\n").0, 1);
+        assert_eq!(told(b"ok 1 @0\nok apart @0").0, 1);
+        assert_eq!(told(b"ok 1 @0\nok apart @0\nok 7 @0\n").0, 1);
         assert_eq!(told(b"").0, 2);
     }
 }

@@ -39,7 +39,7 @@ fn latest(out: &mut [u8], filled: usize, log: &[u8], name: u16, room: usize) -> 
     let lent: &mut [i32] = &mut answer;
     let end = fields::lent(room, lent);
     match questions::log_read(log, name, &mut lent[0..end]) {
-        Answer::Corners(corners) => answers::ok_pairs(out, filled, corners, lent),
+        Answer::Corners { count, floor } => answers::ok_pairs(out, filled, count, floor, lent),
         Answer::No(refusal) => replies::refuse(out, filled, refusal),
     }
 }

@@ -7,8 +7,8 @@ use borrow.Author.Needs.{needs}
 use Rattle.exports.proofs.reply.refused.Statement.{statement}
 use Rattle.exports.proofs.reply.refused.Tie as tie
 
-told : {x y : Refusal} → x ≡ y → crossed 5 (ofRefusal y) ≡ crossed 5 (ofRefusal x)
-told e = ap (λ (x : Refusal). crossed 5 (ofRefusal x)) (sym e)
+told : {x y : Refusal} → x ≡ y → crossed 6 (ofRefusal y) ≡ crossed 6 (ofRefusal x)
+told e = ap (λ (x : Refusal). crossed 6 (ofRefusal x)) (sym e)
 
 enum-known-refusal : tie.Need-enum-known-refusal
 enum-known-refusal c = search needs
