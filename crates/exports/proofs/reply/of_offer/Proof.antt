@@ -28,7 +28,11 @@ refused-requires : tie.Need-refused-requires
 refused-requires c κs = search needs
 
 returns : tie.Need-returns
-returns c = ?
+returns c =
+    let at = c .before .before .before .answer .given in
+    c .pair .ensures
+    ∙ ap (λ (z : ℤ). pos 0 ∷ pos 0 ∷ z ∷ pos (at .0 .1 .0) ∷ pos 0 ∷ pos 0 ∷ pos 0 ∷ pos 0 ∷ []) (c .before .flag .ensures)
+    ∙ ap (λ (x : Offer). crossed 6 (ofOffer x)) (sym (at .1))
 
 returns-2 : tie.Need-returns-2
 returns-2 c = c .refused .ensures ∙ ap (λ (x : Offer). crossed 6 (ofOffer x)) (sym (c .before .before .answer2 .given .1))
