@@ -11,6 +11,7 @@ use std::io::{self, Write};
 
 mod floors;
 mod log;
+mod separating;
 
 /// Words of 01 or 02, and the questions with their stated answers.
 type Stated = (&'static str, &'static [(&'static str, &'static str)]);
@@ -247,15 +248,15 @@ const SWEEPS: &[Stated] = &[
         ("sweep | 3 1 3 1 0 1 | 4", "ok 2 @0 | 0 1 3 1"),
     ]),
     ("W12: (0,1) passes and (0,5) does not, nor (2,4), which (1,2) names", &[
-        ("furthest | S | 0 1", "ok 2 3 2"),
+        ("furthest | S | 0 1", "ok 2 3 2 @0"),
         ("furthest | S | 0 5", "no 12"),
         ("furthest | S | 2 4", "no 12"),
-        ("furthest | S | 1 2", "ok 2 2 6"),
-        ("furthest | S | -1 0", "ok 3 0 0"),
+        ("furthest | S | 1 2", "ok 2 2 6 @0"),
+        ("furthest | S | -1 0", "ok 3 0 0 @0"),
         ("furthest | S | -2 0", "no 12"),
-        ("furthest | S | 6 -35", "ok 1 1 12"),
+        ("furthest | S | 6 -35", "ok 1 1 12 @0"),
         ("furthest | S | -1048576 1572864", "no 12"),
-        ("furthest | S | 2000000 1999999", "ok 2 2 7999998"),
+        ("furthest | S | 2000000 1999999", "ok 2 2 7999998 @0"),
         ("furthest | S | -2000000 -2000000", "no 12"),
     ]),
     ("W12: 12 comes after 11, and after 1 to 5", &[
@@ -286,6 +287,7 @@ pub fn groups() -> Vec<Group> {
     groups.extend(spelled(SWEEPS));
     groups.push(point_limit());
     groups.extend(spelled(floors::FLOORS));
+    groups.extend(spelled(separating::SEPARATING));
     groups
 }
 
