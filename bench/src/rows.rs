@@ -63,8 +63,8 @@ pub const ROWS: [(&str, [Run; 2], Make); 15] = [
 ];
 
 /// Every proved question, on a shape and the same one moved away (`pairs::moved_away`). It takes the
-/// whole walk to find that a shape overlaps itself, is inside itself, or has no direction from itself. A log has as many records
-/// as the shape has corners.
+/// whole walk to find that a shape overlaps itself, is inside itself, or is not below itself. A log
+/// has as many records as the shape has corners.
 pub const GROWTH: [(&str, Run); 19] = [
     ("judge", JUDGE[0]),
     ("furthest", FURTHEST[0]),
