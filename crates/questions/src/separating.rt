@@ -35,8 +35,8 @@ pub fn offer(a: &[i32], f: u16, b: &[i32], g: u16, u: i32, v: i32) -> Offer
 }
 
 // A direction that is accepted if it is offered, for shapes that are apart; nothing if they are not. Which of the
-// directions it is, is left open. Two points have one, and so have segments in line. Refused: 1 to 5 of the first shape,
-// then of the second; different floors.
+// directions it is, is left open. Two points have one, and so have segments in line. Refused: 1 to 5 of the first
+// shape, then of the second; different floors.
 // Ruled out: normal of the joined edge; direction not divided.
 pub fn find(a: &[i32], f: u16, b: &[i32], g: u16) -> Found
     ensures { λ r. ⌜ FoundBetween (on (now (a .entry)) f) (on (now (b .entry)) g) (ofFound r) ⌝ }

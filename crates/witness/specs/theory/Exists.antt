@@ -63,7 +63,8 @@ module _ (a b : List ℤ) (u : Valid a) (v : Valid b) where
         (subst (λ C. support d C <ℤ pos 0) visited (w .negative (image-related b v a u ∙ apart-related A B h)))
 
     good : apart A B ≡ true → badDirection d ≡ false
-    good h = near-direction d (w .in-limits .small-x) (w .in-limits .small-y) (below→nonzero d A B (u .shape .some) (v .shape .some) (away→below h))
+    good h = near-direction d (w .in-limits .small-x) (w .in-limits .small-y)
+        (below→nonzero d A B (u .shape .some) (v .shape .some) (away→below h))
 
     -- its name does as well
     divided : badDirection d ≡ false → below (primitive d) A B ≡ below d A B

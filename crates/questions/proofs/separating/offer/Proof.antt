@@ -41,7 +41,8 @@ direction-is : (c : tie.Start) → point (toZ w32 (ofZ w32 (c .args .u))) (toZ w
 direction-is c = ap₂ point (toZ-ofZ (c .fits .u)) (toZ-ofZ (c .fits .v))
 
 -- what judging it says
-judged-direction : (c : tie.After-admit-direction) → AdmittedDirection (offered (c .before .before .before .before)) (c .admit-direction .result)
+judged-direction : (c : tie.After-admit-direction)
+    → AdmittedDirection (offered (c .before .before .before .before)) (c .admit-direction .result)
 judged-direction c =
     subst (λ (d : Point). AdmittedDirection d (c .admit-direction .result)) (direction-is (c .before .before .before .before))
     (c .admit-direction .ensures)
