@@ -1,8 +1,11 @@
 //! One answer line for one question line.
 
+use crate::ask;
+use crate::plane::Point;
 use crate::questions::{self, Row};
+use crate::text::fields::{self, Value};
 use crate::text::unreadable::Unreadable;
-use crate::text::{fields, given::Given, lines};
+use crate::text::{given::Given, lines};
 use std::io::{self, Write};
 
 /// Answers every line of the input that wants an answer.
@@ -22,6 +25,13 @@ pub fn answer(line: &[u8]) -> String {
         },
         Err(unreadable) => unreadable.to_string(),
     }
+}
+
+/// What is answered if a direction is offered for the two shapes of a line that asks for one.
+pub fn offered(line: &[u8], direction: Point) -> Option<String> {
+    let (row, mut given) = read(line).ok()?;
+    given.0.push(Value::Direction(direction));
+    (row.word == "find").then(|| ask::offer(&given).ok())?
 }
 
 fn read(line: &[u8]) -> Result<(&'static Row, Given), Unreadable> {

@@ -4,6 +4,7 @@
 
 use crate::clearance::{self, Against, Between};
 use crate::combine::{self, held_by};
+use crate::direction;
 use crate::log;
 use crate::measure;
 use crate::parts::{self, State};
@@ -107,6 +108,27 @@ pub fn inside(given: &Given) -> Answer {
         "no"
     };
     Ok(format!("{word} @{floor}"))
+}
+
+pub fn offer(given: &Given) -> Answer {
+    let ([a, b], floor) = given.shapes()?;
+    let offered = given.direction();
+    direction::judge(offered)?;
+    let word = if direction::below(&a, &b, offered) {
+        "yes"
+    } else {
+        "no"
+    };
+    Ok(format!("{word} @{floor}"))
+}
+
+/// Any direction that is accepted would do; `compare` takes whatever other one is.
+pub fn find(given: &Given) -> Answer {
+    let ([a, b], floor) = given.shapes()?;
+    Ok(match direction::found(&a, &b) {
+        Some(d) => format!("{} {} @{floor}", d.x, d.y),
+        None => format!("none @{floor}"),
+    })
 }
 
 pub fn clearance(given: &Given) -> Answer {

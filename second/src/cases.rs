@@ -11,6 +11,7 @@ use std::io::{self, Write};
 
 mod floors;
 mod log;
+mod separating;
 
 /// Words of 01 or 02, and the questions with their stated answers.
 type Stated = (&'static str, &'static [(&'static str, &'static str)]);
@@ -286,6 +287,7 @@ pub fn groups() -> Vec<Group> {
     groups.extend(spelled(SWEEPS));
     groups.push(point_limit());
     groups.extend(spelled(floors::FLOORS));
+    groups.extend(spelled(separating::SEPARATING));
     groups
 }
 

@@ -24,7 +24,7 @@ use Rattle.plane.specs.VectorSum.{vectorSum}
 use Rattle.plane.specs.theory.forms.Vector.{value-origin}
 use Rattle.calipers.specs.Walk.{Walk, here, begun, advanced, stepped, At}
 use Rattle.calipers.specs.theory.Steps.{at-stepped}
-use Rattle.separation.proofs.Stops.{on-below, over-end, corner-here, stop-here}
+use Rattle.separation.specs.theory.Stops.{on-below, over-end, corner-here, stop-here}
 use Rattle.separation.specs.theory.Sector.{square-positive}
 use Rattle.clearance.specs.Stop.{rests, crosses, leftward, behind, after, Stopped, at-corner, at-edge, at-first}
 

@@ -3,6 +3,7 @@ use mathlib.Core.List.{List, [], _∷_}
 use lib.IntN.{ℤ, pos}
 use Rattle.exports.specs.declared.reply.Numbers.{Numbers}
 use Rattle.exports.specs.declared.reply.Signed.{Signed}
+use Rattle.exports.specs.declared.reply.Direction.{Direction}
 use Rattle.exports.specs.declared.reply.Lines.{Lines}
 use Rattle.exports.specs.declared.reply.Nearest.{Nearest}
 
@@ -13,6 +14,10 @@ numbers r =
 
 abbrev pub signedNumbers : Signed → List ℤ
 signedNumbers r = pos (r .refusal) ∷ pos (r .shape) ∷ pos (r .first) ∷ pos (r .second) ∷ (r .value) ∷ pos (r .floor) ∷ []
+
+abbrev pub directionNumbers : Direction → List ℤ
+directionNumbers r =
+    pos (r .refusal) ∷ pos (r .shape) ∷ pos (r .first) ∷ pos (r .second) ∷ (r .u) ∷ (r .v) ∷ pos (r .floor) ∷ []
 
 abbrev pub lineNumbers : Lines → List ℤ
 lineNumbers r =

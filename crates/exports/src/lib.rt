@@ -12,6 +12,7 @@ ghost use Rattle.plane.specs.Combine.{mirrorWritten, sumWritten, mergeWritten};
 ghost use Rattle.plane.specs.Sweep.{sweepWritten};
 ghost use Rattle.plane.specs.Measure.{lengthReply, widthReply};
 ghost use Rattle.plane.specs.Separation.{relationReply, insideReply};
+ghost use Rattle.plane.specs.Offer.{offerReply};
 ghost use Rattle.plane.specs.Clearance.{clearanceReply};
 ghost use Rattle.plane.specs.Tangent.{tangentsReply};
 ghost use Rattle.calipers.specs.Advance.{state};
@@ -19,10 +20,13 @@ ghost use Rattle.calipers.specs.Part.{beginReply, partWritten};
 ghost use Rattle.journal.specs.Reading.{readWritten};
 ghost use Rattle.journal.specs.Adding.{added};
 ghost use Rattle.exports.specs.Crossing.{crossed};
-ghost use Rattle.exports.specs.Numbers.{numbers, signedNumbers, lineNumbers, nearestNumbers};
+ghost use Rattle.exports.specs.Found.{FoundCrossed};
+ghost use Rattle.exports.specs.Numbers.{numbers, signedNumbers, lineNumbers, nearestNumbers, directionNumbers};
 use questions::answer::Furthest;
+use questions::separating;
 use questions::walk;
 use questions::walk::Walk;
+use reply::Direction;
 use reply::Lines;
 use reply::Nearest;
 use reply::Numbers;
@@ -168,6 +172,23 @@ pub extern "C" fn cocklesway_inside(a: &[i32], f: u16, b: &[i32], g: u16) -> Num
     ensures { λ r. ⌜ numbers r ≡ crossed 6 (between (on (now (a .entry)) f) (on (now (b .entry)) g) insideReply) ⌝ }
 {
     reply::of_inside(questions::inside(a, f, b, g))
+}
+
+// 1 if the direction (u, v) is accepted as the reason that the shapes are apart, else 0.
+#[no_mangle]
+pub extern "C" fn cocklesway_offer(a: &[i32], f: u16, b: &[i32], g: u16, u: i32, v: i32) -> Numbers
+    ensures { λ r. ⌜ numbers r ≡ crossed 6
+        (between (on (now (a .entry)) f) (on (now (b .entry)) g) (λ l m. offerReply l m (point u v))) ⌝ }
+{
+    reply::of_offer(separating::offer(a, f, b, g, u, v))
+}
+
+// A direction that is accepted, or that there is none.
+#[no_mangle]
+pub extern "C" fn cocklesway_find(a: &[i32], f: u16, b: &[i32], g: u16) -> Direction
+    ensures { λ r. ⌜ FoundCrossed (on (now (a .entry)) f) (on (now (b .entry)) g) (directionNumbers r) ⌝ }
+{
+    reply::of_found(separating::find(a, f, b, g))
 }
 
 // Where two shapes are nearest, and how near.

@@ -4,15 +4,18 @@ ghost use mathlib.Core.Path.{_≡_};
 ghost use mathlib.Core.List.{[], _∷_};
 ghost use lib.IntN.{pos};
 ghost use Rattle.questions.specs.Answer.{ofRefusal, ofAnswer, ofBegun, ofPart, ofLength, ofWidth};
-ghost use Rattle.questions.specs.Answer.{ofRelation, ofInside, ofTangents, ofClearance, ofAddition};
+ghost use Rattle.questions.specs.Answer.{ofRelation, ofInside, ofOffer, ofTangents, ofClearance, ofAddition};
 ghost use Rattle.exports.specs.Crossing.{crossed};
-ghost use Rattle.exports.specs.Numbers.{numbers, signedNumbers, lineNumbers, nearestNumbers};
+ghost use Rattle.exports.specs.Found.{crossedFound};
+ghost use Rattle.exports.specs.Numbers.{numbers, signedNumbers, lineNumbers, nearestNumbers, directionNumbers};
 use questions::answer::Addition;
 use questions::answer::Answer;
 use questions::answer::Begun;
 use questions::answer::Clearance;
+use questions::answer::Found;
 use questions::answer::Inside;
 use questions::answer::Length;
+use questions::answer::Offer;
 use questions::answer::Part;
 use questions::answer::Refusal;
 use questions::answer::Relation;
@@ -42,6 +45,19 @@ pub struct Signed {
     pub first: u64,
     pub second: u64,
     pub value: i64,
+    pub floor: u16,
+}
+
+// As `Numbers`, for a direction: 1, 0 and its parts, or only 0s if there is none. Refusal 4's edge and corner stand
+// before the parts.
+#[repr(C)]
+pub struct Direction {
+    pub refusal: u64,
+    pub shape: u64,
+    pub first: u64,
+    pub second: u64,
+    pub u: i32,
+    pub v: i32,
     pub floor: u16,
 }
 
@@ -271,6 +287,59 @@ pub fn of_inside(answer: Inside) -> Numbers
             pair(0, 0, 0, floor as u64)
         },
         Inside::No(refusal) => refused(refusal),
+    }
+}
+
+// 1 accepted, 0 not.
+pub fn of_offer(answer: Offer) -> Numbers
+    ensures { λ r. ⌜ numbers r ≡ crossed 6 (ofOffer answer) ⌝ }
+{
+    match answer {
+        Offer::Is { accepted, floor } => pair(0, 0, flag(accepted), floor as u64),
+        Offer::No(refusal) => refused(refusal),
+    }
+}
+
+// A refusal where an answer would be a direction.
+fn direction_refusal(refusal: Refusal) -> Direction
+    ensures { λ r. ⌜ directionNumbers r ≡ crossed 5 (ofRefusal refusal) ⌝ }
+{
+    let told = refused(refusal);
+    Direction {
+        refusal: told.refusal,
+        shape: told.shape,
+        first: told.first,
+        second: told.second,
+        u: 0,
+        v: 0,
+        floor: 0,
+    }
+}
+
+// A direction that is found, or none.
+pub fn of_found(answer: Found) -> Direction
+    ensures { λ r. ⌜ directionNumbers r ≡ crossedFound answer ⌝ }
+{
+    match answer {
+        Found::Direction { u, v, floor } => Direction {
+            refusal: 0,
+            shape: 0,
+            first: 1,
+            second: 0,
+            u,
+            v,
+            floor,
+        },
+        Found::Nothing { floor } => Direction {
+            refusal: 0,
+            shape: 0,
+            first: 0,
+            second: 0,
+            u: 0,
+            v: 0,
+            floor,
+        },
+        Found::No(refusal) => direction_refusal(refusal),
     }
 }
 

@@ -1,6 +1,6 @@
 -- Document 01's starred cases ("Cases to hold against"), as one table over the definitions and one fact about all its rows, by computing.
 -- The rows are quoted in 01's order; a row is what the definition gives and what 01 states. The last are of document 02, requests W1, W3,
--- W8 and W10 to W12.
+-- W8 and W10 to W13.
 use mathlib.Core.Path.{_≡_, refl}
 use mathlib.Core.Bool.{cond}
 use mathlib.Core.List.{List, [], _∷_, _++_, map}
@@ -28,6 +28,7 @@ use Rattle.plane.specs.Sweep.{tooManyPoints, sweepWritten}
 use Rattle.plane.specs.Measure.{squared, lengthSquared, furthestPair, lengthFrom, lengthTo, lengthReply, edgeTurn, height}
 use Rattle.plane.specs.Measure.{edgeSquared, noWider, widthEdge, widthCorner, widthRounded, widthReply}
 use Rattle.plane.specs.Separation.{inside, apart, notLeft, onRim, touching, relationReply}
+use Rattle.plane.specs.Offer.{below, offerReply}
 use Rattle.plane.specs.Tangent.{onSide, touches, nearer, tangent, tangentFrom, tangentTo, tangentsReply}
 use Rattle.plane.specs.Floor.{on, between, writtenBetween}
 use Rattle.plane.specs.Clearance.{falls, top, bottom, noFurther, nearest, clearanceReply}
@@ -95,6 +96,10 @@ turnsLeft l e =
 -- a direction's name, as a reply
 abbrev named : Point → Reply
 named d = answered (primitive d .x ∷ primitive d .y ∷ [])
+
+-- a direction offered, the shapes with their floors
+abbrev offered : List ℤ → ℕ → List ℤ → ℕ → Point → Reply
+offered a f b g d = between (on a f) (on b g) (λ l m. offerReply l m d)
 
 pub rows : List Case
 rows =
@@ -168,6 +173,13 @@ rows =
     ∷ says (furthestReply S (point (pos 4_000_000) (pos 2_000_000))) (refused 11 [])
     ∷ says (named (point (pos 0) (negsuc 4))) (answered (pos 0 ∷ negsuc 0 ∷ []))
     ∷ says (named (point (pos 2) (pos 4))) (answered (pos 1 ∷ pos 2 ∷ []))
+    -- S against point 3 1: 1 0 is accepted, its opposite is not; nor is it where they touch; 12 even there; 13 before 11
+    ∷ says (offered S 4 (pair 3 1) 4 (point (pos 1) (pos 0))) (answered (pos 1 ∷ pos 4 ∷ []))
+    ∷ says (offered S 4 (pair 3 1) 4 (point (negsuc 0) (pos 0))) (answered (pos 0 ∷ pos 4 ∷ []))
+    ∷ says (offered S 4 (pair 2 1) 4 (point (pos 1) (pos 0))) (answered (pos 0 ∷ pos 4 ∷ []))
+    ∷ says (offered S 4 (pair 2 1) 4 (point (pos 2) (pos 0))) (refused 12 [])
+    ∷ says (offered S 4 (pair 3 1) 5 (point (pos 0) (pos 0))) (refused 13 [])
+    ∷ says (offered S 4 (pair 3 1) 4 (point (pos 0) (pos 0))) (refused 11 [])
     ∷ []
 
 pub rows-hold : map (λ (r : Case). r .given) rows ≡ map (λ (r : Case). r .stated) rows
@@ -179,6 +191,6 @@ unfolding rows maxCorners maxCoordinate maxPoints maxPart turn breaks precedes s
     inside apart notLeft onRim touching relationReply
     onSide touches nearer tangent tangentFrom tangentTo tangentsReply
     value falls top bottom noFurther nearest clearanceReply
-    support furthest faceFirst faceLast badDirection euclid gcd commonDivisor furthestReply primitive
+    support furthest faceFirst faceLast badDirection euclid gcd commonDivisor furthestReply primitive below offerReply
     between writtenBetween
 rows-hold = refl

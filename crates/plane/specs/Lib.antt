@@ -20,6 +20,7 @@ pub mod Combine
 pub mod Sweep
 pub mod Measure
 pub mod Separation
+pub mod Offer
 pub mod Tangent
 pub mod Mean
 pub mod Clearance

@@ -22,6 +22,7 @@ use Rattle.plane.specs.Combine.{mirrorWritten, sumWritten, mergeWritten}
 use Rattle.plane.specs.Sweep.{pointRows, roomRows, sweepWritten}
 use Rattle.plane.specs.Measure.{lengthReply, widthReply}
 use Rattle.plane.specs.Separation.{apart, relationReply, insideReply}
+use Rattle.plane.specs.Offer.{offerReply}
 use Rattle.plane.specs.Tangent.{tangentsReply}
 use Rattle.plane.specs.Clearance.{clearanceReply}
 use Rattle.plane.specs.Floor.{Floored, withFloor, writtenOn, pairRows, between, writtenBetween}
@@ -38,6 +39,7 @@ pub data Question : Type 0 where
   Width : Floored → Question
   Relation : Floored → Floored → Question
   Inside : Floored → Floored → Question
+  Offer : Floored → Floored → Point → Question
   Clearance : Floored → Floored → Question
   Tangents : Floored → Floored → Question
 
@@ -52,6 +54,7 @@ reply (Length a) = withFloor (a .floor) (lengthReply (a .list))
 reply (Width a) = withFloor (a .floor) (widthReply (a .list))
 reply (Relation a b) = between a b relationReply
 reply (Inside a b) = between a b insideReply
+reply (Offer a b d) = between a b (λ l m. offerReply l m d)
 reply (Clearance a b) = between a b clearanceReply
 reply (Tangents a b) = between a b tangentsReply
 
@@ -66,5 +69,6 @@ table (Length a) = shapeRows 1 (a .list)
 table (Width a) = shapeRows 1 (a .list) ++ (row 10 (ltb (length (points (a .list))) 3) [] ∷ [])
 table (Relation a b) = pairRows a b
 table (Inside a b) = pairRows a b
+table (Offer a b d) = pairRows a b ++ directionRows d
 table (Clearance a b) = pairRows a b
 table (Tangents a b) = pairRows a b ++ (row 9 (not (apart (points (a .list)) (points (b .list)))) [] ∷ [])

@@ -5,6 +5,7 @@ use crate::parts;
 use crate::pictures;
 use crate::readings;
 use crate::replies;
+use crate::separating;
 use crate::table::Measure;
 use crate::table::Question;
 use crate::table::Written;
@@ -39,6 +40,8 @@ pub fn ask(
     match question {
         Question::Measure(which) => measure(out, filled, which, a, f, b, g),
         Question::Write(which) => write(out, filled, which, a, f, b, g, room),
+        Question::Offer => separating::offer(out, filled, a, f, b, g, c),
+        Question::Find => separating::find(out, filled, a, f, b, g),
         Question::Draw => pictures::draw(out, filled, a, f, b, g, count),
         Question::Tablet => readings::tablet(out, filled, line),
         Question::LogRead => logs::read(out, filled, line, fields::name(b), room),

@@ -27,6 +27,10 @@ use Rattle.questions.specs.declared.answer.Relation.{Relation}
 use Rattle.questions.specs.declared.answer.Relation.the-variants as Relation
 use Rattle.questions.specs.declared.answer.Inside.{Inside}
 use Rattle.questions.specs.declared.answer.Inside.the-variants as Inside
+use Rattle.questions.specs.declared.answer.Offer.{Offer}
+use Rattle.questions.specs.declared.answer.Offer.the-variants as Offer
+use Rattle.questions.specs.declared.answer.Found.{Found}
+use Rattle.questions.specs.declared.answer.Found.the-variants as Found
 use Rattle.questions.specs.declared.answer.Clearance.{Clearance}
 use Rattle.questions.specs.declared.answer.Clearance.the-variants as Clearance
 use Rattle.questions.specs.declared.answer.Line.{Line}
@@ -96,6 +100,17 @@ ofRelation (Relation.No r) = ofRefusal r
 abbrev pub ofInside : Inside → Reply
 ofInside (Inside.Is within floor) = answered (cond within (pos 1) (pos 0) ∷ pos floor ∷ [])
 ofInside (Inside.No r) = ofRefusal r
+
+-- 1 accepted, 0 not
+abbrev pub ofOffer : Offer → Reply
+ofOffer (Offer.Is accepted floor) = answered (cond accepted (pos 1) (pos 0) ∷ pos floor ∷ [])
+ofOffer (Offer.No r) = ofRefusal r
+
+-- 1 and the direction, or 0 if there is none
+abbrev pub ofFound : Found → Reply
+ofFound (Found.Direction u v floor) = answered (pos 1 ∷ u ∷ v ∷ pos floor ∷ [])
+ofFound (Found.Nothing floor) = answered (pos 0 ∷ pos floor ∷ [])
+ofFound (Found.No r) = ofRefusal r
 
 -- 0 not apart, 1 two corners, 2 a corner of the first and an edge of the second, 3 a corner of the second and an edge of the first
 abbrev pub ofClearance : Clearance → Reply

@@ -1,5 +1,6 @@
 -- The theory of the door, which only proves: rows passed or given before a question's own, and what is written.
 pub mod Rows
+pub mod Offers
 pub mod Delivery
 pub mod Measures
 pub mod Lines

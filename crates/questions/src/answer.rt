@@ -139,6 +139,19 @@ pub enum Inside {
     No(Refusal),
 }
 
+// Whether a direction is accepted as the reason that two shapes are apart.
+pub enum Offer {
+    Is { accepted: bool, floor: u16 },
+    No(Refusal),
+}
+
+// A direction that is accepted, or that there is none.
+pub enum Found {
+    Direction { u: i32, v: i32, floor: u16 },
+    Nothing { floor: u16 },
+    No(Refusal),
+}
+
 // Nothing if the shapes are not apart. Else where they are nearest: at two corners, with their squared distance; or at a
 // corner of the first and inside an edge of the second, or the reverse, with the size of the corner's turn against the
 // edge and the edge's squared length. Last the distance rounded down.

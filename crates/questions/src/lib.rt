@@ -6,6 +6,7 @@ mod admission;
 pub mod answer;
 mod coordinate;
 mod deliver;
+pub mod separating;
 pub mod walk;
 
 ghost use mathlib.Core.Path.{_≡_};

@@ -24,7 +24,7 @@ use Rattle.calipers.specs.Walk.{Walk, here, begun, advanced, stepped, At}
 use Rattle.calipers.specs.theory.Steps.{at-stepped}
 use Rattle.plane.specs.Search.{some}
 use Rattle.separation.specs.Around.{crossAt, rightOf, Passed}
-use Rattle.separation.proofs.Stops.{sum-length, on-below, over-end, corner-here, stop-here}
+use Rattle.separation.specs.theory.Stops.{sum-length, on-below, over-end, corner-here, stop-here}
 
 -- ---- the loop
 

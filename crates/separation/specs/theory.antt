@@ -4,6 +4,7 @@ pub mod Apart
 pub mod Sector
 pub mod InsideShape
 pub mod Rim
+pub mod Stops
 pub mod Around
 pub mod Image
 pub mod Within

@@ -4,7 +4,8 @@ use super::dice::Dice;
 use super::floors::texts;
 use super::{List, apart, damage, line, numbers, pairs, points, shape_text, shapes, tails};
 use crate::answer::answer;
-use crate::plane::Shape;
+use crate::direction;
+use crate::plane::{Point, Shape, point};
 
 /// Of the lists to judge one in two is damaged.
 pub fn judge(dice: &mut Dice) -> Vec<String> {
@@ -29,6 +30,29 @@ pub fn clearance(dice: &mut Dice) -> Vec<String> {
 }
 
 pub fn tangents(dice: &mut Dice) -> Vec<String> {
+    let lists = two_lists(dice, apart::mostly);
+    texts(dice, &lists)
+}
+
+/// One in three is offered the direction that is found, or its opposite.
+pub fn offer(dice: &mut Dice) -> Vec<String> {
+    let lists = two_lists(dice, apart::mostly);
+    let any = tails::direction(dice, &lists[0]);
+    let direction = match dice.below(3) {
+        0 => found(&lists).map_or(any, |d| d * dice.pick(&[1, 1, 1, -1])),
+        _ => any,
+    };
+    let mut fields = texts(dice, &lists);
+    fields.push(shape_text(&[direction]));
+    fields
+}
+
+fn found(lists: &[List]) -> Option<Point> {
+    let shapes: Vec<Shape> = lists.iter().map(|list| corners(list)).collect();
+    direction::found(&shapes[0], &shapes[1]).filter(|&d| tails::fits(d))
+}
+
+pub fn find(dice: &mut Dice) -> Vec<String> {
     let lists = two_lists(dice, apart::mostly);
     texts(dice, &lists)
 }
@@ -59,6 +83,11 @@ pub fn merge(dice: &mut Dice) -> Vec<String> {
 pub fn sweep(dice: &mut Dice) -> Vec<String> {
     let list = points::list(dice);
     with_room(dice, "sweep", vec![list])
+}
+
+/// The pairs of a list, whatever it is.
+fn corners(list: &[i64]) -> Shape {
+    list.chunks_exact(2).map(|c| point(c[0], c[1])).collect()
 }
 
 fn one_list(dice: &mut Dice) -> Vec<List> {

@@ -20,7 +20,7 @@ use Rattle.calipers.specs.Places as Places
 use Rattle.calipers.specs.Walk.{Walk, here, begun, finished, advanced, passed, At}
 use Rattle.calipers.specs.theory.Carry.{all-passed, some-left, sides-walk, sides-here, sides-advanced, sides-at}
 use Rattle.calipers.specs.theory.Carry.{first-next, second-next, corners-fit, edges-fit}
-use Rattle.separation.proofs.Stops.{on-below, corner-here}
+use Rattle.separation.specs.theory.Stops.{on-below, corner-here}
 use Rattle.clearance.specs.Stop.{rests, crosses, Stopped}
 use Rattle.clearance.proofs.Near.{here-near, edges-less}
 use Rattle.clearance.proofs.Looking.{Looking, looking-start, looking-at, looking-corner, looking-edge, looking-more, looking-end}

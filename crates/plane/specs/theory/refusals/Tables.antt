@@ -11,22 +11,23 @@ use Rattle.plane.specs.Reply.{answered, refused, Row, row}
 use Rattle.plane.specs.Judge.{judged}
 use Rattle.plane.specs.Corner.{shapeOf, sums}
 use Rattle.plane.specs.Output.{answerRows}
-use Rattle.plane.specs.Furthest.{furthestReply}
+use Rattle.plane.specs.Furthest.{directionRows, furthestReply}
 use Rattle.plane.specs.Combine.{mirrorWritten, sumWritten, mergeWritten}
 use Rattle.plane.specs.Sweep.{sweepWritten}
 use Rattle.plane.specs.Measure.{lengthReply, widthReply}
 use Rattle.plane.specs.Separation.{apart, relationReply, insideReply}
+use Rattle.plane.specs.Offer.{offerReply}
 use Rattle.plane.specs.Tangent.{tangentsReply}
 use Rattle.plane.specs.Clearance.{clearanceReply}
 use Rattle.plane.specs.Floor.{writtenBetween}
 use Rattle.plane.specs.Question.{Question, Judge, Furthest, Mirror, Sum, Merge, Sweep, Length, Width, Relation, Inside, Clearance}
-use Rattle.plane.specs.Question.{Tangents, reply, table}
+use Rattle.plane.specs.Question.{Offer, Tangents, reply, table}
 use Rattle.plane.specs.theory.refusals.Rows.{NoneApply, First, firstRow-given, firstRow-none, firstRow-answered, firstRow-refused}
 use Rattle.plane.specs.theory.refusals.Floors.{ByTable, withFloor-table, between-table}
 
 pub follows : (q : Question) → ByTable (reply q) (table q)
 unfolding judged furthestReply mirrorWritten sumWritten mergeWritten sweepWritten lengthReply widthReply relationReply insideReply
-    clearanceReply tangentsReply writtenBetween
+    offerReply clearanceReply tangentsReply writtenBetween
 follows (Judge a) = withFloor-table (a .floor) (judged (a .list)) (table (Judge a)) (_, refl)
 follows (Furthest a d) = withFloor-table (a .floor) (furthestReply (a .list) d) (table (Furthest a d)) (_, refl)
 follows (Mirror a out) = withFloor-table (a .floor) (mirrorWritten (a .list) out .reply) (table (Mirror a out)) (_, refl)
@@ -39,6 +40,7 @@ follows (Length a) = withFloor-table (a .floor) (lengthReply (a .list)) (table (
 follows (Width a) = withFloor-table (a .floor) (widthReply (a .list)) (table (Width a)) (_, refl)
 follows (Relation a b) = between-table a b relationReply [] (_, refl)
 follows (Inside a b) = between-table a b insideReply [] (_, refl)
+follows (Offer a b d) = between-table a b (λ l m. offerReply l m d) (directionRows d) (_, refl)
 follows (Clearance a b) = between-table a b clearanceReply [] (_, refl)
 follows (Tangents a b) =
     between-table a b tangentsReply (row 9 (not (apart (points (a .list)) (points (b .list)))) [] ∷ []) (_, refl)

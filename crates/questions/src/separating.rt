@@ -1,0 +1,58 @@
+// Directions in which one shape is below another (document 02, request W13): the reason that a caller offers for two
+// shapes being apart, and a search for one.
+ghost use mathlib.Core.Path.{_≡_};
+ghost use Rattle.plane.specs.Point.{point};
+ghost use Rattle.plane.specs.Floor.{on, withFloor, between};
+ghost use Rattle.plane.specs.Reply.{answered};
+ghost use Rattle.plane.specs.Offer.{offerReply};
+ghost use Rattle.witness.specs.Found.{foundNumbers, FoundBetween};
+ghost use Rattle.questions.specs.Answer.{ofOffer, ofFound};
+use crate::admission;
+use crate::admission::Admission;
+use crate::answer::Found;
+use crate::answer::Offer;
+use polygon::point::Point;
+
+// Whether every corner of the first shape has a strictly lesser u·x + v·y than every corner of the second. Whoever
+// offered the direction, the shapes are apart if it is accepted; if it is not, they may be apart all the same. Refused:
+// 1 to 5 of the first shape, then of the second; different floors; then the direction (0, 0) and one with a part out of
+// range, and one whose parts have a common divisor above 1, even if the shapes are not apart.
+// Ruled out: less or equal for less; twelve before thirteen; floor zero in an offer.
+pub fn offer(a: &[i32], f: u16, b: &[i32], g: u16, u: i32, v: i32) -> Offer
+    ensures { λ r. ⌜ ofOffer r
+        ≡ between (on (now (a .entry)) f) (on (now (b .entry)) g) (λ l m. offerReply l m (point u v)) ⌝ }
+{
+    if let Admission::No(refusal) = admission::admit_pair(a, f, b, g) {
+        return Offer::No(refusal);
+    }
+    if let Admission::No(direction) = admission::admit_direction(u, v) {
+        return Offer::No(direction);
+    }
+    Offer::Is {
+        accepted: witness::is_below(a, b, Point { x: u, y: v }),
+        floor: f,
+    }
+}
+
+// A direction that is accepted if it is offered, for shapes that are apart; nothing if they are not. Which of the
+// directions it is, is left open. Two points have one, and so have segments in line. Refused: 1 to 5 of the first
+// shape, then of the second; different floors.
+// Ruled out: normal of the joined edge; direction not divided.
+pub fn find(a: &[i32], f: u16, b: &[i32], g: u16) -> Found
+    ensures { λ r. ⌜ FoundBetween (on (now (a .entry)) f) (on (now (b .entry)) g) (ofFound r) ⌝ }
+{
+    if let Admission::No(refusal) = admission::admit_pair(a, f, b, g) {
+        return Found::No(refusal);
+    }
+    told(witness::find(a, b), f)
+}
+
+// What was found, as an answer.
+fn told(found: witness::Found, floor: u16) -> Found
+    ensures { λ r. ⌜ ofFound r ≡ withFloor floor (answered (foundNumbers found)) ⌝ }
+{
+    match found {
+        witness::Found::Direction { u, v } => Found::Direction { u, v, floor },
+        witness::Found::Nothing => Found::Nothing { floor },
+    }
+}

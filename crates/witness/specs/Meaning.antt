@@ -1,0 +1,70 @@
+-- What a separating direction means, in document 02's words (request W13). Each theorem is proved in the theory; here it is only cited.
+--     below            "every corner of the first is strictly below every corner of the second in it"; acceptance means apart
+--     offerReply       the same of the reply to two shapes with their floors; shapes apart have a direction that is accepted
+--     FoundBetween     the search finds such a direction, and says none exactly if they are not apart
+-- That 11 and 12 are "after 1 to 5 and 13" is the case `Offer` of plane's `Question.antt`.
+use mathlib.Core.Bool.{true, false}
+use mathlib.Core.List.{List, [], _∷_}
+use mathlib.Core.Path.{_≡_}
+use Prim.Native.Nat.{_<_}
+use lib.IntN.{ℤ, pos}
+use lib.ListN.{length}
+use lib.Signed.{_<ℤ_}
+use Rattle.plane.specs.Point.{Point, point, points}
+use Rattle.plane.specs.Reply.{Reply, answered, refused, Row}
+use Rattle.plane.specs.Direction.{value}
+use Rattle.plane.specs.Separation.{apart}
+use Rattle.plane.specs.Offer.{below, offerReply}
+use Rattle.plane.specs.Floor.{Floored, pairRows, between}
+use Rattle.plane.specs.theory.lists.Members.{_∈_}
+use Rattle.plane.specs.theory.refusals.Rows.{First}
+use Rattle.plane.specs.theory.refusals.Floors.{Same}
+use Rattle.witness.specs.Found.{FoundBetween}
+use Rattle.witness.specs.theory.Below.{below→all, all→below, below→apart}
+use Rattle.witness.specs.theory.Offered.{accepted-apart, exists-accepted, found-refused, found-apart, found-none, none-found}
+
+-- lists of corners; they have a corner
+module _ (d : Point) (A B : List Point) where
+  -- "every corner of the first is strictly below every corner of the second in it"
+  pub below-is-below : below d A B ≡ true → (p q : Point) → p ∈ A → q ∈ B → value d p <ℤ value d q
+  below-is-below h = below→all d A B h
+
+  -- "accept exactly when": and then it is accepted
+  pub all-below-is-below : ((p q : Point) → p ∈ A → q ∈ B → value d p <ℤ value d q) → below d A B ≡ true
+  all-below-is-below f = all→below d A B f
+
+  pub below-means-apart : 0 < length A → 0 < length B → below d A B ≡ true → apart A B ≡ true
+  below-means-apart a b h = below→apart d A B a b h
+
+-- shapes with their floors
+module _ (a b : Floored) where
+  -- the direction is accepted
+  abbrev Accepted : Point → Type 0
+  Accepted d = between a b (λ l m. offerReply l m d) ≡ answered (pos 1 ∷ pos (a .floor) ∷ [])
+
+  -- "Whoever offered it, acceptance means apart."
+  pub acceptance-means-apart : (d : Point) → Accepted d → apart (points (a .list)) (points (b .list)) ≡ true
+  acceptance-means-apart d h = accepted-apart a b d h
+
+  -- "For any shapes apart on one floor, an acceptable direction exists"
+  pub acceptable-direction-exists : Same a b → apart (points (a .list)) (points (b .list)) ≡ true → (d : Point) × Accepted d
+  acceptable-direction-exists s h = exists-accepted a b s h
+
+  module _ (r : Reply) (f : FoundBetween a b r) where
+    -- "after 1 to 5 and 13"
+    pub search-is-refused-first : {w : Row} → First w (pairRows a b) → r ≡ refused (w .number) (w .carries)
+    search-is-refused-first g = found-refused a b r f g
+
+    module _ (s : Same a b) where
+      -- "finds one": for shapes apart on one floor, a direction that is accepted if it is offered
+      pub search-finds-accepted : apart (points (a .list)) (points (b .list)) ≡ true
+          → (u v : ℤ) × (r ≡ answered (pos 1 ∷ u ∷ v ∷ pos (a .floor) ∷ [])) × Accepted (point u v)
+      search-finds-accepted h = found-apart a b r f s h
+
+      -- "or says none if they are not apart"
+      pub search-says-none : apart (points (a .list)) (points (b .list)) ≡ false → r ≡ answered (pos 0 ∷ pos (a .floor) ∷ [])
+      search-says-none h = found-none a b r f s h
+
+      -- and only then
+      pub none-means-not-apart : r ≡ answered (pos 0 ∷ pos (a .floor) ∷ []) → apart (points (a .list)) (points (b .list)) ≡ false
+      none-means-not-apart h = none-found a b r f s h
