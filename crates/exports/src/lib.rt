@@ -198,11 +198,12 @@ pub extern "C" fn cocklesway_log_read(log: &[u8], name: u16, out: &mut [i32]) ->
 pub extern "C" fn cocklesway_log_add(
     log: &mut [u8],
     name: u16,
+    floor: u16,
     list: &[i32],
     allowed: usize,
 ) -> Numbers
-    ensures { λ r. ⌜ (numbers r ≡ crossed 6 (added (now (log .entry)) name (now (list .entry)) allowed .reply))
-        × (now (log .exit) ≡ added (now (log .entry)) name (now (list .entry)) allowed .log) ⌝ }
+    ensures { λ r. ⌜ (numbers r ≡ crossed 6 (added (now (log .entry)) name floor (now (list .entry)) allowed .reply))
+        × (now (log .exit) ≡ added (now (log .entry)) name floor (now (list .entry)) allowed .log) ⌝ }
 {
-    reply::of_addition(questions::log_add(log, name, list, allowed))
+    reply::of_addition(questions::log_add(log, name, floor, list, allowed))
 }

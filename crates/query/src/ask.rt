@@ -42,7 +42,10 @@ pub fn ask(
         Question::Draw => pictures::draw(out, filled, a, f, b, g, count),
         Question::Tablet => readings::tablet(out, filled, line),
         Question::LogRead => logs::read(out, filled, line, fields::name(b), room),
-        Question::LogAdd => logs::add(out, filled, line, fields::name(b), c, room),
+        Question::LogAdd => {
+            let on = fields::floor(line, 2);
+            logs::add(out, filled, line, fields::name(b), on, c, room)
+        }
         Question::Parts => parts::parts(out, filled, a, f, b, g, c),
         Question::Part => {
             let call = fields::field(values, marks, 3);
