@@ -15,30 +15,7 @@
 //!                                                 checks document 02's sentences on logs over another
 //!                                                 program's answers to these
 
-mod answer;
-mod ask;
-mod cases;
-mod clearance;
-mod combine;
-mod compare;
-mod histories;
-mod hull;
-mod judge;
-mod log;
-mod make;
-mod measure;
-mod parts;
-mod plane;
-mod questions;
-mod refusal;
-mod separation;
-#[cfg(test)]
-mod strips;
-mod sweep;
-mod tablet;
-mod tangents;
-mod text;
-
+use second::{answer, cases, compare, histories, make};
 use std::error::Error;
 use std::fs;
 use std::io::{self, BufWriter, Read, Write};
