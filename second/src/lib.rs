@@ -8,6 +8,7 @@ mod clearance;
 pub mod combine;
 pub mod compare;
 pub mod histories;
+pub mod host;
 mod hull;
 pub mod judge;
 mod log;
