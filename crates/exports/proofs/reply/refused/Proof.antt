@@ -184,4 +184,10 @@ returns-19 c = c .pair19 .ensures ∙ told (c .before .enum-told10 .given .1)
 pub refused-spec : {M : Type 1} → statement M
 refused-spec =
     tie.close
-    (tie.spec enum-known-refusal pair-requires enum-known-refusal-2 pair-requires-2 enum-known-refusal-3 pair-requires-3 enum-known-refusal-4 pair-requires-4 enum-known-refusal-5 pair-requires-5 enum-told pair-requires-6 enum-told-2 pair-requires-7 enum-told-3 pair-requires-8 enum-told-4 pair-requires-9 enum-told-5 pair-requires-10 enum-told-6 pair-requires-11 enum-told-7 pair-requires-12 enum-told-8 pair-requires-13 enum-known-refusal-6 pair-requires-14 enum-known-refusal-7 pair-requires-15 enum-known-refusal-8 pair-requires-16 enum-known-refusal-9 pair-requires-17 enum-told-9 pair-requires-18 enum-told-10 pair-requires-19 returns returns-2 returns-3 returns-4 returns-5 returns-6 returns-7 returns-8 returns-9 returns-10 returns-11 returns-12 returns-13 returns-14 returns-15 returns-16 returns-17 returns-18 returns-19)
+    (tie.spec enum-known-refusal pair-requires enum-known-refusal-2 pair-requires-2 enum-known-refusal-3 pair-requires-3
+    enum-known-refusal-4 pair-requires-4 enum-known-refusal-5 pair-requires-5 enum-told pair-requires-6 enum-told-2 pair-requires-7
+    enum-told-3 pair-requires-8 enum-told-4 pair-requires-9 enum-told-5 pair-requires-10 enum-told-6 pair-requires-11 enum-told-7
+    pair-requires-12 enum-told-8 pair-requires-13 enum-known-refusal-6 pair-requires-14 enum-known-refusal-7 pair-requires-15
+    enum-known-refusal-8 pair-requires-16 enum-known-refusal-9 pair-requires-17 enum-told-9 pair-requires-18 enum-told-10 pair-requires-19
+    returns returns-2 returns-3 returns-4 returns-5 returns-6 returns-7 returns-8 returns-9 returns-10 returns-11 returns-12 returns-13
+    returns-14 returns-15 returns-16 returns-17 returns-18 returns-19)
