@@ -33,6 +33,24 @@ pub fn summed(random: &mut Random, n: usize) -> Case {
     overlapping(random, n, m, 25_000)
 }
 
+/// Two shapes whose sum has too many corners, at any n: the second has as many as a shape may have.
+pub fn large(random: &mut Random, n: usize) -> Case {
+    overlapping(random, n, MOST, 25_000)
+}
+
+/// Two shapes whose sum is out of range, but has no more corners than a shape.
+pub fn far(random: &mut Random, n: usize) -> Case {
+    let (n, m) = if n + n - 4 > MOST {
+        (MOST / 2, MOST / 2 - 6)
+    } else {
+        (n, n - 4)
+    };
+    Case::new(
+        polygon(random, n, 500_000, 600_000, 0),
+        polygon(random, m, 500_000, 600_000, 0),
+    )
+}
+
 /// Two shapes whose merge is answered: about half of each is on the rim.
 pub fn merged(random: &mut Random, n: usize) -> Case {
     loop {
@@ -91,7 +109,10 @@ pub fn moved_away(random: &mut Random, n: usize) -> Case {
     let a = polygon(random, n, 400_000, -250_000, 0);
     let b = moved(&a, 500_000, 1000);
     let log = log(random, n);
-    Case { a, b, log }
+    Case {
+        log,
+        ..Case::new(a, b)
+    }
 }
 
 /// A log of n records, each of a point on floor 3 under a name of its own, and room for one more.

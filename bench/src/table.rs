@@ -22,7 +22,10 @@ pub fn compare(rounds: usize) {
     println!(
         "microseconds a call, proved and plain, and their ratio; of two shapes one has 4 corners"
     );
-    println!("less, and at 1,024 those of `sum` have 512 and 506; a sweep has so many points");
+    println!(
+        "less, and at 1,024 those of `sum` have 512 and 506; a sweep has so many points; of a sum"
+    );
+    println!("of bytes refused 6 the second has 1,024; `bytes` are the calls of a host");
     println!();
     println!(
         "{:24}{}",

@@ -20,7 +20,7 @@ pub fn relation(a: &[i32], f: u16, b: &[i32], g: u16) -> Numbers {
 /// Walks the edges of the difference, those of a and those of b turned round, in their order; each
 /// leaves a corner of a minus a corner of b. It stops at the first that has the origin outside.
 #[inline(always)]
-fn stand(a: Shape, b: Shape) -> u64 {
+pub fn stand(a: Shape, b: Shape) -> u64 {
     let (mut p, mut q) = (Edges::of(a.corners, 0), Edges::of(b.corners, b.top));
     let mut origin = Origin {
         on_some: false,
