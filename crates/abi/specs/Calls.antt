@@ -62,8 +62,15 @@ pairBytes combined l f m g out =
     let r = firstRow (pairRows l f m g ++ answerRows shape out) (answered (pos (length shape) ∷ pos f ∷ [])) in
     record { reply = r; output = stored r (numbers shape) out }
 
+-- "all corner-plus-corner points"; "both corner lists taken together"
+abbrev pub sumShape : List Point → List Point → List Point
+sumShape A B = shapeOf (sums A B)
+
+abbrev pub mergeShape : List Point → List Point → List Point
+mergeShape A B = shapeOf (A ++ B)
+
 unfoldable pub sumBytes : List ℕ → ℕ → List ℕ → ℕ → List ℕ → BytesWritten
-sumBytes a f b g out = pairBytes (λ A B. shapeOf (sums A B)) (listOf a) f (listOf b) g out
+sumBytes a f b g out = pairBytes sumShape (listOf a) f (listOf b) g out
 
 unfoldable pub mergeBytes : List ℕ → ℕ → List ℕ → ℕ → List ℕ → BytesWritten
-mergeBytes a f b g out = pairBytes (λ A B. shapeOf (A ++ B)) (listOf a) f (listOf b) g out
+mergeBytes a f b g out = pairBytes mergeShape (listOf a) f (listOf b) g out

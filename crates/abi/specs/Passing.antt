@@ -5,6 +5,7 @@
 --     Cut n r                 r of n numbers are read: all, or more than a shape may have, even or odd as n is
 --     Room b r                an output of b bytes has room for a shape exactly if it has room for r numbers of it
 --     Deliverable r s o       an answer has its corners in s numbers, and room in o bytes
+--     Replied ..              a number and output bytes are right for each call in whose place two lists and floors are asked about
 use mathlib.Core.Path.{_≡_}
 use mathlib.Core.Bool.{true, false, not, cond}
 use mathlib.Core.List.{List, []}
@@ -12,11 +13,11 @@ use Prim.Native.Nat.{ℕ, _+_, _*_, _%_, _≤_, _<_}
 use lib.Dec.{eqb, ltb}
 use lib.IntN.{ℤ}
 use Rattle.plane.specs.Limits.{maxCorners, maxFloor}
-use Rattle.plane.specs.Point.{points}
+use Rattle.plane.specs.Point.{Point, points}
 use Rattle.plane.specs.Reply.{Reply, answered, refused}
 use Rattle.plane.specs.Refusal.{badCount, tooMany}
-use Rattle.abi.specs.Packing.{firstField}
-use Rattle.abi.specs.Calls.{floorsRow}
+use Rattle.abi.specs.Packing.{firstField, packed}
+use Rattle.abi.specs.Calls.{floorsRow, pairBytes}
 
 pub data Alike (l s : List ℤ) : Type 0 where
   equal : s ≡ l → Alike l s
@@ -45,3 +46,8 @@ pub record Room (b r : ℕ) : Type 0 where
 abbrev pub Deliverable : Reply → ℕ → ℕ → Type 0
 Deliverable (answered values) s o = (2 * firstField (answered values) ≤ s) × (8 * firstField (answered values) ≤ o)
 Deliverable (refused n carries) s o = Unit {0}
+
+pub record Replied (combined : List Point → List Point → List Point) (s : List ℤ) (h : ℕ) (t : List ℤ) (k : ℕ) (old : List ℕ) (r : ℕ)
+    (new : List ℕ) : Type 0 where
+  pub calls : (l : List ℤ) (f : ℕ) (m : List ℤ) (g : ℕ) → Alike l s → Alike m t → Passed f g h k
+      → (r ≡ packed (pairBytes combined l f m g old .reply)) × (new ≡ pairBytes combined l f m g old .output)

@@ -2,3 +2,4 @@
 pub mod Fits
 pub mod Alike
 pub mod Stored
+pub mod Replied

@@ -43,9 +43,14 @@ pub extern "C" fn cocklesway_sum_bytes(a: &[u8], f: u32, b: &[u8], g: u32, out: 
     let n = reading::read(b, &mut second);
     let passed = floors::pass(f, g);
     let mut shape = [0i32; SHAPE_NUMBERS];
-    let room = writing::room(out.len());
-    let answer = questions::sum(&first[..m], passed.first, &second[..n], passed.second, &mut shape[..room]);
-    writing::deliver(answer, &shape, out)
+    writing::sum(
+        &first[..m],
+        passed.first,
+        &second[..n],
+        passed.second,
+        &mut shape,
+        out,
+    )
 }
 
 // Writes the bytes of the shape of both corner lists taken together, and answers how many corners it has. Refused as
@@ -62,9 +67,14 @@ pub extern "C" fn cocklesway_merge_bytes(a: &[u8], f: u32, b: &[u8], g: u32, out
     let n = reading::read(b, &mut second);
     let passed = floors::pass(f, g);
     let mut shape = [0i32; SHAPE_NUMBERS];
-    let room = writing::room(out.len());
-    let answer = questions::merge(&first[..m], passed.first, &second[..n], passed.second, &mut shape[..room]);
-    writing::deliver(answer, &shape, out)
+    writing::merge(
+        &first[..m],
+        passed.first,
+        &second[..n],
+        passed.second,
+        &mut shape,
+        out,
+    )
 }
 
 // Whether the shapes are apart, touching or overlapping. Refused: 1 to 5 of the first list, then of the second;
@@ -78,5 +88,10 @@ pub extern "C" fn cocklesway_relation_bytes(a: &[u8], f: u32, b: &[u8], g: u32) 
     let mut second = [0i32; reading::NUMBERS];
     let n = reading::read(b, &mut second);
     let passed = floors::pass(f, g);
-    packing::of_relation(questions::relation(&first[..m], passed.first, &second[..n], passed.second))
+    packing::of_relation(questions::relation(
+        &first[..m],
+        passed.first,
+        &second[..n],
+        passed.second,
+    ))
 }

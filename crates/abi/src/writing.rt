@@ -3,19 +3,42 @@ ghost use mathlib.Core.Path.{_≡_};
 ghost use Prim.Native.Nat.{_+_, _*_, _≤_, _<_};
 ghost use lib.ListN.{length, take};
 ghost use lib.Seq.{sets};
+ghost use Rattle.plane.specs.Limits.{maxCorners};
 ghost use Rattle.journal.specs.Bytes.{word, words};
 ghost use Rattle.questions.specs.Answer.{ofAnswer};
 ghost use Rattle.abi.specs.Packing.{packed, Fits, firstField};
-ghost use Rattle.abi.specs.Calls.{stored, overBytes};
-ghost use Rattle.abi.specs.Passing.{Deliverable, Room};
+ghost use Rattle.abi.specs.Calls.{stored, overBytes, sumShape, mergeShape};
+ghost use Rattle.abi.specs.Passing.{Deliverable, Room, Replied};
 use crate::packing;
 use journal::bytes;
 use polygon::limits;
 use questions::answer::Answer;
 
+// Asks for the sum of two lists, a buffer being lent for its numbers, writes its bytes and packs the answer.
+pub fn sum(a: &[i32], f: u16, b: &[i32], g: u16, shape: &mut [i32], out: &mut [u8]) -> u64
+    requires { ⌜ length (now shape) ≡ 2 * maxCorners ⌝ }
+    ensures { λ r. ⌜
+        Replied sumShape (now (a .entry)) f (now (b .entry)) g (now (out .entry)) r (now (out .exit)) ⌝ }
+{
+    let n = room(out.len());
+    let answer = questions::sum(a, f, b, g, &mut shape[..n]);
+    deliver(answer, shape, out)
+}
+
+// The same for the merge of two lists.
+pub fn merge(a: &[i32], f: u16, b: &[i32], g: u16, shape: &mut [i32], out: &mut [u8]) -> u64
+    requires { ⌜ length (now shape) ≡ 2 * maxCorners ⌝ }
+    ensures { λ r. ⌜
+        Replied mergeShape (now (a .entry)) f (now (b .entry)) g (now (out .entry)) r (now (out .exit)) ⌝ }
+{
+    let n = room(out.len());
+    let answer = questions::merge(a, f, b, g, &mut shape[..n]);
+    deliver(answer, shape, out)
+}
+
 // For how many numbers of an answer so many bytes have room: a shape has no more than this needs.
 // Ruled out: room counted in numbers.
-pub fn room(bytes: usize) -> usize
+fn room(bytes: usize) -> usize
     ensures { λ r. ⌜ Room bytes r ⌝ }
 {
     let n = bytes / 4;
@@ -26,7 +49,7 @@ pub fn room(bytes: usize) -> usize
 }
 
 // Writes the corners that are answered at the front of the output, and packs the answer.
-pub fn deliver(answer: Answer, shape: &[i32], out: &mut [u8]) -> u64
+fn deliver(answer: Answer, shape: &[i32], out: &mut [u8]) -> u64
     requires { ⌜ Fits (ofAnswer answer) × Deliverable (ofAnswer answer) (length (now shape)) (length (now out)) ⌝ }
     ensures { λ r. ⌜ (r ≡ packed (ofAnswer answer))
         × (now (out .exit)

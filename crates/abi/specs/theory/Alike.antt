@@ -4,13 +4,13 @@
 --     barred-above, barred-within      a reply about one shape
 --     judged-same       a judging
 --     relation-same     a relation
---     Agree, agree      two lists and their floors: a refusal that is given of both, or none of either
+--     Agree, agree      two lists and their floors: a refusal that is given of both, or none of either; `agree-self`
 use mathlib.Core.Path.{_≡_, refl, sym, _∙_, ap, ap₂, subst}
 use mathlib.Core.Bool.{Bool, true, false, not, cond, _||_, true≢false}
 use mathlib.Core.List.{List, [], _∷_, _++_}
 use Prim.Native.Nat.{ℕ, _+_, _*_, _/_, _%_, _≤_, _<_}
 use native.Mathlib.Omega.{arith}
-use borrow.Author.Tests.{ltb-true, ltb-false, lt-ltb, eq-eqb, ne-eqb, eqb-true, eqb-false}
+use borrow.Author.Tests.{ltb-true, ltb-false, lt-ltb, le-ltb, eq-eqb, ne-eqb, eqb-true, eqb-false}
 use lib.Dec.{eqb, ltb}
 use lib.IntN.{ℤ, pos}
 use lib.ListN.{length}
@@ -193,6 +193,12 @@ agree l s m t f g h k u v p = first (agrees 1 l s u)
         (λ x. firstRow-append (shapeRows 1 l) (shapeRows 2 m ++ (floorsRow f g ∷ [])) x ∙ a _)
         (λ x. firstRow-append (shapeRows 1 s) (shapeRows 2 t ++ (floorRow h k ∷ [])) x ∙ b _)
     first (none q n) = second q n (agrees 2 m t v)
+
+-- what is asked about stands for itself, its floors being below 65,536
+pub agree-self : (s t : List ℤ) (h k : ℕ) → h < 65536 → k < 65536 → Agree s h t k s h t k
+unfolding maxFloor
+agree-self s t h k p q = agree s s t t h k h k (equal refl) (equal refl)
+    (passed-both h k (le-ltb maxFloor h (omega (arith, p))) (le-ltb maxFloor k (omega (arith, q))))
 
 pub relation-same : (a b : List ℕ) (s t : List ℤ) (f g h k : ℕ) → Agree (listOf a) f (listOf b) g s h t k
     → between (on s h) (on t k) relationReply ≡ relationBytes a f b g
