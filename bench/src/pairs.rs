@@ -129,3 +129,24 @@ fn log(random: &mut Random, n: usize) -> Vec<u8> {
     bytes.extend([0; 17]);
     bytes
 }
+
+#[cfg(test)]
+mod tests {
+    use super::*;
+
+    /// What the sum is refused, or 0.
+    fn refused(make: fn(&mut Random, usize) -> Case, n: usize) -> u64 {
+        let mut random = Random::new(7);
+        let case = make(&mut random, n);
+        plain::sum(&case.a, 0, &case.b, 0, &mut [0; 2 * MOST]).refusal
+    }
+
+    #[test]
+    fn sums_are_refused_as_their_rows_say() {
+        for n in [32, 100, 500, MOST] {
+            assert_eq!(refused(summed, n), 0);
+            assert_eq!(refused(large, n), 6);
+            assert_eq!(refused(far, n), 7);
+        }
+    }
+}
