@@ -23,7 +23,8 @@
  *      7   the answer would be out of range
  *      8   the output has fewer than eight bytes to a corner of the answer
  *
- * Link target/staticlib/libabi.a, which `rt staticlib abi` writes. No call allocates or keeps anything.
+ * Link target/staticlib/libabi.a, which `rt staticlib abi` writes. No call allocates or keeps anything, so
+ * several may run at a time. A list may be lent twice; a pointer is not followed if its count is 0.
  */
 #ifndef COCKLESWAY_H
 #define COCKLESWAY_H
