@@ -52,8 +52,8 @@ fn room(bytes: usize) -> usize
 fn deliver(answer: Answer, shape: &[i32], out: &mut [u8]) -> u64
     requires { ⌜ Fits (ofAnswer answer) × Deliverable (ofAnswer answer) (length (now shape)) (length (now out)) ⌝ }
     ensures { λ r. ⌜ (r ≡ packed (ofAnswer answer))
-        × (now (out .exit)
-        ≡ stored (ofAnswer answer) (take (2 * firstField (ofAnswer answer)) (now (shape .entry))) (now (out .entry))) ⌝ }
+        × (now (out .exit) ≡ stored (ofAnswer answer)
+        (take (2 * firstField (ofAnswer answer)) (now (shape .entry))) (now (out .entry))) ⌝ }
 {
     if let Answer::Corners { count, floor } = answer {
         encode(shape, 2 * count, out);
