@@ -75,7 +75,6 @@ fn encode(list: &[i32], n: usize, out: &mut [u8])
 }
 
 // Writes a number at a place of the output, the lowest byte first.
-// Ruled out: highest byte first.
 fn put(out: &mut [u8], p: usize, z: i32)
     requires { ⌜ 3 + p < length (now out) ⌝ }
     ensures { λ r. ⌜ now (out .exit) ≡ sets (now (out .entry)) p (word z) ⌝ }
