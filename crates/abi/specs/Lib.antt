@@ -3,4 +3,5 @@ pub mod Lists
 pub mod Packing
 pub mod Calls
 pub mod Passing
+pub mod Meaning
 pub mod theory

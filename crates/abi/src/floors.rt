@@ -13,6 +13,7 @@ pub struct Floors {
 }
 
 // The floors themselves, or two different ones where one is above its limit: the question then refuses 13 in its place.
+// Ruled out: floor above the limit answered.
 pub fn pass(f: u32, g: u32) -> Floors
     ensures { λ r. ⌜ Passed f g (r .first) (r .second) ⌝ }
 {

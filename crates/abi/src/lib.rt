@@ -15,7 +15,7 @@ use questions::SHAPE_NUMBERS;
 
 // Whether the bytes hold a shape, and how many corners it has. Refused: 1 to 5, no multiple of four bytes being 1; a
 // floor above its limit.
-// Ruled out: floor above the limit answered; edge and corner exchanged.
+// Ruled out: floor above the limit answered; edge and corner exchanged; long odd list refused 2.
 #[no_mangle]
 pub extern "C" fn cocklesway_judge_bytes(list: &[u8], floor: u32) -> u64
     ensures { λ r. ⌜ r ≡ packed (judgedBytes (now (list .entry)) floor) ⌝ }
@@ -30,7 +30,7 @@ pub extern "C" fn cocklesway_judge_bytes(list: &[u8], floor: u32) -> u64
 // Writes the bytes of the shape of all corner-plus-corner points at the front of the output, all behind them being
 // kept, and answers how many corners it has. Refused, with the output as it was: 1 to 5 of the first list, then of the
 // second; different floors or one above its limit; then 6, 7, and an output of fewer than eight bytes to a corner.
-// Ruled out: room counted in numbers; highest byte first.
+// Ruled out: room counted in numbers.
 #[no_mangle]
 pub extern "C" fn cocklesway_sum_bytes(a: &[u8], f: u32, b: &[u8], g: u32, out: &mut [u8]) -> u64
     ensures { λ r. ⌜

@@ -27,6 +27,7 @@ pub fn read(bytes: &[u8], numbers: &mut [i32]) -> usize
 }
 
 // How many of n numbers are read. The count stays even or odd, since 1 goes before 2.
+// Ruled out: long odd list refused 2.
 fn cut(n: usize) -> usize
     ensures { λ r. ⌜ Cut n r ⌝ }
 {

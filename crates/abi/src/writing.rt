@@ -52,8 +52,8 @@ fn room(bytes: usize) -> usize
 fn deliver(answer: Answer, shape: &[i32], out: &mut [u8]) -> u64
     requires { ⌜ Fits (ofAnswer answer) × Deliverable (ofAnswer answer) (length (now shape)) (length (now out)) ⌝ }
     ensures { λ r. ⌜ (r ≡ packed (ofAnswer answer))
-        × (now (out .exit)
-        ≡ stored (ofAnswer answer) (take (2 * firstField (ofAnswer answer)) (now (shape .entry))) (now (out .entry))) ⌝ }
+        × (now (out .exit) ≡ stored (ofAnswer answer)
+        (take (2 * firstField (ofAnswer answer)) (now (shape .entry))) (now (out .entry))) ⌝ }
 {
     if let Answer::Corners { count, floor } = answer {
         encode(shape, 2 * count, out);
@@ -75,7 +75,6 @@ fn encode(list: &[i32], n: usize, out: &mut [u8])
 }
 
 // Writes a number at a place of the output, the lowest byte first.
-// Ruled out: highest byte first.
 fn put(out: &mut [u8], p: usize, z: i32)
     requires { ⌜ 3 + p < length (now out) ⌝ }
     ensures { λ r. ⌜ now (out .exit) ≡ sets (now (out .entry)) p (word z) ⌝ }

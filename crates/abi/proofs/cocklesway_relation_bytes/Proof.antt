@@ -13,14 +13,16 @@ use Rattle.abi.proofs.cocklesway_relation_bytes.Statement.{statement}
 use Rattle.abi.proofs.cocklesway_relation_bytes.Tie as tie
 
 -- the answer is that of the call
-replied : (c : tie.After-relation) → let args = c .before .before .before .before .before .before .before .before .before .before .before .before .args in
+replied : (c : tie.After-relation) → let at-first = c .before .before .before .before .before .before .before .before in
+    let args = at-first .before .before .before .before .args in
     ofRelation (c .relation .result) ≡ relationBytes (args .a .now) (args .f) (args .b .now) (args .g)
 replied c =
     let at-pass = c .before .before .before in
     let at-second = at-pass .before .before in
     let at-first = at-second .before .before .before in
     c .relation .ensures
-    ∙ relation-same _ _ _ _ _ _ _ _ (agree _ _ _ _ _ _ _ _ (at-first .read .ensures .2) (at-second .read2 .ensures .2) (at-pass .pass .ensures))
+    ∙ relation-same _ _ _ _ _ _ _ _
+    (agree _ _ _ _ _ _ _ _ (at-first .read .ensures .2) (at-second .read2 .ensures .2) (at-pass .pass .ensures))
 
 slice-aggregate-read : tie.Need-slice-aggregate-read
 slice-aggregate-read c = search needs

@@ -1,7 +1,7 @@
 -- Lists and floors that are passed to a question in place of those of a call: both are refused alike, or they are the same.
 --     cut-alike         the numbers that are read of bytes; `none-alike`: of bytes that hold no list
---     passed-first, passed-second, passed-both     floors: the first is above its limit, or the second, or neither; `passed-one`: of one shape
---     barred-above, barred-within      a reply about one shape
+--     passed-first, -second, -both     floors: the first is above its limit, or the second, or neither; `passed-one`: of one shape
+--     barred-above, barred-within, barred-reply      a reply about one shape
 --     judged-same       a judging
 --     relation-same     a relation
 --     Agree, agree      two lists and their floors: a refusal that is given of both, or none of either; `agree-self`
@@ -109,6 +109,10 @@ barred-above f values h = ap (λ (b : Bool). cond b (refused 13 []) (answered va
 pub barred-within : (f : ℕ) (values : List ℤ) → ltb maxFloor f ≡ false → answered values ≡ barred f (answered values)
 barred-within f values h = ap (λ (b : Bool). cond b (refused 13 []) (answered values)) (sym h)
 
+pub barred-reply : (f : ℕ) (r : Reply) → ltb maxFloor f ≡ false → barred f r ≡ r
+barred-reply f (answered values) h = sym (barred-within f values h)
+barred-reply f (refused n carries) h = refl
+
 -- ---- one list
 
 -- a refusal of both, or none and they are the same
@@ -161,9 +165,6 @@ pub data Agree (l : List ℤ) (f : ℕ) (m : List ℤ) (g : ℕ) (s : List ℤ) 
 pub agree : (l s m t : List ℤ) (f g h k : ℕ) → Alike l s → Alike m t → Passed f g h k → Agree l f m g s h t k
 agree l s m t f g h k u v p = first (agrees 1 l s u)
   where
-    row-13 : Row
-    row-13 = floorsRow f g
-
     floors : s ≡ l → NoneApply (shapeRows 1 l) → t ≡ m → NoneApply (shapeRows 2 m) → (b : Bool) → floorsRow f g .applies ≡ b
         → Agree l f m g s h t k
     floors q n q′ n′ true e = refusals 13 []
@@ -194,11 +195,10 @@ agree l s m t f g h k u v p = first (agrees 1 l s u)
         (λ x. firstRow-append (shapeRows 1 s) (shapeRows 2 t ++ (floorRow h k ∷ [])) x ∙ b _)
     first (none q n) = second q n (agrees 2 m t v)
 
--- what is asked about stands for itself, its floors being below 65,536
-pub agree-self : (s t : List ℤ) (h k : ℕ) → h < 65536 → k < 65536 → Agree s h t k s h t k
-unfolding maxFloor
-agree-self s t h k p q = agree s s t t h k h k (equal refl) (equal refl)
-    (passed-both h k (le-ltb maxFloor h (omega (arith, p))) (le-ltb maxFloor k (omega (arith, q))))
+-- what is asked about stands for itself, its floors being within their limit
+pub agree-self : (s t : List ℤ) (h k : ℕ) → h ≤ maxFloor → k ≤ maxFloor → Agree s h t k s h t k
+agree-self s t h k p q =
+    agree s s t t h k h k (equal refl) (equal refl) (passed-both h k (le-ltb maxFloor h p) (le-ltb maxFloor k q))
 
 pub relation-same : (a b : List ℕ) (s t : List ℤ) (f g h k : ℕ) → Agree (listOf a) f (listOf b) g s h t k
     → between (on s h) (on t k) relationReply ≡ relationBytes a f b g

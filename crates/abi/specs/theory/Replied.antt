@@ -4,12 +4,12 @@
 --     asked-replied      the number and the bytes are right for every call in whose place it was asked
 use mathlib.Core.Path.{_≡_, sym, _∙_, ap, subst}
 use mathlib.Core.List.{List, _++_}
-use Prim.Native.Nat.{ℕ, _*_, _≤_, _<_}
+use Prim.Native.Nat.{ℕ, _*_, _≤_}
 use native.Mathlib.Omega.{arith}
 use lib.IntN.{ℤ}
 use lib.ListN.{length, take, drop, length-append}
 use lib.Seq.{length-take-le, take-at}
-use Rattle.plane.specs.Limits.{maxCorners}
+use Rattle.plane.specs.Limits.{maxCorners, maxFloor}
 use Rattle.plane.specs.Point.{Point}
 use Rattle.plane.specs.Reply.{Reply}
 use Rattle.plane.specs.Floor.{on, writtenBetween}
@@ -29,11 +29,11 @@ module _ (combined : List Point → List Point → List Point) (s : List ℤ) (h
   part = subst (Room (length out)) (sym taken) room
 
   module _ {r : Reply} (asks : r ≡ writtenBetween (on s h) (on t k) (asked combined) (take n shape) .reply) where
-    pub asked-fits : h < 65536 → k < 65536 → Fits r
+    pub asked-fits : h ≤ maxFloor → k ≤ maxFloor → Fits r
     asked-fits p q = subst Fits
         (sym (asks ∙ pair-same combined s h t k s h t k out (take n shape) part (agree-self s t h k p q))) (pair-fits combined s h t k out)
 
-    pub asked-room : h < 65536 → k < 65536 → (new : List ℤ) → length new ≡ length (take n shape)
+    pub asked-room : h ≤ maxFloor → k ≤ maxFloor → (new : List ℤ) → length new ≡ length (take n shape)
         → Deliverable r (length (new ++ drop n shape)) (length out)
     asked-room p q new same = subst (λ (x : Reply). Deliverable x (length (new ++ drop n shape)) (length out)) (sym asks)
         (pair-delivered combined s h t k s h t k out (take n shape) part (agree-self s t h k p q) (length (new ++ drop n shape))

@@ -1,7 +1,6 @@
 -- A shape made of two, asked of a question that writes numbers, and what becomes of the bytes.
 --     word-stored          a number written as four bytes
 --     encoded-start, encoded-more, encoded-done     numbers written as bytes, one by one
---     Asked                the lists, the floors and the output of numbers that are passed
 --     pair-same            the question's reply is that of the call
 --     pair-delivered       its corners are in the buffer, and there is room for their bytes
 --     pair-stored          the bytes that are written are those of the call
@@ -147,7 +146,8 @@ module _ (combined : List Point → List Point → List Point) (l : List ℤ) (f
       let first = none-append (shapeRows 1 l) (shapeRows 2 m ++ (floorsRow f g ∷ [])) n in
       (first .0, none-append (shapeRows 2 m) (floorsRow f g ∷ []) (first .1) .0)
 
-  pub pair-same : Agree l f m g s h t k → writtenBetween (on s h) (on t k) (asked combined) old .reply ≡ pairBytes combined l f m g out .reply
+  pub pair-same : Agree l f m g s h t k
+      → writtenBetween (on s h) (on t k) (asked combined) old .reply ≡ pairBytes combined l f m g out .reply
   unfolding between writtenBetween
   pair-same (refusals n carries p q) =
       q _ ∙ sym (firstRow-append (pairRows l f m g) (answerRows (combined (points l) (points m)) out) answer ∙ p _)
@@ -193,7 +193,8 @@ module _ (combined : List Point → List Point → List Point) (l : List ℤ) (f
         ∙ ap₂ (λ (a b : List ℤ). asked combined a b old .output) e e′
         ∙ passed-output (shapeRows 1 l) behind old new (pass .0)
         ∙ passed-output (shapeRows 2 m) (doorAnswerRows shape old) old new (pass .1)
-        ∙ none-output (doorAnswerRows shape old) old new (few, (both .1 .1 .0, (room-same shape out old room few ∙ both .1 .1 .1 .0, tt))) in
+        ∙ none-output (doorAnswerRows shape old) old new
+        (few, (both .1 .1 .0, (room-same shape out old room few ∙ both .1 .1 .1 .0, tt))) in
         sym (take-take (2 * length shape) (length old) buffer fits) ∙ ap (take (2 * length shape)) written
         ∙ take-at (numbers shape) (drop (length (numbers shape)) old) (2 * length shape) (numbers-length shape)
 
@@ -201,9 +202,6 @@ module _ (combined : List Point → List Point → List Point) (l : List ℤ) (f
         stored r (take (2 * firstField r) buffer) out ≡ pairBytes combined l f m g out .output
     pair-stored a = ap (λ (r : Reply). stored r (take (2 * firstField r) buffer) out) (pair-same a) ∙ go a (outcome rows)
       where
-        shape : List Point
-        shape = combined (points l) (points m)
-
         untouched : (n : ℕ) (carries : List ℕ) → firstRow rows answer ≡ refused n carries
             → stored (firstRow rows answer) (take (2 * firstField (firstRow rows answer)) buffer) out
             ≡ stored (firstRow rows answer) (numbers (combined (points l) (points m))) out

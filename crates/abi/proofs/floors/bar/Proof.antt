@@ -31,7 +31,8 @@ returns-2 c =
     barred-within _ _ (sym (c .before .exceeds-floor .ensures) ∙ c .if1 .left) ∙ told _ (c .before .before .before .answer .given .1)
 
 returns-3 : tie.Need-returns-3
-returns-3 c = sym (refusal-kept (c .before .before .before .args .floor) (c .before .answer2 .given .0 .0)) ∙ told _ (c .before .answer2 .given .1)
+returns-3 c =
+    sym (refusal-kept (c .before .before .before .args .floor) (c .before .answer2 .given .0 .0)) ∙ told _ (c .before .answer2 .given .1)
 
 pub bar-spec : {M : Type 1} → statement M
 bar-spec =

@@ -40,7 +40,9 @@ put-requires c κs =
     omega (arith, in-loop .loop-test .taken, in-loop .before .before .before .pre .1, room (in-loop .before))
 
 add-i : tie.Need-add-i Inv-loop μ-loop
-add-i c = let in-loop = c .before .before .before .before .before in omega (arith, in-loop .loop-test .taken, in-loop .before .before .before .pre .1)
+add-i c =
+    let in-loop = c .before .before .before .before .before in
+    omega (arith, in-loop .loop-test .taken, in-loop .before .before .before .pre .1)
 
 loop-less : tie.Need-loop-less Inv-loop μ-loop
 loop-less c = omega (arith, c .before .before .before .before .before .loop-test .taken)

@@ -1,9 +1,10 @@
 -- `merge` meets its contract: the question is asked, and its answer delivered.
 use mathlib.Core.Path.{_≡_, sym}
-use Prim.Native.Nat.{_<_}
+use Prim.Native.Nat.{_≤_}
 use native.Mathlib.Omega.{arith}
 use lib.ListN.{length}
 use lib.Seq.{length-take-le}
+use Rattle.plane.specs.Limits.{maxFloor}
 use Rattle.plane.specs.Combine.{mergeWritten}
 use Rattle.abi.specs.Calls.{mergeShape}
 use Rattle.abi.specs.theory.Replied.{asked-fits, asked-room, asked-replied}
@@ -26,7 +27,7 @@ merge-requires : tie.Need-merge-requires
 merge-requires c κs = search needs
 
 deliver-requires : tie.Need-deliver-requires
-unfolding mergeWritten
+unfolding mergeWritten maxFloor
 deliver-requires c κs =
     let at-merge = c .before .before .before in
     let at-room = at-merge .before .before in
@@ -34,8 +35,8 @@ deliver-requires c κs =
     let args = start .args in
     let asks = at-merge .merge .ensures .0 in
     let room = at-room .room .ensures in
-    let f : args .f < 65536 = omega (arith, start .fits .f) in
-    let g : args .g < 65536 = omega (arith, start .fits .g) in (
+    let f : args .f ≤ maxFloor = omega (arith, start .fits .f) in
+    let g : args .g ≤ maxFloor = omega (arith, start .fits .g) in (
       asked-fits mergeShape _ _ _ _ (args .out .now) _ room (args .shape .now) (start .pre) asks f g,
       asked-room mergeShape _ _ _ _ (args .out .now) _ room (args .shape .now) (start .pre) asks f g
           (at-merge .merge .last .1 .1 .1 .1 .0) (at-merge .merge .kept .1 .1 .1 .1 .0),
@@ -55,8 +56,9 @@ returns c =
     let at-room = at-merge .before .before in
     let start = at-room .before .before in
     let args = start .args in
-    asked-replied mergeShape _ _ _ _ (args .out .now) _ (at-room .room .ensures) (args .shape .now) (start .pre) (at-merge .merge .ensures .0)
-    (at-merge .merge .ensures .1) (at-merge .merge .kept .1 .1 .1 .1 .0) (at-deliver .deliver .ensures .0) (at-deliver .deliver .ensures .1)
+    asked-replied mergeShape _ _ _ _ (args .out .now) _ (at-room .room .ensures) (args .shape .now) (start .pre)
+    (at-merge .merge .ensures .0) (at-merge .merge .ensures .1) (at-merge .merge .kept .1 .1 .1 .1 .0)
+    (at-deliver .deliver .ensures .0) (at-deliver .deliver .ensures .1)
 
 pub merge-spec : {M : Type 1} → statement M
 merge-spec =

@@ -1,8 +1,9 @@
 -- `put` meets its contract: four stores in a row.
-use mathlib.Core.Path.{_∙_, ap}
+use mathlib.Core.Path.{_≡_, _∙_, ap}
+use mathlib.Core.List.{List}
 use native.Mathlib.Omega.{arith}
-use Prim.Native.Nat.{_+_, _/_, _%_}
-use lib.ListN.{set, length-set}
+use Prim.Native.Nat.{ℕ, _+_, _/_, _%_}
+use lib.ListN.{length, set, length-set}
 use mir.Syntax.{w32}
 use mir.Val.{ofZ}
 use mir.Facts.{toZ-ofZ}
@@ -10,6 +11,25 @@ use Rattle.abi.specs.theory.Stored.{word-stored}
 use borrow.Author.Needs.{needs}
 use Rattle.abi.proofs.writing.put.Statement.{statement}
 use Rattle.abi.proofs.writing.put.Tie as tie
+
+-- the output after one store, two and three is as long as it was
+abbrev old : tie.After-bits → List ℕ
+old c = c .before .before .args .out .now
+
+abbrev one : tie.After-bits → List ℕ
+one c = set (old c) (c .before .before .args .p) (c .bits .result % 256)
+
+abbrev two : tie.After-bits → List ℕ
+two c = set (one c) (c .before .before .args .p + 1) (c .bits .result / 256 % 256)
+
+same-1 : (c : tie.After-bits) → length (one c) ≡ length (old c)
+same-1 c = length-set (old c) _ _
+
+same-2 : (c : tie.After-bits) → length (two c) ≡ length (old c)
+same-2 c = length-set (one c) _ _ ∙ same-1 c
+
+same-3 : (c : tie.After-bits) → length (set (two c) (c .before .before .args .p + 2) (c .bits .result / 65536 % 256)) ≡ length (old c)
+same-3 c = length-set (two c) _ _ ∙ same-2 c
 
 bits-requires : tie.Need-bits-requires
 bits-requires c κs = search needs
@@ -27,8 +47,7 @@ add-out : tie.Need-add-out
 add-out c = search needs
 
 slice-write-out-2 : tie.Need-slice-write-out-2
-slice-write-out-2 c = let at = c .before .before .args in let o = at .out .now in let n = c .bits .result in
-    omega (arith, c .before .before .pre, length-set o (at .p) (n % 256))
+slice-write-out-2 c = omega (arith, c .before .before .pre, same-1 c)
 
 cast-out-3 : tie.Need-cast-out-3
 cast-out-3 c = search needs
@@ -37,8 +56,7 @@ add-out-2 : tie.Need-add-out-2
 add-out-2 c = search needs
 
 slice-write-out-3 : tie.Need-slice-write-out-3
-slice-write-out-3 c = let at = c .before .before .args in let o = at .out .now in let n = c .bits .result in
-    omega (arith, c .before .before .pre, length-set o (at .p) (n % 256), length-set (set o (at .p) (n % 256)) (at .p + 1) (n / 256 % 256))
+slice-write-out-3 c = omega (arith, c .before .before .pre, same-2 c)
 
 cast-out-4 : tie.Need-cast-out-4
 cast-out-4 c = search needs
@@ -47,8 +65,7 @@ add-out-3 : tie.Need-add-out-3
 add-out-3 c = search needs
 
 slice-write-out-4 : tie.Need-slice-write-out-4
-slice-write-out-4 c = let at = c .before .before .args in let o = at .out .now in let n = c .bits .result in
-    omega (arith, c .before .before .pre, length-set o (at .p) (n % 256), length-set (set o (at .p) (n % 256)) (at .p + 1) (n / 256 % 256), length-set (set (set o (at .p) (n % 256)) (at .p + 1) (n / 256 % 256)) (at .p + 2) (n / 65536 % 256))
+slice-write-out-4 c = omega (arith, c .before .before .pre, same-3 c)
 
 same-length : tie.Need-same-length
 same-length c = search needs
