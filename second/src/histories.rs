@@ -69,6 +69,7 @@ pub fn walk<'a>(seed: u64, rounds: usize, ask: &'a mut Ask<'a>) -> Result<(), St
         match round % 8 {
             0 | 4 => walk.deep(dice)?,
             2 => walk.long(dice)?,
+            5 => walk.torn(dice, last_bytes)?,
             6 => walk.torn(dice, false_record)?,
             _ => walk.torn(dice, logs::any)?,
         }
@@ -349,6 +350,13 @@ fn false_record(dice: &mut Dice) -> Vec<u8> {
     if let Some(last) = torn.get_mut(257 + low) {
         *last = 0;
     }
+    [old_record(logs::name(dice), &[0x5A, -1]), torn].concat()
+}
+
+/// A point, and a torn end of last bytes alone: wherever the next record ends, its last byte stands
+/// there already. Its length goes past the end.
+fn last_bytes(dice: &mut Dice) -> Vec<u8> {
+    let torn = vec![0x5A; 60 + dice.below(20)];
     [old_record(logs::name(dice), &[0x5A, -1]), torn].concat()
 }
 
