@@ -3,5 +3,6 @@ pub mod Lists
 pub mod Packing
 pub mod Calls
 pub mod Passing
+pub mod Cases
 pub mod Meaning
 pub mod theory

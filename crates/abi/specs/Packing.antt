@@ -7,10 +7,9 @@
 --     Fits r            each field has room in its bytes. Every reply of `Calls.antt` does: `theory/Fits.antt`
 -- What it means: `packed-back`, each field is read back from the number.
 use mathlib.Core.Path.{_≡_}
-use mathlib.Core.List.{List}
 use Prim.Native.Nat.{ℕ, _+_, _*_, _/_, _%_, _<_}
 use native.Mathlib.Omega.{arith}
-use lib.IntN.{ℤ, pos, natAbs}
+use lib.IntN.{pos, natAbs}
 use lib.ListN.{getD}
 use Rattle.plane.specs.Reply.{Reply, answered, refused}
 

@@ -8,15 +8,15 @@
 use mathlib.Core.Path.{_≡_, refl, sym, _∙_, ap, ap₂, subst}
 use mathlib.Core.Bool.{Bool, true, false, not, cond, _||_, true≢false}
 use mathlib.Core.List.{List, [], _∷_, _++_}
-use Prim.Native.Nat.{ℕ, _+_, _*_, _/_, _%_, _≤_, _<_}
+use Prim.Native.Nat.{ℕ, _+_, _*_, _/_, _%_, _≤_}
 use native.Mathlib.Omega.{arith}
 use borrow.Author.Tests.{ltb-true, ltb-false, lt-ltb, le-ltb, eq-eqb, ne-eqb, eqb-true, eqb-false}
 use lib.Dec.{eqb, ltb}
 use lib.IntN.{ℤ, pos}
 use lib.ListN.{length}
 use Rattle.plane.specs.Limits.{maxCorners, maxFloor}
-use Rattle.plane.specs.Point.{Point, points}
-use Rattle.plane.specs.Reply.{Reply, answered, refused, Row, row, firstRow}
+use Rattle.plane.specs.Point.{points}
+use Rattle.plane.specs.Reply.{Reply, answered, refused, row, firstRow}
 use Rattle.plane.specs.Refusal.{badCount, tooMany, shapeRows}
 use Rattle.plane.specs.Judge.{judged}
 use Rattle.plane.specs.Separation.{relationReply}

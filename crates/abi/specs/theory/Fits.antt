@@ -3,7 +3,7 @@
 use mathlib.Core.Path.{_≡_, refl, sym, ap, subst}
 use mathlib.Core.Bool.{Bool, true, false, not, cond, _||_, true≢false}
 use mathlib.Core.List.{List, [], _∷_, _++_}
-use Prim.Native.Nat.{ℕ, zero, suc, _+_, _*_, _≤_, _<_}
+use Prim.Native.Nat.{ℕ, _+_, _*_, _≤_, _<_}
 use native.Mathlib.Omega.{arith}
 use borrow.Author.Tests.{ltb-false}
 use lib.Dec.{lit<, eqb, ltb}
@@ -21,7 +21,7 @@ use Rattle.plane.specs.theory.refusals.Accept.{few-corners}
 use Rattle.plane.specs.theory.refusals.Rows.{Outcome, given, passed, outcome, firstRow-given, firstRow-none}
 use Rattle.abi.specs.Lists.{listOf}
 use Rattle.abi.specs.Packing.{Fits}
-use Rattle.abi.specs.Calls.{judgedBytes, floorsRow, pairRows, relationBytes, answerRows, pairBytes}
+use Rattle.abi.specs.Calls.{judgedBytes, floorsRow, relationBytes, answerRows, pairBytes}
 
 -- ---- the fields
 

@@ -9,7 +9,7 @@ use mathlib.Core.Bool.{Bool, true, false, cond}
 use mathlib.Core.List.{List, [], _∷_, _++_}
 use Prim.Native.Nat.{ℕ, suc, _+_, _*_, _/_, _%_, _≤_, _<_}
 use native.Mathlib.Omega.{arith}
-use borrow.Author.Tests.{ltb-true, ltb-false, lt-ltb, le-ltb}
+use borrow.Author.Tests.{ltb-true, ltb-false}
 use lib.Dec.{ltb}
 use lib.IntN.{ℤ, pos}
 use lib.ListN.{length, take, drop, getD, set, length-append, length-drop}
@@ -17,14 +17,13 @@ use lib.Seq.{sets, sets-eq, take-at, drop-at, take-take, drop-drop, length-take-
 use mir.Syntax.{w32}
 use mir.Val.{SFits, ofZ}
 use mir.Facts.{fits-ofZ, fits-lt-pow}
-use Rattle.plane.specs.Limits.{maxCorners}
 use Rattle.plane.specs.Point.{Point, points, numbers}
-use Rattle.plane.specs.Reply.{Reply, answered, refused, Row, row, firstRow}
+use Rattle.plane.specs.Reply.{Reply, answered, refused, Row, firstRow}
 use Rattle.plane.specs.Refusal.{tooMany, someOutside, shapeRows}
 use Rattle.plane.specs.Output.{Written, noRoom, overwritten}
 use Rattle.plane.specs.Output.{answerRows as doorAnswerRows}
 use Rattle.plane.specs.Combine.{pairWritten}
-use Rattle.plane.specs.Floor.{on, withFloor, between, writtenBetween}
+use Rattle.plane.specs.Floor.{on, between, writtenBetween}
 use Rattle.plane.specs.Floor.{pairRows as doorRows}
 use Rattle.plane.specs.theory.lists.Flat.{numbers-length}
 use Rattle.plane.specs.theory.refusals.Accept.{few-corners}
@@ -36,7 +35,7 @@ use Rattle.journal.specs.Bytes.{pair, word, words}
 use Rattle.journal.specs.theory.Bytes.{word-length, words-length}
 use Rattle.journal.specs.theory.Storing.{words-more}
 use Rattle.abi.specs.Packing.{firstField}
-use Rattle.abi.specs.Calls.{floorsRow, pairRows, answerRows, BytesWritten, overBytes, stored, pairBytes}
+use Rattle.abi.specs.Calls.{floorsRow, pairRows, answerRows, overBytes, stored, pairBytes}
 use Rattle.abi.specs.Passing.{Room, Deliverable}
 use Rattle.abi.specs.theory.Alike.{Agree, refusals, sames}
 

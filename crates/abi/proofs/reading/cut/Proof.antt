@@ -1,9 +1,7 @@
 -- `cut` meets its contract. The limit is opened here, against the code's constant.
-use mathlib.Core.Path.{_≡_, refl}
-use Prim.Native.Nat.{ℕ, _+_, _%_, _≤_, _<_}
+use mathlib.Core.Path.{refl}
 use native.Mathlib.Omega.{arith}
 use Rattle.plane.specs.Limits.{maxCorners}
-use Rattle.abi.specs.Passing.{Cut}
 use borrow.Author.Needs.{needs}
 use Rattle.abi.proofs.reading.cut.Statement.{statement}
 use Rattle.abi.proofs.reading.cut.Tie as tie

@@ -1,8 +1,7 @@
 -- `merge` meets its contract: the question is asked, and its answer delivered.
-use mathlib.Core.Path.{_≡_, sym}
+use mathlib.Core.Path.{sym}
 use Prim.Native.Nat.{_≤_}
 use native.Mathlib.Omega.{arith}
-use lib.ListN.{length}
 use lib.Seq.{length-take-le}
 use Rattle.plane.specs.Limits.{maxFloor}
 use Rattle.plane.specs.Combine.{mergeWritten}

@@ -1,7 +1,6 @@
 -- `room` meets its contract. The limit is opened here, against the code's constant.
 use native.Mathlib.Omega.{arith}
 use Rattle.plane.specs.Limits.{maxCorners}
-use Rattle.abi.specs.Passing.{Room}
 use Rattle.abi.proofs.writing.room.Statement.{statement}
 use Rattle.abi.proofs.writing.room.Tie as tie
 
