@@ -38,16 +38,18 @@ pub fn large(random: &mut Random, n: usize) -> Case {
     overlapping(random, n, MOST, 25_000)
 }
 
-/// Two shapes whose sum is out of range, but has no more corners than a shape.
+/// Two shapes of n corners each whose sum is answered; at most 512, so that it has no more than `MOST`.
+pub fn alike(random: &mut Random, n: usize) -> Case {
+    let n = n.min(MOST / 2);
+    overlapping(random, n, n, 25_000)
+}
+
+/// The same, but the sum is out of range.
 pub fn far(random: &mut Random, n: usize) -> Case {
-    let (n, m) = if n + n - 4 > MOST {
-        (MOST / 2, MOST / 2 - 6)
-    } else {
-        (n, n - 4)
-    };
+    let n = n.min(MOST / 2);
     Case::new(
         polygon(random, n, 500_000, 600_000, 0),
-        polygon(random, m, 500_000, 600_000, 0),
+        polygon(random, n, 500_000, 600_000, 0),
     )
 }
 
@@ -145,6 +147,7 @@ mod tests {
     fn sums_are_refused_as_their_rows_say() {
         for n in [32, 100, 500, MOST] {
             assert_eq!(refused(summed, n), 0);
+            assert_eq!(refused(alike, n), 0);
             assert_eq!(refused(large, n), 6);
             assert_eq!(refused(far, n), 7);
         }

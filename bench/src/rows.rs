@@ -1,5 +1,5 @@
 //! The rows of the two tables: a question, and cases for which it does its work.
-use crate::pairs::{apart, crossing, far, large, merged, nested, scattered, single, summed};
+use crate::pairs::{alike, apart, crossing, far, large, merged, nested, scattered, single, summed};
 use crate::plain::MOST;
 use crate::random::Random;
 use crate::shapes::Case;
@@ -85,7 +85,7 @@ pub const ROWS: [(&str, [Run; 2], Make); 20] = [
         single(random, n).in_bytes()
     }),
     ("bytes: sum", SUM_BYTES, |random, n| {
-        summed(random, n).in_bytes()
+        alike(random, n).in_bytes()
     }),
     ("bytes: sum, refused 6", SUM_BYTES, |random, n| {
         large(random, n).in_bytes()
@@ -94,7 +94,7 @@ pub const ROWS: [(&str, [Run; 2], Make); 20] = [
         far(random, n).in_bytes()
     }),
     ("bytes: sum, refused 8", SUM_BYTES_SHORT, |random, n| {
-        summed(random, n).in_bytes()
+        alike(random, n).in_bytes()
     }),
     ("bytes: merge", MERGE_BYTES, |random, n| {
         merged(random, n).in_bytes()
