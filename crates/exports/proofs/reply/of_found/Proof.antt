@@ -4,7 +4,6 @@ use mathlib.Core.List.{[], _∷_}
 use lib.IntN.{ℤ, pos}
 use mir.Syntax.{w32}
 use Rattle.integer.specs.Machine.{result-is}
-use Rattle.questions.specs.declared.answer.Found.{Found}
 use Rattle.exports.specs.Found.{crossedFound}
 use borrow.Author.Needs.{needs}
 use Rattle.exports.proofs.reply.of_found.Statement.{statement}
