@@ -22,8 +22,9 @@ use std::fs;
 use std::io::{self, BufWriter, Read, Write};
 use std::process::ExitCode;
 
-const USAGE: &str = "second make SEED COUNT [WORD | host] | small | answer | cases | check | compare LEAST QUESTIONS ANSWERS \
-     | histories SEED ROUNDS | sentences SEED ROUNDS QUESTIONS ANSWERS";
+const USAGE: &str = "second make SEED COUNT [WORD | host] | small | answer | cases | check \
+     | compare LEAST QUESTIONS ANSWERS | histories SEED ROUNDS \
+     | sentences SEED ROUNDS QUESTIONS ANSWERS";
 
 /// Whether all is as it should be; trouble is what kept the program from finding out.
 type Outcome = Result<bool, Box<dyn Error>>;

@@ -55,7 +55,8 @@ fn every_sort_of_a_hosts_answer_comes_up_often() {
         };
         *seen.entry(sort).or_default() += 1;
     }
-    let often = "hjudge 0,hjudge 1,hjudge 2,hjudge 3,hjudge 4,hjudge 5,hjudge 13,hsum 0,hsum 1,hsum 6,hsum 7,hsum 8,hsum 13,\
+    let often = "hjudge 0,hjudge 1,hjudge 2,hjudge 3,hjudge 4,hjudge 5,hjudge 13,\
+                 hsum 0,hsum 1,hsum 6,hsum 7,hsum 8,hsum 13,\
                  hmerge 0,hmerge 1,hmerge 6,hmerge 8,hmerge 13,hrelation 0 0,hrelation 0 1,hrelation 0 2,hrelation 13,\
                  unreadable: not bytes,unreadable: not a floor,unreadable: not a count,unreadable: unknown word,\
                  unreadable: missing field,unreadable: too many fields,unreadable: line too long";
