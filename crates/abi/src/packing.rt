@@ -53,6 +53,7 @@ pub fn of_refusal(refusal: Refusal) -> u64
         Refusal::NotApart => fields(9, 0, 0, 0),
         Refusal::Flat => fields(10, 0, 0, 0),
         Refusal::Direction => fields(11, 0, 0, 0),
+        Refusal::NotPrimitive => fields(12, 0, 0, 0),
         Refusal::Floors => fields(13, 0, 0, 0),
         Refusal::NotAPlace => fields(14, 0, 0, 0),
         Refusal::Damaged { place } => fields(15, place, 0, 0),
