@@ -1,4 +1,5 @@
 //! Compares the answers of plain and proved questions, and the whole outputs that they leave.
+use crate::agree_bytes::{self, Compared};
 use crate::lists::{beside, floors, points, shape, spoilt};
 use crate::plain::MOST;
 use crate::random::Random;
@@ -60,7 +61,7 @@ type Lent<'a> = (&'a [i32], u16);
 #[derive(Default)]
 struct Tally {
     answers: u64,
-    kinds: BTreeSet<(&'static str, String)>,
+    kinds: BTreeSet<Compared>,
 }
 
 /// Asks questions of made lists until so many were answered, and says how many; or the first that
@@ -78,6 +79,9 @@ pub fn agree(seed: u64, answers: u64) -> Result<u64, String> {
         }
         let swept = points(&mut random, &a, &b);
         let [f, g] = floors(&mut random);
+        for compared in agree_bytes::ask(&mut random, &a, &b, [f, g])? {
+            tally.count(compared);
+        }
         let (a, b): (Lent, Lent) = ((&a, f), (&b, g));
         ask_one(&mut tally, a)?;
         ask_two(&mut tally, a, b)?;
@@ -261,15 +265,20 @@ impl Tally {
             (0, _) => "ok".to_string(),
             (number, _) => format!("no {number}"),
         };
-        self.answers += 1;
-        self.kinds.insert((word, kind));
+        self.count((word, kind));
         Ok(())
+    }
+
+    fn count(&mut self, compared: Compared) {
+        self.answers += 1;
+        self.kinds.insert(compared);
     }
 
     /// A kind that did not come.
     fn missing(&self) -> Option<String> {
         let came = |word, kind: &str| self.kinds.contains(&(word, kind.to_string()));
-        let &(word, kind) = KINDS.iter().find(|&&(word, kind)| !came(word, kind))?;
+        let mut kinds = KINDS.iter().chain(&agree_bytes::KINDS);
+        let &(word, kind) = kinds.find(|&&(word, kind)| !came(word, kind))?;
         Some(format!(
             "no {word} was answered `{kind}`: ask for more answers"
         ))

@@ -1,6 +1,7 @@
 //! The proved questions beside plain ones: written by hand for speed, with the same checks and the
 //! same answers. `agree` compares what they answer, `table` how long they take.
 pub mod agree;
+mod agree_bytes;
 mod lists;
 mod pairs;
 pub mod plain;

@@ -33,6 +33,26 @@ pub fn summed(random: &mut Random, n: usize) -> Case {
     overlapping(random, n, m, 25_000)
 }
 
+/// Two shapes whose sum has too many corners, at any n: the second has as many as a shape may have.
+pub fn large(random: &mut Random, n: usize) -> Case {
+    overlapping(random, n, MOST, 25_000)
+}
+
+/// Two shapes of n corners each whose sum is answered; at most 512, so that it has no more than `MOST`.
+pub fn alike(random: &mut Random, n: usize) -> Case {
+    let n = n.min(MOST / 2);
+    overlapping(random, n, n, 25_000)
+}
+
+/// The same, but the sum is out of range.
+pub fn far(random: &mut Random, n: usize) -> Case {
+    let n = n.min(MOST / 2);
+    Case::new(
+        polygon(random, n, 500_000, 600_000, 0),
+        polygon(random, n, 500_000, 600_000, 0),
+    )
+}
+
 /// Two shapes whose merge is answered: about half of each is on the rim.
 pub fn merged(random: &mut Random, n: usize) -> Case {
     loop {
@@ -91,7 +111,10 @@ pub fn moved_away(random: &mut Random, n: usize) -> Case {
     let a = polygon(random, n, 400_000, -250_000, 0);
     let b = moved(&a, 500_000, 1000);
     let log = log(random, n);
-    Case { a, b, log }
+    Case {
+        log,
+        ..Case::new(a, b)
+    }
 }
 
 /// A log of n records, each of a point on floor 3 under a name of its own, and room for one more.
@@ -107,4 +130,26 @@ fn log(random: &mut Random, n: usize) -> Vec<u8> {
     }
     bytes.extend([0; 17]);
     bytes
+}
+
+#[cfg(test)]
+mod tests {
+    use super::*;
+
+    /// What the sum is refused, or 0.
+    fn refused(make: fn(&mut Random, usize) -> Case, n: usize) -> u64 {
+        let mut random = Random::new(7);
+        let case = make(&mut random, n);
+        plain::sum(&case.a, 0, &case.b, 0, &mut [0; 2 * MOST]).refusal
+    }
+
+    #[test]
+    fn sums_are_refused_as_their_rows_say() {
+        for n in [32, 100, 500, MOST] {
+            assert_eq!(refused(summed, n), 0);
+            assert_eq!(refused(alike, n), 0);
+            assert_eq!(refused(large, n), 6);
+            assert_eq!(refused(far, n), 7);
+        }
+    }
 }

@@ -1,4 +1,4 @@
-//! The proved questions, as the archive exports them.
+//! The proved questions and the calls of a host, as the archives export them.
 use crate::reply::{Direction, Lines, Nearest, Numbers, Signed};
 
 /// A lent list crosses as a pointer and a length.
@@ -9,6 +9,8 @@ mod archive {
     type Output = *mut i32;
     type Log = *const u8;
     type LogOutput = *mut u8;
+    type Bytes = *const u8;
+    type BytesOutput = *mut u8;
 
     unsafe extern "C" {
         pub fn cocklesway_judge(list: List, n: usize, floor: u16) -> Numbers;
@@ -103,10 +105,39 @@ mod archive {
             n: usize,
             allowed: usize,
         ) -> Numbers;
+        pub fn cocklesway_judge_bytes(list: Bytes, n: usize, floor: u32) -> u64;
+        pub fn cocklesway_sum_bytes(
+            a: Bytes,
+            n: usize,
+            f: u32,
+            b: Bytes,
+            m: usize,
+            g: u32,
+            out: BytesOutput,
+            room: usize,
+        ) -> u64;
+        pub fn cocklesway_merge_bytes(
+            a: Bytes,
+            n: usize,
+            f: u32,
+            b: Bytes,
+            m: usize,
+            g: u32,
+            out: BytesOutput,
+            room: usize,
+        ) -> u64;
+        pub fn cocklesway_relation_bytes(
+            a: Bytes,
+            n: usize,
+            f: u32,
+            b: Bytes,
+            m: usize,
+            g: u32,
+        ) -> u64;
     }
 }
 
-// SAFETY, for all of them: the archive's functions have no precondition, and read and write lent
+// SAFETY, for all of them: the archives' functions have no precondition, and read and write lent
 // slices only within their lengths.
 
 pub fn judge(list: &[i32], floor: u16) -> Numbers {
@@ -245,4 +276,42 @@ pub fn log_add(log: &mut [u8], name: u16, floor: u16, list: &[i32], allowed: usi
             allowed,
         )
     }
+}
+
+pub fn judge_bytes(list: &[u8], floor: u32) -> u64 {
+    unsafe { archive::cocklesway_judge_bytes(list.as_ptr(), list.len(), floor) }
+}
+
+pub fn sum_bytes(a: &[u8], f: u32, b: &[u8], g: u32, out: &mut [u8]) -> u64 {
+    unsafe {
+        archive::cocklesway_sum_bytes(
+            a.as_ptr(),
+            a.len(),
+            f,
+            b.as_ptr(),
+            b.len(),
+            g,
+            out.as_mut_ptr(),
+            out.len(),
+        )
+    }
+}
+
+pub fn merge_bytes(a: &[u8], f: u32, b: &[u8], g: u32, out: &mut [u8]) -> u64 {
+    unsafe {
+        archive::cocklesway_merge_bytes(
+            a.as_ptr(),
+            a.len(),
+            f,
+            b.as_ptr(),
+            b.len(),
+            g,
+            out.as_mut_ptr(),
+            out.len(),
+        )
+    }
+}
+
+pub fn relation_bytes(a: &[u8], f: u32, b: &[u8], g: u32) -> u64 {
+    unsafe { archive::cocklesway_relation_bytes(a.as_ptr(), a.len(), f, b.as_ptr(), b.len(), g) }
 }

@@ -1,8 +1,9 @@
 //! The rows of the two tables: a question, and cases for which it does its work.
-use crate::pairs::{apart, crossing, merged, nested, scattered, single, summed};
+use crate::pairs::{alike, apart, crossing, far, large, merged, nested, scattered, single, summed};
+use crate::plain::MOST;
 use crate::random::Random;
 use crate::shapes::Case;
-use crate::timing::{Run, block};
+use crate::timing::{Run, block, block_bytes};
 use crate::{plain, proved};
 
 /// Makes a case of about n corners.
@@ -18,6 +19,16 @@ macro_rules! run {
     };
     ($way:ident::$question:ident($($list:ident),*; out)) => {
         |cases| block(cases, |c, out| $way::$question($(&c.$list, FLOOR,)* out))
+    };
+}
+
+/// The same for the calls of a host: of bytes, and perhaps of so many bytes of an output.
+macro_rules! call {
+    ($way:ident::$call:ident($($k:literal),*)) => {
+        |cases| block_bytes(cases, |c, _| $way::$call($(&c.bytes[$k], FLOOR as u32),*))
+    };
+    ($way:ident::$call:ident($($k:literal),*; $room:expr)) => {
+        |cases| block_bytes(cases, |c, out| $way::$call($(&c.bytes[$k], FLOOR as u32,)* &mut out[..$room]))
     };
 }
 
@@ -43,8 +54,26 @@ const OFFER: [Run; 2] = [
 ];
 const FIND: [Run; 2] = [run!(proved::find(a, b)), run!(plain::find(a, b))];
 
-/// The questions that are asked in both ways.
-pub const ROWS: [(&str, [Run; 2], Make); 15] = [
+const JUDGE_BYTES: [Run; 2] = [call!(proved::judge_bytes(0)), call!(plain::judge_bytes(0))];
+const SUM_BYTES: [Run; 2] = [
+    call!(proved::sum_bytes(0, 1; 8 * MOST)),
+    call!(plain::sum_bytes(0, 1; 8 * MOST)),
+];
+const SUM_BYTES_SHORT: [Run; 2] = [
+    call!(proved::sum_bytes(0, 1; 8)),
+    call!(plain::sum_bytes(0, 1; 8)),
+];
+const MERGE_BYTES: [Run; 2] = [
+    call!(proved::merge_bytes(0, 1; 8 * MOST)),
+    call!(plain::merge_bytes(0, 1; 8 * MOST)),
+];
+const RELATION_BYTES: [Run; 2] = [
+    call!(proved::relation_bytes(0, 1)),
+    call!(plain::relation_bytes(0, 1)),
+];
+
+/// The questions that are asked in both ways, and the calls of a host.
+pub const ROWS: [(&str, [Run; 2], Make); 23] = [
     ("judge", JUDGE, single),
     ("furthest", FURTHEST, single),
     ("sum", SUM, summed),
@@ -60,6 +89,30 @@ pub const ROWS: [(&str, [Run; 2], Make); 15] = [
     ("offer", OFFER, apart),
     ("find, apart", FIND, apart),
     ("find, none", FIND, crossing),
+    ("bytes: judge", JUDGE_BYTES, |random, n| {
+        single(random, n).in_bytes()
+    }),
+    ("bytes: sum", SUM_BYTES, |random, n| {
+        alike(random, n).in_bytes()
+    }),
+    ("bytes: sum, refused 6", SUM_BYTES, |random, n| {
+        large(random, n).in_bytes()
+    }),
+    ("bytes: sum, refused 7", SUM_BYTES, |random, n| {
+        far(random, n).in_bytes()
+    }),
+    ("bytes: sum, refused 8", SUM_BYTES_SHORT, |random, n| {
+        alike(random, n).in_bytes()
+    }),
+    ("bytes: merge", MERGE_BYTES, |random, n| {
+        merged(random, n).in_bytes()
+    }),
+    ("bytes: apart", RELATION_BYTES, |random, n| {
+        apart(random, n).in_bytes()
+    }),
+    ("bytes: overlapping", RELATION_BYTES, |random, n| {
+        crossing(random, n).in_bytes()
+    }),
 ];
 
 /// Every proved question, on a shape and the same one moved away (`pairs::moved_away`). It takes the

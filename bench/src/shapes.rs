@@ -4,10 +4,13 @@ use crate::random::Random;
 /// A list of numbers, x y x y.
 pub type List = Vec<i32>;
 
-/// The lists that a question is asked of: one shape, or two; and a log, if it is asked of one.
+/// The lists that a question is asked of: one shape, or two, as numbers or as bytes; and a log, if it is
+/// asked of one.
+#[derive(Default)]
 pub struct Case {
     pub a: List,
     pub b: List,
+    pub bytes: [Vec<u8>; 2],
     pub log: Vec<u8>,
 }
 
@@ -17,17 +20,30 @@ impl Case {
         Case {
             a,
             b,
-            log: Vec::new(),
+            ..Case::default()
         }
     }
 
-    /// Reads all its numbers, for a number that hangs on them.
-    pub fn read(&self) -> i32 {
-        self.a
-            .iter()
-            .chain(&self.b)
-            .fold(0, |sum, z| sum.wrapping_add(*z))
+    /// The same lists as bytes alone.
+    pub fn in_bytes(self) -> Case {
+        Case {
+            bytes: [bytes_of(&self.a), bytes_of(&self.b)],
+            ..Case::default()
+        }
     }
+
+    /// Reads all its numbers and bytes, for a number that hangs on them.
+    pub fn read(&self) -> i32 {
+        let numbers = self.a.iter().chain(&self.b);
+        let bytes = self.bytes.iter().flatten();
+        let sum = numbers.fold(0, |sum: i32, z| sum.wrapping_add(*z));
+        bytes.fold(sum, |sum, byte| sum.wrapping_add(*byte as i32))
+    }
+}
+
+/// Four bytes to a number, the lowest first.
+pub fn bytes_of(list: &[i32]) -> Vec<u8> {
+    list.iter().flat_map(|z| z.to_le_bytes()).collect()
 }
 
 /// How far an edge goes across and up.

@@ -11,6 +11,14 @@ const SIZES: [usize; 4] = [32, 100, 500, MOST];
 /// Corners of the second table, how the proved questions grow.
 const STEPS: [usize; 2] = [100, 400];
 
+/// What stands above the first table.
+const LEGEND: &str = "\
+microseconds a call, proved and plain, and their ratio; of two shapes one has 4 corners
+less, and at 1,024 those of `sum` have 512 and 506; a sweep has so many points. `bytes`
+are the calls of a host: both shapes of their sums have so many corners, and 512 at 1,024;
+of those refused 6 the second has 1,024
+";
+
 /// The seed of all shapes.
 const SEED: u64 = 2026;
 
@@ -19,11 +27,7 @@ pub fn compare(rounds: usize) {
     let meters = ROWS
         .iter()
         .map(|(_, runs, make)| SIZES.map(|n| meter(n, runs, *make)));
-    println!(
-        "microseconds a call, proved and plain, and their ratio; of two shapes one has 4 corners"
-    );
-    println!("less, and at 1,024 those of `sum` have 512 and 506; a sweep has so many points");
-    println!();
+    println!("{LEGEND}");
     println!(
         "{:24}{}",
         "",

@@ -14,15 +14,28 @@ const POOL: usize = 32_768;
 /// Corners of a block of calls: they fit into the nearest cache, and a block takes some microseconds.
 const BLOCK: usize = 2_000;
 
-/// The body of a `Run`: a loop with nothing in it but the call. The lists are read first, so that no
-/// way of answering waits for them.
+/// The body of a `Run`, of a question that writes numbers.
 #[inline(always)]
 pub fn block<T>(cases: &[Case], ask: impl Fn(&Case, &mut [i32]) -> T) -> u64 {
     let mut out = [0; 2 * MOST];
+    timed(cases, |case| ask(case, &mut out))
+}
+
+/// The same, of a call that writes bytes.
+#[inline(always)]
+pub fn block_bytes<T>(cases: &[Case], ask: impl Fn(&Case, &mut [u8]) -> T) -> u64 {
+    let mut out = [0; 8 * MOST];
+    timed(cases, |case| ask(case, &mut out))
+}
+
+/// A loop with nothing in it but the call. The lists are read first, so that no way of answering waits
+/// for them.
+#[inline(always)]
+fn timed<T>(cases: &[Case], mut ask: impl FnMut(&Case) -> T) -> u64 {
     black_box(cases.iter().map(Case::read).fold(0, i32::wrapping_add));
     let start = Instant::now();
     for case in cases {
-        black_box(ask(case, &mut out));
+        black_box(ask(case));
     }
     start.elapsed().as_nanos() as u64
 }

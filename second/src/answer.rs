@@ -2,10 +2,10 @@
 
 use crate::ask;
 use crate::plane::Point;
-use crate::questions::{self, Row};
+use crate::questions::{self, CALLS, TABLE};
 use crate::text::fields::{self, Value};
+use crate::text::lines;
 use crate::text::unreadable::Unreadable;
-use crate::text::{given::Given, lines};
 use std::io::{self, Write};
 
 /// Answers every line of the input that wants an answer.
@@ -18,31 +18,38 @@ pub fn write_all(input: &[u8], mut to: impl Write) -> io::Result<()> {
 
 /// The whole answer line.
 pub fn answer(line: &[u8]) -> String {
-    match read(line) {
-        Ok((row, given)) => match (row.ask)(&given) {
-            Ok(words) => format!("ok {words}"),
-            Err(refusal) => refusal.to_string(),
-        },
-        Err(unreadable) => unreadable.to_string(),
-    }
+    told(line).unwrap_or_else(|unreadable| unreadable.to_string())
 }
 
 /// What is answered if a direction is offered for the two shapes of a line that asks for one.
 pub fn offered(line: &[u8], direction: Point) -> Option<String> {
-    let (row, mut given) = read(line).ok()?;
+    let (word, texts) = split(line).ok()?;
+    let row = questions::find(TABLE, word).filter(|row| row.word == "find")?;
+    let mut given = fields::read(row.fields, &texts).ok()?;
     given.0.push(Value::Direction(direction));
-    (row.word == "find").then(|| ask::offer(&given).ok())?
+    ask::offer(&given).ok()
 }
 
-fn read(line: &[u8]) -> Result<(&'static Row, Given), Unreadable> {
+fn told(line: &[u8]) -> Result<String, Unreadable> {
+    let (word, texts) = split(line)?;
+    if let Some(call) = questions::find(CALLS, word) {
+        return Ok((call.ask)(&fields::read(call.fields, &texts)?));
+    }
+    let row = questions::find(TABLE, word).ok_or(Unreadable::UnknownWord)?;
+    match (row.ask)(&fields::read(row.fields, &texts)?) {
+        Ok(words) => Ok(format!("ok {words}")),
+        Err(refusal) => Ok(refusal.to_string()),
+    }
+}
+
+/// The word of a line, and the texts of its fields.
+fn split(line: &[u8]) -> Result<(&[u8], Vec<&[u8]>), Unreadable> {
     if lines::is_too_long(line) {
         return Err(Unreadable::LineTooLong);
     }
     let mut parts = line.split(|&byte| byte == b'|');
     let word = lines::trimmed(parts.next().unwrap_or_default());
-    let row = questions::find(word).ok_or(Unreadable::UnknownWord)?;
-    let texts: Vec<&[u8]> = parts.collect();
-    Ok((row, fields::read(row.fields, &texts)?))
+    Ok((word, parts.collect()))
 }
 
 #[cfg(test)]
@@ -102,6 +109,23 @@ mod tests {
         ("part | 0 0 | 1 1 | 0 0 | 1 2", "unreadable: wrong count of numbers"),
         ("part | 0 0 | 1 1 | 0 0 0 | -1 2", "unreadable: not a count"),
         ("part | 0 0 | 1 1 | 0 0 0", "unreadable: missing field"),
+        ("hjudge | 01000000 FFFFFFFF | 7", "0x0000000700010000"),
+        ("hjudge||065535", "0x0000000000000101"),
+        ("hjudge | 0100 0000 ff ff FFFF | 65536", "0x000000000000000d"),
+        ("hjudge | 0 | x", "unreadable: not bytes"),
+        ("hjudge | | 4294967295", "0x0000000000000101"),
+        ("hjudge | | 4294967296", "unreadable: not a floor"),
+        ("hjudge | | -0", "unreadable: not a floor"),
+        ("hjudge | | 1 2", "unreadable: not a floor"),
+        ("hjudge | |", "unreadable: not a floor"),
+        ("hjudge | 00", "unreadable: missing field"),
+        ("hjudge | 00 | 0 | 0", "unreadable: too many fields"),
+        ("hsum | 0100000000000000 | 3 | 00000000FFFFFFFF | 3 | 8", "0x0000000300010000 | 01000000FFFFFFFF"),
+        ("hsum | 0100000000000000 | 3 | 00000000FFFFFFFF | 3 | 7", "0x0000000000000008 |"),
+        ("hsum | | 3 | | 3 | 65537", "unreadable: not a count"),
+        ("hsum | | 3 | | 3", "unreadable: missing field"),
+        ("hmerge | 0100000000000000 | 3 | 00000000FFFFFFFF | 4 | 65536", "0x000000000000000d |"),
+        ("hrelation | 0100000000000000 | 0 | 00000000FFFFFFFF | 0", "0x0000000000000000"),
     ];
 
     #[test]

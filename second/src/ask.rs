@@ -5,6 +5,7 @@
 use crate::clearance::{self, Against, Between};
 use crate::combine::{self, held_by};
 use crate::direction;
+use crate::host;
 use crate::log;
 use crate::measure;
 use crate::parts::{self, State};
@@ -171,6 +172,44 @@ pub fn log_add(given: &Given) -> Answer {
     let finished = log::add(&mut log, given.name(), floor, list, given.stores())?;
     let word = if finished { "finished" } else { "cut" };
     Ok(format!("{word} | {}", log_text(&log)))
+}
+
+pub fn host_judge(given: &Given) -> String {
+    let ([a], [f]) = (given.bytes(), given.floors());
+    number(host::judge(a, f))
+}
+
+pub fn host_sum(given: &Given) -> String {
+    with_output(given, host::sum)
+}
+
+pub fn host_merge(given: &Given) -> String {
+    with_output(given, host::merge)
+}
+
+pub fn host_relation(given: &Given) -> String {
+    let ([a, b], [f, g]) = (given.bytes(), given.floors());
+    number(host::relation(a, f, b, g))
+}
+
+/// The number of a call, and behind a bar what it wrote, if it was answered.
+fn with_output(given: &Given, call: fn(&[u8], u32, &[u8], u32, &mut [u8]) -> u64) -> String {
+    let ([a, b], [f, g]) = (given.bytes(), given.floors());
+    let mut out = vec![0; given.output()];
+    let told = call(a, f, b, g, &mut out);
+    let corners = if told & 0xFF == 0 {
+        told >> 16 & 0xFFFF
+    } else {
+        0
+    };
+    let written = log_text(&out[..8 * corners as usize]);
+    let space = if written.is_empty() { "" } else { " " };
+    format!("{} |{space}{written}", number(told))
+}
+
+/// All of its 64 bits.
+fn number(told: u64) -> String {
+    format!("0x{told:016x}")
 }
 
 /// The bytes in pairs of digits.

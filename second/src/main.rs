@@ -4,6 +4,7 @@
 //!
 //!     second make SEED COUNT                      writes questions, the same ones for the same seed
 //!     second make SEED COUNT WORD                 the same, all of the words that begin so
+//!     second make SEED COUNT host                 lines of a host's calls, which query does not know
 //!     second small                                writes all states and cuts of small sums in parts
 //!     second answer                               answers the questions of standard input
 //!     second cases                                writes the documents' cases as questions
@@ -15,38 +16,15 @@
 //!                                                 checks document 02's sentences on logs over another
 //!                                                 program's answers to these
 
-mod answer;
-mod ask;
-mod cases;
-mod clearance;
-mod combine;
-mod compare;
-mod direction;
-mod histories;
-mod hull;
-mod judge;
-mod log;
-mod make;
-mod measure;
-mod parts;
-mod plane;
-mod questions;
-mod refusal;
-mod separation;
-#[cfg(test)]
-mod strips;
-mod sweep;
-mod tablet;
-mod tangents;
-mod text;
-
+use second::{answer, cases, compare, histories, make};
 use std::error::Error;
 use std::fs;
 use std::io::{self, BufWriter, Read, Write};
 use std::process::ExitCode;
 
-const USAGE: &str = "second make SEED COUNT [WORD] | small | answer | cases | check | compare LEAST QUESTIONS ANSWERS \
-     | histories SEED ROUNDS | sentences SEED ROUNDS QUESTIONS ANSWERS";
+const USAGE: &str = "second make SEED COUNT [WORD | host] | small | answer | cases | check \
+     | compare LEAST QUESTIONS ANSWERS | histories SEED ROUNDS \
+     | sentences SEED ROUNDS QUESTIONS ANSWERS";
 
 /// Whether all is as it should be; trouble is what kept the program from finding out.
 type Outcome = Result<bool, Box<dyn Error>>;
@@ -68,6 +46,7 @@ fn run(words: &[&str]) -> Outcome {
     let output = BufWriter::new(io::stdout().lock());
     match *words {
         ["make", seed, count] => make::write_all(number(seed)?, number(count)?, "", output)?,
+        ["make", seed, count, "host"] => make::write_host(number(seed)?, number(count)?, output)?,
         ["make", seed, count, word] => {
             make::write_all(number(seed)?, number(count)?, word, output)?
         }

@@ -4,16 +4,17 @@
 use crate::ask::{self, Answer};
 use crate::make::dice::Dice;
 use crate::make::fields as make;
-use crate::make::{logs, parts, readings};
+use crate::make::{host, logs, parts, readings};
 use crate::text::fields::Field::{
-    self, Call, Calls, Direction, Log, Name, Reading, Room, Shape, Stores, Walk,
+    self, Bytes, Call, Calls, Direction, Floor, Log, Name, Output, Reading, Room, Shape, Stores,
+    Walk,
 };
 use crate::text::given::Given;
 
-pub struct Row {
+pub struct Row<Told = Answer> {
     pub word: &'static str,
     pub fields: &'static [Field],
-    pub ask: fn(&Given) -> Answer,
+    pub ask: fn(&Given) -> Told,
     /// The text of each field.
     pub make: fn(&mut Dice) -> Vec<String>,
 }
@@ -41,6 +42,15 @@ pub const TABLE: &[Row] = &[
     Row { word: "bookadd", fields: &[Log, Name, Shape, Stores], ask: ask::log_add, make: logs::to_add },
 ];
 
-pub fn find(word: &[u8]) -> Option<&'static Row> {
-    TABLE.iter().find(|row| row.word.as_bytes() == word)
+/// The calls of a host, each of which tells its whole line. The query program knows none of them.
+#[rustfmt::skip]
+pub const CALLS: &[Row<String>] = &[
+    Row { word: "hjudge", fields: &[Bytes, Floor], ask: ask::host_judge, make: host::judge },
+    Row { word: "hsum", fields: &[Bytes, Floor, Bytes, Floor, Output], ask: ask::host_sum, make: host::sum },
+    Row { word: "hmerge", fields: &[Bytes, Floor, Bytes, Floor, Output], ask: ask::host_merge, make: host::merge },
+    Row { word: "hrelation", fields: &[Bytes, Floor, Bytes, Floor], ask: ask::host_relation, make: host::relation },
+];
+
+pub fn find<Told>(table: &'static [Row<Told>], word: &[u8]) -> Option<&'static Row<Told>> {
+    table.iter().find(|row| row.word.as_bytes() == word)
 }

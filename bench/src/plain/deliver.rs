@@ -70,25 +70,46 @@ impl Buffer {
 /// Writes the corners at the front of the output, or refuses 6, 7 or 8.
 #[inline(always)]
 pub fn deliver(answer: &Buffer, floor: u16, out: &mut [i32]) -> Numbers {
-    if answer.len() > MOST {
-        return Numbers::refused(6);
+    match checked(answer) {
+        Ok(numbers) => write(numbers, floor, out),
+        Err(refusal) => refusal,
     }
-    if some_outside(answer.corners().as_flattened()) {
-        return Numbers::refused(7);
-    }
-    deliver_near(answer, floor, out)
 }
 
 /// The same for corners that cannot be out of range.
 #[inline(always)]
 pub fn deliver_near(answer: &Buffer, floor: u16, out: &mut [i32]) -> Numbers {
-    if answer.len() > MOST {
-        return Numbers::refused(6);
+    match checked_near(answer) {
+        Ok(numbers) => write(numbers, floor, out),
+        Err(refusal) => refusal,
     }
-    let numbers = answer.corners().as_flattened();
+}
+
+/// The numbers of the corners, or refusal 6 or 7.
+#[inline(always)]
+pub fn checked(answer: &Buffer) -> Result<&[i32], Numbers> {
+    let numbers = checked_near(answer)?;
+    if some_outside(numbers) {
+        return Err(Numbers::refused(7));
+    }
+    Ok(numbers)
+}
+
+/// The same for corners that cannot be out of range.
+#[inline(always)]
+pub fn checked_near(answer: &Buffer) -> Result<&[i32], Numbers> {
+    if answer.len() > MOST {
+        return Err(Numbers::refused(6));
+    }
+    Ok(answer.corners().as_flattened())
+}
+
+/// Writes the numbers at the front of the output, or refuses 8.
+#[inline(always)]
+fn write(numbers: &[i32], floor: u16, out: &mut [i32]) -> Numbers {
     match out.get_mut(..numbers.len()) {
         Some(front) => front.copy_from_slice(numbers),
         None => return Numbers::refused(8),
     }
-    Numbers::one(answer.len() as u64, floor)
+    Numbers::one(numbers.len() as u64 / 2, floor)
 }

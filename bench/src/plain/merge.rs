@@ -10,14 +10,20 @@ pub fn merge(a: &[i32], f: u16, b: &[i32], g: u16, out: &mut [i32]) -> Numbers {
     match admitted_pair(a, f, b, g) {
         Ok((a, b)) => {
             let mut hull = Hull::empty();
-            hull.scan::<true>(Chain::right(a), Chain::right(b));
-            hull.turn();
-            hull.scan::<false>(Chain::left(a), Chain::left(b));
-            hull.close();
+            merged(a, b, &mut hull);
             deliver_near(&hull.answer, f, out)
         }
         Err(refusal) => refusal,
     }
+}
+
+/// Scans both sides of both shapes.
+#[inline(always)]
+pub fn merged(a: Shape, b: Shape, hull: &mut Hull) {
+    hull.scan::<true>(Chain::right(a), Chain::right(b));
+    hull.turn();
+    hull.scan::<false>(Chain::left(a), Chain::left(b));
+    hull.close();
 }
 
 /// One side of a shape: the corners from a position to another, one behind the last being the first.

@@ -1,6 +1,7 @@
 //! The questions of documents 01 and 02, written plainly and for speed: what the proved ones are
 //! measured against. Each judges its lists first, and compares the floors of two.
 mod blame;
+mod bytes;
 mod calipers;
 mod corner;
 mod deliver;
@@ -18,6 +19,7 @@ mod sum;
 mod sweep;
 mod width;
 
+pub use bytes::{judge_bytes, merge_bytes, relation_bytes, sum_bytes};
 pub use furthest::furthest;
 pub use inside::inside;
 pub use judge::{MOST, judge};

@@ -18,7 +18,7 @@ pub fn relation(a: &[i32], f: u16, b: &[i32], g: u16) -> Numbers {
 
 /// What follows from where the origin is. On the line of all edges the differences are flat.
 #[inline(always)]
-fn stand(a: Shape, b: Shape) -> u64 {
+pub fn stand(a: Shape, b: Shape) -> u64 {
     let mut origin = Origin::new();
     if origin.outside(a, b).is_some() {
         return APART;

@@ -1,6 +1,6 @@
 // A log of shapes in a lent run of bytes (document 02, W5 and W11: the floor book). Inner functions; callers ask the
 // crate `questions`.
-mod bytes;
+pub mod bytes;
 pub mod corners;
 pub mod latest;
 mod records;

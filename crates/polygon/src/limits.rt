@@ -4,7 +4,7 @@ ghost use mathlib.Core.Path.{_≡_};
 ghost use lib.Dec.{ltb};
 ghost use lib.IntN.{natAbs};
 ghost use lib.Signed.{ltZ};
-ghost use Rattle.plane.specs.Limits.{maxCorners, maxPoints, maxPart};
+ghost use Rattle.plane.specs.Limits.{maxCorners, maxPoints, maxPart, maxFloor};
 ghost use Rattle.plane.specs.Refusal.{outside as Refusal·outside};
 
 pub const MAX_CORNERS: usize = 1_024;
@@ -15,6 +15,8 @@ const MAX_POINTS: usize = 1_024;
 const MAX_COORDINATE: i32 = 1_000_000;
 
 const MAX_PART: i32 = 2_000_000;
+
+const MAX_FLOOR: u32 = 65_535;
 
 // So many numbers hold the corners of any shape.
 pub const SHAPE_NUMBERS: usize = 2 * MAX_CORNERS;
@@ -41,6 +43,13 @@ pub fn exceeds_points(n: usize) -> bool
     ensures { λ r. ⌜ r ≡ ltb maxPoints n ⌝ }
 {
     MAX_POINTS < n
+}
+
+// Whether a number is more than a floor may have.
+pub fn exceeds_floor(n: u32) -> bool
+    ensures { λ r. ⌜ r ≡ ltb maxFloor n ⌝ }
+{
+    MAX_FLOOR < n
 }
 
 // Whether a coordinate is out of its range.

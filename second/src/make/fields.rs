@@ -9,9 +9,13 @@ use crate::plane::{Point, Shape, point};
 
 /// Of the lists to judge one in two is damaged.
 pub fn judge(dice: &mut Dice) -> Vec<String> {
-    let shape = shapes::any(dice);
-    let lists = damaged_at_times(dice, &[shape], 2);
+    let lists = one_to_judge(dice);
     texts(dice, &lists)
+}
+
+pub fn one_to_judge(dice: &mut Dice) -> Vec<List> {
+    let shape = shapes::any(dice);
+    damaged_at_times(dice, &[shape], 2)
 }
 
 pub fn one_shape(dice: &mut Dice) -> Vec<String> {

@@ -165,8 +165,8 @@ fn name_text(dice: &mut Dice) -> String {
     }
 }
 
-/// Some logs are written in small letters or with spaces, and some with a digit too few.
-fn written(dice: &mut Dice, log: &[u8]) -> String {
+/// Some bytes are written in small letters or with spaces, and some with a digit too few.
+pub fn written(dice: &mut Dice, log: &[u8]) -> String {
     let mut text = log_text(log);
     match dice.below(24) {
         0 => text.make_ascii_lowercase(),

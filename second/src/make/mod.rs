@@ -7,6 +7,7 @@
 //!     apart                 pairs of good shapes that are mostly apart
 //!     parts                 walks and calls of sums in parts; all of them for small sums
 //!     tails                 directions and rooms; readings: bits of doubles; logs: their bytes
+//!     host                  bytes, floors and rooms of a host's calls
 //!     spoil, layout         lines that are no questions; the same text with other spaces
 //!
 //! Nothing here decides an answer: every line is answered from its text alone.
@@ -17,6 +18,7 @@ pub mod dice;
 pub mod edges;
 pub mod fields;
 pub mod floors;
+pub mod host;
 mod layout;
 pub mod logs;
 pub mod long;
@@ -29,7 +31,7 @@ mod spoil;
 mod tails;
 
 use crate::plane::Point;
-use crate::questions::{Row, TABLE};
+use crate::questions::{CALLS, Row, TABLE};
 use dice::Dice;
 use std::io::{self, Write};
 
@@ -38,11 +40,25 @@ pub type List = Vec<i64>;
 
 /// Writes `count` lines that want an answer, behind a byte order mark; others stand between them.
 /// All are of the words that begin as the given one.
-pub fn write_all(seed: u64, count: usize, word: &str, mut to: impl Write) -> io::Result<()> {
+pub fn write_all(seed: u64, count: usize, word: &str, to: impl Write) -> io::Result<()> {
+    let wanted = |row: &&Row| row.word.starts_with(word);
+    write_rows(seed, count, TABLE.iter().filter(wanted), to)
+}
+
+/// The same of a host's calls.
+pub fn write_host(seed: u64, count: usize, to: impl Write) -> io::Result<()> {
+    write_rows(seed, count, CALLS.iter(), to)
+}
+
+fn write_rows<Told: 'static>(
+    seed: u64,
+    count: usize,
+    rows: impl Iterator<Item = &'static Row<Told>> + Clone,
+    mut to: impl Write,
+) -> io::Result<()> {
     let mut dice = Dice::new(seed);
     write!(to, "\u{FEFF}")?;
-    let wanted = |row: &&Row| row.word.starts_with(word);
-    for (number, row) in (0..count).zip(TABLE.iter().filter(wanted).cycle()) {
+    for (number, row) in (0..count).zip(rows.cycle()) {
         writeln!(to, "{}", any_line(&mut dice, row))?;
         if number % 1000 == 0 {
             write!(to, "{}", layout::passed_over(seed, number))?;
@@ -76,7 +92,7 @@ pub fn numbers(shape: &[Point]) -> List {
 }
 
 /// One line in thirty is spoilt, and one in thirty has another layout.
-fn any_line(dice: &mut Dice, row: &Row) -> String {
+fn any_line<Told>(dice: &mut Dice, row: &Row<Told>) -> String {
     let fields = (row.make)(dice);
     let text = if dice.one_in(30) {
         spoil::spoilt(dice, row.word, fields)

@@ -32,6 +32,40 @@ fn no_line_begins_with_the_word_that_only_the_other_program_knows() {
     assert!(words.all(|text| !text.starts_with(b"draw")));
 }
 
+/// The numbers that a host's calls are answered with, by refusal and by what else they tell.
+#[test]
+fn every_sort_of_a_hosts_answer_comes_up_often() {
+    let mut input = Vec::new();
+    write_host(15, 4000, &mut input).expect("a vector takes all bytes");
+    let mut seen: HashMap<String, usize> = HashMap::new();
+    for (_, line) in lines::questions(&input) {
+        let word = String::from_utf8_lossy(lines::words(line).next().unwrap_or_default());
+        let told = answer(line);
+        let sort = match told.strip_prefix("0x") {
+            Some(digits) => {
+                let number = u64::from_str_radix(&digits[..16], 16).expect("16 digits");
+                let relation = if word == "hrelation" && number & 0xFF == 0 {
+                    format!(" {}", number >> 16 & 0xFFFF)
+                } else {
+                    String::new()
+                };
+                format!("{word} {}{relation}", number & 0xFF)
+            }
+            None => told,
+        };
+        *seen.entry(sort).or_default() += 1;
+    }
+    let often = "hjudge 0,hjudge 1,hjudge 2,hjudge 3,hjudge 4,hjudge 5,hjudge 13,\
+                 hsum 0,hsum 1,hsum 6,hsum 7,hsum 8,hsum 13,\
+                 hmerge 0,hmerge 1,hmerge 6,hmerge 8,hmerge 13,hrelation 0 0,hrelation 0 1,hrelation 0 2,hrelation 13,\
+                 unreadable: not bytes,unreadable: not a floor,unreadable: not a count,unreadable: unknown word,\
+                 unreadable: missing field,unreadable: too many fields,unreadable: line too long";
+    for sort in often.split(',') {
+        let count = seen.get(sort).copied().unwrap_or(0);
+        assert!(count >= 2, "{sort}: {count}");
+    }
+}
+
 /// The answer's first words, without the numbers of good answers.
 fn sort_of(line: &[u8], answer: &str) -> String {
     let word = String::from_utf8_lossy(lines::words(line).next().unwrap_or_default());

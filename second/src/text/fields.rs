@@ -2,7 +2,7 @@
 //! function that reads it.
 
 use super::given::Given;
-use super::lines::words;
+use super::lines::{trimmed, words};
 use super::unreadable::Unreadable;
 use crate::parts::{Call, State};
 use crate::plane::{Point, point};
@@ -10,6 +10,9 @@ use crate::tablet;
 
 /// The fields of a line may hold so many numbers together.
 pub const MOST_NUMBERS: usize = 16_384;
+
+/// The output of a host's call has so many bytes at most.
+pub const MOST_OUTPUT: usize = 65_536;
 
 #[derive(Clone, Copy, Debug, PartialEq, Eq)]
 pub enum Field {
@@ -27,6 +30,12 @@ pub enum Field {
     Walk,
     /// How many corners a call of a sum in parts may write, and its room.
     Call,
+    /// Any bytes, as a log is written.
+    Bytes,
+    /// The floor of a host's list, from 0 to the most that 32 bits hold.
+    Floor,
+    /// How many bytes the output of a host's call holds.
+    Output,
     /// Any calls, each as one word: the two numbers with a colon between them.
     Calls,
 }
@@ -43,6 +52,9 @@ pub enum Value {
     Stores(usize),
     Walk(State),
     Calls(Vec<Call>),
+    Bytes(Vec<u8>),
+    Floor(u32),
+    Output(usize),
 }
 
 impl Field {
@@ -62,6 +74,9 @@ impl Field {
             Field::Walk => walk(&numbers.read(text)?),
             Field::Call => call(&numbers.read(text)?).map(|call| Value::Calls(vec![call])),
             Field::Calls => numbers.read_calls(text).map(Value::Calls),
+            Field::Bytes => bytes(text).map(Value::Bytes).ok_or(Unreadable::NotBytes),
+            Field::Floor => digits(text).map(Value::Floor).ok_or(Unreadable::NotAFloor),
+            Field::Output => output(text).map(Value::Output).ok_or(Unreadable::NotACount),
         }
     }
 }
@@ -124,6 +139,18 @@ fn byte(pair: &[u8]) -> Option<u8> {
         return None;
     }
     u8::from_str_radix(str::from_utf8(pair).ok()?, 16).ok()
+}
+
+/// One word of digits, a number of 32 bits without a sign.
+fn digits(text: &[u8]) -> Option<u32> {
+    let word = trimmed(text);
+    let digits = word.iter().all(u8::is_ascii_digit);
+    str::from_utf8(word).ok().filter(|_| digits)?.parse().ok()
+}
+
+fn output(text: &[u8]) -> Option<usize> {
+    let bytes = usize::try_from(digits(text)?).ok()?;
+    (bytes <= MOST_OUTPUT).then_some(bytes)
 }
 
 fn walk(list: &[i32]) -> Result<Value, Unreadable> {

@@ -88,6 +88,35 @@ impl Given {
         found.expect("the row has a log")
     }
 
+    /// The bytes of all lists of a host's call.
+    pub fn bytes<const COUNT: usize>(&self) -> [&[u8]; COUNT] {
+        let lists = self.0.iter().filter_map(|value| match value {
+            Value::Bytes(bytes) => Some(&bytes[..]),
+            _ => None,
+        });
+        let found: Vec<&[u8]> = lists.collect();
+        found.try_into().expect("the row has so many lists")
+    }
+
+    /// Their floors.
+    pub fn floors<const COUNT: usize>(&self) -> [u32; COUNT] {
+        let floors = self.0.iter().filter_map(|value| match value {
+            Value::Floor(floor) => Some(*floor),
+            _ => None,
+        });
+        let found: Vec<u32> = floors.collect();
+        found.try_into().expect("the row has so many floors")
+    }
+
+    /// How many bytes of output a host's call is lent.
+    pub fn output(&self) -> usize {
+        let found = self.0.iter().find_map(|value| match value {
+            Value::Output(bytes) => Some(*bytes),
+            _ => None,
+        });
+        found.expect("the row has an output")
+    }
+
     pub fn name(&self) -> u16 {
         let found = self.0.iter().find_map(|value| match value {
             Value::Name(name) => Some(*name),

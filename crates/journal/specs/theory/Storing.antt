@@ -3,7 +3,7 @@
 --     ran-kept, ran-cleared               a byte that is 0, and one that is cleared
 --     Cleared, cleared-start, -next       the bytes from a place on are cleared; one byte more
 --     ran-pair, ran-word                  numbers of two and of four bytes
---     ran-start, ran-more                 a list of numbers; one more
+--     ran-start, ran-more                 a list of numbers; one more. `words-more`: the bytes of one more
 --     ran-recorded                        a record, field by field, and whether its last byte was stored
 --     ran-stores                          all stores of an addition, and whether they were made
 use mathlib.Core.Path.{_≡_, refl, sym, _∙_, ap, ap₂, subst}
@@ -141,7 +141,7 @@ unfolding words
 words-append [] m = refl
 words-append (z ∷ l) m = ap (λ (t : List ℕ). word z ++ t) (words-append l m) ∙ sym (append-assoc (word z) (words l) (words m))
 
-words-more : (l : List ℤ) (i : ℕ) → i < length l → words (take i l) ++ word (getD l i (pos 0)) ≡ words (take (i + 1) l)
+pub words-more : (l : List ℤ) (i : ℕ) → i < length l → words (take i l) ++ word (getD l i (pos 0)) ≡ words (take (i + 1) l)
 unfolding words
 words-more l i h =
     ap (λ (t : List ℕ). words (take i l) ++ t) (sym (append-nil (word (getD l i (pos 0)))))

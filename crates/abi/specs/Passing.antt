@@ -1,0 +1,53 @@
+-- What is passed to the questions for bytes and floors. Our own, not of document 02.
+--     Alike l s               s may be asked about in place of l: it is l, or both are refused 1, or both 2
+--     Passed f g h k          h and k may be given in place of the floors f and g: where 13 is due they differ, else they are the same
+--     barred f r              a reply about one shape, refused 13 where its floor is above the limit
+--     Cut n r                 r of n numbers are read: all, or more than a shape may have, even or odd as n is
+--     Room b r                an output of b bytes has room for a shape exactly if it has room for r numbers of it
+--     Deliverable r s o       an answer has its corners in s numbers, and room in o bytes
+--     Replied ..              a number and output bytes are right for each call in whose place two lists and floors are asked about
+use mathlib.Core.Path.{_≡_}
+use mathlib.Core.Bool.{true, false, not, cond}
+use mathlib.Core.List.{List, []}
+use Prim.Native.Nat.{ℕ, _+_, _*_, _%_, _≤_, _<_}
+use lib.Dec.{eqb, ltb}
+use lib.IntN.{ℤ}
+use Rattle.plane.specs.Limits.{maxCorners, maxFloor}
+use Rattle.plane.specs.Point.{Point, points}
+use Rattle.plane.specs.Reply.{Reply, answered, refused}
+use Rattle.plane.specs.Refusal.{badCount, tooMany}
+use Rattle.abi.specs.Packing.{firstField, packed}
+use Rattle.abi.specs.Calls.{floorsRow, pairBytes}
+
+pub data Alike (l s : List ℤ) : Type 0 where
+  equal : s ≡ l → Alike l s
+  odd : badCount l ≡ true → badCount s ≡ true → Alike l s
+  many : badCount l ≡ false → badCount s ≡ false → tooMany (points l) ≡ true → tooMany (points s) ≡ true → Alike l s
+
+pub record Passed (f g h k : ℕ) : Type 0 where
+  pub refused-same : not (eqb h k) ≡ floorsRow f g .applies
+  pub first-same : floorsRow f g .applies ≡ false → h ≡ f
+
+abbrev pub barred : ℕ → Reply → Reply
+barred f (answered values) = cond (ltb maxFloor f) (refused 13 []) (answered values)
+barred f (refused n carries) = refused n carries
+
+pub record Cut (n r : ℕ) : Type 0 where
+  pub within : r ≤ n
+  pub few : r ≤ 3 + 2 * maxCorners
+  pub whole : r < 2 + 2 * maxCorners → r ≡ n
+  pub parity : r % 2 ≡ n % 2
+
+pub record Room (b r : ℕ) : Type 0 where
+  pub small : r ≤ 2 * maxCorners
+  pub holds : (c : ℕ) → 2 * c ≤ r → 8 * c ≤ b
+  pub enough : (c : ℕ) → c ≤ maxCorners → 8 * c ≤ b → 2 * c ≤ r
+
+abbrev pub Deliverable : Reply → ℕ → ℕ → Type 0
+Deliverable (answered values) s o = (2 * firstField (answered values) ≤ s) × (8 * firstField (answered values) ≤ o)
+Deliverable (refused n carries) s o = Unit {0}
+
+pub record Replied (combined : List Point → List Point → List Point) (s : List ℤ) (h : ℕ) (t : List ℤ) (k : ℕ) (old : List ℕ) (r : ℕ)
+    (new : List ℕ) : Type 0 where
+  pub calls : (l : List ℤ) (f : ℕ) (m : List ℤ) (g : ℕ) → Alike l s → Alike m t → Passed f g h k
+      → (r ≡ packed (pairBytes combined l f m g old .reply)) × (new ≡ pairBytes combined l f m g old .output)

@@ -1,0 +1,149 @@
+-- Every reply of the four calls has room in the bytes of its number.
+--     judged-fits, relation-fits, pair-fits
+use mathlib.Core.Path.{_≡_, refl, sym, ap, subst}
+use mathlib.Core.Bool.{Bool, true, false, not, cond, _||_, true≢false}
+use mathlib.Core.List.{List, [], _∷_, _++_}
+use Prim.Native.Nat.{ℕ, _+_, _*_, _≤_, _<_}
+use native.Mathlib.Omega.{arith}
+use borrow.Author.Tests.{ltb-false}
+use lib.Dec.{lit<, eqb, ltb}
+use lib.IntN.{ℤ, pos}
+use lib.ListN.{length}
+use Rattle.plane.specs.Limits.{maxCorners, maxFloor, floor-small}
+use Rattle.plane.specs.Point.{Point, points, numbers}
+use Rattle.plane.specs.Reply.{Reply, answered, refused, Row, row, firstRow}
+use Rattle.plane.specs.Refusal.{badCount, tooMany, someOutside, equalPair, ruleBroken, badStart, shapeRows}
+use Rattle.plane.specs.Refusal.{breakingEdge, breakingCorner, brokenEdge, brokenCorner}
+use Rattle.plane.specs.Separation.{apart, touching, relationReply}
+use Rattle.plane.specs.Floor.{withFloor}
+use Rattle.plane.specs.theory.lists.Sought.{first-le}
+use Rattle.plane.specs.theory.refusals.Accept.{few-corners}
+use Rattle.plane.specs.theory.refusals.Rows.{Outcome, given, passed, outcome, firstRow-given, firstRow-none}
+use Rattle.abi.specs.Lists.{listOf}
+use Rattle.abi.specs.Packing.{Fits}
+use Rattle.abi.specs.Calls.{judgedBytes, floorsRow, relationBytes, answerRows, pairBytes}
+
+-- ---- the fields
+
+plain : (n : ℕ) → n < 256 → Fits (refused n [])
+plain n h = record { refusal-fits = h; shape-fits = omega arith; first-fits = omega arith; second-fits = omega arith }
+
+blamed : (n which : ℕ) → n < 256 → which < 256 → Fits (refused n (which ∷ []))
+blamed n which h k = record { refusal-fits = h; shape-fits = k; first-fits = omega arith; second-fits = omega arith }
+
+answer-fits : (n f : ℕ) → n < 65536 → f < 65536 → Fits (answered (pos n ∷ pos f ∷ []))
+answer-fits n f h k = record { refusal-fits = omega arith; shape-fits = omega arith; first-fits = h; second-fits = k }
+
+corners-fit : maxCorners < 65535
+unfolding maxCorners
+corners-fit = lit< tt
+
+edge-le : (ps : List Point) → brokenEdge ps ≤ length ps
+unfolding brokenEdge breakingEdge
+edge-le ps = go (equalPair ps) (first-le _ (length ps))
+  where
+    go : (b : Bool) → {e : ℕ} → e ≤ length ps → cond b 0 e ≤ length ps
+    go true h = omega arith
+    go false h = h
+
+corner-le : (ps : List Point) → brokenCorner ps ≤ 1 + length ps
+unfolding brokenCorner breakingCorner
+corner-le ps = go (equalPair ps) (first-le _ (length ps))
+  where
+    go : (b : Bool) → {e : ℕ} → e ≤ length ps → cond b 1 e ≤ 1 + length ps
+    go true h = omega arith
+    go false h = omega arith
+
+-- ---- the rows
+
+fits-row : (w : Row) (r : Reply) → Fits (refused (w .number) (w .carries)) → (w .applies ≡ false → Fits r)
+    → Fits (cond (w .applies) (refused (w .number) (w .carries)) r)
+fits-row w r h k = go (w .applies) refl
+  where
+    go : (b : Bool) → w .applies ≡ b → Fits (cond b (refused (w .number) (w .carries)) r)
+    go true e = h
+    go false e = k e
+
+-- row 4 is asked only of few corners
+row-4 : (which : ℕ) → which < 256 → (ps : List Point) → tooMany ps ≡ false → (r : Reply) → Fits r
+    → Fits (firstRow (row 4 (ruleBroken ps) (which ∷ brokenEdge ps ∷ brokenCorner ps ∷ []) ∷ []) r)
+row-4 which h ps few r k = fits-row (row 4 (ruleBroken ps) (which ∷ brokenEdge ps ∷ brokenCorner ps ∷ [])) r
+    (record {
+      refusal-fits = omega arith;
+      shape-fits = h;
+      first-fits = omega (arith, edge-le ps, few-corners ps few, corners-fit);
+      second-fits = omega (arith, corner-le ps, few-corners ps few, corners-fit);
+    })
+    (λ e. k)
+
+fits-shape : (which : ℕ) → which < 256 → (l : List ℤ) (rest : List Row) (x : Reply) → (tooMany (points l) ≡ false → Fits (firstRow rest x))
+    → Fits (firstRow (shapeRows which l ++ rest) x)
+fits-shape which h l rest x k =
+    fits-row (row 1 (badCount l) (which ∷ [])) _ (blamed 1 which (omega arith) h) (λ e.
+    fits-row (row 2 (tooMany (points l)) (which ∷ [])) _ (blamed 2 which (omega arith) h) (λ few.
+    fits-row (row 3 (someOutside l) (which ∷ [])) _ (blamed 3 which (omega arith) h) (λ e.
+    row-4 which h (points l) few _
+    (fits-row (row 5 (badStart (points l)) (which ∷ [])) _ (blamed 5 which (omega arith) h) (λ e. k few)))))
+
+-- ---- the calls
+
+pub judged-fits : (a : List ℕ) (f : ℕ) → Fits (judgedBytes a f)
+unfolding judgedBytes
+judged-fits a f =
+    fits-shape 1 (omega arith) (listOf a) (row 13 (ltb maxFloor f) [] ∷ []) _ (λ few.
+    fits-row (row 13 (ltb maxFloor f) []) _ (plain 13 (omega arith)) (λ low.
+    answer-fits (length (points (listOf a))) f (omega (arith, few-corners (points (listOf a)) few, corners-fit))
+    (omega (arith, ltb-false maxFloor f low, floor-small))))
+
+-- where 13 does not apply, the first floor is low
+low-floor : (f g : ℕ) → floorsRow f g .applies ≡ false → f < 65536
+low-floor f g h = go (not (eqb f g)) (ltb maxFloor f) refl h
+  where
+    go : (a b : Bool) → ltb maxFloor f ≡ b → (a || (b || ltb maxFloor g)) ≡ false → f < 65536
+    go true b e h = absurd (true≢false h)
+    go false true e h = absurd (true≢false h)
+    go false false e h = omega (arith, ltb-false maxFloor f e, floor-small)
+
+-- a reply of one value, and its floor
+fits-floor : (ws : List Row) (v : ℤ) (f : ℕ) → Fits (firstRow ws (answered (v ∷ []))) → f < 65536
+    → Fits (withFloor f (firstRow ws (answered (v ∷ []))))
+fits-floor ws v f h k = go (outcome ws)
+  where
+    go : Outcome ws → Fits (withFloor f (firstRow ws (answered (v ∷ []))))
+    go (given w e) = let is = firstRow-given (answered (v ∷ [])) e in subst Fits (sym (ap (withFloor f) is)) (subst Fits is h)
+    go (passed n) =
+        let is = firstRow-none ws (answered (v ∷ [])) n in
+        let one = subst Fits is h in
+        subst Fits (sym (ap (withFloor f) is))
+        (record { refusal-fits = omega arith; shape-fits = omega arith; first-fits = one .first-fits; second-fits = k })
+
+pub relation-fits : (a : List ℕ) (f : ℕ) (b : List ℕ) (g : ℕ) → Fits (relationBytes a f b g)
+unfolding relationBytes relationReply
+relation-fits a f b g =
+    fits-shape 1 (omega arith) (listOf a) (shapeRows 2 (listOf b) ++ (floorsRow f g ∷ [])) _ (λ few.
+    fits-shape 2 (omega arith) (listOf b) (floorsRow f g ∷ []) _ (λ few.
+    fits-row (floorsRow f g) _ (plain 13 (omega arith)) (λ low.
+    fits-floor (shapeRows 1 (listOf a) ++ shapeRows 2 (listOf b)) _ f
+    (fits-shape 1 (omega arith) (listOf a) (shapeRows 2 (listOf b)) _ (λ few.
+    fits-shape 2 (omega arith) (listOf b) [] _ (λ few.
+    go (apart (points (listOf a)) (points (listOf b))) (touching (points (listOf a)) (points (listOf b)))))) (low-floor f g low))))
+  where
+    one : (n : ℕ) → n < 65536 → Fits (answered (pos n ∷ []))
+    one n h = record { refusal-fits = omega arith; shape-fits = omega arith; first-fits = h; second-fits = omega arith }
+
+    go : (p q : Bool) → Fits (answered (cond p (pos 0) (cond q (pos 1) (pos 2)) ∷ []))
+    go true q = one 0 (omega arith)
+    go false true = one 1 (omega arith)
+    go false false = one 2 (omega arith)
+
+pub pair-fits : (combined : List Point → List Point → List Point) (l : List ℤ) (f : ℕ) (m : List ℤ) (g : ℕ) (out : List ℕ)
+    → Fits (pairBytes combined l f m g out .reply)
+pair-fits combined l f m g out =
+    let shape = combined (points l) (points m) in
+    fits-shape 1 (omega arith) l (shapeRows 2 m ++ (floorsRow f g ∷ answerRows shape out)) _ (λ few.
+    fits-shape 2 (omega arith) m (floorsRow f g ∷ answerRows shape out) _ (λ few.
+    fits-row (floorsRow f g) _ (plain 13 (omega arith)) (λ low.
+    fits-row (row 6 (tooMany shape) []) _ (plain 6 (omega arith)) (λ few.
+    fits-row (row 7 (someOutside (numbers shape)) []) _ (plain 7 (omega arith)) (λ near.
+    fits-row (row 8 (ltb (length out) (8 * length shape)) []) _ (plain 8 (omega arith)) (λ room.
+    answer-fits (length shape) f (omega (arith, few-corners shape few, corners-fit)) (low-floor f g low)))))))

@@ -1,0 +1,220 @@
+-- A shape made of two, asked of a question that writes numbers, and what becomes of the bytes.
+--     word-stored          a number written as four bytes
+--     encoded-start, encoded-more, encoded-done     numbers written as bytes, one by one
+--     pair-same            the question's reply is that of the call
+--     pair-delivered       its corners are in the buffer, and there is room for their bytes
+--     pair-stored          the bytes that are written are those of the call
+use mathlib.Core.Path.{_≡_, refl, sym, _∙_, ap, ap₂, subst}
+use mathlib.Core.Bool.{Bool, true, false, cond}
+use mathlib.Core.List.{List, [], _∷_, _++_}
+use Prim.Native.Nat.{ℕ, suc, _+_, _*_, _/_, _%_, _≤_, _<_}
+use native.Mathlib.Omega.{arith}
+use borrow.Author.Tests.{ltb-true, ltb-false}
+use lib.Dec.{ltb}
+use lib.IntN.{ℤ, pos}
+use lib.ListN.{length, take, drop, getD, set, length-append, length-drop}
+use lib.Seq.{sets, sets-eq, take-at, drop-at, take-take, drop-drop, length-take-le}
+use mir.Syntax.{w32}
+use mir.Val.{SFits, ofZ}
+use mir.Facts.{fits-ofZ, fits-lt-pow}
+use Rattle.plane.specs.Point.{Point, points, numbers}
+use Rattle.plane.specs.Reply.{Reply, answered, refused, Row, firstRow}
+use Rattle.plane.specs.Refusal.{tooMany, someOutside, shapeRows}
+use Rattle.plane.specs.Output.{Written, noRoom, overwritten}
+use Rattle.plane.specs.Output.{answerRows as doorAnswerRows}
+use Rattle.plane.specs.Combine.{pairWritten}
+use Rattle.plane.specs.Floor.{on, between, writtenBetween}
+use Rattle.plane.specs.Floor.{pairRows as doorRows}
+use Rattle.plane.specs.theory.lists.Flat.{numbers-length}
+use Rattle.plane.specs.theory.refusals.Accept.{few-corners}
+use Rattle.plane.specs.theory.refusals.Floors.{between-rows}
+use Rattle.plane.specs.theory.refusals.Rows.{NoneApply, Outcome, given, passed, outcome, none-append}
+use Rattle.plane.specs.theory.refusals.Rows.{firstRow-append, firstRow-given, firstRow-none, firstRow-passed}
+use Rattle.plane.specs.theory.refusals.Write.{none-output, passed-output}
+use Rattle.journal.specs.Bytes.{pair, word, words}
+use Rattle.journal.specs.theory.Bytes.{word-length, words-length}
+use Rattle.journal.specs.theory.Storing.{words-more}
+use Rattle.abi.specs.Packing.{firstField}
+use Rattle.abi.specs.Calls.{floorsRow, pairRows, answerRows, overBytes, stored, pairBytes}
+use Rattle.abi.specs.Passing.{Room, Deliverable}
+use Rattle.abi.specs.theory.Alike.{Agree, refusals, sames}
+
+-- ---- numbers as bytes
+
+-- four stores in a row
+four : (out : List ℕ) (p : ℕ) {a b c d a′ b′ c′ d′ i j k : ℕ} → i ≡ suc p → j ≡ suc (suc p) → k ≡ suc (suc (suc p))
+    → a ≡ a′ → b ≡ b′ → c ≡ c′ → d ≡ d′ → set (set (set (set out p a) i b) j c) k d ≡ sets out p (a′ ∷ b′ ∷ c′ ∷ d′ ∷ [])
+four out p ei ej ek ea eb ec ed = λ t. set (set (set (set out p (ea t)) (ei t) (eb t)) (ej t) (ec t)) (ek t) (ed t)
+
+pub word-stored : (z : ℤ) → SFits w32 z → (n : ℕ) → n ≡ ofZ w32 z → (out : List ℕ) (p : ℕ)
+    → set (set (set (set out p (n % 256)) (p + 1) (n / 256 % 256)) (p + 2) (n / 65536 % 256)) (p + 3) (n / 16777216) ≡ sets out p (word z)
+unfolding word pair
+word-stored z f n q out p =
+    let small = fits-lt-pow (fits-ofZ f) in
+    four out p (omega arith) (omega arith) (omega arith) (omega (arith, q)) (omega (arith, q)) (omega (arith, q)) (omega (arith, q, small))
+
+-- i numbers of the list stand at the front of the bytes, and all behind them is as it was
+pub record Encoded (old : List ℕ) (l : List ℤ) (i : ℕ) (out : List ℕ) : Type 0 where
+  pub front : out ≡ words (take i l) ++ drop (4 * i) old
+
+front-bytes : (l : List ℤ) (i : ℕ) → i ≤ length l → length (words (take i l)) ≡ 4 * i
+front-bytes l i h = words-length (take i l) ∙ ap (λ (k : ℕ). 4 * k) (length-take-le i l h)
+
+pub encoded-start : (old : List ℕ) (l : List ℤ) → Encoded old l 0 old
+unfolding words
+encoded-start old l = record { front = refl }
+
+pub encoded-length : {old : List ℕ} {l : List ℤ} {i : ℕ} {out : List ℕ} → Encoded old l i out → i ≤ length l → 4 * i ≤ length old
+    → length out ≡ length old
+encoded-length {old} {l} {i} e h k =
+    omega (arith, ap length (e .front) ∙ length-append (words (take i l)) (drop (4 * i) old), front-bytes l i h, length-drop (4 * i) old)
+
+pub encoded-more : {old : List ℕ} {l : List ℤ} {i : ℕ} {out : List ℕ} {z : ℤ} → Encoded old l i out → i < length l
+    → 4 + 4 * i ≤ length old → z ≡ getD l i (pos 0) → Encoded old l (i + 1) (sets out (4 * i) (word z))
+encoded-more {old} {l} {i} {out} {z} e h room q = record {
+  front =
+      sets-eq (word z) out (4 * i) (omega (arith, word-length z, encoded-length e (omega arith) (omega (arith, room)), room))
+      ∙ ap₂ (λ (x y : List ℕ). x ++ word z ++ y) head tail
+      ∙ ap (λ (y : ℤ). words (take i l) ++ word y ++ drop (4 * (i + 1)) old) q
+      ∙ ap (λ (x : List ℕ). x ++ drop (4 * (i + 1)) old) (words-more l i h);
+}
+  where
+    head : take (4 * i) out ≡ words (take i l)
+    head = ap (take (4 * i)) (e .front) ∙ take-at (words (take i l)) (drop (4 * i) old) (4 * i) (front-bytes l i (omega arith))
+
+    same : drop (4 * i) out ≡ drop (4 * i) old
+    same = ap (drop (4 * i)) (e .front) ∙ drop-at (words (take i l)) (drop (4 * i) old) (4 * i) (front-bytes l i (omega arith))
+
+    tail : drop (4 * i + length (word z)) out ≡ drop (4 * (i + 1)) old
+    tail =
+        ap (λ (n : ℕ). drop (4 * i + n) out) (word-length z) ∙ sym (drop-drop 4 (4 * i) out) ∙ ap (drop 4) same
+        ∙ drop-drop 4 (4 * i) old ∙ ap (λ (n : ℕ). drop n old) (let d : 4 * i + 4 ≡ 4 * (i + 1) = omega arith in d)
+
+pub encoded-done : {old : List ℕ} {l : List ℤ} {i n : ℕ} {out : List ℕ} → Encoded old l i out → i ≡ n → n ≤ length l
+    → out ≡ overBytes (words (take n l)) old
+encoded-done {old} {l} {i} {n} e q h =
+    e .front ∙ ap (λ (k : ℕ). words (take k l) ++ drop (4 * k) old) q
+    ∙ ap (λ (k : ℕ). words (take n l) ++ drop k old) (sym (front-bytes l n h))
+
+-- ---- refusal 8, in numbers and in bytes
+
+room-same : (shape : List Point) (out : List ℕ) (old : List ℤ) → Room (length out) (length old) → tooMany shape ≡ false
+    → noRoom shape old ≡ ltb (length out) (8 * length shape)
+unfolding noRoom
+room-same shape out old room few = go (ltb (length old) (length (numbers shape))) (ltb (length out) (8 * length shape)) refl refl
+  where
+    go : (a b : Bool) → ltb (length old) (length (numbers shape)) ≡ a → ltb (length out) (8 * length shape) ≡ b → a ≡ b
+    go true true p q = refl
+    go true false p q =
+        let fit = room .enough (length shape) (few-corners shape few) (ltb-false (length out) (8 * length shape) q) in
+        let less = ltb-true (length old) (length (numbers shape)) p in
+        absurd (omega (arith, fit, less, numbers-length shape))
+    go false true p q =
+        let most = ltb-false (length old) (length (numbers shape)) p in
+        let fit = room .holds (length shape) (omega (arith, most, numbers-length shape)) in
+        absurd (omega (arith, fit, ltb-true (length out) (8 * length shape) q))
+    go false false p q = refl
+
+answer-same : (shape : List Point) (out : List ℕ) (old : List ℤ) → Room (length out) (length old) → (x : Reply)
+    → firstRow (doorAnswerRows shape old) x ≡ firstRow (answerRows shape out) x
+answer-same shape out old room x = go (tooMany shape) refl
+  where
+    go : (b : Bool) → tooMany shape ≡ b → firstRow (doorAnswerRows shape old) x ≡ firstRow (answerRows shape out) x
+    go true e = rw e
+    go false e = ap
+        (λ (b : Bool). cond (tooMany shape) (refused 6 []) (cond (someOutside (numbers shape)) (refused 7 []) (cond b (refused 8 []) x)))
+        (room-same shape out old room e)
+
+-- ---- a question that writes a shape made of two
+
+-- as `sumWritten` and `mergeWritten` are
+abbrev pub asked : (List Point → List Point → List Point) → List ℤ → List ℤ → List ℤ → Written
+asked combined a b out = pairWritten a b (combined (points a) (points b)) out
+
+module _ (combined : List Point → List Point → List Point) (l : List ℤ) (f : ℕ) (m : List ℤ) (g : ℕ) (s : List ℤ) (h : ℕ)
+    (t : List ℤ) (k : ℕ) (out : List ℕ) (old : List ℤ) (room : Room (length out) (length old)) where
+  -- the rows of the call
+  abbrev rows : List Row
+  rows = pairRows l f m g ++ answerRows (combined (points l) (points m)) out
+
+  abbrev answer : Reply
+  answer = answered (pos (length (combined (points l) (points m))) ∷ pos f ∷ [])
+
+  shapes-pass : NoneApply (pairRows l f m g) → NoneApply (shapeRows 1 l) × NoneApply (shapeRows 2 m)
+  shapes-pass n =
+      let first = none-append (shapeRows 1 l) (shapeRows 2 m ++ (floorsRow f g ∷ [])) n in
+      (first .0, none-append (shapeRows 2 m) (floorsRow f g ∷ []) (first .1) .0)
+
+  pub pair-same : Agree l f m g s h t k
+      → writtenBetween (on s h) (on t k) (asked combined) old .reply ≡ pairBytes combined l f m g out .reply
+  unfolding between writtenBetween
+  pair-same (refusals n carries p q) =
+      q _ ∙ sym (firstRow-append (pairRows l f m g) (answerRows (combined (points l) (points m)) out) answer ∙ p _)
+  pair-same (sames e e′ d n n′) =
+      let shape = combined (points l) (points m) in
+      let behind = doorAnswerRows (combined (points s) (points t)) old in
+      let here = answered (pos (length (combined (points s) (points t))) ∷ pos h ∷ []) in
+      between-rows (on s h) (on t k) (λ a b. asked combined a b old .reply) behind _ refl
+      ∙ firstRow-passed (doorRows (on s h) (on t k)) behind here n′
+      ∙ ap₂ (λ (a b : List ℤ). let c = combined (points a) (points b) in
+      firstRow (doorAnswerRows c old) (answered (pos (length c) ∷ pos h ∷ []))) e e′
+      ∙ ap (λ (i : ℕ). firstRow (doorAnswerRows shape old) (answered (pos (length shape) ∷ pos i ∷ []))) d
+      ∙ answer-same shape out old room answer
+      ∙ sym (firstRow-passed (pairRows l f m g) (answerRows shape out) answer n)
+
+  pub pair-delivered : Agree l f m g s h t k → (n : ℕ) → length old ≤ n
+      → Deliverable (writtenBetween (on s h) (on t k) (asked combined) old .reply) n (length out)
+  pair-delivered a n most = subst (λ (r : Reply). Deliverable r n (length out)) (sym (pair-same a)) (go (outcome rows))
+    where
+      go : Outcome rows → Deliverable (firstRow rows answer) n (length out)
+      go (given w f) = subst (λ (r : Reply). Deliverable r n (length out)) (sym (firstRow-given answer f)) tt
+      go (passed p) =
+          let shape = combined (points l) (points m) in
+          let none = none-append (pairRows l f m g) (answerRows shape out) p .1 in
+          let bytes = ltb-false (length out) (8 * length shape) (none .1 .1 .0) in
+          let fit = room .enough (length shape) (few-corners shape (none .0)) bytes in
+          subst (λ (r : Reply). Deliverable r n (length out)) (sym (firstRow-none rows answer p)) (omega (arith, fit, most), bytes)
+
+  module _ (buffer : List ℤ) (at : take (length old) buffer ≡ writtenBetween (on s h) (on t k) (asked combined) old .output) where
+    -- the numbers that are answered stand at the front of the buffer
+    fronted : s ≡ l → t ≡ m → NoneApply rows → NoneApply (doorRows (on s h) (on t k))
+        → take (2 * length (combined (points l) (points m))) buffer ≡ numbers (combined (points l) (points m))
+    unfolding writtenBetween overwritten
+    fronted e e′ n n′ =
+        let shape = combined (points l) (points m) in
+        let both = none-append (pairRows l f m g) (answerRows shape out) n in
+        let pass = shapes-pass (both .0) in
+        let few = both .1 .0 in
+        let fits = room .enough (length shape) (few-corners shape few) (ltb-false (length out) (8 * length shape) (both .1 .1 .1 .0)) in
+        let behind = shapeRows 2 m ++ doorAnswerRows shape old in
+        let new = overwritten (numbers shape) old in
+        let written = at ∙ none-output (doorRows (on s h) (on t k)) old _ n′
+        ∙ ap₂ (λ (a b : List ℤ). asked combined a b old .output) e e′
+        ∙ passed-output (shapeRows 1 l) behind old new (pass .0)
+        ∙ passed-output (shapeRows 2 m) (doorAnswerRows shape old) old new (pass .1)
+        ∙ none-output (doorAnswerRows shape old) old new
+        (few, (both .1 .1 .0, (room-same shape out old room few ∙ both .1 .1 .1 .0, tt))) in
+        sym (take-take (2 * length shape) (length old) buffer fits) ∙ ap (take (2 * length shape)) written
+        ∙ take-at (numbers shape) (drop (length (numbers shape)) old) (2 * length shape) (numbers-length shape)
+
+    pub pair-stored : Agree l f m g s h t k → let r = writtenBetween (on s h) (on t k) (asked combined) old .reply in
+        stored r (take (2 * firstField r) buffer) out ≡ pairBytes combined l f m g out .output
+    pair-stored a = ap (λ (r : Reply). stored r (take (2 * firstField r) buffer) out) (pair-same a) ∙ go a (outcome rows)
+      where
+        untouched : (n : ℕ) (carries : List ℕ) → firstRow rows answer ≡ refused n carries
+            → stored (firstRow rows answer) (take (2 * firstField (firstRow rows answer)) buffer) out
+            ≡ stored (firstRow rows answer) (numbers (combined (points l) (points m))) out
+        untouched n carries e =
+            ap (λ (r : Reply). stored r (take (2 * firstField r) buffer) out) e
+            ∙ sym (ap (λ (r : Reply). stored r (numbers (combined (points l) (points m))) out) e)
+
+        go : Agree l f m g s h t k → Outcome rows
+            → stored (firstRow rows answer) (take (2 * firstField (firstRow rows answer)) buffer) out
+            ≡ stored (firstRow rows answer) (numbers (combined (points l) (points m))) out
+        go (refusals n carries p q) o =
+            untouched n carries (firstRow-append (pairRows l f m g) (answerRows (combined (points l) (points m)) out) answer ∙ p _)
+        go (sames e e′ d n n′) (given w fst) = untouched (w .number) (w .carries) (firstRow-given answer fst)
+        go (sames e e′ d n n′) (passed p) =
+            ap (λ (r : Reply). stored r (take (2 * firstField r) buffer) out) (firstRow-none rows answer p)
+            ∙ ap (λ (x : List ℤ). stored answer x out) (fronted e e′ p n′)
+            ∙ sym (ap (λ (r : Reply). stored r (numbers (combined (points l) (points m))) out) (firstRow-none rows answer p))

@@ -1,0 +1,87 @@
+// Inner functions: an answer's numbers, written to the output as bytes.
+ghost use mathlib.Core.Path.{_≡_};
+ghost use Prim.Native.Nat.{_+_, _*_, _≤_, _<_};
+ghost use lib.ListN.{length, take};
+ghost use lib.Seq.{sets};
+ghost use Rattle.plane.specs.Limits.{maxCorners};
+ghost use Rattle.journal.specs.Bytes.{word, words};
+ghost use Rattle.questions.specs.Answer.{ofAnswer};
+ghost use Rattle.abi.specs.Packing.{packed, Fits, firstField};
+ghost use Rattle.abi.specs.Calls.{stored, overBytes, sumShape, mergeShape};
+ghost use Rattle.abi.specs.Passing.{Deliverable, Room, Replied};
+use crate::packing;
+use journal::bytes;
+use polygon::limits;
+use questions::answer::Answer;
+
+// Asks for the sum of two lists, a buffer being lent for its numbers, writes its bytes and packs the answer.
+pub fn sum(a: &[i32], f: u16, b: &[i32], g: u16, shape: &mut [i32], out: &mut [u8]) -> u64
+    requires { ⌜ length (now shape) ≡ 2 * maxCorners ⌝ }
+    ensures { λ r. ⌜
+        Replied sumShape (now (a .entry)) f (now (b .entry)) g (now (out .entry)) r (now (out .exit)) ⌝ }
+{
+    let n = room(out.len());
+    let answer = questions::sum(a, f, b, g, &mut shape[..n]);
+    deliver(answer, shape, out)
+}
+
+// The same for the merge of two lists.
+pub fn merge(a: &[i32], f: u16, b: &[i32], g: u16, shape: &mut [i32], out: &mut [u8]) -> u64
+    requires { ⌜ length (now shape) ≡ 2 * maxCorners ⌝ }
+    ensures { λ r. ⌜
+        Replied mergeShape (now (a .entry)) f (now (b .entry)) g (now (out .entry)) r (now (out .exit)) ⌝ }
+{
+    let n = room(out.len());
+    let answer = questions::merge(a, f, b, g, &mut shape[..n]);
+    deliver(answer, shape, out)
+}
+
+// For how many numbers of an answer so many bytes have room: a shape has no more than this needs.
+// Ruled out: room counted in numbers.
+fn room(bytes: usize) -> usize
+    ensures { λ r. ⌜ Room bytes r ⌝ }
+{
+    let n = bytes / 4;
+    if limits::SHAPE_NUMBERS < n {
+        return limits::SHAPE_NUMBERS;
+    }
+    n
+}
+
+// Writes the corners that are answered at the front of the output, and packs the answer.
+fn deliver(answer: Answer, shape: &[i32], out: &mut [u8]) -> u64
+    requires { ⌜ Fits (ofAnswer answer) × Deliverable (ofAnswer answer) (length (now shape)) (length (now out)) ⌝ }
+    ensures { λ r. ⌜ (r ≡ packed (ofAnswer answer))
+        × (now (out .exit) ≡ stored (ofAnswer answer)
+        (take (2 * firstField (ofAnswer answer)) (now (shape .entry))) (now (out .entry))) ⌝ }
+{
+    if let Answer::Corners { count, floor } = answer {
+        encode(shape, 2 * count, out);
+        return packing::of_answer(answer);
+    }
+    packing::of_answer(answer)
+}
+
+// Writes the first n numbers of a list at the front of the output, four bytes each; all behind them is kept.
+fn encode(list: &[i32], n: usize, out: &mut [u8])
+    requires { ⌜ (n ≤ length (now list)) × (4 * n ≤ length (now out)) ⌝ }
+    ensures { λ r. ⌜ now (out .exit) ≡ overBytes (words (take n (now (list .entry)))) (now (out .entry)) ⌝ }
+{
+    let mut i = 0;
+    while i < n {
+        put(out, 4 * i, list[i]);
+        i += 1;
+    }
+}
+
+// Writes a number at a place of the output, the lowest byte first.
+fn put(out: &mut [u8], p: usize, z: i32)
+    requires { ⌜ 3 + p < length (now out) ⌝ }
+    ensures { λ r. ⌜ now (out .exit) ≡ sets (now (out .entry)) p (word z) ⌝ }
+{
+    let n = bytes::bits(z);
+    out[p] = (n % 256) as u8;
+    out[p + 1] = (n / 256 % 256) as u8;
+    out[p + 2] = (n / 65536 % 256) as u8;
+    out[p + 3] = (n / 16777216) as u8;
+}

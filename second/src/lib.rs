@@ -1,0 +1,28 @@
+//! The independent second program's parts: document 01's and 02's questions by brute force, as text and,
+//! for a host, over bytes.
+
+pub mod answer;
+mod ask;
+pub mod cases;
+mod clearance;
+pub mod combine;
+pub mod compare;
+mod direction;
+pub mod histories;
+pub mod host;
+mod hull;
+pub mod judge;
+mod log;
+pub mod make;
+mod measure;
+mod parts;
+pub mod plane;
+mod questions;
+pub mod refusal;
+pub mod separation;
+#[cfg(test)]
+mod strips;
+mod sweep;
+mod tablet;
+mod tangents;
+mod text;
