@@ -3,16 +3,18 @@
 --     placed-shape, placed-reach               moving a shape gives a shape; how far it reaches
 --     place-alike                              the cart at t stands to the obstacle as the point t to the grown obstacle
 --     drive-alike                              the cart driving from t to u, as the segment from t to u
+--     place-clearance, drive-clearance         of both the clearance is the same fraction
+--     drive-met, met-drive                     a drive is not apart exactly if a point of its segment is one of the grown obstacle
 --     driven-merge                             what it passes over is the shape of the cart at t and at u together
 --     driven-passes                            and at each place on the way the cart is inside it
---     point-apart                              a point is apart from a list exactly if it is not inside
+--     point-apart, place-inside                a point is apart from a list exactly if it is not inside; so the cart at t
 -- Both are one fact about all places of a list P: a + p - b is p - (b - a). Lists have a point: 0 < length.
 use mathlib.Core.Path.{_≡_, refl, sym, _∙_, ap, ap₂, subst}
 use mathlib.Core.Bool.{Bool, true, false, not}
 use mathlib.Core.List.{List, [], _∷_, _++_, List·Memᴰ·head, List·Memᴰ·eq-of-singleton}
 use Prim.Native.Nat.{_<_}
 use native.Mathlib.Omega.{arith}
-use lib.IntN.{_+ℤ_}
+use lib.IntN.{_+ℤ_, _*ℤ_}
 use lib.ListN.{length, length-append}
 use lib.Signed.{_<ℤ_}
 use Rattle.integer.specs.Ring.{ring, reify}
@@ -22,18 +24,22 @@ use Rattle.plane.specs.Shape.{IsShape}
 use Rattle.plane.specs.Direction.{value, support, max}
 use Rattle.plane.specs.Corner.{shapeOf, sums}
 use Rattle.plane.specs.Separation.{inside, differences, apart}
+use Rattle.plane.specs.Mean.{CommonPoint}
+use Rattle.plane.specs.Clearance.{top, bottom, nearest}
 use Rattle.plane.specs.Forms.{edgesTo, edges, Sorted, InOrder}
 use Rattle.plane.specs.theory.lists.Members.{_∈_, point-path, sums-some}
 use Rattle.plane.specs.theory.lists.Max.{plus-max}
 use Rattle.plane.specs.theory.lists.Sought.{tests-agree}
-use Rattle.plane.specs.theory.forms.Standard.{shape→sorted, sorted→shape}
+use Rattle.plane.specs.theory.forms.Standard.{shape→sorted, sorted→shape, ordered→shape}
 use Rattle.plane.specs.theory.support.Support.{support-unique, support-append, support-sums}
 use Rattle.plane.specs.theory.hull.ShapeOf.{shapeOf-support, shapeOf-shape, shape-known}
 use Rattle.separation.specs.theory.Inside.{inside→reach, reach→inside, outside→direction}
 use Rattle.separation.specs.theory.Apart.{differences-some, direction→apart, apart-sym, inside→not-apart}
 use Rattle.clearance.specs.theory.Ends.{opposite-twice}
+use Rattle.clearance.specs.theory.Nearest.{common-not-apart}
+use Rattle.clearance.specs.theory.Common.{not-apart-common}
 use Rattle.growth.specs.Grown.{grown, placed, driven}
-use Rattle.growth.specs.theory.Alike.{Alike, differences-reach}
+use Rattle.growth.specs.theory.Alike.{Alike, differences-reach, alike-apart, alike-clearance, alike-shapeOf}
 
 -- ---- the grown obstacle
 
@@ -102,6 +108,35 @@ module _ (A B : List Point) (a : 0 < length A) (b : 0 < length B) where
   pub drive-alike : (t u : Point) → Alike (driven A t u) B (t ∷ u ∷ []) (grown B A)
   drive-alike t u = places-alike (t ∷ u ∷ []) (omega arith)
 
+  pub drive-met : (t u : Point) → apart (driven A t u) B ≡ false → CommonPoint (t ∷ u ∷ []) (grown B A)
+  drive-met t u h = not-apart-common (t ∷ u ∷ []) (grown B A) (omega arith) (grown-some B A b a)
+      (sym (alike-apart (driven A t u) B (t ∷ u ∷ []) (grown B A) (drive-alike t u)) ∙ h)
+
+  pub met-drive : (t u : Point) → CommonPoint (t ∷ u ∷ []) (grown B A) → apart (driven A t u) B ≡ false
+  met-drive t u m = alike-apart (driven A t u) B (t ∷ u ∷ []) (grown B A) (drive-alike t u)
+      ∙ common-not-apart (t ∷ u ∷ []) (grown B A) (omega arith) (grown-some B A b a) m
+
+-- ---- clearance
+
+point-shape : (t : Point) → IsShape (t ∷ [])
+point-shape t = ordered→shape (t ∷ []) (tt, (tt, tt))
+
+module _ (A B : List Point) (s : IsShape B) (t : Point) where
+  abbrev G : List Point
+  G = grown B A
+
+  pub place-clearance : (r : IsShape A) → apart (placed A t) B ≡ true
+      → top (placed A t) B (nearest (placed A t) B) *ℤ bottom (t ∷ []) G (nearest (t ∷ []) G)
+      ≡ top (t ∷ []) G (nearest (t ∷ []) G) *ℤ bottom (placed A t) B (nearest (placed A t) B)
+  place-clearance r h = alike-clearance (placed A t) B (t ∷ []) G (place-alike A B (r .some) (s .some) t)
+      (placed-shape A t r) s (point-shape t) (grown-shape B A (s .some) (r .some)) h
+
+  pub drive-clearance : 0 < length A → (u : Point) → let D = shapeOf (driven A t u) in let S = shapeOf (t ∷ u ∷ []) in apart D B ≡ true
+      → top D B (nearest D B) *ℤ bottom S G (nearest S G) ≡ top S G (nearest S G) *ℤ bottom D B (nearest D B)
+  drive-clearance a u h = alike-clearance (shapeOf (driven A t u)) B (shapeOf (t ∷ u ∷ [])) G
+      (alike-shapeOf (drive-alike A B a (s .some) t u)) (shapeOf-shape (driven A t u) (sums-some A (t ∷ u ∷ []) a (omega arith))) s
+      (shapeOf-shape (t ∷ u ∷ []) (omega arith)) (grown-shape B A (s .some) a) h
+
 -- ---- what a drive passes over
 
 module _ (A : List Point) (a : 0 < length A) (t u : Point) where
@@ -140,3 +175,8 @@ point-apart p G g = go (inside (p ∷ []) G) refl
           below = λ q r m n. subst (λ z. value (s .direction) q <ℤ value (s .direction) z)
               (List·Memᴰ·eq-of-singleton (s .at-in) ∙ sym (List·Memᴰ·eq-of-singleton n)) (s .beyond q m);
         })
+
+pub place-inside : (A B : List Point) → 0 < length A → 0 < length B → (t : Point)
+    → apart (placed A t) B ≡ not (inside (t ∷ []) (grown B A))
+place-inside A B a b t = alike-apart (placed A t) B (t ∷ []) (grown B A) (place-alike A B a b t)
+    ∙ point-apart t (grown B A) (grown-some B A b a)
