@@ -8,6 +8,7 @@
 use mathlib.Core.Path.{_≡_}
 use mathlib.Core.Bool.{true, false, not}
 use mathlib.Core.List.{List, [], _∷_, _++_}
+use mathlib.Core.Logic.{_⊎_}
 use Prim.Native.Nat.{_<_}
 use lib.IntN.{ℤ, _*ℤ_}
 use lib.ListN.{length}
@@ -29,8 +30,8 @@ use Rattle.growth.specs.theory.Alike.{alike-apart, alike-touching, alike
 use Rattle.growth.specs.theory.Places.{grown-shape, placed-shape, place-alike, drive-alike, place-clearance, drive-clearance}
 use Rattle.growth.specs.theory.Places.{place-inside, drive-met, met-drive, driven-merge, driven-passes}
 use Rattle.growth.specs.theory.Laws.{grown-larger-cart, grown-larger-obstacle, grown-merge, grown-twice, grown-shapeOf}
-use Rattle.growth.specs.theory.Lost.{Differs, Told, answers-differ, shapes-differ, answers-known, lost-differs}
-use Rattle.growth.specs.theory.Replies.{relation-answered, relation-replies, SameLast, clearance-fractions, clearance-rounded}
+use Rattle.growth.specs.theory.Lost.{answers-differ, numbers-differ, shapes-differ, answers-known, lost-differs, obstacles-known}
+use Rattle.growth.specs.theory.Replies.{relation-answered, relation-replies, clearance-fractions, clearance-rounded}
 use Rattle.growth.specs.theory.Calls.{grow-called, grow-twice-called}
 
 -- ---- ground
@@ -88,7 +89,8 @@ module _ (A B : List Point) (a : 0 < length A) (b : 0 < length B) (t : Point) wh
     clearance-replies-as-at-place = clearance-fractions (placed A t) B (t ∷ []) (grown B A) (place-alike A B a b t) v w h l
 
     -- and end in the same number, "the distance rounded down"
-    pub clearance-rounds-as-at-place : SameLast v w
+    pub clearance-rounds-as-at-place : (last : ℤ) × (before : List ℤ) × (other : List ℤ) × (v ≡ before ++ (last ∷ []))
+        × (w ≡ other ++ (last ∷ []))
     clearance-rounds-as-at-place = clearance-rounded (placed A t) B (t ∷ []) (grown B A) (place-alike A B a b t) v w h l
 
 -- the clearance is the same fraction: of shapes, whatever their numbers
@@ -170,20 +172,34 @@ grown-twice-number-for-number a b c s m n o g h l x y z i j k p q r t = grow-twi
 
 -- ---- lost corners
 
+-- a dropped corner shows at that corner, whichever of the others are left: it is not apart from the shape, and apart from what is left
+pub lost-corner-tells : (G H : List Point) → IsShape G → 0 < length H → H ⊆ G → (p : Point) → p ∈ G → (p ∈ H → ⊥)
+    → (apart (p ∷ []) G ≡ false) × (apart (p ∷ []) H ≡ true)
+lost-corner-tells G H s h part p m lost = lost-differs G H s h part p m lost
+
+module _ (G H : List Point) (g : 0 < length G) (h : 0 < length H) (p : Point) where
+  -- so does every place inside the one and not inside the other
+  pub place-inside-one-tells : inside (p ∷ []) G ≡ true → inside (p ∷ []) H ≡ false
+      → (apart (p ∷ []) G ≡ false) × (apart (p ∷ []) H ≡ true)
+  place-inside-one-tells i o = answers-differ G H g h p i o
+
+  -- there relation answers different numbers
+  pub answers-are-different : (apart (p ∷ []) G ≡ false) × (apart (p ∷ []) H ≡ true)
+      → relationNumber (p ∷ []) G ≡ relationNumber (p ∷ []) H → ⊥
+  answers-are-different d = numbers-differ p G H d
+
 module _ (G H : List Point) (s : IsShape G) (r : IsShape H) where
-  -- two shapes to which relation answers alike of every place, in whole millimetres, are equal
+  -- two shapes that differ answer differently at a corner of one of them
+  pub different-shapes-answer-differently : (G ≡ H → ⊥)
+      → (p : Point) × ((p ∈ G × ((apart (p ∷ []) G ≡ false) × (apart (p ∷ []) H ≡ true)))
+      ⊎ (p ∈ H × ((apart (p ∷ []) H ≡ false) × (apart (p ∷ []) G ≡ true))))
+  different-shapes-answer-differently n = shapes-differ G H s r n
+
+  -- so those that answer alike at all places, in whole millimetres, are equal
   pub equal-answers-equal-shapes : ((t : Point) → relationNumber (t ∷ []) G ≡ relationNumber (t ∷ []) H) → G ≡ H
   equal-answers-equal-shapes same = answers-known G H s r same
 
-  -- so two that differ answer differently somewhere: at a corner of one of them, of which one says apart and the other not
-  pub different-shapes-answer-differently : (G ≡ H → ⊥) → Told G H
-  different-shapes-answer-differently n = shapes-differ G H s r n
-
--- a place inside the one and not inside the other: a corner that the other lost, or any other
-pub place-outside-one-tells : (G H : List Point) → 0 < length G → 0 < length H → (p : Point) → inside (p ∷ []) G ≡ true
-    → inside (p ∷ []) H ≡ false → Differs p G H
-place-outside-one-tells G H g h p i o = answers-differ G H g h p i o
-
--- a dropped corner shows: at that corner, whichever of the others are left
-pub lost-corner-tells : (G H : List Point) → IsShape G → 0 < length H → H ⊆ G → (p : Point) → p ∈ G → (p ∈ H → ⊥) → Differs p G H
-lost-corner-tells G H s h part p m lost = lost-differs G H s h part p m lost
+-- and obstacles to which a cart stands alike at all places are equal: nothing is lost by growing
+pub equal-answers-equal-obstacles : (A B C : List Point) → 0 < length A → IsShape B → IsShape C
+    → ((t : Point) → relationNumber (placed A t) B ≡ relationNumber (placed A t) C) → B ≡ C
+equal-answers-equal-obstacles A B C a s r same = obstacles-known A B C a s r same

@@ -2,6 +2,7 @@
 --     grown-larger-cart, grown-larger-obstacle     a larger cart, or a larger obstacle, makes a larger grown obstacle
 --     grown-merge                                  growing obstacles together is growing each
 --     grown-sums, grown-twice                      growing by one outline and then by another is growing by their sum, or by its shape
+--     grown-cancel                                 obstacles that grow alike are equal
 --     grown-shapeOf                                the shapes of two sets may stand for them
 -- Lists have a point: 0 < length.
 use mathlib.Core.Path.{_≡_, sym, _∙_, ap, ap₂}
@@ -13,6 +14,7 @@ use lib.IntN.{_+ℤ_}
 use lib.ListN.{length, length-append}
 use Rattle.integer.specs.Linear.{linear, lia, _&_}
 use Rattle.plane.specs.Point.{Point, opposite}
+use Rattle.plane.specs.Shape.{IsShape}
 use Rattle.plane.specs.Direction.{support, max}
 use Rattle.plane.specs.Corner.{shapeOf, sums}
 use Rattle.plane.specs.Separation.{inside}
@@ -95,3 +97,10 @@ module _ (B A D : List Point) (b : 0 < length B) (a : 0 < length A) (e : 0 < len
 
   pub grown-twice : grown (grown B A) D ≡ grown B (shapeOf (sums A D))
   grown-twice = grown-sums ∙ sym (grown-outline B (sums A D) b (sums-some A D a e))
+
+-- ---- back again
+
+pub grown-cancel : (B C A : List Point) → IsShape B → IsShape C → 0 < length A → grown B A ≡ grown C A → B ≡ C
+grown-cancel B C A s t a same = shape-extensional B C s t (λ d. lia (support d B ∷ support d C ∷ support (opposite d) A
+    ∷ support d (grown B A) ∷ support d (grown C A) ∷ []) (grown-reach B A (s .some) a d & grown-reach C A (t .some) a d
+    & ap (support d) same) (search linear depth 40) (omega arith))

@@ -51,12 +51,12 @@ abbrev values : List Point → List Point → Bool → List ℤ
 values A B t = cond t (numbersOf A B (nearest A B)) (pos 0 ∷ [])
 
 -- an answered clearance
-record Told (A B : List Point) (v : List ℤ) : Type 0 where
+record Tells (A B : List Point) (v : List ℤ) : Type 0 where
   first : IsShape A
   second : IsShape B
   tells : v ≡ values A B (apart A B)
 
-told : (A B : List Point) (v : List ℤ) → clearanceReply (numbers A) (numbers B) ≡ answered v → Told A B v
+told : (A B : List Point) (v : List ℤ) → clearanceReply (numbers A) (numbers B) ≡ answered v → Tells A B v
 unfolding clearanceReply
 told A B v h =
     let none : NoneApply (shapeRows 1 a ++ shapeRows 2 b) = firstRow-answered (shapeRows 1 a ++ shapeRows 2 b) _ v h in
@@ -64,8 +64,11 @@ told A B v h =
     record {
       first = rw points-numbers at (accepted→valid a 1 (each .0) .shape);
       second = rw points-numbers at (accepted→valid b 2 (each .1) .shape);
-      tells = cc (h, firstRow-none (shapeRows 1 a ++ shapeRows 2 b)
-          (answered (values (points a) (points b) (apart (points a) (points b)))) none)
+      tells = cc (
+        h,
+        firstRow-none (shapeRows 1 a ++ shapeRows 2 b)
+            (answered (values (points a) (points b) (apart (points a) (points b)))) none,
+      )
           ∙ ap₂ (λ P Q. values P Q (apart P Q)) (points-numbers A) (points-numbers B);
     }
   where
@@ -96,37 +99,39 @@ rounded-le {w} {x} {n} {d} {m} {e} some other same r s =
     root-le (pos w) (pos x) n d m e (record { le = le→leb 0 x zero-le }) some other same (r .low) (s .high)
 
 -- both lists end in the same number
-pub record SameLast (v w : List ℤ) : Type 0 where
-  pub last : ℤ
-  pub before : List ℤ
-  pub other : List ℤ
-  pub first-ends : v ≡ before ++ (last ∷ [])
-  pub second-ends : w ≡ other ++ (last ∷ [])
+abbrev SameLast : List ℤ → List ℤ → Type 0
+SameLast v w = (last : ℤ) × (before : List ℤ) × (other : List ℤ) × (v ≡ before ++ (last ∷ [])) × (w ≡ other ++ (last ∷ []))
 
 module _ (A B C D : List Point) (k : Alike A B C D) (v w : List ℤ) (h : clearanceReply (numbers A) (numbers B) ≡ answered v)
     (l : clearanceReply (numbers C) (numbers D) ≡ answered w) where
   pub clearance-fractions : answerTop v *ℤ answerBottom w ≡ answerTop w *ℤ answerBottom v
   clearance-fractions = go (apart A B) refl (one .tells) (other .tells ∙ ap (values C D) (sym (alike-apart A B C D k)))
     where
-      one : Told A B v
+      one : Tells A B v
       one = told A B v h
 
-      other : Told C D w
+      other : Tells C D w
       other = told C D w l
 
       go : (t : Bool) → apart A B ≡ t → v ≡ values A B t → w ≡ values C D (apart A B)
           → answerTop v *ℤ answerBottom w ≡ answerTop w *ℤ answerBottom v
-      go true e f g = rw (f, g ∙ ap (values C D) e, top-is A B (nearest A B), bottom-is A B (nearest A B), top-is C D (nearest C D),
-          bottom-is C D (nearest C D)) (alike-clearance A B C D k (one .first) (one .second) (other .first) (other .second) e)
+      go true e f g = rw (
+        f,
+        g ∙ ap (values C D) e,
+        top-is A B (nearest A B),
+        bottom-is A B (nearest A B),
+        top-is C D (nearest C D),
+        bottom-is C D (nearest C D),
+      ) (alike-clearance A B C D k (one .first) (one .second) (other .first) (other .second) e)
       go false e f g = rw (f, g ∙ ap (values C D) e) refl
 
   pub clearance-rounded : SameLast v w
   clearance-rounded = go (apart A B) refl (one .tells) (other .tells ∙ ap (values C D) (sym (alike-apart A B C D k)))
     where
-      one : Told A B v
+      one : Tells A B v
       one = told A B v h
 
-      other : Told C D w
+      other : Tells C D w
       other = told C D w l
 
       go : (t : Bool) → apart A B ≡ t → v ≡ values A B t → w ≡ values C D (apart A B) → SameLast v w
@@ -137,13 +142,11 @@ module _ (A B C D : List Point) (k : Alike A B C D) (v w : List ℤ) (h : cleara
           let same = alike-clearance A B C D k (one .first) (one .second) (other .first) (other .second) e in
           let x = nearest-is-whole A B (one .first) (one .second) e in
           let y = nearest-is-whole C D (other .first) (other .second) also in
-          record {
-            last = pos (r .rounded);
-            before = r .before;
-            other = s .before;
-            first-ends = f ∙ r .last;
-            second-ends = g ∙ ap (values C D) e ∙ s .last ∙ ap (λ z. s .before ++ (z ∷ [])) (le-antisym
-                (rounded-le y x (sym same) (s .bounded) (r .bounded))
-                (rounded-le x y same (r .bounded) (s .bounded)));
-          }
-      go false e f g = record { last = pos 0; before = []; other = []; first-ends = f; second-ends = g ∙ ap (values C D) e }
+          let w-last = le-antisym (rounded-le y x (sym same) (s .bounded) (r .bounded)) (rounded-le x y same (r .bounded) (s .bounded)) in (
+            pos (r .rounded),
+            r .before,
+            s .before,
+            f ∙ r .last,
+            g ∙ ap (values C D) e ∙ s .last ∙ ap (λ z. s .before ++ (z ∷ [])) w-last,
+          )
+      go false e f g = (pos 0, [], [], f, g ∙ ap (values C D) e)
