@@ -79,7 +79,8 @@ module _ (A B : List Point) (a : 0 < length A) (b : 0 < length B) (t : Point) wh
 
   -- relation of the lists replies the same, where all four are valid
   pub relation-replies-as-at-place : Valid (numbers (placed A t)) → Valid (numbers B) → Valid (numbers (t ∷ []))
-      → Valid (numbers (grown B A)) → relationReply (numbers (placed A t)) (numbers B) ≡ relationReply (numbers (t ∷ [])) (numbers (grown B A))
+      → Valid (numbers (grown B A))
+      → relationReply (numbers (placed A t)) (numbers B) ≡ relationReply (numbers (t ∷ [])) (numbers (grown B A))
   relation-replies-as-at-place = relation-replies (placed A t) B (t ∷ []) (grown B A) (place-alike A B a b t)
 
   module _ (v w : List ℤ) (h : clearanceReply (numbers (placed A t)) (numbers B) ≡ answered v)
@@ -93,7 +94,8 @@ module _ (A B : List Point) (a : 0 < length A) (b : 0 < length B) (t : Point) wh
         × (w ≡ other ++ (last ∷ []))
     clearance-rounds-as-at-place = clearance-rounded (placed A t) B (t ∷ []) (grown B A) (place-alike A B a b t) v w h l
 
--- the clearance is the same fraction: of shapes, whatever their numbers
+-- the clearance (document 02, request W3) is the same fraction, for all shapes apart: the least distance of the cart at t from the
+-- obstacle is that of the point t from the grown obstacle
 pub cart-is-as-near-as-its-place : (A B : List Point) (s : IsShape A) (r : IsShape B) (t : Point) → apart (placed A t) B ≡ true
     → top (placed A t) B (nearest (placed A t) B) *ℤ bottom (t ∷ []) (grown B A) (nearest (t ∷ []) (grown B A))
     ≡ top (t ∷ []) (grown B A) (nearest (t ∷ []) (grown B A)) *ℤ bottom (placed A t) B (nearest (placed A t) B)

@@ -5,7 +5,7 @@
 --     placed A t            the cart at place t
 --     driven A t u          what the cart passes over, driving straight from t to u without turning
 --     relationNumber A B    what relation answers: 0 apart, 1 touching, 2 overlapping
--- Lists of points stand for the shapes of their sets; of a cart and an obstacle, apart and touching are asked of the corners alone.
+-- Apart, touching and inside ask only how far a list of points reaches: for them a set will do for its shape.
 -- What it means: `Growing.antt`.
 use mathlib.Core.Bool.{cond}
 use mathlib.Core.List.{List, [], _∷_, map}

@@ -4,7 +4,6 @@
 --     differences-reach                 how far the differences reach
 --     alike-apart, alike-touching       both pairs are apart, or touching, or neither
 --     alike-relation                    relation answers the same number
---     alike-gap                         in each direction the same gap lies between them
 --     alike-clearance                   of shapes apart, the clearance is the same fraction
 --     alike-shapeOf                     the shapes of two sets stand as the sets
 use mathlib.Core.Path.{_≡_, sym, _∙_, ap, ap₂}
@@ -73,7 +72,8 @@ module _ (A B C D : List Point) (k : Alike A B C D) where
 
   -- ---- clearance
 
-  pub alike-gap : (d : Point) → gapIn d A B ≡ gapIn d C D
+  -- in each direction the same gap lies between them
+  alike-gap : (d : Point) → gapIn d A B ≡ gapIn d C D
   unfolding gapIn least
   alike-gap d =
       lia (support (opposite d) A ∷ support d B ∷ support (opposite d) C ∷ support d D ∷ [])

@@ -1,4 +1,5 @@
 -- A shape is known by how points stand to it: of two shapes that differ, a corner of the one is apart from the other.
+--     Differs p G H        p is apart from H and not from G
 --     answers-differ       a point inside G and not inside H is apart from H and not from G
 --     numbers-differ       and then relation answers different numbers
 --     shapes-differ        if G is not H, such a point is a corner of one of them

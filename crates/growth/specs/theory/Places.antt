@@ -11,7 +11,7 @@
 -- Both are one fact about all places of a list P: a + p - b is p - (b - a). Lists have a point: 0 < length.
 use mathlib.Core.Path.{_≡_, refl, sym, _∙_, ap, ap₂, subst}
 use mathlib.Core.Bool.{Bool, true, false, not}
-use mathlib.Core.List.{List, [], _∷_, _++_, List·Memᴰ·head, List·Memᴰ·eq-of-singleton}
+use mathlib.Core.List.{List, [], _∷_, _++_, List·Memᴰ·eq-of-singleton}
 use Prim.Native.Nat.{_<_}
 use native.Mathlib.Omega.{arith}
 use lib.IntN.{_+ℤ_, _*ℤ_}
@@ -26,12 +26,11 @@ use Rattle.plane.specs.Corner.{shapeOf, sums}
 use Rattle.plane.specs.Separation.{inside, differences, apart}
 use Rattle.plane.specs.Mean.{CommonPoint}
 use Rattle.plane.specs.Clearance.{top, bottom, nearest}
-use Rattle.plane.specs.Forms.{edgesTo, edges, Sorted, InOrder}
-use Rattle.plane.specs.theory.lists.Members.{_∈_, point-path, sums-some}
+use Rattle.plane.specs.Forms.{edgesTo, Sorted, InOrder}
+use Rattle.plane.specs.theory.lists.Members.{point-path, sums-some}
 use Rattle.plane.specs.theory.lists.Max.{plus-max}
-use Rattle.plane.specs.theory.lists.Sought.{tests-agree}
 use Rattle.plane.specs.theory.forms.Standard.{shape→sorted, sorted→shape, ordered→shape}
-use Rattle.plane.specs.theory.support.Support.{support-unique, support-append, support-sums}
+use Rattle.plane.specs.theory.support.Support.{support-append, support-sums}
 use Rattle.plane.specs.theory.hull.ShapeOf.{shapeOf-support, shapeOf-shape, shape-known}
 use Rattle.separation.specs.theory.Inside.{inside→reach, reach→inside, outside→direction}
 use Rattle.separation.specs.theory.Apart.{differences-some, direction→apart, apart-sym, inside→not-apart}

@@ -3,7 +3,7 @@
 --     relation-replies       and of pairs that stand alike the same one
 --     clearance-fractions    where both are answered, the clearances are the same fraction
 --     clearance-rounded      and the same distance rounded down, which stands last
-use mathlib.Core.Path.{_≡_, refl, sym, _∙_, ap, ap₂, subst}
+use mathlib.Core.Path.{_≡_, refl, sym, _∙_, ap, ap₂}
 use mathlib.Core.Bool.{Bool, true, false, cond}
 use mathlib.Core.List.{List, [], _∷_, _++_}
 use Prim.Native.Nat.{ℕ, zero-le}
@@ -12,13 +12,13 @@ use lib.Dec.{le→leb}
 use lib.IntN.{ℤ, pos, _+ℤ_, _*ℤ_}
 use lib.Signed.{_≤ℤ_, _<ℤ_}
 use Rattle.integer.specs.Linear.{linear, lia, _&_}
-use Rattle.integer.specs.Order.{_<×<_, _<×≤_, _≤×≤_, contra≤, weaken, le-antisym}
+use Rattle.integer.specs.Order.{_<×<_, _<×≤_, _≤×≤_, contra≤, le-antisym}
 use Rattle.plane.specs.Point.{Point, points, numbers}
 use Rattle.plane.specs.Shape.{IsShape}
 use Rattle.plane.specs.Reply.{answered}
 use Rattle.plane.specs.Refusal.{Valid, shapeRows}
 use Rattle.plane.specs.Separation.{apart, relationReply}
-use Rattle.plane.specs.Clearance.{top, bottom, nearest, numbersOf, clearanceReply}
+use Rattle.plane.specs.Clearance.{nearest, numbersOf, clearanceReply}
 use Rattle.plane.specs.theory.lists.Flat.{points-numbers}
 use Rattle.plane.specs.theory.refusals.Rows.{NoneApply, none-append, none-join, firstRow-none, firstRow-answered}
 use Rattle.plane.specs.theory.refusals.Accept.{accepted→valid, valid→accepted}
