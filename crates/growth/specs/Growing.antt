@@ -10,29 +10,28 @@ use mathlib.Core.Bool.{true, false, not}
 use mathlib.Core.List.{List, [], _∷_, _++_}
 use mathlib.Core.Logic.{_⊎_}
 use Prim.Native.Nat.{_<_}
-use lib.IntN.{ℤ, _*ℤ_}
+use lib.IntN.{ℤ, pos, _*ℤ_}
 use lib.ListN.{length}
 use Rattle.plane.specs.Point.{Point, points, numbers}
 use Rattle.plane.specs.Shape.{IsShape}
 use Rattle.plane.specs.Reply.{answered}
 use Rattle.plane.specs.Refusal.{Valid}
 use Rattle.plane.specs.Corner.{shapeOf, sums}
-use Rattle.plane.specs.Combine.{mirrorWritten, sumWritten, mergeWritten}
 use Rattle.plane.specs.Separation.{inside, apart, touching, relationReply}
 use Rattle.plane.specs.Mean.{CommonPoint}
+use Rattle.plane.specs.Floor.{Floored}
 use Rattle.plane.specs.Clearance.{top, bottom, nearest, clearanceReply}
 use Rattle.plane.specs.theory.lists.Members.{_∈_, _⊆_}
-use Rattle.laws.specs.Grouping.{Gives, Called}
-use Rattle.laws.specs.theory.Pair.{sum-distributes}
+use Rattle.laws.specs.Grouping.{corners, sumCall, mergeCall, Gives, Called}
 use Rattle.strips.specs.OwnDirection.{answerTop, answerBottom}
-use Rattle.growth.specs.Grown.{grown, placed, driven, relationNumber}
+use Rattle.growth.specs.Grown.{grown, placed, driven, relationNumber, mirrorCall, growCall, grownShape}
 use Rattle.growth.specs.theory.Alike.{alike-apart, alike-touching, alike-relation}
 use Rattle.growth.specs.theory.Places.{grown-shape, placed-shape, place-alike, drive-alike, place-clearance, drive-clearance}
 use Rattle.growth.specs.theory.Places.{place-inside, drive-met, met-drive, driven-merge, driven-passes}
 use Rattle.growth.specs.theory.Laws.{grown-larger-cart, grown-larger-obstacle, grown-merge, grown-twice, grown-shapeOf}
 use Rattle.growth.specs.theory.Lost.{answers-differ, numbers-differ, shapes-differ, answers-known, lost-differs, obstacles-known}
 use Rattle.growth.specs.theory.Replies.{relation-answered, relation-replies, clearance-fractions, clearance-rounded}
-use Rattle.growth.specs.theory.Calls.{grow-called, grow-twice-called}
+use Rattle.growth.specs.theory.Calls.{grow-answered, mirror-sum-called, grow-merge-called, grow-twice-called}
 
 -- ---- ground
 
@@ -48,11 +47,17 @@ placed-is-a-shape A t s = placed-shape A t s
 pub grown-by-shapes : (A B : List Point) → 0 < length A → 0 < length B → grown (shapeOf B) (shapeOf A) ≡ grown B A
 grown-by-shapes A B a b = grown-shapeOf B A b a
 
--- "vector sum with the mirrored cart": where a mirror of the outline a gives m, and a sum of the obstacle b and m gives g, in either order
--- and in any output, g is the grown obstacle, number for number
-pub sum-with-mirrored-cart-is-grown : (a b m g out : List ℤ) → Gives (mirrorWritten a out) m → Called sumWritten b m g
-    → g ≡ numbers (grown (points b) (points a))
-sum-with-mirrored-cart-is-grown a b m g out i c = grow-called a b m g out i c
+module _ (b a : Floored) where
+  -- it is what grow writes: an answered grow gives the grown obstacle, its count of corners and its floor
+  pub answered-grow : (out v : List ℤ) → growCall b a out .reply ≡ answered v
+      → (v ≡ pos (length (grown (corners b) (corners a))) ∷ pos (b .floor) ∷ []) × Gives (growCall b a out) (grownShape b a)
+  answered-grow out v h = grow-answered b a out v h
+
+  -- "vector sum with the mirrored cart": where a mirror of the outline a gives m, and a sum of the obstacle b and m gives g, in either
+  -- order and in any output, g is the grown obstacle, number for number
+  pub sum-with-mirrored-cart-is-grown : (m g : Floored) (out : List ℤ) → Gives (mirrorCall a out) m → Called sumCall b m g
+      → g ≡ grownShape b a
+  sum-with-mirrored-cart-is-grown m g out i c = mirror-sum-called a b m g out i c
 
 -- the number of relation is what relation answers
 pub relation-answers-number : (a b : List ℤ) → Valid a → Valid b → relationReply a b ≡ answered (relationNumber (points a) (points b) ∷ [])
@@ -156,21 +161,20 @@ pub grown-merge-is-merge-of-grown : (B C A : List Point) → 0 < length B → 0 
     → grown (B ++ C) A ≡ shapeOf (grown B A ++ grown C A)
 grown-merge-is-merge-of-grown B C A b c a = grown-merge B C A b c a
 
--- number for number, where no call is refused: m the mirrored outline, each call in either order and in any output
-pub grown-merge-number-for-number : (m b c bc mb mc l n : List ℤ) → Called mergeWritten b c bc → Called sumWritten m bc l
-    → Called sumWritten m b mb → Called sumWritten m c mc → Called mergeWritten mb mc n → l ≡ n
-grown-merge-number-for-number m b c bc mb mc l n u s p q t = sum-distributes u s p q t
+-- number for number, where no call is refused: b and c merged are o, grown by a they are g, h and l, and g and h merged are n
+pub grown-merge-number-for-number : (a b c o g h l n : Floored) (x y z : List ℤ) → Called mergeCall b c o → Gives (growCall b a x) g
+    → Gives (growCall c a y) h → Called mergeCall g h n → Gives (growCall o a z) l → l ≡ n
+grown-merge-number-for-number a b c o g h l n x y z p i j q k = grow-merge-called a b c o g h l n x y z i j k p q
 
 -- growing twice is growing by the sum of the outlines
 pub grown-twice-is-grown-by-sum : (B A C : List Point) → 0 < length B → 0 < length A → 0 < length C
     → grown (grown B A) C ≡ grown B (shapeOf (sums A C))
 grown-twice-is-grown-by-sum B A C b a c = grown-twice B A C b a c
 
--- number for number: the outlines a, c and their sum s are mirrored, to m, n and o; b grown by a and then by c is h, by s it is l
-pub grown-twice-number-for-number : (a b c s m n o g h l x y z : List ℤ) → Gives (mirrorWritten a x) m → Gives (mirrorWritten c y) n
-    → Gives (mirrorWritten s z) o → Called sumWritten a c s → Called sumWritten b m g → Called sumWritten g n h
-    → Called sumWritten b o l → h ≡ l
-grown-twice-number-for-number a b c s m n o g h l x y z i j k p q r t = grow-twice-called a b c s m n o g h l x y z i j k p q r t
+-- number for number: s is the sum of the outlines a and c; b grown by a and then by c is h, by s it is l
+pub grown-twice-number-for-number : (a b c s g h l : Floored) (x y z : List ℤ) → Called sumCall a c s → Gives (growCall b a x) g
+    → Gives (growCall g c y) h → Gives (growCall b s z) l → h ≡ l
+grown-twice-number-for-number a b c s g h l x y z p i j k = grow-twice-called a b c s g h l x y z i j k p
 
 -- ---- lost corners
 
