@@ -42,14 +42,18 @@ enum-told c = search needs
 returns : tie.Need-returns
 returns c =
     let start = c .before .before .before .before in
-    refuses-output (one start) (other start) (refusal c) growWritten (start .args .out .now)
+    refuses-output (one start) (other start) (refusal c) _ (start .args .out .now)
 
 slice-aggregate-differences : tie.Need-slice-aggregate-differences
 slice-aggregate-differences c = search needs
 
 differences-requires : tie.Need-differences-requires
 unfolding maxCorners
-differences-requires c κs = let both = shapes (c .before) in (both .0, both .1, omega (arith, both .0 .few, both .1 .few))
+differences-requires c κs =
+    let both = shapes (c .before) in
+    let u = both .0 in
+    let v = both .1 in
+    (search needs, search needs, omega (arith, u .few, v .few))
 
 mul-shape : tie.Need-mul-shape
 mul-shape c = search needs
@@ -72,7 +76,7 @@ returns-2 c =
     let at-made = c .before .before .before .before .before in
     let at-told = at-made .before .before in
     let start = at-told .before .before .before in
-    pair-delivered (at-made .differences .ensures) (one start) (other start) (shapes at-told) growWritten (start .args .out .now) refl
+    pair-delivered (at-made .differences .ensures) (one start) (other start) (shapes at-told) _ (start .args .out .now) refl
     (c .before .deliver .ensures .0) (c .before .deliver .ensures .1)
 
 pub grow-spec : {M : Type 1} → statement M
