@@ -1,5 +1,5 @@
 //! Compares the answers of plain and proved questions, and the whole outputs that they leave.
-use crate::lists::{beside, points, shape, spoilt};
+use crate::lists::{beside, floors, points, shape, spoilt};
 use crate::plain::MOST;
 use crate::random::Random;
 use crate::reply::Numbers;
@@ -9,7 +9,7 @@ use std::cmp::Ordering;
 use std::collections::BTreeSet;
 
 /// What must have been compared at least once: a question, and a refusal or the first value.
-const KINDS: [(&str, &str); 29] = [
+const KINDS: [(&str, &str); 33] = [
     ("judge", "no 1"),
     ("judge", "no 2"),
     ("judge", "no 3"),
@@ -24,9 +24,11 @@ const KINDS: [(&str, &str); 29] = [
     ("sum", "no 6"),
     ("sum", "no 7"),
     ("sum", "no 8"),
+    ("sum", "no 13"),
     ("merge", "ok"),
     ("merge", "no 6"),
     ("merge", "no 8"),
+    ("merge", "no 13"),
     ("sweep", "ok"),
     ("sweep", "no 1"),
     ("sweep", "no 2"),
@@ -37,9 +39,14 @@ const KINDS: [(&str, &str); 29] = [
     ("relation", "ok 0"),
     ("relation", "ok 1"),
     ("relation", "ok 2"),
+    ("relation", "no 13"),
     ("inside", "ok 0"),
     ("inside", "ok 1"),
+    ("inside", "no 13"),
 ];
+
+/// A list and its floor.
+type Lent<'a> = (&'a [i32], u16);
 
 /// The answers that were compared: how many, and of which kinds.
 #[derive(Default)]
@@ -61,28 +68,31 @@ pub fn agree(seed: u64, answers: u64) -> Result<u64, String> {
             1 => b = spoilt(&mut random, &b),
             _ => (),
         }
-        ask_one(&mut tally, &a)?;
-        ask_two(&mut tally, &a, &b)?;
-        ask_two(&mut tally, &b, &a)?;
-        for question in PAIRED {
-            ask_written(&mut tally, &mut random, question, &a, &b)?;
-        }
         let swept = points(&mut random, &a, &b);
-        ask_written(&mut tally, &mut random, SWEPT, &swept, &b)?;
+        let [f, g] = floors(&mut random);
+        let (a, b): (Lent, Lent) = ((&a, f), (&b, g));
+        ask_one(&mut tally, a)?;
+        ask_two(&mut tally, a, b)?;
+        ask_two(&mut tally, b, a)?;
+        for question in PAIRED {
+            ask_written(&mut tally, &mut random, question, a, b)?;
+        }
+        ask_written(&mut tally, &mut random, SWEPT, (&swept, f), b)?;
     }
     tally.missing().map_or(Ok(tally.answers), Err)
 }
 
 /// The questions of one shape.
-fn ask_one(tally: &mut Tally, a: &[i32]) -> Result<(), String> {
-    tally.add("judge", [a, &[]], plain::judge(a), proved::judge(a))?;
+fn ask_one(tally: &mut Tally, (a, f): Lent) -> Result<(), String> {
+    let of: [Lent; 2] = [(a, f), (&[], f)];
+    tally.add("judge", of, plain::judge(a, f), proved::judge(a, f))?;
     for d in directions(a).into_iter().flat_map(|d| [d, shortest(d)]) {
-        let by_hand = plain::furthest(a, d[0], d[1]).numbers();
-        let by_proof = proved::furthest(a, d[0], d[1]).numbers();
-        tally.add("furthest", [a, &d], by_hand, by_proof)?;
+        let by_hand = plain::furthest(a, f, d[0], d[1]).numbers();
+        let by_proof = proved::furthest(a, f, d[0], d[1]).numbers();
+        tally.add("furthest", [(a, f), (&d, f)], by_hand, by_proof)?;
     }
-    tally.add("length", [a, &[]], plain::length(a), proved::length(a))?;
-    tally.add("width", [a, &[]], plain::width(a), proved::width(a))
+    tally.add("length", of, plain::length(a, f), proved::length(a, f))?;
+    tally.add("width", of, plain::width(a, f), proved::width(a, f))
 }
 
 /// Out of the first edge and the last, back into the first, along it, and nowhere.
@@ -116,32 +126,45 @@ fn shortest(d: [i32; 2]) -> [i32; 2] {
 }
 
 /// The questions of two shapes that write nothing.
-fn ask_two(tally: &mut Tally, a: &[i32], b: &[i32]) -> Result<(), String> {
+fn ask_two(tally: &mut Tally, (a, f): Lent, (b, g): Lent) -> Result<(), String> {
     tally.add(
         "relation",
-        [a, b],
-        plain::relation(a, b),
-        proved::relation(a, b),
+        [(a, f), (b, g)],
+        plain::relation(a, f, b, g),
+        proved::relation(a, f, b, g),
     )?;
-    tally.add("inside", [a, b], plain::inside(a, b), proved::inside(a, b))
+    tally.add(
+        "inside",
+        [(a, f), (b, g)],
+        plain::inside(a, f, b, g),
+        proved::inside(a, f, b, g),
+    )
 }
 
 /// A question that writes.
-type Writes = fn(&[i32], &[i32], &mut [i32]) -> Numbers;
+type Writes = fn(Lent, Lent, &mut [i32]) -> Numbers;
 
 /// Its word, the plain one and the proved one.
 type Written = (&'static str, Writes, Writes);
 
 const PAIRED: [Written; 2] = [
-    ("sum", plain::sum, proved::sum),
-    ("merge", plain::merge, proved::merge),
+    (
+        "sum",
+        |(a, f), (b, g), out| plain::sum(a, f, b, g, out),
+        |(a, f), (b, g), out| proved::sum(a, f, b, g, out),
+    ),
+    (
+        "merge",
+        |(a, f), (b, g), out| plain::merge(a, f, b, g, out),
+        |(a, f), (b, g), out| proved::merge(a, f, b, g, out),
+    ),
 ];
 
 /// A sweep has one list: the second is not read.
 const SWEPT: Written = (
     "sweep",
-    |points, _, out| plain::sweep(points, out),
-    |points, _, out| proved::sweep(points, out),
+    |(points, f), _, out| plain::sweep(points, f, out),
+    |(points, f), _, out| proved::sweep(points, f, out),
 );
 
 /// A question that writes, into an output of any room; then others of what was written, since its
@@ -150,8 +173,8 @@ fn ask_written(
     tally: &mut Tally,
     random: &mut Random,
     (word, by_hand, by_proof): Written,
-    a: &[i32],
-    b: &[i32],
+    a: Lent,
+    b: Lent,
 ) -> Result<(), String> {
     let before = vec![random.bits() as i32; room(random, a, b, by_hand)];
     let (mut out, mut other): (List, List) = (before.clone(), before);
@@ -161,7 +184,7 @@ fn ask_written(
         return Err(format!("{word} of {a:?} and {b:?}: the outputs differ"));
     }
     if one.refusal == 0 {
-        let written = &out[..2 * one.values[0] as usize];
+        let written: Lent = (&out[..2 * one.values[0] as usize], one.values[1] as u16);
         ask_one(tally, written)?;
         ask_two(tally, a, written)?;
         ask_two(tally, written, b)?;
@@ -170,7 +193,7 @@ fn ask_written(
 }
 
 /// How many numbers are lent: enough, as many as are needed, or fewer.
-fn room(random: &mut Random, a: &[i32], b: &[i32], ask: Writes) -> usize {
+fn room(random: &mut Random, a: Lent, b: Lent, ask: Writes) -> usize {
     let needed = 2 * ask(a, b, &mut [0; 2 * MOST]).values[0] as usize;
     match random.below(8) {
         0 => needed,
@@ -195,7 +218,7 @@ impl Tally {
     fn add(
         &mut self,
         word: &'static str,
-        [a, b]: [&[i32]; 2],
+        [a, b]: [Lent; 2],
         plain: Numbers,
         proved: Numbers,
     ) -> Result<(), String> {

@@ -1,5 +1,5 @@
-//! Lists to compare answers on: shapes of all kinds and sizes, pairs that meet in all ways, and
-//! lists that are refused for each reason.
+//! Lists to compare answers on: shapes of all kinds and sizes, pairs that meet in all ways, lists that
+//! are refused for each reason, and floors.
 use crate::plain::MOST;
 use crate::random::Random;
 use crate::shapes::{List, grown, moved, polygon};
@@ -163,5 +163,16 @@ pub fn points(random: &mut Random, a: &[i32], b: &[i32]) -> List {
         spoilt(random, &list)
     } else {
         list
+    }
+}
+
+/// The floors of two lists: mostly one floor.
+pub fn floors(random: &mut Random) -> [u16; 2] {
+    let any = |random: &mut Random| random.bits() as u16;
+    match random.below(8) {
+        0 => [any(random), any(random)],
+        1 => [0, u16::MAX],
+        2 => [u16::MAX; 2],
+        _ => [any(random); 2],
     }
 }

@@ -11,7 +11,7 @@ pub fn single(random: &mut Random, n: usize) -> Case {
     Case::new(polygon(random, n, size, 0, 0), List::new())
 }
 
-/// Points anywhere on the floor.
+/// Points anywhere in range.
 pub fn scattered(random: &mut Random, n: usize) -> Case {
     let numbers = (0..2 * n).map(|_| random.between(-1_000_000, 1_000_000));
     Case::new(numbers.collect(), List::new())
@@ -37,7 +37,7 @@ pub fn summed(random: &mut Random, n: usize) -> Case {
 pub fn merged(random: &mut Random, n: usize) -> Case {
     loop {
         let case = overlapping(random, n, n - 4, 100_000);
-        if plain::merge(&case.a, &case.b, &mut [0; 2 * MOST]).refusal == 0 {
+        if plain::merge(&case.a, 0, &case.b, 0, &mut [0; 2 * MOST]).refusal == 0 {
             return case;
         }
     }
@@ -94,16 +94,17 @@ pub fn moved_away(random: &mut Random, n: usize) -> Case {
     Case { a, b, log }
 }
 
-/// A log of n records, each of a point under a name of its own, and room for one more.
+/// A log of n records, each of a point on floor 3 under a name of its own, and room for one more.
 fn log(random: &mut Random, n: usize) -> Vec<u8> {
     let mut bytes = Vec::new();
     for name in 0..n as u16 {
-        bytes.extend([13, 0, 1, 0]);
+        bytes.extend([15, 0, 2, 0]);
         bytes.extend(name.to_le_bytes());
+        bytes.extend([3, 0]);
         bytes.extend(random.between(-1000, 1000).to_le_bytes());
         bytes.extend(random.between(-1000, 1000).to_le_bytes());
         bytes.push(0x5A);
     }
-    bytes.extend([0; 15]);
+    bytes.extend([0; 17]);
     bytes
 }

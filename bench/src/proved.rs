@@ -11,23 +11,33 @@ mod archive {
     type LogOutput = *mut u8;
 
     unsafe extern "C" {
-        pub fn cocklesway_judge(list: List, n: usize) -> Numbers;
-        pub fn cocklesway_furthest(list: List, n: usize, u: i32, v: i32) -> Signed;
-        pub fn cocklesway_mirror(list: List, n: usize, out: Output, room: usize) -> Numbers;
-        pub fn cocklesway_sum(
-            a: List,
+        pub fn cocklesway_judge(list: List, n: usize, floor: u16) -> Numbers;
+        pub fn cocklesway_furthest(list: List, n: usize, floor: u16, u: i32, v: i32) -> Signed;
+        pub fn cocklesway_mirror(
+            list: List,
             n: usize,
-            b: List,
-            m: usize,
+            floor: u16,
             out: Output,
             room: usize,
         ) -> Numbers;
-        pub fn cocklesway_begin(a: List, n: usize, b: List, m: usize) -> Numbers;
+        pub fn cocklesway_sum(
+            a: List,
+            n: usize,
+            f: u16,
+            b: List,
+            m: usize,
+            g: u16,
+            out: Output,
+            room: usize,
+        ) -> Numbers;
+        pub fn cocklesway_begin(a: List, n: usize, f: u16, b: List, m: usize, g: u16) -> Numbers;
         pub fn cocklesway_part(
             a: List,
             n: usize,
+            f: u16,
             b: List,
             m: usize,
+            g: u16,
             first: usize,
             second: usize,
             over: bool,
@@ -38,18 +48,34 @@ mod archive {
         pub fn cocklesway_merge(
             a: List,
             n: usize,
+            f: u16,
             b: List,
             m: usize,
+            g: u16,
             out: Output,
             room: usize,
         ) -> Numbers;
-        pub fn cocklesway_sweep(list: List, n: usize, out: Output, room: usize) -> Numbers;
-        pub fn cocklesway_length(list: List, n: usize) -> Numbers;
-        pub fn cocklesway_width(list: List, n: usize) -> Numbers;
-        pub fn cocklesway_relation(a: List, n: usize, b: List, m: usize) -> Numbers;
-        pub fn cocklesway_inside(a: List, n: usize, b: List, m: usize) -> Numbers;
-        pub fn cocklesway_clearance(a: List, n: usize, b: List, m: usize) -> Nearest;
-        pub fn cocklesway_tangents(a: List, n: usize, b: List, m: usize) -> Lines;
+        pub fn cocklesway_sweep(
+            list: List,
+            n: usize,
+            floor: u16,
+            out: Output,
+            room: usize,
+        ) -> Numbers;
+        pub fn cocklesway_length(list: List, n: usize, floor: u16) -> Numbers;
+        pub fn cocklesway_width(list: List, n: usize, floor: u16) -> Numbers;
+        pub fn cocklesway_relation(a: List, n: usize, f: u16, b: List, m: usize, g: u16)
+        -> Numbers;
+        pub fn cocklesway_inside(a: List, n: usize, f: u16, b: List, m: usize, g: u16) -> Numbers;
+        pub fn cocklesway_clearance(
+            a: List,
+            n: usize,
+            f: u16,
+            b: List,
+            m: usize,
+            g: u16,
+        ) -> Nearest;
+        pub fn cocklesway_tangents(a: List, n: usize, f: u16, b: List, m: usize, g: u16) -> Lines;
         pub fn cocklesway_log_read(
             log: Log,
             count: usize,
@@ -61,6 +87,7 @@ mod archive {
             log: LogOutput,
             count: usize,
             name: u16,
+            floor: u16,
             list: List,
             n: usize,
             allowed: usize,
@@ -71,43 +98,55 @@ mod archive {
 // SAFETY, for all of them: the archive's functions have no precondition, and read and write lent
 // slices only within their lengths.
 
-pub fn judge(list: &[i32]) -> Numbers {
-    unsafe { archive::cocklesway_judge(list.as_ptr(), list.len()) }
+pub fn judge(list: &[i32], floor: u16) -> Numbers {
+    unsafe { archive::cocklesway_judge(list.as_ptr(), list.len(), floor) }
 }
 
-pub fn furthest(list: &[i32], u: i32, v: i32) -> Signed {
-    unsafe { archive::cocklesway_furthest(list.as_ptr(), list.len(), u, v) }
+pub fn furthest(list: &[i32], floor: u16, u: i32, v: i32) -> Signed {
+    unsafe { archive::cocklesway_furthest(list.as_ptr(), list.len(), floor, u, v) }
 }
 
-pub fn mirror(list: &[i32], out: &mut [i32]) -> Numbers {
-    unsafe { archive::cocklesway_mirror(list.as_ptr(), list.len(), out.as_mut_ptr(), out.len()) }
-}
-
-pub fn sum(a: &[i32], b: &[i32], out: &mut [i32]) -> Numbers {
+pub fn mirror(list: &[i32], floor: u16, out: &mut [i32]) -> Numbers {
     unsafe {
-        archive::cocklesway_sum(
-            a.as_ptr(),
-            a.len(),
-            b.as_ptr(),
-            b.len(),
+        archive::cocklesway_mirror(
+            list.as_ptr(),
+            list.len(),
+            floor,
             out.as_mut_ptr(),
             out.len(),
         )
     }
 }
 
-pub fn begin(a: &[i32], b: &[i32]) -> Numbers {
-    unsafe { archive::cocklesway_begin(a.as_ptr(), a.len(), b.as_ptr(), b.len()) }
+pub fn sum(a: &[i32], f: u16, b: &[i32], g: u16, out: &mut [i32]) -> Numbers {
+    unsafe {
+        archive::cocklesway_sum(
+            a.as_ptr(),
+            a.len(),
+            f,
+            b.as_ptr(),
+            b.len(),
+            g,
+            out.as_mut_ptr(),
+            out.len(),
+        )
+    }
+}
+
+pub fn begin(a: &[i32], f: u16, b: &[i32], g: u16) -> Numbers {
+    unsafe { archive::cocklesway_begin(a.as_ptr(), a.len(), f, b.as_ptr(), b.len(), g) }
 }
 
 /// The first part of a sum, of k corners at most.
-pub fn part(a: &[i32], b: &[i32], k: usize, out: &mut [i32]) -> Numbers {
+pub fn part(a: &[i32], f: u16, b: &[i32], g: u16, k: usize, out: &mut [i32]) -> Numbers {
     unsafe {
         archive::cocklesway_part(
             a.as_ptr(),
             a.len(),
+            f,
             b.as_ptr(),
             b.len(),
+            g,
             0,
             0,
             false,
@@ -118,45 +157,55 @@ pub fn part(a: &[i32], b: &[i32], k: usize, out: &mut [i32]) -> Numbers {
     }
 }
 
-pub fn merge(a: &[i32], b: &[i32], out: &mut [i32]) -> Numbers {
+pub fn merge(a: &[i32], f: u16, b: &[i32], g: u16, out: &mut [i32]) -> Numbers {
     unsafe {
         archive::cocklesway_merge(
             a.as_ptr(),
             a.len(),
+            f,
             b.as_ptr(),
             b.len(),
+            g,
             out.as_mut_ptr(),
             out.len(),
         )
     }
 }
 
-pub fn sweep(list: &[i32], out: &mut [i32]) -> Numbers {
-    unsafe { archive::cocklesway_sweep(list.as_ptr(), list.len(), out.as_mut_ptr(), out.len()) }
+pub fn sweep(list: &[i32], floor: u16, out: &mut [i32]) -> Numbers {
+    unsafe {
+        archive::cocklesway_sweep(
+            list.as_ptr(),
+            list.len(),
+            floor,
+            out.as_mut_ptr(),
+            out.len(),
+        )
+    }
 }
 
-pub fn length(list: &[i32]) -> Numbers {
-    unsafe { archive::cocklesway_length(list.as_ptr(), list.len()) }
+pub fn length(list: &[i32], floor: u16) -> Numbers {
+    unsafe { archive::cocklesway_length(list.as_ptr(), list.len(), floor) }
 }
 
-pub fn width(list: &[i32]) -> Numbers {
-    unsafe { archive::cocklesway_width(list.as_ptr(), list.len()) }
+pub fn width(list: &[i32], floor: u16) -> Numbers {
+    unsafe { archive::cocklesway_width(list.as_ptr(), list.len(), floor) }
 }
 
-pub fn relation(a: &[i32], b: &[i32]) -> Numbers {
-    unsafe { archive::cocklesway_relation(a.as_ptr(), a.len(), b.as_ptr(), b.len()) }
+pub fn relation(a: &[i32], f: u16, b: &[i32], g: u16) -> Numbers {
+    unsafe { archive::cocklesway_relation(a.as_ptr(), a.len(), f, b.as_ptr(), b.len(), g) }
 }
 
-pub fn inside(a: &[i32], b: &[i32]) -> Numbers {
-    unsafe { archive::cocklesway_inside(a.as_ptr(), a.len(), b.as_ptr(), b.len()) }
+pub fn inside(a: &[i32], f: u16, b: &[i32], g: u16) -> Numbers {
+    unsafe { archive::cocklesway_inside(a.as_ptr(), a.len(), f, b.as_ptr(), b.len(), g) }
 }
 
-pub fn clearance(a: &[i32], b: &[i32]) -> Nearest {
-    unsafe { archive::cocklesway_clearance(a.as_ptr(), a.len(), b.as_ptr(), b.len()) }
+pub fn clearance(a: &[i32], f: u16, b: &[i32], g: u16) -> Nearest {
+    unsafe { archive::cocklesway_clearance(a.as_ptr(), a.len(), f, b.as_ptr(), b.len(), g) }
 }
 
-pub fn tangents(a: &[i32], b: &[i32]) -> Lines {
-    unsafe { archive::cocklesway_tangents(a.as_ptr(), a.len(), b.as_ptr(), b.len()) }
+pub fn tangents(a: &[i32], f: u16, b: &[i32], g: u16) -> Lines {
+    unsafe { archive::cocklesway_tangents(a.as_ptr(), a.len(), f, b.as_ptr(), b.len(), g) }
 }
 
 pub fn log_read(log: &[u8], name: u16, out: &mut [i32]) -> Numbers {
@@ -165,12 +214,13 @@ pub fn log_read(log: &[u8], name: u16, out: &mut [i32]) -> Numbers {
     }
 }
 
-pub fn log_add(log: &mut [u8], name: u16, list: &[i32], allowed: usize) -> Numbers {
+pub fn log_add(log: &mut [u8], name: u16, floor: u16, list: &[i32], allowed: usize) -> Numbers {
     unsafe {
         archive::cocklesway_log_add(
             log.as_mut_ptr(),
             log.len(),
             name,
+            floor,
             list.as_ptr(),
             list.len(),
             allowed,

@@ -1,25 +1,25 @@
 //! Replies as numbers, as the archive gives them (`crates/exports/src/reply.rt`).
 
 /// A refusal: its number, the shape that 1 to 5 blame or 15's place, and 4's edge and corner as the two
-/// first values. An answer: 0, 0 and its values. What is not needed is 0.
+/// first values. An answer: 0, 0 and its values, behind them the floor. What is not needed is 0.
 #[repr(C)]
 #[derive(Clone, Copy, Debug, PartialEq, Eq)]
 pub struct Numbers {
     pub refusal: u64,
     pub shape: u64,
-    pub values: [u64; 5],
+    pub values: [u64; 6],
 }
 
 impl Numbers {
-    /// An answer of one value.
+    /// An answer of one value, on a floor.
     #[inline]
-    pub fn one(value: u64) -> Numbers {
-        Numbers::all([value, 0, 0, 0, 0])
+    pub fn one(value: u64, floor: u16) -> Numbers {
+        Numbers::all([value, floor as u64, 0, 0, 0, 0])
     }
 
-    /// An answer.
+    /// An answer, its floor among the values.
     #[inline]
-    pub fn all(values: [u64; 5]) -> Numbers {
+    pub fn all(values: [u64; 6]) -> Numbers {
         Numbers {
             refusal: 0,
             shape: 0,
@@ -39,12 +39,12 @@ impl Numbers {
         Numbers {
             refusal,
             shape,
-            values: [0; 5],
+            values: [0; 6],
         }
     }
 }
 
-/// The same with a last value that may be below 0.
+/// The same with a third value that may be below 0.
 #[repr(C)]
 #[derive(Clone, Copy, Debug, PartialEq, Eq)]
 pub struct Signed {
@@ -52,6 +52,7 @@ pub struct Signed {
     pub shape: u64,
     pub values: [u64; 2],
     pub value: i64,
+    pub floor: u16,
 }
 
 impl Signed {
@@ -63,26 +64,28 @@ impl Signed {
             shape: 0,
             values: [0; 2],
             value: 0,
+            floor: 0,
         }
     }
 
-    /// The same numbers, the last by its bits.
+    /// The same numbers, the third by its bits.
     pub fn numbers(self) -> Numbers {
+        let [first, last] = self.values;
         Numbers {
             refusal: self.refusal,
             shape: self.shape,
-            values: [self.values[0], self.values[1], self.value as u64, 0, 0],
+            values: [first, last, self.value as u64, self.floor as u64, 0, 0],
         }
     }
 }
 
-/// The same for a clearance: its kind, two positions and at most three numbers.
+/// The same for a clearance: its kind, two positions, at most three numbers, and the floor.
 #[repr(C)]
 #[derive(Clone, Copy, Debug, PartialEq, Eq)]
 pub struct Nearest {
     pub refusal: u64,
     pub shape: u64,
-    pub values: [u64; 6],
+    pub values: [u64; 7],
 }
 
 /// The same for four lines.
@@ -92,4 +95,5 @@ pub struct Lines {
     pub refusal: u64,
     pub shape: u64,
     pub positions: [u64; 8],
+    pub floor: u16,
 }

@@ -8,21 +8,24 @@ use crate::{plain, proved};
 /// Makes a case of about n corners.
 pub type Make = fn(&mut Random, usize) -> Case;
 
+/// The floor that all shapes are on.
+const FLOOR: u16 = 3;
+
 /// A loop of its own for each question: of these lists of a case, and perhaps of an output.
 macro_rules! run {
     ($way:ident::$question:ident($($list:ident),*)) => {
-        |cases| block(cases, |c, _| $way::$question($(&c.$list),*))
+        |cases| block(cases, |c, _| $way::$question($(&c.$list, FLOOR),*))
     };
     ($way:ident::$question:ident($($list:ident),*; out)) => {
-        |cases| block(cases, |c, out| $way::$question($(&c.$list,)* out))
+        |cases| block(cases, |c, out| $way::$question($(&c.$list, FLOOR,)* out))
     };
 }
 
 /// Proved and plain.
 const JUDGE: [Run; 2] = [run!(proved::judge(a)), run!(plain::judge(a))];
 const FURTHEST: [Run; 2] = [
-    |cases| block(cases, |c, _| proved::furthest(&c.a, 3, 1)),
-    |cases| block(cases, |c, _| plain::furthest(&c.a, 3, 1)),
+    |cases| block(cases, |c, _| proved::furthest(&c.a, FLOOR, 3, 1)),
+    |cases| block(cases, |c, _| plain::furthest(&c.a, FLOOR, 3, 1)),
 ];
 const SUM: [Run; 2] = [run!(proved::sum(a, b; out)), run!(plain::sum(a, b; out))];
 const MERGE: [Run; 2] = [
@@ -61,10 +64,14 @@ pub const GROWTH: [(&str, Run); 17] = [
     ("sum", SUM[0]),
     ("begin", run!(proved::begin(a, b))),
     ("part of none", |cases| {
-        block(cases, |c, out| proved::part(&c.a, &c.b, 0, out))
+        block(cases, |c, out| {
+            proved::part(&c.a, FLOOR, &c.b, FLOOR, 0, out)
+        })
     }),
     ("part of 16 corners", |cases| {
-        block(cases, |c, out| proved::part(&c.a, &c.b, 16, out))
+        block(cases, |c, out| {
+            proved::part(&c.a, FLOOR, &c.b, FLOOR, 16, out)
+        })
     }),
     ("merge", MERGE[0]),
     ("sweep", SWEEP[0]),
@@ -79,7 +86,7 @@ pub const GROWTH: [(&str, Run); 17] = [
     }),
     ("log_add, records", |cases| {
         block(cases, |c, _| {
-            proved::log_add(&mut c.log.clone(), 0, &[1, -1], usize::MAX)
+            proved::log_add(&mut c.log.clone(), 0, FLOOR, &[1, -1], usize::MAX)
         })
     }),
 ];

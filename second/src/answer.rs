@@ -1,8 +1,11 @@
 //! One answer line for one question line.
 
+use crate::ask;
+use crate::plane::Point;
 use crate::questions::{self, Row};
+use crate::text::fields::{self, Value};
 use crate::text::unreadable::Unreadable;
-use crate::text::{fields, given::Given, lines};
+use crate::text::{given::Given, lines};
 use std::io::{self, Write};
 
 /// Answers every line of the input that wants an answer.
@@ -17,12 +20,18 @@ pub fn write_all(input: &[u8], mut to: impl Write) -> io::Result<()> {
 pub fn answer(line: &[u8]) -> String {
     match read(line) {
         Ok((row, given)) => match (row.ask)(&given) {
-            Ok(words) if words.is_empty() => "ok".to_string(),
             Ok(words) => format!("ok {words}"),
             Err(refusal) => refusal.to_string(),
         },
         Err(unreadable) => unreadable.to_string(),
     }
+}
+
+/// What is answered if a direction is offered for the two shapes of a line that asks for one.
+pub fn offered(line: &[u8], direction: Point) -> Option<String> {
+    let (row, mut given) = read(line).ok()?;
+    given.0.push(Value::Direction(direction));
+    (row.word == "find").then(|| ask::offer(&given).ok())?
 }
 
 fn read(line: &[u8]) -> Result<(&'static Row, Given), Unreadable> {
@@ -43,16 +52,16 @@ mod tests {
     #[rustfmt::skip]
     const LINES: &[(&str, &str)] = &[
         ("judge |", "no 1 shape 1"),
-        ("judge|0 0  2 0 2 2   0 2 ", "ok 4"),
-        ("\tjudge\t|\r0 0\t1 0\r", "ok 2"),
-        ("furthest | 0 0 2 0 2 2 0 2 | 0 1", "ok 2 3 2"),
-        ("furthest | 0 0 2 0 2 2 0 2 | 1 1", "ok 2 2 4"),
-        ("furthest | 0 0 2 0 2 2 0 2 | -1 0", "ok 3 0 0"),
-        ("furthest | 0 0 2 0 | 0 -1", "ok 0 1 0"),
+        ("judge|0 0  2 0 2 2   0 2 ", "ok 4 @0"),
+        ("\tjudge\t|\r0 0\t1 0\r", "ok 2 @0"),
+        ("furthest | 0 0 2 0 2 2 0 2 | 0 1", "ok 2 3 2 @0"),
+        ("furthest | 0 0 2 0 2 2 0 2 | 1 1", "ok 2 2 4 @0"),
+        ("furthest | 0 0 2 0 2 2 0 2 | -1 0", "ok 3 0 0 @0"),
+        ("furthest | 0 0 2 0 | 0 -1", "ok 0 1 0 @0"),
         ("furthest | 0 0 | 2000001 0", "no 11"),
         ("furthest | 0 0 | 0 -5", "no 12"),
-        ("mirror | 0 0 1 0 0 1 | 6", "ok 3 | 0 -1 0 0 -1 0"),
-        ("mirror | 0 0 1 0 0 1 | 2147483647", "ok 3 | 0 -1 0 0 -1 0"),
+        ("mirror | 0 0 1 0 0 1 | 6", "ok 3 @0 | 0 -1 0 0 -1 0"),
+        ("mirror | 0 0 1 0 0 1 | 2147483647", "ok 3 @0 | 0 -1 0 0 -1 0"),
         ("mirror | 0 0 1 0 0 1 | 5", "no 8"),
         ("sum | 1 1 0 0 | 5", "no 5 shape 1"),
         ("relation | 0 0 | 5", "no 1 shape 2"),
@@ -80,14 +89,14 @@ mod tests {
         ("bookadd | | 7 | 0", "no 1 shape 1"),
         ("bookadd | 0102 | 7 | 0 0", "no 16"),
         ("bookadd | | 7 | 0 0 | -1", "unreadable: not a count"),
-        ("parts | 0 0 | 1 1 |", "ok"),
-        ("parts | 0 0 | 1 1 | 0:0  007:02 1:0", "ok | 0 | 1 1 1 | 0"),
+        ("parts | 0 0 | 1 1 |", "ok @0"),
+        ("parts | 0 0 | 1 1 | 0:0  007:02 1:0", "ok @0 | 0 | 1 1 1 | 0"),
         ("parts | 0 0 | 1 1 | 1:2 1", "unreadable: not a call"),
         ("parts | 0 0 | 1 1 | 1:", "unreadable: not a call"),
         ("parts | 0 0 | 1 1 | -1:2", "unreadable: not a call"),
         ("parts | 0 0 | 1 1 | 1::2", "unreadable: not a call"),
         ("parts | 0 0 | 1 1 | 1:2147483648", "unreadable: not a number of 32 bits"),
-        ("part | 0 0 | 1 1 | 0 0 1 | 1 0", "ok 0 0 0 1 |"),
+        ("part | 0 0 | 1 1 | 0 0 1 | 1 0", "ok 0 0 0 1 @0 |"),
         ("part | 0 0 | 1 1 | 0 0 2 | 1 2", "unreadable: not a walk"),
         ("part | 0 0 | 1 1 | -1 0 0 | 1 2", "unreadable: not a walk"),
         ("part | 0 0 | 1 1 | 0 0 | 1 2", "unreadable: wrong count of numbers"),

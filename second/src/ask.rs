@@ -1,8 +1,10 @@
 //! One function for each question: from what its line gave to the words behind `ok`, or a refusal.
-//! The shapes are judged first, in order; then the question itself may refuse, then the room.
+//! The shapes are judged first, in order, then their floors; then the question itself may refuse,
+//! then the room. A floor is the last of an answer's values.
 
 use crate::clearance::{self, Against, Between};
 use crate::combine::{self, held_by};
+use crate::direction;
 use crate::log;
 use crate::measure;
 use crate::parts::{self, State};
@@ -17,32 +19,32 @@ use crate::text::given::Given;
 pub type Answer = Result<String, Refusal>;
 
 pub fn judge(given: &Given) -> Answer {
-    let [a] = given.shapes()?;
-    Ok(a.len().to_string())
+    let ([a], floor) = given.shapes()?;
+    Ok(format!("{} @{floor}", a.len()))
 }
 
 pub fn furthest(given: &Given) -> Answer {
-    let [a] = given.shapes()?;
+    let ([a], floor) = given.shapes()?;
     let (first, last, value) = measure::furthest(&a, given.direction())?;
-    Ok(format!("{first} {last} {value}"))
+    Ok(format!("{first} {last} {value} @{floor}"))
 }
 
 pub fn mirror(given: &Given) -> Answer {
-    let [a] = given.shapes()?;
-    written(given, combine::mirror(&a))
+    let ([a], floor) = given.shapes()?;
+    written(given, combine::mirror(&a), floor)
 }
 
 pub fn sum(given: &Given) -> Answer {
-    let [a, b] = given.shapes()?;
-    written(given, combine::sum(&a, &b)?)
+    let ([a, b], floor) = given.shapes()?;
+    written(given, combine::sum(&a, &b)?, floor)
 }
 
 /// Behind a bar each, what the calls from the beginning on wrote, or 8.
 pub fn parts(given: &Given) -> Answer {
-    let [a, b] = given.shapes()?;
+    let ([a, b], floor) = given.shapes()?;
     let sum = combine::sum(&a, &b)?;
     let mut written = 0;
-    let mut told = Vec::new();
+    let mut told = vec![format!("@{floor}")];
     for &call in given.calls() {
         match parts::part(&sum, written, call) {
             Ok((corners, end)) => {
@@ -56,61 +58,83 @@ pub fn parts(given: &Given) -> Answer {
 }
 
 pub fn part(given: &Given) -> Answer {
-    let [a, b] = given.shapes()?;
+    let ([a, b], floor) = given.shapes()?;
     let (corners, State { i, j, over }) = parts::from(&a, &b, given.walk(), given.calls()[0])?;
     let (count, numbers) = (corners.len(), behind_spaces(&corners));
-    Ok(format!("{count} {i} {j} {} |{numbers}", usize::from(over)))
+    let over = usize::from(over);
+    Ok(format!("{count} {i} {j} {over} @{floor} |{numbers}"))
 }
 
 pub fn merge(given: &Given) -> Answer {
-    let [a, b] = given.shapes()?;
-    written(given, combine::merge(&a, &b)?)
+    let ([a, b], floor) = given.shapes()?;
+    written(given, combine::merge(&a, &b)?, floor)
 }
 
 pub fn sweep(given: &Given) -> Answer {
-    let points = sweep::judged(given.list())?;
-    written(given, sweep::shape(points))
+    let (list, floor) = given.list();
+    written(given, sweep::shape(sweep::judged(list)?), floor)
 }
 
 pub fn length(given: &Given) -> Answer {
-    let [a] = given.shapes()?;
+    let ([a], floor) = given.shapes()?;
     let (squared, i, j) = measure::length(&a);
-    Ok(format!("{squared} {i} {j}"))
+    Ok(format!("{squared} {i} {j} @{floor}"))
 }
 
 pub fn width(given: &Given) -> Answer {
-    let [a] = given.shapes()?;
+    let ([a], floor) = given.shapes()?;
     let found = measure::width(&a)?;
     Ok(format!(
-        "{} {} {} {} {}",
+        "{} {} {} {} {} @{floor}",
         found.edge, found.corner, found.t, found.q, found.w
     ))
 }
 
 pub fn relation(given: &Given) -> Answer {
-    let [a, b] = given.shapes()?;
+    let ([a, b], floor) = given.shapes()?;
     let word = match separation::relation(&a, &b) {
         Relation::Apart => "apart",
         Relation::Touching => "touching",
         Relation::Overlapping => "overlapping",
     };
-    Ok(word.to_string())
+    Ok(format!("{word} @{floor}"))
 }
 
 pub fn inside(given: &Given) -> Answer {
-    let [a, b] = given.shapes()?;
+    let ([a, b], floor) = given.shapes()?;
     let word = if separation::inside(&a, &b) {
         "yes"
     } else {
         "no"
     };
-    Ok(word.to_string())
+    Ok(format!("{word} @{floor}"))
+}
+
+pub fn offer(given: &Given) -> Answer {
+    let ([a, b], floor) = given.shapes()?;
+    let offered = given.direction();
+    direction::judge(offered)?;
+    let word = if direction::below(&a, &b, offered) {
+        "yes"
+    } else {
+        "no"
+    };
+    Ok(format!("{word} @{floor}"))
+}
+
+/// Any direction that is accepted would do; `compare` takes whatever other one is.
+pub fn find(given: &Given) -> Answer {
+    let ([a, b], floor) = given.shapes()?;
+    Ok(match direction::found(&a, &b) {
+        Some(d) => format!("{} {} @{floor}", d.x, d.y),
+        None => format!("none @{floor}"),
+    })
 }
 
 pub fn clearance(given: &Given) -> Answer {
-    let [a, b] = given.shapes()?;
+    let ([a, b], floor) = given.shapes()?;
     let Some((found, w)) = clearance::clearance(&a, &b) else {
-        return Ok("0".to_string());
+        return Ok(format!("0 @{floor}"));
     };
     let against =
         |found: Against| format!("{} {} {} {}", found.corner, found.edge, found.t, found.q);
@@ -119,13 +143,14 @@ pub fn clearance(given: &Given) -> Answer {
         Between::CornerEdge(found) => format!("ce {}", against(found)),
         Between::EdgeCorner(found) => format!("ec {}", against(found)),
     };
-    Ok(format!("{words} {w}"))
+    Ok(format!("{words} {w} @{floor}"))
 }
 
 pub fn tangents(given: &Given) -> Answer {
-    let [a, b] = given.shapes()?;
+    let ([a, b], floor) = given.shapes()?;
     let lines = tangents::tangents(&a, &b)?;
-    Ok(lines.map(|(i, j)| format!("{i} {j}")).join(" "))
+    let lines = lines.map(|(i, j)| format!("{i} {j}")).join(" ");
+    Ok(format!("{lines} @{floor}"))
 }
 
 pub fn tablet(given: &Given) -> Answer {
@@ -136,12 +161,14 @@ pub fn tablet(given: &Given) -> Answer {
 }
 
 pub fn log_read(given: &Given) -> Answer {
-    written(given, log::read(given.log(), given.name())?)
+    let (shape, floor) = log::read(given.log(), given.name())?;
+    written(given, shape, floor)
 }
 
 pub fn log_add(given: &Given) -> Answer {
     let mut log = given.log().to_vec();
-    let finished = log::add(&mut log, given.name(), given.list(), given.stores())?;
+    let (list, floor) = given.list();
+    let finished = log::add(&mut log, given.name(), floor, list, given.stores())?;
     let word = if finished { "finished" } else { "cut" };
     Ok(format!("{word} | {}", log_text(&log)))
 }
@@ -158,7 +185,8 @@ fn behind_spaces(corners: &[Point]) -> String {
 }
 
 /// The shape as it stands in the lent output, if that has the room.
-fn written(given: &Given, shape: Shape) -> Answer {
+fn written(given: &Given, shape: Shape, floor: u16) -> Answer {
     let shape = held_by(given.room(), shape)?;
-    Ok(format!("{} |{}", shape.len(), behind_spaces(&shape)))
+    let (count, numbers) = (shape.len(), behind_spaces(&shape));
+    Ok(format!("{count} @{floor} |{numbers}"))
 }

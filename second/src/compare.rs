@@ -1,6 +1,7 @@
 //! Holds the answers of another program against this one's.
 
-use crate::answer::answer;
+use crate::answer::{answer, offered};
+use crate::plane::point;
 use crate::text::lines;
 use std::io::{self, Write};
 
@@ -50,12 +51,30 @@ pub fn compare(questions: &[u8], answers: &[u8]) -> Comparison {
         let question = format!("line {number}: {}", shown(Some(line)));
         comparison.compared += 1;
         let expected = answer(line) + "\n";
-        comparison.add(&question, Some(expected.as_bytes()), got.next());
+        let got = got.next();
+        if !got.is_some_and(|got| is_accepted(line, got)) {
+            comparison.add(&question, Some(expected.as_bytes()), got);
+        }
     }
     for surplus in got {
         comparison.add("behind the last question", None, Some(surplus));
     }
     comparison
+}
+
+/// Which direction is found is left open (document 02, W13): any is right that is accepted if it is
+/// offered, with the same floor.
+fn is_accepted(line: &[u8], got: &[u8]) -> bool {
+    let parsed = || {
+        let (direction, floor) = str::from_utf8(got)
+            .ok()?
+            .strip_prefix("ok ")?
+            .split_once(" @")?;
+        let (u, v) = direction.split_once(' ')?;
+        let answer = offered(line, point(u.parse().ok()?, v.parse().ok()?))?;
+        Some(answer + "\n" == format!("yes @{floor}"))
+    };
+    parsed().unwrap_or(false)
 }
 
 fn shown(line: Option<&[u8]>) -> String {
@@ -88,7 +107,7 @@ mod tests {
 
     #[test]
     fn equal_answers_do_not_differ() {
-        let (different, text) = told(b"ok 1\nok apart\n");
+        let (different, text) = told(b"ok 1 @0\nok apart @0\n");
         assert_eq!(
             (different, &text[..]),
             (0, "second: 2 answers compared, 0 differ\n")
@@ -97,7 +116,7 @@ mod tests {
 
     #[test]
     fn a_difference_is_told_with_its_question() {
-        let (different, text) = told(b"ok 1\nok touching\n");
+        let (different, text) = told(b"ok 1 @0\nok touching @0\n");
         assert_eq!(different, 1);
         let lines: Vec<&str> = text.lines().collect();
         assert!(
@@ -111,10 +130,37 @@ mod tests {
     }
 
     #[test]
+    fn any_direction_is_right_that_is_accepted() {
+        let wrong =
+            |answer: &str| compare(b"find | @9 0 0 | @9 3 1\n", answer.as_bytes()).different;
+        for right in [
+            "ok 1 0 @9\n",
+            "ok 0 1 @9\n",
+            "ok 1 -2 @9\n",
+            "ok 2000000 -1999999 @9\n",
+        ] {
+            assert_eq!(wrong(right), 0, "{right}");
+        }
+        for other in [
+            "ok 2 0 @9\n",
+            "ok 1 -3 @9\n",
+            "ok 1 0 @0\n",
+            "ok 0 0 @9\n",
+            "ok none @9\n",
+            "ok 1 0 @9",
+            "ok 1 @9\n",
+        ] {
+            assert_eq!(wrong(other), 1, "{other}");
+        }
+        assert_eq!(compare(b"find | 0 0 | 0 0\n", b"ok 1 0 @0\n").different, 1);
+        assert_eq!(compare(b"find | 0 0 | 0 0\n", b"ok none @0\n").different, 0);
+    }
+
+    #[test]
     fn missing_and_surplus_answers_differ() {
-        assert_eq!(told(b"ok 1\n").0, 1);
-        assert_eq!(told(b"ok 1\nok apart").0, 1);
-        assert_eq!(told(b"ok 1\nok apart\nok 7\n").0, 1);
+        assert_eq!(told(b"ok 1 @0\n").0, 1);
+        assert_eq!(told(b"ok 1 @0\nok apart @0").0, 1);
+        assert_eq!(told(b"ok 1 @0\nok apart @0\nok 7 @0\n").0, 1);
         assert_eq!(told(b"").0, 2);
     }
 }

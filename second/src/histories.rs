@@ -1,14 +1,14 @@
 //! Histories of logs: additions cut after every store, from every log that cuts leave. Each answer
-//! is held against document 02's sentences (W5) from outside: nothing here knows in which order an
-//! addition makes its stores.
+//! is held against document 02's sentences (W5, and W11 on floors) from outside: nothing here knows
+//! in which order an addition makes its stores.
 //!
 //! One walk serves twice. It makes the questions, answered by this program; and over another
 //! program's answers to them it checks that program, which has to have left the same logs.
 
 use crate::ask::log_text;
-use crate::log::{end, record};
+use crate::log::{end, old_record, record};
 use crate::make::dice::Dice;
-use crate::make::{line, list_text, logs, long, numbers};
+use crate::make::{floors, line, list_text, logs, long, numbers};
 use crate::plane::{Shape, point};
 use crate::text::fields::bytes;
 use std::collections::{BTreeMap, HashMap};
@@ -26,9 +26,10 @@ struct State {
     readings: BTreeMap<u16, String>,
 }
 
-/// What is added: a name and the corners' numbers.
+/// What is added: a name, a floor and the corners' numbers.
 struct Addition {
     name: u16,
+    floor: u16,
     list: Vec<i32>,
 }
 
@@ -76,10 +77,10 @@ pub fn walk<'a>(seed: u64, rounds: usize, ask: &'a mut Ask<'a>) -> Result<(), St
 }
 
 impl Walk<'_> {
-    /// A new log of this length, filled by additions at every allowance until one is refused.
+    /// A log of this length, filled by additions at every allowance until one is refused.
     fn short(&mut self, dice: &mut Dice, length: usize) -> Result<(), String> {
         let names = names(dice);
-        let mut state = new(length, &names);
+        let mut state = begin(dice, length, &names);
         loop {
             let added = addition(dice, &names, logs::small_shape);
             let left = self.left_by(&state, &added)?;
@@ -93,17 +94,17 @@ impl Walk<'_> {
         }
     }
 
-    /// A new log with one shape; two additions to it, the second from every log that the first
+    /// A log with one shape added; two additions to it, the second from every log that the first
     /// leaves; and from some that this one leaves a third.
     fn deep(&mut self, dice: &mut Dice) -> Result<(), String> {
         let names = names(dice);
-        let start = self.begun(dice, (45, SHORT), &names)?;
+        let start = self.begun(dice, (50, SHORT), &names)?;
         let added = [(); 3].map(|()| addition(dice, &names, logs::small_shape));
         let mut second = Vec::new();
         for state in self.left_by(&start, &added[0])?.states {
             second.extend(self.left_by(&state, &added[1])?.states);
         }
-        for _ in 0..6 {
+        for _ in 0..8 {
             self.left_by(&second[dice.below(second.len())], &added[2])?;
         }
         Ok(())
@@ -133,14 +134,15 @@ impl Walk<'_> {
         self.left_by(&State { log, readings }, &added).map(drop)
     }
 
-    /// A new log with a point added.
+    /// A log of a length between two, with a point added.
     fn begun(
         &mut self,
         dice: &mut Dice,
         (least, most): (usize, usize),
         names: &[u16],
     ) -> Result<State, String> {
-        let start = new(least + dice.below(most - least + 1), names);
+        let length = least + dice.below(most - least + 1);
+        let start = begin(dice, length, names);
         let added = addition(dice, names, |_| vec![point(0x5A, -1)]);
         let left = self.left_by(&start, &added)?;
         Ok(left.finished().cloned().unwrap_or(start))
@@ -226,7 +228,8 @@ impl Walk<'_> {
     fn add(&mut self, before: &State, added: &Addition, stores: usize) -> Result<Reply, String> {
         let list: Vec<i64> = added.list.iter().map(|&number| i64::from(number)).collect();
         let (log, name) = (log_text(&before.log), added.name.to_string());
-        let fields = [log, name, list_text(&list), stores.to_string()];
+        let shape = floors::before(added.floor, &list_text(&list));
+        let fields = [log, name, shape, stores.to_string()];
         let question = line("bookadd", &fields);
         reply((self.ask)(&question)?).ok_or(format!("{question}: no answer of an addition"))
     }
@@ -247,7 +250,7 @@ impl Walk<'_> {
 /// it 0, and its shape read back.
 fn finished(before: &State, added: &Addition, log: &[u8]) -> Result<State, String> {
     let from = end(&before.log);
-    let record = record(added.name, &added.list);
+    let record = record(added.name, added.floor, &added.list);
     let to = from + record.len();
     holds(
         log.len() == before.log.len() && to <= log.len(),
@@ -265,14 +268,18 @@ fn finished(before: &State, added: &Addition, log: &[u8]) -> Result<State, Strin
         log[to..].iter().all(|&byte| byte == 0),
         "all behind the record is 0",
     )?;
-    let list: Vec<String> = added.list.iter().map(i32::to_string).collect();
-    let answer = format!("ok {} | {}", list.len() / 2, list.join(" "));
     let mut readings = before.readings.clone();
-    readings.insert(added.name, answer);
+    readings.insert(added.name, read_back(added.floor, &added.list));
     Ok(State {
         log: log.to_vec(),
         readings,
     })
+}
+
+/// What reading a name answers whose shape and floor these are.
+fn read_back(floor: u16, list: &[i32]) -> String {
+    let numbers: Vec<String> = list.iter().map(i32::to_string).collect();
+    format!("ok {} @{floor} | {}", list.len() / 2, numbers.join(" "))
 }
 
 fn reply(answer: String) -> Option<Reply> {
@@ -306,6 +313,18 @@ fn new(length: usize, names: &[u16]) -> State {
     }
 }
 
+/// A new log, or one that holds a record from before there were floors, of a name that may be added.
+fn begin(dice: &mut Dice, length: usize, names: &[u16]) -> State {
+    let mut state = new(length, names);
+    let old = addition(dice, names, logs::small_shape);
+    let record = old_record(old.name, &old.list);
+    if dice.one_in(2) && record.len() <= length {
+        state.log[..record.len()].copy_from_slice(&record);
+        state.readings.insert(old.name, read_back(0, &old.list));
+    }
+    state
+}
+
 /// Three names, of which the last is never added.
 fn names(dice: &mut Dice) -> Vec<u16> {
     dice.draw(&logs::NAMES, 3)
@@ -315,6 +334,7 @@ fn addition(dice: &mut Dice, names: &[u16], made: impl Fn(&mut Dice) -> Shape) -
     let list = numbers(&made(dice));
     Addition {
         name: names[dice.below(2)],
+        floor: floors::any(dice),
         list: list.into_iter().map(|number| number as i32).collect(),
     }
 }
@@ -329,7 +349,7 @@ fn false_record(dice: &mut Dice) -> Vec<u8> {
     if let Some(last) = torn.get_mut(257 + low) {
         *last = 0;
     }
-    [record(logs::name(dice), &[0x5A, -1]), torn].concat()
+    [old_record(logs::name(dice), &[0x5A, -1]), torn].concat()
 }
 
 #[cfg(test)]

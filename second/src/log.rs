@@ -1,4 +1,4 @@
-//! The log of shapes (document 02, W5: the floor book): records in a lent run of bytes.
+//! The log of shapes (document 02, W5: the floor book, and W11): records in a lent run of bytes.
 //!
 //! 02 leaves open in which order an addition makes its stores; here it is as the library has it
 //! (docs/DECISIONS.md), so that logs of cut additions can be compared byte by byte.
@@ -13,16 +13,31 @@ const LAST: u8 = 0x5A;
 /// A byte and the place that it goes to.
 pub type Store = (usize, u8);
 
-/// The latest shape of the name; 15 and then 19 refuse it.
-pub fn read(log: &[u8], name: u16) -> Result<Shape, Refusal> {
-    let (held, _) = entries(log)?;
-    let latest = held.into_iter().rev().find(|(own, _)| *own == name);
-    latest.map(|(_, shape)| shape).ok_or(Refusal::plain(19))
+/// What a record holds.
+struct Entry {
+    name: u16,
+    floor: u16,
+    shape: Shape,
 }
 
-/// Adds a shape with at most so many stores; whether that finished.
-pub fn add(log: &mut [u8], name: u16, list: &[i32], most: usize) -> Result<bool, Refusal> {
-    add_by(stores, log, name, list, most)
+/// The latest shape of the name and its floor; 15 and then 19 refuse it.
+pub fn read(log: &[u8], name: u16) -> Result<(Shape, u16), Refusal> {
+    let (held, _) = entries(log)?;
+    let latest = held.into_iter().rev().find(|entry| entry.name == name);
+    latest
+        .map(|entry| (entry.shape, entry.floor))
+        .ok_or(Refusal::plain(19))
+}
+
+/// Adds a shape on a floor with at most so many stores; whether that finished.
+pub fn add(
+    log: &mut [u8],
+    name: u16,
+    floor: u16,
+    list: &[i32],
+    most: usize,
+) -> Result<bool, Refusal> {
+    add_by(stores, log, name, floor, list, most)
 }
 
 /// The same by any rule that says which stores bring a record behind the end.
@@ -30,12 +45,13 @@ pub fn add_by(
     stores: fn(&[u8], usize, &[u8]) -> Vec<Store>,
     log: &mut [u8],
     name: u16,
+    floor: u16,
     list: &[i32],
     most: usize,
 ) -> Result<bool, Refusal> {
     judge(list, 1)?;
     let (_, end) = entries(log)?;
-    let record = record(name, list);
+    let record = record(name, floor, list);
     if log.len() - end < record.len() {
         return Err(Refusal::plain(16));
     }
@@ -46,15 +62,26 @@ pub fn add_by(
     Ok(stores.len() <= most)
 }
 
-/// Length of what follows, kind 1, name, corners, the last byte.
-pub fn record(name: u16, list: &[i32]) -> Vec<u8> {
-    let corners: Vec<u8> = list
+/// A record as it is written (W11): kind 2, name, floor, corners.
+pub fn record(name: u16, floor: u16, list: &[i32]) -> Vec<u8> {
+    framed(&[2, name, floor], list)
+}
+
+/// A record from before there were floors: kind 1, name, corners.
+pub fn old_record(name: u16, list: &[i32]) -> Vec<u8> {
+    framed(&[1, name], list)
+}
+
+/// Length of what follows, some numbers of two bytes, corners, the last byte.
+fn framed(front: &[u16], list: &[i32]) -> Vec<u8> {
+    let corners = list.iter().flat_map(|number| number.to_le_bytes());
+    let mut counted: Vec<u8> = front
         .iter()
         .flat_map(|number| number.to_le_bytes())
         .collect();
-    let length = 2 + 2 + corners.len() as u16 + 1;
-    let [kind, name] = [1, name].map(u16::to_le_bytes);
-    [&length.to_le_bytes()[..], &kind, &name, &corners, &[LAST]].concat()
+    counted.extend(corners);
+    counted.push(LAST);
+    [&(counted.len() as u16).to_le_bytes()[..], &counted].concat()
 }
 
 /// Where the last whole record ends.
@@ -74,9 +101,9 @@ fn stores(log: &[u8], end: usize, record: &[u8]) -> Vec<Store> {
     clears.chain((end..).zip(record.iter().copied())).collect()
 }
 
-/// The names and shapes of all whole records, and where the last ends; or 15 with the place of the
-/// first that is bad.
-fn entries(log: &[u8]) -> Result<(Vec<(u16, Shape)>, usize), Refusal> {
+/// What all whole records hold, and where the last ends; or 15 with the place of the first that is
+/// bad.
+fn entries(log: &[u8]) -> Result<(Vec<Entry>, usize), Refusal> {
     let mut held = Vec::new();
     let mut place = 0;
     while let Some(counted) = whole(&log[place..]) {
@@ -94,11 +121,18 @@ fn whole(rest: &[u8]) -> Option<&[u8]> {
     counted.ends_with(&[LAST]).then_some(counted)
 }
 
-/// The name and the shape, unless the kind is another, the length wrong or the corners no shape.
-fn entry(counted: &[u8]) -> Option<(u16, Shape)> {
-    let (&[k, kk, n, nn], behind) = counted.split_first_chunk()?;
+/// What a record holds, unless its kind is neither 1 nor 2, its length wrong for the kind or its
+/// corners no shape. A record of kind 1 is on floor 0.
+fn entry(counted: &[u8]) -> Option<Entry> {
+    let (kind, behind) = two_bytes(counted)?;
+    let (name, behind) = two_bytes(behind)?;
+    let (floor, behind) = match kind {
+        1 => (0, behind),
+        2 => two_bytes(behind)?,
+        _ => return None,
+    };
     let corners = behind.strip_suffix(&[LAST])?;
-    if [k, kk] != [1, 0] || !corners.len().is_multiple_of(8) {
+    if !corners.len().is_multiple_of(8) {
         return None;
     }
     let (numbers, _) = corners.as_chunks();
@@ -107,7 +141,13 @@ fn entry(counted: &[u8]) -> Option<(u16, Shape)> {
         .map(|four| i32::from_le_bytes(*four))
         .collect();
     let shape = judge(&list, 1).ok()?;
-    Some((u16::from_le_bytes([n, nn]), shape))
+    Some(Entry { name, floor, shape })
+}
+
+/// The number that the first two bytes hold, the low one first, and what stands behind them.
+fn two_bytes(bytes: &[u8]) -> Option<(u16, &[u8])> {
+    let (number, behind) = bytes.split_first_chunk()?;
+    Some((u16::from_le_bytes(*number), behind))
 }
 
 #[cfg(test)]

@@ -21,6 +21,7 @@ mod cases;
 mod clearance;
 mod combine;
 mod compare;
+mod direction;
 mod histories;
 mod hull;
 mod judge;

@@ -1,20 +1,13 @@
 //! Furthest corner, length and width of one shape (document 01): every corner, pair and edge tried.
-//! A direction has one name (document 02, W12).
 
-use crate::plane::{Point, divisor, edge_ends, squared_distance, turn, value};
-use crate::refusal::{MOST_DIRECTION, Refusal};
+use crate::direction;
+use crate::plane::{Point, edge_ends, squared_distance, turn, value};
+use crate::refusal::Refusal;
 
 /// The first and the last of the corners with the greatest value, counterclockwise, and that value.
 /// Where all have it there is no turn: a point is 0 and 0, a segment 0 and 1.
 pub fn furthest(shape: &[Point], direction: Point) -> Result<(usize, usize, i128), Refusal> {
-    let within = |part: i64| (-MOST_DIRECTION..=MOST_DIRECTION).contains(&part);
-    let nowhere = direction.x == 0 && direction.y == 0;
-    if nowhere || !within(direction.x) || !within(direction.y) {
-        return Err(Refusal::plain(11));
-    }
-    if divisor(direction.x, direction.y) > 1 {
-        return Err(Refusal::plain(12));
-    }
+    direction::judge(direction)?;
     let n = shape.len();
     let (_, greatest) = first_greatest(shape.iter().map(|&c| value(direction, c)));
     let tied = |i: usize| value(direction, shape[i % n]) == greatest;

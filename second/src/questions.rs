@@ -32,6 +32,8 @@ pub const TABLE: &[Row] = &[
     Row { word: "width", fields: &[Shape], ask: ask::width, make: make::one_shape },
     Row { word: "relation", fields: &[Shape, Shape], ask: ask::relation, make: make::two_shapes },
     Row { word: "inside", fields: &[Shape, Shape], ask: ask::inside, make: make::two_shapes },
+    Row { word: "offer", fields: &[Shape, Shape, Direction], ask: ask::offer, make: make::offer },
+    Row { word: "find", fields: &[Shape, Shape], ask: ask::find, make: make::find },
     Row { word: "clearance", fields: &[Shape, Shape], ask: ask::clearance, make: make::clearance },
     Row { word: "tangents", fields: &[Shape, Shape], ask: ask::tangents, make: make::tangents },
     Row { word: "tablet", fields: &[Reading, Reading], ask: ask::tablet, make: readings::corner },

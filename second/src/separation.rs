@@ -20,8 +20,7 @@ pub enum Relation {
 }
 
 pub fn relation(a: &[Point], b: &[Point]) -> Relation {
-    let directions = [normals(a), normals(b), axes()].concat();
-    let widest = directions.iter().map(|&d| gap(a, b, d)).max();
+    let widest = candidates(a, b).iter().map(|&d| gap(a, b, d)).max();
     match widest {
         Some(gap) if gap > 0 => Relation::Apart,
         Some(0) => Relation::Touching,
@@ -49,6 +48,11 @@ fn holds(shape: &[Point], c: Point) -> bool {
             turn(a, b, c) >= 0
         }),
     }
+}
+
+/// The directions that settle it.
+pub fn candidates(a: &[Point], b: &[Point]) -> Vec<Point> {
+    [normals(a), normals(b), axes()].concat()
 }
 
 /// The normals of all edges, to both sides.

@@ -69,19 +69,19 @@ impl Buffer {
 
 /// Writes the corners at the front of the output, or refuses 6, 7 or 8.
 #[inline(always)]
-pub fn deliver(answer: &Buffer, out: &mut [i32]) -> Numbers {
+pub fn deliver(answer: &Buffer, floor: u16, out: &mut [i32]) -> Numbers {
     if answer.len() > MOST {
         return Numbers::refused(6);
     }
     if some_outside(answer.corners().as_flattened()) {
         return Numbers::refused(7);
     }
-    deliver_near(answer, out)
+    deliver_near(answer, floor, out)
 }
 
 /// The same for corners that cannot be out of range.
 #[inline(always)]
-pub fn deliver_near(answer: &Buffer, out: &mut [i32]) -> Numbers {
+pub fn deliver_near(answer: &Buffer, floor: u16, out: &mut [i32]) -> Numbers {
     if answer.len() > MOST {
         return Numbers::refused(6);
     }
@@ -90,5 +90,5 @@ pub fn deliver_near(answer: &Buffer, out: &mut [i32]) -> Numbers {
         Some(front) => front.copy_from_slice(numbers),
         None => return Numbers::refused(8),
     }
-    Numbers::one(answer.len() as u64)
+    Numbers::one(answer.len() as u64, floor)
 }

@@ -5,16 +5,17 @@ use crate::reply::Signed;
 
 /// The first and the last of the furthest corners, counterclockwise, and their value.
 #[inline(never)]
-pub fn furthest(list: &[i32], u: i32, v: i32) -> Signed {
+pub fn furthest(list: &[i32], floor: u16, u: i32, v: i32) -> Signed {
     match admitted(list, 1) {
         Ok(_) if bad_direction(u, v) => Signed::refused(11),
         Ok(_) if divisor(u.unsigned_abs(), v.unsigned_abs()) > 1 => Signed::refused(12),
-        Ok(shape) => face(shape.corners, [u, v]),
+        Ok(shape) => face(shape.corners, [u, v], floor),
         Err(refusal) => Signed {
             refusal: refusal.refusal,
             shape: refusal.shape,
             values: [refusal.values[0], refusal.values[1]],
             value: 0,
+            floor: 0,
         },
     }
 }
@@ -42,7 +43,7 @@ fn divisor(a: u32, b: u32) -> u32 {
 /// The corners with the greatest value are one or two neighbours. A segment across the direction is
 /// 0 and 1.
 #[inline(always)]
-fn face(corners: &[Corner], d: Corner) -> Signed {
+fn face(corners: &[Corner], d: Corner, floor: u16) -> Signed {
     let value = |c: Corner| d[0] as i64 * c[0] as i64 + d[1] as i64 * c[1] as i64;
     let (mut here, mut greatest) = (0, value(corners[0]));
     for (i, &corner) in corners.iter().enumerate().skip(1) {
@@ -64,5 +65,6 @@ fn face(corners: &[Corner], d: Corner) -> Signed {
         shape: 0,
         values: [first as u64, last as u64],
         value: greatest,
+        floor,
     }
 }

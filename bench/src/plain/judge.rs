@@ -15,9 +15,9 @@ pub struct Shape<'a> {
 
 /// Whether the list is a shape, and how many corners it has.
 #[inline(never)]
-pub fn judge(list: &[i32]) -> Numbers {
+pub fn judge(list: &[i32], floor: u16) -> Numbers {
     match admitted(list, 1) {
-        Ok(shape) => Numbers::one(shape.corners.len() as u64),
+        Ok(shape) => Numbers::one(shape.corners.len() as u64, floor),
         Err(refusal) => refusal,
     }
 }
@@ -41,10 +41,20 @@ pub fn admitted(list: &[i32], which: u64) -> Result<Shape<'_>, Numbers> {
     }
 }
 
-/// Both lists as shapes, or the first refusal.
+/// Both lists as shapes on one floor, or the first refusal.
 #[inline(always)]
-pub fn admitted_pair<'a>(a: &'a [i32], b: &'a [i32]) -> Result<(Shape<'a>, Shape<'a>), Numbers> {
-    Ok((admitted(a, 1)?, admitted(b, 2)?))
+pub fn admitted_pair<'a>(
+    a: &'a [i32],
+    f: u16,
+    b: &'a [i32],
+    g: u16,
+) -> Result<(Shape<'a>, Shape<'a>), Numbers> {
+    let pair = (admitted(a, 1)?, admitted(b, 2)?);
+    if f == g {
+        Ok(pair)
+    } else {
+        Err(Numbers::refused(13))
+    }
 }
 
 /// Whether a number is out of range: a fold without an exit, which compiles to vectors.

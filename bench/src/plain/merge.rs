@@ -6,15 +6,15 @@ use crate::reply::Numbers;
 
 /// The shape of both corner lists together.
 #[inline(never)]
-pub fn merge(a: &[i32], b: &[i32], out: &mut [i32]) -> Numbers {
-    match admitted_pair(a, b) {
+pub fn merge(a: &[i32], f: u16, b: &[i32], g: u16, out: &mut [i32]) -> Numbers {
+    match admitted_pair(a, f, b, g) {
         Ok((a, b)) => {
             let mut hull = Hull::empty();
             hull.scan::<true>(Chain::right(a), Chain::right(b));
             hull.turn();
             hull.scan::<false>(Chain::left(a), Chain::left(b));
             hull.close();
-            deliver_near(&hull.answer, out)
+            deliver_near(&hull.answer, f, out)
         }
         Err(refusal) => refusal,
     }

@@ -1,5 +1,5 @@
-//! The questions of documents 01 and 02, written plainly and for speed: the judged floor that the proved
-//! ones are measured against. Each judges its lists first.
+//! The questions of documents 01 and 02, written plainly and for speed: what the proved ones are
+//! measured against. Each judges its lists first, and compares the floors of two.
 mod blame;
 mod calipers;
 mod corner;

@@ -10,9 +10,9 @@ const OVERLAPPING: u64 = 2;
 
 /// 0 if the shapes are apart, 1 if they touch, 2 if they overlap.
 #[inline(never)]
-pub fn relation(a: &[i32], b: &[i32]) -> Numbers {
-    match admitted_pair(a, b) {
-        Ok((a, b)) => Numbers::one(stand(a, b)),
+pub fn relation(a: &[i32], f: u16, b: &[i32], g: u16) -> Numbers {
+    match admitted_pair(a, f, b, g) {
+        Ok((a, b)) => Numbers::one(stand(a, b), f),
         Err(refusal) => refusal,
     }
 }

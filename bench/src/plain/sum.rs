@@ -7,12 +7,12 @@ use crate::reply::Numbers;
 
 /// The shape of all corner-plus-corner points.
 #[inline(never)]
-pub fn sum(a: &[i32], b: &[i32], out: &mut [i32]) -> Numbers {
-    match admitted_pair(a, b) {
+pub fn sum(a: &[i32], f: u16, b: &[i32], g: u16, out: &mut [i32]) -> Numbers {
+    match admitted_pair(a, f, b, g) {
         Ok((a, b)) => {
             let mut answer = Buffer::empty();
             walk(a, b, &mut answer);
-            deliver(&answer, out)
+            deliver(&answer, f, out)
         }
         Err(refusal) => refusal,
     }

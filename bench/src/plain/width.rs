@@ -9,17 +9,17 @@ const ABOVE: u64 = 1 << 42;
 
 /// The edge across which the shape is narrowest, its corner, turn, squared length, and the width.
 #[inline(never)]
-pub fn width(list: &[i32]) -> Numbers {
+pub fn width(list: &[i32], floor: u16) -> Numbers {
     match admitted(list, 1) {
         Ok(shape) if shape.corners.len() < 3 => Numbers::refused(10),
-        Ok(shape) => narrowest(shape.corners),
+        Ok(shape) => narrowest(shape.corners, floor),
         Err(refusal) => refusal,
     }
 }
 
 /// The first edge of the least turn·turn / squared length.
 #[inline(always)]
-fn narrowest(corners: &[Corner]) -> Numbers {
+fn narrowest(corners: &[Corner], floor: u16) -> Numbers {
     let mut best = Across {
         edge: 0,
         corner: 0,
@@ -42,6 +42,7 @@ fn narrowest(corners: &[Corner]) -> Numbers {
         best.turn,
         best.squared,
         best.rounded(),
+        floor as u64,
     ])
 }
 

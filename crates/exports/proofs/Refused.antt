@@ -8,7 +8,7 @@ use Rattle.questions.specs.declared.answer.Refusal.{Refusal}
 use Rattle.questions.specs.declared.answer.Refusal.the-variants as Refusal
 use Rattle.exports.specs.Crossing.{padded, crossed}
 
-pub refusal-crosses : (k : ℕ) (x : Refusal) → crossed (suc (suc k)) (ofRefusal x) ≡ take 4 (crossed 5 (ofRefusal x)) ++ padded k []
+pub refusal-crosses : (k : ℕ) (x : Refusal) → crossed (suc (suc k)) (ofRefusal x) ≡ take 4 (crossed 6 (ofRefusal x)) ++ padded k []
 refusal-crosses k (Refusal.Count s) = refl
 refusal-crosses k (Refusal.Corners s) = refl
 refusal-crosses k (Refusal.Range s) = refl
@@ -21,6 +21,7 @@ refusal-crosses k Refusal.NotApart = refl
 refusal-crosses k Refusal.Flat = refl
 refusal-crosses k Refusal.Direction = refl
 refusal-crosses k Refusal.NotPrimitive = refl
+refusal-crosses k Refusal.Floors = refl
 refusal-crosses k Refusal.NotAPlace = refl
 refusal-crosses k (Refusal.Damaged p) = refl
 refusal-crosses k Refusal.Full = refl

@@ -18,19 +18,20 @@ pub fn read(out: &mut [u8], filled: usize, line: &[u8], name: u16, room: usize) 
     latest(out, filled, words::between(&log, 0, end), name, room)
 }
 
-// Adds a shape to the log of a line, with at most so many stores.
+// Adds a shape on a floor to the log of a line, with at most so many stores.
 pub fn add(
     out: &mut [u8],
     filled: usize,
     line: &[u8],
     name: u16,
+    floor: u16,
     list: &[i32],
     stores: usize,
 ) -> usize {
     let mut buffer = [0u8; BYTES];
     let log: &mut [u8] = &mut buffer;
     let end = fields::bytes(line, log);
-    lengthen(out, filled, &mut log[0..end], name, list, stores)
+    lengthen(out, filled, &mut log[0..end], name, floor, list, stores)
 }
 
 // The latest shape of a name, in an output of as many numbers as the room says.
@@ -39,7 +40,7 @@ fn latest(out: &mut [u8], filled: usize, log: &[u8], name: u16, room: usize) -> 
     let lent: &mut [i32] = &mut answer;
     let end = fields::lent(room, lent);
     match questions::log_read(log, name, &mut lent[0..end]) {
-        Answer::Corners(corners) => answers::ok_pairs(out, filled, corners, lent),
+        Answer::Corners { count, floor } => answers::ok_pairs(out, filled, count, floor, lent),
         Answer::No(refusal) => replies::refuse(out, filled, refusal),
     }
 }
@@ -50,10 +51,11 @@ fn lengthen(
     filled: usize,
     log: &mut [u8],
     name: u16,
+    floor: u16,
     list: &[i32],
     stores: usize,
 ) -> usize {
-    match questions::log_add(log, name, list, stores) {
+    match questions::log_add(log, name, floor, list, stores) {
         Addition::Finished => left(out, filled, b"ok finished | ", log),
         Addition::Cut => left(out, filled, b"ok cut | ", log),
         Addition::No(refusal) => replies::refuse(out, filled, refusal),

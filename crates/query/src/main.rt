@@ -8,6 +8,7 @@ mod parts;
 mod pictures;
 mod readings;
 mod replies;
+mod separating;
 mod table;
 
 use table::Question;

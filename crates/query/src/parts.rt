@@ -15,38 +15,50 @@ struct Told {
 }
 
 // The beginning's refusal, or what each call from there on answers; the next is given the walk last handed back.
-pub fn parts(out: &mut [u8], filled: usize, a: &[i32], b: &[i32], calls: &[i32]) -> usize {
-    match walk::begin(a, b) {
-        Begun::At(walk) => {
-            let now = answers::word(out, filled, b"ok");
-            all(out, Told { filled: now, walk }, a, b, calls)
+pub fn parts(
+    out: &mut [u8],
+    filled: usize,
+    a: &[i32],
+    f: u16,
+    b: &[i32],
+    g: u16,
+    calls: &[i32],
+) -> usize {
+    match walk::begin(a, f, b, g) {
+        Begun::At { walk, floor } => {
+            let now = replies::told(out, filled, b"ok", floor);
+            all(out, Told { filled: now, walk }, a, b, floor, calls)
         }
         Begun::No(refusal) => replies::refuse(out, filled, refusal),
     }
 }
 
-// All calls, of each how many corners it may write and the room.
-fn all(out: &mut [u8], begun: Told, a: &[i32], b: &[i32], calls: &[i32]) -> usize {
+// All calls, of each how many corners it may write and the room. Both shapes are on one floor.
+fn all(out: &mut [u8], begun: Told, a: &[i32], b: &[i32], floor: u16, calls: &[i32]) -> usize {
     let mut told = begun;
     let mut i = 0;
     while i < calls.len() / 2 {
         let k = fields::counted(calls, 2 * i);
         let room = fields::counted(calls, 2 * i + 1);
-        told = next(out, told, a, b, k, room);
+        told = next(out, told, a, b, floor, k, room);
         i += 1;
     }
     told.filled
 }
 
 // One call more: its count and its numbers behind a bar, or its refusal.
-fn next(out: &mut [u8], told: Told, a: &[i32], b: &[i32], k: usize, room: usize) -> Told {
+fn next(out: &mut [u8], told: Told, a: &[i32], b: &[i32], on: u16, k: usize, room: usize) -> Told {
     let mut answer = [0i32; SHAPE_NUMBERS];
     let lent: &mut [i32] = &mut answer;
     let end = fields::lent(room, lent);
     let walk = told.walk;
     let now = answers::word(out, told.filled, b" | ");
-    match walk.part(a, b, k, &mut lent[0..end]) {
-        Part::Corners { count, walk } => {
+    match walk.part(a, on, b, on, k, &mut lent[0..end]) {
+        Part::Corners {
+            count,
+            walk,
+            floor: _,
+        } => {
             let then = answers::unsigned(out, now, count as u64);
             let filled = answers::numbers(out, then, answers::front(lent, count));
             Told { filled, walk }
@@ -58,12 +70,14 @@ fn next(out: &mut [u8], told: Told, a: &[i32], b: &[i32], k: usize, room: usize)
     }
 }
 
-// One call from the state of a walk: its count, the walk handed back, and its numbers.
+// One call from the state of a walk: its count, the walk handed back, the floor, and its numbers.
 pub fn part(
     out: &mut [u8],
     filled: usize,
     a: &[i32],
+    f: u16,
     b: &[i32],
+    g: u16,
     state: &[i32],
     call: &[i32],
 ) -> usize {
@@ -71,10 +85,12 @@ pub fn part(
     let lent: &mut [i32] = &mut answer;
     let end = fields::lent(fields::counted(call, 1), lent);
     let k = fields::counted(call, 0);
-    match walk_in(state).part(a, b, k, &mut lent[0..end]) {
-        Part::Corners { count, walk } => {
+    match walk_in(state).part(a, f, b, g, k, &mut lent[0..end]) {
+        Part::Corners { count, walk, floor } => {
             let now = answers::labelled(out, filled, b"ok ", count as u64);
-            let then = place(out, now, walk);
+            let behind = place(out, now, walk);
+            let last = answers::floor(out, behind, floor);
+            let then = answers::word(out, last, b" |");
             answers::numbers(out, then, answers::front(lent, count))
         }
         Part::No(refusal) => replies::refuse(out, filled, refusal),
@@ -90,13 +106,13 @@ fn walk_in(state: &[i32]) -> Walk {
     }
 }
 
-// Adds the state of a walk and a bar.
+// Adds the state of a walk.
 fn place(out: &mut [u8], filled: usize, walk: Walk) -> usize {
     let now = answers::labelled(out, filled, b" ", walk.first as u64);
     let then = answers::labelled(out, now, b" ", walk.second as u64);
     if walk.over {
-        answers::word(out, then, b" 1 |")
+        answers::word(out, then, b" 1")
     } else {
-        answers::word(out, then, b" 0 |")
+        answers::word(out, then, b" 0")
     }
 }

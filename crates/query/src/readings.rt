@@ -17,8 +17,8 @@ const ONES: u64 = 2047;
 
 // A corner of the readings of a line's two fields: the bits of the doubles that go back.
 pub fn tablet(out: &mut [u8], filled: usize, line: &[u8]) -> usize {
-    let x = reading(fields::reading(line, false));
-    let y = reading(fields::reading(line, true));
+    let x = reading(fields::reading(line, 0));
+    let y = reading(fields::reading(line, 1));
     match questions::tablet(x, y) {
         Tablet::Corner { sent, x: _, y: _ } => {
             let now = answers::word(out, filled, b"ok");

@@ -1,4 +1,4 @@
-// Refusals, without their newlines; the other replies are in `text`.
+// Replies, without their newlines; what they are made of is in `text`.
 use questions::answer::Line;
 use questions::answer::Refusal;
 use text::answers;
@@ -82,6 +82,7 @@ fn number(refusal: Refusal) -> u64 {
         Refusal::Flat => 10,
         Refusal::Direction => 11,
         Refusal::NotPrimitive => 12,
+        Refusal::Floors => 13,
         Refusal::NotAPlace => 14,
         Refusal::Damaged { place: _ } => 15,
         Refusal::Full => 16,
@@ -108,8 +109,15 @@ fn blamed(refusal: Refusal) -> u64 {
     }
 }
 
-// Where two shapes are nearest: the word of its kind, and numbers.
-pub fn found(out: &mut [u8], filled: usize, kind: &[u8], values: &[u64]) -> usize {
-    let now = answers::word(out, filled, kind);
-    answers::counts(out, now, values)
+// Words, numbers and a floor.
+pub fn found(out: &mut [u8], filled: usize, words: &[u8], values: &[u64], floor: u16) -> usize {
+    let now = answers::word(out, filled, words);
+    let then = answers::counts(out, now, values);
+    answers::floor(out, then, floor)
+}
+
+// Words and a floor.
+pub fn told(out: &mut [u8], filled: usize, words: &[u8], floor: u16) -> usize {
+    let now = answers::word(out, filled, words);
+    answers::floor(out, now, floor)
 }

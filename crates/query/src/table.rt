@@ -7,6 +7,8 @@ use text::fields::Kinds;
 pub enum Question {
     Measure(Measure),
     Write(Written),
+    Offer,
+    Find,
     Draw,
     Tablet,
     Parts,
@@ -49,6 +51,7 @@ pub fn look_up(word: &[u8]) -> Entry {
     };
     entry = on_one(entry, word);
     entry = on_two(entry, word);
+    entry = directions(entry, word);
     entry = shapes(entry, word);
     entry = pictures(entry, word);
     entry = in_parts(entry, word);
@@ -75,6 +78,14 @@ fn on_two(found: Entry, word: &[u8]) -> Entry {
     entry = measured(entry, word, b"inside", Measure::Inside, pair);
     entry = measured(entry, word, b"clearance", Measure::Clearance, pair);
     measured(entry, word, b"tangents", Measure::Tangents, pair)
+}
+
+// The directions in which one shape is below another.
+fn directions(found: Entry, word: &[u8]) -> Entry {
+    let offered = fields::three(Kind::Shape, Kind::Shape, Kind::Direction);
+    let pair = fields::two(Kind::Shape, Kind::Shape);
+    let entry = row(found, word, b"offer", Question::Offer, offered);
+    row(entry, word, b"find", Question::Find, pair)
 }
 
 // The shapes that are written.

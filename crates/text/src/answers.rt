@@ -114,10 +114,16 @@ pub fn ok_yes(out: &mut [u8], filled: usize, yes: bool) -> usize {
     }
 }
 
-// Adds `ok`, how many pairs of numbers there are, and the pairs, which stand at the front of a list.
-pub fn ok_pairs(out: &mut [u8], filled: usize, count: usize, list: &[i32]) -> usize {
+// Adds a floor, as a field says it.
+pub fn floor(out: &mut [u8], filled: usize, floor: u16) -> usize {
+    labelled(out, filled, b" @", floor as u64)
+}
+
+// Adds `ok`, how many pairs of numbers there are, a floor, and the pairs, which stand at the front of a list.
+pub fn ok_pairs(out: &mut [u8], filled: usize, count: usize, on: u16, list: &[i32]) -> usize {
     let now = labelled(out, filled, b"ok ", count as u64);
-    let then = word(out, now, b" |");
+    let behind = floor(out, now, on);
+    let then = word(out, behind, b" |");
     numbers(out, then, front(list, count))
 }
 

@@ -5,6 +5,8 @@ ghost use lib.ListN.{length};
 use crate::bytes;
 use crate::bytes::Pairs;
 use crate::calls;
+use crate::floors;
+use crate::floors::Floor;
 use crate::numbers;
 use crate::numbers::Taken;
 use crate::readings;
@@ -25,14 +27,14 @@ const GREATEST_NAME: u64 = 65535;
 pub enum Kind {
     // There is no such field.
     Nothing,
-    // Any numbers.
+    // Any numbers, with a floor before them or none.
     Shape,
     // Two numbers.
     Direction,
     // One number, not below 0: how many numbers an output holds, or how many stores may be made. The last field; may be
     // left out.
     Room,
-    // Any numbers. May be left out.
+    // A shape that may be left out.
     Further,
     // A reading of the tablet, which holds no numbers: its text is asked for.
     Reading,
@@ -70,8 +72,9 @@ enum Check {
 }
 
 // Reads the fields of a line. The reasons against it come in this order: a word that is not known;
-// too few fields or too many; the first word that is no number, number that finds no room, or field
-// that is no reading or no bytes; the first field whose numbers are not what its kind says.
+// too few fields or too many; the first word that is no number, number that finds no room, floor
+// that is none, or field that is no reading or no bytes; the first field whose numbers are not what
+// its kind says.
 pub fn read(line: &[u8], kinds: Kinds, values: &mut [i32], marks: &mut [usize]) -> Fields {
     if kinds.digits == UNKNOWN {
         return Fields::No(Reason::UnknownWord);
@@ -102,23 +105,25 @@ pub fn field<'a>(values: &'a [i32], marks: &[usize], k: usize) -> &'a [i32] {
     &values[..0]
 }
 
-// The reading that the first or the second field of a line holds.
-pub fn reading(line: &[u8], second: bool) -> Reading {
-    let first = words::next_bar(line, 0);
-    let end = words::next_bar(line, after(first));
-    if second {
-        return readings::read(words::between(line, after(end), words::next_bar(line, after(end))));
+// The reading that field k of a line holds.
+pub fn reading(line: &[u8], k: usize) -> Reading {
+    readings::read(text_of(line, k))
+}
+
+// The floor of the shape that field k of a line holds; 0 where none is said. (A line whose field has a wrong one is not
+// asked.)
+pub fn floor(line: &[u8], k: usize) -> u16 {
+    match floors::read(text_of(line, k)) {
+        Floor::On(floor) => floor,
+        Floor::Wrong => 0,
     }
-    readings::read(words::between(line, after(first), end))
 }
 
 // Reads the bytes of a line's first field to the front of a buffer, and answers how many they are.
 pub fn bytes(line: &[u8], buffer: &mut [u8]) -> usize
     ensures { λ r. ⌜ r ≤ length (now (buffer .entry)) ⌝ }
 {
-    let bar = words::next_bar(line, 0);
-    let text = words::between(line, after(bar), words::next_bar(line, after(bar)));
-    match bytes::read(text, buffer) {
+    match bytes::read(text_of(line, 0), buffer) {
         Pairs::Bytes(count) => {
             if count <= buffer.len() {
                 count
@@ -278,10 +283,20 @@ fn take_all(
 fn take(kind: Kind, text: &[u8], values: &mut [i32], held: usize) -> Taken {
     match kind {
         Kind::Nothing => Taken::Held(held),
+        Kind::Shape => take_shape(text, values, held),
+        Kind::Further => take_shape(text, values, held),
         Kind::Reading => take_reading(text, held),
         Kind::Bytes => take_bytes(text, held),
         Kind::Calls => take_calls(text, values, held),
         _ => numbers::read(text, values, held, false),
+    }
+}
+
+// Reads the numbers of a shape, which stand behind its floor.
+fn take_shape(text: &[u8], values: &mut [i32], held: usize) -> Taken {
+    match floors::read(text) {
+        Floor::On(_) => numbers::read(floors::behind(text), values, held, false),
+        Floor::Wrong => Taken::No(Reason::NotAFloor),
     }
 }
 
@@ -419,6 +434,23 @@ fn set_mark(marks: &mut [usize], k: usize, held: usize) {
     if k < marks.len() {
         marks[k] = held;
     }
+}
+
+// The text of field k of a line; empty where the line has no such field.
+fn text_of(line: &[u8], k: usize) -> &[u8] {
+    let from = after(bar_before(line, k));
+    words::between(line, from, words::next_bar(line, from))
+}
+
+// The position of the bar before field k of a line, or of its end.
+fn bar_before(line: &[u8], k: usize) -> usize {
+    let mut bar = words::next_bar(line, 0);
+    let mut i = 0;
+    while i < k {
+        bar = words::next_bar(line, after(bar));
+        i += 1;
+    }
+    bar
 }
 
 // The next position.

@@ -9,6 +9,7 @@ pub mod answers;
 pub mod bytes;
 mod calls;
 pub mod fields;
+mod floors;
 pub mod lines;
 pub mod numbers;
 pub mod readings;

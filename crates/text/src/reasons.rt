@@ -15,6 +15,7 @@ pub enum Reason {
     NotAName,
     NotAWalk,
     NotACall,
+    NotAFloor,
 }
 
 // Adds a line that says why a line is no question.
@@ -34,5 +35,6 @@ pub fn unreadable(out: &mut [u8], filled: usize, reason: Reason) -> usize {
         Reason::NotAName => answers::word(out, now, b"not a name\n"),
         Reason::NotAWalk => answers::word(out, now, b"not a walk\n"),
         Reason::NotACall => answers::word(out, now, b"not a call\n"),
+        Reason::NotAFloor => answers::word(out, now, b"not a floor\n"),
     }
 }

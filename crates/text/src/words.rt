@@ -13,6 +13,16 @@ pub fn word_of(line: &[u8]) -> &[u8] {
     between(line, word_start(line), word_end(line))
 }
 
+// The first word of a text: what stands between spaces.
+pub fn first_word(text: &[u8]) -> &[u8] {
+    between(text, word_start(text), first_end(text))
+}
+
+// The position behind the first word of a text.
+pub fn first_end(text: &[u8]) -> usize {
+    next_space(text, word_start(text))
+}
+
 // How many bars a line has, and so how many fields.
 pub fn count_bars(line: &[u8]) -> usize {
     let mut count = 0;
@@ -49,6 +59,15 @@ pub fn between(line: &[u8], from: usize, to: usize) -> &[u8] {
 fn word_start(line: &[u8]) -> usize {
     let mut i = 0;
     while i < line.len() && is_space(line[i]) {
+        i += 1;
+    }
+    i
+}
+
+// The position of the first space from a position on, or of the end of the text.
+fn next_space(text: &[u8], from: usize) -> usize {
+    let mut i = from;
+    while i < text.len() && !is_space(text[i]) {
         i += 1;
     }
     i

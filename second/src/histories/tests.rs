@@ -14,13 +14,13 @@ fn fault(stores: Stores) -> Option<String> {
             return Ok(answer(question.as_bytes()));
         };
         let mut log = bytes(log.as_bytes()).expect("a log");
-        let list: Vec<i32> = list
-            .split(' ')
-            .map(|n| n.parse().expect("a number"))
-            .collect();
+        let mut words = list.split(' ').peekable();
+        let floor = words.next_if(|word| word.starts_with('@'));
+        let floor = floor.map_or(0, |word| word[1..].parse().expect("a floor"));
+        let list: Vec<i32> = words.map(|n| n.parse().expect("a number")).collect();
         let name = name.parse().expect("a name");
         let most = most.parse().expect("a count");
-        let answer = match add_by(stores, &mut log, name, &list, most) {
+        let answer = match add_by(stores, &mut log, name, floor, &list, most) {
             Ok(true) => format!("ok finished | {}", log_text(&log)),
             Ok(false) => format!("ok cut | {}", log_text(&log)),
             Err(refusal) => refusal.to_string(),

@@ -1,37 +1,68 @@
 //! The fields of random questions, a function for each row of the table or for several alike.
 
 use super::dice::Dice;
-use super::{List, apart, damage, line, list_text, numbers, pairs, points, shapes, tails};
+use super::floors::texts;
+use super::{List, apart, damage, line, numbers, pairs, points, shape_text, shapes, tails};
 use crate::answer::answer;
-use crate::plane::Shape;
+use crate::direction;
+use crate::plane::{Point, Shape, point};
 
 /// Of the lists to judge one in two is damaged.
 pub fn judge(dice: &mut Dice) -> Vec<String> {
     let shape = shapes::any(dice);
-    texts(&damaged_at_times(dice, &[shape], 2))
+    let lists = damaged_at_times(dice, &[shape], 2);
+    texts(dice, &lists)
 }
 
 pub fn one_shape(dice: &mut Dice) -> Vec<String> {
-    texts(&one_list(dice))
+    let lists = one_list(dice);
+    texts(dice, &lists)
 }
 
 pub fn two_shapes(dice: &mut Dice) -> Vec<String> {
-    texts(&two_lists(dice, pairs::any))
+    let lists = two_lists(dice, pairs::any);
+    texts(dice, &lists)
 }
 
 pub fn clearance(dice: &mut Dice) -> Vec<String> {
-    texts(&two_lists(dice, apart::near))
+    let lists = two_lists(dice, apart::near);
+    texts(dice, &lists)
 }
 
 pub fn tangents(dice: &mut Dice) -> Vec<String> {
-    texts(&two_lists(dice, apart::mostly))
+    let lists = two_lists(dice, apart::mostly);
+    texts(dice, &lists)
+}
+
+/// One in three is offered the direction that is found, or its opposite.
+pub fn offer(dice: &mut Dice) -> Vec<String> {
+    let lists = two_lists(dice, apart::mostly);
+    let any = tails::direction(dice, &lists[0]);
+    let direction = match dice.below(3) {
+        0 => found(&lists).map_or(any, |d| d * dice.pick(&[1, 1, 1, -1])),
+        _ => any,
+    };
+    let mut fields = texts(dice, &lists);
+    fields.push(shape_text(&[direction]));
+    fields
+}
+
+fn found(lists: &[List]) -> Option<Point> {
+    let shapes: Vec<Shape> = lists.iter().map(|list| corners(list)).collect();
+    direction::found(&shapes[0], &shapes[1]).filter(|&d| tails::fits(d))
+}
+
+pub fn find(dice: &mut Dice) -> Vec<String> {
+    let lists = two_lists(dice, apart::mostly);
+    texts(dice, &lists)
 }
 
 pub fn furthest(dice: &mut Dice) -> Vec<String> {
-    let mut lists = one_list(dice);
+    let lists = one_list(dice);
     let direction = tails::direction(dice, &lists[0]);
-    lists.push(numbers(&[direction]));
-    texts(&lists)
+    let mut fields = texts(dice, &lists);
+    fields.push(shape_text(&[direction]));
+    fields
 }
 
 pub fn mirror(dice: &mut Dice) -> Vec<String> {
@@ -52,6 +83,11 @@ pub fn merge(dice: &mut Dice) -> Vec<String> {
 pub fn sweep(dice: &mut Dice) -> Vec<String> {
     let list = points::list(dice);
     with_room(dice, "sweep", vec![list])
+}
+
+/// The pairs of a list, whatever it is.
+fn corners(list: &[i64]) -> Shape {
+    list.chunks_exact(2).map(|c| point(c[0], c[1])).collect()
 }
 
 fn one_list(dice: &mut Dice) -> Vec<List> {
@@ -79,7 +115,7 @@ fn damaged_at_times(dice: &mut Dice, shapes: &[Shape], share: usize) -> Vec<List
 
 /// Adds a room for the answer of this question, or leaves it out.
 fn with_room(dice: &mut Dice, word: &str, lists: Vec<List>) -> Vec<String> {
-    let mut fields = texts(&lists);
+    let mut fields = texts(dice, &lists);
     let need = numbers_of(&answer(line(word, &fields).as_bytes()));
     fields.extend(tails::room(dice, need).map(|room| room.to_string()));
     fields
@@ -89,8 +125,4 @@ fn with_room(dice: &mut Dice, word: &str, lists: Vec<List>) -> Vec<String> {
 pub fn numbers_of(answer: &str) -> Option<i64> {
     let corners = answer.strip_prefix("ok ")?.split(' ').next()?;
     corners.parse::<i64>().ok().map(|count| 2 * count)
-}
-
-fn texts(lists: &[List]) -> Vec<String> {
-    lists.iter().map(|list| list_text(list)).collect()
 }

@@ -1,10 +1,10 @@
 //! Logs: whole records, bad ones, torn ends of every sort, and many last bytes where none belongs.
 
 use super::dice::Dice;
-use super::{List, damage, line, list_text, long, numbers, shapes, tails};
+use super::{List, damage, floors, line, long, numbers, shapes, tails};
 use crate::answer::answer;
 use crate::ask::log_text;
-use crate::log::record;
+use crate::log::{old_record, record};
 use crate::plane::{Shape, point};
 
 /// Few, so that they come back; some hold the last byte of a record.
@@ -27,7 +27,7 @@ pub fn to_add(dice: &mut Dice) -> Vec<String> {
         numbers(&shape(dice))
     };
     let mut log = any(dice);
-    let need = 7 + 4 * list.len();
+    let need = 9 + 4 * list.len();
     log.resize(
         log.len() + dice.pick(&[0, need - 1, need, need, need + 9]),
         0,
@@ -40,7 +40,8 @@ pub fn to_add(dice: &mut Dice) -> Vec<String> {
         _ => Some(dice.between(0, need as i64 + 1)),
     };
     let text = written(dice, &log);
-    let mut fields = vec![text, name_text(dice), list_text(&list)];
+    let mut fields = vec![text, name_text(dice)];
+    fields.extend(floors::texts(dice, &[list]));
     fields.extend(stores.map(|stores| stores.to_string()));
     fields
 }
@@ -107,7 +108,7 @@ fn good_record(dice: &mut Dice) -> Vec<u8> {
 fn bad_record(dice: &mut Dice) -> Vec<u8> {
     let mut bytes = good_record(dice);
     match dice.below(4) {
-        0 => bytes[2] = dice.pick(&[0, 2, 3, 0x5A]),
+        0 => bytes[2] = dice.pick(&[0, 1, 2, 3, 0x5A]),
         1 => bytes[3] = dice.pick(&[1, 0x5A]),
         2 => {
             let list = damage::damaged(dice);
@@ -139,9 +140,15 @@ fn torn_end(dice: &mut Dice) -> Vec<u8> {
     bytes
 }
 
+/// A record of either kind.
 fn record_of(dice: &mut Dice, list: &List) -> Vec<u8> {
     let numbers: Vec<i32> = list.iter().map(|&number| number as i32).collect();
-    record(name(dice), &numbers)
+    let name = name(dice);
+    if dice.one_in(3) {
+        old_record(name, &numbers)
+    } else {
+        record(name, floors::any(dice), &numbers)
+    }
 }
 
 fn byte(dice: &mut Dice) -> u8 {

@@ -3,7 +3,7 @@
 //!
 //!     fields                the fields of each question
 //!     shapes, pairs, long   good shapes, alone and in pairs; damage: lists that are refused
-//!     points                points of sweeps
+//!     points                points of sweeps; floors: those of all lists
 //!     apart                 pairs of good shapes that are mostly apart
 //!     parts                 walks and calls of sums in parts; all of them for small sums
 //!     tails                 directions and rooms; readings: bits of doubles; logs: their bytes
@@ -16,6 +16,7 @@ mod damage;
 pub mod dice;
 pub mod edges;
 pub mod fields;
+pub mod floors;
 mod layout;
 pub mod logs;
 pub mod long;

@@ -3,7 +3,7 @@
 
 use super::dice::Dice;
 use super::fields::two_lists;
-use super::{line, list_text, pairs, shape_text};
+use super::{floors, line, pairs, shape_text};
 use crate::parts::{Call, State, places};
 use crate::plane::{Point, Shape, point};
 use std::io::{self, Write};
@@ -35,7 +35,7 @@ fn shapes(dice: &mut Dice) -> (Vec<String>, Vec<State>) {
     let pair = pairs::for_sum(dice);
     let all = places(&pair.0, &pair.1);
     let lists = two_lists(dice, |_| pair.clone());
-    (lists.iter().map(|list| list_text(list)).collect(), all)
+    (floors::texts(dice, &lists), all)
 }
 
 /// Calls for so many corners, in a few large parts, in many small ones, or not to the end.

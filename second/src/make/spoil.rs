@@ -15,12 +15,13 @@ const WORDS: &[&str] = &[
 #[rustfmt::skip]
 const NO_NUMBERS: &[&str] = &[
     "2147483648", "-2147483649", "4294967296", "99999999999999999999", "+5", "-", "--5", "5-",
-    "1.5", "1e3", "0x10", "5,", "zero", "\u{A0}5", "5\u{C}", "\u{665}",
+    "1.5", "1e3", "0x10", "5,", "zero", "\u{A0}5", "5\u{C}", "\u{665}", "@", "@2", "@65536", "@-1",
+    "2@", "@+2",
 ];
 
 #[rustfmt::skip]
 const NUMBERS: &[&str] = &[
-    "-0", "007", "2147483647", "-2147483648", "-00000000000000000001",
+    "-0", "007", "2147483647", "-2147483648", "-00000000000000000001", "@-0", "@0000000000002",
 ];
 
 #[rustfmt::skip]
@@ -94,10 +95,11 @@ fn spoil_tail(dice: &mut Dice, fields: &mut [String]) {
 
 /// The line holds about as many numbers as it may.
 fn fill_with_numbers(dice: &mut Dice, fields: &mut Vec<String>) {
-    let held: usize = fields
+    let held = fields
         .iter()
-        .map(|field| field.split_whitespace().count())
-        .sum();
+        .flat_map(|field| field.split_whitespace())
+        .filter(|word| !word.starts_with('@'))
+        .count();
     let wanted = MOST_NUMBERS + dice.pick(&[0, 0, 1, 1, 2, 900]);
     let more = " 0".repeat(wanted.saturating_sub(held));
     any_field(dice, fields).push_str(&more);

@@ -33,7 +33,7 @@ fn shortened(dice: &mut Dice, direction: Point) -> Point {
 }
 
 /// Whether both parts are numbers of 32 bits.
-fn fits(direction: Point) -> bool {
+pub fn fits(direction: Point) -> bool {
     i32::try_from(direction.x).is_ok() && i32::try_from(direction.y).is_ok()
 }
 

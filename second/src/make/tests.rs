@@ -38,6 +38,7 @@ fn sort_of(line: &[u8], answer: &str) -> String {
     let parts: Vec<&str> = answer.split(' ').collect();
     match parts[..] {
         ["ok", bits, ..] if bits.starts_with("0x") => format!("{word} ok"),
+        ["ok", floor, ..] if floor.starts_with('@') => format!("{word} ok"),
         ["ok", found, ..] if found.parse::<i64>().is_err() => format!("{word} {found}"),
         ["ok", ..] => format!("{word} ok"),
         ["no", number, ..] => format!("no {number}"),
@@ -52,15 +53,16 @@ fn every_sort_of_answer_comes_up_often() {
     for (_, line) in lines::questions(&input) {
         *seen.entry(sort_of(line, &answer(line))).or_default() += 1;
     }
-    let often = "no 1,no 2,no 3,no 4,no 5,no 6,no 7,no 8,no 9,no 10,no 11,no 12,no 14,no 15,no 16,no 17,no 18,no 19,judge ok,furthest ok,\
+    let often = "no 1,no 2,no 3,no 4,no 5,no 6,no 7,no 8,no 9,no 10,no 11,no 12,no 13,no 14,no 15,no 16,no 17,no 18,no 19,judge ok,furthest ok,\
                  mirror ok,sum ok,parts ok,part ok,merge ok,sweep ok,length ok,width ok,relation apart,relation touching,\
-                 relation overlapping,inside yes,inside no,clearance ok,clearance cc,clearance ce,clearance ec,tangents ok,\
+                 relation overlapping,inside yes,inside no,offer yes,offer no,find ok,find none,clearance ok,clearance cc,clearance ce,clearance ec,tangents ok,\
                  tablet ok,bookread ok,bookadd finished,bookadd cut,\
                  unreadable: line too long,unreadable: unknown word,unreadable: missing field,\
                  unreadable: too many fields,unreadable: not a number of 32 bits,\
                  unreadable: too many numbers,unreadable: wrong count of numbers,\
                  unreadable: not a count,unreadable: not a reading,unreadable: not bytes,\
-                 unreadable: not a name,unreadable: not a walk,unreadable: not a call";
+                 unreadable: not a name,unreadable: not a walk,unreadable: not a call,\
+                 unreadable: not a floor";
     for sort in often.split(',') {
         let count = seen.get(sort).copied().unwrap_or(0);
         assert!(count >= 3, "{sort}: {count}");

@@ -13,6 +13,7 @@ pub const MOST_NUMBERS: usize = 16_384;
 
 #[derive(Clone, Copy, Debug, PartialEq, Eq)]
 pub enum Field {
+    /// Numbers, and before them a floor: an at sign and its number; 0 if it is left out.
     Shape,
     Direction,
     /// How many numbers the lent output holds; may be left out, with its bar.
@@ -32,8 +33,8 @@ pub enum Field {
 
 #[derive(Clone, Debug, PartialEq, Eq)]
 pub enum Value {
-    /// The list of a shape, not yet judged.
-    Shape(Vec<i32>),
+    /// The list of a shape, not yet judged, and its floor.
+    Shape(Vec<i32>, u16),
     Direction(Point),
     Room(usize),
     Reading(tablet::Reading),
@@ -51,7 +52,7 @@ impl Field {
 
     fn read(self, text: &[u8], numbers: &mut Numbers) -> Result<Value, Unreadable> {
         match self {
-            Field::Shape => numbers.read(text).map(Value::Shape),
+            Field::Shape => numbers.read_shape(text),
             Field::Direction => direction(&numbers.read(text)?),
             Field::Room => count(&numbers.read(text)?).map(Value::Room),
             Field::Reading => reading(text).ok_or(Unreadable::NotAReading),
@@ -187,6 +188,17 @@ impl Numbers {
         words(text).map(|word| self.read_one(word)).collect()
     }
 
+    /// The floor is no number of the line.
+    fn read_shape(&mut self, text: &[u8]) -> Result<Value, Unreadable> {
+        let mut words = words(text).peekable();
+        let floor = match words.next_if(|word| word.starts_with(b"@")) {
+            Some(word) => floor(word).ok_or(Unreadable::NotAFloor)?,
+            None => 0,
+        };
+        let list: Result<_, _> = words.map(|word| self.read_one(word)).collect();
+        Ok(Value::Shape(list?, floor))
+    }
+
     /// The form of all is looked at before the first is read.
     fn read_calls(&mut self, text: &[u8]) -> Result<Vec<Call>, Unreadable> {
         let pairs: Option<Vec<_>> = words(text).map(pair).collect();
@@ -203,6 +215,12 @@ impl Numbers {
         self.left = self.left.checked_sub(1).ok_or(Unreadable::TooManyNumbers)?;
         Ok(number)
     }
+}
+
+/// An at sign and a number of 16 bits.
+fn floor(word: &[u8]) -> Option<u16> {
+    let number = number(word.strip_prefix(b"@")?)?;
+    u16::try_from(number).ok()
 }
 
 /// Digits, with a minus before them or none: Rust itself would also take a plus.
@@ -243,6 +261,24 @@ mod tests {
             assert_eq!(number(word.as_bytes()), None, "{word}");
         }
         assert_eq!(number(b"5\xFF"), None);
+    }
+
+    #[test]
+    fn a_floor_is_the_first_word_of_a_shape() {
+        let shape = |text: &str| {
+            let given = read(&[Field::Shape], &[text.as_bytes()])?;
+            Ok(given.0.into_iter().next().expect("one field"))
+        };
+        let on = |list: &[i32], floor| Ok(Value::Shape(list.to_vec(), floor));
+        assert_eq!(shape(" @65535\t1 -1"), on(&[1, -1], 65_535));
+        assert_eq!(shape("@007"), on(&[], 7));
+        assert_eq!(shape("1 -1"), on(&[1, -1], 0));
+        for text in ["@ 1 -1", "@65536 1 -1", "@-1 x", "@1@1", "@+1", "@1.0"] {
+            assert_eq!(shape(text), Err(Unreadable::NotAFloor), "{text}");
+        }
+        for text in ["1 -1 @1", "@1 @1 1 -1", "1@1 1 -1", "-@1"] {
+            assert_eq!(shape(text), Err(Unreadable::NotANumber), "{text}");
+        }
     }
 
     #[test]

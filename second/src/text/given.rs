@@ -12,23 +12,29 @@ use crate::tablet::Reading;
 pub struct Given(pub Vec<Value>);
 
 impl Given {
-    /// All shapes, or the first refusal of the first list that is none.
-    pub fn shapes<const COUNT: usize>(&self) -> Result<[Shape; COUNT], Refusal> {
+    /// All shapes and the floor that they are on; or the first refusal of the first list that is
+    /// none; or 13 if they are on different floors.
+    pub fn shapes<const COUNT: usize>(&self) -> Result<([Shape; COUNT], u16), Refusal> {
         let judged = (1..)
             .zip(self.lists())
-            .map(|(number, list)| judge(list, number));
+            .map(|(number, (list, _))| judge(list, number));
         let shapes: Vec<Shape> = judged.collect::<Result<_, _>>()?;
-        Ok(shapes.try_into().expect("the row has so many shapes"))
+        let (_, floor) = self.list();
+        if self.lists().any(|(_, other)| other != floor) {
+            return Err(Refusal::plain(13));
+        }
+        let shapes = shapes.try_into().expect("the row has so many shapes");
+        Ok((shapes, floor))
     }
 
-    /// The list of the only shape, not judged.
-    pub fn list(&self) -> &[i32] {
+    /// The list of the first shape, not judged, and its floor.
+    pub fn list(&self) -> (&[i32], u16) {
         self.lists().next().expect("the row has a shape")
     }
 
-    fn lists(&self) -> impl Iterator<Item = &[i32]> {
+    fn lists(&self) -> impl Iterator<Item = (&[i32], u16)> {
         self.0.iter().filter_map(|value| match value {
-            Value::Shape(list) => Some(&list[..]),
+            Value::Shape(list, floor) => Some((&list[..], *floor)),
             _ => None,
         })
     }

@@ -17,6 +17,7 @@ pub enum Unreadable {
     NotAName,
     NotAWalk,
     NotACall,
+    NotAFloor,
 }
 
 impl Unreadable {
@@ -30,6 +31,7 @@ impl Unreadable {
                 | Unreadable::NotAReading
                 | Unreadable::NotBytes
                 | Unreadable::NotACall
+                | Unreadable::NotAFloor
         )
     }
 }
@@ -50,6 +52,7 @@ impl fmt::Display for Unreadable {
             Unreadable::NotAName => "not a name",
             Unreadable::NotAWalk => "not a walk",
             Unreadable::NotACall => "not a call",
+            Unreadable::NotAFloor => "not a floor",
         };
         write!(f, "unreadable: {reason}")
     }

@@ -13,7 +13,7 @@ of-begun-requires : tie.Need-of-begun-requires
 of-begun-requires c κs = search needs
 
 returns : tie.Need-returns
-returns c = c .of-begun .ensures ∙ ap (λ (x : Reply). crossed 5 x) (c .before .begin .ensures)
+returns c = c .of-begun .ensures ∙ ap (λ (x : Reply). crossed 6 x) (c .before .begin .ensures)
 
 pub cocklesway-begin-spec : {M : Type 1} → statement M
 cocklesway-begin-spec = tie.close (tie.spec begin-requires of-begun-requires returns)

@@ -13,7 +13,7 @@ of-clearance-requires : tie.Need-of-clearance-requires
 of-clearance-requires c κs = search needs
 
 returns : tie.Need-returns
-returns c = c .of-clearance .ensures ∙ ap (λ (x : Reply). crossed 6 x) (c .before .clearance .ensures)
+returns c = c .of-clearance .ensures ∙ ap (λ (x : Reply). crossed 7 x) (c .before .clearance .ensures)
 
 pub cocklesway-clearance-spec : {M : Type 1} → statement M
 cocklesway-clearance-spec = tie.close (tie.spec clearance-requires of-clearance-requires returns)

@@ -5,6 +5,7 @@ use lib.IntN.{ℤ, pos}
 use mir.Facts.{toZ-ofZ}
 use Rattle.plane.specs.Point.{Point, point}
 use Rattle.plane.specs.Reply.{Reply}
+use Rattle.plane.specs.Floor.{withFloor}
 use Rattle.plane.specs.Furthest.{furthestReply}
 use Rattle.questions.specs.Answer.{ofFurthest}
 use Rattle.exports.specs.Crossing.{crossed}
@@ -15,10 +16,11 @@ use Rattle.exports.proofs.cocklesway_furthest.Tie as tie
 
 -- the reply, in the direction itself and not in what is read back from its bits
 reply-is : (c : tie.After-furthest)
-    → ofFurthest (c .furthest .result) ≡ furthestReply (c .before .args .list .now) (point (c .before .args .u) (c .before .args .v))
+    → ofFurthest (c .furthest .result)
+    ≡ withFloor (c .before .args .floor) (furthestReply (c .before .args .list .now) (point (c .before .args .u) (c .before .args .v)))
 reply-is c =
     let direction = ap₂ point (toZ-ofZ (c .before .fits .u)) (toZ-ofZ (c .before .fits .v)) in
-    c .furthest .ensures ∙ ap (λ (d : Point). furthestReply (c .before .args .list .now) d) direction
+    c .furthest .ensures ∙ ap (λ (d : Point). withFloor (c .before .args .floor) (furthestReply (c .before .args .list .now) d)) direction
 
 furthest-requires : tie.Need-furthest-requires
 furthest-requires c κs = search needs
@@ -37,14 +39,15 @@ returns c =
     let at = c .before .first .given in
     let p = at .0 .0 in
     let q = at .0 .1 .0 in
+    let g = at .0 .1 .1 .1 .0 in
     let h = ap ofFurthest (sym (at .1)) ∙ reply-is (c .before .before .before) in
-    ap (λ (z : ℤ). pos 0 ∷ pos 0 ∷ pos p ∷ pos q ∷ z ∷ []) (furthest-kept _ _ p q _ h) ∙ ap (λ (x : Reply). crossed 3 x) h
+    ap (λ (z : ℤ). pos 0 ∷ pos 0 ∷ pos p ∷ pos q ∷ z ∷ pos g ∷ []) (furthest-kept _ _ _ g p q _ h) ∙ ap (λ (x : Reply). crossed 4 x) h
 
 returns-2 : tie.Need-returns-2
 returns-2 c =
     let at = c .before .before .refusal .given in
     c .signed-refusal .ensures
-    ∙ ap (λ (x : Reply). crossed 3 x) (ap ofFurthest (sym (at .1)) ∙ reply-is (c .before .before .before .before))
+    ∙ ap (λ (x : Reply). crossed 4 x) (ap ofFurthest (sym (at .1)) ∙ reply-is (c .before .before .before .before))
 
 pub cocklesway-furthest-spec : {M : Type 1} → statement M
 cocklesway-furthest-spec =

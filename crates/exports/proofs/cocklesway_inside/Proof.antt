@@ -13,7 +13,7 @@ of-inside-requires : tie.Need-of-inside-requires
 of-inside-requires c κs = search needs
 
 returns : tie.Need-returns
-returns c = c .of-inside .ensures ∙ ap (λ (x : Reply). crossed 5 x) (c .before .inside .ensures)
+returns c = c .of-inside .ensures ∙ ap (λ (x : Reply). crossed 6 x) (c .before .inside .ensures)
 
 pub cocklesway-inside-spec : {M : Type 1} → statement M
 cocklesway-inside-spec = tie.close (tie.spec inside-requires of-inside-requires returns)

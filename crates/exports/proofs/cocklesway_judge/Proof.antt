@@ -13,7 +13,7 @@ of-answer-requires : tie.Need-of-answer-requires
 of-answer-requires c κs = search needs
 
 returns : tie.Need-returns
-returns c = c .of-answer .ensures ∙ ap (λ (x : Reply). crossed 5 x) (c .before .judge .ensures)
+returns c = c .of-answer .ensures ∙ ap (λ (x : Reply). crossed 6 x) (c .before .judge .ensures)
 
 pub cocklesway-judge-spec : {M : Type 1} → statement M
 cocklesway-judge-spec = tie.close (tie.spec judge-requires of-answer-requires returns)

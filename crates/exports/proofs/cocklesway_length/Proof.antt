@@ -13,7 +13,7 @@ of-length-requires : tie.Need-of-length-requires
 of-length-requires c κs = search needs
 
 returns : tie.Need-returns
-returns c = c .of-length .ensures ∙ ap (λ (x : Reply). crossed 5 x) (c .before .length .ensures)
+returns c = c .of-length .ensures ∙ ap (λ (x : Reply). crossed 6 x) (c .before .length .ensures)
 
 pub cocklesway-length-spec : {M : Type 1} → statement M
 cocklesway-length-spec = tie.close (tie.spec length-requires of-length-requires returns)

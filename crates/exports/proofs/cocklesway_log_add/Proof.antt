@@ -18,7 +18,7 @@ same-length c = search needs
 returns : tie.Need-returns
 returns c =
     let asked = c .before .before .before .log-add .ensures in
-    (c .of-addition .ensures ∙ ap (λ (x : Reply). crossed 5 x) (asked .0), asked .1)
+    (c .of-addition .ensures ∙ ap (λ (x : Reply). crossed 6 x) (asked .0), asked .1)
 
 pub cocklesway-log-add-spec : {M : Type 1} → statement M
 cocklesway-log-add-spec = tie.close (tie.spec log-add-requires of-addition-requires same-length returns)

@@ -18,7 +18,7 @@ same-length c = search needs
 returns : tie.Need-returns
 returns c =
     let asked = c .before .before .log-read .ensures in
-    (c .of-answer .ensures ∙ ap (λ (x : Reply). crossed 5 x) (asked .0), asked .1)
+    (c .of-answer .ensures ∙ ap (λ (x : Reply). crossed 6 x) (asked .0), asked .1)
 
 pub cocklesway-log-read-spec : {M : Type 1} → statement M
 cocklesway-log-read-spec = tie.close (tie.spec log-read-requires of-answer-requires same-length returns)

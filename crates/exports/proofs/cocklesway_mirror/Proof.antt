@@ -18,7 +18,7 @@ same-length c = search needs
 returns : tie.Need-returns
 returns c =
     let asked = c .before .before .mirror .ensures in
-    (c .of-answer .ensures ∙ ap (λ (x : Reply). crossed 5 x) (asked .0), asked .1)
+    (c .of-answer .ensures ∙ ap (λ (x : Reply). crossed 6 x) (asked .0), asked .1)
 
 pub cocklesway-mirror-spec : {M : Type 1} → statement M
 cocklesway-mirror-spec = tie.close (tie.spec mirror-requires of-answer-requires same-length returns)

@@ -18,7 +18,7 @@ same-length c = search needs
 returns : tie.Need-returns
 returns c =
     let asked = c .before .before .part .ensures in
-    (c .of-part .ensures ∙ ap (λ (x : Reply). crossed 5 x) (asked .0), asked .1)
+    (c .of-part .ensures ∙ ap (λ (x : Reply). crossed 6 x) (asked .0), asked .1)
 
 pub cocklesway-part-spec : {M : Type 1} → statement M
 cocklesway-part-spec = tie.close (tie.spec part-requires of-part-requires same-length returns)

@@ -13,7 +13,7 @@ of-relation-requires : tie.Need-of-relation-requires
 of-relation-requires c κs = search needs
 
 returns : tie.Need-returns
-returns c = c .of-relation .ensures ∙ ap (λ (x : Reply). crossed 5 x) (c .before .relation .ensures)
+returns c = c .of-relation .ensures ∙ ap (λ (x : Reply). crossed 6 x) (c .before .relation .ensures)
 
 pub cocklesway-relation-spec : {M : Type 1} → statement M
 cocklesway-relation-spec = tie.close (tie.spec relation-requires of-relation-requires returns)

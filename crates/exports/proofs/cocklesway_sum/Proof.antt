@@ -18,7 +18,7 @@ same-length c = search needs
 returns : tie.Need-returns
 returns c =
     let asked = c .before .before .sum .ensures in
-    (c .of-answer .ensures ∙ ap (λ (x : Reply). crossed 5 x) (asked .0), asked .1)
+    (c .of-answer .ensures ∙ ap (λ (x : Reply). crossed 6 x) (asked .0), asked .1)
 
 pub cocklesway-sum-spec : {M : Type 1} → statement M
 cocklesway-sum-spec = tie.close (tie.spec sum-requires of-answer-requires same-length returns)

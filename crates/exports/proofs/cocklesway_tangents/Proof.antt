@@ -13,7 +13,7 @@ of-tangents-requires : tie.Need-of-tangents-requires
 of-tangents-requires c κs = search needs
 
 returns : tie.Need-returns
-returns c = c .of-tangents .ensures ∙ ap (λ (x : Reply). crossed 8 x) (c .before .tangents .ensures)
+returns c = c .of-tangents .ensures ∙ ap (λ (x : Reply). crossed 9 x) (c .before .tangents .ensures)
 
 pub cocklesway-tangents-spec : {M : Type 1} → statement M
 cocklesway-tangents-spec = tie.close (tie.spec tangents-requires of-tangents-requires returns)

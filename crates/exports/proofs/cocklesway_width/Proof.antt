@@ -13,7 +13,7 @@ of-width-requires : tie.Need-of-width-requires
 of-width-requires c κs = search needs
 
 returns : tie.Need-returns
-returns c = c .of-width .ensures ∙ ap (λ (x : Reply). crossed 5 x) (c .before .width .ensures)
+returns c = c .of-width .ensures ∙ ap (λ (x : Reply). crossed 6 x) (c .before .width .ensures)
 
 pub cocklesway-width-spec : {M : Type 1} → statement M
 cocklesway-width-spec = tie.close (tie.spec width-requires of-width-requires returns)

@@ -13,8 +13,8 @@ refused-requires c κs = search needs
 
 returns : tie.Need-returns
 returns c =
-    ap (λ (l : List ℤ). take 4 l ++ pos 0 ∷ pos 0 ∷ pos 0 ∷ pos 0 ∷ pos 0 ∷ pos 0 ∷ []) (c .refused .ensures)
-    ∙ sym (refusal-crosses 6 (c .before .args .refusal))
+    ap (λ (l : List ℤ). take 4 l ++ pos 0 ∷ pos 0 ∷ pos 0 ∷ pos 0 ∷ pos 0 ∷ pos 0 ∷ pos 0 ∷ []) (c .refused .ensures)
+    ∙ sym (refusal-crosses 7 (c .before .args .refusal))
 
 pub lines-refusal-spec : {M : Type 1} → statement M
 lines-refusal-spec = tie.close (tie.spec refused-requires returns)

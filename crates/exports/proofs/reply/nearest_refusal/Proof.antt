@@ -13,8 +13,8 @@ refused-requires c κs = search needs
 
 returns : tie.Need-returns
 returns c =
-    ap (λ (l : List ℤ). take 4 l ++ pos 0 ∷ pos 0 ∷ pos 0 ∷ pos 0 ∷ []) (c .refused .ensures)
-    ∙ sym (refusal-crosses 4 (c .before .args .refusal))
+    ap (λ (l : List ℤ). take 4 l ++ pos 0 ∷ pos 0 ∷ pos 0 ∷ pos 0 ∷ pos 0 ∷ []) (c .refused .ensures)
+    ∙ sym (refusal-crosses 5 (c .before .args .refusal))
 
 pub nearest-refusal-spec : {M : Type 1} → statement M
 nearest-refusal-spec = tie.close (tie.spec refused-requires returns)

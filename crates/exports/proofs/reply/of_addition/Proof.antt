@@ -26,13 +26,13 @@ refused-requires : tie.Need-refused-requires
 refused-requires c κs = search needs
 
 returns : tie.Need-returns
-returns c = c .pair .ensures ∙ ap (λ (x : Addition). crossed 5 (ofAddition x)) (sym (c .before .enum-told .given .1))
+returns c = c .pair .ensures ∙ ap (λ (x : Addition). crossed 6 (ofAddition x)) (sym (c .before .enum-told .given .1))
 
 returns-2 : tie.Need-returns-2
-returns-2 c = c .pair2 .ensures ∙ ap (λ (x : Addition). crossed 5 (ofAddition x)) (sym (c .before .enum-told2 .given .1))
+returns-2 c = c .pair2 .ensures ∙ ap (λ (x : Addition). crossed 6 (ofAddition x)) (sym (c .before .enum-told2 .given .1))
 
 returns-3 : tie.Need-returns-3
-returns-3 c = c .refused .ensures ∙ ap (λ (x : Addition). crossed 5 (ofAddition x)) (sym (c .before .before .answer .given .1))
+returns-3 c = c .refused .ensures ∙ ap (λ (x : Addition). crossed 6 (ofAddition x)) (sym (c .before .before .answer .given .1))
 
 pub of-addition-spec : {M : Type 1} → statement M
 of-addition-spec =

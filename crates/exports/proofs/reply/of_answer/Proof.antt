@@ -10,6 +10,9 @@ use Rattle.exports.proofs.reply.of_answer.Tie as tie
 enum-known-answer : tie.Need-enum-known-answer
 enum-known-answer c = search needs
 
+cast-pair : tie.Need-cast-pair
+cast-pair c = search needs
+
 pair-requires : tie.Need-pair-requires
 pair-requires c κs = search needs
 
@@ -20,10 +23,10 @@ refused-requires : tie.Need-refused-requires
 refused-requires c κs = search needs
 
 returns : tie.Need-returns
-returns c = c .pair .ensures ∙ ap (λ (x : Answer). crossed 5 (ofAnswer x)) (sym (c .before .before .answer .given .1))
+returns c = c .pair .ensures ∙ ap (λ (x : Answer). crossed 6 (ofAnswer x)) (sym (c .before .before .answer .given .1))
 
 returns-2 : tie.Need-returns-2
-returns-2 c = c .refused .ensures ∙ ap (λ (x : Answer). crossed 5 (ofAnswer x)) (sym (c .before .before .answer2 .given .1))
+returns-2 c = c .refused .ensures ∙ ap (λ (x : Answer). crossed 6 (ofAnswer x)) (sym (c .before .before .answer2 .given .1))
 
 pub of-answer-spec : {M : Type 1} → statement M
-of-answer-spec = tie.close (tie.spec enum-known-answer pair-requires enum-known-answer-2 refused-requires returns returns-2)
+of-answer-spec = tie.close (tie.spec enum-known-answer cast-pair pair-requires enum-known-answer-2 refused-requires returns returns-2)

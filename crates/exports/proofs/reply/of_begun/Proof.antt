@@ -13,6 +13,9 @@ enum-known-answer c = search needs
 flag-requires : tie.Need-flag-requires
 flag-requires c κs = search needs
 
+cast-t9 : tie.Need-cast-t9
+cast-t9 c = search needs
+
 enum-known-answer-2 : tie.Need-enum-known-answer-2
 enum-known-answer-2 c = search needs
 
@@ -20,11 +23,11 @@ refused-requires : tie.Need-refused-requires
 refused-requires c κs = search needs
 
 returns : tie.Need-returns
-returns c = rw (c .flag .ensures) (ap (λ (x : Begun). crossed 5 (ofBegun x)) (sym (c .before .before .answer .given .1)))
+returns c = rw (c .flag .ensures) (ap (λ (x : Begun). crossed 6 (ofBegun x)) (sym (c .before .before .answer .given .1)))
 
 returns-2 : tie.Need-returns-2
-returns-2 c = c .refused .ensures ∙ ap (λ (x : Begun). crossed 5 (ofBegun x)) (sym (c .before .before .answer2 .given .1))
+returns-2 c = c .refused .ensures ∙ ap (λ (x : Begun). crossed 6 (ofBegun x)) (sym (c .before .before .answer2 .given .1))
 
 pub of-begun-spec : {M : Type 1} → statement M
 of-begun-spec =
-    tie.close (tie.spec enum-known-answer flag-requires enum-known-answer-2 refused-requires returns returns-2)
+    tie.close (tie.spec enum-known-answer flag-requires cast-t9 enum-known-answer-2 refused-requires returns returns-2)

@@ -17,10 +17,10 @@ lines-refusal-requires : tie.Need-lines-refusal-requires
 lines-refusal-requires c κs = search needs
 
 returns : tie.Need-returns
-returns c = ap (λ (x : Tangents). crossed 8 (ofTangents x)) (sym (c .before .answer .given .1))
+returns c = ap (λ (x : Tangents). crossed 9 (ofTangents x)) (sym (c .before .answer .given .1))
 
 returns-2 : tie.Need-returns-2
-returns-2 c = c .lines-refusal .ensures ∙ ap (λ (x : Tangents). crossed 8 (ofTangents x)) (sym (c .before .before .answer2 .given .1))
+returns-2 c = c .lines-refusal .ensures ∙ ap (λ (x : Tangents). crossed 9 (ofTangents x)) (sym (c .before .before .answer2 .given .1))
 
 pub of-tangents-spec : {M : Type 1} → statement M
 of-tangents-spec = tie.close (tie.spec enum-known-answer enum-known-answer-2 lines-refusal-requires returns returns-2)

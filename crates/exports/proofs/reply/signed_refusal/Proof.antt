@@ -13,7 +13,7 @@ refused-requires c κs = search needs
 
 returns : tie.Need-returns
 returns c =
-    ap (λ (l : List ℤ). take 4 l ++ pos 0 ∷ []) (c .refused .ensures) ∙ sym (refusal-crosses 1 (c .before .args .refusal))
+    ap (λ (l : List ℤ). take 4 l ++ pos 0 ∷ pos 0 ∷ []) (c .refused .ensures) ∙ sym (refusal-crosses 2 (c .before .args .refusal))
 
 pub signed-refusal-spec : {M : Type 1} → statement M
 signed-refusal-spec = tie.close (tie.spec refused-requires returns)

@@ -8,10 +8,10 @@ use Rattle.query.proofs.parts.all.Statement.{statement}
 use Rattle.query.proofs.parts.all.Tie as tie
 
 abbrev Inv-loop : tie.InvT-loop
-Inv-loop out₀ a b calls told₀ i₀ out told i = (i ≤ length calls / 2) × (length out ≡ length out₀)
+Inv-loop out₀ a b floor calls told₀ i₀ out told i = (i ≤ length calls / 2) × (length out ≡ length out₀)
 
 abbrev μ-loop : tie.MeasureT-loop
-μ-loop out₀ a b calls told₀ i₀ out told i = length calls / 2 - i
+μ-loop out₀ a b floor calls told₀ i₀ out told i = length calls / 2 - i
 
 loop-holds : tie.Need-loop-holds Inv-loop μ-loop
 loop-holds c = search needs

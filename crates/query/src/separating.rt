@@ -1,0 +1,47 @@
+// Questions on directions in which one shape is below another: each asks the library and adds the reply, without its
+// newline.
+use crate::replies;
+use questions::answer::Found;
+use questions::answer::Offer;
+use questions::separating;
+use text::answers;
+use text::fields;
+
+// Whether a direction is accepted as the reason that two shapes are apart.
+pub fn offer(
+    out: &mut [u8],
+    filled: usize,
+    a: &[i32],
+    f: u16,
+    b: &[i32],
+    g: u16,
+    direction: &[i32],
+) -> usize {
+    match separating::offer(
+        a,
+        f,
+        b,
+        g,
+        fields::number(direction, 0),
+        fields::number(direction, 1),
+    ) {
+        Offer::Is { accepted, floor } => {
+            let now = answers::ok_yes(out, filled, accepted);
+            answers::floor(out, now, floor)
+        }
+        Offer::No(refusal) => replies::refuse(out, filled, refusal),
+    }
+}
+
+// A direction that is accepted, or `none`.
+pub fn find(out: &mut [u8], filled: usize, a: &[i32], f: u16, b: &[i32], g: u16) -> usize {
+    match separating::find(a, f, b, g) {
+        Found::Direction { u, v, floor } => {
+            let now = answers::word(out, filled, b"ok");
+            let then = answers::numbers(out, now, &[u, v]);
+            answers::floor(out, then, floor)
+        }
+        Found::Nothing { floor } => replies::told(out, filled, b"ok none", floor),
+        Found::No(refusal) => replies::refuse(out, filled, refusal),
+    }
+}
