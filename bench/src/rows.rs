@@ -32,6 +32,7 @@ const MERGE: [Run; 2] = [
     run!(proved::merge(a, b; out)),
     run!(plain::merge(a, b; out)),
 ];
+const GROW: [Run; 2] = [run!(proved::grow(a, b; out)), run!(plain::grow(a, b; out))];
 const SWEEP: [Run; 2] = [run!(proved::sweep(a; out)), run!(plain::sweep(a; out))];
 const LENGTH: [Run; 2] = [run!(proved::length(a)), run!(plain::length(a))];
 const WIDTH: [Run; 2] = [run!(proved::width(a)), run!(plain::width(a))];
@@ -39,12 +40,13 @@ const RELATION: [Run; 2] = [run!(proved::relation(a, b)), run!(plain::relation(a
 const INSIDE: [Run; 2] = [run!(proved::inside(a, b)), run!(plain::inside(a, b))];
 
 /// The questions that are asked in both ways.
-pub const ROWS: [(&str, [Run; 2], Make); 12] = [
+pub const ROWS: [(&str, [Run; 2], Make); 13] = [
     ("judge", JUDGE, single),
     ("furthest", FURTHEST, single),
     ("sum", SUM, summed),
     ("sum, refused 6 at 1,024", SUM, crossing),
     ("merge", MERGE, merged),
+    ("grow", GROW, summed),
     ("sweep", SWEEP, scattered),
     ("length", LENGTH, single),
     ("width", WIDTH, single),
@@ -55,9 +57,10 @@ pub const ROWS: [(&str, [Run; 2], Make); 12] = [
 ];
 
 /// Every proved question, on a shape and the same one moved away (`pairs::moved_away`). It takes the
-/// whole walk to find that a shape overlaps itself, or is inside itself. A log has as many records
-/// as the shape has corners.
-pub const GROWTH: [(&str, Run); 17] = [
+/// whole walk to find that a shape overlaps itself, or is inside itself. Growing by
+/// more than 512 corners is refused 6, behind the whole walk. A log has as many records as the shape
+/// has corners.
+pub const GROWTH: [(&str, Run); 18] = [
     ("judge", JUDGE[0]),
     ("furthest", FURTHEST[0]),
     ("mirror", run!(proved::mirror(a; out))),
@@ -74,6 +77,7 @@ pub const GROWTH: [(&str, Run); 17] = [
         })
     }),
     ("merge", MERGE[0]),
+    ("grow", GROW[0]),
     ("sweep", SWEEP[0]),
     ("length", LENGTH[0]),
     ("width", WIDTH[0]),

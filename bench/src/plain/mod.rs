@@ -6,6 +6,7 @@ mod corner;
 mod deliver;
 mod edges;
 mod furthest;
+mod grow;
 mod inside;
 mod judge;
 mod length;
@@ -16,6 +17,7 @@ mod sweep;
 mod width;
 
 pub use furthest::furthest;
+pub use grow::grow;
 pub use inside::inside;
 pub use judge::{MOST, judge};
 pub use length::length;

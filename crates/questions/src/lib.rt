@@ -165,18 +165,19 @@ pub fn merge(a: &[i32], f: u16, b: &[i32], g: u16, out: &mut [i32]) -> Answer
 
 // Writes the obstacle grown by the cart's outline at the front of the output, and answers how many corners it has: the
 // shape of all obstacle-corner minus cart-corner points. The outline's corners are relative to the cart's own origin; a
-// cart whose origin stands at a place meets the obstacle exactly if that place is a point of the grown one. Either may be
-// a point or a segment. Refused, with the output as it was: 1 to 5 of the obstacle, then of the cart; different floors;
-// then an answer of too many corners, one out of range, and too small an output. On success all behind the written
-// numbers is kept.
+// cart whose origin stands at a place meets the obstacle exactly if that place is a point of the grown one. Either may
+// be a point or a segment. Refused, with the output as it was: 1 to 5 of the obstacle, then of the cart; different
+// floors; then an answer of too many corners, one out of range, and too small an output. On success all behind the
+// written numbers is kept.
 // Ruled out: cart not mirrored; obstacle mirrored.
 pub fn grow(obstacle: &[i32], f: u16, cart: &[i32], g: u16, out: &mut [i32]) -> Answer
     ensures { λ r. ⌜
         (ofAnswer r
-        ≡ writtenBetween (on (now (obstacle .entry)) f) (on (now (cart .entry)) g) growWritten (now (out .entry)) .reply)
+        ≡ writtenBetween (on (now (obstacle .entry)) f) (on (now (cart .entry)) g)
+        growWritten (now (out .entry)) .reply)
         × (now (out .exit)
-        ≡ writtenBetween (on (now (obstacle .entry)) f) (on (now (cart .entry)) g) growWritten (now (out .entry)) .output)
-        ⌝ }
+        ≡ writtenBetween (on (now (obstacle .entry)) f) (on (now (cart .entry)) g)
+        growWritten (now (out .entry)) .output) ⌝ }
 {
     if let Admission::No(refusal) = admission::admit_pair(obstacle, f, cart, g) {
         return Answer::No(refusal);

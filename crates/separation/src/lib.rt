@@ -31,9 +31,9 @@ pub fn relation(a: &[i32], b: &[i32]) -> Place
     around::around(a, &image[..2 * corners::count(b)])
 }
 
-// Writes the shape of all differences, a corner of the first less a corner of the second, at the front of the buffer, and
-// says how many corners it has: at most as many as both shapes together. It is the sum of the first and the mirror image
-// of the second.
+// Writes the shape of all differences, a corner of the first less a corner of the second, at the front of the buffer,
+// and says how many corners it has: at most as many as both shapes together. It is the sum of the first and the mirror
+// image of the second.
 pub fn differences(a: &[i32], b: &[i32], buf: &mut [i32]) -> usize
     requires { ⌜ Valid (now a) × Valid (now b)
         × (length (points (now a)) + length (points (now b)) ≤ length (points (now buf))) ⌝ }
