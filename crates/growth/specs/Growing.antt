@@ -9,7 +9,7 @@ use mathlib.Core.Path.{_≡_}
 use mathlib.Core.Bool.{true, false, not}
 use mathlib.Core.List.{List, [], _∷_, _++_}
 use mathlib.Core.Logic.{_⊎_}
-use Prim.Native.Nat.{_<_}
+use Prim.Native.Nat.{ℕ, _<_}
 use lib.IntN.{ℤ, pos, _*ℤ_}
 use lib.ListN.{length}
 use Rattle.plane.specs.Point.{Point, points, numbers}
@@ -19,7 +19,7 @@ use Rattle.plane.specs.Refusal.{Valid}
 use Rattle.plane.specs.Corner.{shapeOf, sums}
 use Rattle.plane.specs.Separation.{inside, apart, touching, relationReply}
 use Rattle.plane.specs.Mean.{CommonPoint}
-use Rattle.plane.specs.Floor.{Floored}
+use Rattle.plane.specs.Floor.{Floored, on, between}
 use Rattle.plane.specs.Clearance.{top, bottom, nearest, clearanceReply}
 use Rattle.plane.specs.theory.lists.Members.{_∈_, _⊆_}
 use Rattle.laws.specs.Grouping.{corners, sumCall, mergeCall, Gives, Called}
@@ -82,10 +82,10 @@ module _ (A B : List Point) (a : 0 < length A) (b : 0 < length B) (t : Point) wh
   pub cart-is-apart-outside-grown : apart (placed A t) B ≡ not (inside (t ∷ []) (grown B A))
   cart-is-apart-outside-grown = place-inside A B a b t
 
-  -- relation of the lists replies the same, where all four are valid
-  pub relation-replies-as-at-place : Valid (numbers (placed A t)) → Valid (numbers B) → Valid (numbers (t ∷ []))
-      → Valid (numbers (grown B A))
-      → relationReply (numbers (placed A t)) (numbers B) ≡ relationReply (numbers (t ∷ [])) (numbers (grown B A))
+  -- relation replies the same on any floor, where all four lists are valid
+  pub relation-replies-as-at-place : (f : ℕ) → Valid (numbers (placed A t)) → Valid (numbers B) → Valid (numbers (t ∷ []))
+      → Valid (numbers (grown B A)) → between (on (numbers (placed A t)) f) (on (numbers B) f) relationReply
+      ≡ between (on (numbers (t ∷ [])) f) (on (numbers (grown B A)) f) relationReply
   relation-replies-as-at-place = relation-replies (placed A t) B (t ∷ []) (grown B A) (place-alike A B a b t)
 
   module _ (v w : List ℤ) (h : clearanceReply (numbers (placed A t)) (numbers B) ≡ answered v)

@@ -1,6 +1,6 @@
 -- What relation and clearance reply of shapes that stand alike. The lists that are lent are the numbers of their corners.
 --     relation-answered      of valid lists, relation answers its number
---     relation-replies       and of pairs that stand alike the same one
+--     relation-replies       and of pairs that stand alike the same one, on any floor
 --     clearance-fractions    where both are answered, the clearances are the same fraction
 --     clearance-rounded      and the same distance rounded down, which stands last
 use mathlib.Core.Path.{_≡_, refl, sym, _∙_, ap, ap₂}
@@ -19,9 +19,11 @@ use Rattle.plane.specs.Reply.{answered}
 use Rattle.plane.specs.Refusal.{Valid, shapeRows}
 use Rattle.plane.specs.Separation.{apart, relationReply}
 use Rattle.plane.specs.Clearance.{nearest, numbersOf, clearanceReply}
+use Rattle.plane.specs.Floor.{on, withFloor, between}
 use Rattle.plane.specs.theory.lists.Flat.{points-numbers}
 use Rattle.plane.specs.theory.refusals.Rows.{NoneApply, none-append, none-join, firstRow-none, firstRow-answered}
 use Rattle.plane.specs.theory.refusals.Accept.{accepted→valid, valid→accepted}
+use Rattle.plane.specs.theory.refusals.Floors.{between-same}
 use Rattle.clearance.specs.theory.Nearest.{nearest-is-whole}
 use Rattle.clearance.specs.theory.Rounding.{Bounded, nearest-rounded}
 use Rattle.strips.specs.OwnDirection.{answerTop, answerBottom}
@@ -36,14 +38,17 @@ unfolding relationReply relationNumber
 relation-answered a b v w = firstRow-none (shapeRows 1 a ++ shapeRows 2 b) _
     (none-join (shapeRows 1 a) (shapeRows 2 b) (valid→accepted a 1 v) (valid→accepted b 2 w))
 
-pub relation-replies : (A B C D : List Point) → Alike A B C D → Valid (numbers A) → Valid (numbers B) → Valid (numbers C)
-    → Valid (numbers D) → relationReply (numbers A) (numbers B) ≡ relationReply (numbers C) (numbers D)
-relation-replies A B C D k s t u v = said A B s t ∙ ap (λ n. answered (n ∷ [])) (alike-relation A B C D k) ∙ sym (said C D u v)
+pub relation-replies : (A B C D : List Point) → Alike A B C D → (f : ℕ) → Valid (numbers A) → Valid (numbers B) → Valid (numbers C)
+    → Valid (numbers D)
+    → between (on (numbers A) f) (on (numbers B) f) relationReply ≡ between (on (numbers C) f) (on (numbers D) f) relationReply
+relation-replies A B C D k f s t u v =
+    said A B s t ∙ ap (λ n. withFloor f (answered (n ∷ []))) (alike-relation A B C D k) ∙ sym (said C D u v)
   where
     said : (A B : List Point) → Valid (numbers A) → Valid (numbers B)
-        → relationReply (numbers A) (numbers B) ≡ answered (relationNumber A B ∷ [])
-    said A B s t = relation-answered (numbers A) (numbers B) s t
-        ∙ ap₂ (λ P Q. answered (relationNumber P Q ∷ [])) (points-numbers A) (points-numbers B)
+        → between (on (numbers A) f) (on (numbers B) f) relationReply ≡ withFloor f (answered (relationNumber A B ∷ []))
+    said A B s t = between-same (record { first-valid = s; second-valid = t; one-floor = refl }) relationReply
+        ∙ ap (withFloor f) (relation-answered (numbers A) (numbers B) s t
+        ∙ ap₂ (λ P Q. answered (relationNumber P Q ∷ [])) (points-numbers A) (points-numbers B))
 
 -- ---- clearance
 
