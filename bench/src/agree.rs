@@ -9,7 +9,7 @@ use std::cmp::Ordering;
 use std::collections::BTreeSet;
 
 /// What must have been compared at least once: a question, and a refusal or the first value.
-const KINDS: [(&str, &str); 38] = [
+const KINDS: [(&str, &str); 46] = [
     ("judge", "no 1"),
     ("judge", "no 2"),
     ("judge", "no 3"),
@@ -48,6 +48,14 @@ const KINDS: [(&str, &str); 38] = [
     ("inside", "ok 0"),
     ("inside", "ok 1"),
     ("inside", "no 13"),
+    ("offer", "ok 0"),
+    ("offer", "ok 1"),
+    ("offer", "no 11"),
+    ("offer", "no 12"),
+    ("offer", "no 13"),
+    ("find", "ok 0"),
+    ("find", "ok 1"),
+    ("find", "no 13"),
 ];
 
 /// A list and its floor.
@@ -143,7 +151,27 @@ fn ask_two(tally: &mut Tally, (a, f): Lent, (b, g): Lent) -> Result<(), String> 
         [(a, f), (b, g)],
         plain::inside(a, f, b, g),
         proved::inside(a, f, b, g),
-    )
+    )?;
+    ask_directions(tally, (a, f), (b, g))
+}
+
+/// Directions of two shapes: which is found is left open, so each is offered.
+fn ask_directions(tally: &mut Tally, (a, f): Lent, (b, g): Lent) -> Result<(), String> {
+    let found = [plain::find(a, f, b, g), proved::find(a, f, b, g)];
+    let [by_hand, by_proof] = found.map(|found| found.numbers());
+    tally.add("find", [(a, f), (b, g)], by_hand, by_proof)?;
+    let [x, y] = found.map(|found| found.parts);
+    let any = directions(a);
+    for d in [x, y, any[0], shortest(any[0]), shortest(any[1])] {
+        let by_hand = plain::offer(a, f, b, g, d[0], d[1]);
+        let by_proof = proved::offer(a, f, b, g, d[0], d[1]);
+        tally.add("offer", [(a, f), (b, g)], by_hand, by_proof)?;
+        let accepted = by_hand.refusal == 0 && by_hand.values[0] == 1;
+        if found[0].values[0] == 1 && found[0].refusal == 0 && (d == x || d == y) && !accepted {
+            return Err(format!("find of {a:?} and {b:?}: {d:?} is not accepted"));
+        }
+    }
+    Ok(())
 }
 
 /// A question that writes.
@@ -238,7 +266,7 @@ impl Tally {
             ));
         }
         let kind = match (plain.refusal, word) {
-            (0, "relation" | "inside") => format!("ok {}", plain.values[0]),
+            (0, "relation" | "inside" | "offer" | "find") => format!("ok {}", plain.values[0]),
             (0, "furthest") => format!("ok, {}", face(plain.values[0], plain.values[1])),
             (0, _) => "ok".to_string(),
             (number, _) => format!("no {number}"),

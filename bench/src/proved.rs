@@ -1,9 +1,9 @@
 //! The proved questions, as the archive exports them.
-use crate::reply::{Lines, Nearest, Numbers, Signed};
+use crate::reply::{Direction, Lines, Nearest, Numbers, Signed};
 
 /// A lent list crosses as a pointer and a length.
 mod archive {
-    use crate::reply::{Lines, Nearest, Numbers, Signed};
+    use crate::reply::{Direction, Lines, Nearest, Numbers, Signed};
 
     type List = *const i32;
     type Output = *mut i32;
@@ -77,6 +77,17 @@ mod archive {
         pub fn cocklesway_relation(a: List, n: usize, f: u16, b: List, m: usize, g: u16)
         -> Numbers;
         pub fn cocklesway_inside(a: List, n: usize, f: u16, b: List, m: usize, g: u16) -> Numbers;
+        pub fn cocklesway_offer(
+            a: List,
+            n: usize,
+            f: u16,
+            b: List,
+            m: usize,
+            g: u16,
+            u: i32,
+            v: i32,
+        ) -> Numbers;
+        pub fn cocklesway_find(a: List, n: usize, f: u16, b: List, m: usize, g: u16) -> Direction;
         pub fn cocklesway_clearance(
             a: List,
             n: usize,
@@ -223,6 +234,14 @@ pub fn relation(a: &[i32], f: u16, b: &[i32], g: u16) -> Numbers {
 
 pub fn inside(a: &[i32], f: u16, b: &[i32], g: u16) -> Numbers {
     unsafe { archive::cocklesway_inside(a.as_ptr(), a.len(), f, b.as_ptr(), b.len(), g) }
+}
+
+pub fn offer(a: &[i32], f: u16, b: &[i32], g: u16, u: i32, v: i32) -> Numbers {
+    unsafe { archive::cocklesway_offer(a.as_ptr(), a.len(), f, b.as_ptr(), b.len(), g, u, v) }
+}
+
+pub fn find(a: &[i32], f: u16, b: &[i32], g: u16) -> Direction {
+    unsafe { archive::cocklesway_find(a.as_ptr(), a.len(), f, b.as_ptr(), b.len(), g) }
 }
 
 pub fn clearance(a: &[i32], f: u16, b: &[i32], g: u16) -> Nearest {

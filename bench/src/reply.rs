@@ -79,6 +79,53 @@ impl Signed {
     }
 }
 
+/// The same for a direction: 1 if there is one, and its parts.
+#[repr(C)]
+#[derive(Clone, Copy, Debug, PartialEq, Eq)]
+pub struct Direction {
+    pub refusal: u64,
+    pub shape: u64,
+    pub values: [u64; 2],
+    pub parts: [i32; 2],
+    pub floor: u16,
+}
+
+impl Direction {
+    /// A direction on a floor, or none.
+    #[inline]
+    pub fn found(parts: Option<[i32; 2]>, floor: u16) -> Direction {
+        Direction {
+            refusal: 0,
+            shape: 0,
+            values: [parts.is_some() as u64, 0],
+            parts: parts.unwrap_or([0; 2]),
+            floor,
+        }
+    }
+
+    /// A refusal.
+    #[inline]
+    pub fn refused(refusal: Numbers) -> Direction {
+        Direction {
+            refusal: refusal.refusal,
+            shape: refusal.shape,
+            values: [refusal.values[0], refusal.values[1]],
+            parts: [0; 2],
+            floor: 0,
+        }
+    }
+
+    /// All but the parts.
+    pub fn numbers(self) -> Numbers {
+        let [first, second] = self.values;
+        Numbers {
+            refusal: self.refusal,
+            shape: self.shape,
+            values: [first, second, self.floor as u64, 0, 0, 0],
+        }
+    }
+}
+
 /// The same for a clearance: its kind, two positions, at most three numbers, and the floor.
 #[repr(C)]
 #[derive(Clone, Copy, Debug, PartialEq, Eq)]

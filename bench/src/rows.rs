@@ -38,9 +38,14 @@ const LENGTH: [Run; 2] = [run!(proved::length(a)), run!(plain::length(a))];
 const WIDTH: [Run; 2] = [run!(proved::width(a)), run!(plain::width(a))];
 const RELATION: [Run; 2] = [run!(proved::relation(a, b)), run!(plain::relation(a, b))];
 const INSIDE: [Run; 2] = [run!(proved::inside(a, b)), run!(plain::inside(a, b))];
+const OFFER: [Run; 2] = [
+    |cases| block(cases, |c, _| proved::offer(&c.a, FLOOR, &c.b, FLOOR, 3, 1)),
+    |cases| block(cases, |c, _| plain::offer(&c.a, FLOOR, &c.b, FLOOR, 3, 1)),
+];
+const FIND: [Run; 2] = [run!(proved::find(a, b)), run!(plain::find(a, b))];
 
 /// The questions that are asked in both ways.
-pub const ROWS: [(&str, [Run; 2], Make); 13] = [
+pub const ROWS: [(&str, [Run; 2], Make); 16] = [
     ("judge", JUDGE, single),
     ("furthest", FURTHEST, single),
     ("sum", SUM, summed),
@@ -54,13 +59,16 @@ pub const ROWS: [(&str, [Run; 2], Make); 13] = [
     ("relation, overlapping", RELATION, crossing),
     ("inside, yes", INSIDE, nested),
     ("inside, no", INSIDE, crossing),
+    ("offer", OFFER, apart),
+    ("find, apart", FIND, apart),
+    ("find, none", FIND, crossing),
 ];
 
 /// Every proved question, on a shape and the same one moved away (`pairs::moved_away`). It takes the
-/// whole walk to find that a shape overlaps itself, or is inside itself. Growing by
-/// more than 512 corners is refused 6, behind the whole walk. A log has as many records as the shape
-/// has corners.
-pub const GROWTH: [(&str, Run); 18] = [
+/// whole walk to find that a shape overlaps itself, is inside itself, or is not below itself. Growing
+/// by more than 512 corners is refused 6, behind the whole walk. A log has as many records as the
+/// shape has corners.
+pub const GROWTH: [(&str, Run); 20] = [
     ("judge", JUDGE[0]),
     ("furthest", FURTHEST[0]),
     ("mirror", run!(proved::mirror(a; out))),
@@ -83,6 +91,8 @@ pub const GROWTH: [(&str, Run); 18] = [
     ("width", WIDTH[0]),
     ("relation", run!(proved::relation(a, a))),
     ("inside", run!(proved::inside(a, a))),
+    ("offer", OFFER[0]),
+    ("find", run!(proved::find(a, a))),
     ("clearance", run!(proved::clearance(a, b))),
     ("tangents", run!(proved::tangents(a, b))),
     ("log_read, records", |cases| {

@@ -1,5 +1,6 @@
 //! Furthest corner: one pass over the corners, then the two beside the first that is furthest.
 use super::corner::Corner;
+use super::direction;
 use super::judge::admitted;
 use crate::reply::Signed;
 
@@ -7,9 +8,10 @@ use crate::reply::Signed;
 #[inline(never)]
 pub fn furthest(list: &[i32], floor: u16, u: i32, v: i32) -> Signed {
     match admitted(list, 1) {
-        Ok(_) if bad_direction(u, v) => Signed::refused(11),
-        Ok(_) if divisor(u.unsigned_abs(), v.unsigned_abs()) > 1 => Signed::refused(12),
-        Ok(shape) => face(shape.corners, [u, v], floor),
+        Ok(shape) => match direction::refused(u, v) {
+            Some(number) => Signed::refused(number),
+            None => face(shape.corners, [u, v], floor),
+        },
         Err(refusal) => Signed {
             refusal: refusal.refusal,
             shape: refusal.shape,
@@ -18,26 +20,6 @@ pub fn furthest(list: &[i32], floor: u16, u: i32, v: i32) -> Signed {
             floor: 0,
         },
     }
-}
-
-/// Whether the direction is (0, 0), or has a part out of range.
-fn bad_direction(u: i32, v: i32) -> bool {
-    let outside = |part: i32| part.unsigned_abs() > 2_000_000;
-    (u == 0 && v == 0) || outside(u) || outside(v)
-}
-
-/// The greatest common divisor, by halving: the factors of two that both numbers have, times the
-/// divisor of the odd parts.
-fn divisor(a: u32, b: u32) -> u32 {
-    if a == 0 || b == 0 {
-        return a | b;
-    }
-    let (mut x, mut y) = (a >> a.trailing_zeros(), b >> b.trailing_zeros());
-    while x != y {
-        let difference = x.abs_diff(y);
-        (x, y) = (x.min(y), difference >> difference.trailing_zeros());
-    }
-    x << (a | b).trailing_zeros()
 }
 
 /// The corners with the greatest value are one or two neighbours. A segment across the direction is

@@ -1,6 +1,6 @@
 -- What the search for a direction answers (document 02, request W13: "finds one, or says none if they are not apart").
---     Witness A B d     the direction d is accepted: rows 11 and 12 let it pass, and A is below B in it
---     Finds A B r       r is such a direction, any; or nothing, and then A and B are not apart
+--     Witness A B d          the direction d is accepted: rows 11 and 12 let it pass, and A is below B in it
+--     Finds A B r            r is such a direction, any; or nothing, and then A and B are not apart
 --     FoundBetween a b r     r is the reply to two shapes with their floors: "after 1 to 5 and 13", what is found
 use mathlib.Core.Bool.{true, false}
 use mathlib.Core.List.{List, [], _∷_}

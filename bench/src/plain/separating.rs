@@ -1,0 +1,55 @@
+//! Directions in which one shape is below another: one offered, and one found.
+use super::corner::Corner;
+use super::differences::{Origin, meet};
+use super::direction;
+use super::judge::{Shape, admitted_pair};
+use crate::reply::{Direction, Numbers};
+
+/// 1 if every corner of the first is strictly below every corner of the second, else 0.
+#[inline(never)]
+pub fn offer(a: &[i32], f: u16, b: &[i32], g: u16, u: i32, v: i32) -> Numbers {
+    let (a, b) = match admitted_pair(a, f, b, g) {
+        Ok(pair) => pair,
+        Err(refusal) => return refusal,
+    };
+    match direction::refused(u, v) {
+        Some(number) => Numbers::refused(number),
+        None => Numbers::one(below(a.corners, b.corners, [u, v]) as u64, f),
+    }
+}
+
+/// The greatest value of the one against the least of the other.
+#[inline(always)]
+fn below(a: &[Corner], b: &[Corner], d: Corner) -> bool {
+    let value = |c: &Corner| d[0] as i64 * c[0] as i64 + d[1] as i64 * c[1] as i64;
+    a.iter().map(value).max() < b.iter().map(value).min()
+}
+
+/// A direction that is accepted if it is offered, or that there is none.
+#[inline(never)]
+pub fn find(a: &[i32], f: u16, b: &[i32], g: u16) -> Direction {
+    match admitted_pair(a, f, b, g) {
+        Ok((a, b)) => Direction::found(away(a, b).map(shortest), f),
+        Err(refusal) => Direction::refused(refusal),
+    }
+}
+
+/// To the right of the first edge of the differences that has the origin outside; if these are flat,
+/// from the one shape to the other.
+#[inline(always)]
+fn away(a: Shape, b: Shape) -> Option<Corner> {
+    let mut origin = Origin::new();
+    if let Some([x, y]) = origin.outside(a, b) {
+        return Some([y, -x]);
+    }
+    let [p, q] = [a.corners[0], b.corners[0]];
+    let flat = origin.on_all && !meet(a.corners, b.corners);
+    flat.then(|| [q[0] - p[0], q[1] - p[1]])
+}
+
+/// The direction over the divisor of its parts.
+#[inline(always)]
+fn shortest([u, v]: Corner) -> Corner {
+    let common = direction::divisor(u, v) as i32;
+    [u / common, v / common]
+}
