@@ -36,5 +36,6 @@ furthest-kept l d f g p q z h =
     let first = judged-first 1 l (directionRows d) none in
     let v = first .0 in
     let near = direction-near d (first .1 .0) in
-    let is : z ≡ support d (points l) = ap (λ (r : Reply). getD (crossed 4 r) 4 (pos 0)) (h ∙ ap (withFloor f) (firstRow-none rows _ none)) in
+    let is : z ≡ support d (points l) =
+    ap (λ (r : Reply). getD (crossed 4 r) 4 (pos 0)) (h ∙ ap (withFloor f) (firstRow-none rows _ none)) in
     toZ-ofZ (machine-fits (known is (support-size l (v .inRange) (near .0) (near .1) (v .shape .some))) tt)

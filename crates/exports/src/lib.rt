@@ -66,7 +66,8 @@ pub extern "C" fn cocklesway_furthest(list: &[i32], floor: u16, u: i32, v: i32) 
 // How many corners the mirror image has, which is written to the output.
 #[no_mangle]
 pub extern "C" fn cocklesway_mirror(list: &[i32], floor: u16, out: &mut [i32]) -> Numbers
-    ensures { λ r. ⌜ (numbers r ≡ crossed 6 (withFloor floor (mirrorWritten (now (list .entry)) (now (out .entry)) .reply)))
+    ensures { λ r. ⌜
+        (numbers r ≡ crossed 6 (withFloor floor (mirrorWritten (now (list .entry)) (now (out .entry)) .reply)))
         × (now (out .exit) ≡ mirrorWritten (now (list .entry)) (now (out .entry)) .output) ⌝ }
 {
     reply::of_answer(questions::mirror(list, floor, out))
@@ -153,7 +154,8 @@ pub extern "C" fn cocklesway_grow(
 // How many corners the shape of many points has, which is written to the output.
 #[no_mangle]
 pub extern "C" fn cocklesway_sweep(list: &[i32], floor: u16, out: &mut [i32]) -> Numbers
-    ensures { λ r. ⌜ (numbers r ≡ crossed 6 (withFloor floor (sweepWritten (now (list .entry)) (now (out .entry)) .reply)))
+    ensures { λ r. ⌜
+        (numbers r ≡ crossed 6 (withFloor floor (sweepWritten (now (list .entry)) (now (out .entry)) .reply)))
         × (now (out .exit) ≡ sweepWritten (now (list .entry)) (now (out .entry)) .output) ⌝ }
 {
     reply::of_answer(questions::sweep(list, floor, out))
@@ -211,7 +213,8 @@ pub extern "C" fn cocklesway_find(a: &[i32], f: u16, b: &[i32], g: u16) -> Direc
 // Where two shapes are nearest, and how near.
 #[no_mangle]
 pub extern "C" fn cocklesway_clearance(a: &[i32], f: u16, b: &[i32], g: u16) -> Nearest
-    ensures { λ r. ⌜ nearestNumbers r ≡ crossed 7 (between (on (now (a .entry)) f) (on (now (b .entry)) g) clearanceReply) ⌝ }
+    ensures { λ r. ⌜
+        nearestNumbers r ≡ crossed 7 (between (on (now (a .entry)) f) (on (now (b .entry)) g) clearanceReply) ⌝ }
 {
     reply::of_clearance(questions::clearance(a, f, b, g))
 }
@@ -219,7 +222,8 @@ pub extern "C" fn cocklesway_clearance(a: &[i32], f: u16, b: &[i32], g: u16) -> 
 // The four lines that just touch both shapes.
 #[no_mangle]
 pub extern "C" fn cocklesway_tangents(a: &[i32], f: u16, b: &[i32], g: u16) -> Lines
-    ensures { λ r. ⌜ lineNumbers r ≡ crossed 9 (between (on (now (a .entry)) f) (on (now (b .entry)) g) tangentsReply) ⌝ }
+    ensures { λ r. ⌜
+        lineNumbers r ≡ crossed 9 (between (on (now (a .entry)) f) (on (now (b .entry)) g) tangentsReply) ⌝ }
 {
     reply::of_tangents(questions::tangents(a, f, b, g))
 }

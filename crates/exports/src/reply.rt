@@ -80,8 +80,8 @@ pub struct Lines {
     pub floor: u16,
 }
 
-// As `Numbers`, for a clearance: 0 if not apart, 1 for two corners, 2 for a corner of the first shape and an edge of the
-// second, 3 for the reverse; the two positions; then of two corners their squared distance and the distance rounded
+// As `Numbers`, for a clearance: 0 if not apart, 1 for two corners, 2 for a corner of the first shape and an edge of
+// the second, 3 for the reverse; the two positions; then of two corners their squared distance and the distance rounded
 // down, else the turn, the squared edge and the distance rounded down; behind the last of these the floor. Of refusal 4
 // the edge stands as the kind.
 #[repr(C)]
@@ -99,7 +99,8 @@ pub struct Nearest {
 
 // At most two values.
 fn pair(refusal: u64, shape: u64, first: u64, second: u64) -> Numbers
-    ensures { λ r. ⌜ numbers r ≡ pos refusal ∷ pos shape ∷ pos first ∷ pos second ∷ pos 0 ∷ pos 0 ∷ pos 0 ∷ pos 0 ∷ [] ⌝ }
+    ensures { λ r. ⌜ numbers r
+        ≡ pos refusal ∷ pos shape ∷ pos first ∷ pos second ∷ pos 0 ∷ pos 0 ∷ pos 0 ∷ pos 0 ∷ [] ⌝ }
 {
     Numbers {
         refusal,

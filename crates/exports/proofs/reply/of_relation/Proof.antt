@@ -55,5 +55,5 @@ returns-4 c = c .refused .ensures ∙ ap (λ (x : Relation). crossed 6 (ofRelati
 pub of-relation-spec : {M : Type 1} → statement M
 of-relation-spec =
     tie.close
-    (tie.spec enum-known-answer cast-pair pair-requires enum-known-answer-2 cast-pair-2 pair-requires-2 enum-known-answer-3 cast-pair-3 pair-requires-3 enum-known-answer-4 refused-requires returns
-    returns-2 returns-3 returns-4)
+    (tie.spec enum-known-answer cast-pair pair-requires enum-known-answer-2 cast-pair-2 pair-requires-2 enum-known-answer-3 cast-pair-3
+    pair-requires-3 enum-known-answer-4 refused-requires returns returns-2 returns-3 returns-4)
