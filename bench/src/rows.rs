@@ -65,9 +65,8 @@ pub const ROWS: [(&str, [Run; 2], Make); 16] = [
 ];
 
 /// Every proved question, on a shape and the same one moved away (`pairs::moved_away`). It takes the
-/// whole walk to find that a shape overlaps itself, is inside itself, or is not below itself. Growing
-/// by more than 512 corners is refused 6, behind the whole walk. A log has as many records as the
-/// shape has corners.
+/// whole walk to find that a shape overlaps itself, is inside itself, or is not below itself. A log
+/// has as many records as the shape has corners.
 pub const GROWTH: [(&str, Run); 20] = [
     ("judge", JUDGE[0]),
     ("furthest", FURTHEST[0]),

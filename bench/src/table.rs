@@ -22,7 +22,9 @@ pub fn compare(rounds: usize) {
     println!(
         "microseconds a call, proved and plain, and their ratio; of two shapes one has 4 corners"
     );
-    println!("less, and at 1,024 those of `sum` have 512 and 506; a sweep has so many points");
+    println!(
+        "less, and at 1,024 those of `sum` and `grow` have 512 and 506; a sweep has so many points"
+    );
     println!();
     println!(
         "{:24}{}",
