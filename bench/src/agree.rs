@@ -10,7 +10,7 @@ use std::cmp::Ordering;
 use std::collections::BTreeSet;
 
 /// What must have been compared at least once: a question, and a refusal or the first value.
-const KINDS: [(&str, &str); 41] = [
+const KINDS: [(&str, &str); 46] = [
     ("judge", "no 1"),
     ("judge", "no 2"),
     ("judge", "no 3"),
@@ -30,6 +30,11 @@ const KINDS: [(&str, &str); 41] = [
     ("merge", "no 6"),
     ("merge", "no 8"),
     ("merge", "no 13"),
+    ("grow", "ok"),
+    ("grow", "no 6"),
+    ("grow", "no 7"),
+    ("grow", "no 8"),
+    ("grow", "no 13"),
     ("sweep", "ok"),
     ("sweep", "no 1"),
     ("sweep", "no 2"),
@@ -179,7 +184,7 @@ type Writes = fn(Lent, Lent, &mut [i32]) -> Numbers;
 /// Its word, the plain one and the proved one.
 type Written = (&'static str, Writes, Writes);
 
-const PAIRED: [Written; 2] = [
+const PAIRED: [Written; 3] = [
     (
         "sum",
         |(a, f), (b, g), out| plain::sum(a, f, b, g, out),
@@ -189,6 +194,11 @@ const PAIRED: [Written; 2] = [
         "merge",
         |(a, f), (b, g), out| plain::merge(a, f, b, g, out),
         |(a, f), (b, g), out| proved::merge(a, f, b, g, out),
+    ),
+    (
+        "grow",
+        |(a, f), (b, g), out| plain::grow(a, f, b, g, out),
+        |(a, f), (b, g), out| proved::grow(a, f, b, g, out),
     ),
 ];
 

@@ -22,8 +22,8 @@ pub fn crossing(random: &mut Random, n: usize) -> Case {
     overlapping(random, n, n - 4, 25_000)
 }
 
-/// Two shapes whose sum is answered. It has as many corners as both together, and an answer at most
-/// `MOST`: so in place of 1,024 and 1,020 corners they have 512 and 506.
+/// Two shapes whose sum and difference are answered. These have as many corners as both together,
+/// and an answer at most `MOST`: so in place of 1,024 and 1,020 corners they have 512 and 506.
 pub fn summed(random: &mut Random, n: usize) -> Case {
     let (n, m) = if n + n - 4 > MOST {
         (MOST / 2, MOST / 2 - 6)

@@ -57,6 +57,16 @@ mod archive {
             out: Output,
             room: usize,
         ) -> Numbers;
+        pub fn cocklesway_grow(
+            obstacle: List,
+            n: usize,
+            f: u16,
+            cart: List,
+            m: usize,
+            g: u16,
+            out: Output,
+            room: usize,
+        ) -> Numbers;
         pub fn cocklesway_sweep(
             list: List,
             n: usize,
@@ -207,6 +217,21 @@ pub fn merge(a: &[i32], f: u16, b: &[i32], g: u16, out: &mut [i32]) -> Numbers {
             f,
             b.as_ptr(),
             b.len(),
+            g,
+            out.as_mut_ptr(),
+            out.len(),
+        )
+    }
+}
+
+pub fn grow(obstacle: &[i32], f: u16, cart: &[i32], g: u16, out: &mut [i32]) -> Numbers {
+    unsafe {
+        archive::cocklesway_grow(
+            obstacle.as_ptr(),
+            obstacle.len(),
+            f,
+            cart.as_ptr(),
+            cart.len(),
             g,
             out.as_mut_ptr(),
             out.len(),

@@ -43,6 +43,7 @@ const MERGE: [Run; 2] = [
     run!(proved::merge(a, b; out)),
     run!(plain::merge(a, b; out)),
 ];
+const GROW: [Run; 2] = [run!(proved::grow(a, b; out)), run!(plain::grow(a, b; out))];
 const SWEEP: [Run; 2] = [run!(proved::sweep(a; out)), run!(plain::sweep(a; out))];
 const LENGTH: [Run; 2] = [run!(proved::length(a)), run!(plain::length(a))];
 const WIDTH: [Run; 2] = [run!(proved::width(a)), run!(plain::width(a))];
@@ -73,12 +74,13 @@ const RELATION_BYTES: [Run; 2] = [
 ];
 
 /// The questions that are asked in both ways, and the calls of a host.
-pub const ROWS: [(&str, [Run; 2], Make); 23] = [
+pub const ROWS: [(&str, [Run; 2], Make); 24] = [
     ("judge", JUDGE, single),
     ("furthest", FURTHEST, single),
     ("sum", SUM, summed),
     ("sum, refused 6 at 1,024", SUM, crossing),
     ("merge", MERGE, merged),
+    ("grow", GROW, summed),
     ("sweep", SWEEP, scattered),
     ("length", LENGTH, single),
     ("width", WIDTH, single),
@@ -118,7 +120,7 @@ pub const ROWS: [(&str, [Run; 2], Make); 23] = [
 /// Every proved question, on a shape and the same one moved away (`pairs::moved_away`). It takes the
 /// whole walk to find that a shape overlaps itself, is inside itself, or is not below itself. A log
 /// has as many records as the shape has corners.
-pub const GROWTH: [(&str, Run); 19] = [
+pub const GROWTH: [(&str, Run); 20] = [
     ("judge", JUDGE[0]),
     ("furthest", FURTHEST[0]),
     ("mirror", run!(proved::mirror(a; out))),
@@ -135,6 +137,7 @@ pub const GROWTH: [(&str, Run); 19] = [
         })
     }),
     ("merge", MERGE[0]),
+    ("grow", GROW[0]),
     ("sweep", SWEEP[0]),
     ("length", LENGTH[0]),
     ("width", WIDTH[0]),

@@ -13,10 +13,10 @@ const STEPS: [usize; 2] = [100, 400];
 
 /// What stands above the first table.
 const LEGEND: &str = "\
-microseconds a call, proved and plain, and their ratio; of two shapes one has 4 corners
-less, and at 1,024 those of `sum` have 512 and 506; a sweep has so many points. `bytes`
-are the calls of a host: both shapes of their sums have so many corners, and 512 at 1,024;
-of those refused 6 the second has 1,024
+microseconds a call, proved and plain, and their ratio; of two shapes one has 4 corners less,
+and at 1,024 those of `sum` and `grow` have 512 and 506; a sweep has so many points. `bytes` are
+the calls of a host: both shapes of their sums have so many corners, and 512 at 1,024; of those
+refused 6 the second has 1,024
 ";
 
 /// The seed of all shapes.

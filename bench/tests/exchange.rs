@@ -59,15 +59,24 @@ fn shapes_are_written_to_the_front() {
         Numbers::one(5, 2)
     );
     assert_eq!(out, [0, 0, 2, 0, 5, 1, 2, 2, 0, 2, 7, 7]);
+    assert_eq!(
+        proved::grow(&SQUARE, 2, &TRIANGLE, 2, &mut out),
+        Numbers::one(5, 2)
+    );
+    assert_eq!(out, [0, -1, 2, -1, 2, 2, -1, 2, -1, 0, 7, 7]);
     let points = [2, 2, 1, 0, 0, 2, 1, 1, 2, 2, 2, 0, 0, 0];
     assert_eq!(
         proved::sweep(&points, 65535, &mut out),
         Numbers::one(4, 65535)
     );
-    assert_eq!(out, [0, 0, 2, 0, 2, 2, 0, 2, 0, 2, 7, 7]);
+    assert_eq!(out, [0, 0, 2, 0, 2, 2, 0, 2, -1, 0, 7, 7]);
     assert_eq!(proved::sweep(&[1], 2, &mut out), Numbers::blamed(1, 1));
     assert_eq!(
         proved::sum(&SQUARE, 2, &TRIANGLE, 2, &mut out[..9]),
+        Numbers::refused(8)
+    );
+    assert_eq!(
+        proved::grow(&SQUARE, 2, &TRIANGLE, 2, &mut out[..9]),
         Numbers::refused(8)
     );
 }

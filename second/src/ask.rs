@@ -71,6 +71,12 @@ pub fn merge(given: &Given) -> Answer {
     written(given, combine::merge(&a, &b)?, floor)
 }
 
+/// The obstacle, then the cart's outline.
+pub fn grow(given: &Given) -> Answer {
+    let ([obstacle, cart], floor) = given.shapes()?;
+    written(given, combine::grow(&obstacle, &cart)?, floor)
+}
+
 pub fn sweep(given: &Given) -> Answer {
     let (list, floor) = given.list();
     written(given, sweep::shape(sweep::judged(list)?), floor)

@@ -10,6 +10,7 @@ use crate::plane::Shape;
 use std::io::{self, Write};
 
 mod floors;
+mod growing;
 mod log;
 mod separating;
 
@@ -288,6 +289,7 @@ pub fn groups() -> Vec<Group> {
     groups.push(point_limit());
     groups.extend(spelled(floors::FLOORS));
     groups.extend(spelled(separating::SEPARATING));
+    groups.extend(spelled(growing::GROWING));
     groups
 }
 

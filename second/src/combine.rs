@@ -1,4 +1,5 @@
-//! Sum, merge and mirror of document 01, straight from their sets of points, with refusals 6, 7, 8.
+//! Sum, merge and mirror of document 01, and grow, straight from their sets of points, with refusals
+//! 6, 7, 8.
 
 use crate::hull::hull_of;
 use crate::judge::in_range;
@@ -7,11 +8,7 @@ use crate::refusal::{MOST_CORNERS, Refusal};
 
 /// The shape of all corner-plus-corner points.
 pub fn sum(a: &[Point], b: &[Point]) -> Result<Shape, Refusal> {
-    let answer = not_too_many(all_sums(a, b))?;
-    if !answer.iter().all(in_range) {
-        return Err(Refusal::plain(7));
-    }
-    Ok(answer)
+    not_too_far(not_too_many(all_sums(a, b))?)
 }
 
 /// The same, however many corners it has and wherever they are.
@@ -23,6 +20,14 @@ pub fn all_sums(a: &[Point], b: &[Point]) -> Shape {
 /// The shape of both corner lists taken together.
 pub fn merge(a: &[Point], b: &[Point]) -> Result<Shape, Refusal> {
     not_too_many(hull_of([a, b].concat()))
+}
+
+/// The shape of all obstacle-corner minus cart-corner points.
+pub fn grow(obstacle: &[Point], cart: &[Point]) -> Result<Shape, Refusal> {
+    let pairs = obstacle
+        .iter()
+        .flat_map(|&p| cart.iter().map(move |&q| p - q));
+    not_too_far(not_too_many(hull_of(pairs.collect()))?)
 }
 
 /// The shape of all (-x, -y).
@@ -44,3 +49,13 @@ fn not_too_many(answer: Shape) -> Result<Shape, Refusal> {
     }
     Ok(answer)
 }
+
+fn not_too_far(answer: Shape) -> Result<Shape, Refusal> {
+    if !answer.iter().all(in_range) {
+        return Err(Refusal::plain(7));
+    }
+    Ok(answer)
+}
+
+#[cfg(test)]
+mod tests;

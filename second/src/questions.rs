@@ -28,6 +28,7 @@ pub const TABLE: &[Row] = &[
     Row { word: "parts", fields: &[Shape, Shape, Calls], ask: ask::parts, make: parts::parts },
     Row { word: "part", fields: &[Shape, Shape, Walk, Call], ask: ask::part, make: parts::part },
     Row { word: "merge", fields: &[Shape, Shape, Room], ask: ask::merge, make: make::merge },
+    Row { word: "grow", fields: &[Shape, Shape, Room], ask: ask::grow, make: make::grow },
     Row { word: "sweep", fields: &[Shape, Room], ask: ask::sweep, make: make::sweep },
     Row { word: "length", fields: &[Shape], ask: ask::length, make: make::one_shape },
     Row { word: "width", fields: &[Shape], ask: ask::width, make: make::one_shape },

@@ -3,7 +3,7 @@ use super::deliver::{Buffer, checked, checked_near};
 use super::judge::{MOST, Shape, admitted};
 use super::merge::{Hull, merged};
 use super::relation::stand;
-use super::sum::summed;
+use super::sum::walk;
 use crate::reply::Numbers;
 use std::mem::MaybeUninit;
 
@@ -52,7 +52,7 @@ fn sum(a: &[u8], f: u32, b: &[u8], g: u32, out: &mut [u8]) -> Result<Numbers, Nu
     let (a, b) = (read(a, &mut first, 1)?, read(b, &mut second, 2)?);
     let floor = same(f, g)?;
     let mut answer = Buffer::empty();
-    summed(a, b, &mut answer);
+    walk(a.corners, b.corners, &mut answer);
     written(checked(&answer)?, floor, out)
 }
 

@@ -9,6 +9,7 @@ mod differences;
 mod direction;
 mod edges;
 mod furthest;
+mod grow;
 mod inside;
 mod judge;
 mod length;
@@ -21,6 +22,7 @@ mod width;
 
 pub use bytes::{judge_bytes, merge_bytes, relation_bytes, sum_bytes};
 pub use furthest::furthest;
+pub use grow::grow;
 pub use inside::inside;
 pub use judge::{MOST, judge};
 pub use length::length;

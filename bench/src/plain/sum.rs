@@ -2,7 +2,7 @@
 use super::corner::{Corner, cross};
 use super::deliver::{Buffer, deliver};
 use super::edges::Edges;
-use super::judge::{Shape, admitted_pair};
+use super::judge::admitted_pair;
 use crate::reply::Numbers;
 
 /// The shape of all corner-plus-corner points.
@@ -11,7 +11,7 @@ pub fn sum(a: &[i32], f: u16, b: &[i32], g: u16, out: &mut [i32]) -> Numbers {
     match admitted_pair(a, f, b, g) {
         Ok((a, b)) => {
             let mut answer = Buffer::empty();
-            summed(a, b, &mut answer);
+            walk(a.corners, b.corners, &mut answer);
             deliver(&answer, f, out)
         }
         Err(refusal) => refusal,
@@ -21,8 +21,8 @@ pub fn sum(a: &[i32], f: u16, b: &[i32], g: u16, out: &mut [i32]) -> Numbers {
 /// Takes the next edge of one shape or the other, or of both where they are parallel. The next
 /// edges of such a walk are never half a turn apart, so the cross product alone tells which.
 #[inline(always)]
-pub fn summed(a: Shape, b: Shape, answer: &mut Buffer) {
-    let (mut a, mut b) = (Edges::of(a.corners, 0), Edges::of(b.corners, 0));
+pub fn walk(a: &[Corner], b: &[Corner], answer: &mut Buffer) {
+    let (mut a, mut b) = (Edges::of(a, 0), Edges::of(b, 0));
     // SAFETY of the pushes: one for each edge of either shape at most, or one for two points.
     while a.more() && b.more() {
         unsafe { answer.push(plus(a.corner, b.corner)) };

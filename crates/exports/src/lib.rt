@@ -8,7 +8,7 @@ ghost use Rattle.plane.specs.Point.{point};
 ghost use Rattle.plane.specs.Floor.{on, withFloor, between, writtenBetween};
 ghost use Rattle.plane.specs.Judge.{judged};
 ghost use Rattle.plane.specs.Furthest.{furthestReply};
-ghost use Rattle.plane.specs.Combine.{mirrorWritten, sumWritten, mergeWritten};
+ghost use Rattle.plane.specs.Combine.{mirrorWritten, sumWritten, mergeWritten, growWritten};
 ghost use Rattle.plane.specs.Sweep.{sweepWritten};
 ghost use Rattle.plane.specs.Measure.{lengthReply, widthReply};
 ghost use Rattle.plane.specs.Separation.{relationReply, insideReply};
@@ -130,6 +130,25 @@ pub extern "C" fn cocklesway_merge(a: &[i32], f: u16, b: &[i32], g: u16, out: &m
         ≡ writtenBetween (on (now (a .entry)) f) (on (now (b .entry)) g) mergeWritten (now (out .entry)) .output) ⌝ }
 {
     reply::of_answer(questions::merge(a, f, b, g, out))
+}
+
+// How many corners the obstacle grown by the cart's outline has, which is written to the output.
+#[no_mangle]
+pub extern "C" fn cocklesway_grow(
+    obstacle: &[i32],
+    f: u16,
+    cart: &[i32],
+    g: u16,
+    out: &mut [i32],
+) -> Numbers
+    ensures { λ r. ⌜ (numbers r ≡ crossed 6
+        (writtenBetween (on (now (obstacle .entry)) f) (on (now (cart .entry)) g)
+        growWritten (now (out .entry)) .reply))
+        × (now (out .exit)
+        ≡ writtenBetween (on (now (obstacle .entry)) f) (on (now (cart .entry)) g)
+        growWritten (now (out .entry)) .output) ⌝ }
+{
+    reply::of_answer(questions::grow(obstacle, f, cart, g, out))
 }
 
 // How many corners the shape of many points has, which is written to the output.

@@ -1,6 +1,6 @@
 -- Document 01's starred cases ("Cases to hold against"), as one table over the definitions and one fact about all its rows, by computing.
 -- The rows are quoted in 01's order; a row is what the definition gives and what 01 states. The last are of document 02, requests W1, W3,
--- W8 and W10 to W13.
+-- W8 and W10 to W13, and our own of growing.
 use mathlib.Core.Path.{_≡_, refl}
 use mathlib.Core.Bool.{cond}
 use mathlib.Core.List.{List, [], _∷_, _++_, map}
@@ -23,7 +23,7 @@ use Rattle.plane.specs.Output.{Written, noRoom, overwritten}
 use Rattle.plane.specs.Face.{faceFirst, faceLast}
 use Rattle.plane.specs.Furthest.{badDirection, commonDivisor, furthestReply}
 use Rattle.plane.specs.Primitive.{primitive}
-use Rattle.plane.specs.Combine.{sumWritten, mergeWritten}
+use Rattle.plane.specs.Combine.{sumWritten, mergeWritten, growWritten}
 use Rattle.plane.specs.Sweep.{tooManyPoints, sweepWritten}
 use Rattle.plane.specs.Measure.{squared, lengthSquared, furthestPair, lengthFrom, lengthTo, lengthReply, edgeTurn, height}
 use Rattle.plane.specs.Measure.{edgeSquared, noWider, widthEdge, widthCorner, widthRounded, widthReply}
@@ -180,12 +180,20 @@ rows =
     ∷ says (offered S 4 (pair 2 1) 4 (point (pos 2) (pos 0))) (refused 12 [])
     ∷ says (offered S 4 (pair 3 1) 5 (point (pos 0) (pos 0))) (refused 13 [])
     ∷ says (offered S 4 (pair 3 1) 4 (point (pos 0) (pos 0))) (refused 11 [])
+    -- growing, our own: S by a cart T, and by a cart that is a point; S and T on two floors: 13
+    ∷ writes (λ out. growWritten S T out) 5
+    (pos 0 ∷ negsuc 0 ∷ pos 2 ∷ negsuc 0 ∷ pos 2 ∷ pos 2 ∷ negsuc 0 ∷ pos 2 ∷ negsuc 0 ∷ pos 0 ∷ [])
+    ∷ writes (λ out. growWritten S (pair 0 0) out) 4 S
+    ∷ record {
+      given = writtenBetween (on S 7) (on T 8) growWritten (pair 7 7);
+      stated = record { reply = refused 13 []; output = pair 7 7 };
+    }
     ∷ []
 
 pub rows-hold : map (λ (r : Case). r .given) rows ≡ map (λ (r : Case). r .stated) rows
 unfolding rows maxCorners maxCoordinate maxPoints maxPart turn breaks precedes samePoint max shapeOf
     badCount tooMany outside someOutside equalPair leftBroken breakingEdge breakingCorner ruleBroken brokenEdge brokenCorner badStart judged
-    noRoom overwritten sumWritten mergeWritten tooManyPoints sweepWritten
+    noRoom overwritten sumWritten mergeWritten growWritten tooManyPoints sweepWritten
     squared lengthSquared furthestPair lengthFrom lengthTo lengthReply
     edgeTurn height edgeSquared noWider widthEdge widthCorner widthRounded widthReply
     inside apart notLeft onRim touching relationReply

@@ -1,7 +1,8 @@
--- Mirror, sum and merge (document 01, "What each question asks", third paragraph), with their refusals in order.
+-- Mirror, sum and merge (document 01, "What each question asks", third paragraph), and grow, with their refusals in order.
 --     mirrorWritten l out     "Mirror: the shape of all (-x, -y)"
 --     sumWritten a b out      "Sum: the shape of all corner-plus-corner points"
 --     mergeWritten a b out    "Merge: the shape of both corner lists taken together"
+--     growWritten b a out     our own, not of document 01: the shape of all obstacle-corner minus cart-corner points
 -- That 6 and 7 cannot come of a mirror (`Meaning.antt`), nor 7 of a merge (`Meaning.antt` of hull), is proved.
 use mathlib.Core.List.{List, _++_}
 use lib.IntN.{ℤ}
@@ -24,3 +25,7 @@ sumWritten a b out = pairWritten a b (shapeOf (sums (points a) (points b))) out
 
 unfoldable pub mergeWritten : List ℤ → List ℤ → List ℤ → Written
 mergeWritten a b out = pairWritten a b (shapeOf (points a ++ points b)) out
+
+-- the obstacle, then the cart's outline, its corners relative to the cart's own origin
+unfoldable pub growWritten : List ℤ → List ℤ → List ℤ → Written
+growWritten b a out = pairWritten b a (shapeOf (sums (points b) (mirrored (points a)))) out

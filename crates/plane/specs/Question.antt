@@ -18,7 +18,7 @@ use Rattle.plane.specs.Judge.{judged}
 use Rattle.plane.specs.Corner.{shapeOf, sums, mirrored}
 use Rattle.plane.specs.Output.{answerRows}
 use Rattle.plane.specs.Furthest.{directionRows, furthestReply}
-use Rattle.plane.specs.Combine.{mirrorWritten, sumWritten, mergeWritten}
+use Rattle.plane.specs.Combine.{mirrorWritten, sumWritten, mergeWritten, growWritten}
 use Rattle.plane.specs.Sweep.{pointRows, roomRows, sweepWritten}
 use Rattle.plane.specs.Measure.{lengthReply, widthReply}
 use Rattle.plane.specs.Separation.{apart, relationReply, insideReply}
@@ -34,6 +34,7 @@ pub data Question : Type 0 where
   Mirror : Floored → List ℤ → Question
   Sum : Floored → Floored → List ℤ → Question
   Merge : Floored → Floored → List ℤ → Question
+  Grow : Floored → Floored → List ℤ → Question
   Sweep : Floored → List ℤ → Question
   Length : Floored → Question
   Width : Floored → Question
@@ -49,6 +50,7 @@ reply (Furthest a d) = withFloor (a .floor) (furthestReply (a .list) d)
 reply (Mirror a out) = writtenOn (a .floor) (mirrorWritten (a .list) out) .reply
 reply (Sum a b out) = writtenBetween a b sumWritten out .reply
 reply (Merge a b out) = writtenBetween a b mergeWritten out .reply
+reply (Grow b a out) = writtenBetween b a growWritten out .reply
 reply (Sweep a out) = writtenOn (a .floor) (sweepWritten (a .list) out) .reply
 reply (Length a) = withFloor (a .floor) (lengthReply (a .list))
 reply (Width a) = withFloor (a .floor) (widthReply (a .list))
@@ -64,6 +66,7 @@ table (Furthest a d) = shapeRows 1 (a .list) ++ directionRows d
 table (Mirror a out) = shapeRows 1 (a .list) ++ answerRows (shapeOf (mirrored (points (a .list)))) out
 table (Sum a b out) = pairRows a b ++ answerRows (shapeOf (sums (points (a .list)) (points (b .list)))) out
 table (Merge a b out) = pairRows a b ++ answerRows (shapeOf (points (a .list) ++ points (b .list))) out
+table (Grow b a out) = pairRows b a ++ answerRows (shapeOf (sums (points (b .list)) (mirrored (points (a .list))))) out
 table (Sweep a out) = pointRows (a .list) ++ roomRows (shapeOf (points (a .list))) out
 table (Length a) = shapeRows 1 (a .list)
 table (Width a) = shapeRows 1 (a .list) ++ (row 10 (ltb (length (points (a .list))) 3) [] ∷ [])

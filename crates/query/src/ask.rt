@@ -99,12 +99,14 @@ fn write(
     }
 }
 
-// The mirror image, the vector sum, the shape of both together, or that of the points of a sweep.
+// The mirror image, the vector sum, the shape of both together, the first grown by the second, or the shape of the
+// points of a sweep.
 fn shape(which: Written, a: &[i32], f: u16, b: &[i32], g: u16, out: &mut [i32]) -> Answer {
     match which {
         Written::Mirror => questions::mirror(a, f, out),
         Written::Sum => questions::sum(a, f, b, g, out),
         Written::Merge => questions::merge(a, f, b, g, out),
+        Written::Grow => questions::grow(a, f, b, g, out),
         Written::Sweep => questions::sweep(a, f, out),
     }
 }

@@ -34,6 +34,7 @@ pub enum Written {
     Mirror,
     Sum,
     Merge,
+    Grow,
     Sweep,
 }
 
@@ -96,6 +97,7 @@ fn shapes(found: Entry, word: &[u8]) -> Entry {
     entry = write(entry, word, b"mirror", Written::Mirror, one);
     entry = write(entry, word, b"sum", Written::Sum, two);
     entry = write(entry, word, b"merge", Written::Merge, two);
+    entry = write(entry, word, b"grow", Written::Grow, two);
     write(entry, word, b"sweep", Written::Sweep, one)
 }
 

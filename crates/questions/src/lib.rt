@@ -19,7 +19,7 @@ ghost use Rattle.plane.specs.Refusal.{Valid};
 ghost use Rattle.plane.specs.Floor.{on, withFloor, between, writtenBetween};
 ghost use Rattle.plane.specs.Judge.{judged};
 ghost use Rattle.plane.specs.Furthest.{furthestReply};
-ghost use Rattle.plane.specs.Combine.{mirrorWritten, sumWritten, mergeWritten};
+ghost use Rattle.plane.specs.Combine.{mirrorWritten, sumWritten, mergeWritten, growWritten};
 ghost use Rattle.plane.specs.Sweep.{sweepWritten};
 ghost use Rattle.plane.specs.Measure.{lengthReply, widthReply};
 ghost use Rattle.plane.specs.Separation.{apart, relationReply, insideReply};
@@ -160,6 +160,30 @@ pub fn merge(a: &[i32], f: u16, b: &[i32], g: u16, out: &mut [i32]) -> Answer
     }
     let mut shape = [0i32; limits::PAIR_NUMBERS];
     let n = hull::merge(a, b, &mut shape);
+    deliver::deliver(&shape[..2 * n], f, out)
+}
+
+// Writes the obstacle grown by the cart's outline at the front of the output, and answers how many corners it has: the
+// shape of all obstacle-corner minus cart-corner points. The outline's corners are relative to the cart's own origin; a
+// cart whose origin stands at a place meets the obstacle exactly if that place is a point of the grown one. Either may
+// be a point or a segment. Refused, with the output as it was: 1 to 5 of the obstacle, then of the cart; different
+// floors; then an answer of too many corners, one out of range, and too small an output. On success all behind the
+// written numbers is kept.
+// Ruled out: cart not mirrored; obstacle mirrored.
+pub fn grow(obstacle: &[i32], f: u16, cart: &[i32], g: u16, out: &mut [i32]) -> Answer
+    ensures { λ r. ⌜
+        (ofAnswer r
+        ≡ writtenBetween (on (now (obstacle .entry)) f) (on (now (cart .entry)) g)
+        growWritten (now (out .entry)) .reply)
+        × (now (out .exit)
+        ≡ writtenBetween (on (now (obstacle .entry)) f) (on (now (cart .entry)) g)
+        growWritten (now (out .entry)) .output) ⌝ }
+{
+    if let Admission::No(refusal) = admission::admit_pair(obstacle, f, cart, g) {
+        return Answer::No(refusal);
+    }
+    let mut shape = [0i32; limits::PAIR_NUMBERS];
+    let n = separation::differences(obstacle, cart, &mut shape);
     deliver::deliver(&shape[..2 * n], f, out)
 }
 

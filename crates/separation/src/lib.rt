@@ -1,13 +1,17 @@
-// Inner functions for how two shapes stand to each other (document 01, "Relation" and "Inside"). Callers
-// ask the crate `questions`.
+// Inner functions for how two shapes stand to each other (document 01, "Relation" and "Inside"), and for their
+// differences. Callers ask the crate `questions`.
 mod around;
 pub mod place;
 mod within;
 
 ghost use mathlib.Core.Path.{_≡_};
+ghost use Prim.Native.Nat.{_+_, _≤_};
+ghost use lib.ListN.{length};
 ghost use Rattle.plane.specs.Point.{points};
 ghost use Rattle.plane.specs.Refusal.{Valid};
-ghost use Rattle.plane.specs.Separation.{inside as Separation·inside};
+ghost use Rattle.plane.specs.Corner.{shapeOf};
+ghost use Rattle.plane.specs.Separation.{inside as Separation·inside, differences as Separation·differences};
+ghost use Rattle.polygon.specs.Front.{Front};
 ghost use Rattle.separation.specs.Place.{placeNumber};
 ghost use Rattle.separation.specs.Around.{related};
 use place::Place;
@@ -25,6 +29,20 @@ pub fn relation(a: &[i32], b: &[i32]) -> Place
     let mut image = [0i32; limits::SHAPE_NUMBERS];
     opposite::mirror(b, &mut image);
     around::around(a, &image[..2 * corners::count(b)])
+}
+
+// Writes the shape of all differences, a corner of the first less a corner of the second, at the front of the buffer,
+// and says how many corners it has: at most as many as both shapes together. It is the sum of the first and the mirror
+// image of the second.
+pub fn differences(a: &[i32], b: &[i32], buf: &mut [i32]) -> usize
+    requires { ⌜ Valid (now a) × Valid (now b)
+        × (length (points (now a)) + length (points (now b)) ≤ length (points (now buf))) ⌝ }
+    ensures { λ r. ⌜ Front (shapeOf (Separation·differences (points (now (a .entry))) (points (now (b .entry))))) r
+        (now (buf .exit)) ⌝ }
+{
+    let mut image = [0i32; limits::SHAPE_NUMBERS];
+    opposite::mirror(b, &mut image);
+    calipers::sum(a, &image[..2 * corners::count(b)], buf)
 }
 
 // Whether the first shape is inside the second: a point and a segment by their ends, a polygon by a walk round both.

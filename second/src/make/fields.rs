@@ -4,6 +4,7 @@ use super::dice::Dice;
 use super::floors::texts;
 use super::{List, apart, damage, line, numbers, pairs, points, shape_text, shapes, tails};
 use crate::answer::answer;
+use crate::combine::mirror as mirror_of;
 use crate::direction;
 use crate::plane::{Point, Shape, point};
 
@@ -82,6 +83,15 @@ pub fn sum(dice: &mut Dice) -> Vec<String> {
 pub fn merge(dice: &mut Dice) -> Vec<String> {
     let lists = two_lists(dice, pairs::for_merge);
     with_room(dice, "merge", lists)
+}
+
+/// The cart is mirrored, so that the differences are the sums of a pair made for them.
+pub fn grow(dice: &mut Dice) -> Vec<String> {
+    let lists = two_lists(dice, |dice| {
+        let (obstacle, image) = pairs::for_sum(dice);
+        (obstacle, mirror_of(&image))
+    });
+    with_room(dice, "grow", lists)
 }
 
 pub fn sweep(dice: &mut Dice) -> Vec<String> {

@@ -2,6 +2,7 @@
 --     three-answered                           a shape of three corners or more has a width
 --     answered-no-narrower                     no direction is narrower than the width
 --     answered-attains, answered-fraction      the direction out of the edge has its t and q, and q is above 0
+--     top-is, bottom-is                        the fraction that an answer of clearance tells is its candidate's
 --     answered-no-wider, -gap-no-wider         no strip between the shapes is wider than the clearance; no gap in a direction
 --     answered-bottom                          what the clearance is divided by is above 0
 --     answered-corridor, answered-wide         where they are apart, the strip across the step between the nearest points is as wide
@@ -106,13 +107,13 @@ module _ (l : List ℤ) (e : ℕ) (c t q w : ℤ) (h : widthReply l ≡ answered
 -- ---- clearance
 
 module _ (A B : List Point) where
-  top-is : (c : Candidate) → answerTop (numbersOf A B c) ≡ top A B c
+  pub top-is : (c : Candidate) → answerTop (numbersOf A B c) ≡ top A B c
   unfolding top
   top-is (corners i j) = refl
   top-is (onSecond i e) = size-square (turnOn B e (corner A i))
   top-is (onFirst j e) = size-square (turnOn A e (corner B j))
 
-  bottom-is : (c : Candidate) → answerBottom (numbersOf A B c) ≡ bottom A B c
+  pub bottom-is : (c : Candidate) → answerBottom (numbersOf A B c) ≡ bottom A B c
   unfolding bottom
   bottom-is (corners i j) = refl
   bottom-is (onSecond i e) = refl

@@ -9,10 +9,10 @@ use lib.IntN.{ℤ}
 use Rattle.plane.specs.Point.{points}
 use Rattle.plane.specs.Reply.{answered, refused, Row, row}
 use Rattle.plane.specs.Judge.{judged}
-use Rattle.plane.specs.Corner.{shapeOf, sums}
+use Rattle.plane.specs.Corner.{shapeOf, sums, mirrored}
 use Rattle.plane.specs.Output.{answerRows}
 use Rattle.plane.specs.Furthest.{directionRows, furthestReply}
-use Rattle.plane.specs.Combine.{mirrorWritten, sumWritten, mergeWritten}
+use Rattle.plane.specs.Combine.{mirrorWritten, sumWritten, mergeWritten, growWritten}
 use Rattle.plane.specs.Sweep.{sweepWritten}
 use Rattle.plane.specs.Measure.{lengthReply, widthReply}
 use Rattle.plane.specs.Separation.{apart, relationReply, insideReply}
@@ -20,13 +20,13 @@ use Rattle.plane.specs.Offer.{offerReply}
 use Rattle.plane.specs.Tangent.{tangentsReply}
 use Rattle.plane.specs.Clearance.{clearanceReply}
 use Rattle.plane.specs.Floor.{writtenBetween}
-use Rattle.plane.specs.Question.{Question, Judge, Furthest, Mirror, Sum, Merge, Sweep, Length, Width, Relation, Inside, Clearance}
-use Rattle.plane.specs.Question.{Offer, Tangents, reply, table}
+use Rattle.plane.specs.Question.{Question, Judge, Furthest, Mirror, Sum, Merge, Grow, Sweep, Length, Width, Relation, Inside}
+use Rattle.plane.specs.Question.{Offer, Clearance, Tangents, reply, table}
 use Rattle.plane.specs.theory.refusals.Rows.{NoneApply, First, firstRow-given, firstRow-none, firstRow-answered, firstRow-refused}
 use Rattle.plane.specs.theory.refusals.Floors.{ByTable, withFloor-table, between-table}
 
 pub follows : (q : Question) → ByTable (reply q) (table q)
-unfolding judged furthestReply mirrorWritten sumWritten mergeWritten sweepWritten lengthReply widthReply relationReply insideReply
+unfolding judged furthestReply mirrorWritten sumWritten mergeWritten growWritten sweepWritten lengthReply widthReply relationReply insideReply
     offerReply clearanceReply tangentsReply writtenBetween
 follows (Judge a) = withFloor-table (a .floor) (judged (a .list)) (table (Judge a)) (_, refl)
 follows (Furthest a d) = withFloor-table (a .floor) (furthestReply (a .list) d) (table (Furthest a d)) (_, refl)
@@ -35,6 +35,8 @@ follows (Sum a b out) =
     between-table a b (λ l m. sumWritten l m out .reply) (answerRows (shapeOf (sums (points (a .list)) (points (b .list)))) out) (_, refl)
 follows (Merge a b out) =
     between-table a b (λ l m. mergeWritten l m out .reply) (answerRows (shapeOf (points (a .list) ++ points (b .list))) out) (_, refl)
+follows (Grow b a out) = between-table b a (λ l m. growWritten l m out .reply)
+    (answerRows (shapeOf (sums (points (b .list)) (mirrored (points (a .list))))) out) (_, refl)
 follows (Sweep a out) = withFloor-table (a .floor) (sweepWritten (a .list) out .reply) (table (Sweep a out)) (_, refl)
 follows (Length a) = withFloor-table (a .floor) (lengthReply (a .list)) (table (Length a)) (_, refl)
 follows (Width a) = withFloor-table (a .floor) (widthReply (a .list)) (table (Width a)) (_, refl)

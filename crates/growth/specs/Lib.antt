@@ -1,0 +1,5 @@
+-- Growing obstacles by a cart's outline: the definitions; what growing is for; cases; then the theory behind it.
+pub mod Grown
+pub mod Growing
+pub mod Cases
+pub mod theory
