@@ -21,7 +21,11 @@ pub fn set_number(numbers: &mut [i32], at: usize, value: i32) {
 
 // A position so far behind another; the last there is where there are no more.
 pub fn after(at: usize, by: usize) -> usize {
-    if at <= usize::MAX - by { at + by } else { usize::MAX }
+    if at <= usize::MAX - by {
+        at + by
+    } else {
+        usize::MAX
+    }
 }
 
 // A number less another; 0 where that is greater.

@@ -195,9 +195,7 @@ pub fn none() -> Kinds {
 
 // The kinds of a question on one to eight shapes.
 pub fn shapes() -> Kinds {
-    Kinds {
-        digits: 0x44444441,
-    }
+    Kinds { digits: 0x44444441 }
 }
 
 // The kinds of a question with one field.

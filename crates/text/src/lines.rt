@@ -99,8 +99,14 @@ fn refuse_long(mut reading: Reading, out: &mut [u8]) -> Reading {
             field: 0,
         };
         let filled = reading.filled;
-        reading.filled =
-            reasons::unreadable(out, filled, Reason::LineTooLong, reading.words, place, b"");
+        reading.filled = reasons::unreadable(
+            out,
+            filled,
+            Reason::LineTooLong,
+            reading.words,
+            place,
+            b"",
+        );
         return anew(reading);
     }
     reading

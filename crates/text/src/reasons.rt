@@ -96,20 +96,40 @@ fn long(out: &mut [u8], now: usize, reason: Reason) -> usize {
     match reason {
         Reason::LineTooLong => answers::word(out, now, b"a line has at most 65,536 characters"),
         Reason::UnknownWord => {
-            answers::word(out, now, b"this is no question; the line help lists them all")
+            answers::word(
+                out,
+                now,
+                b"this is no question; the line help lists them all",
+            )
         }
         Reason::MissingField => {
-            answers::word(out, now, b"this field is missing; each field stands behind a bar |")
+            answers::word(
+                out,
+                now,
+                b"this field is missing; each field stands behind a bar |",
+            )
         }
         Reason::TooManyFields => answers::word(out, now, b"the question has no such field"),
         Reason::NotANumber => {
-            answers::word(out, now, b"neither a whole number of 32 bits nor a name that is remembered")
+            answers::word(
+                out,
+                now,
+                b"neither a whole number of 32 bits nor a name that is remembered",
+            )
         }
         Reason::TooManyNumbers => {
-            answers::word(out, now, b"the fields of a line hold at most 16,384 numbers together")
+            answers::word(
+                out,
+                now,
+                b"the fields of a line hold at most 16,384 numbers together",
+            )
         }
         Reason::WrongCount => answers::word(out, now, b"this field takes another count of numbers"),
-        Reason::NotACount => answers::word(out, now, b"this counts something and cannot be below 0"),
+        Reason::NotACount => answers::word(
+            out,
+            now,
+            b"this counts something and cannot be below 0",
+        ),
         _ => of_kind(out, now, reason),
     }
 }
@@ -118,15 +138,31 @@ fn long(out: &mut [u8], now: usize, reason: Reason) -> usize {
 fn of_kind(out: &mut [u8], now: usize, reason: Reason) -> usize {
     match reason {
         Reason::NotAReading => {
-            answers::word(out, now, b"a reading is mm or e8 and a double's bits, 0x and 16 digits")
+            answers::word(
+                out,
+                now,
+                b"a reading is mm or e8 and a double's bits, 0x and 16 digits",
+            )
         }
         Reason::NotBytes => answers::word(out, now, b"bytes are pairs of hexadecimal digits"),
-        Reason::NotAName => answers::word(out, now, b"a name in a book is a number from 0 to 65535"),
+        Reason::NotAName => answers::word(
+            out,
+            now,
+            b"a name in a book is a number from 0 to 65535",
+        ),
         Reason::NotAWalk => {
-            answers::word(out, now, b"a walk is two counts of edges passed, and 1 if it is over, else 0")
+            answers::word(
+                out,
+                now,
+                b"a walk is two counts of edges passed, and 1 if it is over, else 0",
+            )
         }
         Reason::NotACall => {
-            answers::word(out, now, b"a call is a count of corners, a colon and a room, as 2:4")
+            answers::word(
+                out,
+                now,
+                b"a call is a count of corners, a colon and a room, as 2:4",
+            )
         }
         Reason::NotAFloor => answers::word(out, now, b"a floor is @ and a number from 0 to 65535"),
         _ => answers::word(

@@ -8,7 +8,7 @@ use Rattle.text.proofs.fields.take_all.Statement.{statement}
 use Rattle.text.proofs.fields.take_all.Tie as tie
 
 abbrev Inv-loop : tie.InvT-loop
-Inv-loop line kinds count values₀ marks₀ cells named bar₀ held₀ k₀ values marks bar held k = 
+Inv-loop line kinds count values₀ marks₀ cells named bar₀ held₀ k₀ values marks bar held k =
     (k ≤ count) × ((length values ≡ length values₀) × (length marks ≡ length marks₀))
 
 abbrev μ-loop : tie.MeasureT-loop
