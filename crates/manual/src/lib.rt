@@ -134,6 +134,16 @@ fn on_two(out: &mut [u8], filled: usize) -> usize {
         ask:    inside | 100 100 | 0 0 1200 0 1200 800 0 800
         answer: ok yes @0
 
+    offer | SHAPE | SHAPE | DX DY
+        yes if that way every corner of the first is below every corner of the second, so that they are apart
+        ask:    offer | 0 0 2 0 2 2 0 2 | 3 1 | 1 0
+        answer: ok yes @0
+
+    find | SHAPE | SHAPE
+        a direction that offer accepts, or none if the shapes are not apart
+        ask:    find | 0 0 2 0 2 2 0 2 | 3 1
+        answer: ok 1 0 @0
+
     clearance | SHAPE | SHAPE
         0 if not apart; cc, two corners, squared distance; ce (corner of the first, edge) or ec, t, q; last mm
         ask:    clearance | 0 40 | -3000 0 3000 0
@@ -167,6 +177,11 @@ fn written(out: &mut [u8], filled: usize) -> usize {
         the smallest shape that holds both
         ask:    merge | 0 0 2 0 2 2 0 2 | 5 1
         answer: ok 5 @0 | 0 0 2 0 5 1 2 2 0 2
+
+    grow | OBSTACLE | CART | [ROOM]
+        the obstacle grown by the cart's outline: where the cart's own origin may not stand
+        ask:    grow | 0 0 2 0 2 2 0 2 | 0 0 1 0 0 1
+        answer: ok 5 @0 | 0 -1 2 -1 2 2 -1 2 -1 0
 
     sweep | POINTS | [ROOM]
         the smallest shape that holds up to 1,024 points x y x y .. in any order
@@ -262,6 +277,7 @@ fn refusals(out: &mut [u8], filled: usize) -> usize {
      5  the first corner is not the lowest, and the leftmost of the lowest
     10  the width of a point or a segment is asked for
     11  the direction is 0 0, or a part of it is outside -2000000 to 2000000
+    12  the parts of the direction have a common divisor above 1: ask 1 2 and not 2 4
     13  the two shapes are on different floors
      6  the answer would have more than 1,024 corners
      7  a corner of the answer would be out of range

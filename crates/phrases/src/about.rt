@@ -12,6 +12,8 @@ pub enum About {
     Width,
     Relation,
     Inside,
+    Offer,
+    Found,
     Clearance,
     Tangents,
     Written,
@@ -32,6 +34,8 @@ pub fn question(word: &[u8]) -> About {
     found = row(found, word, b"width", About::Width);
     found = row(found, word, b"relation", About::Relation);
     found = row(found, word, b"inside", About::Inside);
+    found = row(found, word, b"offer", About::Offer);
+    found = row(found, word, b"find", About::Found);
     found = row(found, word, b"clearance", About::Clearance);
     found = row(found, word, b"tangents", About::Tangents);
     further(found, word)
@@ -43,6 +47,7 @@ fn further(before: About, word: &[u8]) -> About {
     found = row(found, word, b"mirror", About::Written);
     found = row(found, word, b"sum", About::Written);
     found = row(found, word, b"merge", About::Written);
+    found = row(found, word, b"grow", About::Written);
     found = row(found, word, b"sweep", About::Written);
     found = row(found, word, b"bookread", About::Written);
     found = row(found, word, b"part", About::Written);
@@ -66,6 +71,8 @@ pub fn answered(out: &mut [u8], filled: usize, about: About, told: &[u64]) -> us
         About::Width => width(out, filled, told),
         About::Relation => relation(out, filled, at(told, 1)),
         About::Inside => inside(out, filled, at(told, 1)),
+        About::Offer => offer(out, filled, at(told, 1)),
+        About::Found => found_direction(out, filled, at(told, 1)),
         About::Clearance => clearance(out, filled, told),
         About::Tangents => tangents(out, filled, told),
         About::Written => written(out, filled, at(told, 1)),
@@ -158,6 +165,36 @@ fn inside(out: &mut [u8], filled: usize, whether: u64) -> usize {
         out,
         filled,
         b"some corner of the first shape is outside the second",
+    )
+}
+
+fn offer(out: &mut [u8], filled: usize, whether: u64) -> usize {
+    if whether == heads::YES {
+        return answers::word(
+            out,
+            filled,
+            b"every corner of the first shape is below every corner of the second that way: they are apart",
+        );
+    }
+    answers::word(
+        out,
+        filled,
+        b"some corner of the first shape is not below one of the second that way; they may be apart all the same",
+    )
+}
+
+fn found_direction(out: &mut [u8], filled: usize, first: u64) -> usize {
+    if first == heads::NONE {
+        return answers::word(
+            out,
+            filled,
+            b"the shapes are not apart: there is no such direction",
+        );
+    }
+    answers::word(
+        out,
+        filled,
+        b"that way every corner of the first shape is below every corner of the second: they are apart",
     )
 }
 

@@ -28,6 +28,8 @@ pub const NUMBERS: u64 = 1000000000000000011;
 
 pub const X: u64 = 1000000000000000012;
 
+pub const NONE: u64 = 1000000000000000013;
+
 // Any other word.
 const OTHER: u64 = 1000000000000000000;
 
@@ -100,6 +102,7 @@ fn code(word: &[u8]) -> u64 {
     found = row(found, word, b"finished", FINISHED);
     found = row(found, word, b"names", NAMES);
     found = row(found, word, b"numbers", NUMBERS);
+    found = row(found, word, b"none", NONE);
     row(found, word, b"x", X)
 }
 

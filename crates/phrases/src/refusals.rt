@@ -170,6 +170,11 @@ fn of_answer(out: &mut [u8], filled: usize, told: &[u64]) -> usize {
             filled,
             b"a direction is not 0 0, and its parts go from -2000000 to 2000000",
         ),
+        12 => answers::word(
+            out,
+            filled,
+            b"both parts of the direction can be divided by one number; ask the shortest that points the same way",
+        ),
         13 => answers::word(out, filled, b"the two shapes are on different floors"),
         _ => of_record(out, filled, told),
     }
