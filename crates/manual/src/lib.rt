@@ -255,9 +255,9 @@ fn of_program(out: &mut [u8], filled: usize) -> usize {
         ask:    words off
         answer: ok words off
 
-    draw | SHAPE | [SHAPE] ..
-        a picture of up to eight shapes, one line of SVG; of two with the outline of their sum, the lines that
-        just touch both and where they are nearest
+    draw | SHAPE | [SHAPE]
+        a picture of one or two shapes, one line of SVG; of two with the outline of their sum and, if they
+        are apart, the lines that just touch both; refused as the sum is
 
 ",
     )

@@ -233,17 +233,12 @@ fn view_box(out: &mut [u8], filled: usize, view: Frame) -> usize {
 
 // Adds the width and the height of a picture, with what it has beside and below the shapes.
 fn extents(out: &mut [u8], filled: usize, view: Frame) -> usize {
-    let side = frames::pixel(view) * SIDE / 1000000;
-    let below = frames::pixel(view) * STRIP / 1000000;
-    let margins = 2 * frames::margin(view);
-    let wide = frames::span(view.left, view.right) + margins + side;
-    let now = answers::labelled(out, filled, b" ", wide);
-    answers::labelled(
-        out,
-        now,
-        b" ",
-        frames::span(view.low, view.high) + margins + below,
-    )
+    let now = answers::word(out, filled, b" ");
+    let wide = frames::whole(view.left, view.right, view) + frames::pixel(view) * SIDE;
+    let then = millionths(out, now, wide);
+    let between = answers::word(out, then, b" ");
+    let high = frames::whole(view.low, view.high, view) + frames::pixel(view) * STRIP;
+    millionths(out, between, high)
 }
 
 // Adds a shape in the colours of a style: its outline, filled lightly, and its corners.

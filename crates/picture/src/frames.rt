@@ -122,6 +122,13 @@ pub fn margin(view: Frame) -> u64
     breadth(view) / 12 + 1
 }
 
+// A width or a height with both margins, in millionths.
+pub fn whole(from: i32, to: i32, view: Frame) -> u64
+    ensures { λ r. ⌜ r ≤ 6000000000000000 ⌝ }
+{
+    (span(from, to) + 2 * margin(view)) * 1000000
+}
+
 // The pixels of a width or a height with both margins. (No picture has a thousand.)
 pub fn pixels(from: i32, to: i32, view: Frame) -> u64
     ensures { λ r. ⌜ r ≤ 1000 ⌝ }

@@ -80,7 +80,8 @@ enum Check {
     No(Reason),
 }
 
-// Reads the fields of a line; those of shapes may be names of a shelf. The reasons against it come in this order: a word that is not known;
+// Reads the fields of a line; those of shapes may be names of a shelf. The reasons against it come in this order: a
+// word that is not known;
 // too few fields or too many; the first word that is no number, number that finds no room, floor
 // that is none, or field that is no reading or no bytes; the first field whose numbers are not what
 // its kind says.
@@ -532,7 +533,7 @@ fn bar_before(line: &[u8], k: usize) -> usize {
     bar
 }
 
-// The word where the reading of a field stopped: the first that is no number, or all of a field that is of another kind.
+// The word where the reading of a field stopped: the first that is no number, or all of a field of another kind.
 pub fn stopped(line: &[u8], reason: Reason, field: usize) -> &[u8] {
     let text = text_of(line, field);
     match reason {
