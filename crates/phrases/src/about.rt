@@ -207,21 +207,21 @@ fn clearance(out: &mut [u8], filled: usize, told: &[u64]) -> usize {
         return answers::word(out, last, b" of the second");
     }
     if how == heads::CORNER_EDGE {
-        let now = gap(out, filled, told);
+        let now = gap(out, filled, told, b" of the first shape and edge ");
         return answers::word(out, now, b" of the second");
     }
     if how == heads::EDGE_CORNER {
-        let now = gap(out, filled, told);
-        return answers::word(out, now, b" of the first, the corner of the second");
+        let now = gap(out, filled, told, b" of the second shape and edge ");
+        return answers::word(out, now, b" of the first");
     }
     answers::word(out, filled, b"the shapes are not apart: there is no gap")
 }
 
 // The gap between a corner of the one shape and an edge of the other.
-fn gap(out: &mut [u8], filled: usize, told: &[u64]) -> usize {
+fn gap(out: &mut [u8], filled: usize, told: &[u64], whose: &[u8]) -> usize {
     let now = units::metres(out, filled, at(told, 6));
     let then = answers::labelled(out, now, b" (rounded down) between corner ", at(told, 2));
-    answers::labelled(out, then, b" of one shape and edge ", at(told, 3))
+    answers::labelled(out, then, whose, at(told, 3))
 }
 
 fn tangents(out: &mut [u8], filled: usize, told: &[u64]) -> usize {
