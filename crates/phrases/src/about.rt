@@ -207,11 +207,11 @@ fn clearance(out: &mut [u8], filled: usize, told: &[u64]) -> usize {
         return answers::word(out, last, b" of the second");
     }
     if how == heads::CORNER_EDGE {
-        let now = gap(out, filled, told, b" of the first shape and edge ");
+        let now = gap(out, filled, told, b" of the first and edge ");
         return answers::word(out, now, b" of the second");
     }
     if how == heads::EDGE_CORNER {
-        let now = gap(out, filled, told, b" of the second shape and edge ");
+        let now = gap(out, filled, told, b" of the second and edge ");
         return answers::word(out, now, b" of the first");
     }
     answers::word(out, filled, b"the shapes are not apart: there is no gap")
