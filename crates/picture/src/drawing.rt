@@ -7,6 +7,11 @@ use crate::frames::Point;
 use text::answers;
 use text::numbers;
 
+// The strip below the shapes has so many pixels, and beside them are so many, so that a narrow one has a legend too.
+const STRIP: u64 = 110;
+
+const SIDE: u64 = 120;
+
 // Adds the picture of a shape.
 pub fn one(out: &mut [u8], filled: usize, a: &[i32]) -> usize {
     let view = frames::around(a);
@@ -19,7 +24,13 @@ pub fn one(out: &mut [u8], filled: usize, a: &[i32]) -> usize {
         view,
         b"<g fill=\"#0b57a4\" stroke=\"#0b57a4\">",
     );
-    answers::word(out, drawn, b"</svg>")
+    let told = legend(
+        out,
+        drawn,
+        view,
+        b"<text x=\"20\" y=\"88\" fill=\"#0b57a4\">&#9632; shape</text>",
+    );
+    answers::word(out, told, b"</svg>")
 }
 
 // What the picture of two shapes and the outline of their sum shows.
@@ -77,6 +88,13 @@ pub fn end_pair(out: &mut [u8], filled: usize, a: &[i32], b: &[i32], sum: &[i32]
         other,
         b"<g fill=\"#b8420a\" stroke=\"#b8420a\">",
     );
+    now = legend(
+        out,
+        now,
+        view,
+        b"<text x=\"20\" y=\"88\"><tspan fill=\"#0b57a4\">&#9632; first</tspan> <tspan fill=\"#b8420a\">\
+&#9632; second</tspan> <tspan fill=\"#666\">- - sum</tspan> <tspan fill=\"#2e7d32\">&#8212; tangents</tspan></text>",
+    );
     answers::word(out, now, b"</svg>")
 }
 
@@ -110,28 +128,98 @@ fn start(out: &mut [u8], filled: usize, list: &[i32], view: Frame) -> usize {
     answers::word(out, now, b")\"/>")
 }
 
-// Adds the beginning of a picture.
+// Adds the beginning of a picture: its size, what it shows, a white ground, and the scale bar below.
 fn begin(out: &mut [u8], filled: usize, view: Frame) -> usize {
-    let mut now = filled;
-    now = answers::word(
+    let sized = size(out, filled, view);
+    let boxed = view_box(out, sized, view);
+    let styled = style(out, boxed, view);
+    let grounded = ground(out, styled, view);
+    scale_bar(out, grounded, view)
+}
+
+// Adds the size of a picture in pixels: below the shapes stands a strip of its own.
+fn size(out: &mut [u8], filled: usize, view: Frame) -> usize {
+    let mut now = answers::word(
         out,
-        now,
-        b"<svg xmlns=\"http://www.w3.org/2000/svg\" width=\"640\"",
+        filled,
+        b"<svg xmlns=\"http://www.w3.org/2000/svg\" width=\"",
     );
-    now = answers::word(out, now, b" height=\"640\" viewBox=\"");
-    now = view_box(out, now, view);
-    now = answers::word(
+    now = answers::unsigned(out, now, frames::pixels(view.left, view.right, view) + SIDE);
+    now = answers::word(out, now, b"\" height=\"");
+    now = answers::unsigned(out, now, frames::pixels(view.low, view.high, view) + STRIP);
+    answers::word(out, now, b"\" viewBox=\"")
+}
+
+// Adds the letters and lines that a picture has.
+fn style(out: &mut [u8], filled: usize, view: Frame) -> usize {
+    let mut now = answers::word(
         out,
-        now,
-        b"\" style=\"background:#fff\" font-family=\"sans-serif\"",
-    );
-    now = answers::word(
-        out,
-        now,
-        b" font-size=\"20\" stroke-linejoin=\"round\" stroke-width=\"",
+        filled,
+        b"\" font-family=\"sans-serif\" font-size=\"20\" stroke-linejoin=\"round\" stroke-width=\"",
     );
     now = millionths(out, now, frames::pixel(view) * 2);
     answers::word(out, now, b"\">")
+}
+
+// Adds a white ground under all of the picture.
+fn ground(out: &mut [u8], filled: usize, view: Frame) -> usize {
+    let mut now = answers::word(out, filled, b"<rect x=\"");
+    now = answers::signed(out, now, frames::less(view.left, view));
+    now = answers::word(out, now, b"\" y=\"");
+    now = turned(out, now, frames::more(view.high, view));
+    answers::word(
+        out,
+        now,
+        b"\" width=\"100%\" height=\"100%\" fill=\"#fff\" stroke=\"none\"/>",
+    )
+}
+
+// Adds the beginning of the strip below the shapes, in which all is told in pixels.
+fn strip(out: &mut [u8], filled: usize, view: Frame) -> usize {
+    let mut now = answers::word(out, filled, b"<g stroke=\"none\" transform=\"translate(");
+    now = answers::signed(out, now, frames::less(view.left, view));
+    now = answers::word(out, now, b",");
+    now = turned(out, now, frames::less(view.low, view));
+    in_pixels(out, now, view)
+}
+
+// Adds the end of a place from which all is told in pixels.
+fn in_pixels(out: &mut [u8], filled: usize, view: Frame) -> usize {
+    let now = answers::word(out, filled, b")scale(");
+    let then = millionths(out, now, frames::pixel(view));
+    answers::word(out, then, b")\">")
+}
+
+// Adds a bar of a round length, and the length.
+fn scale_bar(out: &mut [u8], filled: usize, view: Frame) -> usize {
+    let bar = frames::bar(view);
+    let mut now = strip(out, filled, view);
+    now = answers::word(
+        out,
+        now,
+        b"<path fill=\"none\" stroke=\"#333\" stroke-width=\"2\" d=\"M20 18v10h",
+    );
+    now = answers::unsigned(out, now, bar * 1000000 / frames::pixel(view));
+    now = answers::word(out, now, b"v-10\"/><text fill=\"#333\" x=\"20\" y=\"52\">");
+    now = length(out, now, bar);
+    answers::word(out, now, b"</text></g>")
+}
+
+// Adds a length in millimetres, or in metres where they are whole.
+fn length(out: &mut [u8], filled: usize, millimetres: u64) -> usize {
+    if millimetres % 1000 == 0 {
+        let now = answers::unsigned(out, filled, millimetres / 1000);
+        return answers::word(out, now, b" m");
+    }
+    let now = answers::unsigned(out, filled, millimetres);
+    answers::word(out, now, b" mm")
+}
+
+// Adds the legend of a picture: what each colour is.
+fn legend(out: &mut [u8], filled: usize, view: Frame, entries: &[u8]) -> usize {
+    let now = strip(out, filled, view);
+    let then = answers::word(out, now, entries);
+    answers::word(out, then, b"</g>")
 }
 
 // Adds what a picture shows of the plane: where it begins, its width and its height.
@@ -143,16 +231,14 @@ fn view_box(out: &mut [u8], filled: usize, view: Frame) -> usize {
     extents(out, now, view)
 }
 
-// Adds the width and the height of a picture.
+// Adds the width and the height of a picture, with what it has beside and below the shapes.
 fn extents(out: &mut [u8], filled: usize, view: Frame) -> usize {
-    let now = extent(out, filled, view.left, view.right, view);
-    extent(out, now, view.low, view.high, view)
-}
-
-// Adds a width or a height with the margins.
-fn extent(out: &mut [u8], filled: usize, from: i32, to: i32, view: Frame) -> usize {
     let now = answers::word(out, filled, b" ");
-    answers::unsigned(out, now, frames::span(from, to) + 2 * frames::margin(view))
+    let wide = frames::whole(view.left, view.right, view) + frames::pixel(view) * SIDE;
+    let then = millionths(out, now, wide);
+    let between = answers::word(out, then, b" ");
+    let high = frames::whole(view.low, view.high, view) + frames::pixel(view) * STRIP;
+    millionths(out, between, high)
 }
 
 // Adds a shape in the colours of a style: its outline, filled lightly, and its corners.

@@ -110,16 +110,68 @@ pub fn unit(view: Frame, list: &[i32]) -> u64 {
 
 // A pixel, in millionths: the larger side has 640.
 pub fn pixel(view: Frame) -> u64
-    ensures { λ r. ⌜ r ≤ 10000000000000 ⌝ }
+    ensures { λ r. ⌜ (1 ≤ r) × (r ≤ 10000000000000) ⌝ }
 {
     (breadth(view) + 2 * margin(view)) * 3125 / 2
 }
 
 // What is left free on each side: about a twelfth of the larger.
 pub fn margin(view: Frame) -> u64
-    ensures { λ r. ⌜ r ≤ 400000000 ⌝ }
+    ensures { λ r. ⌜ (1 ≤ r) × (r ≤ 400000000) ⌝ }
 {
     breadth(view) / 12 + 1
+}
+
+// A width or a height with both margins, in millionths.
+pub fn whole(from: i32, to: i32, view: Frame) -> u64
+    ensures { λ r. ⌜ r ≤ 6000000000000000 ⌝ }
+{
+    (span(from, to) + 2 * margin(view)) * 1000000
+}
+
+// The pixels of a width or a height with both margins. (No picture has a thousand.)
+pub fn pixels(from: i32, to: i32, view: Frame) -> u64
+    ensures { λ r. ⌜ r ≤ 1000 ⌝ }
+{
+    (span(from, to) + 2 * margin(view)) * 1000000 / pixel(view) % 1000
+}
+
+// The length of the scale bar, in millimetres: 1, 2 or 5 with zeros, a third of the picture at most.
+pub fn bar(view: Frame) -> u64
+    ensures { λ r. ⌜ r ≤ 50000000000 ⌝ }
+{
+    let limit = pixel(view) / 5000;
+    let ten = power(limit);
+    if 5 * ten <= limit {
+        return 5 * ten;
+    }
+    if 2 * ten <= limit {
+        return 2 * ten;
+    }
+    ten
+}
+
+// The greatest power of ten up to a limit; 1 where that is below.
+fn power(limit: u64) -> u64
+    ensures { λ r. ⌜ r ≤ 10000000000 ⌝ }
+{
+    let mut ten = 1;
+    let mut i = 0usize;
+    while i < 7 {
+        ten = tenfold(ten, limit);
+        i += 1;
+    }
+    if ten <= 10000000000 { ten } else { 1 }
+}
+
+// Ten times a number, or the number itself if that passes the limit.
+fn tenfold(number: u64, limit: u64) -> u64 {
+    if number <= limit / 10 {
+        if number <= 1000000000000000000 {
+            return number * 10;
+        }
+    }
+    number
 }
 
 // The larger of width and height.

@@ -1,6 +1,7 @@
 // One arm and one function for each question: it asks the library and adds the reply, without its
 // newline.
 use crate::logs;
+use crate::names;
 use crate::parts;
 use crate::pictures;
 use crate::readings;
@@ -31,12 +32,14 @@ pub fn ask(
     room: usize,
     values: &[i32],
     marks: &[usize],
+    cells: &mut [usize],
+    named: &mut [i32],
 ) -> usize {
     let a = fields::field(values, marks, 0);
     let b = fields::field(values, marks, 1);
     let c = fields::field(values, marks, 2);
-    let f = fields::floor(line, 0);
-    let g = fields::floor(line, 1);
+    let f = fields::floor(line, 0, cells);
+    let g = fields::floor(line, 1, cells);
     match question {
         Question::Measure(which) => measure(out, filled, which, a, f, b, g),
         Question::Write(which) => write(out, filled, which, a, f, b, g, room),
@@ -46,14 +49,27 @@ pub fn ask(
         Question::Tablet => readings::tablet(out, filled, line),
         Question::LogRead => logs::read(out, filled, line, fields::name(b), room),
         Question::LogAdd => {
-            let on = fields::floor(line, 2);
+            let on = fields::floor(line, 2, cells);
             logs::add(out, filled, line, fields::name(b), on, c, room)
         }
+        Question::Shape => names::shape(out, filled, line, b, g, cells, named),
+        Question::Shapes => names::list(out, filled, cells, named),
+        Question::Words(on) => words(out, filled, on),
+        Question::Help => manual::page(out, filled),
         Question::Parts => parts::parts(out, filled, a, f, b, g, c),
         Question::Part => {
             let call = fields::field(values, marks, 3);
             parts::part(out, filled, a, f, b, g, c, call)
         }
+    }
+}
+
+// Says that words are on or off.
+fn words(out: &mut [u8], filled: usize, on: bool) -> usize {
+    if on {
+        answers::word(out, filled, b"ok words on")
+    } else {
+        answers::word(out, filled, b"ok words off")
     }
 }
 

@@ -15,6 +15,12 @@ pub enum Question {
     Part,
     LogRead,
     LogAdd,
+    // A shape is remembered, or all names are listed.
+    Shape,
+    Shapes,
+    // Sentences are turned on or off.
+    Words(bool),
+    Help,
 }
 
 // The questions that are answered by numbers or a word.
@@ -57,7 +63,34 @@ pub fn look_up(word: &[u8]) -> Entry {
     entry = pictures(entry, word);
     entry = in_parts(entry, word);
     entry = corners(entry, word);
-    logs(entry, word)
+    entry = logs(entry, word);
+    program(entry, word)
+}
+
+// Whether words are on after a line.
+pub fn in_words(question: Question, before: bool) -> bool {
+    if let Question::Words(on) = question {
+        return on;
+    }
+    before
+}
+
+// Whether an answer can have a sentence behind it.
+pub fn has_sentence(question: Question) -> bool {
+    match question {
+        Question::Draw => false,
+        Question::Words(_) => false,
+        _ => true,
+    }
+}
+
+// The field that holds a question's first shape.
+pub fn first_shape(question: Question) -> usize {
+    match question {
+        Question::Shape => 1,
+        Question::LogAdd => 2,
+        _ => 0,
+    }
 }
 
 // The measures of one shape.
@@ -127,6 +160,29 @@ fn logs(found: Entry, word: &[u8]) -> Entry {
     let added = fields::four(Kind::Bytes, Kind::Name, Kind::Shape, Kind::Room);
     let entry = row(found, word, b"bookread", Question::LogRead, named);
     row(entry, word, b"bookadd", Question::LogAdd, added)
+}
+
+// The lines that ask nothing of the geometry.
+fn program(found: Entry, word: &[u8]) -> Entry {
+    let label = fields::two(Kind::Label, Kind::Shape);
+    let mut entry = found;
+    entry = row(entry, word, b"shape", Question::Shape, label);
+    entry = row(entry, word, b"shapes", Question::Shapes, fields::none());
+    entry = row(
+        entry,
+        word,
+        b"words on",
+        Question::Words(true),
+        fields::none(),
+    );
+    entry = row(
+        entry,
+        word,
+        b"words off",
+        Question::Words(false),
+        fields::none(),
+    );
+    row(entry, word, b"help", Question::Help, fields::none())
 }
 
 // A row of the table, of a measure.

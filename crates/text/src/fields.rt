@@ -13,6 +13,7 @@ use crate::readings;
 use crate::readings::Reading;
 use crate::reasons::Reason;
 use crate::words;
+use shelf::names;
 
 // The most fields that a question has.
 const FIELDS: usize = 8;
@@ -48,6 +49,8 @@ pub enum Kind {
     Call,
     // Any calls, each as one word with a colon.
     Calls,
+    // A name for a shape, which holds no numbers.
+    Label,
 }
 
 // The kinds of a question's fields, as the digits of one number in base 16, the first lowest. (What
@@ -62,7 +65,13 @@ const UNKNOWN: u64 = u64::MAX;
 // How many fields stand ready and what the room among them says, or why the line is no question.
 pub enum Fields {
     Ready { count: usize, room: usize },
-    No(Reason),
+    No { reason: Reason, field: usize },
+}
+
+// Where the fields of a line are not as the question takes them, and why.
+enum Stop {
+    Nowhere,
+    At { reason: Reason, field: usize },
 }
 
 // Whether something is as the question takes it, or why not.
@@ -71,23 +80,34 @@ enum Check {
     No(Reason),
 }
 
-// Reads the fields of a line. The reasons against it come in this order: a word that is not known;
+// Reads the fields of a line; those of shapes may be names of a shelf. The reasons against it come in this order: a
+// word that is not known;
 // too few fields or too many; the first word that is no number, number that finds no room, floor
 // that is none, or field that is no reading or no bytes; the first field whose numbers are not what
 // its kind says.
-pub fn read(line: &[u8], kinds: Kinds, values: &mut [i32], marks: &mut [usize]) -> Fields {
+pub fn read(
+    line: &[u8],
+    kinds: Kinds,
+    values: &mut [i32],
+    marks: &mut [usize],
+    cells: &[usize],
+    named: &[i32],
+) -> Fields {
     if kinds.digits == UNKNOWN {
-        return Fields::No(Reason::UnknownWord);
+        return Fields::No {
+            reason: Reason::UnknownWord,
+            field: 0,
+        };
     }
     let count = words::count_bars(line);
-    if let Check::No(reason) = enough(kinds, count) {
-        return Fields::No(reason);
+    if let Stop::At { reason, field } = enough(kinds, count) {
+        return Fields::No { reason, field };
     }
-    if let Check::No(reason) = take_all(line, kinds, count, values, marks) {
-        return Fields::No(reason);
+    if let Stop::At { reason, field } = take_all(line, kinds, count, values, marks, cells, named) {
+        return Fields::No { reason, field };
     }
-    if let Check::No(reason) = fit_all(kinds, count, values, marks) {
-        return Fields::No(reason);
+    if let Stop::At { reason, field } = fit_all(kinds, count, values, marks) {
+        return Fields::No { reason, field };
     }
     let room = room_in(kinds, count, values, marks);
     Fields::Ready { count, room }
@@ -110,9 +130,13 @@ pub fn reading(line: &[u8], k: usize) -> Reading {
     readings::read(text_of(line, k))
 }
 
-// The floor of the shape that field k of a line holds; 0 where none is said. (A line whose field has a wrong one is not
-// asked.)
-pub fn floor(line: &[u8], k: usize) -> u16 {
+// The floor of the shape that field k of a line holds or names; 0 where none is said. (A line whose field has a wrong
+// one is not asked.)
+pub fn floor(line: &[u8], k: usize, cells: &[usize]) -> u16 {
+    let slot = slot_of(text_of(line, k), cells);
+    if 0 < slot {
+        return shelf::floor(cells, slot);
+    }
     match floors::read(text_of(line, k)) {
         Floor::On(floor) => floor,
         Floor::Wrong => 0,
@@ -165,6 +189,16 @@ pub fn unknown() -> Kinds {
     Kinds { digits: UNKNOWN }
 }
 
+// The kinds of a line that is a word alone.
+pub fn none() -> Kinds {
+    Kinds { digits: 0 }
+}
+
+// The kinds of a question on one to eight shapes.
+pub fn shapes() -> Kinds {
+    Kinds { digits: 0x44444441 }
+}
+
 // The kinds of a question with one field.
 pub fn one(a: Kind) -> Kinds {
     two(a, Kind::Nothing)
@@ -203,6 +237,7 @@ fn digit(kind: Kind) -> u64
         Kind::Walk => 8,
         Kind::Call => 9,
         Kind::Calls => 10,
+        Kind::Label => 11,
     }
 }
 
@@ -222,22 +257,29 @@ fn kind_at(kinds: Kinds, k: usize) -> Kind {
         8 => Kind::Walk,
         9 => Kind::Call,
         10 => Kind::Calls,
+        11 => Kind::Label,
         _ => Kind::Nothing,
     }
 }
 
 // Whether so many fields are what the question takes: the first that is not there may be left out,
 // and the last that is there is known.
-fn enough(kinds: Kinds, count: usize) -> Check {
+fn enough(kinds: Kinds, count: usize) -> Stop {
     if !may_be_left_out(kind_at(kinds, count)) {
-        return Check::No(Reason::MissingField);
+        return Stop::At {
+            reason: Reason::MissingField,
+            field: count,
+        };
     }
     if 0 < count {
         if let Kind::Nothing = kind_at(kinds, count - 1) {
-            return Check::No(Reason::TooManyFields);
+            return Stop::At {
+                reason: Reason::TooManyFields,
+                field: count - 1,
+            };
         }
     }
-    Check::Passed
+    Stop::Nowhere
 }
 
 // Whether a field may be left out.
@@ -257,7 +299,9 @@ fn take_all(
     count: usize,
     values: &mut [i32],
     marks: &mut [usize],
-) -> Check {
+    cells: &[usize],
+    named: &[i32],
+) -> Stop {
     let mut bar = words::next_bar(line, 0);
     let mut held = 0;
     let mut k = 0;
@@ -265,38 +309,74 @@ fn take_all(
         let from = after(bar);
         bar = words::next_bar(line, from);
         let text = words::between(line, from, bar);
-        match take(kind_at(kinds, k), text, values, held) {
+        match take(kind_at(kinds, k), text, values, held, cells, named) {
             Taken::Held(now) => {
                 held = now;
             }
             Taken::No(reason) => {
-                return Check::No(reason);
+                return Stop::At { reason, field: k };
             }
         }
         k += 1;
         set_mark(marks, k, held);
     }
-    Check::Passed
+    Stop::Nowhere
 }
 
 // Reads the text of a field into numbers, by its kind.
-fn take(kind: Kind, text: &[u8], values: &mut [i32], held: usize) -> Taken {
+fn take(
+    kind: Kind,
+    text: &[u8],
+    values: &mut [i32],
+    held: usize,
+    cells: &[usize],
+    named: &[i32],
+) -> Taken {
     match kind {
         Kind::Nothing => Taken::Held(held),
-        Kind::Shape => take_shape(text, values, held),
-        Kind::Further => take_shape(text, values, held),
+        Kind::Shape => take_shape(text, values, held, cells, named),
+        Kind::Further => take_shape(text, values, held, cells, named),
         Kind::Reading => take_reading(text, held),
         Kind::Bytes => take_bytes(text, held),
         Kind::Calls => take_calls(text, values, held),
+        Kind::Label => take_label(text, held),
         _ => numbers::read(text, values, held, false),
     }
 }
 
-// Reads the numbers of a shape, which stand behind its floor.
-fn take_shape(text: &[u8], values: &mut [i32], held: usize) -> Taken {
+// Reads the numbers of a shape, which stand behind its floor; or takes those of a shape that is named.
+fn take_shape(
+    text: &[u8],
+    values: &mut [i32],
+    held: usize,
+    cells: &[usize],
+    named: &[i32],
+) -> Taken {
+    let slot = slot_of(text, cells);
+    if 0 < slot {
+        return numbers::hold_all(values, held, shelf::list(cells, named, slot));
+    }
     match floors::read(text) {
         Floor::On(_) => numbers::read(floors::behind(text), values, held, false),
         Floor::Wrong => Taken::No(Reason::NotAFloor),
+    }
+}
+
+// The slot of the shape that the text of a field names; 0 where it names none.
+fn slot_of(text: &[u8], cells: &[usize]) -> usize {
+    let word = words::word_of(text);
+    if names::is_name(word) {
+        return shelf::find(cells, word);
+    }
+    0
+}
+
+// Whether the text of a field may be a shape's name.
+fn take_label(text: &[u8], held: usize) -> Taken {
+    if names::is_name(words::word_of(text)) {
+        Taken::Held(held)
+    } else {
+        Taken::No(Reason::NotALabel)
     }
 }
 
@@ -326,15 +406,15 @@ fn take_bytes(text: &[u8], held: usize) -> Taken {
 }
 
 // Whether the numbers of all fields are as many as their kinds say.
-fn fit_all(kinds: Kinds, count: usize, values: &[i32], marks: &[usize]) -> Check {
+fn fit_all(kinds: Kinds, count: usize, values: &[i32], marks: &[usize]) -> Stop {
     let mut k = 0;
     while k < count {
         if let Check::No(reason) = fit(kind_at(kinds, k), field(values, marks, k)) {
-            return Check::No(reason);
+            return Stop::At { reason, field: k };
         }
         k += 1;
     }
-    Check::Passed
+    Stop::Nowhere
 }
 
 // Whether the numbers of a field are what its kind says.
@@ -437,7 +517,7 @@ fn set_mark(marks: &mut [usize], k: usize, held: usize) {
 }
 
 // The text of field k of a line; empty where the line has no such field.
-fn text_of(line: &[u8], k: usize) -> &[u8] {
+pub fn text_of(line: &[u8], k: usize) -> &[u8] {
     let from = after(bar_before(line, k));
     words::between(line, from, words::next_bar(line, from))
 }
@@ -451,6 +531,19 @@ fn bar_before(line: &[u8], k: usize) -> usize {
         i += 1;
     }
     bar
+}
+
+// The word where the reading of a field stopped: the first that is no number, or all of a field of another kind.
+pub fn stopped(line: &[u8], reason: Reason, field: usize) -> &[u8] {
+    let text = text_of(line, field);
+    match reason {
+        Reason::LineTooLong => text,
+        Reason::MissingField => words::between(line, 0, 0),
+        Reason::UnknownWord => words::word_of(line),
+        Reason::NotANumber => numbers::wrong_word(floors::behind(text)),
+        Reason::NotAFloor => words::first_word(text),
+        _ => words::word_of(text),
+    }
 }
 
 // The next position.

@@ -1,8 +1,9 @@
-// Lines of standard input. Bytes are read into a chunk, and each line is gathered from there into a
+// Lines of an input: standard input or a file. Bytes are read into a chunk, and each line is gathered from there into a
 // buffer of its own. The caller lends both. Lines that begin with # or have nothing but spaces are
 // passed over, and so is a byte order mark at the start of the input.
 use crate::answers;
 use crate::reasons;
+use crate::reasons::Place;
 use crate::reasons::Reason;
 use crate::standard;
 use crate::standard::Input;
@@ -25,12 +26,18 @@ pub struct Reading {
     whole: bool,
     // Whether the line is the first of the input.
     first: bool,
+    // The descriptor that is read, and whether a read failed.
+    source: i32,
+    pub failed: bool,
+    // The number of the line, counted from 1, and whether answers are said in words too.
+    pub number: u64,
+    pub words: bool,
 }
 
-// Nothing is read yet.
-pub fn begin() -> Reading {
+// Nothing is read yet of a descriptor; so many bytes of answers wait.
+pub fn begin(source: i32, filled: usize, words: bool) -> Reading {
     Reading {
-        filled: 0,
+        filled,
         last: false,
         at: 0,
         end: 0,
@@ -39,6 +46,10 @@ pub fn begin() -> Reading {
         too_long: false,
         whole: false,
         first: true,
+        source,
+        failed: false,
+        number: 0,
+        words,
     }
 }
 
@@ -83,8 +94,19 @@ fn anew(mut reading: Reading) -> Reading {
 // Answers a line that is too long.
 fn refuse_long(mut reading: Reading, out: &mut [u8]) -> Reading {
     if reading.whole && reading.too_long {
-        let filled = reasons::unreadable(out, reading.filled, Reason::LineTooLong);
-        reading.filled = filled;
+        let place = Place {
+            number: reading.number,
+            field: 0,
+        };
+        let filled = reading.filled;
+        reading.filled = reasons::unreadable(
+            out,
+            filled,
+            Reason::LineTooLong,
+            reading.words,
+            place,
+            b"",
+        );
         return anew(reading);
     }
     reading
@@ -152,6 +174,10 @@ fn is_mark(line: &[u8]) -> bool {
 // Ends the line, which is passed over or is to be answered.
 fn end_line(mut reading: Reading, line: &[u8]) -> Reading {
     reading.first = false;
+    let number = reading.number;
+    if number < u64::MAX {
+        reading.number = number + 1;
+    }
     if reading.blank || is_comment(line) {
         return anew(reading);
     }
@@ -180,7 +206,8 @@ fn read_chunk(mut reading: Reading, chunk: &mut [u8], line: &[u8]) -> Reading {
     if reading.last {
         return reading;
     }
-    match standard::read(chunk) {
+    let source = reading.source;
+    match standard::read(source, chunk) {
         Input::Bytes(count) => {
             reading.end = count;
             reading
@@ -191,6 +218,7 @@ fn read_chunk(mut reading: Reading, chunk: &mut [u8], line: &[u8]) -> Reading {
         }
         Input::Failed => {
             reading.last = true;
+            reading.failed = true;
             anew(reading)
         }
     }

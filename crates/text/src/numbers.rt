@@ -4,6 +4,7 @@ ghost use Prim.Native.Nat.{_+_, _*_, _≤_, _<_};
 ghost use lib.IntN.{natAbs};
 ghost use Rattle.text.specs.Numeral.{signedOf};
 use crate::reasons::Reason;
+use crate::words;
 use crate::words::is_space;
 
 // The size of the least number of 32 bits; the greatest has one less.
@@ -49,6 +50,45 @@ pub fn read(text: &[u8], values: &mut [i32], held: usize, colons: bool) -> Taken
         i += 1;
     }
     outcome(finish(progress, values))
+}
+
+// Holds the numbers of a list behind those that are held.
+pub fn hold_all(values: &mut [i32], held: usize, list: &[i32]) -> Taken {
+    let mut progress = Progress {
+        held,
+        number: Number::Blank,
+    };
+    let mut i = 0;
+    while i < list.len() {
+        progress = hold_next(progress, list[i], values);
+        i += 1;
+    }
+    outcome(progress)
+}
+
+// The first word of a text that is no number; empty where there is none.
+pub fn wrong_word(text: &[u8]) -> &[u8] {
+    let mut at = words::next_word(text, 0);
+    let mut turns = text.len();
+    while turns > 0 && is_number(word_from(text, at)) {
+        at = words::next_word(text, words::next_space(text, at));
+        turns -= 1;
+    }
+    word_from(text, at)
+}
+
+// The word that begins at a position.
+fn word_from(text: &[u8], at: usize) -> &[u8] {
+    words::between(text, at, words::next_space(text, at))
+}
+
+// Whether a word is a number of 32 bits.
+fn is_number(word: &[u8]) -> bool {
+    let mut number = [0i32; 1];
+    match read(word, &mut number, 0, false) {
+        Taken::Held(count) => count == 1,
+        Taken::No(_) => false,
+    }
 }
 
 // The number without its sign.
@@ -99,6 +139,15 @@ fn finish(progress: Progress, values: &mut [i32]) -> Progress {
         },
         Number::Wrong => progress,
         Number::NoRoom => progress,
+    }
+}
+
+// Holds one number more, if all before it found room.
+fn hold_next(progress: Progress, value: i32, values: &mut [i32]) -> Progress {
+    let number = progress.number;
+    match number {
+        Number::NoRoom => progress,
+        _ => hold(progress, value, values),
     }
 }
 

@@ -1,6 +1,6 @@
-// Standard input and output. A call that a signal interrupted, or that would have to wait, is made
-// again. One that failed otherwise is told on standard error, in the system's words.
-use libc::STDIN_FILENO;
+// Inputs and standard output. A call that a signal interrupted, or that would have to wait, is made
+// again. A write that failed otherwise is told on standard error, in the system's words; a read is left to the caller
+// to tell, who knows what was read.
 use libc::STDOUT_FILENO;
 
 // What a read has found.
@@ -11,9 +11,9 @@ pub enum Input {
     Failed,
 }
 
-// Reads once into the chunk.
-pub fn read(chunk: &mut [u8]) -> Input {
-    let got = libc::read(STDIN_FILENO, chunk);
+// Reads once from a descriptor into the chunk.
+pub fn read(source: i32, chunk: &mut [u8]) -> Input {
+    let got = libc::read(source, chunk);
     if got == 0 {
         return Input::End;
     }
@@ -23,7 +23,6 @@ pub fn read(chunk: &mut [u8]) -> Input {
     if is_passing() {
         return Input::Bytes(0);
     }
-    os::fail(b"cannot read standard input");
     Input::Failed
 }
 

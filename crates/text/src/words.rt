@@ -55,6 +55,15 @@ pub fn between(line: &[u8], from: usize, to: usize) -> &[u8] {
     &line[..0]
 }
 
+// The position of the first byte from a position on that is no space, or of the end of the text.
+pub fn next_word(text: &[u8], from: usize) -> usize {
+    let mut i = from;
+    while i < text.len() && is_space(text[i]) {
+        i += 1;
+    }
+    i
+}
+
 // The position of the first byte that is no space.
 fn word_start(line: &[u8]) -> usize {
     let mut i = 0;
@@ -65,7 +74,7 @@ fn word_start(line: &[u8]) -> usize {
 }
 
 // The position of the first space from a position on, or of the end of the text.
-fn next_space(text: &[u8], from: usize) -> usize {
+pub fn next_space(text: &[u8], from: usize) -> usize {
     let mut i = from;
     while i < text.len() && !is_space(text[i]) {
         i += 1;

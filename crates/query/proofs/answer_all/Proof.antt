@@ -6,14 +6,15 @@ use Rattle.query.proofs.answer_all.Statement.{statement}
 use Rattle.query.proofs.answer_all.Tie as tie
 
 abbrev Inv-loop : tie.InvT-loop
-Inv-loop out₀ chunk₀ line₀ values₀ reading₀ turns₀ out chunk line values reading turns =
-    (length chunk ≡ length chunk₀) × ((length line ≡ length line₀) × ((length values ≡ length values₀) × (length out ≡ length out₀)))
+Inv-loop out₀ chunk₀ line₀ values₀ cells₀ named₀ reading₀ turns₀ out chunk line values cells named reading turns =
+    (length chunk ≡ length chunk₀)
+    × ((length line ≡ length line₀)
+    × ((length values ≡ length values₀)
+    × ((length cells ≡ length cells₀) × ((length named ≡ length named₀) × (length out ≡ length out₀)))))
 
 abbrev μ-loop : tie.MeasureT-loop
-μ-loop out₀ chunk₀ line₀ values₀ reading₀ turns₀ out chunk line values reading turns = turns
-
-begin-requires : tie.Need-begin-requires Inv-loop μ-loop
-begin-requires c κs = search needs
+μ-loop out₀ chunk₀ line₀ values₀ cells₀ named₀ reading₀ turns₀ out chunk line values cells named reading turns =
+    turns
 
 loop-holds : tie.Need-loop-holds Inv-loop μ-loop
 loop-holds c = search needs
@@ -45,6 +46,12 @@ same-length-3 c = search needs
 same-length-4 : tie.Need-same-length-4 Inv-loop μ-loop
 same-length-4 c = search needs
 
+same-length-5 : tie.Need-same-length-5 Inv-loop μ-loop
+same-length-5 c = search needs
+
+same-length-6 : tie.Need-same-length-6 Inv-loop μ-loop
+same-length-6 c = search needs
+
 returns : tie.Need-returns Inv-loop μ-loop
 returns c = search needs
 
@@ -54,7 +61,6 @@ answer-all-spec =
     (tie.spec
     Inv-loop
     μ-loop
-    begin-requires
     loop-holds
     answer-next-requires
     sub-turns
@@ -65,4 +71,6 @@ answer-all-spec =
     same-length-2
     same-length-3
     same-length-4
+    same-length-5
+    same-length-6
     returns)

@@ -17,7 +17,7 @@ cast-result c = search needs
 sub-result : tie.Need-sub-result
 sub-result c =
     let number = widened (c .before .before .fits .number) (c .before .wide .ensures) in
-    let margin = margined (c .margin .ensures) in
+    let margin = margined (c .margin .ensures .1) in
     machine-fits (search machine depth 40) tt
 
 returns : tie.Need-returns

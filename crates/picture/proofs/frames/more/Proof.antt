@@ -17,7 +17,7 @@ cast-result c = search needs
 add-result : tie.Need-add-result
 add-result c =
     let number = widened (c .before .before .fits .number) (c .before .wide .ensures) in
-    let margin = margined (c .margin .ensures) in
+    let margin = margined (c .margin .ensures .1) in
     machine-fits (search machine depth 40) tt
 
 returns : tie.Need-returns

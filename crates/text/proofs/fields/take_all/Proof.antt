@@ -8,11 +8,11 @@ use Rattle.text.proofs.fields.take_all.Statement.{statement}
 use Rattle.text.proofs.fields.take_all.Tie as tie
 
 abbrev Inv-loop : tie.InvT-loop
-Inv-loop line kinds count values₀ marks₀ bar₀ held₀ k₀ values marks bar held k =
+Inv-loop line kinds count values₀ marks₀ cells named bar₀ held₀ k₀ values marks bar held k =
     (k ≤ count) × ((length values ≡ length values₀) × (length marks ≡ length marks₀))
 
 abbrev μ-loop : tie.MeasureT-loop
-μ-loop line kinds count values₀ marks₀ bar₀ held₀ k₀ values marks bar held k = count - k
+μ-loop line kinds count values₀ marks₀ cells named bar₀ held₀ k₀ values marks bar held k = count - k
 
 next-bar-requires : tie.Need-next-bar-requires Inv-loop μ-loop
 next-bar-requires c κs = search needs

@@ -1,0 +1,280 @@
+// The sentences of answers, one function for each question.
+use crate::heads;
+use crate::heads::at;
+use crate::units;
+use text::answers;
+
+// What a sentence is about.
+pub enum About {
+    Judge,
+    Furthest,
+    Length,
+    Width,
+    Relation,
+    Inside,
+    Offer,
+    Found,
+    Clearance,
+    Tangents,
+    Written,
+    Calls,
+    Tablet,
+    Addition,
+    Names,
+    Nothing,
+}
+
+// What the sentence of a question is about, by its word.
+pub fn question(word: &[u8]) -> About {
+    let mut found = About::Nothing;
+    found = row(found, word, b"judge", About::Judge);
+    found = row(found, word, b"shape", About::Judge);
+    found = row(found, word, b"furthest", About::Furthest);
+    found = row(found, word, b"length", About::Length);
+    found = row(found, word, b"width", About::Width);
+    found = row(found, word, b"relation", About::Relation);
+    found = row(found, word, b"inside", About::Inside);
+    found = row(found, word, b"offer", About::Offer);
+    found = row(found, word, b"find", About::Found);
+    found = row(found, word, b"clearance", About::Clearance);
+    found = row(found, word, b"tangents", About::Tangents);
+    further(found, word)
+}
+
+// The questions that write, and the rest.
+fn further(before: About, word: &[u8]) -> About {
+    let mut found = before;
+    found = row(found, word, b"mirror", About::Written);
+    found = row(found, word, b"sum", About::Written);
+    found = row(found, word, b"merge", About::Written);
+    found = row(found, word, b"grow", About::Written);
+    found = row(found, word, b"sweep", About::Written);
+    found = row(found, word, b"bookread", About::Written);
+    found = row(found, word, b"part", About::Written);
+    found = row(found, word, b"parts", About::Calls);
+    found = row(found, word, b"tablet", About::Tablet);
+    found = row(found, word, b"bookadd", About::Addition);
+    row(found, word, b"shapes", About::Names)
+}
+
+// What was found before, or the row's own if the word is.
+fn row(found: About, word: &[u8], own: &[u8], about: About) -> About {
+    if check::same(word, own) { about } else { found }
+}
+
+// Adds the sentence of an answer.
+pub fn answered(out: &mut [u8], filled: usize, about: About, told: &[u64]) -> usize {
+    match about {
+        About::Judge => judge(out, filled, told),
+        About::Furthest => furthest(out, filled, told),
+        About::Length => length(out, filled, told),
+        About::Width => width(out, filled, told),
+        About::Relation => relation(out, filled, at(told, 1)),
+        About::Inside => inside(out, filled, at(told, 1)),
+        About::Offer => offer(out, filled, at(told, 1)),
+        About::Found => found_direction(out, filled, at(told, 1)),
+        About::Clearance => clearance(out, filled, told),
+        About::Tangents => tangents(out, filled, told),
+        About::Written => written(out, filled, at(told, 1)),
+        About::Calls => answers::word(
+            out,
+            filled,
+            b"behind each bar what one call wrote, in millimetres",
+        ),
+        About::Tablet => answers::word(
+            out,
+            filled,
+            b"both readings are whole millimetres; these go back",
+        ),
+        About::Addition => addition(out, filled, at(told, 1)),
+        About::Names => names(out, filled, at(told, 1)),
+        About::Nothing => answers::word(out, filled, b"done"),
+    }
+}
+
+fn judge(out: &mut [u8], filled: usize, told: &[u64]) -> usize {
+    let now = of_corners(out, filled, at(told, 1));
+    answers::labelled(out, now, b" on floor ", at(told, 2))
+}
+
+// A point, a segment or a shape of so many corners.
+fn of_corners(out: &mut [u8], filled: usize, count: u64) -> usize {
+    if count == 1 {
+        return answers::word(out, filled, b"a point");
+    }
+    if count == 2 {
+        return answers::word(out, filled, b"a segment");
+    }
+    let now = answers::word(out, filled, b"a shape of ");
+    let then = units::grouped(out, now, count);
+    answers::word(out, then, b" corners")
+}
+
+fn furthest(out: &mut [u8], filled: usize, told: &[u64]) -> usize {
+    let first = at(told, 1);
+    let last = at(told, 2);
+    if first == last {
+        let now = answers::labelled(out, filled, b"corner ", first);
+        return answers::word(out, now, b" lies furthest that way, alone");
+    }
+    let now = pair(out, filled, first, last);
+    answers::word(out, now, b" lie furthest that way, both as far")
+}
+
+// Two corners.
+fn pair(out: &mut [u8], filled: usize, first: u64, last: u64) -> usize {
+    let now = answers::labelled(out, filled, b"corners ", first);
+    answers::labelled(out, now, b" and ", last)
+}
+
+fn length(out: &mut [u8], filled: usize, told: &[u64]) -> usize {
+    let now = units::of_square(out, filled, at(told, 1));
+    let then = answers::word(out, now, b" between ");
+    pair(out, then, at(told, 2), at(told, 3))
+}
+
+fn width(out: &mut [u8], filled: usize, told: &[u64]) -> usize {
+    let now = units::metres(out, filled, at(told, 5));
+    let then = answers::labelled(out, now, b" (rounded down) from corner ", at(told, 2));
+    answers::labelled(out, then, b" to the line of edge ", at(told, 1))
+}
+
+fn relation(out: &mut [u8], filled: usize, how: u64) -> usize {
+    if how == heads::APART {
+        return answers::word(out, filled, b"no point is in both shapes");
+    }
+    if how == heads::TOUCHING {
+        return answers::word(
+            out,
+            filled,
+            b"the shapes share points of their borders, and nothing inside",
+        );
+    }
+    answers::word(out, filled, b"the shapes share points inside both")
+}
+
+fn inside(out: &mut [u8], filled: usize, whether: u64) -> usize {
+    if whether == heads::YES {
+        return answers::word(
+            out,
+            filled,
+            b"every point of the first shape is in the second",
+        );
+    }
+    answers::word(
+        out,
+        filled,
+        b"some corner of the first shape is outside the second",
+    )
+}
+
+fn offer(out: &mut [u8], filled: usize, whether: u64) -> usize {
+    if whether == heads::YES {
+        return answers::word(
+            out,
+            filled,
+            b"every corner of the first shape is below every corner of the second that way: they are apart",
+        );
+    }
+    answers::word(
+        out,
+        filled,
+        b"some corner of the first shape is not below one of the second that way; they may be apart all the same",
+    )
+}
+
+fn found_direction(out: &mut [u8], filled: usize, first: u64) -> usize {
+    if first == heads::NONE {
+        return answers::word(
+            out,
+            filled,
+            b"the shapes are not apart: there is no such direction",
+        );
+    }
+    answers::word(
+        out,
+        filled,
+        b"that way every corner of the first shape is below every corner of the second: they are apart",
+    )
+}
+
+fn clearance(out: &mut [u8], filled: usize, told: &[u64]) -> usize {
+    let how = at(told, 1);
+    if how == heads::CORNERS {
+        let now = units::of_square(out, filled, at(told, 4));
+        let then = answers::labelled(out, now, b" between corner ", at(told, 2));
+        let last = answers::labelled(out, then, b" of the first shape and corner ", at(told, 3));
+        return answers::word(out, last, b" of the second");
+    }
+    if how == heads::CORNER_EDGE {
+        let now = gap(out, filled, told, b" of the first and edge ");
+        return answers::word(out, now, b" of the second");
+    }
+    if how == heads::EDGE_CORNER {
+        let now = gap(out, filled, told, b" of the second and edge ");
+        return answers::word(out, now, b" of the first");
+    }
+    answers::word(out, filled, b"the shapes are not apart: there is no gap")
+}
+
+// The gap between a corner of the one shape and an edge of the other.
+fn gap(out: &mut [u8], filled: usize, told: &[u64], whose: &[u8]) -> usize {
+    let now = units::metres(out, filled, at(told, 6));
+    let then = answers::labelled(out, now, b" (rounded down) between corner ", at(told, 2));
+    answers::labelled(out, then, whose, at(told, 3))
+}
+
+fn tangents(out: &mut [u8], filled: usize, told: &[u64]) -> usize {
+    let mut now = answers::word(
+        out,
+        filled,
+        b"corners of the first and the second: both shapes left ",
+    );
+    now = line(out, now, at(told, 1), at(told, 2));
+    now = answers::word(out, now, b", both right ");
+    now = line(out, now, at(told, 3), at(told, 4));
+    crossing(out, now, told)
+}
+
+// The two tangents that cross between the shapes.
+fn crossing(out: &mut [u8], filled: usize, told: &[u64]) -> usize {
+    let mut now = answers::word(out, filled, b", first left and second right ");
+    now = line(out, now, at(told, 5), at(told, 6));
+    now = answers::word(out, now, b", the reverse ");
+    line(out, now, at(told, 7), at(told, 8))
+}
+
+// A corner of the first and a corner of the second shape.
+fn line(out: &mut [u8], filled: usize, from: u64, to: u64) -> usize {
+    let now = answers::unsigned(out, filled, from);
+    answers::labelled(out, now, b" to ", to)
+}
+
+fn written(out: &mut [u8], filled: usize, count: u64) -> usize {
+    let now = of_corners(out, filled, count);
+    answers::word(out, now, b", told in millimetres behind the last bar")
+}
+
+fn addition(out: &mut [u8], filled: usize, how: u64) -> usize {
+    if how == heads::FINISHED {
+        return answers::word(
+            out,
+            filled,
+            b"the record is whole, and the name reads as this shape from now on",
+        );
+    }
+    answers::word(
+        out,
+        filled,
+        b"the stores ran out: every name still reads as before",
+    )
+}
+
+fn names(out: &mut [u8], filled: usize, count: u64) -> usize {
+    let now = units::grouped(out, filled, count);
+    answers::word(
+        out,
+        now,
+        b" of 256 names; behind each its floor and how many corners",
+    )
+}

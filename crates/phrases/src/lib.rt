@@ -1,0 +1,23 @@
+// Answers in plain words: a sentence is made of the question's word, its shapes and the reply, so a question has one
+// here by one row of `about` and one function. Lengths are told in millimetres and metres, rounded down.
+mod about;
+mod heads;
+mod refusals;
+mod units;
+
+use text::answers;
+
+// Adds the sentence of a reply, which stands at the front of the buffer, on a question of up to two shapes.
+pub fn sentence(out: &mut [u8], filled: usize, word: &[u8], a: &[i32], b: &[i32]) -> usize {
+    let mut told = [0u64; heads::TOLD];
+    heads::read(text::words::between(out, 0, filled), &mut told);
+    let now = answers::word(out, filled, b" -- ");
+    let first = heads::at(&told, 0);
+    if first == heads::OK {
+        return about::answered(out, now, about::question(word), &told);
+    }
+    if first == heads::NO {
+        return refusals::refused(out, now, &told, a, b);
+    }
+    answers::word(out, now, b"all numbers are millimetres")
+}

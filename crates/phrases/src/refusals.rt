@@ -1,0 +1,230 @@
+// The sentences of refusals, by their numbers.
+use crate::heads;
+use crate::heads::at;
+use crate::units;
+use text::answers;
+
+// The greatest coordinate, and the least without its sign.
+const GREATEST: i32 = 1000000;
+
+// Adds the sentence of a refusal of a question on up to two shapes.
+pub fn refused(out: &mut [u8], filled: usize, told: &[u64], a: &[i32], b: &[i32]) -> usize {
+    if at(told, 3) == 2 {
+        return of_shape(out, filled, told, b);
+    }
+    of_shape(out, filled, told, a)
+}
+
+// Adds the sentence of a refusal that blames this shape, or none.
+fn of_shape(out: &mut [u8], filled: usize, told: &[u64], list: &[i32]) -> usize {
+    match at(told, 1) {
+        1 => count(out, filled, told, list),
+        2 => corners(out, filled, told, list),
+        3 => range(out, filled, told, list),
+        4 => side(out, filled, told, list),
+        5 => start(out, filled, told, list),
+        _ => of_answer(out, filled, told),
+    }
+}
+
+// The shape that is blamed.
+fn blamed(out: &mut [u8], filled: usize, told: &[u64]) -> usize {
+    answers::labelled(out, filled, b"shape ", at(told, 3))
+}
+
+fn count(out: &mut [u8], filled: usize, told: &[u64], list: &[i32]) -> usize {
+    let now = blamed(out, filled, told);
+    let then = answers::word(out, now, b" has ");
+    let last = units::grouped(out, then, list.len() as u64);
+    answers::word(
+        out,
+        last,
+        b" numbers; each corner takes two, and one corner there must be",
+    )
+}
+
+fn corners(out: &mut [u8], filled: usize, told: &[u64], list: &[i32]) -> usize {
+    let now = blamed(out, filled, told);
+    let then = answers::word(out, now, b" has ");
+    let last = units::grouped(out, then, (list.len() / 2) as u64);
+    answers::word(out, last, b" corners, 1,024 are allowed")
+}
+
+fn range(out: &mut [u8], filled: usize, told: &[u64], list: &[i32]) -> usize {
+    if 2 < at(told, 3) {
+        return reading(
+            out,
+            filled,
+            at(told, 3),
+            b" is outside -1000000 to 1000000 mm",
+        );
+    }
+    let now = blamed(out, filled, told);
+    let then = answers::labelled(out, now, b", corner ", (first_far(list) / 2) as u64);
+    answers::word(
+        out,
+        then,
+        b" has a coordinate outside -1000000 to 1000000 mm",
+    )
+}
+
+// The position of the first number that is out of range.
+fn first_far(list: &[i32]) -> usize {
+    let mut i = 0;
+    while i < list.len() && is_near(list[i]) {
+        i += 1;
+    }
+    i
+}
+
+// Whether a number is in range.
+fn is_near(number: i32) -> bool {
+    -GREATEST <= number && number <= GREATEST
+}
+
+// The reading that is refused, and why.
+fn reading(out: &mut [u8], filled: usize, part: u64, why: &[u8]) -> usize {
+    if part == heads::X {
+        let now = answers::word(out, filled, b"the reading of x");
+        return answers::word(out, now, why);
+    }
+    let now = answers::word(out, filled, b"the reading of y");
+    answers::word(out, now, why)
+}
+
+fn side(out: &mut [u8], filled: usize, told: &[u64], list: &[i32]) -> usize {
+    let now = blamed(out, filled, told);
+    if list.len() == 4 {
+        return answers::word(out, now, b" is a segment with two equal ends");
+    }
+    let then = answers::labelled(out, now, b": corner ", at(told, 7));
+    let last = answers::labelled(out, then, b" lies right of edge ", at(told, 5));
+    answers::word(out, last, b" or on its line; each must lie strictly left")
+}
+
+fn start(out: &mut [u8], filled: usize, told: &[u64], list: &[i32]) -> usize {
+    let now = blamed(out, filled, told);
+    let then = answers::labelled(out, now, b" has to begin at corner ", lowest(list) as u64);
+    answers::word(out, then, b", the lowest, and the leftmost of the lowest")
+}
+
+// The position of the lowest corner, and of the leftmost of the lowest.
+fn lowest(list: &[i32]) -> usize {
+    let mut found = 0;
+    let mut i = 0;
+    while i < list.len() / 2 {
+        if is_lower(list, i, found) {
+            found = i;
+        }
+        i += 1;
+    }
+    found
+}
+
+// Whether corner i is lower than corner j, or as low and further to the left.
+fn is_lower(list: &[i32], i: usize, j: usize) -> bool {
+    let height = y(list, i);
+    let other = y(list, j);
+    if height == other {
+        return x(list, i) < x(list, j);
+    }
+    height < other
+}
+
+// The first number of corner i; 0 where there is none.
+fn x(list: &[i32], i: usize) -> i32 {
+    if i < list.len() / 2 { list[2 * i] } else { 0 }
+}
+
+// The second number of corner i; 0 where there is none.
+fn y(list: &[i32], i: usize) -> i32 {
+    if i < list.len() / 2 {
+        list[2 * i + 1]
+    } else {
+        0
+    }
+}
+
+// The refusals that blame no shape.
+fn of_answer(out: &mut [u8], filled: usize, told: &[u64]) -> usize {
+    match at(told, 1) {
+        6 => answers::word(
+            out,
+            filled,
+            b"the answer would have more than 1,024 corners, 1,024 are allowed",
+        ),
+        7 => answers::word(
+            out,
+            filled,
+            b"a corner of the answer would lie outside -1000000 to 1000000 mm",
+        ),
+        8 => room(out, filled, at(told, 2)),
+        9 => answers::word(
+            out,
+            filled,
+            b"the shapes are not apart, so no line just touches both",
+        ),
+        10 => answers::word(out, filled, b"a point or a segment has no width"),
+        11 => answers::word(
+            out,
+            filled,
+            b"a direction is not 0 0, and its parts go from -2000000 to 2000000",
+        ),
+        12 => answers::word(
+            out,
+            filled,
+            b"both parts of the direction can be divided by one number; ask the shortest that points the same way",
+        ),
+        13 => answers::word(out, filled, b"the two shapes are on different floors"),
+        _ => of_record(out, filled, told),
+    }
+}
+
+// The refusals of walks, books and tablets.
+fn of_record(out: &mut [u8], filled: usize, told: &[u64]) -> usize {
+    match at(told, 1) {
+        14 => answers::word(
+            out,
+            filled,
+            b"the walk is at no place of the sum of these shapes",
+        ),
+        15 => answers::labelled(out, filled, b"the book is damaged at byte ", at(told, 3)),
+        16 => answers::word(
+            out,
+            filled,
+            b"the book has too little room behind its last record",
+        ),
+        17 => reading(out, filled, at(told, 3), b" is not finite"),
+        18 => reading(
+            out,
+            filled,
+            at(told, 3),
+            b" is not a whole number of millimetres",
+        ),
+        19 => answers::word(out, filled, b"no record of the book has this name"),
+        _ => answers::word(out, filled, b"refused"),
+    }
+}
+
+// What there is no room for.
+fn room(out: &mut [u8], filled: usize, what: u64) -> usize {
+    if what == heads::NAMES {
+        return answers::word(
+            out,
+            filled,
+            b"256 names are remembered already, and this is a new one",
+        );
+    }
+    if what == heads::NUMBERS {
+        return answers::word(
+            out,
+            filled,
+            b"the shapes remembered would have more than 65,536 numbers",
+        );
+    }
+    answers::word(
+        out,
+        filled,
+        b"the answer has more numbers than the room that was given",
+    )
+}

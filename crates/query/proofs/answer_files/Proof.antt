@@ -1,0 +1,72 @@
+-- `answer_files` is safe and ends. The invariant: every buffer keeps its length. The measure: the arguments left.
+use mathlib.Core.Path.{_≡_}
+use Prim.Native.Nat.{_-_}
+use lib.ListN.{length}
+use borrow.Author.Needs.{needs}
+use Rattle.query.proofs.answer_files.Statement.{statement}
+use Rattle.query.proofs.answer_files.Tie as tie
+
+abbrev Inv-loop : tie.InvT-loop
+Inv-loop in-words count out₀ chunk₀ line₀ values₀ cells₀ named₀ words₀ i₀ out chunk line values cells named words i =
+    (length chunk ≡ length chunk₀)
+    × ((length line ≡ length line₀)
+    × ((length values ≡ length values₀)
+    × ((length cells ≡ length cells₀) × ((length named ≡ length named₀) × (length out ≡ length out₀)))))
+
+abbrev μ-loop : tie.MeasureT-loop
+μ-loop in-words count out₀ chunk₀ line₀ values₀ cells₀ named₀ words₀ i₀ out chunk line values cells named words i = count - i
+
+loop-holds : tie.Need-loop-holds Inv-loop μ-loop
+loop-holds c = search needs
+
+answer-file-requires : tie.Need-answer-file-requires Inv-loop μ-loop
+answer-file-requires c κs = search needs
+
+add-i : tie.Need-add-i Inv-loop μ-loop
+add-i c = search needs
+
+loop-less : tie.Need-loop-less Inv-loop μ-loop
+loop-less c = search needs
+
+loop-again : tie.Need-loop-again Inv-loop μ-loop
+loop-again c = search needs
+
+same-length : tie.Need-same-length Inv-loop μ-loop
+same-length c = search needs
+
+same-length-2 : tie.Need-same-length-2 Inv-loop μ-loop
+same-length-2 c = search needs
+
+same-length-3 : tie.Need-same-length-3 Inv-loop μ-loop
+same-length-3 c = search needs
+
+same-length-4 : tie.Need-same-length-4 Inv-loop μ-loop
+same-length-4 c = search needs
+
+same-length-5 : tie.Need-same-length-5 Inv-loop μ-loop
+same-length-5 c = search needs
+
+same-length-6 : tie.Need-same-length-6 Inv-loop μ-loop
+same-length-6 c = search needs
+
+returns : tie.Need-returns Inv-loop μ-loop
+returns c = search needs
+
+pub answer-files-spec : {M : Type 1} → statement M
+answer-files-spec =
+    tie.close
+    (tie.spec
+    Inv-loop
+    μ-loop
+    loop-holds
+    answer-file-requires
+    add-i
+    loop-less
+    loop-again
+    same-length
+    same-length-2
+    same-length-3
+    same-length-4
+    same-length-5
+    same-length-6
+    returns)
