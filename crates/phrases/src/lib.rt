@@ -3,7 +3,7 @@
 mod about;
 mod heads;
 mod refusals;
-mod units;
+pub mod units;
 
 use text::answers;
 

@@ -6,9 +6,7 @@ mod logs;
 mod names;
 mod options;
 mod parts;
-mod pictures;
 mod readings;
-mod replies;
 mod separating;
 mod table;
 

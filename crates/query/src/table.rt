@@ -136,8 +136,7 @@ fn shapes(found: Entry, word: &[u8]) -> Entry {
 
 // The pictures.
 fn pictures(found: Entry, word: &[u8]) -> Entry {
-    let some = fields::two(Kind::Shape, Kind::Further);
-    row(found, word, b"draw", Question::Draw, some)
+    row(found, word, b"draw", Question::Draw, fields::shapes())
 }
 
 // The sum in parts.

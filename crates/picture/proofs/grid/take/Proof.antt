@@ -1,23 +1,28 @@
--- `outline` is safe and ends. The invariant: `i` is within the list, and the buffer keeps its length. The measure: what is left of the
--- list.
+-- `take` is safe and ends. The invariant: the squares keep their count. The measure: the rows left.
 use mathlib.Core.Path.{_≡_}
-use Prim.Native.Nat.{_≤_, _-_}
+use Prim.Native.Nat.{_-_}
 use lib.ListN.{length}
 use borrow.Author.Needs.{needs}
-use Rattle.picture.proofs.drawing.outline.Statement.{statement}
-use Rattle.picture.proofs.drawing.outline.Tie as tie
+use Rattle.picture.proofs.grid.take.Statement.{statement}
+use Rattle.picture.proofs.grid.take.Tie as tie
 
 abbrev Inv-loop : tie.InvT-loop
-Inv-loop out₀ filled list now₀ i₀ out now i = (i ≤ length list) × (length out ≡ length out₀)
+Inv-loop grid₀ area rows i₀ grid i = length grid ≡ length grid₀
 
 abbrev μ-loop : tie.MeasureT-loop
-μ-loop out₀ filled list now₀ i₀ out now i = length list - i
+μ-loop grid₀ area rows i₀ grid i = rows - i
+
+add-rows : tie.Need-add-rows Inv-loop μ-loop
+add-rows c = search needs
 
 loop-holds : tie.Need-loop-holds Inv-loop μ-loop
 loop-holds c = search needs
 
-outline-point-requires : tie.Need-outline-point-requires Inv-loop μ-loop
-outline-point-requires c κs = search needs
+add-take-row : tie.Need-add-take-row Inv-loop μ-loop
+add-take-row c = search needs
+
+take-row-requires : tie.Need-take-row-requires Inv-loop μ-loop
+take-row-requires c κs = search needs
 
 add-i : tie.Need-add-i Inv-loop μ-loop
 add-i c = search needs
@@ -34,14 +39,16 @@ same-length c = search needs
 returns : tie.Need-returns Inv-loop μ-loop
 returns c = search needs
 
-pub outline-spec : {M : Type 1} → statement M
-outline-spec =
+pub take-spec : {M : Type 1} → statement M
+take-spec =
     tie.close
     (tie.spec
     Inv-loop
     μ-loop
+    add-rows
     loop-holds
-    outline-point-requires
+    add-take-row
+    take-row-requires
     add-i
     loop-less
     loop-again
