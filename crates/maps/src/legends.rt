@@ -66,16 +66,32 @@ fn shapes(
     let mut now = filled;
     let mut k = 0;
     while k < count {
-        now = shape(out, now, line, k, fields::field(values, marks, k), view);
+        now = shape(
+            out,
+            now,
+            line,
+            count,
+            k,
+            fields::field(values, marks, k),
+            view,
+        );
         k += 1;
     }
     now
 }
 
 // Adds the row of shape k: which it is, its name if it has one, and whether it is too small to be seen.
-fn shape(out: &mut [u8], filled: usize, line: &[u8], k: usize, list: &[i32], view: Frame) -> usize {
+fn shape(
+    out: &mut [u8],
+    filled: usize,
+    line: &[u8],
+    count: usize,
+    k: usize,
+    list: &[i32],
+    view: Frame,
+) -> usize {
     let mut now = picture::row_of_shape(out, filled, view, k as u64, k);
-    now = ordinal(out, now, k);
+    now = which(out, now, count, k);
     now = name(out, now, words::word_of(fields::text_of(line, k)));
     now = remark(out, now, list, view);
     picture::end_row(out, now)
@@ -89,7 +105,15 @@ fn remark(out: &mut [u8], filled: usize, list: &[i32], view: Frame) -> usize {
     filled
 }
 
-// Adds which shape it is.
+// Adds which shape it is, if there are others.
+fn which(out: &mut [u8], filled: usize, count: usize, k: usize) -> usize {
+    if count == 1 {
+        return answers::word(out, filled, b"shape");
+    }
+    ordinal(out, filled, k)
+}
+
+// Adds the place of a shape among the others.
 fn ordinal(out: &mut [u8], filled: usize, k: usize) -> usize {
     match k {
         0 => answers::word(out, filled, b"first"),

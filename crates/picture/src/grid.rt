@@ -19,11 +19,11 @@ pub struct Area {
 
 // Whether nothing in a box is taken.
 pub fn is_free(grid: &[u8], area: Area) -> bool {
-    let rows = area.height / 4 + 1;
+    let rows = squares(area.y, area.height);
     let mut free = true;
     let mut i = 0;
     while i < rows {
-        free = free && is_row_free(grid, area.y / 4, i, area.x / 4, area.width / 4 + 1);
+        free = free && is_row_free(grid, area.y / 4, i, area.x / 4, squares(area.x, area.width));
         i += 1;
     }
     free
@@ -31,12 +31,17 @@ pub fn is_free(grid: &[u8], area: Area) -> bool {
 
 // Takes all of a box.
 pub fn take(grid: &mut [u8], area: Area) {
-    let rows = area.height / 4 + 1;
+    let rows = squares(area.y, area.height);
     let mut i = 0;
     while i < rows {
-        take_row(grid, area.y / 4, i, area.x / 4, area.width / 4 + 1);
+        take_row(grid, area.y / 4, i, area.x / 4, squares(area.x, area.width));
         i += 1;
     }
+}
+
+// How many squares a length from a position on passes.
+fn squares(from: usize, length: usize) -> usize {
+    (from % 4 + length % 1024) / 4 + 1
 }
 
 // Takes what a line from one place to another passes.

@@ -11,7 +11,7 @@ use crate::places;
 use text::answers;
 
 // How far from its corner a number stands, in pixels; and from one with a large ring.
-const NEAR: usize = 9;
+const NEAR: usize = 10;
 
 const FAR: usize = 20;
 
@@ -19,6 +19,9 @@ const FAR: usize = 20;
 const HEIGHT: usize = 11;
 
 const DIGIT: usize = 9;
+
+// What is left free on each side of a number.
+const FREE: usize = 2;
 
 // The places that a number may have, in order.
 const TRIES: usize = 8;
@@ -140,7 +143,7 @@ fn signs(out: &mut [u8], filled: usize, list: &[i32], i: usize, k: usize) -> usi
             out,
             filled,
             k,
-            b"<circle r=\"7\" stroke-width=\"1.5\" fill=\"none\" stroke=\"",
+            b"<circle r=\"6.5\" stroke-width=\"1.5\" fill=\"none\" stroke=\"",
         );
         return dot(out, now, list.len() / 2);
     }
@@ -205,13 +208,13 @@ fn first_free(grid: &[u8], spot: Spot, width: usize, own: Frame, at: Point, gap:
     i
 }
 
-// The box of a number beside a corner.
+// The box of a number beside a corner, with what is left free around it.
 fn area(spot: Spot, width: usize, side: Side) -> Area {
     Area {
-        x: beside(spot.x, side.across, side.gap, width),
-        y: beside(spot.y, side.down, side.gap, HEIGHT),
-        width,
-        height: HEIGHT,
+        x: frames::back(beside(spot.x, side.across, side.gap, width), FREE),
+        y: frames::back(beside(spot.y, side.down, side.gap, HEIGHT), FREE),
+        width: width % 1024 + 2 * FREE,
+        height: HEIGHT + 2 * FREE,
     }
 }
 
@@ -304,6 +307,22 @@ fn anchor_down(out: &mut [u8], filled: usize, side: Side) -> usize {
         1 => answers::word(out, filled, b"\" y=\"5"),
         _ => answers::labelled(out, filled, b"\" y=\"", gap % 1024 + HEIGHT as u64),
     }
+}
+
+// Of a shape of many corners not all have numbers, but each fifth, tenth, twentieth or fiftieth.
+fn step(corners: usize) -> usize
+    ensures { λ r. ⌜ 1 ≤ r ⌝ }
+{
+    if corners <= 32 {
+        return 1;
+    }
+    if corners <= 160 {
+        return 5;
+    }
+    if corners <= 320 {
+        return 10;
+    }
+    if corners <= 640 { 20 } else { 50 }
 }
 
 // How many digits a number has, up to four.

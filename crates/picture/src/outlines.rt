@@ -96,8 +96,8 @@ fn take_dot(grid: &mut [u8], at: Spot) {
         Area {
             x: frames::back(at.x, 4),
             y: frames::back(at.y, 4),
-            width: 8,
-            height: 8,
+            width: 7,
+            height: 7,
         },
     );
 }

@@ -10,14 +10,14 @@ Inv-loop grid area rows free₀ i₀ free i = Unit
 abbrev μ-loop : tie.MeasureT-loop
 μ-loop grid area rows free₀ i₀ free i = rows - i
 
-add-rows : tie.Need-add-rows Inv-loop μ-loop
-add-rows c = search needs
+squares-requires : tie.Need-squares-requires Inv-loop μ-loop
+squares-requires c κs = search needs
 
 loop-holds : tie.Need-loop-holds Inv-loop μ-loop
 loop-holds c = search needs
 
-add-is-row-free : tie.Need-add-is-row-free Inv-loop μ-loop
-add-is-row-free c = search needs
+squares-requires-2 : tie.Need-squares-requires-2 Inv-loop μ-loop
+squares-requires-2 c κs = search needs
 
 is-row-free-requires : tie.Need-is-row-free-requires Inv-loop μ-loop
 is-row-free-requires c κs = search needs
@@ -40,9 +40,9 @@ is-free-spec =
     (tie.spec
     Inv-loop
     μ-loop
-    add-rows
+    squares-requires
     loop-holds
-    add-is-row-free
+    squares-requires-2
     is-row-free-requires
     add-i
     loop-less

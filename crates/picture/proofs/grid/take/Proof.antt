@@ -12,14 +12,14 @@ Inv-loop grid₀ area rows i₀ grid i = length grid ≡ length grid₀
 abbrev μ-loop : tie.MeasureT-loop
 μ-loop grid₀ area rows i₀ grid i = rows - i
 
-add-rows : tie.Need-add-rows Inv-loop μ-loop
-add-rows c = search needs
+squares-requires : tie.Need-squares-requires Inv-loop μ-loop
+squares-requires c κs = search needs
 
 loop-holds : tie.Need-loop-holds Inv-loop μ-loop
 loop-holds c = search needs
 
-add-take-row : tie.Need-add-take-row Inv-loop μ-loop
-add-take-row c = search needs
+squares-requires-2 : tie.Need-squares-requires-2 Inv-loop μ-loop
+squares-requires-2 c κs = search needs
 
 take-row-requires : tie.Need-take-row-requires Inv-loop μ-loop
 take-row-requires c κs = search needs
@@ -45,9 +45,9 @@ take-spec =
     (tie.spec
     Inv-loop
     μ-loop
-    add-rows
+    squares-requires
     loop-holds
-    add-take-row
+    squares-requires-2
     take-row-requires
     add-i
     loop-less
