@@ -7,8 +7,8 @@ use Prim.Native.Nat.{ℕ}
 use lib.IntN.{ℤ}
 use Rattle.plane.specs.Reply.{Reply, refused}
 use Rattle.questions.specs.Answer.{ofRefusal}
-use Rattle.questions.specs.declared.answer.Refusal.{Refusal}
-use Rattle.questions.specs.declared.answer.Refusal.the-variants as Refusal
+use Rattle.admission.specs.declared.answer.Refusal.{Refusal}
+use Rattle.admission.specs.declared.answer.Refusal.the-variants as Refusal
 use Rattle.abi.specs.Calls.{stored}
 use Rattle.abi.specs.Passing.{barred}
 

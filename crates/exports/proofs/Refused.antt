@@ -4,8 +4,8 @@ use mathlib.Core.List.{[], _++_}
 use Prim.Native.Nat.{ℕ, suc}
 use lib.ListN.{take}
 use Rattle.questions.specs.Answer.{ofRefusal}
-use Rattle.questions.specs.declared.answer.Refusal.{Refusal}
-use Rattle.questions.specs.declared.answer.Refusal.the-variants as Refusal
+use Rattle.admission.specs.declared.answer.Refusal.{Refusal}
+use Rattle.admission.specs.declared.answer.Refusal.the-variants as Refusal
 use Rattle.exports.specs.Crossing.{padded, crossed}
 
 pub refusal-crosses : (k : ℕ) (x : Refusal) → crossed (suc (suc k)) (ofRefusal x) ≡ take 4 (crossed 6 (ofRefusal x)) ++ padded k []

@@ -1,18 +1,14 @@
 -- Document 01's number and values for each case of the enums ("Where an answer is an enum ..").
---     ofRefusal r     the number of the table's row, and what it carries: 1 to 5 the shape, 4 also the edge and the corner; of a
---                     reading the part of its corner, of a log the byte place of the record
---     ofAnswer r, ofFurthest r, ..     the reply of each question: its values, the floor last, or a refusal
+--     ofRefusal r, ofAnswer r          a refusal, and a shape that was judged or written: passed on from `admission`
+--     ofBegun r, ofFurthest r, ..      the reply of each other question: its values, the floor last, or a refusal
 use mathlib.Core.Bool.{cond}
 use mathlib.Core.List.{[], _∷_, _++_}
 use lib.IntN.{pos}
-use Rattle.plane.specs.Reply.{Reply, answered, refused}
+use Rattle.plane.specs.Reply.{Reply, answered}
 use Rattle.tablet.specs.Reading.{Sent}
 use Rattle.calipers.specs.Part.{walkNumbers}
+pub use Rattle.admission.specs.Answer.{ofRefusal, ofAnswer}
 use Rattle.questions.specs.Walk.{stateOf}
-use Rattle.questions.specs.declared.answer.Refusal.{Refusal}
-use Rattle.questions.specs.declared.answer.Refusal.the-variants as Refusal
-use Rattle.questions.specs.declared.answer.Answer.{Answer}
-use Rattle.questions.specs.declared.answer.Answer.the-variants as Answer
 use Rattle.questions.specs.declared.answer.Begun.{Begun}
 use Rattle.questions.specs.declared.answer.Begun.the-variants as Begun
 use Rattle.questions.specs.declared.answer.Part.{Part}
@@ -40,32 +36,6 @@ use Rattle.questions.specs.declared.answer.Tablet.{Tablet}
 use Rattle.questions.specs.declared.answer.Tablet.the-variants as Tablet
 use Rattle.questions.specs.declared.answer.Addition.{Addition}
 use Rattle.questions.specs.declared.answer.Addition.the-variants as Addition
-
-abbrev pub ofRefusal : Refusal → Reply
-ofRefusal (Refusal.Count shape) = refused 1 (shape ∷ [])
-ofRefusal (Refusal.Corners shape) = refused 2 (shape ∷ [])
-ofRefusal (Refusal.Range shape) = refused 3 (shape ∷ [])
-ofRefusal (Refusal.Side shape edge corner) = refused 4 (shape ∷ edge ∷ corner ∷ [])
-ofRefusal (Refusal.Start shape) = refused 5 (shape ∷ [])
-ofRefusal Refusal.LargeAnswer = refused 6 []
-ofRefusal Refusal.FarAnswer = refused 7 []
-ofRefusal Refusal.Room = refused 8 []
-ofRefusal Refusal.NotApart = refused 9 []
-ofRefusal Refusal.Flat = refused 10 []
-ofRefusal Refusal.Direction = refused 11 []
-ofRefusal Refusal.NotPrimitive = refused 12 []
-ofRefusal Refusal.Floors = refused 13 []
-ofRefusal Refusal.NotAPlace = refused 14 []
-ofRefusal (Refusal.Damaged place) = refused 15 (place ∷ [])
-ofRefusal Refusal.Full = refused 16 []
-ofRefusal (Refusal.NotFinite part) = refused 17 (part ∷ [])
-ofRefusal (Refusal.NotWhole part) = refused 18 (part ∷ [])
-ofRefusal Refusal.NoRecord = refused 19 []
-ofRefusal (Refusal.FarReading part) = refused 3 (part ∷ [])
-
-abbrev pub ofAnswer : Answer → Reply
-ofAnswer (Answer.Corners n floor) = answered (pos n ∷ pos floor ∷ [])
-ofAnswer (Answer.No r) = ofRefusal r
 
 -- the edges passed of either shape, and 1 if the walk is over; a part has before them the count of its corners
 abbrev pub ofBegun : Begun → Reply

@@ -1,7 +1,5 @@
--- The theory of the door, which only proves: rows passed or given before a question's own, and what is written.
-pub mod Rows
+-- The theory of the door, which only proves: what each question answers of what its inner function finds.
 pub mod Offers
-pub mod Delivery
 pub mod Measures
 pub mod Lines
 pub mod Readings

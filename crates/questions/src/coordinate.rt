@@ -1,5 +1,5 @@
 // Inner functions: a reading of the tablet judged before its corner is answered.
-ghost use Rattle.questions.specs.Admission.{Coordinated};
+ghost use Rattle.questions.specs.Coordinate.{Coordinated};
 use crate::answer::Refusal;
 use tablet::reading::Read;
 use tablet::reading::Reading;

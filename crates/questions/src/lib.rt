@@ -2,10 +2,8 @@
 // each, gives its refusals in the order of the table, and asks one inner function. A shape is lent with its floor, and
 // every answer on shapes carries it: of two shapes, a on floor f and b on floor g, both have the same, or are refused 13
 // behind 1 to 5 of the first and of the second.
-mod admission;
 pub mod answer;
 mod coordinate;
-mod deliver;
 pub mod separating;
 pub mod walk;
 
@@ -33,6 +31,7 @@ ghost use Rattle.journal.specs.Reading.{damaged, readWritten};
 ghost use Rattle.journal.specs.Adding.{added, end as Adding·end};
 ghost use Rattle.questions.specs.Answer.{ofRelation, ofInside, ofClearance, ofTangents, ofTablet, ofAddition};
 use admission::Admission;
+use admission::deliver;
 use answer::Addition;
 use answer::Answer;
 use answer::Clearance;

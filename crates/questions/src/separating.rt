@@ -7,10 +7,9 @@ ghost use Rattle.plane.specs.Reply.{answered};
 ghost use Rattle.plane.specs.Offer.{offerReply};
 ghost use Rattle.witness.specs.Found.{foundNumbers, FoundBetween};
 ghost use Rattle.questions.specs.Answer.{ofOffer, ofFound};
-use crate::admission;
-use crate::admission::Admission;
 use crate::answer::Found;
 use crate::answer::Offer;
+use admission::Admission;
 use polygon::point::Point;
 
 // Whether every corner of the first shape has a strictly lesser u·x + v·y than every corner of the second. Whoever

@@ -9,12 +9,12 @@ use Rattle.plane.specs.Separation.{apart}
 use Rattle.plane.specs.Clearance.{numbersOf, nearest, clearanceReply}
 use Rattle.separation.specs.Place.{placeNumber}
 use Rattle.separation.specs.theory.Around.{related-apart}
-use Rattle.questions.specs.theory.Rows.{refuses-between, pair-answer, pair-carried}
+use Rattle.admission.specs.theory.Rows.{refuses-between, pair-answer, pair-carried}
 use borrow.Author.Needs.{needs}
 use Rattle.plane.specs.Floor.{Floored, on, withFloor, pairRows}
 use Rattle.questions.specs.Answer.{ofRefusal}
-use Rattle.questions.specs.declared.admission.Admission.the-variants as Admission
-use Rattle.questions.specs.Admission.{Refuses, AdmittedPair}
+use Rattle.admission.specs.declared.Admission.the-variants as Admission
+use Rattle.admission.specs.Admission.{Refuses, AdmittedPair}
 use Rattle.questions.proofs.Placed.{not-apart}
 use Rattle.questions.proofs.clearance.Statement.{statement}
 use Rattle.questions.proofs.clearance.Tie as tie

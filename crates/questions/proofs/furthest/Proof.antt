@@ -22,12 +22,12 @@ use Rattle.plane.specs.theory.direction.Rows.{direction-near, direction-some}
 use Rattle.polygon.specs.Point.{Small}
 use Rattle.polygon.specs.theory.Small.{small-wide}
 use Rattle.polygon.specs.theory.Furthest.{furthest-answered}
-use Rattle.questions.specs.theory.Rows.{refuses-more, refuses-behind, refuses-carried}
+use Rattle.admission.specs.theory.Rows.{refuses-more, refuses-behind, refuses-carried}
 use borrow.Author.Needs.{needs}
 use Rattle.plane.specs.Refusal.{shapeRows, Valid}
 use Rattle.questions.specs.Answer.{ofRefusal}
-use Rattle.questions.specs.declared.admission.Admission.the-variants as Admission
-use Rattle.questions.specs.Admission.{Refuses, Admitted, AdmittedDirection}
+use Rattle.admission.specs.declared.Admission.the-variants as Admission
+use Rattle.admission.specs.Admission.{Refuses, Admitted, AdmittedDirection}
 use Rattle.questions.proofs.furthest.Statement.{statement}
 use Rattle.questions.proofs.furthest.Tie as tie
 

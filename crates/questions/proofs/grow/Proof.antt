@@ -5,12 +5,12 @@ use Rattle.plane.specs.Limits.{maxCorners}
 use Rattle.plane.specs.Floor.{Floored, on, pairRows}
 use Rattle.plane.specs.Combine.{growWritten}
 use Rattle.polygon.specs.theory.Fronts.{front-length}
-use Rattle.questions.specs.theory.Delivery.{front-paired, pair-delivered}
-use Rattle.questions.specs.theory.Rows.{refuses-output}
+use Rattle.admission.specs.theory.Delivery.{front-paired, pair-delivered}
+use Rattle.admission.specs.theory.Rows.{refuses-output}
 use borrow.Author.Needs.{needs}
 use Rattle.questions.specs.Answer.{ofRefusal}
-use Rattle.questions.specs.declared.admission.Admission.the-variants as Admission
-use Rattle.questions.specs.Admission.{Refuses, AdmittedPair}
+use Rattle.admission.specs.declared.Admission.the-variants as Admission
+use Rattle.admission.specs.Admission.{Refuses, AdmittedPair}
 use Rattle.questions.proofs.grow.Statement.{statement}
 use Rattle.questions.proofs.grow.Tie as tie
 

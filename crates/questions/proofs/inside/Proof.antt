@@ -5,12 +5,12 @@ use mathlib.Core.List.{[], _∷_, _++_}
 use lib.IntN.{pos}
 use Rattle.plane.specs.Reply.{answered}
 use Rattle.plane.specs.Separation.{insideReply}
-use Rattle.questions.specs.theory.Rows.{refuses-between, pair-answer, pair-carried}
+use Rattle.admission.specs.theory.Rows.{refuses-between, pair-answer, pair-carried}
 use borrow.Author.Needs.{needs}
 use Rattle.plane.specs.Floor.{Floored, on, pairRows}
 use Rattle.questions.specs.Answer.{ofRefusal}
-use Rattle.questions.specs.declared.admission.Admission.the-variants as Admission
-use Rattle.questions.specs.Admission.{Refuses, AdmittedPair}
+use Rattle.admission.specs.declared.Admission.the-variants as Admission
+use Rattle.admission.specs.Admission.{Refuses, AdmittedPair}
 use Rattle.questions.proofs.inside.Statement.{statement}
 use Rattle.questions.proofs.inside.Tie as tie
 

@@ -6,11 +6,11 @@ use lib.IntN.{pos}
 use Rattle.plane.specs.Reply.{answered}
 use Rattle.plane.specs.Floor.{withFloor}
 use Rattle.plane.specs.Judge.{judged}
-use Rattle.questions.specs.theory.Rows.{valid-answer, refuses-carried}
+use Rattle.admission.specs.theory.Rows.{valid-answer, refuses-carried}
 use borrow.Author.Needs.{needs}
 use Rattle.plane.specs.Refusal.{shapeRows, Valid}
 use Rattle.questions.specs.Answer.{ofRefusal}
-use Rattle.questions.specs.Admission.{Refuses, Admitted}
+use Rattle.admission.specs.Admission.{Refuses, Admitted}
 use Rattle.questions.proofs.judge.Statement.{statement}
 use Rattle.questions.proofs.judge.Tie as tie
 

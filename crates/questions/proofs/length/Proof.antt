@@ -1,12 +1,12 @@
 -- `length` meets its contract: the list is refused, or its furthest pair of corners sought.
 use mathlib.Core.Path.{ap, subst}
 use Rattle.plane.specs.Floor.{withFloor}
-use Rattle.questions.specs.theory.Rows.{refuses-carried}
+use Rattle.admission.specs.theory.Rows.{refuses-carried}
 use Rattle.questions.specs.theory.Measures.{length-refused, length-answered}
 use borrow.Author.Needs.{needs}
 use Rattle.plane.specs.Refusal.{shapeRows, Valid}
 use Rattle.questions.specs.Answer.{ofRefusal}
-use Rattle.questions.specs.Admission.{Refuses, Admitted}
+use Rattle.admission.specs.Admission.{Refuses, Admitted}
 use Rattle.questions.proofs.length.Statement.{statement}
 use Rattle.questions.proofs.length.Tie as tie
 

@@ -4,7 +4,7 @@ use borrow.Author.Needs.{needs}
 use Rattle.plane.specs.Refusal.{shapeRows, Valid}
 use Rattle.journal.specs.theory.Survey.{surveyed-ends}
 use Rattle.questions.specs.Answer.{ofRefusal}
-use Rattle.questions.specs.Admission.{Refuses, Admitted}
+use Rattle.admission.specs.Admission.{Refuses, Admitted}
 use Rattle.questions.specs.theory.Logs.{add-refused, add-damaged}
 use Rattle.questions.proofs.log_add.Statement.{statement}
 use Rattle.questions.proofs.log_add.Tie as tie

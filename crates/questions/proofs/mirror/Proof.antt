@@ -7,11 +7,11 @@ use Rattle.plane.specs.Point.{points}
 use Rattle.plane.specs.Floor.{withFloor}
 use Rattle.plane.specs.theory.lists.Flat.{points-length}
 use Rattle.plane.specs.theory.mirror.MirrorWritten.{mirror-room}
-use Rattle.questions.specs.theory.Delivery.{mirror-refused, mirror-answered}
+use Rattle.admission.specs.theory.Delivery.{mirror-refused, mirror-answered}
 use borrow.Author.Needs.{needs}
 use Rattle.plane.specs.Refusal.{shapeRows, Valid}
 use Rattle.questions.specs.Answer.{ofRefusal}
-use Rattle.questions.specs.Admission.{Refuses, Admitted}
+use Rattle.admission.specs.Admission.{Refuses, Admitted}
 use Rattle.questions.proofs.mirror.Statement.{statement}
 use Rattle.questions.proofs.mirror.Tie as tie
 

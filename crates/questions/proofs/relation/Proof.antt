@@ -6,11 +6,11 @@ use Rattle.plane.specs.Reply.{answered}
 use Rattle.plane.specs.Floor.{Floored, on, withFloor, pairRows}
 use Rattle.plane.specs.Separation.{relationReply}
 use Rattle.separation.specs.Around.{related}
-use Rattle.questions.specs.theory.Rows.{refuses-between, pair-answer, pair-carried}
+use Rattle.admission.specs.theory.Rows.{refuses-between, pair-answer, pair-carried}
 use borrow.Author.Needs.{needs}
 use Rattle.questions.specs.Answer.{ofRefusal}
-use Rattle.questions.specs.declared.admission.Admission.the-variants as Admission
-use Rattle.questions.specs.Admission.{Refuses, AdmittedPair}
+use Rattle.admission.specs.declared.Admission.the-variants as Admission
+use Rattle.admission.specs.Admission.{Refuses, AdmittedPair}
 use Rattle.questions.proofs.relation.Statement.{statement}
 use Rattle.questions.proofs.relation.Tie as tie
 

@@ -6,8 +6,8 @@ use Rattle.plane.specs.Limits.{maxPoints}
 use Rattle.plane.specs.Sweep.{pointRows, ValidPoints}
 use Rattle.polygon.specs.theory.Fronts.{front-length}
 use Rattle.questions.specs.Answer.{ofRefusal}
-use Rattle.questions.specs.Admission.{Refuses, AdmittedPoints}
-use Rattle.questions.specs.theory.Delivery.{front-paired, sweep-delivered, sweep-refused}
+use Rattle.admission.specs.Admission.{Refuses, AdmittedPoints}
+use Rattle.admission.specs.theory.Delivery.{front-paired, sweep-delivered, sweep-refused}
 use Rattle.questions.proofs.sweep.Statement.{statement}
 use Rattle.questions.proofs.sweep.Tie as tie
 

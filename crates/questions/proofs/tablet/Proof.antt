@@ -8,7 +8,7 @@ use Rattle.integer.specs.Machine.{result-is}
 use Rattle.plane.specs.Reply.{answered}
 use Rattle.tablet.specs.Double.{holding}
 use Rattle.tablet.specs.Reading.{Sent}
-use Rattle.questions.specs.Admission.{Coordinated}
+use Rattle.questions.specs.Coordinate.{Coordinated}
 use Rattle.questions.specs.theory.Readings.{refused-x, refused-y, sent-corner}
 use borrow.Author.Needs.{needs}
 use Rattle.questions.proofs.tablet.Statement.{statement}

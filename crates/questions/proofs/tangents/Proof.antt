@@ -11,9 +11,9 @@ use Rattle.separation.specs.Place.{placeNumber}
 use Rattle.separation.specs.theory.Around.{related-apart}
 use Rattle.tangents.specs.theory.Rows.{tangents-refused}
 use Rattle.questions.specs.Answer.{ofRefusal}
-use Rattle.questions.specs.declared.admission.Admission.the-variants as Admission
-use Rattle.questions.specs.Admission.{Refuses, AdmittedPair}
-use Rattle.questions.specs.theory.Rows.{refuses-between, pair-carried}
+use Rattle.admission.specs.declared.Admission.the-variants as Admission
+use Rattle.admission.specs.Admission.{Refuses, AdmittedPair}
+use Rattle.admission.specs.theory.Rows.{refuses-between, pair-carried}
 use Rattle.questions.specs.theory.Lines.{tangents-found}
 use Rattle.questions.proofs.Placed.{not-apart}
 use Rattle.questions.proofs.tangents.Statement.{statement}

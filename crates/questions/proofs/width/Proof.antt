@@ -1,7 +1,7 @@
 -- `width` meets its contract: the list is refused, or is flat, or its narrowest edge sought.
 use mathlib.Core.Path.{ap, subst}
 use Rattle.plane.specs.Floor.{withFloor}
-use Rattle.questions.specs.theory.Rows.{refuses-carried}
+use Rattle.admission.specs.theory.Rows.{refuses-carried}
 use Prim.Native.Nat.{_≤_}
 use native.Mathlib.Omega.{arith}
 use lib.ListN.{length}
@@ -10,7 +10,7 @@ use Rattle.questions.specs.theory.Measures.{width-refused, width-flat, w
 use borrow.Author.Needs.{needs}
 use Rattle.plane.specs.Refusal.{shapeRows, Valid}
 use Rattle.questions.specs.Answer.{ofRefusal}
-use Rattle.questions.specs.Admission.{Refuses, Admitted}
+use Rattle.admission.specs.Admission.{Refuses, Admitted}
 use Rattle.questions.proofs.width.Statement.{statement}
 use Rattle.questions.proofs.width.Tie as tie
 

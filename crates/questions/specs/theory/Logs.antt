@@ -23,8 +23,8 @@ use Rattle.journal.specs.Survey.{surveyed, LatestAt}
 use Rattle.journal.specs.declared.survey.Surveyed.the-variants as Surveyed
 use Rattle.journal.specs.theory.Decode.{wordsAt-length}
 use Rattle.journal.specs.theory.Survey.{surveyed-bad}
-use Rattle.questions.specs.Admission.{Refuses}
-use Rattle.questions.specs.theory.Rows.{refuses-more, refuses-first, valid-passed}
+use Rattle.admission.specs.Admission.{Refuses}
+use Rattle.admission.specs.theory.Rows.{refuses-more, refuses-first, valid-passed}
 
 -- ---- reading
 

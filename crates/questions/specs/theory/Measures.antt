@@ -16,8 +16,8 @@ use Rattle.plane.specs.theory.refusals.Rows.{row-given, row-passed}
 use Rattle.measure.specs.declared.Length.{Length}
 use Rattle.measure.specs.declared.Width.{Width}
 use Rattle.measure.specs.Answer.{IsLength, IsWidth}
-use Rattle.questions.specs.Admission.{Refuses}
-use Rattle.questions.specs.theory.Rows.{refuses-more, valid-passed, valid-answer}
+use Rattle.admission.specs.Admission.{Refuses}
+use Rattle.admission.specs.theory.Rows.{refuses-more, valid-passed, valid-answer}
 
 module _ (l : List ℤ) where
   -- ---- length

@@ -19,9 +19,9 @@ use Rattle.plane.specs.theory.refusals.Accept.{valid→accepted}
 use Rattle.plane.specs.theory.refusals.Floors.{Same, same→none}
 use Rattle.witness.specs.Found.{FoundBetween}
 use Rattle.witness.specs.declared.Found.the-variants as Found
-use Rattle.questions.specs.declared.admission.Admission.the-variants as Admission
-use Rattle.questions.specs.Admission.{Refuses, AdmittedPair, AdmittedDirection}
-use Rattle.questions.specs.theory.Rows.{refuses-behind, refuses-first, refuses-carried, refuses-between, pair-carried}
+use Rattle.admission.specs.declared.Admission.the-variants as Admission
+use Rattle.admission.specs.Admission.{Refuses, AdmittedPair, AdmittedDirection}
+use Rattle.admission.specs.theory.Rows.{refuses-behind, refuses-first, refuses-carried, refuses-between, pair-carried}
 
 module _ (a b : Floored) where
   module _ (s : AdmittedPair a b Admission.Valid) (d : Point) where

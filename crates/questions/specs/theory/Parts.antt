@@ -26,9 +26,9 @@ use Rattle.calipers.specs.Walk.{Walk, begun}
 use Rattle.calipers.specs.PlaceAfter.{wholeSum, isPlace}
 use Rattle.calipers.specs.Part.{partCorners, handedBack, walkNumbers, surveyRows, partRows, beginReply, partWritten}
 use Rattle.calipers.specs.theory.Parts.{part-none}
-use Rattle.questions.specs.declared.admission.Admission.the-variants as Admission
-use Rattle.questions.specs.Admission.{Refuses, Surveyed}
-use Rattle.questions.specs.theory.Rows.{refuses-more, refuses-behind, refuses-row, refuses-written, refuses-carried}
+use Rattle.admission.specs.declared.Admission.the-variants as Admission
+use Rattle.admission.specs.Admission.{Refuses, Surveyed}
+use Rattle.admission.specs.theory.Rows.{refuses-more, refuses-behind, refuses-row, refuses-written, refuses-carried}
 
 module _ (a b : List ℤ) where
   -- the rows of both shapes

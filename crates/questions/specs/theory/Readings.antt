@@ -13,8 +13,8 @@ use Rattle.tablet.specs.theory.Rows.{whole-passed}
 use Rattle.tablet.specs.theory.Corner.{read-corner}
 use Rattle.tablet.specs.declared.reading.Reading.{Reading}
 use Rattle.tablet.specs.declared.reading.Read.the-variants.{Whole}
-use Rattle.questions.specs.Admission.{Refuses}
-use Rattle.questions.specs.theory.Rows.{refuses-more, refuses-first}
+use Rattle.admission.specs.Admission.{Refuses}
+use Rattle.admission.specs.theory.Rows.{refuses-more, refuses-first}
 
 abbrev sent : Reply → List Float → Sent
 sent r ds = record { reply = r; doubles = ds }

@@ -1,7 +1,7 @@
 -- `bar` meets its contract, case by case.
 use mathlib.Core.Path.{_≡_, _∙_, ap, sym}
 use Prim.Native.Nat.{ℕ}
-use Rattle.questions.specs.declared.answer.Answer.{Answer}
+use Rattle.admission.specs.declared.answer.Answer.{Answer}
 use Rattle.questions.specs.Answer.{ofAnswer}
 use Rattle.abi.specs.Passing.{barred}
 use Rattle.abi.specs.theory.Alike.{barred-above, barred-within}

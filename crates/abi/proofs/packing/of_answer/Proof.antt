@@ -1,7 +1,7 @@
 -- `of_answer` meets its contract, case by case.
 use mathlib.Core.Path.{_∙_, ap, sym, subst}
 use native.Mathlib.Omega.{arith}
-use Rattle.questions.specs.declared.answer.Answer.{Answer}
+use Rattle.admission.specs.declared.answer.Answer.{Answer}
 use Rattle.questions.specs.Answer.{ofAnswer}
 use Rattle.abi.specs.Packing.{packed, Fits}
 use borrow.Author.Needs.{needs}

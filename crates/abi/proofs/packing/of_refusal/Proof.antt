@@ -1,7 +1,7 @@
 -- `of_refusal` meets its contract: each row by its number and what it carries.
 use mathlib.Core.Path.{_≡_, _∙_, ap, sym, subst}
 use Prim.Native.Nat.{_<_}
-use Rattle.questions.specs.declared.answer.Refusal.{Refusal}
+use Rattle.admission.specs.declared.answer.Refusal.{Refusal}
 use Rattle.questions.specs.Answer.{ofRefusal}
 use Rattle.abi.specs.Packing.{refusalField, shapeField, firstField, secondField, packed, Fits}
 use borrow.Author.Needs.{needs}

@@ -3,8 +3,8 @@ use mathlib.Core.Path.{sym, _∙_, ap, subst}
 use Prim.Native.Nat.{_*_, _≤_}
 use native.Mathlib.Omega.{arith}
 use lib.ListN.{length, take}
-use Rattle.questions.specs.declared.answer.Answer.{Answer}
-use Rattle.questions.specs.declared.answer.Answer.the-variants as Answer
+use Rattle.admission.specs.declared.answer.Answer.{Answer}
+use Rattle.admission.specs.declared.answer.Answer.the-variants as Answer
 use Rattle.questions.specs.Answer.{ofAnswer}
 use Rattle.abi.specs.Packing.{packed, firstField, Fits}
 use Rattle.abi.specs.Calls.{stored}

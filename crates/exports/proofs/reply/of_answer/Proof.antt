@@ -1,6 +1,6 @@
 -- `of_answer` meets its contract, case by case.
 use mathlib.Core.Path.{_∙_, ap, sym}
-use Rattle.questions.specs.declared.answer.Answer.{Answer}
+use Rattle.admission.specs.declared.answer.Answer.{Answer}
 use Rattle.questions.specs.Answer.{ofAnswer}
 use Rattle.exports.specs.Crossing.{crossed}
 use borrow.Author.Needs.{needs}

@@ -1,6 +1,6 @@
 -- `refused` meets its contract: each row by its number and what it carries.
 use mathlib.Core.Path.{_≡_, _∙_, ap, sym}
-use Rattle.questions.specs.declared.answer.Refusal.{Refusal}
+use Rattle.admission.specs.declared.answer.Refusal.{Refusal}
 use Rattle.questions.specs.Answer.{ofRefusal}
 use Rattle.exports.specs.Crossing.{crossed}
 use borrow.Author.Needs.{needs}

@@ -5,9 +5,9 @@ use Rattle.plane.specs.Reply.{answered}
 use Rattle.plane.specs.Floor.{Floored, on, pairRows}
 use Rattle.witness.specs.Found.{foundNumbers}
 use Rattle.questions.specs.Answer.{ofRefusal}
-use Rattle.questions.specs.declared.admission.Admission.the-variants as Admission
-use Rattle.questions.specs.Admission.{Refuses, AdmittedPair}
-use Rattle.questions.specs.theory.Rows.{pair-carried}
+use Rattle.admission.specs.declared.Admission.the-variants as Admission
+use Rattle.admission.specs.Admission.{Refuses, AdmittedPair}
+use Rattle.admission.specs.theory.Rows.{pair-carried}
 use Rattle.questions.specs.theory.Offers.{search-refused}
 use Rattle.questions.proofs.separating.find.Statement.{statement}
 use Rattle.questions.proofs.separating.find.Tie as tie

@@ -10,9 +10,9 @@ use Rattle.plane.specs.Furthest.{badDirection}
 use Rattle.plane.specs.Offer.{below, offerReply}
 use Rattle.plane.specs.Floor.{Floored, on, pairRows}
 use Rattle.questions.specs.Answer.{ofRefusal}
-use Rattle.questions.specs.declared.admission.Admission.the-variants as Admission
-use Rattle.questions.specs.Admission.{Refuses, AdmittedPair, AdmittedDirection}
-use Rattle.questions.specs.theory.Rows.{refuses-between}
+use Rattle.admission.specs.declared.Admission.the-variants as Admission
+use Rattle.admission.specs.Admission.{Refuses, AdmittedPair, AdmittedDirection}
+use Rattle.admission.specs.theory.Rows.{refuses-between}
 use Rattle.questions.specs.theory.Offers.{offer-refused, offer-answered}
 use Rattle.questions.proofs.separating.offer.Statement.{statement}
 use Rattle.questions.proofs.separating.offer.Tie as tie

@@ -3,9 +3,9 @@ use mathlib.Core.Path.{refl, _∙_, subst}
 use borrow.Author.Needs.{needs}
 use Rattle.plane.specs.Floor.{Floored, on}
 use Rattle.calipers.specs.Part.{beginReply}
-use Rattle.questions.specs.declared.admission.Admission.the-variants as Admission
-use Rattle.questions.specs.Admission.{AdmittedPair, Surveyed}
-use Rattle.questions.specs.theory.Rows.{refuses-between, refuses-carried, pair-carried}
+use Rattle.admission.specs.declared.Admission.the-variants as Admission
+use Rattle.admission.specs.Admission.{AdmittedPair, Surveyed}
+use Rattle.admission.specs.theory.Rows.{refuses-between, refuses-carried, pair-carried}
 use Rattle.questions.specs.theory.Parts.{begin-surveyed, begin-done}
 use Rattle.questions.proofs.walk.begin.Statement.{statement}
 use Rattle.questions.proofs.walk.begin.Tie as tie

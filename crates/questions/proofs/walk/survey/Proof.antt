@@ -6,8 +6,8 @@ use Rattle.plane.specs.Limits.{maxCorners}
 use Rattle.plane.specs.Point.{Point}
 use mathlib.Core.List.{List}
 use Rattle.polygon.specs.theory.Fronts.{front-points, front-length}
-use Rattle.questions.specs.Admission.{Surveyed}
-use Rattle.questions.specs.theory.Delivery.{front-paired}
+use Rattle.admission.specs.Admission.{Surveyed}
+use Rattle.admission.specs.theory.Delivery.{front-paired}
 use Rattle.questions.proofs.walk.survey.Statement.{statement}
 use Rattle.questions.proofs.walk.survey.Tie as tie
 

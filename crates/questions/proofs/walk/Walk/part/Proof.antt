@@ -9,10 +9,10 @@ use Rattle.plane.specs.Floor.{Floored, on}
 use Rattle.plane.specs.Output.{Written}
 use Rattle.calipers.specs.PlaceAfter.{isPlace}
 use Rattle.calipers.specs.Part.{partWritten}
-use Rattle.questions.specs.declared.admission.Admission.the-variants as Admission
+use Rattle.admission.specs.declared.Admission.the-variants as Admission
 use Rattle.questions.specs.Walk.{stateOf}
-use Rattle.questions.specs.Admission.{AdmittedPair, Surveyed}
-use Rattle.questions.specs.theory.Rows.{refuses-output, pair-written}
+use Rattle.admission.specs.Admission.{AdmittedPair, Surveyed}
+use Rattle.admission.specs.theory.Rows.{refuses-output, pair-written}
 use Rattle.questions.specs.theory.Parts.{part-off-place, part-surveyed}
 use Rattle.questions.proofs.walk.Walk.part.Statement.{statement}
 use Rattle.questions.proofs.walk.Walk.part.Tie as tie

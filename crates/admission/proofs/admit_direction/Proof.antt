@@ -7,8 +7,8 @@ use mir.Facts.{toZ-ofZ}
 use borrow.Author.Needs.{needs}
 use Rattle.plane.specs.Point.{point}
 use Rattle.plane.specs.Furthest.{badDirection, commonDivisor}
-use Rattle.questions.proofs.admission.admit_direction.Statement.{statement}
-use Rattle.questions.proofs.admission.admit_direction.Tie as tie
+use Rattle.admission.proofs.admit_direction.Statement.{statement}
+use Rattle.admission.proofs.admit_direction.Tie as tie
 
 -- the direction, read back from its bits
 direction-is : (c : tie.Start) → point (toZ w32 (ofZ w32 (c .args .u))) (toZ w32 (ofZ w32 (c .args .v))) ≡ point (c .args .u) (c .args .v)

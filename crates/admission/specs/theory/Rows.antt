@@ -38,8 +38,8 @@ use Rattle.plane.specs.theory.refusals.Rows.{
 }
 use Rattle.plane.specs.theory.refusals.Write.{Wrote, wrote-given, wrote-passed, first-output}
 use Rattle.plane.specs.theory.refusals.Floors.{Same, between-same, written-same}
-use Rattle.questions.specs.declared.admission.Admission.the-variants as Admission
-use Rattle.questions.specs.Admission.{Refuses, AdmittedPair}
+use Rattle.admission.specs.declared.Admission.the-variants as Admission
+use Rattle.admission.specs.Admission.{Refuses, AdmittedPair}
 
 -- ---- a refusal
 

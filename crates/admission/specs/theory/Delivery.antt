@@ -30,10 +30,10 @@ use Rattle.plane.specs.theory.mirror.MirrorWritten.{mirror-written}
 use Rattle.plane.specs.theory.sweep.SweepWritten.{sweep-answered}
 use Rattle.polygon.specs.Front.{Front}
 use Rattle.polygon.specs.theory.Fronts.{front-points, front-length}
-use Rattle.questions.specs.Delivery.{delivered}
-use Rattle.questions.specs.declared.admission.Admission.the-variants as Admission
-use Rattle.questions.specs.Admission.{Refuses, AdmittedPair}
-use Rattle.questions.specs.theory.Rows.{refuses-written, refuses-carried, pair-written}
+use Rattle.admission.specs.Delivery.{delivered}
+use Rattle.admission.specs.declared.Admission.the-variants as Admission
+use Rattle.admission.specs.Admission.{Refuses, AdmittedPair}
+use Rattle.admission.specs.theory.Rows.{refuses-written, refuses-carried, pair-written}
 
 module _ (l : List ℤ) (paired : length l % 2 ≡ 0) where
   pub numbers-outside : {t : Bool} → someOutside l ≡ t → someOutside (numbers (points l)) ≡ t

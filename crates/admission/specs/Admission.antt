@@ -6,7 +6,6 @@
 --     Surveyed shape r        refusals 6 and 7 of an answer: neither applies, or the first that does is given
 --     AdmittedPoints l r      the list holds the points of a sweep, or its rows refuse it
 --     AdmittedDirection d r   neither 11 nor 12 applies to the direction, or the first that does is given
---     Coordinated part x r    a reading's whole number, or its rows refuse it and blame the part
 use mathlib.Core.Path.{_≡_}
 use mathlib.Core.Bool.{false}
 use mathlib.Core.List.{List}
@@ -19,14 +18,9 @@ use Rattle.plane.specs.Furthest.{badDirection, commonDivisor, directionRows}
 use Rattle.calipers.specs.Part.{surveyRows}
 use Rattle.plane.specs.Floor.{Floored, pairRows}
 use Rattle.plane.specs.Sweep.{pointRows, ValidPoints}
-use Rattle.tablet.specs.Reading.{readAs, readingRows}
-use Rattle.tablet.specs.declared.reading.Reading.{Reading}
-use Rattle.tablet.specs.declared.reading.Read.the-variants.{Whole}
-use Rattle.questions.specs.Answer.{ofRefusal}
-use Rattle.questions.specs.declared.coordinate.Coordinate.{Coordinate}
-use Rattle.questions.specs.declared.coordinate.Coordinate.the-variants as Coordinate
-use Rattle.questions.specs.declared.admission.Admission.{Admission}
-use Rattle.questions.specs.declared.admission.Admission.the-variants as Admission
+use Rattle.admission.specs.Answer.{ofRefusal}
+use Rattle.admission.specs.declared.Admission.{Admission}
+use Rattle.admission.specs.declared.Admission.the-variants as Admission
 
 pub record Refuses (rows : List Row) (r : Reply) : Type 0 where
   pub whatever : (x : Reply) → r ≡ firstRow rows x
@@ -50,7 +44,3 @@ AdmittedPoints l (Admission.No r) = Refuses (pointRows l) (ofRefusal r)
 abbrev pub AdmittedDirection : Point → Admission → Type 0
 AdmittedDirection d Admission.Valid = (badDirection d ≡ false) × (commonDivisor d ≡ false)
 AdmittedDirection d (Admission.No r) = Refuses (directionRows d) (ofRefusal r)
-
-abbrev pub Coordinated : ℕ → Reading → Coordinate → Type 0
-Coordinated part x (Coordinate.Whole n) = readAs x ≡ Whole n
-Coordinated part x (Coordinate.No r) = Refuses (readingRows part x) (ofRefusal r)

@@ -7,12 +7,12 @@ use Rattle.plane.specs.Point.{points}
 use Rattle.plane.specs.Reply.{row}
 use Rattle.plane.specs.Output.{noRoom}
 use Rattle.plane.specs.Floor.{withFloor}
-use Rattle.questions.specs.declared.admission.Admission.the-variants as Admission
-use Rattle.questions.specs.Admission.{Surveyed}
-use Rattle.questions.specs.theory.Rows.{refuses-written, refuses-carried}
-use Rattle.questions.specs.theory.Delivery.{little-room, all-delivered}
-use Rattle.questions.proofs.deliver.deliver.Statement.{statement}
-use Rattle.questions.proofs.deliver.deliver.Tie as tie
+use Rattle.admission.specs.declared.Admission.the-variants as Admission
+use Rattle.admission.specs.Admission.{Surveyed}
+use Rattle.admission.specs.theory.Rows.{refuses-written, refuses-carried}
+use Rattle.admission.specs.theory.Delivery.{little-room, all-delivered}
+use Rattle.admission.proofs.deliver.deliver.Statement.{statement}
+use Rattle.admission.proofs.deliver.deliver.Tie as tie
 
 -- past the survey neither 6 nor 7 applies
 surveyed : (c : tie.After-enum-told) → Surveyed (points (c .before .before .before .args .shape .now)) Admission.Valid

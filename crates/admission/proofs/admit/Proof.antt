@@ -9,8 +9,8 @@ use Rattle.plane.specs.Reply.{refused}
 use Rattle.plane.specs.Refusal.{badCount, tooMany, someOutside, ruleBroken}
 use Rattle.plane.specs.theory.refusals.Accept.{near→inRange, counted, accepted→valid, shape→valid}
 use Rattle.polygon.proofs.LeftRule.{broken-found, broken-none}
-use Rattle.questions.proofs.admission.admit.Statement.{statement}
-use Rattle.questions.proofs.admission.admit.Tie as tie
+use Rattle.admission.proofs.admit.Statement.{statement}
+use Rattle.admission.proofs.admit.Tie as tie
 
 -- ---- the rows that do not apply, each where it is known
 

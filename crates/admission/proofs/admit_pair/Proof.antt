@@ -4,10 +4,10 @@ use native.Mathlib.Omega.{arith}
 use borrow.Author.Needs.{needs}
 use Rattle.plane.specs.Refusal.{Valid}
 use Rattle.plane.specs.Floor.{Floored, on}
-use Rattle.questions.specs.Admission.{Admitted}
-use Rattle.questions.specs.theory.Rows.{first-refused, second-refused, floors-refused}
-use Rattle.questions.proofs.admission.admit_pair.Statement.{statement}
-use Rattle.questions.proofs.admission.admit_pair.Tie as tie
+use Rattle.admission.specs.Admission.{Admitted}
+use Rattle.admission.specs.theory.Rows.{first-refused, second-refused, floors-refused}
+use Rattle.admission.proofs.admit_pair.Statement.{statement}
+use Rattle.admission.proofs.admit_pair.Tie as tie
 
 -- the two shapes
 abbrev one : tie.Start → Floored

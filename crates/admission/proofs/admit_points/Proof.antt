@@ -6,8 +6,8 @@ use Rattle.plane.specs.Point.{points}
 use Rattle.plane.specs.Refusal.{badCount}
 use Rattle.plane.specs.Sweep.{tooManyPoints}
 use Rattle.plane.specs.theory.sweep.SweepWritten.{accepted→points}
-use Rattle.questions.proofs.admission.admit_points.Statement.{statement}
-use Rattle.questions.proofs.admission.admit_points.Tie as tie
+use Rattle.admission.proofs.admit_points.Statement.{statement}
+use Rattle.admission.proofs.admit_points.Tie as tie
 
 -- ---- the rows that do not apply, each where it is known
 

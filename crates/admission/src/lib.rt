@@ -1,8 +1,12 @@
-// Inner functions: lists judged, each once, before a question is asked of them, and the direction of a question.
+// Inner functions: lists judged, each once, before a question is asked of them, and the direction of a question; and
+// shapes delivered. Callers ask the crate `questions`.
+pub mod answer;
+pub mod deliver;
+
 ghost use Rattle.plane.specs.Point.{point};
 ghost use Rattle.plane.specs.Floor.{on};
-ghost use Rattle.questions.specs.Admission.{Admitted, AdmittedPair, AdmittedPoints, AdmittedDirection};
-use crate::answer::Refusal;
+ghost use Rattle.admission.specs.Admission.{Admitted, AdmittedPair, AdmittedPoints, AdmittedDirection};
+use answer::Refusal;
 use calipers::sorted;
 use polygon::direction;
 use polygon::rules;

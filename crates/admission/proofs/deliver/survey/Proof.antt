@@ -6,10 +6,10 @@ use borrow.Author.Needs.{needs}
 use Rattle.plane.specs.Point.{points, numbers}
 use Rattle.plane.specs.Reply.{row}
 use Rattle.plane.specs.Refusal.{tooMany, someOutside}
-use Rattle.questions.specs.theory.Rows.{refuses-behind, refuses-row}
-use Rattle.questions.specs.theory.Delivery.{numbers-outside}
-use Rattle.questions.proofs.deliver.survey.Statement.{statement}
-use Rattle.questions.proofs.deliver.survey.Tie as tie
+use Rattle.admission.specs.theory.Rows.{refuses-behind, refuses-row}
+use Rattle.admission.specs.theory.Delivery.{numbers-outside}
+use Rattle.admission.proofs.deliver.survey.Statement.{statement}
+use Rattle.admission.proofs.deliver.survey.Tie as tie
 
 -- row 6 does not apply
 row-6 : (c : tie.Else1) → tooMany (points (c .before .before .args .shape .now)) ≡ false
