@@ -146,12 +146,22 @@ fn sum(out: &mut [u8], filled: usize, outline: Outline, view: Frame) -> usize {
             2,
             b"stroke=\"#666\" stroke-dasharray=\"8 5\"",
         );
-        let then = answers::word(out, now, b"sum");
+        let then = kind(out, now, outline);
         return picture::end_row(out, then);
     }
     let now = picture::row_of_lines(out, filled, view, 2, b"");
-    let then = answers::labelled(out, now, b"no sum: it is refused ", outline.refused);
-    picture::end_row(out, then)
+    let then = kind(out, now, outline);
+    let last = answers::labelled(out, then, b": refused ", outline.refused);
+    picture::end_row(out, last)
+}
+
+// Adds what the outline is.
+fn kind(out: &mut [u8], filled: usize, outline: Outline) -> usize {
+    if outline.grown {
+        answers::word(out, filled, b"first grown by second")
+    } else {
+        answers::word(out, filled, b"sum")
+    }
 }
 
 // Adds the rows of what is drawn between two shapes apart.

@@ -1,5 +1,5 @@
-// Pictures: a map of up to eight shapes on one floor; of two also the outline of their sum, unless it is refused, and if
-// they are apart the four lines that just touch both and the shortest between them.
+// Pictures: a map of up to eight shapes on one floor; of two also the outline of their sum, or of the first grown by the
+// second, unless it is refused, and if they are apart the four lines that just touch both and the shortest between them.
 mod legends;
 
 use picture::frames;
@@ -20,17 +20,20 @@ enum Judged {
     No { refusal: Refusal, shape: usize },
 }
 
-// The sum of two shapes: how many corners it has, or none and the number of its refusal; neither where there is none.
+// The sum of two shapes, or the first grown by the second: how many corners it has, or none and the number of its
+// refusal; neither where no pair is drawn.
 pub struct Outline {
+    pub grown: bool,
     pub count: usize,
     pub refused: u64,
 }
 
-// Draws the shapes of a line, of which so many are given. Each is refused as judging it is, then shapes of different
-// floors are.
+// Draws the shapes of a line, of which so many are given; of two the first grown by the second, or their sum. Each is
+// refused as judging it is, then shapes of different floors are.
 pub fn draw(
     out: &mut [u8],
     filled: usize,
+    grown: bool,
     line: &[u8],
     count: usize,
     values: &[i32],
@@ -38,7 +41,7 @@ pub fn draw(
     cells: &[usize],
 ) -> usize {
     match judge_all(line, count, values, marks, cells) {
-        Judged::Passed => drawn(out, filled, line, count, values, marks, cells),
+        Judged::Passed => drawn(out, filled, grown, line, count, values, marks, cells),
         Judged::No { refusal, shape } => replies::refuse_of(out, filled, refusal, shape as u64),
     }
 }
@@ -84,6 +87,7 @@ fn on_one_floor(line: &[u8], count: usize, cells: &[usize]) -> bool {
 fn drawn(
     out: &mut [u8],
     filled: usize,
+    grown: bool,
     line: &[u8],
     count: usize,
     values: &[i32],
@@ -93,7 +97,7 @@ fn drawn(
     let mut sum = [0i32; SHAPE_NUMBERS];
     let a = fields::field(values, marks, 0);
     let b = fields::field(values, marks, 1);
-    let outline = sum_of(count, a, b, &mut sum);
+    let outline = outline_of(grown, count, a, b, &mut sum);
     let around = answers::front(&sum, outline.count);
     let gap = gap_of(count, a, b);
     let view = view_of(count, values, marks, around);
@@ -105,20 +109,35 @@ fn drawn(
     picture::end(out, told)
 }
 
-// Writes the sum of a pair.
-fn sum_of(count: usize, a: &[i32], b: &[i32], sum: &mut [i32]) -> Outline {
+// Writes the outline that is drawn around a pair.
+fn outline_of(grown: bool, count: usize, a: &[i32], b: &[i32], out: &mut [i32]) -> Outline {
     if count != 2 {
         return Outline {
+            grown,
             count: 0,
             refused: 0,
         };
     }
-    match questions::sum(a, 0, b, 0, sum) {
-        Answer::Corners { count, floor: _ } => Outline { count, refused: 0 },
+    match combined(grown, a, b, out) {
+        Answer::Corners { count, floor: _ } => Outline {
+            grown,
+            count,
+            refused: 0,
+        },
         Answer::No(refusal) => Outline {
+            grown,
             count: 0,
             refused: replies::number(refusal),
         },
+    }
+}
+
+// Writes the first shape grown by the second, or their sum.
+fn combined(grown: bool, a: &[i32], b: &[i32], out: &mut [i32]) -> Answer {
+    if grown {
+        questions::grow(a, 0, b, 0, out)
+    } else {
+        questions::sum(a, 0, b, 0, out)
     }
 }
 

@@ -13,7 +13,7 @@ use text::answers;
 // How far from its corner a number stands, in pixels; and from one with a large ring.
 const NEAR: usize = 10;
 
-const FAR: usize = 20;
+const FAR: usize = 16;
 
 // The height of a digit, and its width.
 const HEIGHT: usize = 11;
@@ -156,7 +156,7 @@ fn large_ring(out: &mut [u8], filled: usize, k: usize) -> usize {
         out,
         filled,
         k,
-        b"<circle r=\"16\" stroke-width=\"3\" fill=\"none\" stroke=\"",
+        b"<circle r=\"12\" stroke-width=\"2.5\" fill=\"none\" stroke=\"",
     );
     answers::word(out, now, b"<circle r=\"3\"/>")
 }

@@ -43,7 +43,7 @@ pub fn ask(
         Question::Write(which) => write(out, filled, which, a, f, b, g, room),
         Question::Offer => separating::offer(out, filled, a, f, b, g, c),
         Question::Find => separating::find(out, filled, a, f, b, g),
-        Question::Draw => maps::draw(out, filled, line, count, values, marks, cells),
+        Question::Draw(grown) => maps::draw(out, filled, grown, line, count, values, marks, cells),
         Question::Tablet => readings::tablet(out, filled, line),
         Question::LogRead => logs::read(out, filled, line, fields::name(b), room),
         Question::LogAdd => {

@@ -9,7 +9,8 @@ pub enum Question {
     Write(Written),
     Offer,
     Find,
-    Draw,
+    // A picture; of two shapes the first grown by the second, or their sum.
+    Draw(bool),
     Tablet,
     Parts,
     Part,
@@ -53,7 +54,7 @@ pub struct Entry {
 // Looks a word up in the table. Where it is not there the kinds are unknown, and nothing is asked.
 pub fn look_up(word: &[u8]) -> Entry {
     let mut entry = Entry {
-        question: Question::Draw,
+        question: Question::Draw(false),
         kinds: fields::unknown(),
     };
     entry = on_one(entry, word);
@@ -78,7 +79,7 @@ pub fn in_words(question: Question, before: bool) -> bool {
 // Whether an answer can have a sentence behind it.
 pub fn has_sentence(question: Question) -> bool {
     match question {
-        Question::Draw => false,
+        Question::Draw(_) => false,
         Question::Words(_) => false,
         _ => true,
     }
@@ -136,7 +137,15 @@ fn shapes(found: Entry, word: &[u8]) -> Entry {
 
 // The pictures.
 fn pictures(found: Entry, word: &[u8]) -> Entry {
-    row(found, word, b"draw", Question::Draw, fields::shapes())
+    let pair = fields::two(Kind::Shape, Kind::Shape);
+    let entry = row(
+        found,
+        word,
+        b"draw",
+        Question::Draw(false),
+        fields::shapes(),
+    );
+    row(entry, word, b"drawgrow", Question::Draw(true), pair)
 }
 
 // The sum in parts.
