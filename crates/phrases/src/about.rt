@@ -115,10 +115,19 @@ fn furthest(out: &mut [u8], filled: usize, told: &[u64]) -> usize {
     let last = at(told, 2);
     if first == last {
         let now = answers::labelled(out, filled, b"corner ", first);
-        return answers::word(out, now, b" lies furthest that way, alone");
+        let then = reached(out, now, b" lies furthest that way, alone", told);
+        return answers::word(out, then, b" there");
     }
     let now = pair(out, filled, first, last);
-    answers::word(out, now, b" lie furthest that way, both as far")
+    let then = reached(out, now, b" lie furthest that way, both as far", told);
+    answers::word(out, then, b" at both")
+}
+
+// How the furthest corners lie, and how far that is.
+fn reached(out: &mut [u8], filled: usize, how: &[u8], told: &[u64]) -> usize {
+    let now = answers::word(out, filled, how);
+    let then = answers::word(out, now, b"; u x + v y is ");
+    heads::signed(out, then, told, 3)
 }
 
 // Two corners.
@@ -134,8 +143,8 @@ fn length(out: &mut [u8], filled: usize, told: &[u64]) -> usize {
 }
 
 fn width(out: &mut [u8], filled: usize, told: &[u64]) -> usize {
-    let now = units::metres(out, filled, at(told, 5));
-    let then = answers::labelled(out, now, b" (rounded down) from corner ", at(told, 2));
+    let now = units::of_root(out, filled, at(told, 5), at(told, 3), at(told, 4));
+    let then = answers::labelled(out, now, b" from corner ", at(told, 2));
     answers::labelled(out, then, b" to the line of edge ", at(told, 1))
 }
 
@@ -201,10 +210,8 @@ fn found_direction(out: &mut [u8], filled: usize, first: u64) -> usize {
 fn clearance(out: &mut [u8], filled: usize, told: &[u64]) -> usize {
     let how = at(told, 1);
     if how == heads::CORNERS {
-        let now = units::of_square(out, filled, at(told, 4));
-        let then = answers::labelled(out, now, b" between corner ", at(told, 2));
-        let last = answers::labelled(out, then, b" of the first shape and corner ", at(told, 3));
-        return answers::word(out, last, b" of the second");
+        let now = units::of_root(out, filled, at(told, 5), at(told, 4), at(told, 4));
+        return between(out, now, told);
     }
     if how == heads::CORNER_EDGE {
         let now = gap(out, filled, told, b" of the first and edge ");
@@ -217,10 +224,17 @@ fn clearance(out: &mut [u8], filled: usize, told: &[u64]) -> usize {
     answers::word(out, filled, b"the shapes are not apart: there is no gap")
 }
 
+// The two corners that are nearest.
+fn between(out: &mut [u8], filled: usize, told: &[u64]) -> usize {
+    let now = answers::labelled(out, filled, b" between corner ", at(told, 2));
+    let then = answers::labelled(out, now, b" of the first shape and corner ", at(told, 3));
+    answers::word(out, then, b" of the second")
+}
+
 // The gap between a corner of the one shape and an edge of the other.
 fn gap(out: &mut [u8], filled: usize, told: &[u64], whose: &[u8]) -> usize {
-    let now = units::metres(out, filled, at(told, 6));
-    let then = answers::labelled(out, now, b" (rounded down) between corner ", at(told, 2));
+    let now = units::of_root(out, filled, at(told, 6), at(told, 4), at(told, 5));
+    let then = answers::labelled(out, now, b" between corner ", at(told, 2));
     answers::labelled(out, then, whose, at(told, 3))
 }
 

@@ -1,6 +1,8 @@
 // The sentences of refusals, by their numbers.
+use crate::counts;
 use crate::heads;
 use crate::heads::at;
+use crate::points;
 use crate::units;
 use text::answers;
 
@@ -8,11 +10,28 @@ use text::answers;
 const GREATEST: i32 = 1000000;
 
 // Adds the sentence of a refusal of a question on up to two shapes.
-pub fn refused(out: &mut [u8], filled: usize, told: &[u64], a: &[i32], b: &[i32]) -> usize {
+pub fn refused(
+    out: &mut [u8],
+    filled: usize,
+    word: &[u8],
+    told: &[u64],
+    a: &[i32],
+    b: &[i32],
+) -> usize {
+    if at(told, 1) == 6 {
+        return large(out, filled, counts::of_answer(word, a, b));
+    }
     if at(told, 3) == 2 {
         return of_shape(out, filled, told, b);
     }
     of_shape(out, filled, told, a)
+}
+
+// An answer of too many corners.
+fn large(out: &mut [u8], filled: usize, count: u64) -> usize {
+    let now = answers::word(out, filled, b"the answer would have ");
+    let then = units::grouped(out, now, count);
+    answers::word(out, then, b" corners, 1,024 are allowed")
 }
 
 // Adds the sentence of a refusal that blames this shape, or none.
@@ -98,61 +117,42 @@ fn side(out: &mut [u8], filled: usize, told: &[u64], list: &[i32]) -> usize {
         return answers::word(out, now, b" is a segment with two equal ends");
     }
     let then = answers::labelled(out, now, b": corner ", at(told, 7));
-    let last = answers::labelled(out, then, b" lies right of edge ", at(told, 5));
-    answers::word(out, last, b" or on its line; each must lie strictly left")
+    let behind = place(out, then, lies_right(told, list));
+    let last = answers::unsigned(out, behind, at(told, 5));
+    answers::word(out, last, b"; each must lie strictly left")
+}
+
+// Whether the corner that breaks the left rule lies right of its edge; else it lies on its line.
+fn lies_right(told: &[u64], list: &[i32]) -> bool {
+    let edge = points::edge_at(list, at(told, 5) as usize);
+    points::is_left(
+        points::reversed(edge),
+        points::corner_at(list, at(told, 7) as usize),
+    )
+}
+
+// Where a corner lies that is not left of an edge.
+fn place(out: &mut [u8], filled: usize, is_right: bool) -> usize {
+    if is_right {
+        return answers::word(out, filled, b" lies right of edge ");
+    }
+    answers::word(out, filled, b" lies on the line of edge ")
 }
 
 fn start(out: &mut [u8], filled: usize, told: &[u64], list: &[i32]) -> usize {
     let now = blamed(out, filled, told);
-    let then = answers::labelled(out, now, b" has to begin at corner ", lowest(list) as u64);
+    let then = answers::labelled(
+        out,
+        now,
+        b" has to begin at corner ",
+        points::lowest(list) as u64,
+    );
     answers::word(out, then, b", the lowest, and the leftmost of the lowest")
-}
-
-// The position of the lowest corner, and of the leftmost of the lowest.
-fn lowest(list: &[i32]) -> usize {
-    let mut found = 0;
-    let mut i = 0;
-    while i < list.len() / 2 {
-        if is_lower(list, i, found) {
-            found = i;
-        }
-        i += 1;
-    }
-    found
-}
-
-// Whether corner i is lower than corner j, or as low and further to the left.
-fn is_lower(list: &[i32], i: usize, j: usize) -> bool {
-    let height = y(list, i);
-    let other = y(list, j);
-    if height == other {
-        return x(list, i) < x(list, j);
-    }
-    height < other
-}
-
-// The first number of corner i; 0 where there is none.
-fn x(list: &[i32], i: usize) -> i32 {
-    if i < list.len() / 2 { list[2 * i] } else { 0 }
-}
-
-// The second number of corner i; 0 where there is none.
-fn y(list: &[i32], i: usize) -> i32 {
-    if i < list.len() / 2 {
-        list[2 * i + 1]
-    } else {
-        0
-    }
 }
 
 // The refusals that blame no shape.
 fn of_answer(out: &mut [u8], filled: usize, told: &[u64]) -> usize {
     match at(told, 1) {
-        6 => answers::word(
-            out,
-            filled,
-            b"the answer would have more than 1,024 corners, 1,024 are allowed",
-        ),
         7 => answers::word(
             out,
             filled,

@@ -22,14 +22,19 @@ pub fn metres(out: &mut [u8], filled: usize, millimetres: u64) -> usize {
     answers::word(out, then, b" m")
 }
 
-// Adds the length whose square is given, and that it is rounded down if it is.
+// Adds the length whose square is given.
 pub fn of_square(out: &mut [u8], filled: usize, squared: u64) -> usize {
     if squared == 0 {
         return metres(out, filled, 0);
     }
     let root = words::root_of_fraction(squared, squared);
+    of_root(out, filled, root, squared, squared)
+}
+
+// Adds the root of t*t/q, which is told rounded down, and that it is if it is.
+pub fn of_root(out: &mut [u8], filled: usize, root: u64, t: u64, q: u64) -> usize {
     let now = metres(out, filled, root);
-    if words::fraction_less(root, 1, squared, squared) {
+    if words::fraction_less(root, 1, t, q) {
         return answers::word(out, now, b" (rounded down)");
     }
     now
