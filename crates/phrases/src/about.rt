@@ -17,6 +17,7 @@ pub enum About {
     Clearance,
     Tangents,
     Written,
+    Part,
     Calls,
     Tablet,
     Addition,
@@ -50,7 +51,7 @@ fn further(before: About, word: &[u8]) -> About {
     found = row(found, word, b"grow", About::Written);
     found = row(found, word, b"sweep", About::Written);
     found = row(found, word, b"bookread", About::Written);
-    found = row(found, word, b"part", About::Written);
+    found = row(found, word, b"part", About::Part);
     found = row(found, word, b"parts", About::Calls);
     found = row(found, word, b"tablet", About::Tablet);
     found = row(found, word, b"bookadd", About::Addition);
@@ -76,15 +77,16 @@ pub fn answered(out: &mut [u8], filled: usize, about: About, told: &[u64]) -> us
         About::Clearance => clearance(out, filled, told),
         About::Tangents => tangents(out, filled, told),
         About::Written => written(out, filled, at(told, 1)),
+        About::Part => part(out, filled, told),
         About::Calls => answers::word(
             out,
             filled,
-            b"behind each bar what one call wrote, in millimetres",
+            b"behind each bar one call: how many corners it wrote, and these in millimetres; or its refusal",
         ),
         About::Tablet => answers::word(
             out,
             filled,
-            b"both readings are whole millimetres; these go back",
+            b"both readings are whole millimetres; x and y go back as these doubles, in millimetres",
         ),
         About::Addition => addition(out, filled, at(told, 1)),
         About::Names => names(out, filled, at(told, 1)),
@@ -106,8 +108,7 @@ fn of_corners(out: &mut [u8], filled: usize, count: u64) -> usize {
         return answers::word(out, filled, b"a segment");
     }
     let now = answers::word(out, filled, b"a shape of ");
-    let then = units::grouped(out, now, count);
-    answers::word(out, then, b" corners")
+    units::corners(out, now, count)
 }
 
 fn furthest(out: &mut [u8], filled: usize, told: &[u64]) -> usize {
@@ -137,6 +138,9 @@ fn pair(out: &mut [u8], filled: usize, first: u64, last: u64) -> usize {
 }
 
 fn length(out: &mut [u8], filled: usize, told: &[u64]) -> usize {
+    if at(told, 1) == 0 {
+        return answers::word(out, filled, b"0 mm: the shape is a point");
+    }
     let now = units::of_square(out, filled, at(told, 1));
     let then = answers::word(out, now, b" between ");
     pair(out, then, at(told, 2), at(told, 3))
@@ -242,20 +246,21 @@ fn tangents(out: &mut [u8], filled: usize, told: &[u64]) -> usize {
     let mut now = answers::word(
         out,
         filled,
-        b"corners of the first and the second: both shapes left ",
+        b"lines from a corner of the first shape to one of the second: ",
     );
     now = line(out, now, at(told, 1), at(told, 2));
-    now = answers::word(out, now, b", both right ");
+    now = answers::word(out, now, b" has both shapes left, ");
     now = line(out, now, at(told, 3), at(told, 4));
+    now = answers::word(out, now, b" both right, ");
     crossing(out, now, told)
 }
 
 // The two tangents that cross between the shapes.
 fn crossing(out: &mut [u8], filled: usize, told: &[u64]) -> usize {
-    let mut now = answers::word(out, filled, b", first left and second right ");
-    now = line(out, now, at(told, 5), at(told, 6));
-    now = answers::word(out, now, b", the reverse ");
-    line(out, now, at(told, 7), at(told, 8))
+    let mut now = line(out, filled, at(told, 5), at(told, 6));
+    now = answers::word(out, now, b" the first left and the second right, ");
+    now = line(out, now, at(told, 7), at(told, 8));
+    answers::word(out, now, b" the reverse")
 }
 
 // A corner of the first and a corner of the second shape.
@@ -267,6 +272,18 @@ fn line(out: &mut [u8], filled: usize, from: u64, to: u64) -> usize {
 fn written(out: &mut [u8], filled: usize, count: u64) -> usize {
     let now = of_corners(out, filled, count);
     answers::word(out, now, b", told in millimetres behind the last bar")
+}
+
+// Some corners of a sum, and the walk from which the next call goes on.
+fn part(out: &mut [u8], filled: usize, told: &[u64]) -> usize {
+    let now = units::corners(out, filled, at(told, 1));
+    let then = answers::word(out, now, b" of the sum, in millimetres behind the bar; ");
+    if at(told, 4) == 1 {
+        return answers::word(out, then, b"the walk is over");
+    }
+    let behind = answers::labelled(out, then, b"the next call goes on from ", at(told, 2));
+    let last = answers::labelled(out, behind, b" ", at(told, 3));
+    answers::word(out, last, b" 0")
 }
 
 fn addition(out: &mut [u8], filled: usize, how: u64) -> usize {

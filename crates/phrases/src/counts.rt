@@ -1,5 +1,5 @@
-// How many corners an answer would have that has too many. The library stops at the first that is too many, so they are
-// counted here, pair by pair.
+// How many corners an answer would have that is too large or finds no room. The library stops at the first corner that
+// is too many, so they are counted here, pair by pair.
 ghost use Prim.Native.Nat.{_≤_};
 use crate::points;
 use crate::points::Edge;
@@ -7,6 +7,9 @@ use crate::points::Point;
 
 // The corners of the answer to a question on these lists. (Of a sweep the second is its room, which is no point.)
 pub fn of_answer(word: &[u8], a: &[i32], b: &[i32]) -> u64 {
+    if check::same(word, b"mirror") {
+        return (a.len() / 2) as u64;
+    }
     if check::same(word, b"merge") || check::same(word, b"sweep") {
         return around(a, b) as u64;
     }

@@ -18,8 +18,24 @@ pub fn refused(
     a: &[i32],
     b: &[i32],
 ) -> usize {
-    if at(told, 1) == 6 {
-        return large(out, filled, counts::of_answer(word, a, b));
+    match at(told, 1) {
+        6 => large(out, filled, counts::of_answer(word, a, b)),
+        8 => room(out, filled, word, at(told, 2), a, b),
+        _ => blaming(out, filled, word, told, a, b),
+    }
+}
+
+// The refusals that blame a shape or the points of a sweep, and all others.
+fn blaming(
+    out: &mut [u8],
+    filled: usize,
+    word: &[u8],
+    told: &[u64],
+    a: &[i32],
+    b: &[i32],
+) -> usize {
+    if check::same(word, b"sweep") {
+        return of_sweep(out, filled, told, a);
     }
     if at(told, 3) == 2 {
         return of_shape(out, filled, told, b);
@@ -51,22 +67,41 @@ fn blamed(out: &mut [u8], filled: usize, told: &[u64]) -> usize {
     answers::labelled(out, filled, b"shape ", at(told, 3))
 }
 
+// Adds the sentence of a refusal that blames the points of a sweep, or none. They are no corners yet.
+fn of_sweep(out: &mut [u8], filled: usize, told: &[u64], list: &[i32]) -> usize {
+    let now = answers::word(out, filled, b"the sweep");
+    match at(told, 1) {
+        1 => amount(
+            out,
+            now,
+            list.len(),
+            b" numbers; each point takes two, and one point there must be",
+        ),
+        2 => amount(out, now, list.len() / 2, b" points, 1,024 are allowed"),
+        _ => far(out, now, b", point ", list),
+    }
+}
+
+// How many of something there are, and what is wrong with that.
+fn amount(out: &mut [u8], filled: usize, count: usize, why: &[u8]) -> usize {
+    let now = answers::word(out, filled, b" has ");
+    let then = units::grouped(out, now, count as u64);
+    answers::word(out, then, why)
+}
+
 fn count(out: &mut [u8], filled: usize, told: &[u64], list: &[i32]) -> usize {
     let now = blamed(out, filled, told);
-    let then = answers::word(out, now, b" has ");
-    let last = units::grouped(out, then, list.len() as u64);
-    answers::word(
+    amount(
         out,
-        last,
+        now,
+        list.len(),
         b" numbers; each corner takes two, and one corner there must be",
     )
 }
 
 fn corners(out: &mut [u8], filled: usize, told: &[u64], list: &[i32]) -> usize {
     let now = blamed(out, filled, told);
-    let then = answers::word(out, now, b" has ");
-    let last = units::grouped(out, then, (list.len() / 2) as u64);
-    answers::word(out, last, b" corners, 1,024 are allowed")
+    amount(out, now, list.len() / 2, b" corners, 1,024 are allowed")
 }
 
 fn range(out: &mut [u8], filled: usize, told: &[u64], list: &[i32]) -> usize {
@@ -79,10 +114,15 @@ fn range(out: &mut [u8], filled: usize, told: &[u64], list: &[i32]) -> usize {
         );
     }
     let now = blamed(out, filled, told);
-    let then = answers::labelled(out, now, b", corner ", (first_far(list) / 2) as u64);
+    far(out, now, b", corner ", list)
+}
+
+// The first corner or point that is out of range.
+fn far(out: &mut [u8], filled: usize, label: &[u8], list: &[i32]) -> usize {
+    let now = answers::labelled(out, filled, label, (first_far(list) / 2) as u64);
     answers::word(
         out,
-        then,
+        now,
         b" has a coordinate outside -1000000 to 1000000 mm",
     )
 }
@@ -158,17 +198,16 @@ fn of_answer(out: &mut [u8], filled: usize, told: &[u64]) -> usize {
             filled,
             b"a corner of the answer would lie outside -1000000 to 1000000 mm",
         ),
-        8 => room(out, filled, at(told, 2)),
         9 => answers::word(
             out,
             filled,
-            b"the shapes are not apart, so no line just touches both",
+            b"the shapes are not apart; the four lines are told only of shapes that are",
         ),
         10 => answers::word(out, filled, b"a point or a segment has no width"),
         11 => answers::word(
             out,
             filled,
-            b"a direction is not 0 0, and its parts go from -2000000 to 2000000",
+            b"a direction must not be 0 0, and each part must lie from -2000000 to 2000000",
         ),
         12 => answers::word(
             out,
@@ -207,7 +246,7 @@ fn of_record(out: &mut [u8], filled: usize, told: &[u64]) -> usize {
 }
 
 // What there is no room for.
-fn room(out: &mut [u8], filled: usize, what: u64) -> usize {
+fn room(out: &mut [u8], filled: usize, word: &[u8], what: u64, a: &[i32], b: &[i32]) -> usize {
     if what == heads::NAMES {
         return answers::word(
             out,
@@ -222,9 +261,23 @@ fn room(out: &mut [u8], filled: usize, what: u64) -> usize {
             b"the shapes remembered would have more than 65,536 numbers",
         );
     }
+    if check::same(word, b"part") || check::same(word, b"bookread") {
+        return answers::word(
+            out,
+            filled,
+            b"the answer has more numbers than the room that was given",
+        );
+    }
+    short(out, filled, counts::of_answer(word, a, b))
+}
+
+// An answer of more corners than there is room for.
+fn short(out: &mut [u8], filled: usize, count: u64) -> usize {
+    let now = answers::word(out, filled, b"the answer has ");
+    let then = units::corners(out, now, count);
     answers::word(
         out,
-        filled,
-        b"the answer has more numbers than the room that was given",
+        then,
+        b", 2 numbers each: more than the room that was given",
     )
 }

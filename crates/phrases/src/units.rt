@@ -11,6 +11,15 @@ pub fn grouped(out: &mut [u8], filled: usize, number: u64) -> usize {
     three(out, then, number % 1000)
 }
 
+// Adds how many corners there are.
+pub fn corners(out: &mut [u8], filled: usize, count: u64) -> usize {
+    if count == 1 {
+        return answers::word(out, filled, b"1 corner");
+    }
+    let now = grouped(out, filled, count);
+    answers::word(out, now, b" corners")
+}
+
 // Adds a length: millimetres below a metre, else metres with three places where they are not whole.
 pub fn metres(out: &mut [u8], filled: usize, millimetres: u64) -> usize {
     if millimetres < 1000 {
