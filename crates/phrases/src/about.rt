@@ -1,6 +1,7 @@
-// The sentences of answers, one function for each question.
+// The sentences of answers, one function for each question; those of questions on two shapes are in `pairs`.
 use crate::heads;
 use crate::heads::at;
+use crate::pairs;
 use crate::units;
 use text::answers;
 
@@ -70,12 +71,12 @@ pub fn answered(out: &mut [u8], filled: usize, about: About, told: &[u64]) -> us
         About::Furthest => furthest(out, filled, told),
         About::Length => length(out, filled, told),
         About::Width => width(out, filled, told),
-        About::Relation => relation(out, filled, at(told, 1)),
-        About::Inside => inside(out, filled, at(told, 1)),
-        About::Offer => offer(out, filled, at(told, 1)),
-        About::Found => found_direction(out, filled, at(told, 1)),
-        About::Clearance => clearance(out, filled, told),
-        About::Tangents => tangents(out, filled, told),
+        About::Relation => pairs::relation(out, filled, at(told, 1)),
+        About::Inside => pairs::inside(out, filled, at(told, 1)),
+        About::Offer => pairs::offer(out, filled, at(told, 1)),
+        About::Found => pairs::found_direction(out, filled, at(told, 1)),
+        About::Clearance => pairs::clearance(out, filled, told),
+        About::Tangents => pairs::tangents(out, filled, told),
         About::Written => written(out, filled, at(told, 1)),
         About::Part => part(out, filled, told),
         About::Calls => answers::word(
@@ -150,123 +151,6 @@ fn width(out: &mut [u8], filled: usize, told: &[u64]) -> usize {
     let now = units::of_root(out, filled, at(told, 5), at(told, 3), at(told, 4));
     let then = answers::labelled(out, now, b" from corner ", at(told, 2));
     answers::labelled(out, then, b" to the line of edge ", at(told, 1))
-}
-
-fn relation(out: &mut [u8], filled: usize, how: u64) -> usize {
-    if how == heads::APART {
-        return answers::word(out, filled, b"no point is in both shapes");
-    }
-    if how == heads::TOUCHING {
-        return answers::word(
-            out,
-            filled,
-            b"the shapes share points of their borders, and nothing inside",
-        );
-    }
-    answers::word(out, filled, b"the shapes share points inside both")
-}
-
-fn inside(out: &mut [u8], filled: usize, whether: u64) -> usize {
-    if whether == heads::YES {
-        return answers::word(
-            out,
-            filled,
-            b"every point of the first shape is in the second",
-        );
-    }
-    answers::word(
-        out,
-        filled,
-        b"some corner of the first shape is outside the second",
-    )
-}
-
-fn offer(out: &mut [u8], filled: usize, whether: u64) -> usize {
-    if whether == heads::YES {
-        return answers::word(
-            out,
-            filled,
-            b"every corner of the first shape is below every corner of the second that way: they are apart",
-        );
-    }
-    answers::word(
-        out,
-        filled,
-        b"some corner of the first shape is not below one of the second that way; they may be apart all the same",
-    )
-}
-
-fn found_direction(out: &mut [u8], filled: usize, first: u64) -> usize {
-    if first == heads::NONE {
-        return answers::word(
-            out,
-            filled,
-            b"the shapes are not apart: there is no such direction",
-        );
-    }
-    answers::word(
-        out,
-        filled,
-        b"that way every corner of the first shape is below every corner of the second: they are apart",
-    )
-}
-
-fn clearance(out: &mut [u8], filled: usize, told: &[u64]) -> usize {
-    let how = at(told, 1);
-    if how == heads::CORNERS {
-        let now = units::of_root(out, filled, at(told, 5), at(told, 4), at(told, 4));
-        return between(out, now, told);
-    }
-    if how == heads::CORNER_EDGE {
-        let now = gap(out, filled, told, b" of the first and edge ");
-        return answers::word(out, now, b" of the second");
-    }
-    if how == heads::EDGE_CORNER {
-        let now = gap(out, filled, told, b" of the second and edge ");
-        return answers::word(out, now, b" of the first");
-    }
-    answers::word(out, filled, b"the shapes are not apart: there is no gap")
-}
-
-// The two corners that are nearest.
-fn between(out: &mut [u8], filled: usize, told: &[u64]) -> usize {
-    let now = answers::labelled(out, filled, b" between corner ", at(told, 2));
-    let then = answers::labelled(out, now, b" of the first shape and corner ", at(told, 3));
-    answers::word(out, then, b" of the second")
-}
-
-// The gap between a corner of the one shape and an edge of the other.
-fn gap(out: &mut [u8], filled: usize, told: &[u64], whose: &[u8]) -> usize {
-    let now = units::of_root(out, filled, at(told, 6), at(told, 4), at(told, 5));
-    let then = answers::labelled(out, now, b" between corner ", at(told, 2));
-    answers::labelled(out, then, whose, at(told, 3))
-}
-
-fn tangents(out: &mut [u8], filled: usize, told: &[u64]) -> usize {
-    let mut now = answers::word(
-        out,
-        filled,
-        b"lines from a corner of the first shape to one of the second: ",
-    );
-    now = line(out, now, at(told, 1), at(told, 2));
-    now = answers::word(out, now, b" has both shapes left, ");
-    now = line(out, now, at(told, 3), at(told, 4));
-    now = answers::word(out, now, b" both right, ");
-    crossing(out, now, told)
-}
-
-// The two tangents that cross between the shapes.
-fn crossing(out: &mut [u8], filled: usize, told: &[u64]) -> usize {
-    let mut now = line(out, filled, at(told, 5), at(told, 6));
-    now = answers::word(out, now, b" the first left and the second right, ");
-    now = line(out, now, at(told, 7), at(told, 8));
-    answers::word(out, now, b" the reverse")
-}
-
-// A corner of the first and a corner of the second shape.
-fn line(out: &mut [u8], filled: usize, from: u64, to: u64) -> usize {
-    let now = answers::unsigned(out, filled, from);
-    answers::labelled(out, now, b" to ", to)
 }
 
 fn written(out: &mut [u8], filled: usize, count: u64) -> usize {

@@ -17,9 +17,10 @@ pub fn of_answer(word: &[u8], a: &[i32], b: &[i32]) -> u64 {
 }
 
 // The corners of a sum: as many as its edges, which are those of both shapes, but of two that point the same way only
-// one. The edges of a cart are turned round first.
+// one. The edges of a cart are turned round first. A sum of two points has no edge.
 fn of_sum(a: &[i32], b: &[i32], is_cart: bool) -> usize {
-    edges(a) + further(a, b, is_cart)
+    let count = edges(a) + further(a, b, is_cart);
+    if count == 0 { 1 } else { count }
 }
 
 // How many edges a shape has: a point none, a segment two, there and back.

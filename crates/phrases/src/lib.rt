@@ -1,8 +1,10 @@
 // Answers in plain words: a sentence is made of the question's word, its shapes and the reply, so a question has one
-// here by one row of `about` and one function. Lengths are told in millimetres and metres, rounded down.
+// here by one row of `about` and one function. Lengths are told in millimetres and metres, and that they are rounded
+// down where they are.
 mod about;
 mod counts;
 mod heads;
+mod pairs;
 mod points;
 mod refusals;
 mod units;

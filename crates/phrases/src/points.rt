@@ -51,7 +51,7 @@ fn next(list: &[i32], i: usize) -> usize {
     0
 }
 
-// A coordinate counted from the least one on; one out of range counts as 0. (It is refused before a point is asked for.)
+// A coordinate counted from the least one on; one out of range counts as 0, and is refused before a point is asked for.
 fn counted(number: i32) -> u64
     ensures { λ r. ⌜ r ≤ 2000000 ⌝ }
 {

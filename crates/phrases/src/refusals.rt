@@ -212,7 +212,7 @@ fn of_answer(out: &mut [u8], filled: usize, told: &[u64]) -> usize {
         12 => answers::word(
             out,
             filled,
-            b"both parts of the direction can be divided by one number; ask the shortest that points the same way",
+            b"both parts of the direction can be divided by one number; ask the shortest that way, 1 2 and not 2 4",
         ),
         13 => answers::word(out, filled, b"the two shapes are on different floors"),
         _ => of_record(out, filled, told),
