@@ -1,7 +1,11 @@
 // Answers in plain words: a sentence is made of the question's word, its shapes and the reply, so a question has one
-// here by one row of `about` and one function. Lengths are told in millimetres and metres, rounded down.
+// here by one row of `about` and one function. Lengths are told in millimetres and metres, and that they are rounded
+// down where they are.
 mod about;
+mod counts;
 mod heads;
+mod pairs;
+mod points;
 mod refusals;
 pub mod units;
 
@@ -17,7 +21,7 @@ pub fn sentence(out: &mut [u8], filled: usize, word: &[u8], a: &[i32], b: &[i32]
         return about::answered(out, now, about::question(word), &told);
     }
     if first == heads::NO {
-        return refusals::refused(out, now, &told, a, b);
+        return refusals::refused(out, now, word, &told, a, b);
     }
     answers::word(out, now, b"all numbers are millimetres")
 }

@@ -11,6 +11,15 @@ pub fn grouped(out: &mut [u8], filled: usize, number: u64) -> usize {
     three(out, then, number % 1000)
 }
 
+// Adds how many corners there are.
+pub fn corners(out: &mut [u8], filled: usize, count: u64) -> usize {
+    if count == 1 {
+        return answers::word(out, filled, b"1 corner");
+    }
+    let now = grouped(out, filled, count);
+    answers::word(out, now, b" corners")
+}
+
 // Adds a length: millimetres below a metre, else metres with three places where they are not whole.
 pub fn metres(out: &mut [u8], filled: usize, millimetres: u64) -> usize {
     if millimetres < 1000 {
@@ -33,11 +42,14 @@ pub fn of_square(out: &mut [u8], filled: usize, squared: u64) -> usize {
 
 // Adds the root of t*t/q, which is told rounded down, and that it is if it is.
 pub fn of_root(out: &mut [u8], filled: usize, root: u64, t: u64, q: u64) -> usize {
-    let now = metres(out, filled, root);
-    if words::fraction_less(root, 1, t, q) {
-        return answers::word(out, now, b" (rounded down)");
+    if !words::fraction_less(root, 1, t, q) {
+        return metres(out, filled, root);
     }
-    now
+    if root == 0 {
+        return answers::word(out, filled, b"less than 1 mm");
+    }
+    let now = metres(out, filled, root);
+    answers::word(out, now, b" (rounded down)")
 }
 
 // Adds what stands behind the point; nothing for 0.

@@ -83,7 +83,7 @@ fn answer_inputs(
 ) {
     if !asked.files {
         let reading = lines::begin(libc::STDIN_FILENO, 0, asked.words);
-        let last = answer_all(reading, out, chunk, line, values, cells, named);
+        let last = answer_all(reading, b"", out, chunk, line, values, cells, named);
         if last.failed {
             os::fail(b"cannot read standard input");
         }
@@ -166,6 +166,7 @@ fn answer_path(
     }
     let last = answer_all(
         lines::begin(source, 0, words),
+        path,
         out,
         chunk,
         line,
@@ -180,10 +181,11 @@ fn answer_path(
     last.words
 }
 
-// Answers every line. A proved loop has to end, so this one counts its turns down, from a number
-// that no run uses up.
+// Answers every line of the file of a path, or of standard input, which has none. A proved loop has to end, so this one
+// counts its turns down, from a number that no run uses up.
 fn answer_all(
     begun: Reading,
+    path: &[u8],
     out: &mut [u8],
     chunk: &mut [u8],
     line: &mut [u8],
@@ -194,7 +196,7 @@ fn answer_all(
     let mut reading = begun;
     let mut turns = u64::MAX;
     while turns > 0 && !reading.last {
-        reading = answer_next(reading, out, chunk, line, values, cells, named);
+        reading = answer_next(reading, path, out, chunk, line, values, cells, named);
         turns -= 1;
     }
     answers::flush(out, reading.filled);
@@ -204,6 +206,7 @@ fn answer_all(
 // Reads the next line and answers it.
 fn answer_next(
     before: Reading,
+    path: &[u8],
     out: &mut [u8],
     chunk: &mut [u8],
     line: &mut [u8],
@@ -211,10 +214,11 @@ fn answer_next(
     cells: &mut [usize],
     named: &mut [i32],
 ) -> Reading {
-    let reading = lines::next_line(before, out, chunk, line);
+    let reading = lines::next_line(before, path, out, chunk, line);
     answer_line(
         out,
         reading,
+        path,
         lines::text(reading, line),
         values,
         cells,
@@ -226,6 +230,7 @@ fn answer_next(
 fn answer_line(
     out: &mut [u8],
     mut reading: Reading,
+    path: &[u8],
     line: &[u8],
     values: &mut [i32],
     cells: &mut [usize],
@@ -244,6 +249,7 @@ fn answer_line(
         reading,
         question,
         read,
+        path,
         line,
         values,
         &marks,
@@ -261,6 +267,7 @@ fn answer_fields(
     reading: Reading,
     question: Question,
     read: Fields,
+    path: &[u8],
     line: &[u8],
     values: &[i32],
     marks: &[usize],
@@ -290,7 +297,15 @@ fn answer_fields(
                 field: counted(reason, field),
             };
             let word = fields::stopped(line, reason, field);
-            reasons::unreadable(out, reading.filled, reason, reading.words, place, word)
+            reasons::unreadable(
+                out,
+                reading.filled,
+                reason,
+                reading.words,
+                place,
+                path,
+                word,
+            )
         }
     }
 }
