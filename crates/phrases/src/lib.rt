@@ -11,6 +11,19 @@ pub mod units;
 
 use text::answers;
 
+// The position of the shape that a refusal at the front of the buffer blames; 0 where it blames none.
+pub fn blamed(out: &[u8], filled: usize) -> usize {
+    let mut told = [0u64; heads::TOLD];
+    heads::read(text::words::between(out, 0, filled), &mut told);
+    let shape = heads::at(&told, 3);
+    if 0 < shape {
+        if shape <= 8 {
+            return (shape - 1) as usize;
+        }
+    }
+    0
+}
+
 // Adds the sentence of a reply, which stands at the front of the buffer, on a question of up to two shapes.
 pub fn sentence(out: &mut [u8], filled: usize, word: &[u8], a: &[i32], b: &[i32]) -> usize {
     let mut told = [0u64; heads::TOLD];

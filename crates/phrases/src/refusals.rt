@@ -105,7 +105,7 @@ fn corners(out: &mut [u8], filled: usize, told: &[u64], list: &[i32]) -> usize {
 }
 
 fn range(out: &mut [u8], filled: usize, told: &[u64], list: &[i32]) -> usize {
-    if 2 < at(told, 3) {
+    if 8 < at(told, 3) {
         return reading(
             out,
             filled,
@@ -214,7 +214,7 @@ fn of_answer(out: &mut [u8], filled: usize, told: &[u64]) -> usize {
             filled,
             b"both parts of the direction can be divided by one number; ask the shortest that way, 1 2 and not 2 4",
         ),
-        13 => answers::word(out, filled, b"the two shapes are on different floors"),
+        13 => answers::word(out, filled, b"the shapes are on different floors"),
         _ => of_record(out, filled, told),
     }
 }

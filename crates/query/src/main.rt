@@ -318,7 +318,7 @@ fn ready(out: &[u8], reading: Reading) -> usize {
     reading.filled
 }
 
-// Ends an answer, with its sentence if words are on. A picture has none: it would be no picture any more.
+// Ends an answer, with its sentence if words are on.
 fn end(
     out: &mut [u8],
     filled: usize,
@@ -331,13 +331,42 @@ fn end(
     if let Question::Help = question {
         return filled;
     }
-    if in_words && table::has_sentence(question) {
-        let a = fields::field(values, marks, table::first_shape(question));
+    if in_words && has_sentence(out, filled, question) {
+        let a = fields::field(values, marks, first_told(out, filled, question));
         let b = fields::field(values, marks, 1);
         let now = phrases::sentence(out, filled, words::word_of(line), a, b);
         return answers::word(out, now, b"\n");
     }
     answers::word(out, filled, b"\n")
+}
+
+// Whether an answer can have a sentence behind it. A picture has none: it would be no picture any more.
+fn has_sentence(out: &[u8], filled: usize, question: Question) -> bool {
+    match question {
+        Question::Draw(_) => !is_picture(out, filled),
+        Question::Words(_) => false,
+        _ => true,
+    }
+}
+
+// Whether the answer that ends here is a picture, and no refusal: it ends with a tag.
+fn is_picture(out: &[u8], filled: usize) -> bool {
+    if 0 < filled {
+        if filled <= out.len() {
+            return out[filled - 1] == b'>';
+        }
+    }
+    false
+}
+
+// The field of the first shape that a sentence tells of: of a picture the one that is blamed.
+fn first_told(out: &[u8], filled: usize, question: Question) -> usize {
+    match question {
+        Question::Draw(_) => phrases::blamed(out, filled),
+        Question::Shape => 1,
+        Question::LogAdd => 2,
+        _ => 0,
+    }
 }
 
 // The field that a reason is about, counted from 1; 0 where the word itself is not known.

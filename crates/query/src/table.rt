@@ -76,24 +76,6 @@ pub fn in_words(question: Question, before: bool) -> bool {
     before
 }
 
-// Whether an answer can have a sentence behind it.
-pub fn has_sentence(question: Question) -> bool {
-    match question {
-        Question::Draw(_) => false,
-        Question::Words(_) => false,
-        _ => true,
-    }
-}
-
-// The field that holds a question's first shape.
-pub fn first_shape(question: Question) -> usize {
-    match question {
-        Question::Shape => 1,
-        Question::LogAdd => 2,
-        _ => 0,
-    }
-}
-
 // The measures of one shape.
 fn on_one(found: Entry, word: &[u8]) -> Entry {
     let shape = fields::one(Kind::Shape);
