@@ -1,6 +1,6 @@
 // The legend of a picture: a row for each shape, and for what is drawn between two.
 use crate::Outline;
-use phrases::units;
+use phrases::lengths;
 use picture::frames;
 use picture::frames::Frame;
 use questions::answer::Clearance;
@@ -184,7 +184,7 @@ fn distance(out: &mut [u8], filled: usize, gap: Clearance) -> usize {
             squared,
             rounded,
             floor: _,
-        } => units::of_root(out, filled, rounded, squared, squared),
+        } => lengths::of_root(out, filled, rounded, squared, squared),
         Clearance::CornerEdge {
             corner: _,
             edge: _,
@@ -192,7 +192,7 @@ fn distance(out: &mut [u8], filled: usize, gap: Clearance) -> usize {
             squared,
             rounded,
             floor: _,
-        } => units::of_root(out, filled, rounded, turn, squared),
+        } => lengths::of_root(out, filled, rounded, turn, squared),
         Clearance::EdgeCorner {
             corner: _,
             edge: _,
@@ -200,7 +200,7 @@ fn distance(out: &mut [u8], filled: usize, gap: Clearance) -> usize {
             squared,
             rounded,
             floor: _,
-        } => units::of_root(out, filled, rounded, turn, squared),
+        } => lengths::of_root(out, filled, rounded, turn, squared),
         _ => answers::word(out, filled, b"none"),
     }
 }

@@ -1,8 +1,8 @@
 // The sentences of answers, one function for each question; those of questions on two shapes are in `pairs`.
 use crate::heads;
 use crate::heads::at;
+use crate::lengths;
 use crate::pairs;
-use crate::units;
 use text::answers;
 
 // What a sentence is about.
@@ -109,7 +109,7 @@ fn of_corners(out: &mut [u8], filled: usize, count: u64) -> usize {
         return answers::word(out, filled, b"a segment");
     }
     let now = answers::word(out, filled, b"a shape of ");
-    units::corners(out, now, count)
+    lengths::corners(out, now, count)
 }
 
 fn furthest(out: &mut [u8], filled: usize, told: &[u64]) -> usize {
@@ -142,13 +142,13 @@ fn length(out: &mut [u8], filled: usize, told: &[u64]) -> usize {
     if at(told, 1) == 0 {
         return answers::word(out, filled, b"0 mm: the shape is a point");
     }
-    let now = units::of_square(out, filled, at(told, 1));
+    let now = lengths::of_square(out, filled, at(told, 1));
     let then = answers::word(out, now, b" between ");
     pair(out, then, at(told, 2), at(told, 3))
 }
 
 fn width(out: &mut [u8], filled: usize, told: &[u64]) -> usize {
-    let now = units::of_root(out, filled, at(told, 5), at(told, 3), at(told, 4));
+    let now = lengths::of_root(out, filled, at(told, 5), at(told, 3), at(told, 4));
     let then = answers::labelled(out, now, b" from corner ", at(told, 2));
     answers::labelled(out, then, b" to the line of edge ", at(told, 1))
 }
@@ -160,7 +160,7 @@ fn written(out: &mut [u8], filled: usize, count: u64) -> usize {
 
 // Some corners of a sum, and the walk from which the next call goes on.
 fn part(out: &mut [u8], filled: usize, told: &[u64]) -> usize {
-    let now = units::corners(out, filled, at(told, 1));
+    let now = lengths::corners(out, filled, at(told, 1));
     let then = answers::word(out, now, b" of the sum, in millimetres behind the bar; ");
     if at(told, 4) == 1 {
         return answers::word(out, then, b"the walk is over");
@@ -186,7 +186,7 @@ fn addition(out: &mut [u8], filled: usize, how: u64) -> usize {
 }
 
 fn names(out: &mut [u8], filled: usize, count: u64) -> usize {
-    let now = units::grouped(out, filled, count);
+    let now = text::units::grouped(out, filled, count);
     answers::word(
         out,
         now,

@@ -4,10 +4,10 @@
 mod about;
 mod counts;
 mod heads;
+pub mod lengths;
 mod pairs;
 mod points;
 mod refusals;
-pub mod units;
 
 use text::answers;
 

@@ -1,7 +1,7 @@
 // The sentences of answers about two shapes.
 use crate::heads;
 use crate::heads::at;
-use crate::units;
+use crate::lengths;
 use text::answers;
 
 pub fn relation(out: &mut [u8], filled: usize, how: u64) -> usize {
@@ -66,7 +66,7 @@ pub fn found_direction(out: &mut [u8], filled: usize, first: u64) -> usize {
 pub fn clearance(out: &mut [u8], filled: usize, told: &[u64]) -> usize {
     let how = at(told, 1);
     if how == heads::CORNERS {
-        let now = units::of_root(out, filled, at(told, 5), at(told, 4), at(told, 4));
+        let now = lengths::of_root(out, filled, at(told, 5), at(told, 4), at(told, 4));
         return between(out, now, told);
     }
     if how == heads::CORNER_EDGE {
@@ -89,7 +89,7 @@ fn between(out: &mut [u8], filled: usize, told: &[u64]) -> usize {
 
 // The gap between a corner of the one shape and an edge of the other.
 fn gap(out: &mut [u8], filled: usize, told: &[u64], whose: &[u8]) -> usize {
-    let now = units::of_root(out, filled, at(told, 6), at(told, 4), at(told, 5));
+    let now = lengths::of_root(out, filled, at(told, 6), at(told, 4), at(told, 5));
     let then = answers::labelled(out, now, b" between corner ", at(told, 2));
     answers::labelled(out, then, whose, at(told, 3))
 }

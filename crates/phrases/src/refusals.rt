@@ -2,8 +2,8 @@
 use crate::counts;
 use crate::heads;
 use crate::heads::at;
+use crate::lengths;
 use crate::points;
-use crate::units;
 use text::answers;
 
 // The greatest coordinate, and the least without its sign.
@@ -46,7 +46,7 @@ fn blaming(
 // An answer of too many corners.
 fn large(out: &mut [u8], filled: usize, count: u64) -> usize {
     let now = answers::word(out, filled, b"the answer would have ");
-    let then = units::grouped(out, now, count);
+    let then = text::units::grouped(out, now, count);
     answers::word(out, then, b" corners, 1,024 are allowed")
 }
 
@@ -85,7 +85,7 @@ fn of_sweep(out: &mut [u8], filled: usize, told: &[u64], list: &[i32]) -> usize 
 // How many of something there are, and what is wrong with that.
 fn amount(out: &mut [u8], filled: usize, count: usize, why: &[u8]) -> usize {
     let now = answers::word(out, filled, b" has ");
-    let then = units::grouped(out, now, count as u64);
+    let then = text::units::grouped(out, now, count as u64);
     answers::word(out, then, why)
 }
 
@@ -274,7 +274,7 @@ fn room(out: &mut [u8], filled: usize, word: &[u8], what: u64, a: &[i32], b: &[i
 // An answer of more corners than there is room for.
 fn short(out: &mut [u8], filled: usize, count: u64) -> usize {
     let now = answers::word(out, filled, b"the answer has ");
-    let then = units::corners(out, now, count);
+    let then = lengths::corners(out, now, count);
     answers::word(
         out,
         then,

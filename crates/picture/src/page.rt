@@ -5,6 +5,7 @@ use crate::frames;
 use crate::frames::Frame;
 use crate::places;
 use text::answers;
+use text::units;
 
 // A page is at least so many pixels wide, so that a legend fits below a narrow shape.
 const WIDTH: u64 = 460;
@@ -140,19 +141,9 @@ fn scale_bar(out: &mut [u8], filled: usize, view: Frame, floor: u16) -> usize {
     );
     now = answers::unsigned(out, now, length * 1000000 / frames::pixel(view));
     now = answers::word(out, now, b"v-8\"/><text fill=\"#333\" x=\"20\" y=\"40\">");
-    now = metres(out, now, length);
+    now = units::metres(out, now, length);
     now = answers::labelled(out, now, b", floor ", floor as u64);
     answers::word(out, now, b"</text></g>")
-}
-
-// Adds a length in millimetres, or in metres where they are whole.
-fn metres(out: &mut [u8], filled: usize, millimetres: u64) -> usize {
-    if millimetres % 1000 == 0 {
-        let now = answers::unsigned(out, filled, millimetres / 1000);
-        return answers::word(out, now, b" m");
-    }
-    let now = answers::unsigned(out, filled, millimetres);
-    answers::word(out, now, b" mm")
 }
 
 // Adds the beginning of a row of the legend, up to its mark.
