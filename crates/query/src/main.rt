@@ -293,23 +293,33 @@ fn answer_fields(
             );
             end(out, now, reading.words, question, line, values, marks)
         }
-        Fields::No { reason, field } => {
-            let place = Place {
-                number: reading.number,
-                field: counted(reason, field),
-            };
-            let word = fields::stopped(line, reason, field);
-            reasons::unreadable(
-                out,
-                reading.filled,
-                reason,
-                reading.words,
-                place,
-                path,
-                word,
-            )
-        }
+        Fields::No { reason, field } => no_question(out, reading, reason, field, path, line),
     }
+}
+
+// Says why a line is no question, and where.
+fn no_question(
+    out: &mut [u8],
+    reading: Reading,
+    reason: Reason,
+    field: usize,
+    path: &[u8],
+    line: &[u8],
+) -> usize {
+    let place = Place {
+        number: reading.number,
+        field: counted(reason, field),
+    };
+    let word = fields::stopped(line, reason, field);
+    reasons::unreadable(
+        out,
+        reading.filled,
+        reason,
+        reading.words,
+        place,
+        path,
+        word,
+    )
 }
 
 // In words each answer is made at the front of the buffer, where its sentence reads it: what waits is written first.

@@ -143,27 +143,19 @@ fn long(out: &mut [u8], now: usize, reason: Reason) -> usize {
                 b"the fields of a line hold at most 16,384 numbers together",
             )
         }
+        _ => of_numbers(out, now, reason),
+    }
+}
+
+// Adds a sentence on numbers that are not what a field takes.
+fn of_numbers(out: &mut [u8], now: usize, reason: Reason) -> usize {
+    match reason {
         Reason::WrongCount => answers::word(
             out,
             now,
             b"a direction and a call are 2 numbers, a walk 3, a room and a number in a book 1",
         ),
         Reason::NotACount => answers::word(out, now, b"a room and a count cannot be below 0"),
-        _ => of_kind(out, now, reason),
-    }
-}
-
-// Adds a sentence on a field that is not of its kind.
-fn of_kind(out: &mut [u8], now: usize, reason: Reason) -> usize {
-    match reason {
-        Reason::NotAReading => {
-            answers::word(
-                out,
-                now,
-                b"a reading is mm or e8 and a double's bits, 0x and 16 digits",
-            )
-        }
-        Reason::NotBytes => answers::word(out, now, b"bytes are pairs of hexadecimal digits"),
         Reason::NotAName => answers::word(
             out,
             now,
@@ -183,6 +175,21 @@ fn of_kind(out: &mut [u8], now: usize, reason: Reason) -> usize {
                 b"a call is a count of corners, a colon and a room, as 2:4",
             )
         }
+        _ => of_kind(out, now, reason),
+    }
+}
+
+// Adds a sentence on a field that is not of its kind.
+fn of_kind(out: &mut [u8], now: usize, reason: Reason) -> usize {
+    match reason {
+        Reason::NotAReading => {
+            answers::word(
+                out,
+                now,
+                b"a reading is mm or e8 and a double's bits, 0x and 16 digits",
+            )
+        }
+        Reason::NotBytes => answers::word(out, now, b"bytes are pairs of hexadecimal digits"),
         Reason::NotAFloor => answers::word(out, now, b"a floor is @ and a number from 0 to 65535"),
         _ => answers::word(
             out,
