@@ -97,8 +97,11 @@ fn shape(
     picture::end_row(out, now)
 }
 
-// Adds that a shape is too small to be seen, if it is.
+// Adds that a shape is a point, or too small to be seen, if it is.
 fn remark(out: &mut [u8], filled: usize, list: &[i32], view: Frame) -> usize {
+    if list.len() == 2 {
+        return answers::word(out, filled, b" (a point, in the ring)");
+    }
     if frames::is_small(list, view) {
         return answers::word(out, filled, b" (in the ring: too small to be seen)");
     }

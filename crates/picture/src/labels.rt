@@ -1,5 +1,5 @@
 // The corners of shapes, each a dot, and their numbers. A number stands where nothing else does, away from the middle of
-// the shape if it can, and is left out where there is no such place.
+// the shape if it can, else over lines, and is left out where other numbers and dots are in every place.
 ghost use Prim.Native.Nat.{_≤_};
 use crate::frames;
 use crate::frames::Frame;
@@ -116,17 +116,34 @@ fn mark(
     let at = frames::corner(list, i);
     let begun = begin(out, filled, at, view);
     let dotted = signs(out, begun, list, i, k);
-    let told = number(
+    let told = numbered(out, dotted, grid, list, i, view, own);
+    answers::word(out, told, b"</g>")
+}
+
+// Adds the number of corner i, if it is one of those that have one.
+fn numbered(
+    out: &mut [u8],
+    filled: usize,
+    grid: &mut [u8],
+    list: &[i32],
+    i: usize,
+    view: Frame,
+    own: Frame,
+) -> usize {
+    if i % step(list.len() / 2) != 0 {
+        return filled;
+    }
+    let at = frames::corner(list, i);
+    number(
         out,
-        dotted,
+        filled,
         grid,
         i,
         frames::spot_of(view, at),
         own,
         at,
         NEAR,
-    );
-    answers::word(out, told, b"</g>")
+    )
 }
 
 // Adds the beginning of what stands at a corner, in pixels.
@@ -188,10 +205,10 @@ fn number(
 ) -> usize {
     let width = DIGIT * digits(i);
     let tried = first_free(grid, spot, width, own, at, gap);
-    if TRIES <= tried {
+    if 2 * TRIES <= tried {
         return filled;
     }
-    let side = side_at(tried, own, at, gap);
+    let side = side_at(tried % TRIES, own, at, gap);
     grid::take(grid, area(spot, width, side));
     let now = answers::word(out, filled, b"<text");
     let then = anchor(out, now, side);
@@ -199,13 +216,22 @@ fn number(
     answers::word(out, last, b"</text>")
 }
 
-// The first place of a number that is free.
+// The first place of a number that is free; each is tried twice, then lines are allowed.
 fn first_free(grid: &[u8], spot: Spot, width: usize, own: Frame, at: Point, gap: usize) -> usize {
     let mut i = 0;
-    while i < TRIES && !grid::is_free(grid, area(spot, width, side_at(i, own, at, gap))) {
+    while i < 2 * TRIES && !is_free(grid, area(spot, width, side_at(i % TRIES, own, at, gap)), i) {
         i += 1;
     }
     i
+}
+
+// Whether a box is free for try i.
+fn is_free(grid: &[u8], area: Area, i: usize) -> bool {
+    if i < TRIES {
+        grid::is_free(grid, area, grid::NOTHING)
+    } else {
+        grid::is_free(grid, area, grid::LINE)
+    }
 }
 
 // The box of a number beside a corner, with what is left free around it.

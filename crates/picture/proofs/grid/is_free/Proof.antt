@@ -5,16 +5,19 @@ use Rattle.picture.proofs.grid.is_free.Statement.{statement}
 use Rattle.picture.proofs.grid.is_free.Tie as tie
 
 abbrev Inv-loop : tie.InvT-loop
-Inv-loop grid area rows free₀ i₀ free i = Unit
+Inv-loop grid area allowed rows free₀ i₀ free i = Unit
 
 abbrev μ-loop : tie.MeasureT-loop
-μ-loop grid area rows free₀ i₀ free i = rows - i
+μ-loop grid area allowed rows free₀ i₀ free i = rows - i
 
 squares-requires : tie.Need-squares-requires Inv-loop μ-loop
 squares-requires c κs = search needs
 
 loop-holds : tie.Need-loop-holds Inv-loop μ-loop
 loop-holds c = search needs
+
+square-requires : tie.Need-square-requires Inv-loop μ-loop
+square-requires c κs = search needs
 
 squares-requires-2 : tie.Need-squares-requires-2 Inv-loop μ-loop
 squares-requires-2 c κs = search needs
@@ -42,6 +45,7 @@ is-free-spec =
     μ-loop
     squares-requires
     loop-holds
+    square-requires
     squares-requires-2
     is-row-free-requires
     add-i

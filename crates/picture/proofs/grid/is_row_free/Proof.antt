@@ -5,19 +5,19 @@ use Rattle.picture.proofs.grid.is_row_free.Statement.{statement}
 use Rattle.picture.proofs.grid.is_row_free.Tie as tie
 
 abbrev Inv-loop : tie.InvT-loop
-Inv-loop grid top row left count free₀ i₀ free i = Unit
+Inv-loop grid from count allowed free₀ i₀ free i = Unit
 
 abbrev μ-loop : tie.MeasureT-loop
-μ-loop grid top row left count free₀ i₀ free i = count - i
+μ-loop grid from count allowed free₀ i₀ free i = count - i
 
 loop-holds : tie.Need-loop-holds Inv-loop μ-loop
 loop-holds c = search needs
 
-square-requires : tie.Need-square-requires Inv-loop μ-loop
-square-requires c κs = search needs
+right-of-requires : tie.Need-right-of-requires Inv-loop μ-loop
+right-of-requires c κs = search needs
 
-is-empty-requires : tie.Need-is-empty-requires Inv-loop μ-loop
-is-empty-requires c κs = search needs
+what-requires : tie.Need-what-requires Inv-loop μ-loop
+what-requires c κs = search needs
 
 add-i : tie.Need-add-i Inv-loop μ-loop
 add-i c = search needs
@@ -38,8 +38,8 @@ is-row-free-spec =
     Inv-loop
     μ-loop
     loop-holds
-    square-requires
-    is-empty-requires
+    right-of-requires
+    what-requires
     add-i
     loop-less
     loop-again

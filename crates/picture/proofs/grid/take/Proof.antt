@@ -18,6 +18,9 @@ squares-requires c κs = search needs
 loop-holds : tie.Need-loop-holds Inv-loop μ-loop
 loop-holds c = search needs
 
+square-requires : tie.Need-square-requires Inv-loop μ-loop
+square-requires c κs = search needs
+
 squares-requires-2 : tie.Need-squares-requires-2 Inv-loop μ-loop
 squares-requires-2 c κs = search needs
 
@@ -47,6 +50,7 @@ take-spec =
     μ-loop
     squares-requires
     loop-holds
+    square-requires
     squares-requires-2
     take-row-requires
     add-i

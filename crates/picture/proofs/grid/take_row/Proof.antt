@@ -7,16 +7,16 @@ use Rattle.picture.proofs.grid.take_row.Statement.{statement}
 use Rattle.picture.proofs.grid.take_row.Tie as tie
 
 abbrev Inv-loop : tie.InvT-loop
-Inv-loop grid₀ top row left count i₀ grid i = length grid ≡ length grid₀
+Inv-loop grid₀ from count i₀ grid i = length grid ≡ length grid₀
 
 abbrev μ-loop : tie.MeasureT-loop
-μ-loop grid₀ top row left count i₀ grid i = count - i
+μ-loop grid₀ from count i₀ grid i = count - i
 
 loop-holds : tie.Need-loop-holds Inv-loop μ-loop
 loop-holds c = search needs
 
-square-requires : tie.Need-square-requires Inv-loop μ-loop
-square-requires c κs = search needs
+right-of-requires : tie.Need-right-of-requires Inv-loop μ-loop
+right-of-requires c κs = search needs
 
 put-requires : tie.Need-put-requires Inv-loop μ-loop
 put-requires c κs = search needs
@@ -43,7 +43,7 @@ take-row-spec =
     Inv-loop
     μ-loop
     loop-holds
-    square-requires
+    right-of-requires
     put-requires
     add-i
     loop-less

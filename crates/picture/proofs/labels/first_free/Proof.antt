@@ -8,10 +8,13 @@ abbrev Inv-loop : tie.InvT-loop
 Inv-loop grid spot width own at gap i₀ i = Unit
 
 abbrev μ-loop : tie.MeasureT-loop
-μ-loop grid spot width own at gap i₀ i = 8 - i
+μ-loop grid spot width own at gap i₀ i = 16 - i
 
 loop-holds : tie.Need-loop-holds Inv-loop μ-loop
 loop-holds c = search needs
+
+mul-loop : tie.Need-mul-loop Inv-loop μ-loop
+mul-loop c = search needs
 
 side-at-requires : tie.Need-side-at-requires Inv-loop μ-loop
 side-at-requires c κs = search needs
@@ -44,6 +47,7 @@ first-free-spec =
     Inv-loop
     μ-loop
     loop-holds
+    mul-loop
     side-at-requires
     area-requires
     is-free-requires
