@@ -36,6 +36,7 @@ pub fn ask(
     let a = fields::field(values, marks, 0);
     let b = fields::field(values, marks, 1);
     let c = fields::field(values, marks, 2);
+    let d = fields::field(values, marks, 3);
     let f = fields::floor(line, 0, cells);
     let g = fields::floor(line, 1, cells);
     match question {
@@ -55,10 +56,7 @@ pub fn ask(
         Question::Words(on) => words(out, filled, on),
         Question::Help => manual::page(out, filled),
         Question::Parts => parts::parts(out, filled, a, f, b, g, c),
-        Question::Part => {
-            let call = fields::field(values, marks, 3);
-            parts::part(out, filled, a, f, b, g, c, call)
-        }
+        Question::Part => parts::part(out, filled, a, f, b, g, c, d),
     }
 }
 
