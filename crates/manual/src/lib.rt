@@ -255,9 +255,15 @@ fn of_program(out: &mut [u8], filled: usize) -> usize {
         ask:    words off
         answer: ok words off
 
-    draw | SHAPE | [SHAPE]
-        a picture of one or two shapes, one line of SVG; of two with the outline of their sum and, if they
-        are apart, the lines that just touch both; refused as the sum is
+    draw | SHAPE [| SHAPE ..]
+        a picture of up to eight shapes, one line of SVG with a scale bar and a legend; of two with the
+        outline of their sum, unless it is refused, and if they are apart with the lines that just touch
+        both and the line between their nearest points; refused as judging each shape is, then 13 if
+        they are not all on one floor; for example draw | 0 0 1200 0 1200 800 0 800 is answered
+        <svg .. </svg>, which a browser shows if it is kept in a file picture.svg
+
+    drawgrow | OBSTACLE | CART
+        the picture of two shapes with the outline of the obstacle grown by the cart
 
 ",
     )

@@ -1,7 +1,8 @@
-// The sentences of answers, one function for each question.
+// The sentences of answers, one function for each question; those of questions on two shapes are in `pairs`.
 use crate::heads;
 use crate::heads::at;
-use crate::units;
+use crate::lengths;
+use crate::pairs;
 use text::answers;
 
 // What a sentence is about.
@@ -17,6 +18,7 @@ pub enum About {
     Clearance,
     Tangents,
     Written,
+    Part,
     Calls,
     Tablet,
     Addition,
@@ -50,7 +52,7 @@ fn further(before: About, word: &[u8]) -> About {
     found = row(found, word, b"grow", About::Written);
     found = row(found, word, b"sweep", About::Written);
     found = row(found, word, b"bookread", About::Written);
-    found = row(found, word, b"part", About::Written);
+    found = row(found, word, b"part", About::Part);
     found = row(found, word, b"parts", About::Calls);
     found = row(found, word, b"tablet", About::Tablet);
     found = row(found, word, b"bookadd", About::Addition);
@@ -69,22 +71,23 @@ pub fn answered(out: &mut [u8], filled: usize, about: About, told: &[u64]) -> us
         About::Furthest => furthest(out, filled, told),
         About::Length => length(out, filled, told),
         About::Width => width(out, filled, told),
-        About::Relation => relation(out, filled, at(told, 1)),
-        About::Inside => inside(out, filled, at(told, 1)),
-        About::Offer => offer(out, filled, at(told, 1)),
-        About::Found => found_direction(out, filled, at(told, 1)),
-        About::Clearance => clearance(out, filled, told),
-        About::Tangents => tangents(out, filled, told),
+        About::Relation => pairs::relation(out, filled, at(told, 1)),
+        About::Inside => pairs::inside(out, filled, at(told, 1)),
+        About::Offer => pairs::offer(out, filled, at(told, 1)),
+        About::Found => pairs::found_direction(out, filled, at(told, 1)),
+        About::Clearance => pairs::clearance(out, filled, told),
+        About::Tangents => pairs::tangents(out, filled, told),
         About::Written => written(out, filled, at(told, 1)),
+        About::Part => part(out, filled, told),
         About::Calls => answers::word(
             out,
             filled,
-            b"behind each bar what one call wrote, in millimetres",
+            b"behind each bar one call: how many corners it wrote, and these in millimetres; or its refusal",
         ),
         About::Tablet => answers::word(
             out,
             filled,
-            b"both readings are whole millimetres; these go back",
+            b"both readings are whole millimetres; x and y go back as these doubles, in millimetres",
         ),
         About::Addition => addition(out, filled, at(told, 1)),
         About::Names => names(out, filled, at(told, 1)),
@@ -106,8 +109,7 @@ fn of_corners(out: &mut [u8], filled: usize, count: u64) -> usize {
         return answers::word(out, filled, b"a segment");
     }
     let now = answers::word(out, filled, b"a shape of ");
-    let then = units::grouped(out, now, count);
-    answers::word(out, then, b" corners")
+    lengths::corners(out, now, count)
 }
 
 fn furthest(out: &mut [u8], filled: usize, told: &[u64]) -> usize {
@@ -115,10 +117,19 @@ fn furthest(out: &mut [u8], filled: usize, told: &[u64]) -> usize {
     let last = at(told, 2);
     if first == last {
         let now = answers::labelled(out, filled, b"corner ", first);
-        return answers::word(out, now, b" lies furthest that way, alone");
+        let then = reached(out, now, b" lies furthest that way, alone", told);
+        return answers::word(out, then, b" there");
     }
     let now = pair(out, filled, first, last);
-    answers::word(out, now, b" lie furthest that way, both as far")
+    let then = reached(out, now, b" lie furthest that way, both as far", told);
+    answers::word(out, then, b" at both")
+}
+
+// How the furthest corners lie, and how far that is.
+fn reached(out: &mut [u8], filled: usize, how: &[u8], told: &[u64]) -> usize {
+    let now = answers::word(out, filled, how);
+    let then = answers::word(out, now, b"; u x + v y is ");
+    heads::signed(out, then, told, 3)
 }
 
 // Two corners.
@@ -128,131 +139,35 @@ fn pair(out: &mut [u8], filled: usize, first: u64, last: u64) -> usize {
 }
 
 fn length(out: &mut [u8], filled: usize, told: &[u64]) -> usize {
-    let now = units::of_square(out, filled, at(told, 1));
+    if at(told, 1) == 0 {
+        return answers::word(out, filled, b"0 mm: the shape is a point");
+    }
+    let now = lengths::of_square(out, filled, at(told, 1));
     let then = answers::word(out, now, b" between ");
     pair(out, then, at(told, 2), at(told, 3))
 }
 
 fn width(out: &mut [u8], filled: usize, told: &[u64]) -> usize {
-    let now = units::metres(out, filled, at(told, 5));
-    let then = answers::labelled(out, now, b" (rounded down) from corner ", at(told, 2));
+    let now = lengths::of_root(out, filled, at(told, 5), at(told, 3), at(told, 4));
+    let then = answers::labelled(out, now, b" from corner ", at(told, 2));
     answers::labelled(out, then, b" to the line of edge ", at(told, 1))
-}
-
-fn relation(out: &mut [u8], filled: usize, how: u64) -> usize {
-    if how == heads::APART {
-        return answers::word(out, filled, b"no point is in both shapes");
-    }
-    if how == heads::TOUCHING {
-        return answers::word(
-            out,
-            filled,
-            b"the shapes share points of their borders, and nothing inside",
-        );
-    }
-    answers::word(out, filled, b"the shapes share points inside both")
-}
-
-fn inside(out: &mut [u8], filled: usize, whether: u64) -> usize {
-    if whether == heads::YES {
-        return answers::word(
-            out,
-            filled,
-            b"every point of the first shape is in the second",
-        );
-    }
-    answers::word(
-        out,
-        filled,
-        b"some corner of the first shape is outside the second",
-    )
-}
-
-fn offer(out: &mut [u8], filled: usize, whether: u64) -> usize {
-    if whether == heads::YES {
-        return answers::word(
-            out,
-            filled,
-            b"every corner of the first shape is below every corner of the second that way: they are apart",
-        );
-    }
-    answers::word(
-        out,
-        filled,
-        b"some corner of the first shape is not below one of the second that way; they may be apart all the same",
-    )
-}
-
-fn found_direction(out: &mut [u8], filled: usize, first: u64) -> usize {
-    if first == heads::NONE {
-        return answers::word(
-            out,
-            filled,
-            b"the shapes are not apart: there is no such direction",
-        );
-    }
-    answers::word(
-        out,
-        filled,
-        b"that way every corner of the first shape is below every corner of the second: they are apart",
-    )
-}
-
-fn clearance(out: &mut [u8], filled: usize, told: &[u64]) -> usize {
-    let how = at(told, 1);
-    if how == heads::CORNERS {
-        let now = units::of_square(out, filled, at(told, 4));
-        let then = answers::labelled(out, now, b" between corner ", at(told, 2));
-        let last = answers::labelled(out, then, b" of the first shape and corner ", at(told, 3));
-        return answers::word(out, last, b" of the second");
-    }
-    if how == heads::CORNER_EDGE {
-        let now = gap(out, filled, told, b" of the first and edge ");
-        return answers::word(out, now, b" of the second");
-    }
-    if how == heads::EDGE_CORNER {
-        let now = gap(out, filled, told, b" of the second and edge ");
-        return answers::word(out, now, b" of the first");
-    }
-    answers::word(out, filled, b"the shapes are not apart: there is no gap")
-}
-
-// The gap between a corner of the one shape and an edge of the other.
-fn gap(out: &mut [u8], filled: usize, told: &[u64], whose: &[u8]) -> usize {
-    let now = units::metres(out, filled, at(told, 6));
-    let then = answers::labelled(out, now, b" (rounded down) between corner ", at(told, 2));
-    answers::labelled(out, then, whose, at(told, 3))
-}
-
-fn tangents(out: &mut [u8], filled: usize, told: &[u64]) -> usize {
-    let mut now = answers::word(
-        out,
-        filled,
-        b"corners of the first and the second: both shapes left ",
-    );
-    now = line(out, now, at(told, 1), at(told, 2));
-    now = answers::word(out, now, b", both right ");
-    now = line(out, now, at(told, 3), at(told, 4));
-    crossing(out, now, told)
-}
-
-// The two tangents that cross between the shapes.
-fn crossing(out: &mut [u8], filled: usize, told: &[u64]) -> usize {
-    let mut now = answers::word(out, filled, b", first left and second right ");
-    now = line(out, now, at(told, 5), at(told, 6));
-    now = answers::word(out, now, b", the reverse ");
-    line(out, now, at(told, 7), at(told, 8))
-}
-
-// A corner of the first and a corner of the second shape.
-fn line(out: &mut [u8], filled: usize, from: u64, to: u64) -> usize {
-    let now = answers::unsigned(out, filled, from);
-    answers::labelled(out, now, b" to ", to)
 }
 
 fn written(out: &mut [u8], filled: usize, count: u64) -> usize {
     let now = of_corners(out, filled, count);
     answers::word(out, now, b", told in millimetres behind the last bar")
+}
+
+// Some corners of a sum, and the walk from which the next call goes on.
+fn part(out: &mut [u8], filled: usize, told: &[u64]) -> usize {
+    let now = lengths::corners(out, filled, at(told, 1));
+    let then = answers::word(out, now, b" of the sum, in millimetres behind the bar; ");
+    if at(told, 4) == 1 {
+        return answers::word(out, then, b"the walk is over");
+    }
+    let behind = answers::labelled(out, then, b"the next call goes on from ", at(told, 2));
+    let last = answers::labelled(out, behind, b" ", at(told, 3));
+    answers::word(out, last, b" 0")
 }
 
 fn addition(out: &mut [u8], filled: usize, how: u64) -> usize {
@@ -271,7 +186,7 @@ fn addition(out: &mut [u8], filled: usize, how: u64) -> usize {
 }
 
 fn names(out: &mut [u8], filled: usize, count: u64) -> usize {
-    let now = units::grouped(out, filled, count);
+    let now = text::units::grouped(out, filled, count);
     answers::word(
         out,
         now,

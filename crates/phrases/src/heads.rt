@@ -1,4 +1,7 @@
-// The first words of a reply: numbers as they are, without sign or at sign, and other words by a number of their own.
+// The first words of a reply: numbers as they are, without an at sign, those below 0 by their size and a number that
+// says so, and other words by a number of their own.
+ghost use Prim.Native.Nat.{_≤_};
+use text::answers;
 
 // How many words are read.
 pub const TOLD: usize = 12;
@@ -36,6 +39,9 @@ const OTHER: u64 = 1000000000000000000;
 // A number with more digits counts as this one.
 const LARGE: u64 = 100000000000000000;
 
+// What is added to the size of a number below 0.
+const BELOW: u64 = 2000000000000000000;
+
 // Reads the words of a reply, as many as there is room for.
 pub fn read(reply: &[u8], told: &mut [u64]) {
     let mut at = text::words::next_word(reply, 0);
@@ -51,6 +57,15 @@ pub fn read(reply: &[u8], told: &mut [u64]) {
 // What word k of a reply says.
 pub fn at(told: &[u64], k: usize) -> u64 {
     if k < told.len() { told[k] } else { OTHER }
+}
+
+// Adds a number that word k says, with its sign.
+pub fn signed(out: &mut [u8], filled: usize, told: &[u64], k: usize) -> usize {
+    let number = at(told, k);
+    if number < BELOW {
+        return answers::unsigned(out, filled, number);
+    }
+    answers::labelled(out, filled, b"-", number - BELOW)
 }
 
 // Sets what word k says, if there is room.
@@ -74,18 +89,36 @@ fn value(word: &[u8]) -> u64 {
     number
 }
 
-// A number with one character more, which should be a digit; signs are passed over.
+// A number with one character more, which should be a digit; an at sign is passed over.
 fn extend(number: u64, byte: u8) -> u64 {
-    if byte == b'@' || byte == b'-' {
+    if byte == b'@' {
         return number;
+    }
+    if byte == b'-' {
+        return negative(number);
     }
     if byte < b'0' || b'9' < byte || number == OTHER {
         return OTHER;
     }
-    if LARGE <= number {
+    if number < BELOW {
+        return longer(number, byte - b'0');
+    }
+    BELOW + longer(number - BELOW, byte - b'0')
+}
+
+// The number below 0 whose digits follow, if nothing stands before its sign.
+fn negative(number: u64) -> u64 {
+    if number == 0 { BELOW } else { OTHER }
+}
+
+// A size with one digit more; a large one stays as it is.
+fn longer(size: u64, digit: u8) -> u64
+    ensures { λ r. ⌜ r ≤ 1000000000000000255 ⌝ }
+{
+    if LARGE <= size {
         return LARGE;
     }
-    number * 10 + (byte - b'0') as u64
+    size * 10 + digit as u64
 }
 
 // The number of a word that is none.

@@ -1,18 +1,53 @@
 // The sentences of refusals, by their numbers.
+use crate::counts;
 use crate::heads;
 use crate::heads::at;
-use crate::units;
+use crate::lengths;
+use crate::points;
 use text::answers;
 
 // The greatest coordinate, and the least without its sign.
 const GREATEST: i32 = 1000000;
 
 // Adds the sentence of a refusal of a question on up to two shapes.
-pub fn refused(out: &mut [u8], filled: usize, told: &[u64], a: &[i32], b: &[i32]) -> usize {
+pub fn refused(
+    out: &mut [u8],
+    filled: usize,
+    word: &[u8],
+    told: &[u64],
+    a: &[i32],
+    b: &[i32],
+) -> usize {
+    match at(told, 1) {
+        6 => large(out, filled, counts::of_answer(word, a, b)),
+        8 => room(out, filled, word, at(told, 2), a, b),
+        _ => blaming(out, filled, word, told, a, b),
+    }
+}
+
+// The refusals that blame a shape or the points of a sweep, and all others.
+fn blaming(
+    out: &mut [u8],
+    filled: usize,
+    word: &[u8],
+    told: &[u64],
+    a: &[i32],
+    b: &[i32],
+) -> usize {
+    if check::same(word, b"sweep") {
+        return of_sweep(out, filled, told, a);
+    }
     if at(told, 3) == 2 {
         return of_shape(out, filled, told, b);
     }
     of_shape(out, filled, told, a)
+}
+
+// An answer of too many corners.
+fn large(out: &mut [u8], filled: usize, count: u64) -> usize {
+    let now = answers::word(out, filled, b"the answer would have ");
+    let then = text::units::grouped(out, now, count);
+    answers::word(out, then, b" corners, 1,024 are allowed")
 }
 
 // Adds the sentence of a refusal that blames this shape, or none.
@@ -32,26 +67,45 @@ fn blamed(out: &mut [u8], filled: usize, told: &[u64]) -> usize {
     answers::labelled(out, filled, b"shape ", at(told, 3))
 }
 
+// Adds the sentence of a refusal that blames the points of a sweep, or none. They are no corners yet.
+fn of_sweep(out: &mut [u8], filled: usize, told: &[u64], list: &[i32]) -> usize {
+    let now = answers::word(out, filled, b"the sweep");
+    match at(told, 1) {
+        1 => amount(
+            out,
+            now,
+            list.len(),
+            b" numbers; each point takes two, and one point there must be",
+        ),
+        2 => amount(out, now, list.len() / 2, b" points, 1,024 are allowed"),
+        _ => far(out, now, b", point ", list),
+    }
+}
+
+// How many of something there are, and what is wrong with that.
+fn amount(out: &mut [u8], filled: usize, count: usize, why: &[u8]) -> usize {
+    let now = answers::word(out, filled, b" has ");
+    let then = text::units::grouped(out, now, count as u64);
+    answers::word(out, then, why)
+}
+
 fn count(out: &mut [u8], filled: usize, told: &[u64], list: &[i32]) -> usize {
     let now = blamed(out, filled, told);
-    let then = answers::word(out, now, b" has ");
-    let last = units::grouped(out, then, list.len() as u64);
-    answers::word(
+    amount(
         out,
-        last,
+        now,
+        list.len(),
         b" numbers; each corner takes two, and one corner there must be",
     )
 }
 
 fn corners(out: &mut [u8], filled: usize, told: &[u64], list: &[i32]) -> usize {
     let now = blamed(out, filled, told);
-    let then = answers::word(out, now, b" has ");
-    let last = units::grouped(out, then, (list.len() / 2) as u64);
-    answers::word(out, last, b" corners, 1,024 are allowed")
+    amount(out, now, list.len() / 2, b" corners, 1,024 are allowed")
 }
 
 fn range(out: &mut [u8], filled: usize, told: &[u64], list: &[i32]) -> usize {
-    if 2 < at(told, 3) {
+    if 8 < at(told, 3) {
         return reading(
             out,
             filled,
@@ -60,10 +114,15 @@ fn range(out: &mut [u8], filled: usize, told: &[u64], list: &[i32]) -> usize {
         );
     }
     let now = blamed(out, filled, told);
-    let then = answers::labelled(out, now, b", corner ", (first_far(list) / 2) as u64);
+    far(out, now, b", corner ", list)
+}
+
+// The first corner or point that is out of range.
+fn far(out: &mut [u8], filled: usize, label: &[u8], list: &[i32]) -> usize {
+    let now = answers::labelled(out, filled, label, (first_far(list) / 2) as u64);
     answers::word(
         out,
-        then,
+        now,
         b" has a coordinate outside -1000000 to 1000000 mm",
     )
 }
@@ -98,84 +157,64 @@ fn side(out: &mut [u8], filled: usize, told: &[u64], list: &[i32]) -> usize {
         return answers::word(out, now, b" is a segment with two equal ends");
     }
     let then = answers::labelled(out, now, b": corner ", at(told, 7));
-    let last = answers::labelled(out, then, b" lies right of edge ", at(told, 5));
-    answers::word(out, last, b" or on its line; each must lie strictly left")
+    let behind = place(out, then, lies_right(told, list));
+    let last = answers::unsigned(out, behind, at(told, 5));
+    answers::word(out, last, b"; each must lie strictly left")
+}
+
+// Whether the corner that breaks the left rule lies right of its edge; else it lies on its line.
+fn lies_right(told: &[u64], list: &[i32]) -> bool {
+    let edge = points::edge_at(list, at(told, 5) as usize);
+    points::is_left(
+        points::reversed(edge),
+        points::corner_at(list, at(told, 7) as usize),
+    )
+}
+
+// Where a corner lies that is not left of an edge.
+fn place(out: &mut [u8], filled: usize, is_right: bool) -> usize {
+    if is_right {
+        return answers::word(out, filled, b" lies right of edge ");
+    }
+    answers::word(out, filled, b" lies on the line of edge ")
 }
 
 fn start(out: &mut [u8], filled: usize, told: &[u64], list: &[i32]) -> usize {
     let now = blamed(out, filled, told);
-    let then = answers::labelled(out, now, b" has to begin at corner ", lowest(list) as u64);
+    let then = answers::labelled(
+        out,
+        now,
+        b" has to begin at corner ",
+        points::lowest(list) as u64,
+    );
     answers::word(out, then, b", the lowest, and the leftmost of the lowest")
-}
-
-// The position of the lowest corner, and of the leftmost of the lowest.
-fn lowest(list: &[i32]) -> usize {
-    let mut found = 0;
-    let mut i = 0;
-    while i < list.len() / 2 {
-        if is_lower(list, i, found) {
-            found = i;
-        }
-        i += 1;
-    }
-    found
-}
-
-// Whether corner i is lower than corner j, or as low and further to the left.
-fn is_lower(list: &[i32], i: usize, j: usize) -> bool {
-    let height = y(list, i);
-    let other = y(list, j);
-    if height == other {
-        return x(list, i) < x(list, j);
-    }
-    height < other
-}
-
-// The first number of corner i; 0 where there is none.
-fn x(list: &[i32], i: usize) -> i32 {
-    if i < list.len() / 2 { list[2 * i] } else { 0 }
-}
-
-// The second number of corner i; 0 where there is none.
-fn y(list: &[i32], i: usize) -> i32 {
-    if i < list.len() / 2 {
-        list[2 * i + 1]
-    } else {
-        0
-    }
 }
 
 // The refusals that blame no shape.
 fn of_answer(out: &mut [u8], filled: usize, told: &[u64]) -> usize {
     match at(told, 1) {
-        6 => answers::word(
-            out,
-            filled,
-            b"the answer would have more than 1,024 corners, 1,024 are allowed",
-        ),
         7 => answers::word(
             out,
             filled,
             b"a corner of the answer would lie outside -1000000 to 1000000 mm",
         ),
-        8 => room(out, filled, at(told, 2)),
         9 => answers::word(
             out,
             filled,
-            b"the shapes are not apart, so no line just touches both",
+            b"the shapes are not apart; the four lines are told only of shapes that are",
         ),
         10 => answers::word(out, filled, b"a point or a segment has no width"),
         11 => answers::word(
             out,
             filled,
-            b"a direction is not 0 0, and its parts go from -2000000 to 2000000",
+            b"a direction must not be 0 0, and each part must lie from -2000000 to 2000000",
         ),
         12 => answers::word(
             out,
             filled,
-            b"both parts of the direction can be divided by one number; ask the shortest that points the same way",
+            b"both parts of the direction can be divided by one number; ask the shortest that way, 1 2 and not 2 4",
         ),
-        13 => answers::word(out, filled, b"the two shapes are on different floors"),
+        13 => answers::word(out, filled, b"the shapes are on different floors"),
         _ => of_record(out, filled, told),
     }
 }
@@ -207,7 +246,7 @@ fn of_record(out: &mut [u8], filled: usize, told: &[u64]) -> usize {
 }
 
 // What there is no room for.
-fn room(out: &mut [u8], filled: usize, what: u64) -> usize {
+fn room(out: &mut [u8], filled: usize, word: &[u8], what: u64, a: &[i32], b: &[i32]) -> usize {
     if what == heads::NAMES {
         return answers::word(
             out,
@@ -222,9 +261,23 @@ fn room(out: &mut [u8], filled: usize, what: u64) -> usize {
             b"the shapes remembered would have more than 65,536 numbers",
         );
     }
+    if check::same(word, b"part") || check::same(word, b"bookread") {
+        return answers::word(
+            out,
+            filled,
+            b"the answer has more numbers than the room that was given",
+        );
+    }
+    short(out, filled, counts::of_answer(word, a, b))
+}
+
+// An answer of more corners than there is room for.
+fn short(out: &mut [u8], filled: usize, count: u64) -> usize {
+    let now = answers::word(out, filled, b"the answer has ");
+    let then = lengths::corners(out, now, count);
     answers::word(
         out,
-        filled,
-        b"the answer has more numbers than the room that was given",
+        then,
+        b", 2 numbers each: more than the room that was given",
     )
 }

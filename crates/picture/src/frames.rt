@@ -9,6 +9,12 @@ pub struct Point {
     pub y: i32,
 }
 
+// A place in a picture, in pixels from its left, upper corner.
+pub struct Spot {
+    pub x: usize,
+    pub y: usize,
+}
+
 // How far corners reach.
 pub struct Frame {
     pub left: i32,
@@ -27,6 +33,42 @@ pub fn corner(list: &[i32], i: usize) -> Point {
     } else {
         Point { x: 0, y: 0 }
     }
+}
+
+// The last corner; of an empty list the origin.
+pub fn last(list: &[i32]) -> Point {
+    if list.len() < 2 {
+        return Point { x: 0, y: 0 };
+    }
+    corner(list, list.len() / 2 - 1)
+}
+
+// The corner behind corner i: of the last it is the first.
+pub fn behind(list: &[i32], i: usize) -> Point {
+    if i < list.len() / 2 {
+        if i + 1 < list.len() / 2 {
+            return corner(list, i + 1);
+        }
+    }
+    corner(list, 0)
+}
+
+// A number less another; 0 where that is greater.
+pub fn back(number: usize, by: usize) -> usize {
+    if by <= number { number - by } else { 0 }
+}
+
+// The product of two numbers. (Nothing here is more than 8,000,000,000,000, and the second not more than 2,000,000.)
+pub fn product(a: u64, b: u64) -> u64 {
+    a % 8000000000001 * (b % 2000001)
+}
+
+// The number so many 256ths of the way from one to another, of pixels.
+pub fn part_way(from: usize, to: usize, i: usize) -> usize {
+    let t = (i % 257) as u64;
+    let gone = product(from as u64, 256 - t) % 1000000;
+    let left = product(to as u64, t) % 1000000;
+    ((gone + left) / 256) as usize
 }
 
 // How far the corners of a list reach.
@@ -59,30 +101,6 @@ pub fn joined(a: Frame, b: Frame) -> Frame {
     reach(reach(a, lower), upper)
 }
 
-// The frame by which the numbers of b are placed. Where both shapes start at one corner it is upside
-// down, so that the numbers there stand apart.
-pub fn second_frame(a: &[i32], b: &[i32]) -> Frame {
-    let own = around(b);
-    let start = corner(a, 0);
-    let other = corner(b, 0);
-    if start.x == other.x {
-        if start.y == other.y {
-            return upturned(own);
-        }
-    }
-    own
-}
-
-// The frame upside down.
-fn upturned(frame: Frame) -> Frame {
-    Frame {
-        left: frame.left,
-        right: frame.right,
-        low: frame.high,
-        high: frame.low,
-    }
-}
-
 // The frame with one corner more.
 fn reach(frame: Frame, at: Point) -> Frame {
     Frame {
@@ -103,11 +121,6 @@ fn greater(a: i32, b: i32) -> i32 {
     if a < b { b } else { a }
 }
 
-// The scale of a shape's corners. They are smaller the more there are.
-pub fn unit(view: Frame, list: &[i32]) -> u64 {
-    pixel(view) * 64 / (60 + (list.len() / 2) as u64)
-}
-
 // A pixel, in millionths: the larger side has 640.
 pub fn pixel(view: Frame) -> u64
     ensures { λ r. ⌜ (1 ≤ r) × (r ≤ 10000000000000) ⌝ }
@@ -122,18 +135,34 @@ pub fn margin(view: Frame) -> u64
     breadth(view) / 12 + 1
 }
 
-// A width or a height with both margins, in millionths.
-pub fn whole(from: i32, to: i32, view: Frame) -> u64
-    ensures { λ r. ⌜ r ≤ 6000000000000000 ⌝ }
-{
-    (span(from, to) + 2 * margin(view)) * 1000000
-}
-
 // The pixels of a width or a height with both margins. (No picture has a thousand.)
 pub fn pixels(from: i32, to: i32, view: Frame) -> u64
     ensures { λ r. ⌜ r ≤ 1000 ⌝ }
 {
     (span(from, to) + 2 * margin(view)) * 1000000 / pixel(view) % 1000
+}
+
+// The pixels from a side of the picture to a number, if the frame's reach on that side is given. (No picture has a
+// thousand.)
+fn pixels_from(side: i32, number: i32, view: Frame) -> u64
+    ensures { λ r. ⌜ r ≤ 1000 ⌝ }
+{
+    (span(side, number) + margin(view)) * 1000000 / pixel(view) % 1000
+}
+
+// Where a point stands in a picture.
+pub fn spot_of(view: Frame, at: Point) -> Spot {
+    Spot {
+        x: pixels_from(view.left, at.x, view) as usize,
+        y: pixels_from(view.high, at.y, view) as usize,
+    }
+}
+
+// Whether a shape is too small to be seen: all of it is within a few pixels.
+pub fn is_small(list: &[i32], view: Frame) -> bool {
+    let own = around(list);
+    let limit = pixel(view) * 8;
+    span(own.left, own.right) * 1000000 < limit && span(own.low, own.high) * 1000000 < limit
 }
 
 // The length of the scale bar, in millimetres: 1, 2 or 5 with zeros, a third of the picture at most.

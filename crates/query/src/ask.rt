@@ -3,9 +3,7 @@
 use crate::logs;
 use crate::names;
 use crate::parts;
-use crate::pictures;
 use crate::readings;
-use crate::replies;
 use crate::separating;
 use crate::table::Measure;
 use crate::table::Question;
@@ -38,6 +36,7 @@ pub fn ask(
     let a = fields::field(values, marks, 0);
     let b = fields::field(values, marks, 1);
     let c = fields::field(values, marks, 2);
+    let d = fields::field(values, marks, 3);
     let f = fields::floor(line, 0, cells);
     let g = fields::floor(line, 1, cells);
     match question {
@@ -45,7 +44,7 @@ pub fn ask(
         Question::Write(which) => write(out, filled, which, a, f, b, g, room),
         Question::Offer => separating::offer(out, filled, a, f, b, g, c),
         Question::Find => separating::find(out, filled, a, f, b, g),
-        Question::Draw => pictures::draw(out, filled, a, f, b, g, count),
+        Question::Draw(grown) => maps::draw(out, filled, grown, line, count, values, marks, cells),
         Question::Tablet => readings::tablet(out, filled, line),
         Question::LogRead => logs::read(out, filled, line, fields::name(b), room),
         Question::LogAdd => {
@@ -57,10 +56,7 @@ pub fn ask(
         Question::Words(on) => words(out, filled, on),
         Question::Help => manual::page(out, filled),
         Question::Parts => parts::parts(out, filled, a, f, b, g, c),
-        Question::Part => {
-            let call = fields::field(values, marks, 3);
-            parts::part(out, filled, a, f, b, g, c, call)
-        }
+        Question::Part => parts::part(out, filled, a, f, b, g, c, d),
     }
 }
 

@@ -1,5 +1,4 @@
 // The questions on a log, whose bytes stand in the line itself.
-use crate::replies;
 use questions::SHAPE_NUMBERS;
 use questions::answer::Addition;
 use questions::answer::Answer;

@@ -6,9 +6,7 @@ mod logs;
 mod names;
 mod options;
 mod parts;
-mod pictures;
 mod readings;
-mod replies;
 mod separating;
 mod table;
 
@@ -85,7 +83,7 @@ fn answer_inputs(
 ) {
     if !asked.files {
         let reading = lines::begin(libc::STDIN_FILENO, 0, asked.words);
-        let last = answer_all(reading, out, chunk, line, values, cells, named);
+        let last = answer_all(reading, b"", out, chunk, line, values, cells, named);
         if last.failed {
             os::fail(b"cannot read standard input");
         }
@@ -168,6 +166,7 @@ fn answer_path(
     }
     let last = answer_all(
         lines::begin(source, 0, words),
+        path,
         out,
         chunk,
         line,
@@ -182,10 +181,11 @@ fn answer_path(
     last.words
 }
 
-// Answers every line. A proved loop has to end, so this one counts its turns down, from a number
-// that no run uses up.
+// Answers every line of the file of a path, or of standard input, which has none. A proved loop has to end, so this one
+// counts its turns down, from a number that no run uses up.
 fn answer_all(
     begun: Reading,
+    path: &[u8],
     out: &mut [u8],
     chunk: &mut [u8],
     line: &mut [u8],
@@ -196,7 +196,7 @@ fn answer_all(
     let mut reading = begun;
     let mut turns = u64::MAX;
     while turns > 0 && !reading.last {
-        reading = answer_next(reading, out, chunk, line, values, cells, named);
+        reading = answer_next(reading, path, out, chunk, line, values, cells, named);
         turns -= 1;
     }
     answers::flush(out, reading.filled);
@@ -206,6 +206,7 @@ fn answer_all(
 // Reads the next line and answers it.
 fn answer_next(
     before: Reading,
+    path: &[u8],
     out: &mut [u8],
     chunk: &mut [u8],
     line: &mut [u8],
@@ -213,10 +214,11 @@ fn answer_next(
     cells: &mut [usize],
     named: &mut [i32],
 ) -> Reading {
-    let reading = lines::next_line(before, out, chunk, line);
+    let reading = lines::next_line(before, path, out, chunk, line);
     answer_line(
         out,
         reading,
+        path,
         lines::text(reading, line),
         values,
         cells,
@@ -228,6 +230,7 @@ fn answer_next(
 fn answer_line(
     out: &mut [u8],
     mut reading: Reading,
+    path: &[u8],
     line: &[u8],
     values: &mut [i32],
     cells: &mut [usize],
@@ -246,6 +249,7 @@ fn answer_line(
         reading,
         question,
         read,
+        path,
         line,
         values,
         &marks,
@@ -263,6 +267,7 @@ fn answer_fields(
     reading: Reading,
     question: Question,
     read: Fields,
+    path: &[u8],
     line: &[u8],
     values: &[i32],
     marks: &[usize],
@@ -286,15 +291,33 @@ fn answer_fields(
             );
             end(out, now, reading.words, question, line, values, marks)
         }
-        Fields::No { reason, field } => {
-            let place = Place {
-                number: reading.number,
-                field: counted(reason, field),
-            };
-            let word = fields::stopped(line, reason, field);
-            reasons::unreadable(out, reading.filled, reason, reading.words, place, word)
-        }
+        Fields::No { reason, field } => no_question(out, reading, reason, field, path, line),
     }
+}
+
+// Says why a line is no question, and where.
+fn no_question(
+    out: &mut [u8],
+    reading: Reading,
+    reason: Reason,
+    field: usize,
+    path: &[u8],
+    line: &[u8],
+) -> usize {
+    let place = Place {
+        number: reading.number,
+        field: counted(reason, field),
+    };
+    let word = fields::stopped(line, reason, field);
+    reasons::unreadable(
+        out,
+        reading.filled,
+        reason,
+        reading.words,
+        place,
+        path,
+        word,
+    )
 }
 
 // In words each answer is made at the front of the buffer, where its sentence reads it: what waits is written first.
@@ -305,7 +328,7 @@ fn ready(out: &[u8], reading: Reading) -> usize {
     reading.filled
 }
 
-// Ends an answer, with its sentence if words are on. A picture has none: it would be no picture any more.
+// Ends an answer, with its sentence if words are on.
 fn end(
     out: &mut [u8],
     filled: usize,
@@ -318,13 +341,42 @@ fn end(
     if let Question::Help = question {
         return filled;
     }
-    if in_words && table::has_sentence(question) {
-        let a = fields::field(values, marks, table::first_shape(question));
+    if in_words && has_sentence(out, filled, question) {
+        let a = fields::field(values, marks, first_told(out, filled, question));
         let b = fields::field(values, marks, 1);
         let now = phrases::sentence(out, filled, words::word_of(line), a, b);
         return answers::word(out, now, b"\n");
     }
     answers::word(out, filled, b"\n")
+}
+
+// Whether an answer can have a sentence behind it. A picture has none: it would be no picture any more.
+fn has_sentence(out: &[u8], filled: usize, question: Question) -> bool {
+    match question {
+        Question::Draw(_) => !is_picture(out, filled),
+        Question::Words(_) => false,
+        _ => true,
+    }
+}
+
+// Whether the answer that ends here is a picture, and no refusal: it ends with a tag.
+fn is_picture(out: &[u8], filled: usize) -> bool {
+    if 0 < filled {
+        if filled <= out.len() {
+            return out[filled - 1] == b'>';
+        }
+    }
+    false
+}
+
+// The field of the first shape that a sentence tells of: of a picture the one that is blamed.
+fn first_told(out: &[u8], filled: usize, question: Question) -> usize {
+    match question {
+        Question::Draw(_) => phrases::blamed(out, filled),
+        Question::Shape => 1,
+        Question::LogAdd => 2,
+        _ => 0,
+    }
 }
 
 // The field that a reason is about, counted from 1; 0 where the word itself is not known.

@@ -1,5 +1,4 @@
 // Shapes by their names: remembering and listing them.
-use crate::replies;
 use questions::answer::Answer;
 use shelf::Stored;
 use shelf::names;

@@ -1,5 +1,4 @@
 // The questions on a sum in parts: calls from the beginning on, and one call from any state of a walk.
-use crate::replies;
 use questions::SHAPE_NUMBERS;
 use questions::answer::Begun;
 use questions::answer::Part;

@@ -1,7 +1,6 @@
 // A corner of two readings: doubles made of their bits, and bits of doubles.
 ghost use mathlib.Core.Path.{_≡_};
 ghost use lib.Ieee.{binary64, nanBits};
-use crate::replies;
 use questions::Reading;
 use questions::answer::Tablet;
 use text::answers;

@@ -1,6 +1,5 @@
 // Questions on directions in which one shape is below another: each asks the library and adds the reply, without its
 // newline.
-use crate::replies;
 use questions::answer::Found;
 use questions::answer::Offer;
 use questions::separating;

@@ -9,7 +9,8 @@ pub enum Question {
     Write(Written),
     Offer,
     Find,
-    Draw,
+    // A picture; of two shapes the first grown by the second, or their sum.
+    Draw(bool),
     Tablet,
     Parts,
     Part,
@@ -53,7 +54,7 @@ pub struct Entry {
 // Looks a word up in the table. Where it is not there the kinds are unknown, and nothing is asked.
 pub fn look_up(word: &[u8]) -> Entry {
     let mut entry = Entry {
-        question: Question::Draw,
+        question: Question::Draw(false),
         kinds: fields::unknown(),
     };
     entry = on_one(entry, word);
@@ -73,24 +74,6 @@ pub fn in_words(question: Question, before: bool) -> bool {
         return on;
     }
     before
-}
-
-// Whether an answer can have a sentence behind it.
-pub fn has_sentence(question: Question) -> bool {
-    match question {
-        Question::Draw => false,
-        Question::Words(_) => false,
-        _ => true,
-    }
-}
-
-// The field that holds a question's first shape.
-pub fn first_shape(question: Question) -> usize {
-    match question {
-        Question::Shape => 1,
-        Question::LogAdd => 2,
-        _ => 0,
-    }
 }
 
 // The measures of one shape.
@@ -136,8 +119,15 @@ fn shapes(found: Entry, word: &[u8]) -> Entry {
 
 // The pictures.
 fn pictures(found: Entry, word: &[u8]) -> Entry {
-    let some = fields::two(Kind::Shape, Kind::Further);
-    row(found, word, b"draw", Question::Draw, some)
+    let pair = fields::two(Kind::Shape, Kind::Shape);
+    let entry = row(
+        found,
+        word,
+        b"draw",
+        Question::Draw(false),
+        fields::shapes(),
+    );
+    row(entry, word, b"drawgrow", Question::Draw(true), pair)
 }
 
 // The sum in parts.

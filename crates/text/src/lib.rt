@@ -15,4 +15,5 @@ pub mod numbers;
 pub mod readings;
 pub mod reasons;
 mod standard;
+pub mod units;
 pub mod words;

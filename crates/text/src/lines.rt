@@ -54,14 +54,21 @@ pub fn begin(source: i32, filled: usize, words: bool) -> Reading {
 }
 
 // Gathers the next line to answer, without its newline. The last line needs none. A line that is too
-// long is answered here. Before anything is waited for, the answers that `out` holds are written. A
-// proved loop has to end, so this one counts its turns down, from a number that no run uses up.
-pub fn next_line(before: Reading, out: &mut [u8], chunk: &mut [u8], line: &mut [u8]) -> Reading {
+// long is answered here, with the path of its file. Before anything is waited for, the answers that
+// `out` holds are written. A proved loop has to end, so this one counts its turns down, from a number
+// that no run uses up.
+pub fn next_line(
+    before: Reading,
+    path: &[u8],
+    out: &mut [u8],
+    chunk: &mut [u8],
+    line: &mut [u8],
+) -> Reading {
     let mut reading = anew(before);
     let mut turns = u64::MAX;
     while turns > 0 && is_open(reading) {
         reading = take(reading, out, chunk, line);
-        reading = refuse_long(reading, out);
+        reading = refuse_long(reading, path, out);
         turns -= 1;
     }
     reading
@@ -92,7 +99,7 @@ fn anew(mut reading: Reading) -> Reading {
 }
 
 // Answers a line that is too long.
-fn refuse_long(mut reading: Reading, out: &mut [u8]) -> Reading {
+fn refuse_long(mut reading: Reading, path: &[u8], out: &mut [u8]) -> Reading {
     if reading.whole && reading.too_long {
         let place = Place {
             number: reading.number,
@@ -105,6 +112,7 @@ fn refuse_long(mut reading: Reading, out: &mut [u8]) -> Reading {
             Reason::LineTooLong,
             reading.words,
             place,
+            path,
             b"",
         );
         return anew(reading);

@@ -26,17 +26,18 @@ pub struct Place {
     pub field: u64,
 }
 
-// Of a word that is told so many characters are shown at most.
+// Of a word or a path that is told so many characters are shown at most.
 const SHOWN: usize = 40;
 
-// Adds a line that says why a line is no question; in words too, if they are wanted: then with the place and the word
-// where reading stopped.
+// Adds a line that says why a line is no question; in words too, if they are wanted: then with the place, in the file
+// of a path if there is one, and the word where reading stopped.
 pub fn unreadable(
     out: &mut [u8],
     filled: usize,
     reason: Reason,
     in_words: bool,
     place: Place,
+    path: &[u8],
     word: &[u8],
 ) -> usize {
     let now = answers::word(out, filled, b"unreadable: ");
@@ -44,14 +45,15 @@ pub fn unreadable(
     if !in_words {
         return answers::word(out, then, b"\n");
     }
-    let behind = at(out, then, place, word);
+    let behind = at(out, then, place, path, word);
     let last = long(out, behind, reason);
     answers::word(out, last, b"\n")
 }
 
 // Adds the place where reading stopped, and the word.
-fn at(out: &mut [u8], filled: usize, place: Place, word: &[u8]) -> usize {
+fn at(out: &mut [u8], filled: usize, place: Place, path: &[u8], word: &[u8]) -> usize {
     let mut now = answers::labelled(out, filled, b" -- line ", place.number);
+    now = of_file(out, now, path);
     now = answers::labelled_some(out, now, b", field ", place.field);
     if word.len() == 0 {
         return answers::word(out, now, b": ");
@@ -59,6 +61,23 @@ fn at(out: &mut [u8], filled: usize, place: Place, word: &[u8]) -> usize {
     now = answers::word(out, now, b", at `");
     now = shown(out, now, word);
     answers::word(out, now, b"`: ")
+}
+
+// Adds the file that a line is of: its path, or the last characters of that; nothing for standard input.
+fn of_file(out: &mut [u8], filled: usize, path: &[u8]) -> usize {
+    if path.len() == 0 {
+        return filled;
+    }
+    if path.len() <= SHOWN {
+        let now = answers::word(out, filled, b" of ");
+        return answers::word(out, now, path);
+    }
+    let now = answers::word(out, filled, b" of ..");
+    answers::word(
+        out,
+        now,
+        words::between(path, path.len() - SHOWN, path.len()),
+    )
 }
 
 // Adds a word, or its first characters.
@@ -124,27 +143,19 @@ fn long(out: &mut [u8], now: usize, reason: Reason) -> usize {
                 b"the fields of a line hold at most 16,384 numbers together",
             )
         }
-        Reason::WrongCount => answers::word(out, now, b"this field takes another count of numbers"),
-        Reason::NotACount => answers::word(
-            out,
-            now,
-            b"this counts something and cannot be below 0",
-        ),
-        _ => of_kind(out, now, reason),
+        _ => of_numbers(out, now, reason),
     }
 }
 
-// Adds a sentence on a field that is not of its kind.
-fn of_kind(out: &mut [u8], now: usize, reason: Reason) -> usize {
+// Adds a sentence on numbers that are not what a field takes.
+fn of_numbers(out: &mut [u8], now: usize, reason: Reason) -> usize {
     match reason {
-        Reason::NotAReading => {
-            answers::word(
-                out,
-                now,
-                b"a reading is mm or e8 and a double's bits, 0x and 16 digits",
-            )
-        }
-        Reason::NotBytes => answers::word(out, now, b"bytes are pairs of hexadecimal digits"),
+        Reason::WrongCount => answers::word(
+            out,
+            now,
+            b"a direction and a call are 2 numbers, a walk 3, a room and a number in a book 1",
+        ),
+        Reason::NotACount => answers::word(out, now, b"a room and a count cannot be below 0"),
         Reason::NotAName => answers::word(
             out,
             now,
@@ -164,6 +175,21 @@ fn of_kind(out: &mut [u8], now: usize, reason: Reason) -> usize {
                 b"a call is a count of corners, a colon and a room, as 2:4",
             )
         }
+        _ => of_kind(out, now, reason),
+    }
+}
+
+// Adds a sentence on a field that is not of its kind.
+fn of_kind(out: &mut [u8], now: usize, reason: Reason) -> usize {
+    match reason {
+        Reason::NotAReading => {
+            answers::word(
+                out,
+                now,
+                b"a reading is mm or e8 and a double's bits, 0x and 16 digits",
+            )
+        }
+        Reason::NotBytes => answers::word(out, now, b"bytes are pairs of hexadecimal digits"),
         Reason::NotAFloor => answers::word(out, now, b"a floor is @ and a number from 0 to 65535"),
         _ => answers::word(
             out,

@@ -6,14 +6,14 @@ use Rattle.query.proofs.answer_all.Statement.{statement}
 use Rattle.query.proofs.answer_all.Tie as tie
 
 abbrev Inv-loop : tie.InvT-loop
-Inv-loop out₀ chunk₀ line₀ values₀ cells₀ named₀ reading₀ turns₀ out chunk line values cells named reading turns =
+Inv-loop path out₀ chunk₀ line₀ values₀ cells₀ named₀ reading₀ turns₀ out chunk line values cells named reading turns =
     (length chunk ≡ length chunk₀)
     × ((length line ≡ length line₀)
     × ((length values ≡ length values₀)
     × ((length cells ≡ length cells₀) × ((length named ≡ length named₀) × (length out ≡ length out₀)))))
 
 abbrev μ-loop : tie.MeasureT-loop
-μ-loop out₀ chunk₀ line₀ values₀ cells₀ named₀ reading₀ turns₀ out chunk line values cells named reading turns =
+μ-loop path out₀ chunk₀ line₀ values₀ cells₀ named₀ reading₀ turns₀ out chunk line values cells named reading turns =
     turns
 
 loop-holds : tie.Need-loop-holds Inv-loop μ-loop

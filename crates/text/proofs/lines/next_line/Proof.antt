@@ -6,11 +6,11 @@ use Rattle.text.proofs.lines.next_line.Statement.{statement}
 use Rattle.text.proofs.lines.next_line.Tie as tie
 
 abbrev Inv-loop : tie.InvT-loop
-Inv-loop out₀ chunk₀ line₀ reading₀ turns₀ out chunk line reading turns =
+Inv-loop path out₀ chunk₀ line₀ reading₀ turns₀ out chunk line reading turns =
     (length out ≡ length out₀) × ((length chunk ≡ length chunk₀) × (length line ≡ length line₀))
 
 abbrev μ-loop : tie.MeasureT-loop
-μ-loop out₀ chunk₀ line₀ reading₀ turns₀ out chunk line reading turns = turns
+μ-loop path out₀ chunk₀ line₀ reading₀ turns₀ out chunk line reading turns = turns
 
 anew-requires : tie.Need-anew-requires Inv-loop μ-loop
 anew-requires c κs = search needs

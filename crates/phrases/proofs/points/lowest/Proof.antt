@@ -2,8 +2,8 @@
 use Prim.Native.Nat.{_≤_, _-_}
 use lib.ListN.{length}
 use borrow.Author.Needs.{needs}
-use Rattle.phrases.proofs.refusals.lowest.Statement.{statement}
-use Rattle.phrases.proofs.refusals.lowest.Tie as tie
+use Rattle.phrases.proofs.points.lowest.Statement.{statement}
+use Rattle.phrases.proofs.points.lowest.Tie as tie
 
 abbrev Inv-loop : tie.InvT-loop
 Inv-loop list found₀ i₀ found i = i ≤ length list
@@ -13,6 +13,12 @@ abbrev μ-loop : tie.MeasureT-loop
 
 loop-holds : tie.Need-loop-holds Inv-loop μ-loop
 loop-holds c = search needs
+
+corner-at-requires : tie.Need-corner-at-requires Inv-loop μ-loop
+corner-at-requires c κs = search needs
+
+corner-at-requires-2 : tie.Need-corner-at-requires-2 Inv-loop μ-loop
+corner-at-requires-2 c κs = search needs
 
 is-lower-requires : tie.Need-is-lower-requires Inv-loop μ-loop
 is-lower-requires c κs = search needs
@@ -32,4 +38,14 @@ returns c = search needs
 pub lowest-spec : {M : Type 1} → statement M
 lowest-spec =
     tie.close
-    (tie.spec Inv-loop μ-loop loop-holds is-lower-requires add-i loop-less loop-again returns)
+    (tie.spec
+    Inv-loop
+    μ-loop
+    loop-holds
+    corner-at-requires
+    corner-at-requires-2
+    is-lower-requires
+    add-i
+    loop-less
+    loop-again
+    returns)

@@ -12,8 +12,13 @@ pub fn line(out: &mut [u8], filled: usize, line: Line) -> usize {
 // Adds a refusal: its number, which shape of the question it means, and where the left rule breaks; or which part of a
 // corner, or the place of a byte.
 pub fn refuse(out: &mut [u8], filled: usize, refusal: Refusal) -> usize {
+    refuse_of(out, filled, refusal, blamed(refusal))
+}
+
+// Adds a refusal that means this shape of the question, counted from 1; 0 where it means none.
+pub fn refuse_of(out: &mut [u8], filled: usize, refusal: Refusal, shape: u64) -> usize {
     let now = answers::labelled(out, filled, b"no ", number(refusal));
-    let then = answers::labelled_some(out, now, b" shape ", blamed(refusal));
+    let then = answers::labelled_some(out, now, b" shape ", shape);
     let behind = broken(out, then, refusal);
     let last = part(out, behind, refusal);
     place(out, last, refusal)
@@ -64,7 +69,7 @@ fn broken(out: &mut [u8], filled: usize, refusal: Refusal) -> usize {
 }
 
 // Document 01's number of a refusal.
-fn number(refusal: Refusal) -> u64 {
+pub fn number(refusal: Refusal) -> u64 {
     match refusal {
         Refusal::Count { shape: _ } => 1,
         Refusal::Corners { shape: _ } => 2,

@@ -1,5 +1,5 @@
 // Counts and lengths as people write them.
-use text::answers;
+use crate::answers;
 
 // Adds a count, with a comma before the last three digits of a large one.
 pub fn grouped(out: &mut [u8], filled: usize, number: u64) -> usize {
@@ -20,19 +20,6 @@ pub fn metres(out: &mut [u8], filled: usize, millimetres: u64) -> usize {
     let now = grouped(out, filled, millimetres / 1000);
     let then = places(out, now, millimetres % 1000);
     answers::word(out, then, b" m")
-}
-
-// Adds the length whose square is given, and that it is rounded down if it is.
-pub fn of_square(out: &mut [u8], filled: usize, squared: u64) -> usize {
-    if squared == 0 {
-        return metres(out, filled, 0);
-    }
-    let root = words::root_of_fraction(squared, squared);
-    let now = metres(out, filled, root);
-    if words::fraction_less(root, 1, squared, squared) {
-        return answers::word(out, now, b" (rounded down)");
-    }
-    now
 }
 
 // Adds what stands behind the point; nothing for 0.
