@@ -5,9 +5,10 @@
 --     Cut n r                 r of n numbers are read: all, or more than a shape may have, even or odd as n is
 --     Room b r                an output of b bytes has room for a shape exactly if it has room for r numbers of it
 --     Deliverable r s o       an answer has its corners in s numbers, and room in o bytes
+--     combined m, asked c     how two shapes are made one, merged or summed, and the question that writes what c makes of them
 --     Replied ..              a number and output bytes are right for each call in whose place two lists and floors are asked about
 use mathlib.Core.Path.{_≡_}
-use mathlib.Core.Bool.{true, false, not, cond}
+use mathlib.Core.Bool.{Bool, true, false, not, cond}
 use mathlib.Core.List.{List, []}
 use Prim.Native.Nat.{ℕ, _+_, _*_, _%_, _≤_, _<_}
 use lib.Dec.{eqb, ltb}
@@ -16,8 +17,10 @@ use Rattle.plane.specs.Limits.{maxCorners, maxFloor}
 use Rattle.plane.specs.Point.{Point, points}
 use Rattle.plane.specs.Reply.{Reply, answered, refused}
 use Rattle.plane.specs.Refusal.{badCount, tooMany}
+use Rattle.plane.specs.Output.{Written}
+use Rattle.plane.specs.Combine.{pairWritten}
 use Rattle.abi.specs.Packing.{firstField, packed}
-use Rattle.abi.specs.Calls.{floorsRow, pairBytes}
+use Rattle.abi.specs.Calls.{floorsRow, pairBytes, sumShape, mergeShape}
 
 pub data Alike (l s : List ℤ) : Type 0 where
   equal : s ≡ l → Alike l s
@@ -47,7 +50,15 @@ abbrev pub Deliverable : Reply → ℕ → ℕ → Type 0
 Deliverable (answered values) s o = (2 * firstField (answered values) ≤ s) × (8 * firstField (answered values) ≤ o)
 Deliverable (refused n carries) s o = Unit {0}
 
-pub record Replied (combined : List Point → List Point → List Point) (s : List ℤ) (h : ℕ) (t : List ℤ) (k : ℕ) (old : List ℕ) (r : ℕ)
+abbrev pub combined : Bool → List Point → List Point → List Point
+combined true = mergeShape
+combined false = sumShape
+
+-- as `sumWritten` and `mergeWritten` are
+abbrev pub asked : (List Point → List Point → List Point) → List ℤ → List ℤ → List ℤ → Written
+asked made a b out = pairWritten a b (made (points a) (points b)) out
+
+pub record Replied (made : List Point → List Point → List Point) (s : List ℤ) (h : ℕ) (t : List ℤ) (k : ℕ) (old : List ℕ) (r : ℕ)
     (new : List ℕ) : Type 0 where
   pub calls : (l : List ℤ) (f : ℕ) (m : List ℤ) (g : ℕ) → Alike l s → Alike m t → Passed f g h k
-      → (r ≡ packed (pairBytes combined l f m g old .reply)) × (new ≡ pairBytes combined l f m g old .output)
+      → (r ≡ packed (pairBytes made l f m g old .reply)) × (new ≡ pairBytes made l f m g old .output)

@@ -10,7 +10,9 @@ mod writing;
 
 ghost use mathlib.Core.Path.{_≡_};
 ghost use Rattle.abi.specs.Packing.{packed};
-ghost use Rattle.abi.specs.Calls.{judgedBytes, relationBytes, sumBytes, mergeBytes};
+ghost use Rattle.abi.specs.Lists.{listOf};
+ghost use Rattle.abi.specs.Calls.{judgedBytes, relationBytes, pairBytes, sumBytes, mergeBytes};
+ghost use Rattle.abi.specs.Passing.{combined};
 use questions::SHAPE_NUMBERS;
 
 // Whether the bytes hold a shape, and how many corners it has. Refused: 1 to 5, no multiple of four bytes being 1; a
@@ -37,20 +39,7 @@ pub extern "C" fn cocklesway_sum_bytes(a: &[u8], f: u32, b: &[u8], g: u32, out: 
         (r ≡ packed (sumBytes (now (a .entry)) f (now (b .entry)) g (now (out .entry)) .reply))
         × (now (out .exit) ≡ sumBytes (now (a .entry)) f (now (b .entry)) g (now (out .entry)) .output) ⌝ }
 {
-    let mut first = [0i32; reading::NUMBERS];
-    let m = reading::read(a, &mut first);
-    let mut second = [0i32; reading::NUMBERS];
-    let n = reading::read(b, &mut second);
-    let passed = floors::pass(f, g);
-    let mut shape = [0i32; SHAPE_NUMBERS];
-    writing::sum(
-        &first[..m],
-        passed.first,
-        &second[..n],
-        passed.second,
-        &mut shape,
-        out,
-    )
+    combine(false, a, f, b, g, out)
 }
 
 // Writes the bytes of the shape of both corner lists taken together, and answers how many corners it has. Refused as
@@ -61,13 +50,24 @@ pub extern "C" fn cocklesway_merge_bytes(a: &[u8], f: u32, b: &[u8], g: u32, out
         (r ≡ packed (mergeBytes (now (a .entry)) f (now (b .entry)) g (now (out .entry)) .reply))
         × (now (out .exit) ≡ mergeBytes (now (a .entry)) f (now (b .entry)) g (now (out .entry)) .output) ⌝ }
 {
+    combine(true, a, f, b, g, out)
+}
+
+// Reads two lists and asks for their merge, or for their sum.
+fn combine(merged: bool, a: &[u8], f: u32, b: &[u8], g: u32, out: &mut [u8]) -> u64
+    ensures { λ r. ⌜
+        (r ≡ packed (pairBytes (combined merged) (listOf (now (a .entry))) f (listOf (now (b .entry))) g (now (out .entry)) .reply))
+        × (now (out .exit) ≡ pairBytes (combined merged) (listOf (now (a .entry))) f (listOf (now (b .entry))) g
+        (now (out .entry)) .output) ⌝ }
+{
     let mut first = [0i32; reading::NUMBERS];
     let m = reading::read(a, &mut first);
     let mut second = [0i32; reading::NUMBERS];
     let n = reading::read(b, &mut second);
     let passed = floors::pass(f, g);
     let mut shape = [0i32; SHAPE_NUMBERS];
-    writing::merge(
+    writing::combine(
+        merged,
         &first[..m],
         passed.first,
         &second[..n],

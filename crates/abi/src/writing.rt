@@ -4,36 +4,50 @@ ghost use Prim.Native.Nat.{_+_, _*_, _≤_, _<_};
 ghost use lib.ListN.{length, take};
 ghost use lib.Seq.{sets};
 ghost use Rattle.plane.specs.Limits.{maxCorners};
+ghost use Rattle.plane.specs.Floor.{on, writtenBetween};
 ghost use Rattle.journal.specs.Bytes.{word, words};
 ghost use Rattle.questions.specs.Answer.{ofAnswer};
 ghost use Rattle.abi.specs.Packing.{packed, Fits, firstField};
-ghost use Rattle.abi.specs.Calls.{stored, overBytes, sumShape, mergeShape};
-ghost use Rattle.abi.specs.Passing.{Deliverable, Room, Replied};
+ghost use Rattle.abi.specs.Calls.{stored, overBytes};
+ghost use Rattle.abi.specs.Passing.{Deliverable, Room, Replied, combined, asked};
 use crate::packing;
 use journal::bytes;
 use polygon::limits;
 use questions::answer::Answer;
 
-// Asks for the sum of two lists, a buffer being lent for its numbers, writes its bytes and packs the answer.
-pub fn sum(a: &[i32], f: u16, b: &[i32], g: u16, shape: &mut [i32], out: &mut [u8]) -> u64
+// Asks for the merge of two lists or for their sum, a buffer being lent for its numbers, writes its bytes and packs the
+// answer.
+pub fn combine(
+    merged: bool,
+    a: &[i32],
+    f: u16,
+    b: &[i32],
+    g: u16,
+    shape: &mut [i32],
+    out: &mut [u8],
+) -> u64
     requires { ⌜ length (now shape) ≡ 2 * maxCorners ⌝ }
     ensures { λ r. ⌜
-        Replied sumShape (now (a .entry)) f (now (b .entry)) g (now (out .entry)) r (now (out .exit)) ⌝ }
+        Replied (combined merged) (now (a .entry)) f (now (b .entry)) g (now (out .entry)) r (now (out .exit)) ⌝ }
 {
     let n = room(out.len());
-    let answer = questions::sum(a, f, b, g, &mut shape[..n]);
+    let answer = ask(merged, a, f, b, g, &mut shape[..n]);
     deliver(answer, shape, out)
 }
 
-// The same for the merge of two lists.
-pub fn merge(a: &[i32], f: u16, b: &[i32], g: u16, shape: &mut [i32], out: &mut [u8]) -> u64
-    requires { ⌜ length (now shape) ≡ 2 * maxCorners ⌝ }
+// Asks for the merge of two lists, or for their sum.
+fn ask(merged: bool, a: &[i32], f: u16, b: &[i32], g: u16, shape: &mut [i32]) -> Answer
     ensures { λ r. ⌜
-        Replied mergeShape (now (a .entry)) f (now (b .entry)) g (now (out .entry)) r (now (out .exit)) ⌝ }
+        (ofAnswer r ≡ writtenBetween (on (now (a .entry)) f) (on (now (b .entry)) g) (asked (combined merged))
+        (now (shape .entry)) .reply)
+        × (now (shape .exit) ≡ writtenBetween (on (now (a .entry)) f) (on (now (b .entry)) g) (asked (combined merged))
+        (now (shape .entry)) .output) ⌝ }
 {
-    let n = room(out.len());
-    let answer = questions::merge(a, f, b, g, &mut shape[..n]);
-    deliver(answer, shape, out)
+    if merged {
+        questions::merge(a, f, b, g, shape)
+    } else {
+        questions::sum(a, f, b, g, shape)
+    }
 }
 
 // For how many numbers of an answer so many bytes have room: a shape has no more than this needs.

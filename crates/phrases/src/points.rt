@@ -1,12 +1,12 @@
-// The corners of lists as points, and on which side of an edge a point lies. Coordinates are counted from the least one
-// on, so that each test compares two sums that have no sign.
+// The corners of lists as points, and on which side of an edge a point lies. Coordinates are counted from far below on,
+// so that each test compares two sums that have no sign.
 ghost use Prim.Native.Nat.{_≤_};
 use text::numbers;
 
-// The greatest coordinate, and the least without its sign.
-const GREATEST: u64 = 1000000;
+// No coordinate is so far out.
+const FAR: u64 = 500000000;
 
-// A point, its coordinates counted from -1,000,000 on.
+// A point, its coordinates counted from -500,000,000 on.
 pub struct Point {
     pub x: u64,
     pub y: u64,
@@ -26,10 +26,7 @@ pub fn corner_at(list: &[i32], i: usize) -> Point {
             y: counted(list[2 * i + 1]),
         }
     } else {
-        Point {
-            x: GREATEST,
-            y: GREATEST,
-        }
+        Point { x: FAR, y: FAR }
     }
 }
 
@@ -51,19 +48,15 @@ fn next(list: &[i32], i: usize) -> usize {
     0
 }
 
-// A coordinate counted from the least one on; one out of range counts as 0, and is refused before a point is asked for.
+// A coordinate counted from far below on. (One that is out of range is refused before a point is asked for.)
 fn counted(number: i32) -> u64
-    ensures { λ r. ⌜ r ≤ 2000000 ⌝ }
+    ensures { λ r. ⌜ r ≤ 1000000000 ⌝ }
 {
     let size = numbers::size(numbers::wide(number));
-    if GREATEST < size {
-        return GREATEST;
+    if FAR < size {
+        return FAR;
     }
-    if number < 0 {
-        GREATEST - size
-    } else {
-        GREATEST + size
-    }
+    if number < 0 { FAR - size } else { FAR + size }
 }
 
 // Whether two points are the same.
@@ -118,21 +111,21 @@ pub fn is_same_way(e: Edge, f: Edge) -> bool {
 // What the three corners of a triangle count one way round. (Less what they count the other way round, it is twice the
 // area: above 0 if the third lies left of the line from the first to the second.)
 fn crossed(p: Point, q: Point, r: Point) -> u64
-    ensures { λ r. ⌜ r ≤ 12000000000000 ⌝ }
+    ensures { λ r. ⌜ r ≤ 3000000000000000000 ⌝ }
 {
     product(p.x, q.y) + product(q.x, r.y) + product(r.x, p.y)
 }
 
 // The product of two coordinates.
 fn product(x: u64, y: u64) -> u64
-    ensures { λ r. ⌜ r ≤ 4000000000000 ⌝ }
+    ensures { λ r. ⌜ r ≤ 1000000000000000000 ⌝ }
 {
     bounded(x) * bounded(y)
 }
 
 // A coordinate; 0 for a number that is none.
 fn bounded(number: u64) -> u64
-    ensures { λ r. ⌜ r ≤ 2000000 ⌝ }
+    ensures { λ r. ⌜ r ≤ 1000000000 ⌝ }
 {
-    if number <= 2 * GREATEST { number } else { 0 }
+    if number <= 2 * FAR { number } else { 0 }
 }

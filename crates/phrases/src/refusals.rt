@@ -4,10 +4,10 @@ use crate::heads;
 use crate::heads::at;
 use crate::lengths;
 use crate::points;
+use polygon::limits;
 use text::answers;
-
-// The greatest coordinate, and the least without its sign.
-const GREATEST: i32 = 1000000;
+use text::numbers;
+use text::units;
 
 // Adds the sentence of a refusal of a question on up to two shapes.
 pub fn refused(
@@ -46,8 +46,15 @@ fn blaming(
 // An answer of too many corners.
 fn large(out: &mut [u8], filled: usize, count: u64) -> usize {
     let now = answers::word(out, filled, b"the answer would have ");
-    let then = text::units::grouped(out, now, count);
-    answers::word(out, then, b" corners, 1,024 are allowed")
+    let then = units::grouped(out, now, count);
+    allowed(out, then, b" corners, ", limits::MAX_CORNERS)
+}
+
+// How many of something are allowed.
+fn allowed(out: &mut [u8], filled: usize, what: &[u8], limit: usize) -> usize {
+    let now = answers::word(out, filled, what);
+    let then = units::grouped(out, now, limit as u64);
+    answers::word(out, then, b" are allowed")
 }
 
 // Adds the sentence of a refusal that blames this shape, or none.
@@ -77,7 +84,7 @@ fn of_sweep(out: &mut [u8], filled: usize, told: &[u64], list: &[i32]) -> usize 
             list.len(),
             b" numbers; each point takes two, and one point there must be",
         ),
-        2 => amount(out, now, list.len() / 2, b" points, 1,024 are allowed"),
+        2 => too_many(out, now, list.len() / 2, b" points, ", limits::MAX_POINTS),
         _ => far(out, now, b", point ", list),
     }
 }
@@ -85,8 +92,14 @@ fn of_sweep(out: &mut [u8], filled: usize, told: &[u64], list: &[i32]) -> usize 
 // How many of something there are, and what is wrong with that.
 fn amount(out: &mut [u8], filled: usize, count: usize, why: &[u8]) -> usize {
     let now = answers::word(out, filled, b" has ");
-    let then = text::units::grouped(out, now, count as u64);
+    let then = units::grouped(out, now, count as u64);
     answers::word(out, then, why)
+}
+
+// How many of something there are, and how many are allowed.
+fn too_many(out: &mut [u8], filled: usize, count: usize, what: &[u8], limit: usize) -> usize {
+    let now = amount(out, filled, count, b"");
+    allowed(out, now, what, limit)
 }
 
 fn count(out: &mut [u8], filled: usize, told: &[u64], list: &[i32]) -> usize {
@@ -101,17 +114,13 @@ fn count(out: &mut [u8], filled: usize, told: &[u64], list: &[i32]) -> usize {
 
 fn corners(out: &mut [u8], filled: usize, told: &[u64], list: &[i32]) -> usize {
     let now = blamed(out, filled, told);
-    amount(out, now, list.len() / 2, b" corners, 1,024 are allowed")
+    too_many(out, now, list.len() / 2, b" corners, ", limits::MAX_CORNERS)
 }
 
 fn range(out: &mut [u8], filled: usize, told: &[u64], list: &[i32]) -> usize {
     if 8 < at(told, 3) {
-        return reading(
-            out,
-            filled,
-            at(told, 3),
-            b" is outside -1000000 to 1000000 mm",
-        );
+        let now = reading(out, filled, at(told, 3), b" is");
+        return outside(out, now);
     }
     let now = blamed(out, filled, told);
     far(out, now, b", corner ", list)
@@ -120,25 +129,31 @@ fn range(out: &mut [u8], filled: usize, told: &[u64], list: &[i32]) -> usize {
 // The first corner or point that is out of range.
 fn far(out: &mut [u8], filled: usize, label: &[u8], list: &[i32]) -> usize {
     let now = answers::labelled(out, filled, label, (first_far(list) / 2) as u64);
-    answers::word(
-        out,
-        now,
-        b" has a coordinate outside -1000000 to 1000000 mm",
-    )
+    let then = answers::word(out, now, b" has a coordinate");
+    outside(out, then)
+}
+
+// What coordinates must not be.
+fn outside(out: &mut [u8], filled: usize) -> usize {
+    let now = answers::word(out, filled, b" outside ");
+    let then = bounds(out, now, limits::MAX_COORDINATE);
+    answers::word(out, then, b" mm")
+}
+
+// From where to where numbers go.
+fn bounds(out: &mut [u8], filled: usize, limit: i32) -> usize {
+    let size = numbers::size(numbers::wide(limit));
+    let now = answers::labelled(out, filled, b"-", size);
+    answers::labelled(out, now, b" to ", size)
 }
 
 // The position of the first number that is out of range.
 fn first_far(list: &[i32]) -> usize {
     let mut i = 0;
-    while i < list.len() && is_near(list[i]) {
+    while i < list.len() && !limits::outside(list[i]) {
         i += 1;
     }
     i
-}
-
-// Whether a number is in range.
-fn is_near(number: i32) -> bool {
-    -GREATEST <= number && number <= GREATEST
 }
 
 // The reading that is refused, and why.
@@ -193,22 +208,14 @@ fn start(out: &mut [u8], filled: usize, told: &[u64], list: &[i32]) -> usize {
 // The refusals that blame no shape.
 fn of_answer(out: &mut [u8], filled: usize, told: &[u64]) -> usize {
     match at(told, 1) {
-        7 => answers::word(
-            out,
-            filled,
-            b"a corner of the answer would lie outside -1000000 to 1000000 mm",
-        ),
+        7 => far_answer(out, filled),
         9 => answers::word(
             out,
             filled,
             b"the shapes are not apart; the four lines are told only of shapes that are",
         ),
         10 => answers::word(out, filled, b"a point or a segment has no width"),
-        11 => answers::word(
-            out,
-            filled,
-            b"a direction must not be 0 0, and each part must lie from -2000000 to 2000000",
-        ),
+        11 => direction(out, filled),
         12 => answers::word(
             out,
             filled,
@@ -217,6 +224,22 @@ fn of_answer(out: &mut [u8], filled: usize, told: &[u64]) -> usize {
         13 => answers::word(out, filled, b"the shapes are on different floors"),
         _ => of_record(out, filled, told),
     }
+}
+
+// An answer with a corner out of range.
+fn far_answer(out: &mut [u8], filled: usize) -> usize {
+    let now = answers::word(out, filled, b"a corner of the answer would lie");
+    outside(out, now)
+}
+
+// A direction that is none.
+fn direction(out: &mut [u8], filled: usize) -> usize {
+    let now = answers::word(
+        out,
+        filled,
+        b"a direction must not be 0 0, and each part must lie from ",
+    );
+    bounds(out, now, limits::MAX_PART)
 }
 
 // The refusals of walks, books and tablets.

@@ -10,11 +10,11 @@ ghost use Rattle.plane.specs.Refusal.{outside as Refusal·outside};
 pub const MAX_CORNERS: usize = 1_024;
 
 // How many points a sweep may have: the paper's dots.
-const MAX_POINTS: usize = 1_024;
+pub const MAX_POINTS: usize = 1_024;
 
-const MAX_COORDINATE: i32 = 1_000_000;
+pub const MAX_COORDINATE: i32 = 1_000_000;
 
-const MAX_PART: i32 = 2_000_000;
+pub const MAX_PART: i32 = 2_000_000;
 
 const MAX_FLOOR: u32 = 65_535;
 

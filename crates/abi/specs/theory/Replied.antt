@@ -15,10 +15,10 @@ use Rattle.plane.specs.Reply.{Reply}
 use Rattle.plane.specs.Floor.{on, writtenBetween}
 use Rattle.abi.specs.Packing.{firstField, packed, Fits}
 use Rattle.abi.specs.Calls.{stored}
-use Rattle.abi.specs.Passing.{Room, Deliverable, Replied}
+use Rattle.abi.specs.Passing.{asked, Room, Deliverable, Replied}
 use Rattle.abi.specs.theory.Fits.{pair-fits}
 use Rattle.abi.specs.theory.Alike.{agree, agree-self}
-use Rattle.abi.specs.theory.Stored.{asked, pair-same, pair-delivered, pair-stored}
+use Rattle.abi.specs.theory.Stored.{pair-same, pair-delivered, pair-stored}
 
 module _ (combined : List Point → List Point → List Point) (s : List ℤ) (h : ℕ) (t : List ℤ) (k : ℕ) (out : List ℕ) (n : ℕ)
     (room : Room (length out) n) (shape : List ℤ) (long : length shape ≡ 2 * maxCorners) where

@@ -36,7 +36,7 @@ use Rattle.journal.specs.theory.Bytes.{word-length, words-length}
 use Rattle.journal.specs.theory.Storing.{words-more}
 use Rattle.abi.specs.Packing.{firstField}
 use Rattle.abi.specs.Calls.{floorsRow, pairRows, answerRows, overBytes, stored, pairBytes}
-use Rattle.abi.specs.Passing.{Room, Deliverable}
+use Rattle.abi.specs.Passing.{asked, Room, Deliverable}
 use Rattle.abi.specs.theory.Alike.{Agree, refusals, sames}
 
 -- ---- numbers as bytes
@@ -126,10 +126,6 @@ answer-same shape out old room x = go (tooMany shape) refl
         (room-same shape out old room e)
 
 -- ---- a question that writes a shape made of two
-
--- as `sumWritten` and `mergeWritten` are
-abbrev pub asked : (List Point → List Point → List Point) → List ℤ → List ℤ → List ℤ → Written
-asked combined a b out = pairWritten a b (combined (points a) (points b)) out
 
 module _ (combined : List Point → List Point → List Point) (l : List ℤ) (f : ℕ) (m : List ℤ) (g : ℕ) (s : List ℤ) (h : ℕ)
     (t : List ℤ) (k : ℕ) (out : List ℕ) (old : List ℤ) (room : Room (length out) (length old)) where

@@ -14,14 +14,14 @@ abbrev μ-loop : tie.MeasureT-loop
 loop-holds : tie.Need-loop-holds Inv-loop μ-loop
 loop-holds c = search needs
 
-mul-is-near : tie.Need-mul-is-near Inv-loop μ-loop
-mul-is-near c = search needs
+mul-outside : tie.Need-mul-outside Inv-loop μ-loop
+mul-outside c = search needs
 
-shared-slice-copy-out-is-near : tie.Need-shared-slice-copy-out-is-near Inv-loop μ-loop
-shared-slice-copy-out-is-near c = search needs
+shared-slice-copy-out-outside : tie.Need-shared-slice-copy-out-outside Inv-loop μ-loop
+shared-slice-copy-out-outside c = search needs
 
-is-near-requires : tie.Need-is-near-requires Inv-loop μ-loop
-is-near-requires c κs = search needs
+outside-requires : tie.Need-outside-requires Inv-loop μ-loop
+outside-requires c κs = search needs
 
 add-i : tie.Need-add-i Inv-loop μ-loop
 add-i c = search needs
@@ -45,9 +45,9 @@ first-far-spec =
     Inv-loop
     μ-loop
     loop-holds
-    mul-is-near
-    shared-slice-copy-out-is-near
-    is-near-requires
+    mul-outside
+    shared-slice-copy-out-outside
+    outside-requires
     add-i
     loop-less
     loop-again
