@@ -11,7 +11,7 @@ pub fn page(out: &mut [u8], filled: usize) -> usize {
 
 // Adds the program's name and version.
 pub fn version(out: &mut [u8], filled: usize) -> usize {
-    answers::word(out, filled, b"cocklesway query 0.2\n")
+    answers::word(out, filled, b"cocklesway query 0.3\n")
 }
 
 // Adds how the program is started, what fields hold and what names are.
@@ -38,7 +38,8 @@ fn usage(out: &mut [u8], filled: usize) -> usize {
         filled,
         b"Exact answers about convex shapes on floors, in whole millimetres.
 
-    query [--words] [FILE ..]   answers the lines of the files in turn, or of standard input
+    query [--words] [FILE ..]   answers the lines of the files in turn, or of standard input;
+                                a file - is standard input too, behind a map for example
     query --help, -h            shows this page, as the line help does
     query --version             shows the version
 

@@ -82,11 +82,7 @@ fn answer_inputs(
     named: &mut [i32],
 ) {
     if !asked.files {
-        let reading = lines::begin(libc::STDIN_FILENO, 0, asked.words);
-        let last = answer_all(reading, b"", out, chunk, line, values, cells, named);
-        if last.failed {
-            os::fail(b"cannot read standard input");
-        }
+        answer_standard(asked.words, out, chunk, line, values, cells, named);
         return;
     }
     answer_files(
@@ -99,6 +95,24 @@ fn answer_inputs(
         cells,
         named,
     );
+}
+
+// Answers the lines of standard input; answers whether words are on behind it.
+fn answer_standard(
+    words: bool,
+    out: &mut [u8],
+    chunk: &mut [u8],
+    line: &mut [u8],
+    values: &mut [i32],
+    cells: &mut [usize],
+    named: &mut [i32],
+) -> bool {
+    let reading = lines::begin(libc::STDIN_FILENO, 0, words);
+    let last = answer_all(reading, b"", out, chunk, line, values, cells, named);
+    if last.failed {
+        os::fail(b"cannot read standard input");
+    }
+    last.words
 }
 
 // Answers the lines of each file that is named, in turn.
@@ -158,6 +172,9 @@ fn answer_path(
 ) -> bool {
     if options::is_option(path) {
         return words;
+    }
+    if options::is_standard_input(path) {
+        return answer_standard(words, out, chunk, line, values, cells, named);
     }
     let source = os::open_read(path);
     if source < 0 {

@@ -1,4 +1,5 @@
-// The arguments that the program was started with: options begin with `-`, all others name files.
+// The arguments that the program was started with: options begin with `-`, all others name files; `-` alone is standard
+// input.
 
 // What the options ask for.
 pub struct Options {
@@ -32,7 +33,12 @@ pub fn all(count: usize) -> Options {
 
 // Whether an argument is an option.
 pub fn is_option(argument: &[u8]) -> bool {
-    0 < argument.len() && argument[0] == b'-'
+    1 < argument.len() && argument[0] == b'-'
+}
+
+// Whether an argument names standard input.
+pub fn is_standard_input(argument: &[u8]) -> bool {
+    check::same(argument, b"-")
 }
 
 // Reads argument i.
