@@ -10,14 +10,14 @@ use Prim.Native.Nat.{ℕ, _+_, _≤_, _<_, min}
 use lib.IntN.{ℤ, pos}
 use lib.ListN.{length, take, drop}
 use Rattle.plane.specs.Point.{Point, points, numbers, corner, _⊕_}
-use Rattle.plane.specs.Reply.{answered, refused, Row, row, firstRow}
+use Rattle.plane.specs.Reply.{answered, refused, Row, row, firstRow, NoneApply, First}
 use Rattle.plane.specs.Refusal.{Valid}
 use Rattle.plane.specs.Corner.{Corner, shapeOf, sums}
 use Rattle.plane.specs.Forms.{edges}
 use Rattle.plane.specs.Output.{noRoom, overwritten}
 use Rattle.plane.specs.Combine.{sumWritten}
 use Rattle.plane.specs.Floor.{Floored, writtenBetween}
-use Rattle.plane.specs.theory.refusals.Rows.{NoneApply, First, firstRow-given, firstRow-none, firstRow-refused}
+use Rattle.plane.specs.theory.refusals.Rows.{firstRow-given, firstRow-none, firstRow-refused}
 use Rattle.plane.specs.theory.refusals.Floors.{between-different}
 use Rattle.plane.specs.theory.sum.EdgeCount.{shared}
 use Rattle.calipers.specs.Places.{places}

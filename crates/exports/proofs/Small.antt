@@ -12,12 +12,12 @@ use mir.Facts.{toZ-ofZ}
 use Rattle.integer.specs.Machine.{known, machine-fits}
 use Rattle.plane.specs.Point.{Point, points}
 use Rattle.plane.specs.Direction.{support}
-use Rattle.plane.specs.Reply.{Reply, answered, Row}
+use Rattle.plane.specs.Reply.{Reply, answered, Row, NoneApply}
 use Rattle.plane.specs.Refusal.{shapeRows, Valid}
 use Rattle.plane.specs.Floor.{withFloor}
 use Rattle.plane.specs.Furthest.{directionRows, furthestReply}
 use Rattle.plane.specs.theory.refusals.Accept.{accepted→valid}
-use Rattle.plane.specs.theory.refusals.Rows.{NoneApply, firstRow-answered, firstRow-none}
+use Rattle.plane.specs.theory.refusals.Rows.{firstRow-answered, firstRow-none}
 use Rattle.plane.specs.theory.refusals.Floors.{withFloor-answered}
 use Rattle.plane.specs.theory.support.Bounds.{support-size}
 use Rattle.plane.specs.theory.direction.Rows.{direction-near}

@@ -12,7 +12,7 @@ use mathlib.Core.Logic.{_⊎_}
 use Prim.Native.Nat.{ℕ, _<_}
 use lib.IntN.{ℤ, pos, _*ℤ_}
 use lib.ListN.{length}
-use Rattle.plane.specs.Point.{Point, points, numbers}
+use Rattle.plane.specs.Point.{Point, points, numbers, _∈_, _⊆_}
 use Rattle.plane.specs.Shape.{IsShape}
 use Rattle.plane.specs.Reply.{answered}
 use Rattle.plane.specs.Refusal.{Valid}
@@ -21,7 +21,6 @@ use Rattle.plane.specs.Separation.{inside, apart, touching, relationReply}
 use Rattle.plane.specs.Mean.{CommonPoint}
 use Rattle.plane.specs.Floor.{Floored, on, between}
 use Rattle.plane.specs.Clearance.{top, bottom, nearest, clearanceReply}
-use Rattle.plane.specs.theory.lists.Members.{_∈_, _⊆_}
 use Rattle.laws.specs.Grouping.{corners, sumCall, mergeCall, Gives, Called}
 use Rattle.strips.specs.OwnDirection.{answerTop, answerBottom}
 use Rattle.growth.specs.Grown.{grown, placed, driven, relationNumber, mirrorCall, growCall, grownShape}

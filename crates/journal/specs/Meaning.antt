@@ -13,10 +13,10 @@ use lib.Dec.{eqb, leb}
 use lib.ListN.{length, take, drop, set, replicate}
 use lib.IntN.{ℤ, pos}
 use Rattle.plane.specs.Point.{points}
-use Rattle.plane.specs.Reply.{answered, refused, Row, row}
+use Rattle.plane.specs.Reply.{answered, refused, Row, row, NoneApply, First}
 use Rattle.plane.specs.Refusal.{Valid}
 use Rattle.plane.specs.Output.{written, noRoom}
-use Rattle.plane.specs.theory.refusals.Rows.{NoneApply, First, firstRow-given, firstRow-none, firstRow-answered, firstRow-refused}
+use Rattle.plane.specs.theory.refusals.Rows.{firstRow-given, firstRow-none, firstRow-answered, firstRow-refused}
 use Rattle.plane.specs.Floor.{on, withFloor, writtenOn}
 use Rattle.plane.specs.theory.refusals.Floors.{withFloor-answered, withFloor-refused}
 use Rattle.journal.specs.Format.{recorded, recordedPlain, whole, records, name, floor, list, bad}

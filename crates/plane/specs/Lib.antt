@@ -8,7 +8,6 @@ pub mod Forms
 pub mod Cycle
 pub mod Reply
 pub mod Refusal
-pub mod Judge
 pub mod Direction
 pub mod Corner
 pub mod Output
@@ -16,7 +15,6 @@ pub mod VectorSum
 pub mod Face
 pub mod Furthest
 pub mod Primitive
-pub mod Combine
 pub mod Sweep
 pub mod Measure
 pub mod Separation

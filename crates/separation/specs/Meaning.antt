@@ -9,13 +9,12 @@ use Prim.Native.Nat.{ℕ, _<_}
 use lib.IntN.{pos}
 use lib.ListN.{length}
 use lib.Signed.{_≤ℤ_, _<ℤ_}
-use Rattle.plane.specs.Point.{Point, origin, corner, _⊖_}
+use Rattle.plane.specs.Point.{Point, origin, corner, _⊖_, _∈_}
 use Rattle.plane.specs.Turn.{turn}
 use Rattle.plane.specs.Shape.{next, IsShape}
 use Rattle.plane.specs.Direction.{value, support}
 use Rattle.plane.specs.Corner.{shapeOf}
 use Rattle.plane.specs.Separation.{sameCorners, inside, apart, touching}
-use Rattle.plane.specs.theory.lists.Members.{_∈_}
 use Rattle.separation.specs.theory.Inside.{sameCorners→equal, equal→sameCorners, inside→reach, reach→inside, outside→direction}
 use Rattle.separation.specs.theory.Inside.{inside-refl, inside-trans, inside-antisym, inside→merge, merge→inside}
 use Rattle.separation.specs.theory.InsideShape.{inside→each, each→inside, polygon-inside→left, polygon-left→inside}

@@ -12,14 +12,13 @@ use Prim.Native.Nat.{ℕ, _<_}
 use lib.IntN.{ℤ, pos, _-ℤ_, _*ℤ_}
 use lib.ListN.{length}
 use lib.Signed.{_≤ℤ_, _<ℤ_}
-use Rattle.plane.specs.Point.{Point, origin, points}
+use Rattle.plane.specs.Point.{Point, origin, points, _∈_}
 use Rattle.plane.specs.Direction.{value, support}
 use Rattle.plane.specs.Reply.{answered}
 use Rattle.plane.specs.Refusal.{Valid}
 use Rattle.plane.specs.Measure.{widthReply}
 use Rattle.plane.specs.Separation.{apart}
 use Rattle.plane.specs.Clearance.{nearest, clearanceReply}
-use Rattle.plane.specs.theory.lists.Members.{_∈_}
 use Rattle.separation.specs.theory.Sector.{square-positive}
 use Rattle.strips.specs.Strip.{least, spread, gapIn, Corridor}
 use Rattle.strips.specs.OwnDirection.{outOf, towards, answerTop, answerBottom}

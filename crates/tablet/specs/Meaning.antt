@@ -10,8 +10,8 @@ use lib.IntN.{ℤ, pos, negsuc, _*ℤ_}
 use lib.Ieee.{Float, fin, binary64, mul, fits, ofInt, round, size, units, odd}
 use Rattle.integer.specs.Bound.{Within}
 use Rattle.plane.specs.Limits.{maxCoordinate}
-use Rattle.plane.specs.Reply.{answered, refused, Row}
-use Rattle.plane.specs.theory.refusals.Rows.{NoneApply, First, firstRow-given, firstRow-none, firstRow-answered, firstRow-refused}
+use Rattle.plane.specs.Reply.{answered, refused, Row, NoneApply, First}
+use Rattle.plane.specs.theory.refusals.Rows.{firstRow-given, firstRow-none, firstRow-answered, firstRow-refused}
 use Rattle.tablet.specs.Double.{finite, over, under, holding}
 use Rattle.tablet.specs.Reading.{double, top, bottom, wholeNumber, readAs, cornerRows, tabletReply, sentBack, tabletSent}
 use Rattle.tablet.specs.theory.Value.{whole-value, value-whole, values-equal, held-value, scaled-value}

@@ -10,15 +10,12 @@ use Prim.Native.Nat.{_<_}
 use lib.IntN.{ℤ, pos}
 use lib.ListN.{length}
 use lib.Signed.{_<ℤ_}
-use Rattle.plane.specs.Point.{Point, point, points}
-use Rattle.plane.specs.Reply.{Reply, answered, refused, Row}
+use Rattle.plane.specs.Point.{Point, point, points, _∈_}
+use Rattle.plane.specs.Reply.{Reply, answered, refused, Row, First}
 use Rattle.plane.specs.Direction.{value}
 use Rattle.plane.specs.Separation.{apart}
 use Rattle.plane.specs.Offer.{below, offerReply}
-use Rattle.plane.specs.Floor.{Floored, pairRows, between}
-use Rattle.plane.specs.theory.lists.Members.{_∈_}
-use Rattle.plane.specs.theory.refusals.Rows.{First}
-use Rattle.plane.specs.theory.refusals.Floors.{Same}
+use Rattle.plane.specs.Floor.{Floored, pairRows, between, Same}
 use Rattle.witness.specs.Found.{FoundBetween}
 use Rattle.witness.specs.theory.Below.{below→all, all→below, below→apart}
 use Rattle.witness.specs.theory.Offered.{accepted-apart, exists-accepted, found-refused, found-apart, found-none, none-found}

@@ -16,7 +16,7 @@ use lib.IntN.{ℤ, pos}
 use lib.ListN.{length}
 use Rattle.plane.specs.Limits.{maxCorners, maxFloor}
 use Rattle.plane.specs.Point.{points}
-use Rattle.plane.specs.Reply.{Reply, answered, refused, row, firstRow}
+use Rattle.plane.specs.Reply.{Reply, answered, refused, row, firstRow, NoneApply}
 use Rattle.plane.specs.Refusal.{badCount, tooMany, shapeRows}
 use Rattle.plane.specs.Judge.{judged}
 use Rattle.plane.specs.Separation.{relationReply}
@@ -24,7 +24,7 @@ use Rattle.plane.specs.Floor.{on, withFloor, floorRow, between}
 use Rattle.plane.specs.Floor.{pairRows as doorRows}
 use Rattle.plane.specs.theory.lists.Flat.{points-length}
 use Rattle.plane.specs.theory.refusals.Accept.{count-good}
-use Rattle.plane.specs.theory.refusals.Rows.{NoneApply, Outcome, given, passed, outcome, none-join}
+use Rattle.plane.specs.theory.refusals.Rows.{Outcome, given, passed, outcome, none-join}
 use Rattle.plane.specs.theory.refusals.Rows.{firstRow-append, firstRow-given, firstRow-none, firstRow-passed}
 use Rattle.journal.specs.Bytes.{wordsAt}
 use Rattle.journal.specs.theory.Decode.{wordsAt-length}

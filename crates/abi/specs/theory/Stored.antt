@@ -18,7 +18,7 @@ use mir.Syntax.{w32}
 use mir.Val.{SFits, ofZ}
 use mir.Facts.{fits-ofZ, fits-lt-pow}
 use Rattle.plane.specs.Point.{Point, points, numbers}
-use Rattle.plane.specs.Reply.{Reply, answered, refused, Row, firstRow}
+use Rattle.plane.specs.Reply.{Reply, answered, refused, Row, firstRow, NoneApply}
 use Rattle.plane.specs.Refusal.{tooMany, someOutside, shapeRows}
 use Rattle.plane.specs.Output.{Written, noRoom, overwritten}
 use Rattle.plane.specs.Output.{answerRows as doorAnswerRows}
@@ -28,7 +28,7 @@ use Rattle.plane.specs.Floor.{pairRows as doorRows}
 use Rattle.plane.specs.theory.lists.Flat.{numbers-length}
 use Rattle.plane.specs.theory.refusals.Accept.{few-corners}
 use Rattle.plane.specs.theory.refusals.Floors.{between-rows}
-use Rattle.plane.specs.theory.refusals.Rows.{NoneApply, Outcome, given, passed, outcome, none-append}
+use Rattle.plane.specs.theory.refusals.Rows.{Outcome, given, passed, outcome, none-append}
 use Rattle.plane.specs.theory.refusals.Rows.{firstRow-append, firstRow-given, firstRow-none, firstRow-passed}
 use Rattle.plane.specs.theory.refusals.Write.{none-output, passed-output}
 use Rattle.journal.specs.Bytes.{pair, word, words}

@@ -18,26 +18,14 @@ use native.Mathlib.Omega.{arith}
 use borrow.Author.Tests.{ne-eqb}
 use lib.IntN.{ℤ}
 use Rattle.plane.specs.Point.{Point}
-use Rattle.plane.specs.Reply.{Reply, answered, refused, Row, firstRow}
+use Rattle.plane.specs.Reply.{Reply, answered, refused, Row, firstRow, NoneApply, First}
 use Rattle.plane.specs.Refusal.{shapeRows, Valid}
 use Rattle.plane.specs.Output.{Written}
-use Rattle.plane.specs.Floor.{Floored, withFloor, floorRow, pairRows, between, writtenBetween}
+use Rattle.plane.specs.Floor.{Floored, withFloor, floorRow, pairRows, between, writtenBetween, Same}
 use Rattle.plane.specs.theory.refusals.Accept.{valid→accepted}
-use Rattle.plane.specs.theory.refusals.Rows.{
-  NoneApply,
-  First,
-  Outcome,
-  given,
-  passed,
-  outcome,
-  row-given,
-  firstRow-append,
-  firstRow-given,
-  firstRow-none,
-  firstRow-passed,
-}
+use Rattle.plane.specs.theory.refusals.Rows.{Outcome, given, passed, outcome, row-given, firstRow-append, firstRow-given, firstRow-none, firstRow-passed}
 use Rattle.plane.specs.theory.refusals.Write.{Wrote, wrote-given, wrote-passed, first-output}
-use Rattle.plane.specs.theory.refusals.Floors.{Same, between-same, written-same}
+use Rattle.plane.specs.theory.refusals.Floors.{between-same, written-same}
 use Rattle.admission.specs.declared.Admission.the-variants as Admission
 use Rattle.admission.specs.Admission.{Refuses, AdmittedPair}
 

@@ -14,10 +14,9 @@ use lib.ListN.{length, take, drop, length-take, length-drop}
 use lib.Seq.{take-all, take-add, drop-drop}
 use Rattle.plane.specs.Point.{Point, numbers}
 use Rattle.plane.specs.Output.{noRoom}
-use Rattle.plane.specs.Floor.{Floored}
+use Rattle.plane.specs.Floor.{Floored, Same}
 use Rattle.plane.specs.theory.lists.Flat.{numbers-append, numbers-length}
-use Rattle.plane.specs.theory.refusals.Rows.{NoneApply}
-use Rattle.plane.specs.theory.refusals.Floors.{Same}
+use Rattle.plane.specs.Reply.{NoneApply}
 use Rattle.calipers.specs.Walk.{Walk, begun}
 use Rattle.calipers.specs.PlaceAfter.{wholeSum, placeAfter}
 use Rattle.calipers.specs.Part.{partCorners, handedBack, surveyRows}

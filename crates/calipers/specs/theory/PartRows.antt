@@ -13,25 +13,15 @@ use native.Mathlib.Omega.{arith}
 use lib.IntN.{ℤ, pos}
 use lib.ListN.{length, take}
 use Rattle.plane.specs.Point.{Point, numbers}
-use Rattle.plane.specs.Reply.{answered, refused, Row, row, firstRow}
+use Rattle.plane.specs.Reply.{answered, refused, Row, row, firstRow, NoneApply}
 use Rattle.plane.specs.Refusal.{tooMany, someOutside, shapeRows}
 use Rattle.plane.specs.Output.{noRoom, answerRows, overwritten}
 use Rattle.plane.specs.Combine.{sumWritten}
-use Rattle.plane.specs.Floor.{Floored, pairRows, writtenBetween}
-use Rattle.plane.specs.theory.refusals.Rows.{
-  NoneApply,
-  none-append,
-  none-join,
-  firstRow-append,
-  firstRow-passed,
-  firstRow-given,
-  firstRow-none,
-  firstRow-refused,
-  firstRow-answered,
-}
+use Rattle.plane.specs.Floor.{Floored, pairRows, writtenBetween, Same}
+use Rattle.plane.specs.theory.refusals.Rows.{none-append, none-join, firstRow-append, firstRow-passed, firstRow-given, firstRow-none, firstRow-refused, firstRow-answered}
 use Rattle.plane.specs.theory.refusals.Write.{none-output}
 use Rattle.plane.specs.theory.refusals.Accept.{valid→accepted}
-use Rattle.plane.specs.theory.refusals.Floors.{Same, between-rows, same→none, none→same}
+use Rattle.plane.specs.theory.refusals.Floors.{between-rows, same→none, none→same}
 use Rattle.polygon.specs.theory.Fronts.{overwritten-front}
 use Rattle.calipers.specs.Walk.{Walk, begun}
 use Rattle.calipers.specs.PlaceAfter.{wholeSum, isPlace}

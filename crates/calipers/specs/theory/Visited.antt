@@ -10,12 +10,12 @@ use native.Mathlib.Omega.{arith}
 use lib.ListN.{length}
 use lib.Signed.{_≤ℤ_}
 use Rattle.integer.specs.Linear.{lia, linear, _&_}
-use Rattle.plane.specs.Point.{Point, corner, _⊕_}
+use Rattle.plane.specs.Point.{Point, corner, _⊕_, _∈_}
 use Rattle.plane.specs.Shape.{IsShape}
 use Rattle.plane.specs.Direction.{value}
 use Rattle.plane.specs.Corner.{Corner, sums}
 use Rattle.plane.specs.Forms.{edges}
-use Rattle.plane.specs.theory.lists.Members.{_∈_, point-path, point-discrete, sums-member, position-member}
+use Rattle.plane.specs.theory.lists.Members.{point-path, point-discrete, sums-member, position-member}
 use Rattle.plane.specs.theory.forms.Vector.{value-⊕, ⊕-comm}
 use Rattle.plane.specs.theory.support.Support.{value-le-support}
 use Rattle.plane.specs.theory.support.Corners.{corner-support}

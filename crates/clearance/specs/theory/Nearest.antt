@@ -14,13 +14,13 @@ use lib.ListN.{length}
 use lib.Signed.{_≤ℤ_, _<ℤ_}
 use Rattle.integer.specs.Linear.{linear, lia, _&_}
 use Rattle.integer.specs.Order.{_<×<_, _<×≤_, _≡×_, contra≤, le-antisym}
-use Rattle.plane.specs.Point.{Point, corner, opposite}
+use Rattle.plane.specs.Point.{Point, corner, opposite, _∈_}
 use Rattle.plane.specs.Shape.{IsShape}
 use Rattle.plane.specs.Direction.{value, support}
 use Rattle.plane.specs.Separation.{apart}
 use Rattle.plane.specs.Mean.{times, weight, heap, gap, share, AtMost, CommonPoint}
 use Rattle.plane.specs.Clearance.{Candidate, top, bottom, nearest}
-use Rattle.plane.specs.theory.lists.Members.{_∈_, member-position}
+use Rattle.plane.specs.theory.lists.Members.{member-position}
 use Rattle.plane.specs.theory.forms.Vector.{value-origin, value-turned}
 use Rattle.plane.specs.theory.support.Support.{value-le-support, support-attained}
 use Rattle.separation.specs.theory.Apart.{apart→direction, apart-sym, Separated}

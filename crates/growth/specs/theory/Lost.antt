@@ -14,11 +14,10 @@ use Prim.Native.Nat.{ℕ, _<_}
 use native.Mathlib.Omega.{arith}
 use lib.IntN.{pos}
 use lib.ListN.{length}
-use Rattle.plane.specs.Point.{Point}
+use Rattle.plane.specs.Point.{Point, _∈_, _⊆_}
 use Rattle.plane.specs.Shape.{IsShape}
 use Rattle.plane.specs.Corner.{Corner}
 use Rattle.plane.specs.Separation.{inside, apart, touching}
-use Rattle.plane.specs.theory.lists.Members.{_∈_, _⊆_}
 use Rattle.plane.specs.theory.hull.ShapeOf.{shapeOf-corner, shape-own}
 use Rattle.separation.specs.theory.Inside.{inside-refl, inside-antisym, outside→direction, direction→outside}
 use Rattle.separation.specs.theory.InsideShape.{inside→each}

@@ -15,13 +15,13 @@ use Rattle.integer.specs.Linear.{linear, lia, _&_}
 use Rattle.integer.specs.Order.{_<×<_, _<×≤_, _≤×≤_, contra≤, le-antisym}
 use Rattle.plane.specs.Point.{Point, points, numbers}
 use Rattle.plane.specs.Shape.{IsShape}
-use Rattle.plane.specs.Reply.{answered}
+use Rattle.plane.specs.Reply.{answered, NoneApply}
 use Rattle.plane.specs.Refusal.{Valid, shapeRows}
 use Rattle.plane.specs.Separation.{apart, relationReply}
 use Rattle.plane.specs.Clearance.{nearest, numbersOf, clearanceReply}
 use Rattle.plane.specs.Floor.{on, withFloor, between}
 use Rattle.plane.specs.theory.lists.Flat.{points-numbers}
-use Rattle.plane.specs.theory.refusals.Rows.{NoneApply, none-append, none-join, firstRow-none, firstRow-answered}
+use Rattle.plane.specs.theory.refusals.Rows.{none-append, none-join, firstRow-none, firstRow-answered}
 use Rattle.plane.specs.theory.refusals.Accept.{accepted→valid, valid→accepted}
 use Rattle.plane.specs.theory.refusals.Floors.{between-same}
 use Rattle.clearance.specs.theory.Nearest.{nearest-is-whole}

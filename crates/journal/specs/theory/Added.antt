@@ -17,11 +17,11 @@ use lib.ListN.{length, take, set, replicate}
 use lib.Seq.{set-out, take-all}
 use lib.IntN.{ℤ, pos}
 use Rattle.plane.specs.Point.{points}
-use Rattle.plane.specs.Reply.{Reply, answered, refused, Row, row}
+use Rattle.plane.specs.Reply.{Reply, answered, refused, Row, row, NoneApply, First, here, later}
 use Rattle.plane.specs.Refusal.{Valid}
 use Rattle.plane.specs.Output.{written, noRoom}
 use Rattle.plane.specs.theory.lists.Flat.{points-length}
-use Rattle.plane.specs.theory.refusals.Rows.{NoneApply, First, here, later, Outcome, given, passed, outcome, firstRow-given, firstRow-none}
+use Rattle.plane.specs.theory.refusals.Rows.{Outcome, given, passed, outcome, firstRow-given, firstRow-none}
 use Rattle.plane.specs.theory.refusals.Rows.{firstRow-answered, firstRow-refused}
 use Rattle.plane.specs.theory.refusals.Accept.{accepted→valid}
 use Rattle.plane.specs.Floor.{Floored, on, writtenOn}

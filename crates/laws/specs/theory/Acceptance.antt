@@ -13,7 +13,7 @@ use lib.ListN.{length}
 use lib.Seq.{take-at}
 use Rattle.plane.specs.Limits.{maxCorners, maxCoordinate}
 use Rattle.plane.specs.Point.{Point, points, numbers}
-use Rattle.plane.specs.Reply.{answered, Row}
+use Rattle.plane.specs.Reply.{answered, Row, NoneApply}
 use Rattle.plane.specs.Shape.{breaks, precedes}
 use Rattle.plane.specs.Refusal.{InRange, Valid, shapeRows, badCount, tooMany, outside, someOutside, equalPair, leftBroken, ruleBroken}
 use Rattle.plane.specs.Refusal.{badStart}
@@ -21,13 +21,13 @@ use Rattle.plane.specs.Judge.{judged}
 use Rattle.plane.specs.Corner.{shapeOf, sums}
 use Rattle.plane.specs.Output.{Written, answerRows, noRoom, overwritten}
 use Rattle.plane.specs.Combine.{sumWritten, mergeWritten}
-use Rattle.plane.specs.Floor.{Floored, on, withFloor, writtenBetween}
+use Rattle.plane.specs.Floor.{Floored, on, withFloor, writtenBetween, Same}
 use Rattle.plane.specs.Meaning.{accepted-is-valid}
-use Rattle.plane.specs.theory.refusals.Rows.{NoneApply, none-join, firstRow-none}
+use Rattle.plane.specs.theory.refusals.Rows.{none-join, firstRow-none}
 use Rattle.plane.specs.theory.refusals.Write.{none-output}
 use Rattle.plane.specs.theory.lists.Flat.{points-length, numbers-points}
 use Rattle.plane.specs.theory.refusals.Accept.{valid→accepted, inRange→near}
-use Rattle.plane.specs.theory.refusals.Floors.{Same, written-same}
+use Rattle.plane.specs.theory.refusals.Floors.{written-same}
 use Rattle.laws.specs.Grouping.{corners, ShapeOn, sumCall, mergeCall, answeredWith, Gives, Fits}
 use Rattle.laws.specs.theory.Answer.{pairQuestion, pair-answered}
 

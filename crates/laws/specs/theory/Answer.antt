@@ -19,17 +19,17 @@ use Rattle.integer.specs.Order.{le-of-eq, le-trans, le-antisym}
 use Rattle.plane.specs.Limits.{maxCorners}
 use Rattle.plane.specs.Point.{Point, points, numbers}
 use Rattle.plane.specs.Shape.{IsShape}
-use Rattle.plane.specs.Reply.{answered, Row}
+use Rattle.plane.specs.Reply.{answered, Row, NoneApply}
 use Rattle.plane.specs.Refusal.{Valid, InRange, shapeRows}
 use Rattle.plane.specs.Direction.{support, max}
 use Rattle.plane.specs.Corner.{shapeOf, sums}
 use Rattle.plane.specs.Output.{Written, answerRows, overwritten}
 use Rattle.plane.specs.Combine.{pairWritten, sumWritten, mergeWritten}
-use Rattle.plane.specs.Floor.{Floored, on, writtenBetween}
-use Rattle.plane.specs.theory.refusals.Rows.{NoneApply, none-append, firstRow-answered}
+use Rattle.plane.specs.Floor.{Floored, on, writtenBetween, Same}
+use Rattle.plane.specs.theory.refusals.Rows.{none-append, firstRow-answered}
 use Rattle.plane.specs.theory.refusals.Write.{answered-output}
 use Rattle.plane.specs.theory.refusals.Accept.{few-corners, near→inRange}
-use Rattle.plane.specs.theory.refusals.Floors.{Same, withFloor-answered, written-same, between-answered}
+use Rattle.plane.specs.theory.refusals.Floors.{withFloor-answered, written-same, between-answered}
 use Rattle.plane.specs.theory.lists.Flat.{points-numbers, numbers-points, numbers-length}
 use Rattle.plane.specs.theory.lists.Members.{sums-some}
 use Rattle.plane.specs.theory.lists.Max.{left-le-max, max-comm, max-assoc, max-idem}

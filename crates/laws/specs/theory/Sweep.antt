@@ -19,9 +19,9 @@ use Rattle.plane.specs.Output.{written, answerRows}
 use Rattle.plane.specs.Combine.{mergeWritten}
 use Rattle.plane.specs.Sweep.{tooManyPoints, roomRows, ValidPoints, sweepWritten}
 use Rattle.plane.specs.theory.lists.Flat.{points-numbers, numbers-length}
-use Rattle.plane.specs.Floor.{Floored, writtenOn}
+use Rattle.plane.specs.Floor.{Floored, writtenOn, Same}
 use Rattle.plane.specs.theory.refusals.Write.{written-passed}
-use Rattle.plane.specs.theory.refusals.Floors.{Same, written-same}
+use Rattle.plane.specs.theory.refusals.Floors.{written-same}
 use Rattle.plane.specs.theory.refusals.Accept.{near→inRange, valid→accepted}
 use Rattle.plane.specs.theory.hull.ShapeOf.{shapeOf-same}
 use Rattle.plane.specs.theory.sweep.Few.{list-near, subset-near, append-near}

@@ -9,14 +9,14 @@ use Prim.Native.Nat.{ℕ}
 use native.Mathlib.Omega.{arith}
 use lib.IntN.{pos}
 use Rattle.plane.specs.Point.{Point, points}
-use Rattle.plane.specs.Reply.{Reply, answered, Row}
+use Rattle.plane.specs.Reply.{Reply, answered, Row, NoneApply}
 use Rattle.plane.specs.Refusal.{shapeRows}
 use Rattle.plane.specs.Furthest.{directionRows}
 use Rattle.plane.specs.Offer.{below, offerReply}
-use Rattle.plane.specs.Floor.{Floored, pairRows, between}
-use Rattle.plane.specs.theory.refusals.Rows.{NoneApply, none-join, firstRow-none}
+use Rattle.plane.specs.Floor.{Floored, pairRows, between, Same}
+use Rattle.plane.specs.theory.refusals.Rows.{none-join, firstRow-none}
 use Rattle.plane.specs.theory.refusals.Accept.{valid→accepted}
-use Rattle.plane.specs.theory.refusals.Floors.{Same, same→none}
+use Rattle.plane.specs.theory.refusals.Floors.{same→none}
 use Rattle.witness.specs.Found.{FoundBetween}
 use Rattle.witness.specs.declared.Found.the-variants as Found
 use Rattle.admission.specs.declared.Admission.the-variants as Admission

@@ -13,13 +13,13 @@ use lib.IntN.{ℤ, pos}
 use lib.ListN.{length, drop}
 use lib.Seq.{paste}
 use Rattle.plane.specs.Point.{Point, numbers}
-use Rattle.plane.specs.Reply.{Reply, answered, refused, Row, row, firstRow}
+use Rattle.plane.specs.Reply.{Reply, answered, refused, Row, row, firstRow, NoneApply}
 use Rattle.plane.specs.Refusal.{shapeRows, Valid}
 use Rattle.plane.specs.Floor.{withFloor}
 use Rattle.plane.specs.Output.{noRoom, overwritten, unlessRefused}
 use Rattle.plane.specs.theory.lists.Flat.{numbers-length}
 use Rattle.plane.specs.theory.refusals.Accept.{valid→accepted}
-use Rattle.plane.specs.theory.refusals.Rows.{NoneApply, none-join, firstRow-none}
+use Rattle.plane.specs.theory.refusals.Rows.{none-join, firstRow-none}
 use Rattle.plane.specs.theory.refusals.Write.{none-output}
 use Rattle.polygon.specs.Front.{Front}
 use Rattle.calipers.specs.Walk.{Walk, begun}

@@ -20,7 +20,7 @@ use Rattle.integer.specs.Linear.{linear, lia}
 use Rattle.integer.specs.Order.{_≡×_}
 use Rattle.plane.specs.Point.{Point, origin, points, corner}
 use Rattle.plane.specs.Shape.{IsShape}
-use Rattle.plane.specs.Reply.{answered, Row, row}
+use Rattle.plane.specs.Reply.{answered, Row, row, NoneApply}
 use Rattle.plane.specs.Refusal.{shapeRows, Valid}
 use Rattle.plane.specs.Direction.{value, support}
 use Rattle.plane.specs.Measure.{height, edgeSquared, widthEdge, widthCorner, widthRounded, widthReply}
@@ -28,7 +28,7 @@ use Rattle.plane.specs.Separation.{apart}
 use Rattle.plane.specs.Clearance.{Candidate, corners, onSecond, onFirst, turnOn, top, bottom, nearest, numbersOf, clearanceReply}
 use Rattle.plane.specs.Forms.{NonZero}
 use Rattle.plane.specs.theory.support.Support.{value-le-support}
-use Rattle.plane.specs.theory.refusals.Rows.{NoneApply, none-append, firstRow-none, firstRow-passed, firstRow-answered}
+use Rattle.plane.specs.theory.refusals.Rows.{none-append, firstRow-none, firstRow-passed, firstRow-answered}
 use Rattle.plane.specs.theory.refusals.Accept.{accepted→valid, valid→accepted}
 use Rattle.measure.specs.theory.Height.{edgeSquared-positive}
 use Rattle.measure.specs.theory.Narrowest.{width-narrowest}

@@ -6,8 +6,8 @@ use mathlib.Core.Bool.{Bool, true, false}
 use mathlib.Core.List.{[], _∷_}
 use Prim.Native.Nat.{ℕ}
 use lib.IntN.{ℤ}
-use Rattle.plane.specs.Reply.{Reply, refused, Row, row, firstRow}
-use Rattle.plane.specs.theory.refusals.Rows.{NoneApply, row-given, row-passed}
+use Rattle.plane.specs.Reply.{Reply, refused, Row, row, firstRow, NoneApply}
+use Rattle.plane.specs.theory.refusals.Rows.{row-given, row-passed}
 use Rattle.tablet.specs.Reading.{notFinite, notWhole, far, wholeNumber, readAs, readingRows}
 use Rattle.tablet.specs.theory.Reads.{reads-not-finite, reads-not-whole, reads-far, reads-near}
 use Rattle.tablet.specs.declared.reading.Reading.{Reading}

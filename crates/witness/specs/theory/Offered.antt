@@ -11,14 +11,14 @@ use Prim.Native.Nat.{ℕ}
 use native.Mathlib.Omega.{arith}
 use lib.IntN.{ℤ, pos}
 use Rattle.plane.specs.Point.{Point, point, points}
-use Rattle.plane.specs.Reply.{Reply, answered, refused, Row, firstRow}
+use Rattle.plane.specs.Reply.{Reply, answered, refused, Row, firstRow, First}
 use Rattle.plane.specs.Furthest.{directionRows}
 use Rattle.plane.specs.Separation.{apart}
 use Rattle.plane.specs.Offer.{below, offerReply}
-use Rattle.plane.specs.Floor.{Floored, pairRows, between}
+use Rattle.plane.specs.Floor.{Floored, pairRows, between, Same}
 use Rattle.plane.specs.theory.lists.Sought.{true-not-false}
-use Rattle.plane.specs.theory.refusals.Rows.{First, none-join, firstRow-given, firstRow-none, firstRow-answered}
-use Rattle.plane.specs.theory.refusals.Floors.{Same, same→none, between-rows, between-same, between-answered}
+use Rattle.plane.specs.theory.refusals.Rows.{none-join, firstRow-given, firstRow-none, firstRow-answered}
+use Rattle.plane.specs.theory.refusals.Floors.{same→none, between-rows, between-same, between-answered}
 use Rattle.witness.specs.declared.Found.{Found}
 use Rattle.witness.specs.declared.Found.the-variants.{Direction, Nothing}
 use Rattle.witness.specs.Found.{Witness, Finds, foundNumbers, FoundBetween}

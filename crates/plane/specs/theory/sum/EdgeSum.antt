@@ -17,12 +17,12 @@ use lib.ListN.{length}
 use Rattle.integer.specs.Laws.{+ℤ-swap}
 use Rattle.plane.specs.Point.{Point, origin, _⊕_}
 use Rattle.plane.specs.Shape.{IsShape}
-use Rattle.plane.specs.Direction.{value, support}
+use Rattle.plane.specs.Direction.{value, support, SameWay}
 use Rattle.plane.specs.Corner.{shapeOf, sums}
 use Rattle.plane.specs.Forms.{before, Before, From, InOrder, Sorted, edges}
 use Rattle.plane.specs.theory.forms.Vector.{total, quarter, value-⊕, ⊕-comm, ⊕-assoc, ⊕-left-comm, ⊕-swap, ⊕-zero, zero-⊕}
 use Rattle.plane.specs.theory.forms.Angle.{before-reversed}
-use Rattle.plane.specs.theory.forms.SameWay.{SameWay, neither-same, same-left, same-right, same-sum, sum-same, same-non-zero}
+use Rattle.plane.specs.theory.forms.SameWay.{neither-same, same-left, same-right, same-sum, sum-same, same-non-zero}
 use Rattle.plane.specs.theory.forms.SameWay.{from-same}
 use Rattle.plane.specs.theory.lists.Members.{sums-some}
 use Rattle.plane.specs.theory.forms.Standard.{shape→sorted, sorted→shape}

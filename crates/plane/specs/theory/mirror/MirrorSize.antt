@@ -1,7 +1,7 @@
--- What the mirror question answers (document 01, "Mirror").
---     mirror-few, mirror-near     rows 6 and 7 do not apply to the mirror image of a valid list
---     mirror-room                   row 8 applies where the output holds fewer numbers than the list's corners
---     mirror-written                else the opposites, begun at the top, are written
+-- The mirror image of a valid list keeps the limits of an answer (document 01, "Mirror").
+--     mirror-few, mirror-near     rows 6 and 7 do not apply to it
+--     mirror-little               row 8 is the first that applies where the output holds fewer numbers than the list's corners
+--     mirror-enough               else none does
 use mathlib.Core.Path.{_≡_, sym, _∙_, ap, subst}
 use mathlib.Core.Bool.{true, false}
 use mathlib.Core.List.{List, [], _∷_}
@@ -13,16 +13,14 @@ use lib.ListN.{length}
 use Rattle.integer.specs.Bound.{within-neg}
 use Rattle.plane.specs.Limits.{maxCorners}
 use Rattle.plane.specs.Point.{Point, points, numbers, corner, opposite}
-use Rattle.plane.specs.Reply.{answered, refused}
-use Rattle.plane.specs.Refusal.{tooMany, someOutside, InRange, Valid, shapeRows}
+use Rattle.plane.specs.Reply.{NoneApply, First, here, later}
+use Rattle.plane.specs.Refusal.{tooMany, someOutside, InRange, Valid}
 use Rattle.plane.specs.Corner.{shapeOf, mirrored}
-use Rattle.plane.specs.Output.{noRoom, overwritten}
-use Rattle.plane.specs.Combine.{mirrorWritten}
+use Rattle.plane.specs.Output.{noRoom, roomRow, answerRows}
 use Rattle.plane.specs.theory.lists.Flat.{numbers-inRange, Near, points-near, numbers-length}
-use Rattle.plane.specs.theory.refusals.Accept.{inRange→near, valid→accepted}
-use Rattle.plane.specs.theory.refusals.Write.{wrote-passed, wrote-room, wrote-all}
+use Rattle.plane.specs.theory.refusals.Accept.{inRange→near}
 use Rattle.plane.specs.theory.lists.Turned.{turned-below}
-use Rattle.plane.specs.theory.mirror.Mirror.{Top, topmost, mirroredFrom, mirroredFrom-length, mirroredFrom-at, mirror-known}
+use Rattle.plane.specs.theory.mirror.Mirror.{topmost, mirroredFrom, mirroredFrom-length, mirroredFrom-at, mirror-known}
 use Rattle.plane.specs.theory.mirror.Mirror.{mirror-count}
 
 -- ---- rows 6 and 7
@@ -52,7 +50,7 @@ module _ (l : List ℤ) (v : Valid l) where
       ap (λ ps. someOutside (numbers ps)) (mirror-known (points l) (v .shape) (top .0) (top .1))
       ∙ inRange→near _ (mirroredFrom-inRange (top .0) (top .1 .within))
 
-  -- ---- row 8, or the answer
+  -- ---- row 8, or none
 
   numbers-count : length (numbers image) ≡ 2 * length (points l)
   numbers-count = numbers-length image ∙ ap (λ n. 2 * n) (mirror-count (points l) (v .shape))
@@ -66,19 +64,8 @@ module _ (l : List ℤ) (v : Valid l) where
     unfolding noRoom
     enough h = le-ltb (length out) (length (numbers image)) (omega (arith, numbers-count))
 
-    pub mirror-room : length out < 2 * length (points l)
-        → (refused 8 [] ≡ mirrorWritten l out .reply) × (out ≡ mirrorWritten l out .output)
-    unfolding mirrorWritten
-    mirror-room h =
-        let wrote = wrote-passed (shapeRows 1 l) (valid→accepted l 1 v) (wrote-room mirror-few mirror-near (little h)) in
-        (wrote .reply-is, wrote .output-is)
+    pub mirror-little : length out < 2 * length (points l) → First (roomRow image out) (answerRows image out)
+    mirror-little h = later mirror-few (later mirror-near (here (little h)))
 
-    pub mirror-written : (t : ℕ) → Top (points l) (length (points l)) t → 2 * length (points l) ≤ length out
-        → (answered (pos (length (points l)) ∷ []) ≡ mirrorWritten l out .reply)
-        × (overwritten (numbers (mirroredFrom (points l) t)) out ≡ mirrorWritten l out .output)
-    unfolding mirrorWritten
-    mirror-written t top h =
-        let wrote = wrote-passed (shapeRows 1 l) (valid→accepted l 1 v) (wrote-all mirror-few mirror-near (enough h)) in (
-          ap (λ n. answered (pos n ∷ [])) (sym (mirror-count (points l) (v .shape))) ∙ wrote .reply-is,
-          ap (λ ps. overwritten (numbers ps) out) (sym (mirror-known (points l) (v .shape) t top)) ∙ wrote .output-is,
-        )
+    pub mirror-enough : 2 * length (points l) ≤ length out → NoneApply (answerRows image out)
+    mirror-enough h = (mirror-few, (mirror-near, (enough h, tt)))
