@@ -1,4 +1,5 @@
 -- The replies of a refusal and of an answer that is a shape, and what the judging of lists says; then the theory behind it.
 pub mod Answer
 pub mod Admission
+pub mod Meaning
 pub mod theory

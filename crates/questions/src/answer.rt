@@ -141,10 +141,26 @@ pub struct Sent {
     pub y: f64,
 }
 
+// A reading of the tablet that is refused, and the part of the corner that it is: 1 for x and 2 for y.
+pub enum Unread {
+    // 17: not finite
+    NotFinite {
+        part: usize,
+    },
+    // 18: not a whole number of millimetres
+    NotWhole {
+        part: usize,
+    },
+    // 3: out of range
+    Far {
+        part: usize,
+    },
+}
+
 // A corner of two readings: the doubles that go back, and the whole numbers that they hold.
 pub enum Tablet {
     Corner { sent: Sent, x: i32, y: i32 },
-    No(Refusal),
+    No(Unread),
 }
 
 // Whether an addition to a log made all of its stores, or ran out of those that it was allowed.

@@ -3,11 +3,12 @@
 --     firstRow-append, firstRow-passed     one table after the other
 --     none-append, none-join      no row of two tables applies: of both
 --     first-append, first-join    the first row that applies, with more rows after it, or before it rows that do not apply
+--     first-not-none              where a row applies it is not so that none does
 --     outcome, firstRow-given, firstRow-none, firstRow-refused, firstRow-answered
 --                                 a refusal is given exactly when its row applies and none before it does
 --     given-output, none-output, passed-output     what `unlessRefused` leaves
 use mathlib.Core.Path.{_≡_, refl, sym, _∙_, ap}
-use mathlib.Core.Bool.{Bool, true, false, cond}
+use mathlib.Core.Bool.{Bool, true, false, cond, true≢false}
 use mathlib.Core.List.{List, [], _∷_, _++_}
 use Prim.Native.Nat.{ℕ}
 use native.Mathlib.Omega.{arith}
@@ -42,6 +43,10 @@ first-append ws (later e f) = later e (first-append ws f)
 pub first-join : {w : Row} (vs : List Row) {ws : List Row} → NoneApply vs → First w ws → First w (vs ++ ws)
 first-join [] n f = f
 first-join (v ∷ vs) n f = later (n .0) (first-join vs (n .1) f)
+
+pub first-not-none : {w : Row} {ws : List Row} → First w ws → NoneApply ws → ⊥
+first-not-none (here e) n = true≢false (sym e ∙ n .0)
+first-not-none (later e f) n = first-not-none f (n .1)
 
 pub firstRow-given : {w : Row} {ws : List Row} (r : Reply) → First w ws → firstRow ws r ≡ refused (w .number) (w .carries)
 firstRow-given r (here {ws = ws} e) = sym (row-given _ ws r e)
