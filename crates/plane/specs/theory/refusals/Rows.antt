@@ -6,12 +6,15 @@
 --     first-not-none              where a row applies it is not so that none does
 --     outcome, firstRow-given, firstRow-none, firstRow-refused, firstRow-answered
 --                                 a refusal is given exactly when its row applies and none before it does
+--     first-applies               a number that is given is one of a row that applies
 --     given-output, none-output, passed-output     what `unlessRefused` leaves
-use mathlib.Core.Path.{_≡_, refl, sym, _∙_, ap}
-use mathlib.Core.Bool.{Bool, true, false, cond, true≢false}
+use mathlib.Core.Path.{_≡_, refl, sym, _∙_, ap, ap₂}
+use mathlib.Core.Bool.{Bool, true, false, cond, _&&_, _||_, or-true, true≢false}
 use mathlib.Core.List.{List, [], _∷_, _++_}
 use Prim.Native.Nat.{ℕ}
 use native.Mathlib.Omega.{arith}
+use borrow.Author.Tests.{eq-eqb}
+use lib.Dec.{eqb}
 use lib.IntN.{ℤ}
 use Rattle.plane.specs.Reply.{Reply, answered, refused, Row, firstRow, NoneApply, First, here, later}
 use Rattle.plane.specs.Output.{unlessRefused}
@@ -89,6 +92,16 @@ firstRow-refused ws values n carries h = go (outcome ws)
     go : Outcome ws → (w : Row) × First w ws × (w .number ≡ n) × (w .carries ≡ carries)
     go (given w f) = (w, f, cc (firstRow-given (answered values) f), cc (firstRow-given (answered values) f))
     go (passed q) = absurd (let z : _≡_ {A = ℕ} 0 1 = cc (firstRow-none ws (answered values) q) in let b : ⊥ = omega arith in b)
+
+-- some row of this number applies
+abbrev pub rowApplies : ℕ → List Row → Bool
+rowApplies n [] = false
+rowApplies n (w ∷ ws) = (eqb (w .number) n && w .applies) || rowApplies n ws
+
+pub first-applies : {w : Row} {ws : List Row} (n : ℕ) → First w ws → w .number ≡ n → rowApplies n ws ≡ true
+first-applies {w} n (here {ws = ws} e) same = ap₂ (λ (s t : Bool). (s && t) || rowApplies n ws) (eq-eqb (w .number) n same) e
+first-applies n (later {v = v} e f) same =
+    let own = eqb (v .number) n && v .applies in ap (λ (t : Bool). own || t) (first-applies n f same) ∙ or-true own
 
 -- ---- the output
 
