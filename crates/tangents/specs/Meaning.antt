@@ -16,7 +16,7 @@ use Rattle.plane.specs.Measure.{squared}
 use Rattle.plane.specs.Separation.{apart}
 use Rattle.plane.specs.Tangent.{signOf, touches, tangent, tangentFrom, tangentTo, tangentPositions, tangentsReply}
 use Rattle.separation.specs.theory.Apart.{apart→direction}
-use Rattle.tangents.specs.theory.Only.{
+use Rattle.tangents.specs.theory.TangentUnique.{
   settled-first,
   settled-second,
   settled-nearest,

@@ -1,10 +1,10 @@
 -- The theory of lines that touch two lists of corners, which only proves.
-pub mod Counted
-pub mod Stays
-pub mod Walk
-pub mod Neighbours
+pub mod FiniteOrder
+pub mod DrawsTest
+pub mod DrawsOrder
+pub mod NeighboursSuffice
 pub mod Lines
-pub mod Settled
-pub mod Only
-pub mod Search
+pub mod SettledExists
+pub mod TangentUnique
+pub mod TangentSearch
 pub mod Rows

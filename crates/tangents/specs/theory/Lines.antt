@@ -19,8 +19,8 @@ use Rattle.plane.specs.Direction.{value}
 use Rattle.plane.specs.Measure.{squared}
 use Rattle.plane.specs.Tangent.{signOf}
 use Rattle.plane.specs.theory.forms.Vector.{value-turned}
-use Rattle.tangents.specs.theory.Stays.{Rises, rise-gap, rise-positive, Stays, Drawn, across, ahead, sign-zero}
-use Rattle.tangents.specs.theory.Walk.{across-line, on-line-same}
+use Rattle.tangents.specs.theory.DrawsTest.{Rises, rise-gap, rise-positive, Stays, Drawn, across, ahead, sign-zero}
+use Rattle.tangents.specs.theory.DrawsOrder.{across-line, on-line-same}
 
 -- ---- lines that both touch are one line
 

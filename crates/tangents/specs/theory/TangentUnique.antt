@@ -29,9 +29,9 @@ use Rattle.plane.specs.theory.sum.Positions.{corner-injective}
 use Rattle.plane.specs.Separation.{apart}
 use Rattle.separation.specs.theory.Apart.{Separated, apart→direction, apart-sym}
 use Rattle.tangents.specs.Draws.{Rests}
-use Rattle.tangents.specs.theory.Stays.{Rises, Stays, sign-not, draws→stays}
+use Rattle.tangents.specs.theory.DrawsTest.{Rises, Stays, sign-not, draws→stays}
 use Rattle.tangents.specs.theory.Lines.{rise-back, one-line, nearest-same}
-use Rattle.tangents.specs.theory.Settled.{Settled, rises, settled-exists}
+use Rattle.tangents.specs.theory.SettledExists.{Settled, rises, settled-exists}
 
 -- ---- tests
 

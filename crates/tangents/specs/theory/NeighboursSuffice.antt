@@ -28,8 +28,8 @@ use Rattle.plane.specs.theory.lists.Next.{Following, onward, closing, following
 use Rattle.plane.specs.theory.sum.Positions.{edge-turn}
 use Rattle.separation.specs.theory.Sector.{next-left, sector}
 use Rattle.tangents.specs.Draws.{draws, Facing, Rests, Better}
-use Rattle.tangents.specs.theory.Stays.{Rises, Stays, sign-zero, draws→stays, stays→draws}
-use Rattle.tangents.specs.theory.Walk.{draws-self}
+use Rattle.tangents.specs.theory.DrawsTest.{Rises, Stays, sign-zero, draws→stays, stays→draws}
+use Rattle.tangents.specs.theory.DrawsOrder.{draws-self}
 
 -- ---- the sector at p between the edges from a and to c
 

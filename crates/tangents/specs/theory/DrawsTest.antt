@@ -5,7 +5,7 @@
 --     Stays s d p q x               p stays the start of the line to q: x is on side s, and not ahead of p on the line
 --     Drawn s d p q x               x draws it away
 --     draws→stays, draws→drawn      what the test says; `stays→draws`, `drawn→draws` the other way
--- What a walk from point to point along the test does is in `Walk.antt`.
+-- The order that the test makes of points is in `DrawsOrder.antt`.
 use mathlib.Core.Path.{_≡_, refl, ap}
 use mathlib.Core.Bool.{Bool, true, false, not, _&&_, _||_, true≢false, false≢true}
 use mathlib.Core.List.{[], _∷_}

@@ -20,9 +20,9 @@ use Rattle.plane.specs.theory.lists.Sought.{some-none, none-some, first-at-most
 use Rattle.plane.specs.theory.forms.Vector.{value-origin}
 use Rattle.separation.specs.theory.Apart.{Separated}
 use Rattle.tangents.specs.Draws.{draws, Facing, Rests}
-use Rattle.tangents.specs.theory.Counted.{last-of}
-use Rattle.tangents.specs.theory.Stays.{Rises, draws→stays, draws→drawn}
-use Rattle.tangents.specs.theory.Walk.{draws-self, draws-trans, stays-same}
+use Rattle.tangents.specs.theory.FiniteOrder.{last-of}
+use Rattle.tangents.specs.theory.DrawsTest.{Rises, draws→stays, draws→drawn}
+use Rattle.tangents.specs.theory.DrawsOrder.{draws-self, draws-trans, stays-same}
 use Rattle.tangents.specs.theory.Lines.{rise-back, value-back, start-rests}
 
 pub record Settled (s t : Bool) (A B : List Point) (i j : ℕ) : Type 0 where

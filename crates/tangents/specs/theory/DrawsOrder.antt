@@ -1,5 +1,5 @@
--- A walk from point to point that each draws the start of a line to q away.
---     draws-self, draws-trans    it never comes back
+-- The test `draws` as an order of points: x comes after p if it draws the start of the line to q away from p.
+--     draws-self, draws-trans    the order is strict, so a walk along it never comes back
 --     across-line                the step from p to x by the step from p to q
 --     on-line-same               a point of the line that is as far in d as p is p
 --     stays-same                 of two that both stay one is the other
@@ -19,9 +19,9 @@ use Rattle.plane.specs.theory.lists.Members.{point-path}
 use Rattle.plane.specs.theory.forms.Vector.{turn-back}
 use Rattle.separation.specs.theory.Sector.{zero-factor}
 use Rattle.tangents.specs.Draws.{draws}
-use Rattle.tangents.specs.theory.Stays.{Rises, rise-gap, Stays, Drawn, across, ahead, sign-zero, draws→drawn, drawn→draws}
+use Rattle.tangents.specs.theory.DrawsTest.{Rises, rise-gap, Stays, Drawn, across, ahead, sign-zero, draws→drawn, drawn→draws}
 
--- ---- the walk never comes back
+-- ---- the order is strict
 
 -- a point is not ahead of itself
 value-self : (e p : Point) → value e (p ⊖ p) ≡ pos 0
