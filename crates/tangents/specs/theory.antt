@@ -1,9 +1,12 @@
 -- The theory of lines that touch two lists of corners, which only proves.
 pub mod FiniteOrder
+pub mod Sides
 pub mod DrawsTest
 pub mod DrawsOrder
 pub mod NeighboursSuffice
-pub mod Lines
+pub mod OneLine
+pub mod NearestOnLine
+pub mod EndStays
 pub mod SettledExists
 pub mod TangentUnique
 pub mod TangentSearch

@@ -54,7 +54,7 @@ module _ (r : ℕ → ℕ → Bool) (n : ℕ) (self : (i : ℕ) → i < n → r 
   walk zero i h f = absurd (omega arith)
   walk (suc fuel) i h f = go (some (r i) n) refl (walk fuel)
     where
-      go : (t : Bool) → some (r i) n ≡ t
+      go : (b : Bool) → some (r i) n ≡ b
           → ((j : ℕ) → j < n → counted (r j) n < fuel → (j : ℕ) × (j < n) × ((k : ℕ) → k < n → r j k ≡ false))
           → (j : ℕ) × (j < n) × ((k : ℕ) → k < n → r j k ≡ false)
       go false e further = (i, h, some-none (r i) n e)

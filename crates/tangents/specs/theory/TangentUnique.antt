@@ -15,7 +15,7 @@ use lib.IntN.{pos, _*ℤ_}
 use lib.ListN.{length}
 use lib.Signed.{_≤ℤ_, ltZ}
 use Rattle.integer.specs.Linear.{linear, lia, _&_}
-use Rattle.integer.specs.Order.{_≡×_, weaken, le-leZ, leZ-true, lt-ltZ, le-ltZ, contra≤}
+use Rattle.integer.specs.Order.{weaken, le-leZ, leZ-true, lt-ltZ, le-ltZ, contra≤}
 use Rattle.plane.specs.Point.{Point, opposite, corner}
 use Rattle.plane.specs.Turn.{turn, turn-swap}
 use Rattle.plane.specs.Search.{some, first}
@@ -29,8 +29,10 @@ use Rattle.plane.specs.theory.sum.Positions.{corner-injective}
 use Rattle.plane.specs.Separation.{apart}
 use Rattle.separation.specs.theory.Apart.{Separated, apart→direction, apart-sym}
 use Rattle.tangents.specs.Draws.{Rests}
-use Rattle.tangents.specs.theory.DrawsTest.{Rises, Stays, sign-not, draws→stays}
-use Rattle.tangents.specs.theory.Lines.{rise-back, one-line, nearest-same}
+use Rattle.tangents.specs.theory.Sides.{same-side, side-back}
+use Rattle.tangents.specs.theory.DrawsTest.{Rises, rise-back, Stays, draws→stays}
+use Rattle.tangents.specs.theory.OneLine.{one-line}
+use Rattle.tangents.specs.theory.NearestOnLine.{nearest-same}
 use Rattle.tangents.specs.theory.SettledExists.{Settled, rises, settled-exists}
 
 -- ---- tests
@@ -43,11 +45,6 @@ first-of-both x y h = and-eq-true-iff x y .0 h .0
 
 second-of-both : (x y : Bool) → (x && y) ≡ true → y ≡ true
 second-of-both x y h = and-eq-true-iff x y .0 h .1
-
--- the other end of the line, the other side
-side-back : (t : Bool) (p q y : Point) → pos 0 ≤ℤ (signOf (not t) *ℤ turn q p y) → pos 0 ≤ℤ (signOf t *ℤ turn p q y)
-side-back t p q y h = lia (signOf t ∷ signOf (not t) ∷ turn p q y ∷ turn q p y ∷ [])
-    (h & sign-not t ≡× turn q p y & turn-swap p q y ≡× signOf t) (search linear depth 40) (omega arith)
 
 module _ (s t : Bool) (A B : List Point) (i j : ℕ) where
   -- what touches has all corners on their sides
@@ -120,8 +117,8 @@ module _ {s t : Bool} {A B : List Point} (sep : Separated A B) {i j : ℕ} (w : 
     module _ (touch : touches s t A B k l ≡ true) where
       pub touching-on-line : (turn p q (corner A k) ≡ pos 0) × (turn p q (corner B l) ≡ pos 0)
       touching-on-line = one-line rise (rises sep i l (w .from .within) m) (rises sep k j h (w .to .within)) (rises sep k l h m)
-          s t (settled-first k h) (settled-second l m)
-          (touches-first s t A B k l touch i (w .from .within)) (touches-second s t A B k l touch j (w .to .within))
+          (same-side s _ _ (settled-first k h) (touches-first s t A B k l touch i (w .from .within)))
+          (same-side t _ _ (settled-second l m) (touches-second s t A B k l touch j (w .to .within)))
 
       touching-same : squared (corner A k) (corner B l) ≤ℤ squared p q → (corner A k ≡ p) × (corner B l ≡ q)
       touching-same = let line = touching-on-line in as-near (line .0) (line .1)
