@@ -2,8 +2,8 @@
 --     level-turns    the height of one line over the other is affine: the turns of both starts give the turn of an end
 --     square-zero    a number whose square is not above 0
 --     one-line       if the turns of both starts have one sign, each against the other line, and those of both ends too, the lines are one
--- The idea: if turn p q p′ and turn p′ q′ p have one sign, the height of the second line over the first changes its sign from p to p′, or is
--- 0 there. It does so again from q to q′, which are further in d. It is affine, so it is 0. No side is asked for: one argument for all
+-- The idea: if turn p q p′ and turn p′ q′ p have one sign, the height of the second line over the first changes its sign from p to p′, or
+-- is 0 there. It does so again from q to q′, which are further in d. It is affine, so it is 0. No side is asked for: one argument for all
 -- four kinds.
 use mathlib.Core.Path.{_≡_, ap₂}
 use mathlib.Core.List.{[], _∷_}
