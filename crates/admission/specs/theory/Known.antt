@@ -12,19 +12,19 @@ use Rattle.admission.specs.declared.answer.Refusal.the-variants as Refus
 use Rattle.admission.specs.Answer.{ofRefusal}
 
 -- the numbers 1 to 5, and those that carry nothing
-shaped : ℕ → List ℕ → Refusal → Refusal
+abbrev shaped : ℕ → List ℕ → Refusal → Refusal
 shaped n c other =
     let shape = getD c 0 0 in
     cond (eqb n 1) (Refusal.Count shape) (cond (eqb n 2) (Refusal.Corners shape) (cond (eqb n 3) (Refusal.Range shape)
     (cond (eqb n 4) (Refusal.Side shape (getD c 1 0) (getD c 2 0)) (cond (eqb n 5) (Refusal.Start shape) other))))
 
-bare : ℕ → Refusal → Refusal
+abbrev bare : ℕ → Refusal → Refusal
 bare n other =
     cond (eqb n 6) Refusal.LargeAnswer (cond (eqb n 7) Refusal.FarAnswer (cond (eqb n 8) Refusal.Room (cond (eqb n 9) Refusal.NotApart
     (cond (eqb n 10) Refusal.Flat (cond (eqb n 11) Refusal.Direction (cond (eqb n 12) Refusal.NotPrimitive
     (cond (eqb n 13) Refusal.Floors (cond (eqb n 14) Refusal.NotAPlace (cond (eqb n 16) Refusal.Full other)))))))))
 
-pub known : Reply → Refusal
+abbrev pub known : Reply → Refusal
 known (answered v) = Refusal.NoRecord
 known (refused n c) = shaped n c (bare n (cond (eqb n 15) (Refusal.Damaged (getD c 0 0)) Refusal.NoRecord))
 

@@ -49,7 +49,7 @@ sent-corner x y m n h k = follows x y (answered (m ∷ n ∷ [])) (holding m ∷
 
 -- ---- a refusal is known by its reply
 
-pub known : Reply → Unread
+abbrev pub known : Reply → Unread
 known (answered v) = Unread.Far 0
 known (refused n c) =
     cond (eqb n 17) (Unread.NotFinite (getD c 0 0)) (cond (eqb n 18) (Unread.NotWhole (getD c 0 0)) (Unread.Far (getD c 0 0)))
