@@ -8,14 +8,14 @@ use mathlib.Core.List.{List, [], _∷_}
 use Prim.Native.Nat.{ℕ}
 use native.Mathlib.Omega.{arith}
 use borrow.Author.Tests.{not-true, not-false}
-use lib.IntN.{ℤ, pos, _*ℤ_}
+use lib.IntN.{ℤ}
 use Rattle.integer.specs.Bound.{Within}
 use Rattle.plane.specs.Limits.{maxCoordinate}
 use Rattle.plane.specs.Reply.{Reply, answered, refused, firstRow}
 use Rattle.plane.specs.theory.lists.Sought.{true-not-false}
 use Rattle.plane.specs.theory.refusals.Rows.{firstRow-append, firstRow-none}
 use Rattle.tablet.specs.Double.{finite}
-use Rattle.tablet.specs.Reading.{double, top, bottom, notFinite, notWhole, far, wholeNumber, readAs, readingRows, tabletReply}
+use Rattle.tablet.specs.Reading.{double, notFinite, notWhole, far, wholeNumber, readAs, readingRows, tabletReply}
 use Rattle.tablet.specs.Reason.{Equals, Accepted, Reason, not-finite, not-whole, out-of-range, Blamed, first, second}
 use Rattle.tablet.specs.theory.Reads.{reads-not-finite, reads-not-whole, reads-far, reads-near}
 use Rattle.tablet.specs.theory.Rows.{not-finite-row, not-whole-row, far-row, whole-passed}

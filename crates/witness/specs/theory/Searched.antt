@@ -3,7 +3,7 @@
 --     searched-refused    a refusal is that of the first row that applies
 --     searched-answered, none-searched     answered exactly if no row applies
 --     searched-direction  a direction that is answered is a witness
-use mathlib.Core.Path.{_≡_, refl, sym, _∙_, subst}
+use mathlib.Core.Path.{_≡_, sym, _∙_, subst}
 use mathlib.Core.List.{List, [], _∷_, _++_}
 use Prim.Native.Nat.{ℕ}
 use native.Mathlib.Omega.{arith}
