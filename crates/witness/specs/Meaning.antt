@@ -1,24 +1,27 @@
 -- What a separating direction means, in document 02's words (request W13). Each theorem is proved in the theory; here it is only cited.
 --     below            "every corner of the first is strictly below every corner of the second in it"; acceptance means apart
 --     offerReply       the same of the reply to two shapes with their floors; shapes apart have a direction that is accepted
---     FoundBetween     the search finds such a direction, and says none exactly if they are not apart
+--     FoundBetween     the search is refused exactly by 1 to 5 and 13; else it finds such a direction exactly if the shapes are apart, and
+--                      says none exactly if they are not
 -- That 11 and 12 are "after 1 to 5 and 13" is the case `Offer` of plane's `Question.antt`.
 use mathlib.Core.Bool.{true, false}
 use mathlib.Core.List.{List, [], _∷_}
 use mathlib.Core.Path.{_≡_}
-use Prim.Native.Nat.{_<_}
+use Prim.Native.Nat.{ℕ, _<_}
 use lib.IntN.{ℤ, pos}
 use lib.ListN.{length}
 use lib.Signed.{_<ℤ_}
 use Rattle.plane.specs.Point.{Point, point, points, _∈_}
-use Rattle.plane.specs.Reply.{Reply, answered, refused, Row, First}
+use Rattle.plane.specs.Reply.{Reply, answered, refused, Row, First, NoneApply}
 use Rattle.plane.specs.Direction.{value}
 use Rattle.plane.specs.Separation.{apart}
 use Rattle.plane.specs.Offer.{below, offerReply}
 use Rattle.plane.specs.Floor.{Floored, pairRows, between, Same}
 use Rattle.witness.specs.Found.{FoundBetween}
 use Rattle.witness.specs.theory.Below.{below→all, all→below, below→apart}
-use Rattle.witness.specs.theory.Offered.{accepted-apart, exists-accepted, found-refused, found-apart, found-none, none-found}
+use Rattle.witness.specs.theory.Offered.{accepted-apart, exists-accepted, witness-accepted}
+use Rattle.witness.specs.theory.Offered.{found-refused, found-apart, found-none, none-found}
+use Rattle.witness.specs.theory.Searched.{searched-refused, searched-answered, none-searched, searched-direction}
 
 -- lists of corners; they have a corner
 module _ (d : Point) (A B : List Point) where
@@ -51,6 +54,27 @@ module _ (a b : Floored) where
     -- "after 1 to 5 and 13"
     pub search-is-refused-first : {w : Row} → First w (pairRows a b) → r ≡ refused (w .number) (w .carries)
     search-is-refused-first g = found-refused a b r f g
+
+    -- and by nothing else
+    pub refused-search-is-first : (n : ℕ) (carries : List ℕ) → r ≡ refused n carries
+        → (w : Row) × First w (pairRows a b) × (w .number ≡ n) × (w .carries ≡ carries)
+    refused-search-is-first n carries h = searched-refused a b r f n carries h
+
+    -- where none of 1 to 5 and 13 applies, the search is answered
+    pub search-is-answered-if-none : NoneApply (pairRows a b) → (values : List ℤ) × (r ≡ answered values)
+    search-is-answered-if-none n = none-searched a b r f n
+
+    -- and only there
+    pub none-if-search-is-answered : (values : List ℤ) → r ≡ answered values → NoneApply (pairRows a b)
+    none-if-search-is-answered values h = searched-answered a b r f values h
+
+    -- a direction that is answered is accepted if it is offered: so a direction is answered only if the shapes are apart
+    pub found-direction-is-accepted : (u v floor : ℤ) → r ≡ answered (pos 1 ∷ u ∷ v ∷ floor ∷ []) → Accepted (point u v)
+    found-direction-is-accepted u v floor h = let (s, w) = searched-direction a b r f u v floor h in witness-accepted a b (point u v) s w
+
+    pub found-direction-means-apart : (u v floor : ℤ) → r ≡ answered (pos 1 ∷ u ∷ v ∷ floor ∷ [])
+        → apart (points (a .list)) (points (b .list)) ≡ true
+    found-direction-means-apart u v floor h = acceptance-means-apart (point u v) (found-direction-is-accepted u v floor h)
 
     module _ (s : Same a b) where
       -- "finds one": for shapes apart on one floor, a direction that is accepted if it is offered

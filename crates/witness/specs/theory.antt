@@ -6,3 +6,4 @@ pub mod Passed
 pub mod Away
 pub mod Exists
 pub mod Offered
+pub mod Searched
