@@ -49,7 +49,8 @@ module _ (A B : List Point) (a : 0 < length A) (b : 0 < length B) where
 
 -- ---- the number
 
-number-is : (A B : List Point) (t r : Bool) → apart A B ≡ t → touching A B ≡ r → relationNumber A B ≡ cond t (pos 0) (cond r (pos 1) (pos 2))
+number-is : (A B : List Point) (t r : Bool) → apart A B ≡ t → touching A B ≡ r
+    → relationNumber A B ≡ cond t (pos 0) (cond r (pos 1) (pos 2))
 unfolding relationNumber
 number-is A B t r h k = rw (h, k) refl
 
@@ -115,7 +116,8 @@ module _ (a b : Floored) (s : Same a b) where
 
   pub relation-touching : Related 1 ↔ IsTouching A B
   relation-touching = (
-    λ h. let tests = told-1 (apart A B) (touching A B) (related-tests 1 h) in true-touching A B first-some second-some (tests .0) (tests .1),
+    λ h. let tests = told-1 (apart A B) (touching A B) (related-tests 1 h) in
+        true-touching A B first-some second-some (tests .0) (tests .1),
     λ d. tests-related false true (apart-false A B first-some second-some (d .0)) (touching-true A B first-some second-some d),
   )
 
