@@ -83,9 +83,9 @@ pub enum Found {
     No(Refusal),
 }
 
-// Nothing if the shapes are not apart. Else where they are nearest: at two corners, with their squared distance; or at a
-// corner of the first and inside an edge of the second, or the reverse, with the size of the corner's turn against the
-// edge and the edge's squared length. Last the distance rounded down.
+// Nothing if the shapes are not apart. Else where they are nearest: at two corners, with their squared distance; or at
+// a corner of the first and inside an edge of the second, or the reverse, with the size of the corner's turn against
+// the edge and the edge's squared length. Last the distance rounded down.
 pub enum Clearance {
     None {
         floor: u16,

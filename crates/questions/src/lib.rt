@@ -1,7 +1,7 @@
 // The questions of documents 01 and 02, and all that callers need of this library. Each judges its own lists, once
 // each, gives its refusals in the order of the table, and asks one inner function. A shape is lent with its floor, and
-// every answer on shapes carries it: of two shapes, a on floor f and b on floor g, both have the same, or are refused 13
-// behind 1 to 5 of the first and of the second.
+// every answer on shapes carries it: of two shapes, a on floor f and b on floor g, both have the same, or are refused
+// 13 behind 1 to 5 of the first and of the second.
 pub mod answer;
 mod coordinate;
 pub mod separating;
@@ -140,8 +140,8 @@ pub fn sum(a: &[i32], f: u16, b: &[i32], g: u16, out: &mut [i32]) -> Answer
 
 // Writes the shape of both corner lists taken together at the front of the output, and answers how many corners it has.
 // The shapes may overlap, lie one in the other, share corners or edges. Refused, with the output as it was: 1 to 5 of
-// the first shape, then of the second; different floors; then an answer of too many corners, and too small an output. No
-// corner of the answer is out of range, since each is a corner of one of the two.
+// the first shape, then of the second; different floors; then an answer of too many corners, and too small an output.
+// No corner of the answer is out of range, since each is a corner of one of the two.
 // Ruled out: points in line kept; second shape forgotten; count one more.
 pub fn merge(a: &[i32], f: u16, b: &[i32], g: u16, out: &mut [i32]) -> Answer
     ensures { λ r. ⌜
@@ -280,8 +280,8 @@ pub fn inside(a: &[i32], f: u16, b: &[i32], g: u16) -> Inside
 }
 
 // Where two shapes are nearest, and how near: the least distance between any point of one and any point of the other.
-// Nothing if they are not apart. Either two corners, or a corner and an edge that it is over, strictly between its ends.
-// On a tie two corners go first, then a corner of the first shape, then one of the second; each by the smallest
+// Nothing if they are not apart. Either two corners, or a corner and an edge that it is over, strictly between its
+// ends. On a tie two corners go first, then a corner of the first shape, then one of the second; each by the smallest
 // positions. Two points have their own distance. Refused: 1 to 5 of the first shape, then of the second; different
 // floors.
 // Ruled out: clearance where shapes touch; foot at the end counted as inside; ties the other way; only one edge of a
@@ -409,9 +409,9 @@ pub fn tablet(x: Reading, y: Reading) -> Tablet
 }
 
 // Writes the corners of the latest record of a name at the front of the output, and answers how many they are, and the
-// floor of the record: 0 of one of kind 1, which says none. All behind them is kept. A log ends where no whole record stands. Refused, with the output as it was: a log in which some
-// record is of another kind, a wrong length, or no shape (with the byte place of the first); a name that no record has;
-// too small an output.
+// floor of the record: 0 of one of kind 1, which says none. All behind them is kept. A log ends where no whole record
+// stands. Refused, with the output as it was: a log in which some record is of another kind, a wrong length, or no
+// shape (with the byte place of the first); a name that no record has; too small an output.
 // Ruled out: first record of a name.
 pub fn log_read(log: &[u8], name: u16, out: &mut [i32]) -> Answer
     ensures { λ r. ⌜ (ofAnswer r ≡ reply (askRead (now (log .entry)) name (now (out .entry))))
@@ -438,10 +438,10 @@ pub fn log_read(log: &[u8], name: u16, out: &mut [i32]) -> Answer
     }
 }
 
-// Adds a shape on a floor under a name behind the last whole record of a log, with at most so many stores of single bytes as are
-// allowed, and says whether it finished. What was torn there is cleared first, and the record's last byte is stored
-// last: a cut addition changes no answer of `log_read`. Refused, with nothing stored: 1 to 5 of the list; a log in
-// which some record is bad; too little room.
+// Adds a shape on a floor under a name behind the last whole record of a log, with at most so many stores of single
+// bytes as are allowed, and says whether it finished. What was torn there is cleared first, and the record's last byte
+// is stored last: a cut addition changes no answer of `log_read`. Refused, with nothing stored: 1 to 5 of the list; a
+// log in which some record is bad; too little room.
 // Ruled out: full one byte early; cut called finished; last byte stored first; tail cleared from its front.
 pub fn log_add(log: &mut [u8], name: u16, floor: u16, list: &[i32], allowed: usize) -> Addition
     ensures { λ r. ⌜ (ofAddition r ≡ added (now (log .entry)) name floor (now (list .entry)) allowed .reply)
