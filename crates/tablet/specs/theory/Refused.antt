@@ -13,7 +13,7 @@ use Rattle.integer.specs.Bound.{Within}
 use Rattle.plane.specs.Limits.{maxCoordinate}
 use Rattle.plane.specs.Reply.{Reply, answered, refused, firstRow}
 use Rattle.plane.specs.theory.lists.Sought.{true-not-false}
-use Rattle.plane.specs.theory.refusals.Rows.{firstRow-append, firstRow-none}
+use Rattle.plane.specs.theory.refusals.Rows.{firstRow-append, firstRow-given, firstRow-none}
 use Rattle.tablet.specs.Double.{finite}
 use Rattle.tablet.specs.Reading.{double, notFinite, notWhole, far, wholeNumber, readAs, readingRows, tabletReply}
 use Rattle.tablet.specs.Reason.{Equals, Accepted, Reason, not-finite, not-whole, out-of-range, Blamed, first, second}
@@ -84,11 +84,11 @@ verdict r = go (readAs r) refl (comes r)
 module _ (part : ℕ) (r : Reading) (x : Reply) where
   reason-rows : {n : ℕ} → Reason r n → firstRow (readingRows part r) x ≡ refused n (part ∷ [])
   reason-rows (not-finite e f) =
-      sym (not-finite-row part r (not-finite-comes r f) x) ∙ ap (λ (k : ℕ). refused k (part ∷ [])) (sym e)
+      firstRow-given x (not-finite-row part r (not-finite-comes r f)) ∙ ap (λ (k : ℕ). refused k (part ∷ [])) (sym e)
   reason-rows (not-whole e f none) =
-      sym (not-whole-row part r (not-whole-comes r f none) x) ∙ ap (λ (k : ℕ). refused k (part ∷ [])) (sym e)
+      firstRow-given x (not-whole-row part r (not-whole-comes r f none)) ∙ ap (λ (k : ℕ). refused k (part ∷ [])) (sym e)
   reason-rows (out-of-range e f z v out) =
-      sym (far-row part r (far-comes r f z v out) x) ∙ ap (λ (k : ℕ). refused k (part ∷ [])) (sym e)
+      firstRow-given x (far-row part r (far-comes r f z v out)) ∙ ap (λ (k : ℕ). refused k (part ∷ [])) (sym e)
 
   accepted-rows : {n : ℤ} → readAs r ≡ Whole n → firstRow (readingRows part r) x ≡ x
   accepted-rows {n} h = firstRow-none (readingRows part r) x (whole-passed part r n h)
