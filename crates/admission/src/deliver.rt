@@ -37,7 +37,7 @@ pub fn survey(shape: &[i32]) -> Admission
 // Ruled out: exact room refused; tail cleared.
 pub fn deliver(shape: &[i32], floor: u16, out: &mut [i32]) -> Answer
     requires paired { ⌜ length (now shape) % 2 ≡ 0 ⌝ }
-    ensures { λ r. ⌜ 
+    ensures { λ r. ⌜
         (ofAnswer r ≡ reply (makes (noShape floor) (points (now (shape .entry))) (now (out .entry))))
         × (now (out .exit) ≡ output (makes (noShape floor) (points (now (shape .entry))) (now (out .entry)))) ⌝ }
 {

@@ -16,6 +16,7 @@ use lib.ListN.{length, drop}
 use lib.IntN.{ℤ, pos, _+ℤ_, _*ℤ_}
 use lib.Signed.{_≤ℤ_, _<ℤ_}
 use Rattle.integer.specs.Bound.{Within}
+use Rattle.plane.specs.Cut.{cutSum}
 use Rattle.plane.specs.Limits.{maxPart}
 use Rattle.plane.specs.Point.{Point, points, numbers, corner, opposite, _∈_, _⊆_}
 use Rattle.plane.specs.Turn.{turn, Left}
@@ -42,7 +43,7 @@ use Rattle.plane.specs.theory.support.Support.{value-le-support, support
 use Rattle.plane.specs.theory.hull.ShapeOf.{shapeOf-support, shapeOf-shape, shapeOf-corner, corner-shapeOf, shapeOf-unique}
 use Rattle.plane.specs.theory.hull.ShapeOf.{shapeOf-same, shape-extensional, shape-known, shape-own}
 use Rattle.plane.specs.theory.support.Bounds.{turn-size, value-size, support-size}
-use Rattle.plane.specs.theory.sum.Cut.{cutSum, cut-formula}
+use Rattle.plane.specs.theory.sum.Cut.{cut-formula}
 use Rattle.plane.specs.VectorSum.{vectorSum}
 use Rattle.plane.specs.theory.sum.EdgeSum.{vectorSum-shape}
 use Rattle.plane.specs.theory.face.FirstFurthest.{furthest-greatest}

@@ -144,17 +144,11 @@ pub struct Sent {
 // A reading of the tablet that is refused, and the part of the corner that it is: 1 for x and 2 for y.
 pub enum Unread {
     // 17: not finite
-    NotFinite {
-        part: usize,
-    },
+    NotFinite { part: usize },
     // 18: not a whole number of millimetres
-    NotWhole {
-        part: usize,
-    },
+    NotWhole { part: usize },
     // 3: out of range
-    Far {
-        part: usize,
-    },
+    Far { part: usize },
 }
 
 // A corner of two readings: the doubles that go back, and the whole numbers that they hold.

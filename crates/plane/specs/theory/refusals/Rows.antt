@@ -105,15 +105,15 @@ first-applies n (later {v = v} e f) same =
 
 -- ---- the output
 
-pub given-output : {w : Row} {ws : List Row} (kept new : List ℤ) → First w ws → unlessRefused ws kept new ≡ kept
+pub given-output : {X : Type 0} {w : Row} {ws : List Row} (kept new : List X) → First w ws → unlessRefused ws kept new ≡ kept
 given-output kept new (here {ws = ws} e) = ap (λ (b : Bool). cond b kept (unlessRefused ws kept new)) e
 given-output kept new (later {ws = ws} e f) = ap (λ (b : Bool). cond b kept (unlessRefused ws kept new)) e ∙ given-output kept new f
 
-pub none-output : (ws : List Row) (kept new : List ℤ) → NoneApply ws → unlessRefused ws kept new ≡ new
+pub none-output : {X : Type 0} (ws : List Row) (kept new : List X) → NoneApply ws → unlessRefused ws kept new ≡ new
 none-output [] kept new n = refl
 none-output (w ∷ ws) kept new n = ap (λ (b : Bool). cond b kept (unlessRefused ws kept new)) (n .0) ∙ none-output ws kept new (n .1)
 
-pub passed-output : (vs ws : List Row) (kept new : List ℤ) → NoneApply vs → unlessRefused (vs ++ ws) kept new ≡ unlessRefused ws kept new
+pub passed-output : {X : Type 0} (vs ws : List Row) (kept new : List X) → NoneApply vs → unlessRefused (vs ++ ws) kept new ≡ unlessRefused ws kept new
 passed-output [] ws kept new n = refl
 passed-output (v ∷ vs) ws kept new n =
     ap (λ (b : Bool). cond b kept (unlessRefused (vs ++ ws) kept new)) (n .0) ∙ passed-output vs ws kept new (n .1)
