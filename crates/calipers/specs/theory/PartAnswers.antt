@@ -1,5 +1,5 @@
 -- What a call of a sum in parts answers, and what its beginning says of the whole sum.
---     off-place, place-off             of two shapes on one floor, 14 is given exactly off the places
+--     off-place, place-off             14 is given off the places, of two shapes on one floor, and nowhere else
 --     part-known                       what an answer says; `part-written`: what was written
 --     part-answered                    at a place, where 6, 7 and 8 do not apply, a call is answered
 --     begin-refused, begin-answered    the beginning is refused as the sum is, but for 8
@@ -25,18 +25,16 @@ use Rattle.calipers.specs.PlaceAfter.{wholeSum, isPlace}
 use Rattle.calipers.specs.Part.{handedBack, walkNumbers, askBegin, askPart}
 use Rattle.calipers.specs.theory.Reached.{walk-equal}
 
+-- 1 and 0 say whether a walk is over
+flag-known : (o p : Bool) → _≡_ {A = ℤ} (cond o (pos 1) (pos 0)) (cond p (pos 1) (pos 0)) → o ≡ p
+flag-known true true e = refl
+flag-known true false e = let z : _≡_ {A = ℕ} 1 0 = cc in let n : ⊥ = omega arith in absurd n
+flag-known false true e = let z : _≡_ {A = ℕ} 0 1 = cc in let n : ⊥ = omega arith in absurd n
+flag-known false false e = refl
+
 -- a walk is known by its numbers
 walk-known : (u x : Walk) → walkNumbers u ≡ walkNumbers x → u ≡ x
-walk-known u x e = walk-equal (cc e) (cc e) (go (u .over) refl (x .over) refl)
-  where
-    flag : _≡_ {A = ℤ} (cond (u .over) (pos 1) (pos 0)) (cond (x .over) (pos 1) (pos 0))
-    flag = cc e
-
-    go : (o : Bool) → u .over ≡ o → (p : Bool) → x .over ≡ p → u .over ≡ x .over
-    go true f true g = f ∙ sym g
-    go true f false g = absurd (let z : _≡_ {A = ℕ} 1 0 = cc (rw (f, g) at flag) in let n : ⊥ = omega arith in n)
-    go false f true g = absurd (let z : _≡_ {A = ℕ} 0 1 = cc (rw (f, g) at flag) in let n : ⊥ = omega arith in n)
-    go false f false g = f ∙ sym g
+walk-known u x e = walk-equal (cc e) (cc e) (flag-known (u .over) (x .over) (cc e))
 
 -- ---- a call
 
