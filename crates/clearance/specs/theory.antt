@@ -16,3 +16,4 @@ pub mod Common
 pub mod Ends
 pub mod Walked
 pub mod Rounding
+pub mod Replies
