@@ -17,3 +17,4 @@ pub mod Common
 pub mod Ends
 pub mod Walked
 pub mod Rounding
+pub mod Replies

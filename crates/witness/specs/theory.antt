@@ -6,4 +6,3 @@ pub mod Passed
 pub mod Away
 pub mod Exists
 pub mod Offered
-pub mod Searched

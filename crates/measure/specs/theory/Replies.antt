@@ -5,7 +5,7 @@ use mathlib.Core.Path.{_≡_, refl, sym, _∙_, ap}
 use mathlib.Core.Bool.{Bool, true, false}
 use mathlib.Core.List.{List, [], _∷_}
 use mathlib.Core.Logic.{_↔_}
-use Prim.Native.Nat.{ℕ, _≤_, _<_}
+use Prim.Native.Nat.{ℕ, _<_}
 use native.Mathlib.Omega.{arith}
 use borrow.Author.Tests.{ltb-true, lt-ltb, le-ltb}
 use lib.Dec.{ltb}
@@ -20,8 +20,7 @@ use Rattle.plane.specs.Refusal.{Valid}
 use Rattle.plane.specs.Measure.{squared, lengthSquared, lengthFrom, lengthTo, height, edgeSquared, widthEdge, widthCorner, widthRounded}
 use Rattle.plane.specs.Floor.{Floored, corners}
 use Rattle.plane.specs.Question.{values, reply, askLength, askWidth}
-use Rattle.plane.specs.theory.refusals.Asked.{asked-given, asked-none, asked-values, asked-refused, rest-none, rest-given}
-use Rattle.measure.specs.Comparison.{Facing, Narrowest}
+use Rattle.plane.specs.theory.refusals.Asked.{asked-given, asked-none, asked-values, rest-none, rest-given}
 use Rattle.measure.specs.Extremes.{FirstLongest, FirstNarrowest}
 use Rattle.measure.specs.theory.Longest.{squared-le-length, Longest, length-longest, length-from-least, length-to-least}
 use Rattle.measure.specs.theory.Height.{edgeSquared-positive, facing-width, width-facing, width-earlier}
