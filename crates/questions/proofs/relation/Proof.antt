@@ -3,10 +3,8 @@ use mathlib.Core.Path.{_∙_, ap}
 use mathlib.Core.List.{[], _∷_}
 use borrow.Author.Needs.{needs}
 use lib.IntN.{ℤ, pos}
-use Rattle.plane.specs.Separation.{relationNumber}
 use Rattle.plane.specs.Floor.{Floored, on, Same}
 use Rattle.plane.specs.Question.{askRelation}
-use Rattle.separation.specs.Around.{related}
 use Rattle.admission.specs.theory.Door.{shapes-refused, all-answered}
 use Rattle.questions.proofs.relation.Statement.{statement}
 use Rattle.questions.proofs.relation.Tie as tie
@@ -43,7 +41,6 @@ stand-requires : tie.Need-stand-requires
 stand-requires c κs = search needs
 
 returns-2 : tie.Need-returns-2
-unfolding relationNumber related
 returns-2 c =
     let at-relation = c .before in
     let start = at-relation .before .before .before .before in

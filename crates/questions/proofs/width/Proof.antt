@@ -45,9 +45,9 @@ count-requires c κs = search needs
 
 returns-2 : tie.Need-returns-2
 returns-2 c =
-    let q = askWidth (shape (c .before .before .before .before .before)) in
-    rest-refused q (valid (c .before .before))
-    (refuses {rows = q .rest} (here (lt-ltb _ 3 (omega (arith, c .if1 .taken, c .before .count .ensures))))) .0
+    let a = shape (c .before .before .before .before .before) in
+    let flat = lt-ltb (length (corners a)) 3 (omega (arith, c .if1 .taken, c .before .count .ensures)) in
+    rest-refused (askWidth a) (valid (c .before .before)) (refuses {rows = askWidth a .rest} (here flat)) .0
 
 narrowest-edge-requires : tie.Need-narrowest-edge-requires
 narrowest-edge-requires c κs = (valid (c .before .before), three c)

@@ -98,7 +98,7 @@ module _ (b : List ℕ) (n floor : ℕ) (l : List ℤ) (k : ℕ) where
   unfolding addReply
   add-refused {r} f =
       let more = refuses-append (damageRow b ∷ full ∷ []) f in
-      follows r b (f .is ∙ sym (firstRow-given done (more .first))) (ap (λ (x : Reply). unlessRefusal x b all) (sym (f .is)))
+      follows r b (more .is ∙ sym (firstRow-given done (more .first))) (ap (λ (x : Reply). unlessRefusal x b all) (sym (f .is)))
 
   module _ (v : Valid l) where
     past : firstRow (damageRow b ∷ full ∷ []) done ≡ addReply b n floor l k

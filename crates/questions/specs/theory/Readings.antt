@@ -35,13 +35,13 @@ module _ (x y : Reading) (r : Reply) where
   unfolding tabletReply
   refused-x f =
       let more = refuses-append (readingRows 2 y) f in
-      follows x y r [] (f .is ∙ sym (firstRow-given _ (more .first))) (sym (ap sentBack (f .is)))
+      follows x y r [] (more .is ∙ sym (firstRow-given _ (more .first))) (sym (ap sentBack (f .is)))
 
   pub refused-y : (m : ℤ) → readAs x ≡ Whole m → Refuses (readingRows 2 y) r → sent r [] ≡ tabletSent x y
   unfolding tabletReply
   refused-y m h f =
       let more = refuses-join (readingRows 1 x) (whole-passed 1 x m h) f in
-      follows x y r [] (f .is ∙ sym (firstRow-given _ (more .first))) (sym (ap sentBack (f .is)))
+      follows x y r [] (more .is ∙ sym (firstRow-given _ (more .first))) (sym (ap sentBack (f .is)))
 
 pub sent-corner : (x y : Reading) (m n : ℤ) → readAs x ≡ Whole m → readAs y ≡ Whole n
     → sent (answered (m ∷ n ∷ [])) (holding m ∷ holding n ∷ []) ≡ tabletSent x y

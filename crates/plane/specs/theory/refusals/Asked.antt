@@ -3,12 +3,10 @@
 --     asked-given, asked-refused        a refusal is given exactly when its row applies and none before it does
 --     asked-none, asked-answered        an answer exactly when none applies; `asked-values`: with these values
 --     asked-kept, asked-wrote           a refusal leaves the output as it was; an answer writes the shape at its front
---     asked-shapes                      an answer is given only of shapes that are good
+--     asked-shapes, asked-rest          an answer is given only of shapes that are good, and if none of the question's own rows applies
 --     asked-floors                      two good shapes on different floors are refused 13
 --     shapes-given, rest-given, rest-none     the first row that applies, by the part of the table where it is
---     given-written, none-written       reply and output together
---     rows-passed                       rows that do not apply may be left out
---     same-asked, same-made             questions that are asked of equal values
+--     given-kept, none-wrote            the output, by the first row that applies, or if none does
 use mathlib.Core.Path.{_≡_, refl, sym, _∙_, ap, subst}
 use mathlib.Core.Bool.{not}
 use mathlib.Core.List.{List, [], _∷_, _++_}
