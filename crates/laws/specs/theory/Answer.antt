@@ -4,7 +4,9 @@
 --     made-answered                    of whatever is lent, what is answered is the shape that is made, its count and its floor
 --     Made s shape t, made             what is lent is good, the shape keeps the limits, and t is the shape: so if t is given
 --     made-corners                     the corners of t are those of the shape
---     Reaches c a b s                  all three are valid and on one floor; in every direction s reaches as far as c of what a and b reach
+--     Reaches far a b s                all three are valid and on one floor; in every direction s reaches so far
+--     made-reaches                     what is made of a and b reaches as far as the set whose shape it is
+--     both c a b                       as far as c of what a and b reach
 --     Combines call c                  c is an operation that every answer of the call follows
 --     sum-combines, merge-combines     a sum adds, a merge takes the greater
 --     called-reaches                   also where the two shapes are in the other order
@@ -89,18 +91,16 @@ made-valid {shape = shape} i m = subst (λ (t : Floored). Valid (t .list)) (sym 
 
 -- ---- how far the answer reaches
 
-pub record Reaches (c : ℤ → ℤ → ℤ) (a b s : Floored) : Type 0 where
+pub record Reaches (far : Point → ℤ) (a b s : Floored) : Type 0 where
   pub same : Same a b
   pub valid : Valid (s .list)
   pub on-floor : s .floor ≡ a .floor
-  pub reach : (d : Point) → support d (corners s) ≡ c (support d (corners a)) (support d (corners b))
+  pub reach : (d : Point) → support d (corners s) ≡ far d
 
--- the set S whose shape is made of a and b reaches as far as c of what they reach
-module _ (c : ℤ → ℤ → ℤ) (a b : Floored) (S : List Point) (out : List ℤ) (s : Floored)
+module _ (far : Point → ℤ) (a b : Floored) (S : List Point) (out : List ℤ) (s : Floored)
     (some : 0 < length (corners a) → 0 < length (corners b) → 0 < length S)
-    (follows : 0 < length (corners a) → 0 < length (corners b)
-    → (d : Point) → support d S ≡ c (support d (corners a)) (support d (corners b))) where
-  made-reaches : Gives (written (makes (twoShapes a b) (shapeOf S) out)) s → Reaches c a b s
+    (follows : 0 < length (corners a) → 0 < length (corners b) → (d : Point) → support d S ≡ far d) where
+  pub made-reaches : Gives (written (makes (twoShapes a b) (shapeOf S) out)) s → Reaches far a b s
   made-reaches g =
       let m = made (twoShapes a b) (shapeOf S) out g in
       let v = m .good .first-valid .shape .some in
@@ -114,11 +114,14 @@ module _ (c : ℤ → ℤ → ℤ) (a b : Floored) (S : List Point) (out : List 
 
 -- ---- sum and merge
 
+abbrev pub both : (ℤ → ℤ → ℤ) → Floored → Floored → Point → ℤ
+both c a b d = c (support d (corners a)) (support d (corners b))
+
 pub record Combines (call : Call) (c : ℤ → ℤ → ℤ) : Type 0 where
   pub comm : (x y : ℤ) → c x y ≡ c y x
   pub assoc : (x y z : ℤ) → c (c x y) z ≡ c x (c y z)
   pub cancel : (x y : ℤ) → ((z : ℤ) → c x z ≡ c y z) → x ≡ y
-  pub gives→reaches : (a b : Floored) (out : List ℤ) (s : Floored) → Gives (call a b out) s → Reaches c a b s
+  pub gives→reaches : (a b : Floored) (out : List ℤ) (s : Floored) → Gives (call a b out) s → Reaches (both c a b) a b s
 
 plus-cancel : (x y : ℤ) → ((z : ℤ) → x +ℤ z ≡ y +ℤ z) → x ≡ y
 plus-cancel x y h = sym (+ℤ-idr x) ∙ h (pos 0) ∙ +ℤ-idr y
@@ -134,7 +137,7 @@ sum-combines = record {
   comm = +ℤ-comm;
   assoc = +ℤ-assoc;
   cancel = plus-cancel;
-  gives→reaches = λ a b out s. made-reaches _+ℤ_ a b (sums (corners a) (corners b)) out s
+  gives→reaches = λ a b out s. made-reaches (both _+ℤ_ a b) a b (sums (corners a) (corners b)) out s
       (sums-some (corners a) (corners b)) (λ m n d. support-sums d (corners a) (corners b) m n);
 }
 
@@ -143,11 +146,12 @@ merge-combines = record {
   comm = max-comm;
   assoc = max-assoc;
   cancel = max-cancel;
-  gives→reaches = λ a b out s. made-reaches max a b (corners a ++ corners b) out s
+  gives→reaches = λ a b out s. made-reaches (both max a b) a b (corners a ++ corners b) out s
       (λ m n. omega (arith, length-append (corners a) (corners b))) (λ m n d. support-append d (corners a) (corners b) m n);
 }
 
-pub called-reaches : {call : Call} {c : ℤ → ℤ → ℤ} → Combines call c → {a b s : Floored} → Called call a b s → Reaches c a b s
+pub called-reaches : {call : Call} {c : ℤ → ℤ → ℤ} → Combines call c → {a b s : Floored} → Called call a b s
+    → Reaches (both c a b) a b s
 called-reaches k {a} {b} {s} (as-named out g) = k .gives→reaches a b out s g
 called-reaches k {a} {b} {s} (swapped out g) =
     let r = k .gives→reaches b a out s g in

@@ -21,7 +21,7 @@ use Rattle.plane.specs.Direction.{support}
 use Rattle.plane.specs.Floor.{Floored, corners}
 use Rattle.laws.specs.Grouping.{ShapeOn, AllOn, Call, Grouping, alone, split, Result}
 use Rattle.laws.specs.theory.Order.{order-length, order-member}
-use Rattle.laws.specs.theory.Answer.{Reaches, Combines}
+use Rattle.laws.specs.theory.Answer.{Reaches, both, Combines}
 
 -- ---- no group is empty
 
@@ -73,7 +73,7 @@ module _ {call : Call} {c : ℤ → ℤ → ℤ} (k : Combines call c) where
       go (result-floor g (r .0) (r .2) a) (result-floor h (r .1) (r .3) a) w (List·Memᴰ·append-cases A (order-member order a m))
     where
       go : {B : List Floored} → (List·Memᴰ a A → a .floor ≡ r .0 .floor) → (List·Memᴰ a B → a .floor ≡ r .1 .floor)
-          → Reaches c (r .0) (r .1) l → List·Memᴰ a A ⊎ List·Memᴰ a B → a .floor ≡ l .floor
+          → Reaches (both c (r .0) (r .1)) (r .0) (r .1) l → List·Memᴰ a A ⊎ List·Memᴰ a B → a .floor ≡ l .floor
       go f s w (inl n) = f n ∙ sym (w .on-floor)
       go f s w (inr n) = s n ∙ sym (w .on-floor ∙ w .same .one-floor)
 
