@@ -17,13 +17,16 @@ use Rattle.plane.specs.Tangent.{signOf, touches, tangent, tangentFrom, tangentT
 use Rattle.plane.specs.Floor.{Floored, corners, Same}
 use Rattle.plane.specs.Question.{reply, askTangents}
 use Rattle.separation.specs.theory.Apart.{apart→direction}
-use Rattle.tangents.specs.theory.Only.{
+use Rattle.tangents.specs.Rule.{MeetsRule}
+use Rattle.tangents.specs.theory.TangentUnique.{
   settled-first,
   settled-second,
   settled-nearest,
   touching-on-line,
   settled-tangent,
   tangent-settled,
+  settled-rule,
+  rule-settled,
   tangent-is-settled,
   tangent-back,
 }
@@ -46,10 +49,18 @@ module _ (s t : Bool) (A B : List Point) (a : IsShape A) (b : IsShape B) (h : ap
   tangent-ends-at-corner = tangent-is-settled s t A B a b h .to .within
 
   -- "Each answer is the only pair meeting its rule": it meets it
+  pub answer-meets-rule : MeetsRule s t A B (tangentFrom s t A B) (tangentTo s t A B)
+  answer-meets-rule = settled-rule (apart→direction A B (a .some) (b .some) h) (tangent-is-settled s t A B a b h)
+
+  -- and is the only pair that does: a pair that touches and is the nearest on its own line
+  pub rule-has-one-pair : (i j : ℕ) → MeetsRule s t A B i j → (i ≡ tangentFrom s t A B) × (j ≡ tangentTo s t A B)
+  rule-has-one-pair = rule-settled (apart→direction A B (a .some) (b .some) h) (tangent-is-settled s t A B a b h) a b
+
+  -- it is also the nearest of all pairs that touch
   pub answer-is-tangent : tangent s t A B (tangentFrom s t A B) (tangentTo s t A B) ≡ true
   answer-is-tangent = settled-tangent (apart→direction A B (a .some) (b .some) h) (tangent-is-settled s t A B a b h)
 
-  -- and is the only pair that does
+  -- and the only one
   pub tangent-is-answer : (i j : ℕ) → i < length A → j < length B → tangent s t A B i j ≡ true
       → (i ≡ tangentFrom s t A B) × (j ≡ tangentTo s t A B)
   tangent-is-answer = tangent-settled (apart→direction A B (a .some) (b .some) h) (tangent-is-settled s t A B a b h) a b
