@@ -10,6 +10,7 @@ pub mod Reply
 pub mod Refusal
 pub mod Direction
 pub mod Corner
+pub mod Cut
 pub mod Output
 pub mod VectorSum
 pub mod Face

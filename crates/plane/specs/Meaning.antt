@@ -5,7 +5,7 @@
 --     forms          three ways to say that a list is a shape
 --     directions     how far sums, lists taken together and mirrored lists reach; a shape is known by how far it reaches
 --     faces          the furthest corners of a shape, from the first to the last counterclockwise
---     names          of all directions that point one way, 11 and 12 let exactly one pass
+--     names          of all directions that point one way, 11 and 12 let exactly one pass; 12 is a common divisor above 1
 --     mirror, sweep  refusals 6 and 7 cannot come of them
 use mathlib.Core.Path.{_≡_, refl, sym}
 use mathlib.Core.Bool.{true, false}
@@ -16,6 +16,7 @@ use lib.ListN.{length, drop}
 use lib.IntN.{ℤ, pos, _+ℤ_, _*ℤ_}
 use lib.Signed.{_≤ℤ_, _<ℤ_}
 use Rattle.integer.specs.Bound.{Within}
+use Rattle.plane.specs.Cut.{cutSum}
 use Rattle.plane.specs.Limits.{maxPart}
 use Rattle.plane.specs.Point.{Point, points, numbers, corner, opposite, _∈_, _⊆_}
 use Rattle.plane.specs.Turn.{turn, Left}
@@ -42,7 +43,7 @@ use Rattle.plane.specs.theory.support.Support.{value-le-support, support
 use Rattle.plane.specs.theory.hull.ShapeOf.{shapeOf-support, shapeOf-shape, shapeOf-corner, corner-shapeOf, shapeOf-unique}
 use Rattle.plane.specs.theory.hull.ShapeOf.{shapeOf-same, shape-extensional, shape-known, shape-own}
 use Rattle.plane.specs.theory.support.Bounds.{turn-size, value-size, support-size}
-use Rattle.plane.specs.theory.sum.Cut.{cutSum, cut-formula}
+use Rattle.plane.specs.theory.sum.Cut.{cut-formula}
 use Rattle.plane.specs.VectorSum.{vectorSum}
 use Rattle.plane.specs.theory.sum.EdgeSum.{vectorSum-shape}
 use Rattle.plane.specs.theory.face.FirstFurthest.{furthest-greatest}
@@ -51,6 +52,7 @@ use Rattle.plane.specs.theory.direction.Rows.{direction-some}
 use Rattle.plane.specs.theory.direction.Scaled.{same-face-first, same-face-last}
 use Rattle.plane.specs.theory.direction.Primitive.{primitive-multiple, primitive-support, primitive-same, primitive-bad}
 use Rattle.plane.specs.theory.direction.Primitive.{primitive-common, primitive-only}
+use Rattle.plane.specs.theory.direction.Divisor.{common→divides, divides→common}
 use Rattle.plane.specs.theory.mirror.Mirror.{mirror-count}
 use Rattle.plane.specs.theory.mirror.MirrorSize.{mirror-few, mirror-near}
 use Rattle.plane.specs.theory.sweep.Few.{shapeOf-few}
@@ -301,6 +303,16 @@ module _ (d : Point) (good : badDirection d ≡ false) where
 pub same-way-same-face : {d e : Point} → SameWay d e → (ps : List Point)
     → (faceFirst d ps ≡ faceFirst e ps) × (faceLast d ps ≡ faceLast e ps)
 same-way-same-face s ps = (same-face-first s ps, same-face-last s ps)
+
+module _ (d : Point) where
+  -- "refuses 12 if the two parts have a common divisor above 1": where row 12 applies, some k above 1 divides both parts
+  pub twelve-has-divisor : commonDivisor d ≡ true
+      → (k : ℕ) × (1 < k) × (u : ℤ) × (v : ℤ) × (d .x ≡ pos k *ℤ u) × (d .y ≡ pos k *ℤ v)
+  twelve-has-divisor h = common→divides d h
+
+  -- and where some k above 1 divides both parts, row 12 applies; (0,0) is 11, "12 .. after 11"
+  pub divisor-has-twelve : NonZero d → (k : ℕ) → 1 < k → (u v : ℤ) → d .x ≡ pos k *ℤ u → d .y ≡ pos k *ℤ v → commonDivisor d ≡ true
+  divisor-has-twelve some k above u v x y = divides→common d some k above u v x y
 
 -- ---- mirror
 

@@ -2,7 +2,7 @@
 --     sizeRows shape          refusals 6 and 7, of the answer
 --     roomRow shape out       refusal 8, of the output that is lent
 --     answerRows shape out    all three, in order
---     overwritten new out     the numbers `new` at the front of the output; all after them is kept
+--     overwritten new out     the list `new` at the front of the output, of numbers or of bytes; all after it is kept
 --     unlessRefused rs k n    k if some row applies, else n
 --     Written                 a reply, and the whole output afterwards
 use mathlib.Core.Bool.{Bool, cond}
@@ -30,11 +30,11 @@ abbrev pub answerRows : List Point → List ℤ → List Row
 answerRows shape out = sizeRows shape ++ (roomRow shape out ∷ [])
 
 -- "On success only its first numbers are written"
-unfoldable pub overwritten : List ℤ → List ℤ → List ℤ
+unfoldable pub overwritten : {X : Type 0} → List X → List X → List X
 overwritten new out = new ++ drop (length new) out
 
 -- "The output is untouched on refusal"
-abbrev pub unlessRefused : List Row → List ℤ → List ℤ → List ℤ
+abbrev pub unlessRefused : {X : Type 0} → List Row → List X → List X → List X
 unlessRefused [] kept new = new
 unlessRefused (w ∷ ws) kept new = let later = unlessRefused ws kept new in cond (w .applies) kept later
 

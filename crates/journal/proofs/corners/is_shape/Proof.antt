@@ -7,7 +7,7 @@ use lib.IntN.{ℤ}
 use Rattle.plane.specs.Point.{points}
 use Rattle.plane.specs.Reply.{answered, refused}
 use Rattle.plane.specs.Refusal.{badCount, tooMany, someOutside, ruleBroken, shapeRows}
-use Rattle.plane.specs.Judge.{judged}
+use Rattle.plane.specs.Question.{reply}
 use Rattle.plane.specs.theory.refusals.Accept.{near→inRange, counted, shape→valid, valid→accepted}
 use Rattle.plane.specs.theory.refusals.Rows.{firstRow-none}
 use Rattle.polygon.proofs.LeftRule.{broken-found, broken-none}
@@ -42,21 +42,21 @@ bad-count-requires : tie.Need-bad-count-requires
 bad-count-requires c κs = search needs
 
 returns : tie.Need-returns
-unfolding judged
+unfolding reply
 returns c = rw (sym (c .before .bad-count .ensures) ∙ c .if1 .taken)
 
 too-many-requires : tie.Need-too-many-requires
 too-many-requires c κs = search needs
 
 returns-2 : tie.Need-returns-2
-unfolding judged
+unfolding reply
 returns-2 c = rw (row-1 (c .before .before), sym (c .before .too-many .ensures) ∙ c .if2 .taken)
 
 some-outside-requires : tie.Need-some-outside-requires
 some-outside-requires c κs = search needs
 
 returns-3 : tie.Need-returns-3
-unfolding judged
+unfolding reply
 returns-3 c =
     let at-2 = c .before .before in
     rw (row-1 (at-2 .before .before), row-2 at-2, sym (c .before .some-outside .ensures) ∙ c .if3 .taken)
@@ -67,7 +67,7 @@ is-sorted-requires c κs =
     (near→inRange _ (row-3 c), counted _ (row-1 (at-2 .before .before)) .0)
 
 returns-4 : tie.Need-returns-4
-unfolding judged
+unfolding reply
 returns-4 c =
     let at-3 = c .before .before in
     let at-2 = at-3 .before .before in
@@ -81,7 +81,7 @@ enum-known-edge : tie.Need-enum-known-edge
 enum-known-edge c = search needs
 
 returns-5 : tie.Need-returns-5
-unfolding judged
+unfolding reply
 returns-5 c =
     let at-3 = c .before .before .before .before .before .before in
     let at-2 = at-3 .before .before in
@@ -95,7 +95,7 @@ bad-start-requires : tie.Need-bad-start-requires
 bad-start-requires c κs = search needs
 
 returns-6 : tie.Need-returns-6
-unfolding judged
+unfolding reply
 returns-6 c =
     let at-4 = c .before in
     let at-3 = at-4 .before .before .before .before .before in

@@ -10,10 +10,9 @@ use lib.Seq.{length-take-le}
 use Rattle.plane.specs.Limits.{maxCorners}
 use Rattle.plane.specs.Point.{points}
 use Rattle.plane.specs.Refusal.{tooMany}
-use Rattle.plane.specs.Judge.{judged}
 use Rattle.plane.specs.theory.lists.Flat.{points-length}
 use Rattle.journal.specs.Bytes.{wordsAt}
-use Rattle.journal.specs.Format.{isAnswer}
+use Rattle.journal.specs.Format.{judged, isAnswer}
 use Rattle.journal.specs.theory.Decode.{wordsAt-length, front-is, front-length, many-refused}
 use Rattle.journal.proofs.corners.is_shape_at.Statement.{statement}
 use Rattle.journal.proofs.corners.is_shape_at.Tie as tie

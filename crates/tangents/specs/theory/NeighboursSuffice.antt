@@ -28,8 +28,9 @@ use Rattle.plane.specs.theory.lists.Next.{Following, onward, closing, following
 use Rattle.plane.specs.theory.sum.Positions.{edge-turn}
 use Rattle.separation.specs.theory.Sector.{next-left, sector}
 use Rattle.tangents.specs.Draws.{draws, Facing, Rests, Better}
-use Rattle.tangents.specs.theory.Stays.{Rises, Stays, sign-zero, draws→stays, stays→draws}
-use Rattle.tangents.specs.theory.Walk.{draws-self}
+use Rattle.tangents.specs.theory.Sides.{sign-zero}
+use Rattle.tangents.specs.theory.DrawsTest.{Rises, Stays, draws→stays, stays→draws}
+use Rattle.tangents.specs.theory.DrawsOrder.{draws-self}
 
 -- ---- the sector at p between the edges from a and to c
 
@@ -52,12 +53,13 @@ part {k} {z} s e some h flat near = go (lt-or-le (pos 0) k)
         let level = near (sign-zero s h none) in
         lia (k ∷ e ∷ []) (more <×≤ level) (search linear depth 40) (omega arith)
 
-module _ {s : Bool} {d a p c q : Point} (x : Point) (t : Left a p c) (left : pos 0 ≤ℤ turn a p x) (right : pos 0 ≤ℤ turn p c x)
+module _ {s : Bool} {d a p c q : Point} (x : Point) (bend : Left a p c) (left : pos 0 ≤ℤ turn a p x) (right : pos 0 ≤ℤ turn p c x)
     (before : Stays s d p q a) (after : Stays s d p q c) where
   sector-side : pos 0 ≤ℤ (signOf s *ℤ turn p q x)
   sector-side = contra≤ (λ g. lia
       (signOf s ∷ turn a p c ∷ turn p q x ∷ turn a p x ∷ turn p q c ∷ turn p c x ∷ turn p q a ∷ [])
-      (sector-turn a p c q x ≡× signOf s & t <×< g & left ≤×≤ after .side & right ≤×≤ before .side) (search linear depth 40) (omega arith))
+      (sector-turn a p c q x ≡× signOf s & bend <×< g & left ≤×≤ after .side & right ≤×≤ before .side)
+      (search linear depth 40) (omega arith))
 
   module _ (e : turn p q x ≡ pos 0) where
     -- both parts are on the line
@@ -85,7 +87,7 @@ module _ {s : Bool} {d a p c q : Point} (x : Point) (t : Left a p c) (left : pos
 
     sector-near : value d x ≤ℤ value d p
     sector-near = contra≤ (λ g. lia (turn a p c ∷ turn a p x ∷ turn p c x ∷ value d x ∷ value d p ∷ value d a ∷ value d c ∷ [])
-        (sector d a p c x & t <×< g & part-after & part-before) (search linear depth 40) (omega arith))
+        (sector d a p c x & bend <×< g & part-after & part-before) (search linear depth 40) (omega arith))
 
   sector-stays : Stays s d p q x
   sector-stays = record { side = sector-side; near = sector-near }
@@ -129,7 +131,7 @@ module _ (s : Bool) (ps : List Point) (shape : IsShape ps) (q : Point) (facing :
     pub neighbours-rest : Rests s ps i q
     neighbours-rest = record { within = within; undrawn = go (ltb 2 (length ps)) refl }
       where
-        go : (t : Bool) → ltb 2 (length ps) ≡ t → (k : ℕ) → k < length ps → draws s (corner ps i) q (corner ps k) ≡ false
+        go : (b : Bool) → ltb 2 (length ps) ≡ b → (k : ℕ) → k < length ps → draws s (corner ps i) q (corner ps k) ≡ false
         go true e = neighbours-many (ltb-true 2 (length ps) e)
         go false e = neighbours-few (ltb-false 2 (length ps) e)
 

@@ -1,10 +1,10 @@
--- A walk from point to point that each draws the start of a line to q away.
---     draws-self, draws-trans    it never comes back
+-- The test `draws` as an order of points: x comes after p if it draws the start of the line to q away from p.
+--     draws-self, draws-trans    the order is strict, so a walk along it never comes back
 --     across-line                the step from p to x by the step from p to q
 --     on-line-same               a point of the line that is as far in d as p is p
 --     stays-same                 of two that both stay one is the other
 use mathlib.Core.Path.{_≡_}
-use mathlib.Core.Bool.{Bool, true, false}
+use mathlib.Core.Bool.{Bool, true, false, not}
 use mathlib.Core.List.{[], _∷_}
 use native.Mathlib.Omega.{arith}
 use lib.IntN.{ℤ, pos, negℤ, _+ℤ_, _-ℤ_, _*ℤ_}
@@ -19,19 +19,22 @@ use Rattle.plane.specs.theory.lists.Members.{point-path}
 use Rattle.plane.specs.theory.forms.Vector.{turn-back}
 use Rattle.separation.specs.theory.Sector.{zero-factor}
 use Rattle.tangents.specs.Draws.{draws}
-use Rattle.tangents.specs.theory.Stays.{Rises, rise-gap, Stays, Drawn, across, ahead, sign-zero, draws→drawn, drawn→draws}
+use Rattle.tangents.specs.theory.Sides.{sign-zero}
+use Rattle.tangents.specs.theory.DrawsTest.{Rises, rise-gap, Stays, Drawn, across, ahead, draws→drawn, drawn→draws}
 
--- ---- the walk never comes back
+-- ---- the order is strict
 
 -- a point is not ahead of itself
 value-self : (e p : Point) → value e (p ⊖ p) ≡ pos 0
 unfolding value
 value-self e p = ring (e .x ∷ e .y ∷ p .x ∷ p .y ∷ []) (search reify depth 40) tt
 
+times-zero : (z : ℤ) → z *ℤ pos 0 ≡ pos 0
+times-zero z = ring (z ∷ []) (search reify depth 40) tt
+
 pub draws-self : (s : Bool) (p q : Point) → draws s p q p ≡ false
 unfolding draws onSide
-draws-self true p q = rw (turn-back p q, value-self (q ⊖ p) p)
-draws-self false p q = rw (turn-back p q, value-self (q ⊖ p) p)
+draws-self s p q = rw (turn-back p q, times-zero (signOf s), times-zero (signOf (not s)), value-self (q ⊖ p) p)
 
 -- three lines to q
 three-lines : (d p q x y : Point) → (value d q -ℤ value d x) *ℤ turn p q y

@@ -1,39 +1,28 @@
 -- The test `draws` as facts about turns and the value in a direction d, in which the line rises from p to q.
---     sign-zero, sign-not           signs
---     draws-off, -beside, -along, side-left, side-right      the test step by step
+--     draws-off, -beside, -along    the test step by step
 --     Rises d p q                   the line rises; `rise-gap`, `rise-positive`: by how much, and that it has a length
+--     rise-back, value-back         the line turned round rises in the opposite direction
 --     Stays s d p q x               p stays the start of the line to q: x is on side s, and not ahead of p on the line
 --     Drawn s d p q x               x draws it away
 --     draws→stays, draws→drawn      what the test says; `stays→draws`, `drawn→draws` the other way
--- What a walk from point to point along the test does is in `Walk.antt`.
+-- The order that the test makes of points is in `DrawsOrder.antt`.
 use mathlib.Core.Path.{_≡_, refl, ap}
 use mathlib.Core.Bool.{Bool, true, false, not, _&&_, _||_, true≢false, false≢true}
 use mathlib.Core.List.{[], _∷_}
 use native.Mathlib.Omega.{arith}
-use lib.IntN.{ℤ, pos, negℤ, _+ℤ_, _-ℤ_, _*ℤ_}
-use lib.Signed.{_≤ℤ_, _<ℤ_, ltZ, leZ}
-use Rattle.integer.specs.Laws.{one-*ℤ}
+use lib.IntN.{pos, _+ℤ_, _-ℤ_, _*ℤ_}
+use lib.Signed.{_≤ℤ_, _<ℤ_, ltZ}
 use Rattle.integer.specs.Ring.{ring, reify}
 use Rattle.integer.specs.Linear.{linear, lia, _&_}
-use Rattle.integer.specs.Order.{_<×<_, _<×≤_, _≡×_, contra<, contra≤, le-leZ, ltZ-true, ltZ-false, leZ-true, leZ-false}
-use Rattle.plane.specs.Point.{Point, _⊖_}
+use Rattle.integer.specs.Order.{_<×<_, _<×≤_, _≡×_, contra<, contra≤, ltZ-true, ltZ-false, leZ-true, leZ-false}
+use Rattle.plane.specs.Point.{Point, opposite, _⊖_}
 use Rattle.plane.specs.Turn.{turn, cross}
 use Rattle.plane.specs.Direction.{value}
 use Rattle.plane.specs.Tangent.{signOf, onSide}
-use Rattle.plane.specs.theory.lists.Sought.{tests-agree}
-use Rattle.plane.specs.theory.forms.Vector.{⊖-zero}
+use Rattle.plane.specs.theory.forms.Vector.{⊖-zero, value-turned}
 use Rattle.separation.specs.theory.Sector.{square-positive}
 use Rattle.tangents.specs.Draws.{draws}
-
--- ---- signs
-
-pub sign-not : (s : Bool) → signOf (not s) ≡ negℤ (signOf s)
-sign-not true = refl
-sign-not false = refl
-
-pub sign-zero : (s : Bool) {z : ℤ} → pos 0 ≤ℤ (signOf s *ℤ z) → (signOf s *ℤ z) ≤ℤ pos 0 → z ≡ pos 0
-sign-zero true {z} h k = lia (z ∷ []) (h & k) (search linear depth 40) (omega arith)
-sign-zero false {z} h k = lia (z ∷ []) (h & k) (search linear depth 40) (omega arith)
+use Rattle.tangents.specs.theory.Sides.{sign-not, sign-zero}
 
 -- ---- the test, as code makes it
 
@@ -50,23 +39,26 @@ module _ (s : Bool) (p q x : Point) where
   unfolding draws
   draws-along h k = rw (h, k)
 
--- a turn's side
-pub side-left : (z : ℤ) → leZ (pos 0) (signOf true *ℤ z) ≡ leZ (pos 0) z
-side-left z = ap (leZ (pos 0)) (one-*ℤ z)
+-- ---- a line that rises in d
 
-pub side-right : (z : ℤ) → leZ (pos 0) (signOf false *ℤ z) ≡ leZ z (pos 0)
-side-right z = tests-agree _ _
-    (λ h. le-leZ {x = z} {y = pos 0} (lia (z ∷ []) (leZ-true {x = pos 0} {y = signOf false *ℤ z} h) (search linear depth 40) (omega arith)))
-    (λ h. le-leZ {x = pos 0} {y = signOf false *ℤ z} (lia (z ∷ []) (leZ-true {x = z} {y = pos 0} h) (search linear depth 40) (omega arith)))
-
--- ---- the facts
-
--- the line rises in d
 pub record Rises (d p q : Point) : Type 0 where
   pub up : value d p <ℤ value d q
 
 pub rise-gap : {d p q : Point} → Rises d p q → pos 0 <ℤ (value d q -ℤ value d p)
 rise-gap {d} {p} {q} h = lia (value d p ∷ value d q ∷ []) (h .up) (search linear depth 40) (omega arith)
+
+-- the line, turned round, rises in the opposite direction
+pub rise-back : {d p q : Point} → Rises d p q → Rises (opposite d) q p
+rise-back {d} {p} {q} h = record {
+  up = lia (value d p ∷ value d q ∷ value (opposite d) p ∷ value (opposite d) q ∷ [])
+      (h .up & value-turned d p & value-turned d q) (search linear depth 40) (omega arith);
+}
+
+pub value-back : (d p q : Point) → value (opposite d) (q ⊖ p) ≡ value d p -ℤ value d q
+unfolding value
+value-back d p q = ring (d .x ∷ d .y ∷ p .x ∷ p .y ∷ q .x ∷ q .y ∷ []) (search reify depth 40) tt
+
+-- ---- the facts
 
 pub record Stays (s : Bool) (d p q x : Point) : Type 0 where
   pub side : pos 0 ≤ℤ (signOf s *ℤ turn p q x)
@@ -143,13 +135,13 @@ module _ (s : Bool) {d p q : Point} (x : Point) (rise : Rises d p q) where
   pub stays→draws : Stays s d p q x → draws s p q x ≡ false
   stays→draws h = go (draws s p q x) refl
     where
-      go : (t : Bool) → draws s p q x ≡ t → t ≡ false
+      go : (b : Bool) → draws s p q x ≡ b → b ≡ false
       go true e = absurd (stays-not-drawn h (draws→drawn e))
       go false e = refl
 
   pub drawn→draws : Drawn s d p q x → draws s p q x ≡ true
   drawn→draws h = go (draws s p q x) refl
     where
-      go : (t : Bool) → draws s p q x ≡ t → t ≡ true
+      go : (b : Bool) → draws s p q x ≡ b → b ≡ true
       go true e = refl
       go false e = absurd (stays-not-drawn (draws→stays e) h)

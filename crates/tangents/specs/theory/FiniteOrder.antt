@@ -1,7 +1,7 @@
--- How many numbers pass a test, and what it is good for: a walk along a relation that never comes back ends.
+-- A strict order on the numbers below n has a last one: each step of a walk along it leaves fewer numbers after it.
 --     counted p n        how many numbers below n pass the test p
---     counted-less       a test that passes less often
---     counted-after      what comes after k is less than what comes after i, if k comes after i
+--     counted-less       fewer pass p than q, if q passes all that p does and one more
+--     counted-after      if k comes after i, fewer numbers come after k than after i
 --     last-of            so there is a number after which none comes
 use mathlib.Core.Path.{_≡_, refl}
 use mathlib.Core.Bool.{Bool, true, false, cond}
@@ -43,7 +43,7 @@ counted-less p q (suc n) f k h a b = go (ℕ-discrete k n) (counted-less p q n (
         rw (rw e at a, rw e at b) (omega arith)
     go (no e) earlier = step-less (p n) (q n) (earlier (omega arith) a b) (f n (omega arith))
 
--- ---- a relation that never comes back: r i k says that k comes after i
+-- ---- a strict order: r i k says that k comes after i
 
 module _ (r : ℕ → ℕ → Bool) (n : ℕ) (self : (i : ℕ) → i < n → r i i ≡ false)
     (trans : (i j k : ℕ) → i < n → j < n → k < n → r i j ≡ true → r j k ≡ true → r i k ≡ true) where
@@ -54,7 +54,7 @@ module _ (r : ℕ → ℕ → Bool) (n : ℕ) (self : (i : ℕ) → i < n → r 
   walk zero i h f = absurd (omega arith)
   walk (suc fuel) i h f = go (some (r i) n) refl (walk fuel)
     where
-      go : (t : Bool) → some (r i) n ≡ t
+      go : (b : Bool) → some (r i) n ≡ b
           → ((j : ℕ) → j < n → counted (r j) n < fuel → (j : ℕ) × (j < n) × ((k : ℕ) → k < n → r j k ≡ false))
           → (j : ℕ) × (j < n) × ((k : ℕ) → k < n → r j k ≡ false)
       go false e further = (i, h, some-none (r i) n e)

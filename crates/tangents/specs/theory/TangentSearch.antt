@@ -18,8 +18,8 @@ use Rattle.plane.specs.theory.lists.Sought.{true-not-false}
 use Rattle.polygon.specs.theory.Small.{small-corner}
 use Rattle.separation.specs.theory.Apart.{Separated, apart→direction}
 use Rattle.tangents.specs.Draws.{draws, Facing, Rests, Better, Ready}
-use Rattle.tangents.specs.theory.Settled.{Settled, facing, facing-back, rest-same}
-use Rattle.tangents.specs.theory.Only.{settled-from, settled-to, tangent-is-settled}
+use Rattle.tangents.specs.theory.SettledExists.{Settled, facing, facing-back, rest-same}
+use Rattle.tangents.specs.theory.TangentUnique.{settled-from, settled-to, tangent-is-settled}
 
 pub record Searching (s t : Bool) (A B : List Point) (from to : ℕ) : Type 0 where
   pub start : from < length A

@@ -1,7 +1,9 @@
--- A settled pair touches, is nearer than any other on its line, and so is the only tangent of its kind.
+-- A settled pair touches, is nearer than any other on its line, and so is the only tangent of its kind: the only pair that meets the rule.
 --     settled-first, settled-second   all of the first list is on its side or on the line; likewise the second
 --     settled-nearest                 of the corners on the line no two are nearer
+--     touching-on-line                all pairs that touch are on the line
 --     settled-tangent                 a settled pair is a tangent; `tangent-settled`: of shapes, any tangent is the settled pair
+--     settled-rule                    a settled pair meets the rule; `rule-settled`: of shapes, any pair that meets it is the settled pair
 --     settled-from, settled-to        it is what the definition finds
 --     settled-back                    the line turned round is settled, of the kind with both sides exchanged
 --     tangent-is-settled              so of shapes that are apart the tangent is settled; `tangent-back`: exchanging them turns it round
@@ -15,58 +17,26 @@ use lib.IntN.{pos, _*ℤ_}
 use lib.ListN.{length}
 use lib.Signed.{_≤ℤ_, ltZ}
 use Rattle.integer.specs.Linear.{linear, lia, _&_}
-use Rattle.integer.specs.Order.{_≡×_, weaken, le-leZ, leZ-true, lt-ltZ, le-ltZ, contra≤}
+use Rattle.integer.specs.Order.{weaken, lt-ltZ, le-ltZ, contra≤}
 use Rattle.plane.specs.Point.{Point, opposite, corner}
 use Rattle.plane.specs.Turn.{turn, turn-swap}
 use Rattle.plane.specs.Search.{some, first}
 use Rattle.plane.specs.Shape.{IsShape}
 use Rattle.plane.specs.Direction.{value}
 use Rattle.plane.specs.Measure.{squared}
-use Rattle.plane.specs.Tangent.{signOf, onSide, allOnSide, touches, nearer, tangent, tangentFrom, tangentTo}
-use Rattle.plane.specs.theory.lists.Sought.{true-not-false, all-every, every-all, some-here, some-none, none-some, first-unique}
+use Rattle.plane.specs.Tangent.{signOf, touches, nearer, tangent, tangentFrom, tangentTo}
+use Rattle.plane.specs.theory.lists.Sought.{true-not-false, some-here, some-none, none-some, first-unique}
 use Rattle.plane.specs.theory.forms.Vector.{value-turned}
 use Rattle.plane.specs.theory.sum.Positions.{corner-injective}
 use Rattle.plane.specs.Separation.{apart}
 use Rattle.separation.specs.theory.Apart.{Separated, apart→direction, apart-sym}
+use Rattle.tangents.specs.Rule.{MeetsRule}
 use Rattle.tangents.specs.Draws.{Rests}
-use Rattle.tangents.specs.theory.Stays.{Rises, Stays, sign-not, draws→stays}
-use Rattle.tangents.specs.theory.Lines.{rise-back, one-line, nearest-same}
-use Rattle.tangents.specs.theory.Settled.{Settled, rises, settled-exists}
-
--- ---- tests
-
-both-true : {x y : Bool} → x ≡ true → y ≡ true → (x && y) ≡ true
-both-true e f = ap₂ _&&_ e f
-
-first-of-both : (x y : Bool) → (x && y) ≡ true → x ≡ true
-first-of-both x y h = and-eq-true-iff x y .0 h .0
-
-second-of-both : (x y : Bool) → (x && y) ≡ true → y ≡ true
-second-of-both x y h = and-eq-true-iff x y .0 h .1
-
--- the other end of the line, the other side
-side-back : (t : Bool) (p q y : Point) → pos 0 ≤ℤ (signOf (not t) *ℤ turn q p y) → pos 0 ≤ℤ (signOf t *ℤ turn p q y)
-side-back t p q y h = lia (signOf t ∷ signOf (not t) ∷ turn p q y ∷ turn q p y ∷ [])
-    (h & sign-not t ≡× turn q p y & turn-swap p q y ≡× signOf t) (search linear depth 40) (omega arith)
-
-module _ (s t : Bool) (A B : List Point) (i j : ℕ) where
-  -- what touches has all corners on their sides
-  pub touches-first : touches s t A B i j ≡ true → (k : ℕ) → k < length A
-      → pos 0 ≤ℤ (signOf s *ℤ turn (corner A i) (corner B j) (corner A k))
-  unfolding touches onSide
-  touches-first h k l =
-      leZ-true (every-all (λ k. onSide s (corner A i) (corner B j) (corner A k)) (length A) (first-of-both _ _ h) k l)
-
-  pub touches-second : touches s t A B i j ≡ true → (k : ℕ) → k < length B
-      → pos 0 ≤ℤ (signOf t *ℤ turn (corner A i) (corner B j) (corner B k))
-  unfolding touches onSide
-  touches-second h k l = leZ-true (every-all (λ k. onSide t (corner A i) (corner B j) (corner B k)) (length B)
-      (second-of-both (allOnSide s (corner A i) (corner B j) A) _ h) k l)
-
-  pub touches-all : ((k : ℕ) → k < length A → pos 0 ≤ℤ (signOf s *ℤ turn (corner A i) (corner B j) (corner A k)))
-      → ((k : ℕ) → k < length B → pos 0 ≤ℤ (signOf t *ℤ turn (corner A i) (corner B j) (corner B k))) → touches s t A B i j ≡ true
-  unfolding touches onSide
-  touches-all f g = both-true (all-every _ (length A) (λ k l. le-leZ (f k l))) (all-every _ (length B) (λ k l. le-leZ (g k l)))
+use Rattle.tangents.specs.theory.Sides.{side-back}
+use Rattle.tangents.specs.theory.DrawsTest.{Rises, rise-back, Stays, draws→stays}
+use Rattle.tangents.specs.theory.NearestOnLine.{nearest-same}
+use Rattle.tangents.specs.theory.SettledExists.{Settled, rises, settled-exists}
+use Rattle.tangents.specs.theory.Touching.{touches-all, touching-one-line}
 
 -- ---- a settled pair
 
@@ -95,7 +65,7 @@ module _ {s t : Bool} {A B : List Point} (sep : Separated A B) {i j : ℕ} (w : 
   pub settled-second : (k : ℕ) → k < length B → pos 0 ≤ℤ (signOf t *ℤ turn p q (corner B k))
   settled-second k h = side-back t p q (corner B k) (stays-to k h .side)
 
-  pub settled-touches : touches s t A B i j ≡ true
+  settled-touches : touches s t A B i j ≡ true
   settled-touches = touches-all s t A B i j settled-first settled-second
 
   module _ (k l : ℕ) (h : k < length A) (m : l < length B) where
@@ -119,9 +89,10 @@ module _ {s t : Bool} {A B : List Point} (sep : Separated A B) {i j : ℕ} (w : 
 
     module _ (touch : touches s t A B k l ≡ true) where
       pub touching-on-line : (turn p q (corner A k) ≡ pos 0) × (turn p q (corner B l) ≡ pos 0)
-      touching-on-line = one-line rise (rises sep i l (w .from .within) m) (rises sep k j h (w .to .within)) (rises sep k l h m)
-          s t (settled-first k h) (settled-second l m)
-          (touches-first s t A B k l touch i (w .from .within)) (touches-second s t A B k l touch j (w .to .within))
+      touching-on-line = touching-one-line s t sep (w .from .within) (w .to .within) h m settled-touches touch
+
+      on-touching-line : (turn (corner A k) (corner B l) p ≡ pos 0) × (turn (corner A k) (corner B l) q ≡ pos 0)
+      on-touching-line = touching-one-line s t sep h m (w .from .within) (w .to .within) touch settled-touches
 
       touching-same : squared (corner A k) (corner B l) ≤ℤ squared p q → (corner A k ≡ p) × (corner B l ≡ q)
       touching-same = let line = touching-on-line in as-near (line .0) (line .1)
@@ -139,26 +110,41 @@ module _ {s t : Bool} {A B : List Point} (sep : Separated A B) {i j : ℕ} (w : 
 
   pub settled-tangent : tangent s t A B i j ≡ true
   unfolding tangent
-  settled-tangent = both-true settled-touches (ap not (none-some _ (length A) (λ k h. none-some _ (length B) (λ l m. not-nearer k l h m))))
+  settled-tangent = and-eq-true-iff _ _ .1
+      (settled-touches, ap not (none-some _ (length A) (λ k h. none-some _ (length B) (λ l m. not-nearer k l h m))))
+
+  pub settled-rule : MeetsRule s t A B i j
+  settled-rule = record { begins = w .from .within; ends = w .to .within; touching = settled-touches; nearest = settled-nearest }
 
   -- ---- the only one
 
   tangent-touches : (k l : ℕ) → tangent s t A B k l ≡ true → touches s t A B k l ≡ true
   unfolding tangent
-  tangent-touches k l e = first-of-both _ _ e
+  tangent-touches k l e = and-eq-true-iff _ _ .0 e .0
 
   -- the settled pair touches, so a tangent is no further
   tangent-nearest : (k l : ℕ) → tangent s t A B k l ≡ true → squared (corner A k) (corner B l) ≤ℤ squared p q
   unfolding tangent nearer
-  tangent-nearest k l e = contra≤ (λ g. true-not-false (both-true settled-touches (lt-ltZ g))
+  tangent-nearest k l e = contra≤ (λ g. true-not-false (and-eq-true-iff _ _ .1 (settled-touches, lt-ltZ g))
       (some-none (nearer s t A B k l i) (length B) (some-none (λ n. some (nearer s t A B k l n) (length B)) (length A)
-      (not-true _ (second-of-both (touches s t A B k l) _ e)) i (w .from .within)) j (w .to .within)))
+      (not-true _ (and-eq-true-iff (touches s t A B k l) _ .0 e .1)) i (w .from .within)) j (w .to .within)))
 
   module _ (shape-A : IsShape A) (shape-B : IsShape B) where
-    pub tangent-settled : (k l : ℕ) → k < length A → l < length B → tangent s t A B k l ≡ true → (k ≡ i) × (l ≡ j)
-    tangent-settled k l h m e =
-        let same = touching-same k l h m (tangent-touches k l e) (tangent-nearest k l e) in
+    touching-is-settled : (k l : ℕ) → k < length A → l < length B → touches s t A B k l ≡ true
+        → squared (corner A k) (corner B l) ≤ℤ squared p q → (k ≡ i) × (l ≡ j)
+    touching-is-settled k l h m e near =
+        let same = touching-same k l h m e near in
         (corner-injective A shape-A k i h (w .from .within) (same .0), corner-injective B shape-B l j m (w .to .within) (same .1))
+
+    pub tangent-settled : (k l : ℕ) → k < length A → l < length B → tangent s t A B k l ≡ true → (k ≡ i) × (l ≡ j)
+    tangent-settled k l h m e = touching-is-settled k l h m (tangent-touches k l e) (tangent-nearest k l e)
+
+    -- the settled pair is on the line of any pair that touches, and so is compared with it by that pair's rule
+    pub rule-settled : (k l : ℕ) → MeetsRule s t A B k l → (k ≡ i) × (l ≡ j)
+    rule-settled k l r =
+        let line = on-touching-line k l (r .begins) (r .ends) (r .touching) in
+        touching-is-settled k l (r .begins) (r .ends) (r .touching)
+        (r .nearest i j (w .from .within) (w .to .within) (line .0) (line .1))
 
     not-tangent : (k l : ℕ) → k < length A → l < length B → ((k ≡ i) × (l ≡ j) → ⊥) → tangent s t A B k l ≡ false
     not-tangent k l h m other = go (tangent s t A B k l) refl

@@ -20,10 +20,10 @@ use Rattle.plane.specs.theory.lists.Sought.{some-none, none-some, first-at-most
 use Rattle.plane.specs.theory.forms.Vector.{value-origin}
 use Rattle.separation.specs.theory.Apart.{Separated}
 use Rattle.tangents.specs.Draws.{draws, Facing, Rests}
-use Rattle.tangents.specs.theory.Counted.{last-of}
-use Rattle.tangents.specs.theory.Stays.{Rises, draws→stays, draws→drawn}
-use Rattle.tangents.specs.theory.Walk.{draws-self, draws-trans, stays-same}
-use Rattle.tangents.specs.theory.Lines.{rise-back, value-back, start-rests}
+use Rattle.tangents.specs.theory.FiniteOrder.{last-of}
+use Rattle.tangents.specs.theory.DrawsTest.{Rises, rise-back, value-back, draws→stays, draws→drawn}
+use Rattle.tangents.specs.theory.DrawsOrder.{draws-self, draws-trans, stays-same}
+use Rattle.tangents.specs.theory.EndStays.{end-stays}
 
 pub record Settled (s t : Bool) (A B : List Point) (i j : ℕ) : Type 0 where
   pub from : Rests s A i (corner B j)
@@ -121,7 +121,7 @@ module _ {A B : List Point} (sep : Separated A B) where
         go true e =
             let here = rises (start j) j (rests j (end .1) .within) (end .1) in
             let there = rises (start k) k (rests k l .within) l in
-            absurd (start-rests here (rises (start j) k (rests j (end .1) .within) l) there
+            absurd (end-stays here (rises (start j) k (rests j (end .1) .within) l) there
             (draws→stays s _ here (rests j (end .1) .undrawn (start k) (rests k l .within)))
             (draws→stays s _ there (rests k l .undrawn (start j) (rests j (end .1) .within)))
             (draws→stays (not t) _ (climbs j (end .1)) (end .2 k l))
