@@ -4,7 +4,7 @@
 --     grown B A             the obstacle B grown by the outline A
 --     placed A t            the cart at place t
 --     driven A t u          what the cart passes over, driving straight from t to u without turning
---     Differs p G H         relation tells G and H apart at the place p
+--     Differs p G H         the point p is apart from H and not from G, so that relation answers differently
 --     listOf ps f           the list of the points ps, on floor f
 --     growCall b a out      the question: the obstacle b, the cart's outline a, both with their floors, and a lent output
 --     mirrorCall a out      a mirror of the outline a
@@ -37,7 +37,6 @@ placed A t = map (λ p. p ⊕ t) A
 abbrev pub driven : List Point → Point → Point → List Point
 driven A t u = sums A (t ∷ u ∷ [])
 
--- p is apart from H and not from G
 abbrev pub Differs : Point → List Point → List Point → Type 0
 Differs p G H = (apart (p ∷ []) G ≡ false) × (apart (p ∷ []) H ≡ true)
 
