@@ -97,10 +97,10 @@ not-apart-has-common-point A B a b h = not-apart-common A B a b h
 
 -- two valid shapes on one floor
 module _ (a b : Floored) (s : Same a b) where
-  -- a candidate's numbers, and the floor, are answered exactly if the shapes are apart and it is the nearest
+  -- a candidate's numbers, and the floor, are answered exactly if the shapes are apart and it meets the ticket's rule
   pub candidate-is-answered-exactly : (c : Candidate)
       → reply (askClearance a b) ≡ answered (numbersOf (corners a) (corners b) c ++ (pos (a .floor) ∷ []))
-      ↔ ((apart (corners a) (corners b) ≡ true) × (c ≡ nearest (corners a) (corners b)))
+      ↔ ((apart (corners a) (corners b) ≡ true) × FirstOfLeast (corners a) (corners b) c)
   candidate-is-answered-exactly c = nearest-reply a b s c
 
   -- "Shapes not apart still answer 0, with no positions": exactly if some point is of both

@@ -3,6 +3,7 @@
 use mathlib.Core.Path.{_≡_}
 use mathlib.Core.Bool.{Bool, true, false, not}
 use mathlib.Core.List.{List, [], _∷_, _++_}
+use mathlib.Core.Logic.{_↔_}
 use Prim.Native.Nat.{ℕ, _<_}
 use lib.IntN.{pos, _*ℤ_}
 use lib.ListN.{length}
@@ -17,7 +18,7 @@ use Rattle.plane.specs.Tangent.{signOf, touches, tangent, tangentFrom, tangentT
 use Rattle.plane.specs.Floor.{Floored, corners, Same}
 use Rattle.plane.specs.Question.{reply, askTangents}
 use Rattle.separation.specs.theory.Apart.{apart→direction}
-use Rattle.tangents.specs.Rule.{MeetsRule}
+use Rattle.tangents.specs.Rule.{MeetsRule, FourTangents}
 use Rattle.tangents.specs.theory.TangentUnique.{
   settled-first,
   settled-second,
@@ -30,7 +31,7 @@ use Rattle.tangents.specs.theory.TangentUnique.{
   tangent-is-settled,
   tangent-back,
 }
-use Rattle.tangents.specs.theory.Rows.{tangents-refused, tangents-answered, refused-not-apart}
+use Rattle.tangents.specs.theory.Rows.{tangents-refused, tangents-answered, refused-not-apart, tangents-reply}
 
 module _ (s t : Bool) (A B : List Point) (a : IsShape A) (b : IsShape B) (h : apart A B ≡ true) where
   -- the two corners that are answered
@@ -118,3 +119,9 @@ module _ (a b : Floored) (s : Same a b) where
   pub apart-is-answered : apart (corners a) (corners b) ≡ true
       → reply (askTangents a b) ≡ answered (tangentPositions (corners a) (corners b) ++ (pos (a .floor) ∷ []))
   apart-is-answered = tangents-answered a b s
+
+  -- and of each kind "the only pair meeting its rule": these numbers are answered exactly if they are four such pairs
+  pub tangents-are-answered-exactly : (i j k l m n o p : ℕ)
+      → reply (askTangents a b) ≡ answered (pos i ∷ pos j ∷ pos k ∷ pos l ∷ pos m ∷ pos n ∷ pos o ∷ pos p ∷ pos (a .floor) ∷ [])
+      ↔ FourTangents (corners a) (corners b) i j k l m n o p
+  tangents-are-answered-exactly = tangents-reply a b s

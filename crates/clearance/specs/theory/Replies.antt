@@ -1,8 +1,8 @@
 -- What clearance answers, by whether the shapes are apart.
 --     clearance-values       the values of an answer; `clearance-answered`: good shapes are answered with them
---     nearest-reply          a candidate's numbers are answered exactly if the shapes are apart and it is the nearest
+--     nearest-reply          a candidate's numbers are answered exactly if the shapes are apart and it is the first of the least
 --     zero-reply             0 exactly if they have a point in common
-use mathlib.Core.Path.{_≡_, refl, sym, _∙_, ap}
+use mathlib.Core.Path.{_≡_, refl, sym, _∙_, ap, subst}
 use mathlib.Core.Bool.{Bool, true, false, cond}
 use mathlib.Core.List.{List, [], _∷_, _++_}
 use mathlib.Core.Logic.{_↔_}
@@ -17,7 +17,9 @@ use Rattle.plane.specs.Clearance.{Candidate, corners, onSecond, onFirst, neares
 use Rattle.plane.specs.Floor.{Floored, Same}
 use Rattle.plane.specs.Question.{reply, askClearance}
 use Rattle.plane.specs.theory.refusals.Asked.{asked-none, asked-values, rest-none}
+use Rattle.clearance.specs.Order.{FirstOfLeast}
 use Rattle.clearance.specs.theory.Nearest.{common-not-apart}
+use Rattle.clearance.specs.theory.Only.{nearest-first-least, first-least-nearest}
 use Rattle.clearance.specs.theory.Common.{not-apart-common}
 
 -- ---- numbers
@@ -64,14 +66,19 @@ module _ (a b : Floored) where
   clearance-answered s t e = asked-none (askClearance a b) (rest-none (askClearance a b) s tt) ∙ ap (λ (u : Bool). answered (told u)) e
 
   pub nearest-reply : Same a b → (c : Candidate) → (reply (askClearance a b) ≡ answered (numbersOf A B c ++ (pos (a .floor) ∷ [])))
-      ↔ ((apart A B ≡ true) × (c ≡ nearest A B))
+      ↔ ((apart A B ≡ true) × FirstOfLeast A B c)
   nearest-reply s c = (
     λ h. go (apart A B) refl (clearance-values _ h (apart A B) refl),
-    λ r. clearance-answered s true (r .0) ∙ ap (λ (d : Candidate). answered (numbersOf A B d ++ (pos (a .floor) ∷ []))) (sym (r .1)),
+    λ r. clearance-answered s true (r .0) ∙ ap (λ (d : Candidate). answered (numbersOf A B d ++ (pos (a .floor) ∷ [])))
+        (sym (first-least-nearest A B (s .first-valid .shape) (s .second-valid .shape) (r .0) c (r .1))),
   )
     where
-      go : (t : Bool) → apart A B ≡ t → numbersOf A B c ++ (pos (a .floor) ∷ []) ≡ told t → (t ≡ true) × (c ≡ nearest A B)
-      go true e h = (refl, numbers-candidate A B (pos (a .floor) ∷ []) c (nearest A B) h)
+      go : (t : Bool) → apart A B ≡ t → numbersOf A B c ++ (pos (a .floor) ∷ []) ≡ told t → (t ≡ true) × FirstOfLeast A B c
+      go true e h = (
+        refl,
+        subst (FirstOfLeast A B) (sym (numbers-candidate A B (pos (a .floor) ∷ []) c (nearest A B) h))
+            (nearest-first-least A B (s .first-valid .shape) (s .second-valid .shape) e),
+      )
       go false e h = absurd (numbers-some A B (pos (a .floor) ∷ []) c h)
 
   pub zero-reply : Same a b → (reply (askClearance a b) ≡ answered (pos 0 ∷ pos (a .floor) ∷ [])) ↔ CommonPoint A B
