@@ -7,7 +7,7 @@ ghost use Rattle.plane.specs.Point.{point};
 ghost use Rattle.plane.specs.Floor.{on};
 ghost use Rattle.admission.specs.Admission.{Admitted, AdmittedPair, AdmittedPoints, AdmittedDirection};
 use answer::Refusal;
-use calipers::sorted;
+use calipers::convex;
 use polygon::direction;
 use polygon::rules;
 use polygon::rules::Broken;
@@ -33,7 +33,7 @@ pub fn admit(list: &[i32], shape: usize) -> Admission
     if rules::some_outside(list) {
         return Admission::No(Refusal::Range { shape });
     }
-    if sorted::is_sorted(list) {
+    if convex::is_shape(list) {
         return Admission::Valid;
     }
     if let Broken::At { edge, corner } = rules::first_broken(list) {

@@ -8,7 +8,7 @@ ghost use Rattle.plane.specs.Output.{overwritten};
 ghost use Rattle.journal.specs.Bytes.{wordsAt};
 ghost use Rattle.journal.specs.Format.{isAnswer};
 use crate::bytes;
-use calipers::sorted;
+use calipers::convex;
 use polygon::limits;
 use polygon::rules;
 use polygon::rules::Broken;
@@ -51,7 +51,7 @@ pub fn is_shape(list: &[i32]) -> bool
     if rules::some_outside(list) {
         return false;
     }
-    if sorted::is_sorted(list) {
+    if convex::is_shape(list) {
         return true;
     }
     if let Broken::At { edge, corner } = rules::first_broken(list) {

@@ -61,8 +61,8 @@ returns-3 c =
     let at-2 = c .before .before in
     rw (row-1 (at-2 .before .before), row-2 at-2, sym (c .before .some-outside .ensures) ∙ c .if3 .taken)
 
-is-sorted-requires : tie.Need-is-sorted-requires
-is-sorted-requires c κs =
+is-shape-requires : tie.Need-is-shape-requires
+is-shape-requires c κs =
     let at-2 = c .before .before in
     (near→inRange _ (row-3 c), counted _ (row-1 (at-2 .before .before)) .0)
 
@@ -71,7 +71,7 @@ unfolding judged
 returns-4 c =
     let at-3 = c .before .before in
     let at-2 = at-3 .before .before in
-    let valid = shape→valid _ (row-1 (at-2 .before .before)) (row-2 at-2) (row-3 at-3) (c .before .is-sorted .ensures (c .if4 .taken)) in
+    let valid = shape→valid _ (row-1 (at-2 .before .before)) (row-2 at-2) (row-3 at-3) (c .before .is-shape .ensures .0 (c .if4 .taken)) in
     sym (ap isAnswer (firstRow-none (shapeRows 1 _) _ (valid→accepted _ 1 valid)))
 
 first-broken-requires : tie.Need-first-broken-requires
@@ -105,6 +105,6 @@ returns-6 c =
 pub is-shape-spec : {M : Type 1} → statement M
 is-shape-spec =
     tie.close
-    (tie.spec bad-count-requires returns too-many-requires returns-2 some-outside-requires returns-3 is-sorted-requires returns-4
+    (tie.spec bad-count-requires returns too-many-requires returns-2 some-outside-requires returns-3 is-shape-requires returns-4
     first-broken-requires enum-known-edge
     returns-5 enum-told bad-start-requires returns-6)
