@@ -7,7 +7,7 @@ ghost use lib.IntN.{pos};
 ghost use lib.ListN.{length};
 ghost use lib.Signed.{ltZ};
 ghost use Rattle.plane.specs.Point.{points, corner, _⊖_};
-ghost use Rattle.plane.specs.Refusal.{InRange};
+ghost use Rattle.plane.specs.Refusal.{InRange, Valid};
 ghost use Rattle.plane.specs.Shape.{IsShape};
 ghost use Rattle.plane.specs.Turn.{cross};
 ghost use Rattle.plane.specs.Forms.{edges};
@@ -15,11 +15,28 @@ ghost use Rattle.polygon.specs.Point.{at, Small};
 ghost use Rattle.calipers.specs.Stretch.{vector, goesOn, Stretch};
 use polygon::corners;
 use polygon::point::Point;
+use polygon::rules;
 
 // An edge as a vector. The parts have the width of their products.
 struct Edge {
     run: i64,
     rise: i64,
+}
+
+// Returns whether a list is a shape: none of refusals 1 to 5 applies.
+pub fn passes(list: &[i32]) -> bool
+    ensures { λ r. ⌜ (r ≡ true → Valid (now (list .entry))) × (Valid (now (list .entry)) → r ≡ true) ⌝ }
+{
+    if rules::bad_count(list) {
+        return false;
+    }
+    if rules::too_many(list) {
+        return false;
+    }
+    if rules::some_outside(list) {
+        return false;
+    }
+    is_shape(list)
 }
 
 // Returns whether the corners are a shape. A point is one. Two corners are one if the first precedes the second. More

@@ -3,6 +3,7 @@
 --     wordsAt-at         each of them
 --     front-is, front-length     the front of an output that was overwritten, and how long it is
 --     many-refused       so many numbers are no shape
+--     passed-answers     a test that passes the valid lists, and no others, says whether judging answers
 use mathlib.Core.Path.{_≡_, refl, _∙_, ap}
 use mathlib.Core.Bool.{Bool, true, false}
 use mathlib.Core.List.{List, [], _∷_}
@@ -13,10 +14,12 @@ use lib.ListN.{length, getD, take, drop, length-append, length-drop}
 use lib.Seq.{take-at}
 use lib.IntN.{ℤ, pos}
 use Rattle.plane.specs.Point.{points}
-use Rattle.plane.specs.Reply.{answered, firstRow}
-use Rattle.plane.specs.Refusal.{badCount, tooMany, shapeRows}
+use Rattle.plane.specs.Reply.{Reply, answered, refused, firstRow}
+use Rattle.plane.specs.Refusal.{badCount, tooMany, shapeRows, Valid}
 use Rattle.plane.specs.Judge.{judged}
 use Rattle.plane.specs.Output.{overwritten}
+use Rattle.plane.specs.theory.refusals.Accept.{accepted→valid, valid→accepted}
+use Rattle.plane.specs.theory.refusals.Rows.{firstRow-none, firstRow-answered}
 use Rattle.journal.specs.Bytes.{wordAt, wordsAt}
 use Rattle.journal.specs.Format.{isAnswer}
 
@@ -51,3 +54,15 @@ many-refused l h = go (badCount l) refl
     go : (x : Bool) → badCount l ≡ x → false ≡ isAnswer (firstRow (shapeRows 1 l) (answered (pos (length (points l)) ∷ [])))
     go true e = rw e
     go false e = rw (e, h)
+
+pub passed-answers : (l : List ℤ) (r : Bool) → (r ≡ true → Valid l) × (Valid l → r ≡ true) → r ≡ isAnswer (judged l)
+unfolding judged
+passed-answers l r p = go (judged l) refl r refl
+  where
+    go : (a : Reply) → judged l ≡ a → (b : Bool) → r ≡ b → r ≡ isAnswer a
+    go (answered v) e b h = p .1 (accepted→valid l 1 (firstRow-answered (shapeRows 1 l) (pos (length (points l)) ∷ []) v e))
+    go (refused n c) e true h =
+        let a = firstRow-none (shapeRows 1 l) (answered (pos (length (points l)) ∷ [])) (valid→accepted l 1 (p .0 h)) in
+        let z : _≡_ {A = ℕ} 0 1 = cc in
+        absurd (omega arith)
+    go (refused n c) e false h = h
