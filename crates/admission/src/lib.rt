@@ -11,7 +11,7 @@ ghost use Rattle.plane.specs.Furthest.{directionRows};
 ghost use Rattle.plane.specs.Floor.{on, pairRows, Same};
 ghost use Rattle.admission.specs.Admission.{Judged};
 use answer::Refusal;
-use calipers::sorted;
+use calipers::convex;
 use polygon::direction;
 use polygon::rules;
 use polygon::rules::Broken;
@@ -38,7 +38,7 @@ pub fn admit(list: &[i32], shape: usize) -> Admission
     if rules::some_outside(list) {
         return Admission::No(Refusal::Range { shape });
     }
-    if sorted::is_sorted(list) {
+    if convex::is_shape(list) {
         return Admission::Valid;
     }
     if let Broken::At { edge, corner } = rules::first_broken(list) {

@@ -15,4 +15,5 @@ pub mod PlaceTest
 pub mod Parts
 pub mod PartAnswers
 pub mod Calls
-pub mod Sorted
+pub mod Stretches
+pub mod Convex

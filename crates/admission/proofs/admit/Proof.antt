@@ -52,8 +52,8 @@ returns-3 c =
     turns-away (refuses (later (row-1 (at-2 .before .before)) (later (row-2 at-2)
     (here (sym (c .before .some-outside .ensures) ∙ c .if3 .taken)))))
 
-is-sorted-requires : tie.Need-is-sorted-requires
-is-sorted-requires c κs =
+is-shape-requires : tie.Need-is-shape-requires
+is-shape-requires c κs =
     let at-2 = c .before .before in
     (near→inRange _ (row-3 c), counted _ (row-1 (at-2 .before .before)) .0)
 
@@ -61,7 +61,7 @@ returns-4 : tie.Need-returns-4
 returns-4 c =
     let at-3 = c .before .before in
     let at-2 = at-3 .before .before in
-    passes (shape→valid _ (row-1 (at-2 .before .before)) (row-2 at-2) (row-3 at-3) (c .before .is-sorted .ensures (c .if4 .taken)))
+    passes (shape→valid _ (row-1 (at-2 .before .before)) (row-2 at-2) (row-3 at-3) (c .before .is-shape .ensures .0 (c .if4 .taken)))
 
 first-broken-requires : tie.Need-first-broken-requires
 first-broken-requires c κs = near→inRange _ (row-3 (c .before .before))
@@ -107,6 +107,6 @@ returns-7 c =
 pub admit-spec : {M : Type 1} → statement M
 admit-spec =
     tie.close
-    (tie.spec bad-count-requires returns too-many-requires returns-2 some-outside-requires returns-3 is-sorted-requires returns-4
+    (tie.spec bad-count-requires returns too-many-requires returns-2 some-outside-requires returns-3 is-shape-requires returns-4
     first-broken-requires enum-known-edge
     returns-5 enum-told bad-start-requires returns-6 returns-7)
