@@ -15,7 +15,8 @@ use Rattle.separation.specs.Place.{placeNumber}
 use Rattle.separation.specs.theory.Around.{related-not-apart}
 use Rattle.separation.proofs.place.Place.{the-type}
 
-pub not-apart : (A B : List Point) (p : Place) → OneOf (1 ∷ 2 ∷ []) (tagOf the-type p) → placeNumber p ≡ relationNumber A B → apart A B ≡ false
+pub not-apart : (A B : List Point) (p : Place)
+    → OneOf (1 ∷ 2 ∷ []) (tagOf the-type p) → placeNumber p ≡ relationNumber A B → apart A B ≡ false
 not-apart A B Apart k h = absurd (neither k)
   where
     neither : OneOf (1 ∷ 2 ∷ []) 0 → ⊥
