@@ -102,7 +102,7 @@ pub fn furthest(list: &[i32], floor: u16, u: i32, v: i32) -> Furthest
 // Writes the mirror image, the shape of all (-x, -y), at the front of the output, and answers how many corners it has:
 // as many as the list. All behind the image is kept. Refused, with the output as it was: 1 to 5, then an output that
 // holds fewer numbers than the image.
-// Ruled out: mirror begun at the old start; output left alone; coordinates swapped; tail cleared.
+// Ruled out: mirror begun at the old start; output left alone; coordinates swapped; tail lost.
 pub fn mirror(list: &[i32], floor: u16, out: &mut [i32]) -> Answer
     ensures { λ r. ⌜ (ofAnswer r ≡ reply (askMirror (on (now (list .entry)) floor) (now (out .entry))))
         × (now (out .exit) ≡ output (askMirror (on (now (list .entry)) floor) (now (out .entry)))) ⌝ }
