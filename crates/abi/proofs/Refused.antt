@@ -29,10 +29,7 @@ refusal-is Refusal.Floors = (_, _, refl)
 refusal-is Refusal.NotAPlace = (_, _, refl)
 refusal-is (Refusal.Damaged p) = (_, _, refl)
 refusal-is Refusal.Full = (_, _, refl)
-refusal-is (Refusal.NotFinite p) = (_, _, refl)
-refusal-is (Refusal.NotWhole p) = (_, _, refl)
 refusal-is Refusal.NoRecord = (_, _, refl)
-refusal-is (Refusal.FarReading p) = (_, _, refl)
 
 pub refusal-kept : (f : ℕ) (x : Refusal) → barred f (ofRefusal x) ≡ ofRefusal x
 refusal-kept f x = let r = refusal-is x .2 in ap (barred f) r ∙ sym r

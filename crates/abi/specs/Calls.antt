@@ -1,7 +1,7 @@
 -- The four calls on bytes and numbers (document 02, W14: "with the same refusals"). A floor is any number.
 --     judgedBytes a f          the list by 1 to 5, then the floor by 13; else the count of corners and the floor
 --     pairRows l f m g         two lists by 1 to 5, then 13, which stands where `Floor.antt` has it
---     relationBytes a f b g    these rows, then `relationReply`
+--     relationBytes a f b g    these rows; else how the shapes are to each other, and the floor
 --     answerRows shape out     refusals 6, 7 and 8 of an answer, 8 in bytes
 --     BytesWritten, sumBytes a f b g out, mergeBytes a f b g out    the reply, and the whole output bytes afterwards
 use mathlib.Core.Bool.{not, _||_}
@@ -15,8 +15,7 @@ use Rattle.plane.specs.Point.{Point, points, numbers}
 use Rattle.plane.specs.Reply.{Reply, answered, refused, Row, row, firstRow}
 use Rattle.plane.specs.Refusal.{tooMany, someOutside, shapeRows}
 use Rattle.plane.specs.Corner.{shapeOf, sums}
-use Rattle.plane.specs.Separation.{relationReply}
-use Rattle.plane.specs.Floor.{withFloor}
+use Rattle.plane.specs.Separation.{relationNumber}
 use Rattle.journal.specs.Bytes.{words}
 use Rattle.abi.specs.Lists.{listOf}
 
@@ -35,7 +34,8 @@ abbrev pub pairRows : List ℤ → ℕ → List ℤ → ℕ → List Row
 pairRows l f m g = shapeRows 1 l ++ (shapeRows 2 m ++ (floorsRow f g ∷ []))
 
 unfoldable pub relationBytes : List ℕ → ℕ → List ℕ → ℕ → Reply
-relationBytes a f b g = firstRow (pairRows (listOf a) f (listOf b) g) (withFloor f (relationReply (listOf a) (listOf b)))
+relationBytes a f b g =
+    firstRow (pairRows (listOf a) f (listOf b) g) (answered (relationNumber (points (listOf a)) (points (listOf b)) ∷ pos f ∷ []))
 
 -- "8 now also speaks of output bytes, eight to a corner"
 abbrev pub answerRows : List Point → List ℕ → List Row

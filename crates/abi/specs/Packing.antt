@@ -5,7 +5,7 @@
 --     secondField r     "two for 4's corner, or when answered the floor"
 --     packed r          the number; "the rest 0"
 --     Fits r            each field has room in its bytes. Every reply of `Calls.antt` does: `theory/Fits.antt`
--- What it means: `packed-back`, each field is read back from the number.
+-- What it means: `packed-back`, each field is read back from the number, and the two bytes above them are 0.
 use mathlib.Core.Path.{_≡_}
 use Prim.Native.Nat.{ℕ, _+_, _*_, _/_, _%_, _<_}
 use native.Mathlib.Omega.{arith}
@@ -48,12 +48,14 @@ pub record Unpacked (n : ℕ) (r : Reply) : Type 0 where
   pub refusal-is : n % 256 ≡ refusalField r
   pub shape-is : n / 256 % 256 ≡ shapeField r
   pub first-is : n / 65536 % 65536 ≡ firstField r
-  pub second-is : n / 4294967296 ≡ secondField r
+  pub second-is : n / 4294967296 % 65536 ≡ secondField r
+  pub rest-is : n / 281474976710656 ≡ 0
 
 pub packed-back : (r : Reply) → Fits r → Unpacked (packed r) r
 packed-back r f = record {
   refusal-is = omega (arith, f .refusal-fits);
   shape-is = omega (arith, f .refusal-fits, f .shape-fits);
   first-is = omega (arith, f .refusal-fits, f .shape-fits, f .first-fits);
-  second-is = omega (arith, f .refusal-fits, f .shape-fits, f .first-fits);
+  second-is = omega (arith, f .refusal-fits, f .shape-fits, f .first-fits, f .second-fits);
+  rest-is = omega (arith, f .refusal-fits, f .shape-fits, f .first-fits, f .second-fits);
 }

@@ -17,8 +17,8 @@ use Rattle.plane.specs.Limits.{maxCorners, maxFloor}
 use Rattle.plane.specs.Point.{Point, points}
 use Rattle.plane.specs.Reply.{Reply, answered, refused}
 use Rattle.plane.specs.Refusal.{badCount, tooMany}
-use Rattle.plane.specs.Output.{Written}
-use Rattle.plane.specs.Combine.{pairWritten}
+use Rattle.plane.specs.Floor.{Floored, corners, twoShapes}
+use Rattle.plane.specs.Question.{Question, makes}
 use Rattle.abi.specs.Packing.{firstField, packed}
 use Rattle.abi.specs.Calls.{floorsRow, pairBytes, sumShape, mergeShape}
 
@@ -54,9 +54,9 @@ abbrev pub combined : Bool → List Point → List Point → List Point
 combined true = mergeShape
 combined false = sumShape
 
--- as `sumWritten` and `mergeWritten` are
-abbrev pub asked : (List Point → List Point → List Point) → List ℤ → List ℤ → List ℤ → Written
-asked made a b out = pairWritten a b (made (points a) (points b)) out
+-- as `askSum` and `askMerge` are
+abbrev pub asked : (List Point → List Point → List Point) → Floored → Floored → List ℤ → Question
+asked made a b out = makes (twoShapes a b) (made (corners a) (corners b)) out
 
 pub record Replied (made : List Point → List Point → List Point) (s : List ℤ) (h : ℕ) (t : List ℤ) (k : ℕ) (old : List ℕ) (r : ℕ)
     (new : List ℕ) : Type 0 where

@@ -3,3 +3,4 @@ pub mod Fits
 pub mod Alike
 pub mod Stored
 pub mod Replied
+pub mod ReadBack

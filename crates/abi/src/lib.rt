@@ -56,7 +56,8 @@ pub extern "C" fn cocklesway_merge_bytes(a: &[u8], f: u32, b: &[u8], g: u32, out
 // Reads two lists and asks for their merge, or for their sum.
 fn combine(merged: bool, a: &[u8], f: u32, b: &[u8], g: u32, out: &mut [u8]) -> u64
     ensures { λ r. ⌜
-        (r ≡ packed (pairBytes (combined merged) (listOf (now (a .entry))) f (listOf (now (b .entry))) g (now (out .entry)) .reply))
+        (r ≡ packed (pairBytes (combined merged) (listOf (now (a .entry))) f (listOf (now (b .entry))) g
+        (now (out .entry)) .reply))
         × (now (out .exit) ≡ pairBytes (combined merged) (listOf (now (a .entry))) f (listOf (now (b .entry))) g
         (now (out .entry)) .output) ⌝ }
 {

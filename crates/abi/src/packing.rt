@@ -58,10 +58,7 @@ pub fn of_refusal(refusal: Refusal) -> u64
         Refusal::NotAPlace => fields(14, 0, 0, 0),
         Refusal::Damaged { place } => fields(15, place, 0, 0),
         Refusal::Full => fields(16, 0, 0, 0),
-        Refusal::NotFinite { part } => fields(17, part, 0, 0),
-        Refusal::NotWhole { part } => fields(18, part, 0, 0),
         Refusal::NoRecord => fields(19, 0, 0, 0),
-        Refusal::FarReading { part } => fields(3, part, 0, 0),
     }
 }
 

@@ -4,7 +4,8 @@ ghost use Prim.Native.Nat.{_+_, _*_, _≤_, _<_};
 ghost use lib.ListN.{length, take};
 ghost use lib.Seq.{sets};
 ghost use Rattle.plane.specs.Limits.{maxCorners};
-ghost use Rattle.plane.specs.Floor.{on, writtenBetween};
+ghost use Rattle.plane.specs.Floor.{on};
+ghost use Rattle.plane.specs.Question.{reply, output};
 ghost use Rattle.journal.specs.Bytes.{word, words};
 ghost use Rattle.questions.specs.Answer.{ofAnswer};
 ghost use Rattle.abi.specs.Packing.{packed, Fits, firstField};
@@ -38,10 +39,10 @@ pub fn combine(
 // Asks for the merge of two lists, or for their sum.
 fn ask(merged: bool, a: &[i32], f: u16, b: &[i32], g: u16, shape: &mut [i32]) -> Answer
     ensures { λ r. ⌜
-        (ofAnswer r ≡ writtenBetween (on (now (a .entry)) f) (on (now (b .entry)) g) (asked (combined merged))
-        (now (shape .entry)) .reply)
-        × (now (shape .exit) ≡ writtenBetween (on (now (a .entry)) f) (on (now (b .entry)) g) (asked (combined merged))
-        (now (shape .entry)) .output) ⌝ }
+        (ofAnswer r
+        ≡ reply (asked (combined merged) (on (now (a .entry)) f) (on (now (b .entry)) g) (now (shape .entry))))
+        × (now (shape .exit)
+        ≡ output (asked (combined merged) (on (now (a .entry)) f) (on (now (b .entry)) g) (now (shape .entry)))) ⌝ }
 {
     if merged {
         questions::merge(a, f, b, g, shape)

@@ -1,7 +1,8 @@
 -- Document 01's number and values for each case of the enums ("Where an answer is an enum ..").
 --     ofRefusal r     the number of the table's row, and what it carries: 1 to 5 the shape, 4 also the edge and the corner; of a
---                     reading the part of its corner, of a log the byte place of the record
+--                     log the byte place of the record
 --     ofAnswer r      the reply of a question that judges or writes a shape: how many corners, and the floor, or a refusal
+-- Refusals with the same reply are the same: `refusal-known` of `Meaning.antt`.
 use mathlib.Core.List.{[], _∷_}
 use lib.IntN.{pos}
 use Rattle.plane.specs.Reply.{Reply, answered, refused}
@@ -27,10 +28,7 @@ ofRefusal Refusal.Floors = refused 13 []
 ofRefusal Refusal.NotAPlace = refused 14 []
 ofRefusal (Refusal.Damaged place) = refused 15 (place ∷ [])
 ofRefusal Refusal.Full = refused 16 []
-ofRefusal (Refusal.NotFinite part) = refused 17 (part ∷ [])
-ofRefusal (Refusal.NotWhole part) = refused 18 (part ∷ [])
 ofRefusal Refusal.NoRecord = refused 19 []
-ofRefusal (Refusal.FarReading part) = refused 3 (part ∷ [])
 
 abbrev pub ofAnswer : Answer → Reply
 ofAnswer (Answer.Corners n floor) = answered (pos n ∷ pos floor ∷ [])

@@ -1,3 +1,5 @@
--- The theory of admission, which only proves: rows passed or given before a question's own, and what is written.
-pub mod Rows
+-- The theory of admission, which only proves: what judging says, what a question refuses or answers by it, and what is written.
+pub mod Known
+pub mod Judged
+pub mod Door
 pub mod Delivery

@@ -51,20 +51,8 @@ pub enum Refusal {
     },
     // 16: too little room behind the last whole record of a log
     Full,
-    // 17: a reading that is not finite; the part of the corner is 1 for x and 2 for y
-    NotFinite {
-        part: usize,
-    },
-    // 18: a reading that is not a whole number of millimetres
-    NotWhole {
-        part: usize,
-    },
     // 19: a name that no record of a log has
     NoRecord,
-    // 3: a reading out of range
-    FarReading {
-        part: usize,
-    },
 }
 
 // How many corners a shape has that was judged or written.

@@ -3,10 +3,12 @@ ghost use mathlib.Core.Path.{_≡_};
 ghost use Prim.Native.Nat.{_%_};
 ghost use lib.ListN.{length};
 ghost use Rattle.plane.specs.Point.{points};
-ghost use Rattle.plane.specs.Floor.{withFloor};
+ghost use Rattle.plane.specs.Reply.{NoneApply};
+ghost use Rattle.plane.specs.Output.{sizeRows};
+ghost use Rattle.plane.specs.Floor.{noShape};
+ghost use Rattle.plane.specs.Question.{reply, output, makes};
 ghost use Rattle.admission.specs.Answer.{ofAnswer};
-ghost use Rattle.admission.specs.Admission.{Surveyed};
-ghost use Rattle.admission.specs.Delivery.{delivered};
+ghost use Rattle.admission.specs.Admission.{Judged};
 use crate::Admission;
 use crate::answer::Answer;
 use crate::answer::Refusal;
@@ -18,7 +20,8 @@ use polygon::rules;
 // Ruled out: count and range exchanged.
 pub fn survey(shape: &[i32]) -> Admission
     requires paired { ⌜ length (now shape) % 2 ≡ 0 ⌝ }
-    ensures { λ r. ⌜ Surveyed (points (now (shape .entry))) r ⌝ }
+    ensures { λ r. ⌜ Judged (NoneApply (sizeRows (points (now (shape .entry)))))
+        (sizeRows (points (now (shape .entry)))) r ⌝ }
 {
     if rules::too_many(shape) {
         return Admission::No(Refusal::LargeAnswer);
@@ -31,11 +34,12 @@ pub fn survey(shape: &[i32]) -> Admission
 
 // Writes a shape's numbers at the front of the output, all behind them being kept, and answers how many corners it has;
 // with its floor; or refuses 6, 7 and 8 in their order, with the output as it was.
-// Ruled out: exact room refused; tail cleared.
+// Ruled out: exact room refused; tail lost.
 pub fn deliver(shape: &[i32], floor: u16, out: &mut [i32]) -> Answer
     requires paired { ⌜ length (now shape) % 2 ≡ 0 ⌝ }
-    ensures { λ r. ⌜ (ofAnswer r ≡ withFloor floor (delivered (points (now (shape .entry))) (now (out .entry)) .reply))
-        × (now (out .exit) ≡ delivered (points (now (shape .entry))) (now (out .entry)) .output) ⌝ }
+    ensures { λ r. ⌜
+        (ofAnswer r ≡ reply (makes (noShape floor) (points (now (shape .entry))) (now (out .entry))))
+        × (now (out .exit) ≡ output (makes (noShape floor) (points (now (shape .entry))) (now (out .entry)))) ⌝ }
 {
     if let Admission::No(refusal) = survey(shape) {
         return Answer::No(refusal);

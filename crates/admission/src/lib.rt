@@ -4,15 +4,20 @@ pub mod answer;
 pub mod deliver;
 
 ghost use Rattle.plane.specs.Point.{point};
-ghost use Rattle.plane.specs.Floor.{on};
-ghost use Rattle.admission.specs.Admission.{Admitted, AdmittedPair, AdmittedPoints, AdmittedDirection};
+ghost use Rattle.plane.specs.Reply.{NoneApply};
+ghost use Rattle.plane.specs.Refusal.{shapeRows, Valid};
+ghost use Rattle.plane.specs.Sweep.{pointRows, ValidPoints};
+ghost use Rattle.plane.specs.Furthest.{directionRows};
+ghost use Rattle.plane.specs.Floor.{on, pairRows, Same};
+ghost use Rattle.admission.specs.Admission.{Judged};
 use answer::Refusal;
-use calipers::sorted;
+use calipers::convex;
 use polygon::direction;
 use polygon::rules;
 use polygon::rules::Broken;
 
-// A list that is a shape, two shapes on one floor, the points of a sweep, a direction that passes, or the first refusal.
+// A list that is a shape, two shapes on one floor, the points of a sweep, a direction that passes, or the first
+// refusal.
 pub enum Admission {
     Valid,
     No(Refusal),
@@ -22,7 +27,7 @@ pub enum Admission {
 // one pass round its corners; only a list that fails the pass has its edges compared with all corners.
 // Ruled out: positions swapped; everything refused.
 pub fn admit(list: &[i32], shape: usize) -> Admission
-    ensures { λ r. ⌜ Admitted shape (now (list .entry)) r ⌝ }
+    ensures { λ r. ⌜ Judged (Valid (now (list .entry))) (shapeRows shape (now (list .entry))) r ⌝ }
 {
     if rules::bad_count(list) {
         return Admission::No(Refusal::Count { shape });
@@ -33,7 +38,7 @@ pub fn admit(list: &[i32], shape: usize) -> Admission
     if rules::some_outside(list) {
         return Admission::No(Refusal::Range { shape });
     }
-    if sorted::is_sorted(list) {
+    if convex::is_shape(list) {
         return Admission::Valid;
     }
     if let Broken::At { edge, corner } = rules::first_broken(list) {
@@ -52,7 +57,8 @@ pub fn admit(list: &[i32], shape: usize) -> Admission
 // Judges the first list, then the second, and then whether they are on one floor.
 // Ruled out: second shape judged first; other shape blamed; thirteen for a bad second shape; floors not compared.
 pub fn admit_pair(a: &[i32], f: u16, b: &[i32], g: u16) -> Admission
-    ensures { λ r. ⌜ AdmittedPair (on (now (a .entry)) f) (on (now (b .entry)) g) r ⌝ }
+    ensures { λ r. ⌜ Judged (Same (on (now (a .entry)) f) (on (now (b .entry)) g))
+        (pairRows (on (now (a .entry)) f) (on (now (b .entry)) g)) r ⌝ }
 {
     if let Admission::No(first) = admit(a, 1) {
         return Admission::No(first);
@@ -69,7 +75,7 @@ pub fn admit_pair(a: &[i32], f: u16, b: &[i32], g: u16) -> Admission
 // Judges the points of a sweep: refusals 1 to 3 in their order. Points are counted as they come, repeats and all. A
 // sweep has one list, so that the first shape is blamed.
 pub fn admit_points(list: &[i32]) -> Admission
-    ensures { λ r. ⌜ AdmittedPoints (now (list .entry)) r ⌝ }
+    ensures { λ r. ⌜ Judged (ValidPoints (now (list .entry))) (pointRows (now (list .entry))) r ⌝ }
 {
     if rules::bad_count(list) {
         return Admission::No(Refusal::Count { shape: 1 });
@@ -86,7 +92,7 @@ pub fn admit_points(list: &[i32]) -> Admission
 // Judges a direction that a caller gives: 11, then 12. Of directions that point the same way one passes.
 // Ruled out: eleven and twelve exchanged; twelve before eleven; one taken for a common divisor.
 pub fn admit_direction(u: i32, v: i32) -> Admission
-    ensures { λ r. ⌜ AdmittedDirection (point u v) r ⌝ }
+    ensures { λ r. ⌜ Judged (NoneApply (directionRows (point u v))) (directionRows (point u v)) r ⌝ }
 {
     if direction::bad_direction(u, v) {
         return Admission::No(Refusal::Direction);

@@ -1,5 +1,5 @@
 -- Cases of a sum in parts (document 02, requests W6 and W11), as one table over the definitions and one fact about all its rows, by
--- computing: the square 0 0 2 0 2 2 0 2 and the triangle 0 0 1 0 0 1, whose sum is 0 0 3 0 3 2 2 3 0 3, and two points, on floor 5.
+-- computing: the square 0 0 2 0 2 2 0 2 and the triangle 0 0 1 0 0 1, whose sum is 0 0 3 0 3 2 2 3 0 3, and points, on floor 5.
 use mathlib.Core.Path.{_≡_, refl}
 use mathlib.Core.Bool.{true, false}
 use mathlib.Core.List.{List, [], _∷_, map}
@@ -14,12 +14,12 @@ use Rattle.plane.specs.Refusal.{badCount, tooMany, outside, someOutside, equalP
 use Rattle.plane.specs.Forms.{before}
 use Rattle.plane.specs.Corner.{shapeOf}
 use Rattle.plane.specs.Output.{Written, noRoom, overwritten}
-use Rattle.plane.specs.Floor.{Floored, on, between, writtenBetween}
+use Rattle.plane.specs.Floor.{Floored, on}
+use Rattle.plane.specs.Question.{reply, output, written}
 use Rattle.calipers.specs.Walk.{Walk, takes, passed, finished, advanced}
 use Rattle.calipers.specs.Advance.{state}
 use Rattle.calipers.specs.PlaceAfter.{sameWalk, isPlace, cornersBefore}
-use Rattle.calipers.specs.Part.{partCorners, handedBack, beginReply, partWritten}
-use Rattle.calipers.specs.PartFloor.{beginOn, partOn}
+use Rattle.calipers.specs.Part.{partCorners, handedBack, askBegin, askPart}
 
 -- what the definition gives, and what is stated
 pub record Case : Type 0 where
@@ -35,14 +35,18 @@ triangle f = on (pos 0 ∷ pos 0 ∷ pos 1 ∷ pos 0 ∷ pos 0 ∷ pos 1 ∷ [])
 abbrev origin : Floored
 origin = on (pos 0 ∷ pos 0 ∷ []) 5
 
+-- twice this point is out of range
+abbrev far : Floored
+far = on (pos 1_000_000 ∷ pos 0 ∷ []) 5
+
 abbrev sevens : List ℤ
 sevens = pos 7 ∷ pos 7 ∷ pos 7 ∷ pos 7 ∷ []
 
 abbrev begins : Floored → Floored → Reply → Case
-begins a b r = record { given = record { reply = beginOn a b; output = [] }; stated = record { reply = r; output = [] } }
+begins a b r = record { given = written (askBegin a b); stated = record { reply = r; output = [] } }
 
 abbrev call : Floored → Floored → Walk → ℕ → Reply → List ℤ → Case
-call a b w k r out = record { given = partOn a b w k sevens; stated = record { reply = r; output = out } }
+call a b w k r out = record { given = written (askPart a b w k sevens); stated = record { reply = r; output = out } }
 
 -- the count, the walk and the floor
 abbrev says : ℕ → ℕ → ℕ → ℕ → Reply
@@ -63,6 +67,10 @@ rows =
     ∷ call square (triangle 5) (state 1 0 false) 2 (refused 14 []) sevens
     ∷ call square (triangle 5) (state 4 3 false) 2 (refused 14 []) sevens
     ∷ call square (triangle 5) (state 2 1 true) 2 (refused 14 []) sevens
+    -- 14 comes before 7, which speaks of the whole sum
+    ∷ begins far far (refused 7 [])
+    ∷ call far far (state 1 0 false) 0 (refused 14 []) sevens
+    ∷ call far far (state 0 0 false) 0 (refused 7 []) sevens
     -- three corners find no room
     ∷ call square (triangle 5) (state 0 0 false) 3 (refused 8 []) sevens
     -- two points have one corner and two places
@@ -76,5 +84,5 @@ rows =
 pub rows-hold : map (λ (r : Case). r .given) rows ≡ map (λ (r : Case). r .stated) rows
 unfolding rows maxCorners maxCoordinate turn cross breaks precedes samePoint before shapeOf
     badCount tooMany outside someOutside equalPair leftBroken ruleBroken badStart noRoom overwritten
-    takes passed finished advanced sameWalk isPlace cornersBefore partCorners handedBack beginReply partWritten between writtenBetween
+    takes passed finished advanced sameWalk isPlace cornersBefore partCorners handedBack reply output
 rows-hold = refl

@@ -7,7 +7,6 @@ pub mod Advance
 pub mod PlaceAfter
 pub mod PlaceTest
 pub mod Part
-pub mod PartFloor
 pub mod Calls
 pub mod Cases
 pub mod Meaning

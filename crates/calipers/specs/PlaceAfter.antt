@@ -5,7 +5,7 @@
 --     sameWalk v w          the two states are the same
 --     isPlace a b w         w is the state after some count of corners, from none to all
 --     cornersBefore a b w   after how many; past all of them where w is no place
--- What it means: `places-differ`, `place-exactly` of `Meaning.antt`.
+-- What it means: `counts-are-places`, `places-have-counts`, `places-differ` of `Meaning.antt`.
 use mathlib.Core.Bool.{Bool, not, cond, _&&_}
 use mathlib.Core.List.{List}
 use Prim.Native.Nat.{ℕ, suc}

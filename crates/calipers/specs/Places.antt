@@ -6,13 +6,16 @@
 --     Place, place i j     i edges of the one list are passed and j of the other
 --     steps i j E F        from (i, j) on, with the edges E and F to come: a place for each joined edge
 --     placesFrom i j E F   the same, and (i, j) itself where there is no edge; `places E F` from the beginning
+--     Visited A B i j      the walk round A and B comes to corner i of A together with corner j of B
+use mathlib.Core.Path.{_≡_}
 use mathlib.Core.Bool.{Bool, true, false, not, cond, _&&_}
-use mathlib.Core.List.{List, [], _∷_}
+use mathlib.Core.List.{List, [], _∷_, List·Memᴰ}
 use Prim.Native.Nat.{ℕ, _+_, _≤_, _<_}
 use lib.Dec.{eqb, ltb}
 use lib.ListN.{length}
 use Rattle.plane.specs.Point.{Point, corner}
-use Rattle.plane.specs.Forms.{before, Before}
+use Rattle.plane.specs.Forms.{before, Before, edges}
+use Rattle.plane.specs.Cycle.{round}
 
 -- there is an edge i of E, and edge j of F, if there is one, is not before it
 abbrev pub takes : List Point → ℕ → List Point → ℕ → Bool
@@ -67,3 +70,10 @@ placesFrom i j (e ∷ E) F = steps i j (e ∷ E) F
 
 abbrev pub places : List Point → List Point → List Place
 places E F = placesFrom 0 0 E F
+
+-- after the last corner of a shape comes its first again
+pub record Visited (A B : List Point) (i j : ℕ) : Type 0 where
+  pub at : Place
+  pub at-in : List·Memᴰ at (places (edges A) (edges B))
+  pub at-left : round (length A) (at .left) ≡ i
+  pub at-right : round (length B) (at .right) ≡ j

@@ -13,6 +13,7 @@ pub mod Visits
 pub mod Reached
 pub mod PlaceTest
 pub mod Parts
-pub mod PartRows
+pub mod PartAnswers
 pub mod Calls
-pub mod Sorted
+pub mod Stretches
+pub mod Convex

@@ -1,8 +1,8 @@
 // Inner functions for the vector sum of two shapes by the caliper walk (document 01, "Sum"). Callers ask the crate
 // `questions`.
+pub mod convex;
 pub mod edges;
 pub mod side;
-pub mod sorted;
 pub mod walk;
 
 ghost use Prim.Native.Nat.{_+_, _≤_};

@@ -42,7 +42,8 @@ pub record Looking (a b : List ℤ) (walk : Walk) (back : Point) : Type 0 where
   pub within : count ≤ length (vectorSum (points a) (points b))
   pub moved : walk ≡ stepped (points a) (points b) count begun
   pub back-is : back ≡ behind (vectorSum (points a) (points b)) count
-  pub no-corner : let D = vectorSum (points a) (points b) in (k : ℕ) → suc k < count → rests (corner D k) (corner D (suc k)) (after D (suc k)) ≡ false
+  pub no-corner : let D = vectorSum (points a) (points b) in (k : ℕ) → suc k < count
+      → rests (corner D k) (corner D (suc k)) (after D (suc k)) ≡ false
   pub no-edge : let D = vectorSum (points a) (points b) in (k : ℕ) → k < count → crosses (corner D k) (after D k) ≡ false
 
 -- the origin is nearer than a corner that is not there
@@ -51,7 +52,8 @@ unfolding rests
 origin-nearer w d some h = go (leZ (value w w) (value w origin)) refl h
   where
     go : (b : Bool) → leZ (value w w) (value w origin) ≡ b → (b && leZ (value w w) (value w d)) ≡ true → ⊥
-    go true e h = lia (value w w ∷ value w origin ∷ []) (square-positive w some & value-origin w & leZ-true {x = value w w} {y = value w origin} e)
+    go true e h =
+        lia (value w w ∷ value w origin ∷ []) (square-positive w some & value-origin w & leZ-true {x = value w w} {y = value w origin} e)
         (search linear depth 40) (omega arith)
     go false e h = false≢true h
 

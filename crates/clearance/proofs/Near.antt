@@ -21,8 +21,10 @@ use Rattle.calipers.specs.theory.Standing.{passed-taken, passed-waits, passed-e
 pub here-near : {a b : List ℤ} {w : Walk} → At a b w → {p : Point} → p ≡ here (points a) (points b) w → Small (2 ^ 21) p
 unfolding here
 here-near {a} {b} {w} t e =
-    let first = round-within (length (points a)) (w .i) (t .first-shape .some) (omega (arith, edges-at-most (points a), t .standing .left-in)) in
-    let second = round-within (length (points b)) (w .j) (t .second-shape .some) (omega (arith, edges-at-most (points b), t .standing .right-in)) in
+    let first = round-within (length (points a)) (w .i) (t .first-shape .some)
+    (omega (arith, edges-at-most (points a), t .standing .left-in)) in
+    let second = round-within (length (points b)) (w .j) (t .second-shape .some)
+    (omega (arith, edges-at-most (points b), t .standing .right-in)) in
     let p = points-near a (t .first-near) _ first in
     let q = points-near b (t .second-near) _ second in
     subst (Small (2 ^ 21)) (sym e) (record {

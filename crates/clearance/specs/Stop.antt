@@ -4,8 +4,8 @@
 --     footInside w d    the latter alone
 --     leftward d        d turned left by a quarter
 --     behind D k        the corner before corner k; before the first, at which the walk begins, the origin
---     Stopped D n       the walk stopped at a corner, which is n; at an edge, n being its left normal; or it came to its end: no place but the
---                       first corner, which is n, is left
+--     Stopped D n       the walk stopped at a corner, which is n; at an edge, n being its left normal; or it came to its end: no place
+--                       but the first corner, which is n, is left
 use mathlib.Core.Path.{_≡_}
 use mathlib.Core.Bool.{Bool, true, false, _&&_}
 use mathlib.Core.List.{List}
@@ -39,7 +39,8 @@ abbrev pub after : List Point → ℕ → Point
 after D k = corner D (next (length D) k)
 
 pub data Stopped (D : List Point) (n : Point) : Type 0 where
-  at-corner : (k : ℕ) → suc k < length D → rests (corner D k) (corner D (suc k)) (after D (suc k)) ≡ true → n ≡ corner D (suc k) → Stopped D n
+  at-corner : (k : ℕ) → suc k < length D → rests (corner D k) (corner D (suc k)) (after D (suc k)) ≡ true
+      → n ≡ corner D (suc k) → Stopped D n
   at-edge : (k : ℕ) → k < length D → crosses (corner D k) (after D k) ≡ true → n ≡ leftward (after D k ⊖ corner D k) → Stopped D n
   at-first : ((k : ℕ) → suc k < length D → rests (corner D k) (corner D (suc k)) (after D (suc k)) ≡ false)
       → ((k : ℕ) → k < length D → crosses (corner D k) (after D k) ≡ false) → n ≡ corner D 0 → Stopped D n

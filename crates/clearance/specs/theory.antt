@@ -12,7 +12,9 @@ pub mod Stop
 pub mod Means
 pub mod Attained
 pub mod Nearest
+pub mod Only
 pub mod Common
 pub mod Ends
 pub mod Walked
 pub mod Rounding
+pub mod Replies

@@ -25,7 +25,4 @@ refusal-crosses k Refusal.Floors = refl
 refusal-crosses k Refusal.NotAPlace = refl
 refusal-crosses k (Refusal.Damaged p) = refl
 refusal-crosses k Refusal.Full = refl
-refusal-crosses k (Refusal.NotFinite p) = refl
-refusal-crosses k (Refusal.NotWhole p) = refl
 refusal-crosses k Refusal.NoRecord = refl
-refusal-crosses k (Refusal.FarReading p) = refl

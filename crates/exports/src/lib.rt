@@ -5,19 +5,13 @@ mod reply;
 
 ghost use mathlib.Core.Path.{_≡_};
 ghost use Rattle.plane.specs.Point.{point};
-ghost use Rattle.plane.specs.Floor.{on, withFloor, between, writtenBetween};
-ghost use Rattle.plane.specs.Judge.{judged};
-ghost use Rattle.plane.specs.Furthest.{furthestReply};
-ghost use Rattle.plane.specs.Combine.{mirrorWritten, sumWritten, mergeWritten, growWritten};
-ghost use Rattle.plane.specs.Sweep.{sweepWritten};
-ghost use Rattle.plane.specs.Measure.{lengthReply, widthReply};
-ghost use Rattle.plane.specs.Separation.{relationReply, insideReply};
-ghost use Rattle.plane.specs.Offer.{offerReply};
-ghost use Rattle.plane.specs.Clearance.{clearanceReply};
-ghost use Rattle.plane.specs.Tangent.{tangentsReply};
+ghost use Rattle.plane.specs.Floor.{on};
+ghost use Rattle.plane.specs.Question.{reply as Question·reply, output, askJudge, askFurthest, askMirror, askSum};
+ghost use Rattle.plane.specs.Question.{askMerge, askGrow, askSweep, askLength, askWidth, askRelation, askInside};
+ghost use Rattle.plane.specs.Question.{askOffer, askClearance, askTangents};
 ghost use Rattle.calipers.specs.Advance.{state};
-ghost use Rattle.calipers.specs.Part.{beginReply, partWritten};
-ghost use Rattle.journal.specs.Reading.{readWritten};
+ghost use Rattle.calipers.specs.Part.{askBegin, askPart};
+ghost use Rattle.journal.specs.Reading.{askRead};
 ghost use Rattle.journal.specs.Adding.{added};
 ghost use Rattle.exports.specs.Crossing.{crossed};
 ghost use Rattle.exports.specs.Found.{FoundCrossed};
@@ -35,7 +29,7 @@ use reply::Signed;
 // How many corners the list has.
 #[no_mangle]
 pub extern "C" fn cocklesway_judge(list: &[i32], floor: u16) -> Numbers
-    ensures { λ r. ⌜ numbers r ≡ crossed 6 (withFloor floor (judged (now (list .entry)))) ⌝ }
+    ensures { λ r. ⌜ numbers r ≡ crossed 6 (Question·reply (askJudge (on (now (list .entry)) floor))) ⌝ }
 {
     reply::of_answer(questions::judge(list, floor))
 }
@@ -43,7 +37,8 @@ pub extern "C" fn cocklesway_judge(list: &[i32], floor: u16) -> Numbers
 // The first and the last of the furthest corners in the direction (u, v), and their value.
 #[no_mangle]
 pub extern "C" fn cocklesway_furthest(list: &[i32], floor: u16, u: i32, v: i32) -> Signed
-    ensures { λ r. ⌜ signedNumbers r ≡ crossed 4 (withFloor floor (furthestReply (now (list .entry)) (point u v))) ⌝ }
+    ensures { λ r. ⌜
+        signedNumbers r ≡ crossed 4 (Question·reply (askFurthest (on (now (list .entry)) floor) (point u v))) ⌝ }
 {
     match questions::furthest(list, floor, u, v) {
         Furthest::At {
@@ -67,8 +62,8 @@ pub extern "C" fn cocklesway_furthest(list: &[i32], floor: u16, u: i32, v: i32) 
 #[no_mangle]
 pub extern "C" fn cocklesway_mirror(list: &[i32], floor: u16, out: &mut [i32]) -> Numbers
     ensures { λ r. ⌜
-        (numbers r ≡ crossed 6 (withFloor floor (mirrorWritten (now (list .entry)) (now (out .entry)) .reply)))
-        × (now (out .exit) ≡ mirrorWritten (now (list .entry)) (now (out .entry)) .output) ⌝ }
+        (numbers r ≡ crossed 6 (Question·reply (askMirror (on (now (list .entry)) floor) (now (out .entry)))))
+        × (now (out .exit) ≡ output (askMirror (on (now (list .entry)) floor) (now (out .entry)))) ⌝ }
 {
     reply::of_answer(questions::mirror(list, floor, out))
 }
@@ -77,9 +72,9 @@ pub extern "C" fn cocklesway_mirror(list: &[i32], floor: u16, out: &mut [i32]) -
 #[no_mangle]
 pub extern "C" fn cocklesway_sum(a: &[i32], f: u16, b: &[i32], g: u16, out: &mut [i32]) -> Numbers
     ensures { λ r. ⌜ (numbers r ≡ crossed 6
-        (writtenBetween (on (now (a .entry)) f) (on (now (b .entry)) g) sumWritten (now (out .entry)) .reply))
+        (Question·reply (askSum (on (now (a .entry)) f) (on (now (b .entry)) g) (now (out .entry)))))
         × (now (out .exit)
-        ≡ writtenBetween (on (now (a .entry)) f) (on (now (b .entry)) g) sumWritten (now (out .entry)) .output) ⌝ }
+        ≡ output (askSum (on (now (a .entry)) f) (on (now (b .entry)) g) (now (out .entry)))) ⌝ }
 {
     reply::of_answer(questions::sum(a, f, b, g, out))
 }
@@ -87,7 +82,8 @@ pub extern "C" fn cocklesway_sum(a: &[i32], f: u16, b: &[i32], g: u16, out: &mut
 // Where a sum in parts begins: the edges passed of either shape, and 1 if the walk is over.
 #[no_mangle]
 pub extern "C" fn cocklesway_begin(a: &[i32], f: u16, b: &[i32], g: u16) -> Numbers
-    ensures { λ r. ⌜ numbers r ≡ crossed 6 (between (on (now (a .entry)) f) (on (now (b .entry)) g) beginReply) ⌝ }
+    ensures { λ r. ⌜
+        numbers r ≡ crossed 6 (Question·reply (askBegin (on (now (a .entry)) f) (on (now (b .entry)) g))) ⌝ }
 {
     reply::of_begun(walk::begin(a, f, b, g))
 }
@@ -107,11 +103,11 @@ pub extern "C" fn cocklesway_part(
     out: &mut [i32],
 ) -> Numbers
     ensures { λ r. ⌜ (numbers r ≡ crossed 6
-        (writtenBetween (on (now (a .entry)) f) (on (now (b .entry)) g)
-        (λ l m o. partWritten l m (state first second over) k o) (now (out .entry)) .reply))
+        (Question·reply (askPart (on (now (a .entry)) f) (on (now (b .entry)) g)
+        (state first second over) k (now (out .entry)))))
         × (now (out .exit)
-        ≡ writtenBetween (on (now (a .entry)) f) (on (now (b .entry)) g)
-        (λ l m o. partWritten l m (state first second over) k o) (now (out .entry)) .output) ⌝ }
+        ≡ output (askPart (on (now (a .entry)) f) (on (now (b .entry)) g)
+        (state first second over) k (now (out .entry)))) ⌝ }
 {
     let walk = Walk {
         first,
@@ -125,9 +121,9 @@ pub extern "C" fn cocklesway_part(
 #[no_mangle]
 pub extern "C" fn cocklesway_merge(a: &[i32], f: u16, b: &[i32], g: u16, out: &mut [i32]) -> Numbers
     ensures { λ r. ⌜ (numbers r ≡ crossed 6
-        (writtenBetween (on (now (a .entry)) f) (on (now (b .entry)) g) mergeWritten (now (out .entry)) .reply))
+        (Question·reply (askMerge (on (now (a .entry)) f) (on (now (b .entry)) g) (now (out .entry)))))
         × (now (out .exit)
-        ≡ writtenBetween (on (now (a .entry)) f) (on (now (b .entry)) g) mergeWritten (now (out .entry)) .output) ⌝ }
+        ≡ output (askMerge (on (now (a .entry)) f) (on (now (b .entry)) g) (now (out .entry)))) ⌝ }
 {
     reply::of_answer(questions::merge(a, f, b, g, out))
 }
@@ -142,11 +138,9 @@ pub extern "C" fn cocklesway_grow(
     out: &mut [i32],
 ) -> Numbers
     ensures { λ r. ⌜ (numbers r ≡ crossed 6
-        (writtenBetween (on (now (obstacle .entry)) f) (on (now (cart .entry)) g)
-        growWritten (now (out .entry)) .reply))
+        (Question·reply (askGrow (on (now (obstacle .entry)) f) (on (now (cart .entry)) g) (now (out .entry)))))
         × (now (out .exit)
-        ≡ writtenBetween (on (now (obstacle .entry)) f) (on (now (cart .entry)) g)
-        growWritten (now (out .entry)) .output) ⌝ }
+        ≡ output (askGrow (on (now (obstacle .entry)) f) (on (now (cart .entry)) g) (now (out .entry)))) ⌝ }
 {
     reply::of_answer(questions::grow(obstacle, f, cart, g, out))
 }
@@ -155,8 +149,8 @@ pub extern "C" fn cocklesway_grow(
 #[no_mangle]
 pub extern "C" fn cocklesway_sweep(list: &[i32], floor: u16, out: &mut [i32]) -> Numbers
     ensures { λ r. ⌜
-        (numbers r ≡ crossed 6 (withFloor floor (sweepWritten (now (list .entry)) (now (out .entry)) .reply)))
-        × (now (out .exit) ≡ sweepWritten (now (list .entry)) (now (out .entry)) .output) ⌝ }
+        (numbers r ≡ crossed 6 (Question·reply (askSweep (on (now (list .entry)) floor) (now (out .entry)))))
+        × (now (out .exit) ≡ output (askSweep (on (now (list .entry)) floor) (now (out .entry)))) ⌝ }
 {
     reply::of_answer(questions::sweep(list, floor, out))
 }
@@ -164,7 +158,7 @@ pub extern "C" fn cocklesway_sweep(list: &[i32], floor: u16, out: &mut [i32]) ->
 // The greatest squared distance of two corners, and their positions.
 #[no_mangle]
 pub extern "C" fn cocklesway_length(list: &[i32], floor: u16) -> Numbers
-    ensures { λ r. ⌜ numbers r ≡ crossed 6 (withFloor floor (lengthReply (now (list .entry)))) ⌝ }
+    ensures { λ r. ⌜ numbers r ≡ crossed 6 (Question·reply (askLength (on (now (list .entry)) floor))) ⌝ }
 {
     reply::of_length(questions::length(list, floor))
 }
@@ -172,7 +166,7 @@ pub extern "C" fn cocklesway_length(list: &[i32], floor: u16) -> Numbers
 // Edge, corner, turn, squared edge length and width rounded down.
 #[no_mangle]
 pub extern "C" fn cocklesway_width(list: &[i32], floor: u16) -> Numbers
-    ensures { λ r. ⌜ numbers r ≡ crossed 6 (withFloor floor (widthReply (now (list .entry)))) ⌝ }
+    ensures { λ r. ⌜ numbers r ≡ crossed 6 (Question·reply (askWidth (on (now (list .entry)) floor))) ⌝ }
 {
     reply::of_width(questions::width(list, floor))
 }
@@ -180,7 +174,8 @@ pub extern "C" fn cocklesway_width(list: &[i32], floor: u16) -> Numbers
 // 0 apart, 1 touching, 2 overlapping.
 #[no_mangle]
 pub extern "C" fn cocklesway_relation(a: &[i32], f: u16, b: &[i32], g: u16) -> Numbers
-    ensures { λ r. ⌜ numbers r ≡ crossed 6 (between (on (now (a .entry)) f) (on (now (b .entry)) g) relationReply) ⌝ }
+    ensures { λ r. ⌜
+        numbers r ≡ crossed 6 (Question·reply (askRelation (on (now (a .entry)) f) (on (now (b .entry)) g))) ⌝ }
 {
     reply::of_relation(questions::relation(a, f, b, g))
 }
@@ -188,7 +183,8 @@ pub extern "C" fn cocklesway_relation(a: &[i32], f: u16, b: &[i32], g: u16) -> N
 // 1 if the first shape is inside the second, else 0.
 #[no_mangle]
 pub extern "C" fn cocklesway_inside(a: &[i32], f: u16, b: &[i32], g: u16) -> Numbers
-    ensures { λ r. ⌜ numbers r ≡ crossed 6 (between (on (now (a .entry)) f) (on (now (b .entry)) g) insideReply) ⌝ }
+    ensures { λ r. ⌜
+        numbers r ≡ crossed 6 (Question·reply (askInside (on (now (a .entry)) f) (on (now (b .entry)) g))) ⌝ }
 {
     reply::of_inside(questions::inside(a, f, b, g))
 }
@@ -197,7 +193,7 @@ pub extern "C" fn cocklesway_inside(a: &[i32], f: u16, b: &[i32], g: u16) -> Num
 #[no_mangle]
 pub extern "C" fn cocklesway_offer(a: &[i32], f: u16, b: &[i32], g: u16, u: i32, v: i32) -> Numbers
     ensures { λ r. ⌜ numbers r ≡ crossed 6
-        (between (on (now (a .entry)) f) (on (now (b .entry)) g) (λ l m. offerReply l m (point u v))) ⌝ }
+        (Question·reply (askOffer (on (now (a .entry)) f) (on (now (b .entry)) g) (point u v))) ⌝ }
 {
     reply::of_offer(separating::offer(a, f, b, g, u, v))
 }
@@ -214,7 +210,7 @@ pub extern "C" fn cocklesway_find(a: &[i32], f: u16, b: &[i32], g: u16) -> Direc
 #[no_mangle]
 pub extern "C" fn cocklesway_clearance(a: &[i32], f: u16, b: &[i32], g: u16) -> Nearest
     ensures { λ r. ⌜
-        nearestNumbers r ≡ crossed 7 (between (on (now (a .entry)) f) (on (now (b .entry)) g) clearanceReply) ⌝ }
+        nearestNumbers r ≡ crossed 7 (Question·reply (askClearance (on (now (a .entry)) f) (on (now (b .entry)) g))) ⌝ }
 {
     reply::of_clearance(questions::clearance(a, f, b, g))
 }
@@ -223,7 +219,7 @@ pub extern "C" fn cocklesway_clearance(a: &[i32], f: u16, b: &[i32], g: u16) -> 
 #[no_mangle]
 pub extern "C" fn cocklesway_tangents(a: &[i32], f: u16, b: &[i32], g: u16) -> Lines
     ensures { λ r. ⌜
-        lineNumbers r ≡ crossed 9 (between (on (now (a .entry)) f) (on (now (b .entry)) g) tangentsReply) ⌝ }
+        lineNumbers r ≡ crossed 9 (Question·reply (askTangents (on (now (a .entry)) f) (on (now (b .entry)) g))) ⌝ }
 {
     reply::of_tangents(questions::tangents(a, f, b, g))
 }
@@ -231,8 +227,8 @@ pub extern "C" fn cocklesway_tangents(a: &[i32], f: u16, b: &[i32], g: u16) -> L
 // How many corners the latest record of the name has, which are written to the output, and its floor.
 #[no_mangle]
 pub extern "C" fn cocklesway_log_read(log: &[u8], name: u16, out: &mut [i32]) -> Numbers
-    ensures { λ r. ⌜ (numbers r ≡ crossed 6 (readWritten (now (log .entry)) name (now (out .entry)) .reply))
-        × (now (out .exit) ≡ readWritten (now (log .entry)) name (now (out .entry)) .output) ⌝ }
+    ensures { λ r. ⌜ (numbers r ≡ crossed 6 (Question·reply (askRead (now (log .entry)) name (now (out .entry)))))
+        × (now (out .exit) ≡ output (askRead (now (log .entry)) name (now (out .entry)))) ⌝ }
 {
     reply::of_answer(questions::log_read(log, name, out))
 }

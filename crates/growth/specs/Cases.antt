@@ -6,8 +6,8 @@ use Rattle.plane.specs.Point.{Point, point, points, numbers, samePoint}
 use Rattle.plane.specs.Turn.{turn}
 use Rattle.plane.specs.Shape.{precedes}
 use Rattle.plane.specs.Corner.{shapeOf}
-use Rattle.plane.specs.Separation.{inside, apart, notLeft, onRim, touching}
-use Rattle.growth.specs.Grown.{grown, placed, relationNumber}
+use Rattle.plane.specs.Separation.{inside, apart, notLeft, onRim, touching, relationNumber}
+use Rattle.growth.specs.Grown.{grown, placed}
 
 -- what the definitions give, and what is stated: the grown obstacle, and how the cart at a place stands to the obstacle
 pub record Case : Type 0 where

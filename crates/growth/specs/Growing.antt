@@ -5,27 +5,26 @@
 --     maps              larger carts, more obstacles, a cart with a load: two outlines
 --     lost corners      a map that lost a corner answers differently at some place
 -- A is the cart's outline, B the obstacle, t and u are places: any whole numbers, without bound. Lists have a corner: 0 < length.
-use mathlib.Core.Path.{_≡_}
+use mathlib.Core.Path.{_≡_, refl}
 use mathlib.Core.Bool.{true, false, not}
 use mathlib.Core.List.{List, [], _∷_, _++_}
 use mathlib.Core.Logic.{_⊎_}
 use Prim.Native.Nat.{ℕ, _<_}
 use lib.IntN.{ℤ, pos, _*ℤ_}
 use lib.ListN.{length}
-use Rattle.plane.specs.Point.{Point, points, numbers}
+use Rattle.plane.specs.Point.{Point, _∈_, _⊆_}
 use Rattle.plane.specs.Shape.{IsShape}
 use Rattle.plane.specs.Reply.{answered}
-use Rattle.plane.specs.Refusal.{Valid}
 use Rattle.plane.specs.Corner.{shapeOf, sums}
-use Rattle.plane.specs.Separation.{inside, apart, touching, relationReply}
+use Rattle.plane.specs.Separation.{inside, apart, touching, relationNumber}
 use Rattle.plane.specs.Mean.{CommonPoint}
-use Rattle.plane.specs.Floor.{Floored, on, between}
-use Rattle.plane.specs.Clearance.{top, bottom, nearest, clearanceReply}
-use Rattle.plane.specs.theory.lists.Members.{_∈_, _⊆_}
-use Rattle.laws.specs.Grouping.{corners, sumCall, mergeCall, Gives, Called}
+use Rattle.plane.specs.Clearance.{top, bottom, nearest}
+use Rattle.plane.specs.Floor.{Floored, corners, Same}
+use Rattle.plane.specs.Question.{reply, askRelation, askClearance}
+use Rattle.laws.specs.Grouping.{sumCall, mergeCall, Gives, Called}
 use Rattle.strips.specs.OwnDirection.{answerTop, answerBottom}
-use Rattle.growth.specs.Grown.{grown, placed, driven, relationNumber, mirrorCall, growCall, grownShape}
-use Rattle.growth.specs.theory.Alike.{alike-apart, alike-touching, alike-relation}
+use Rattle.growth.specs.Grown.{grown, placed, driven, Differs, listOf, mirrorCall, growCall, grownShape, EndsIn}
+use Rattle.growth.specs.theory.Alike.{alike-apart, alike-touching, alike-relation, alike-lists}
 use Rattle.growth.specs.theory.Places.{grown-shape, placed-shape, place-alike, drive-alike, place-clearance, drive-clearance}
 use Rattle.growth.specs.theory.Places.{place-inside, drive-met, met-drive, driven-merge, driven-passes}
 use Rattle.growth.specs.theory.Laws.{grown-larger-cart, grown-larger-obstacle, grown-merge, grown-twice, grown-shapeOf}
@@ -59,9 +58,10 @@ module _ (b a : Floored) where
       → g ≡ grownShape b a
   sum-with-mirrored-cart-is-grown m g out i c = mirror-sum-called a b m g out i c
 
--- the number of relation is what relation answers
-pub relation-answers-number : (a b : List ℤ) → Valid a → Valid b → relationReply a b ≡ answered (relationNumber (points a) (points b) ∷ [])
-relation-answers-number a b v w = relation-answered a b v w
+-- the number of relation is what relation answers of valid shapes on one floor, and their floor
+pub relation-answers-number : (a b : Floored) → Same a b
+    → reply (askRelation a b) ≡ answered (relationNumber (corners a) (corners b) ∷ pos (a .floor) ∷ [])
+relation-answers-number a b s = relation-answered a b s
 
 -- ---- at a place
 
@@ -83,21 +83,20 @@ module _ (A B : List Point) (a : 0 < length A) (b : 0 < length B) (t : Point) wh
   cart-is-apart-outside-grown = place-inside A B a b t
 
   -- relation replies the same on any floor, where all four lists are valid
-  pub relation-replies-as-at-place : (f : ℕ) → Valid (numbers (placed A t)) → Valid (numbers B) → Valid (numbers (t ∷ []))
-      → Valid (numbers (grown B A)) → between (on (numbers (placed A t)) f) (on (numbers B) f) relationReply
-      ≡ between (on (numbers (t ∷ [])) f) (on (numbers (grown B A)) f) relationReply
-  relation-replies-as-at-place = relation-replies (placed A t) B (t ∷ []) (grown B A) (place-alike A B a b t)
+  pub relation-replies-as-at-place : (f : ℕ) → Same (listOf (placed A t) f) (listOf B f) → Same (listOf (t ∷ []) f) (listOf (grown B A) f)
+      → reply (askRelation (listOf (placed A t) f) (listOf B f)) ≡ reply (askRelation (listOf (t ∷ []) f) (listOf (grown B A) f))
+  relation-replies-as-at-place f s r = relation-replies _ _ _ _ (alike-lists (place-alike A B a b t)) refl s r
 
-  module _ (v w : List ℤ) (h : clearanceReply (numbers (placed A t)) (numbers B) ≡ answered v)
-      (l : clearanceReply (numbers (t ∷ [])) (numbers (grown B A)) ≡ answered w) where
-    -- two answers of clearance tell the same squared distance, as fractions
+  -- two answers of clearance, whatever the floors
+  module _ (f g : ℕ) (v w : List ℤ) (h : reply (askClearance (listOf (placed A t) f) (listOf B f)) ≡ answered v)
+      (l : reply (askClearance (listOf (t ∷ []) g) (listOf (grown B A) g)) ≡ answered w) where
+    -- tell the same squared distance, as fractions
     pub clearance-replies-as-at-place : answerTop v *ℤ answerBottom w ≡ answerTop w *ℤ answerBottom v
-    clearance-replies-as-at-place = clearance-fractions (placed A t) B (t ∷ []) (grown B A) (place-alike A B a b t) v w h l
+    clearance-replies-as-at-place = clearance-fractions _ _ _ _ (alike-lists (place-alike A B a b t)) v w h l
 
-    -- and end in the same number, "the distance rounded down"
-    pub clearance-rounds-as-at-place : (last : ℤ) × (before : List ℤ) × (other : List ℤ) × (v ≡ before ++ (last ∷ []))
-        × (w ≡ other ++ (last ∷ []))
-    clearance-rounds-as-at-place = clearance-rounded (placed A t) B (t ∷ []) (grown B A) (place-alike A B a b t) v w h l
+    -- and end in the same number, "the distance rounded down", before the floor, which is last
+    pub clearance-rounds-as-at-place : (rounded : ℤ) × EndsIn (rounded ∷ pos f ∷ []) v × EndsIn (rounded ∷ pos g ∷ []) w
+    clearance-rounds-as-at-place = clearance-rounded _ _ _ _ (alike-lists (place-alike A B a b t)) v w h l
 
 -- the clearance (document 02, request W3) is the same fraction, for all shapes apart: the least distance of the cart at t from the
 -- obstacle is that of the point t from the grown obstacle
@@ -179,26 +178,21 @@ grown-twice-number-for-number a b c s g h l x y z p i j k = grow-twice-called a 
 -- ---- lost corners
 
 -- a dropped corner shows at that corner, whichever of the others are left: it is not apart from the shape, and apart from what is left
-pub lost-corner-tells : (G H : List Point) → IsShape G → 0 < length H → H ⊆ G → (p : Point) → p ∈ G → (p ∈ H → ⊥)
-    → (apart (p ∷ []) G ≡ false) × (apart (p ∷ []) H ≡ true)
+pub lost-corner-tells : (G H : List Point) → IsShape G → 0 < length H → H ⊆ G → (p : Point) → p ∈ G → (p ∈ H → ⊥) → Differs p G H
 lost-corner-tells G H s h part p m lost = lost-differs G H s h part p m lost
 
 module _ (G H : List Point) (g : 0 < length G) (h : 0 < length H) (p : Point) where
   -- so does every place inside the one and not inside the other
-  pub place-inside-one-tells : inside (p ∷ []) G ≡ true → inside (p ∷ []) H ≡ false
-      → (apart (p ∷ []) G ≡ false) × (apart (p ∷ []) H ≡ true)
+  pub place-inside-one-tells : inside (p ∷ []) G ≡ true → inside (p ∷ []) H ≡ false → Differs p G H
   place-inside-one-tells i o = answers-differ G H g h p i o
 
   -- there relation answers different numbers
-  pub answers-are-different : (apart (p ∷ []) G ≡ false) × (apart (p ∷ []) H ≡ true)
-      → relationNumber (p ∷ []) G ≡ relationNumber (p ∷ []) H → ⊥
+  pub answers-are-different : Differs p G H → relationNumber (p ∷ []) G ≡ relationNumber (p ∷ []) H → ⊥
   answers-are-different d = numbers-differ p G H d
 
 module _ (G H : List Point) (s : IsShape G) (r : IsShape H) where
   -- two shapes that differ answer differently at a corner of one of them
-  pub different-shapes-answer-differently : (G ≡ H → ⊥)
-      → (p : Point) × ((p ∈ G × ((apart (p ∷ []) G ≡ false) × (apart (p ∷ []) H ≡ true)))
-      ⊎ (p ∈ H × ((apart (p ∷ []) H ≡ false) × (apart (p ∷ []) G ≡ true))))
+  pub different-shapes-answer-differently : (G ≡ H → ⊥) → (p : Point) × ((p ∈ G × Differs p G H) ⊎ (p ∈ H × Differs p H G))
   different-shapes-answer-differently n = shapes-differ G H s r n
 
   -- so those that answer alike at all places, in whole millimetres, are equal

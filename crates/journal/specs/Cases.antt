@@ -9,12 +9,12 @@ use Rattle.plane.specs.Limits.{maxCorners, maxCoordinate}
 use Rattle.plane.specs.Shape.{breaks, precedes}
 use Rattle.plane.specs.Reply.{Reply, answered, refused}
 use Rattle.plane.specs.Refusal.{badCount, tooMany, outside, someOutside, equalPair, leftBroken, ruleBroken, badStart}
-use Rattle.plane.specs.Judge.{judged}
 use Rattle.plane.specs.Output.{Written, noRoom, overwritten}
+use Rattle.plane.specs.Question.{reply, output, written}
 use Rattle.journal.specs.Bytes.{pair, pairAt, word, wordAt, words, wordsAt}
 use Rattle.journal.specs.Format.{fixedBytes, recordedAs, recorded, recordedPlain, size, whole, records, kind, name, floor, list}
 use Rattle.journal.specs.Format.{wrongLength, otherKind, bad}
-use Rattle.journal.specs.Reading.{readWritten}
+use Rattle.journal.specs.Reading.{askRead}
 use Rattle.journal.specs.Adding.{end, stores, addReply, Added, added}
 use Rattle.journal.specs.History.{fresh}
 
@@ -71,7 +71,7 @@ pub record Read : Type 0 where
   pub stated : Written
 
 abbrev reads : List ℕ → ℕ → List ℤ → Reply → List ℤ → Read
-reads b n old r new = record { given = readWritten b n old; stated = record { reply = r; output = new } }
+reads b n old r new = record { given = written (askRead b n old); stated = record { reply = r; output = new } }
 
 abbrev zeros : List ℤ
 zeros = pos 0 ∷ pos 0 ∷ pos 0 ∷ []
@@ -104,7 +104,7 @@ readings =
     ∷ []
 
 pub readings-hold : map (λ (r : Read). r .given) readings ≡ map (λ (r : Read). r .stated) readings
-unfolding pairAt wordAt wordsAt fixedBytes size whole records kind name floor list wrongLength otherKind bad readWritten judged badCount
+unfolding pairAt wordAt wordsAt fixedBytes size whole records kind name floor list wrongLength otherKind bad reply output badCount
     tooMany outside someOutside equalPair leftBroken ruleBroken badStart breaks precedes maxCorners maxCoordinate noRoom overwritten
 readings-hold = refl
 
@@ -145,6 +145,6 @@ additions =
 
 pub additions-hold : map (λ (s : Step). s .given) additions ≡ map (λ (s : Step). s .stated) additions
 unfolding pair pairAt word words wordAt wordsAt fixedBytes recordedAs recorded size whole records kind name floor list wrongLength otherKind
-    bad end stores addReply added judged badCount tooMany outside someOutside equalPair leftBroken ruleBroken badStart breaks precedes
+    bad end stores addReply added reply badCount tooMany outside someOutside equalPair leftBroken ruleBroken badStart breaks precedes
     maxCorners maxCoordinate
 additions-hold = refl

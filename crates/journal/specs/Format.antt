@@ -15,8 +15,8 @@ use lib.Dec.{eqb, leb, ltb}
 use lib.ListN.{length, getD, take, drop}
 use lib.IntN.{ℤ}
 use Rattle.plane.specs.Reply.{Reply, answered, refused}
-use Rattle.plane.specs.Judge.{judged}
 use Rattle.plane.specs.Floor.{Floored, on}
+use Rattle.plane.specs.Question.{reply, askJudge}
 use Rattle.journal.specs.Bytes.{pair, pairAt, words, wordsAt}
 
 abbrev pub lastByte : ℕ
@@ -69,6 +69,10 @@ list r = wordsAt ((size r - fixedBytes (kind r)) / 4) r (1 + fixedBytes (kind r)
 -- the shape that a record holds, with its floor
 abbrev pub content : List ℕ → Floored
 content r = on (list r) (floor r)
+
+-- what judging says of a list, on whichever floor
+abbrev pub judged : List ℤ → Reply
+judged l = reply (askJudge (on l 0))
 
 -- judging answers, and does not refuse
 abbrev pub isAnswer : Reply → Bool

@@ -3,6 +3,7 @@ pub mod Bytes
 pub mod Format
 pub mod Reading
 pub mod Adding
+pub mod Facts
 pub mod History
 pub mod Survey
 pub mod Allowance

@@ -13,25 +13,27 @@ use lib.Dec.{eqb, leb}
 use lib.ListN.{length, take, drop, set, replicate}
 use lib.IntN.{ℤ, pos}
 use Rattle.plane.specs.Point.{points}
-use Rattle.plane.specs.Reply.{answered, refused, Row, row}
+use Rattle.plane.specs.Reply.{answered, refused, Row, NoneApply, First}
 use Rattle.plane.specs.Refusal.{Valid}
-use Rattle.plane.specs.Output.{written, noRoom}
-use Rattle.plane.specs.theory.refusals.Rows.{NoneApply, First, firstRow-given, firstRow-none, firstRow-answered, firstRow-refused}
-use Rattle.plane.specs.Floor.{on, withFloor, writtenOn}
-use Rattle.plane.specs.theory.refusals.Floors.{withFloor-answered, withFloor-refused}
+use Rattle.plane.specs.Output.{roomRow}
+use Rattle.plane.specs.Floor.{on, corners, noShape}
+use Rattle.plane.specs.Question.{table, reply, written, writes}
+use Rattle.plane.specs.theory.refusals.Rows.{firstRow-given, firstRow-none, firstRow-answered, firstRow-refused}
+use Rattle.plane.specs.theory.refusals.Asked.{asked-given, asked-refused, asked-none, asked-answered}
 use Rattle.journal.specs.Format.{recorded, recordedPlain, whole, records, name, floor, list, bad}
-use Rattle.journal.specs.Reading.{damaged, badPlace, latest, readRows, readWritten, showing}
+use Rattle.journal.specs.Reading.{damaged, badPlace, latest, askRead, showing}
 use Rattle.journal.specs.Adding.{joined, end, stores, made, addRows, addReply, added}
+use Rattle.journal.specs.Facts.{Whole, Good, FirstBad, AllRecorded}
 use Rattle.journal.specs.History.{Addition, fresh, after, isFinished, lastSince, lastFinished}
-use Rattle.journal.specs.theory.Kind.{Good, good→facts, facts→good}
-use Rattle.journal.specs.theory.Records.{Whole, whole→facts, facts→whole, split, end-torn}
+use Rattle.journal.specs.theory.Kind.{good→facts, facts→good}
+use Rattle.journal.specs.theory.Records.{whole→facts, facts→whole, split, end-torn}
 use Rattle.journal.specs.theory.Read.{recorded-name, recorded-floor, recorded-list, recorded-good}
 use Rattle.journal.specs.theory.Read.{plain-entry, plain-name, plain-floor, plain-list, plain-good}
-use Rattle.journal.specs.theory.Reading.{FirstBad, first-bad, latest-snoc, read-same}
+use Rattle.journal.specs.theory.Reading.{first-bad, latest-snoc, read-same}
 use Rattle.journal.specs.theory.Stores.{cut-seen}
 use Rattle.journal.specs.theory.Added.{kept-log, added-seen, finished-log, finished-read, finished-others, unfinished-seen}
 use Rattle.journal.specs.theory.Added.{nothing-allowed, one-more-allowed, enough-allowed, sound-added}
-use Rattle.journal.specs.theory.History.{after-sound, after-read, fresh-sound, fresh-read, AllRecorded, written-sound}
+use Rattle.journal.specs.theory.History.{after-sound, after-read, fresh-sound, fresh-read, written-sound}
 
 -- ---- records
 
@@ -78,27 +80,22 @@ place-of-first-bad-record rs d = first-bad rs d
 
 module _ (b : List ℕ) (n : ℕ) (out : List ℤ) where
   -- 15, 19 and 8, in this order: a row that applies, with none before it, gives its refusal
-  pub first-row-refuses-reading : {w : Row} → First w (readRows b n out) → readWritten b n out .reply ≡ refused (w .number) (w .carries)
-  unfolding readWritten
-  first-row-refuses-reading f = ap (withFloor (latest n (records b) .floor)) (firstRow-given _ f)
+  pub first-row-refuses-reading : {w : Row} → First w (table (askRead b n out)) → reply (askRead b n out) ≡ refused (w .number) (w .carries)
+  first-row-refuses-reading f = asked-given (askRead b n out) f
 
   -- and nothing else does
-  pub reading-refused-by-first-row : (m : ℕ) (carries : List ℕ) → readWritten b n out .reply ≡ refused m carries
-      → (w : Row) × First w (readRows b n out) × (w .number ≡ m) × (w .carries ≡ carries)
-  unfolding readWritten
-  reading-refused-by-first-row m carries h = firstRow-refused (readRows b n out) _ m carries (withFloor-refused _ _ m carries h)
+  pub reading-refused-by-first-row : (m : ℕ) (carries : List ℕ) → reply (askRead b n out) ≡ refused m carries
+      → (w : Row) × First w (table (askRead b n out)) × (w .number ≡ m) × (w .carries ≡ carries)
+  reading-refused-by-first-row m carries h = asked-refused (askRead b n out) m carries h
 
   -- where no row applies, the reading is answered: the count of corners, and "Answers carry the floor"
-  pub reading-answered-if-none : NoneApply (readRows b n out) → let found = latest n (records b) in
-      readWritten b n out .reply ≡ answered (pos (length (points (found .list))) ∷ pos (found .floor) ∷ [])
-  unfolding readWritten
-  reading-answered-if-none none = ap (withFloor (latest n (records b) .floor)) (firstRow-none (readRows b n out) _ none)
+  pub reading-answered-if-none : NoneApply (table (askRead b n out)) → let found = latest n (records b) in
+      reply (askRead b n out) ≡ answered (pos (length (corners found)) ∷ pos (found .floor) ∷ [])
+  reading-answered-if-none none = asked-none (askRead b n out) none
 
   -- and only there
-  pub none-if-reading-answered : (values : List ℤ) → readWritten b n out .reply ≡ answered values → NoneApply (readRows b n out)
-  unfolding readWritten
-  none-if-reading-answered values h =
-      let plain = withFloor-answered _ _ values h in firstRow-answered (readRows b n out) _ (plain .0) (plain .1)
+  pub none-if-reading-answered : (values : List ℤ) → reply (askRead b n out) ≡ answered values → NoneApply (table (askRead b n out))
+  none-if-reading-answered values h = asked-answered (askRead b n out) values h
 
 -- ---- adding
 
@@ -138,12 +135,13 @@ module _ (b : List ℕ) (n f : ℕ) (l : List ℤ) (k : ℕ) where
 
     module _ (name-fits : n < 65536) (out : List ℤ) where
       -- its name then reads as its shape, on its floor: only 8 can come
-      pub finished-addition-is-read : f < 65536 → readWritten (added b n f l k .log) n out
-          ≡ writtenOn f (written (row 8 (noRoom (points l) out) [] ∷ []) (points l) out)
+      pub finished-addition-is-read : f < 65536 → written (askRead (added b n f l k .log) n out)
+          ≡ written (writes (noShape f) (roomRow (points l) out ∷ []) (points l) out)
       finished-addition-is-read floor-fits = finished-read b n f l k (ap isFinished done) name-fits out floor-fits
 
       -- and every other name as before
-      pub finished-addition-keeps-other-names : (m : ℕ) → (m ≡ n → ⊥) → readWritten (added b n f l k .log) m out ≡ readWritten b m out
+      pub finished-addition-keeps-other-names : (m : ℕ) → (m ≡ n → ⊥)
+          → written (askRead (added b n f l k .log) m out) ≡ written (askRead b m out)
       finished-addition-keeps-other-names m other = finished-others b n f l k (ap isFinished done) name-fits out m other
 
   module _ (cut : added b n f l k .reply ≡ answered (pos 0 ∷ [])) where
@@ -152,7 +150,8 @@ module _ (b : List ℕ) (n f : ℕ) (l : List ℤ) (k : ℕ) where
     cut-addition-is-not-stored-whole = unfinished-seen b n f l k (ap isFinished cut)
 
     -- and every name reads as before
-    pub cut-addition-changes-no-reading : (m : ℕ) (out : List ℤ) → readWritten (added b n f l k .log) m out ≡ readWritten b m out
+    pub cut-addition-changes-no-reading : (m : ℕ) (out : List ℤ)
+        → written (askRead (added b n f l k .log) m out) ≡ written (askRead b m out)
     cut-addition-changes-no-reading m out = read-same (added b n f l k .log) m out b cut-addition-is-not-stored-whole
 
   -- whatever log it is added to, torn or not, and whatever is allowed: the new record is there if the addition finished, and nothing
@@ -186,7 +185,7 @@ module _ (hs : List Addition) where
   -- "From a new book, under any additions and any cuts after any store, reading gives for each name the last finished addition", with its
   -- floor: 19 if there is none, then 8, and no 15. "or a later cut one if stored whole": by the above none is
   pub history-reads-last-finished : (m n : ℕ) (out : List ℤ)
-      → readWritten (after hs (fresh m)) n out ≡ showing (lastFinished n hs (fresh m)) out
+      → written (askRead (after hs (fresh m)) n out) ≡ written (showing (lastFinished n hs (fresh m)) out)
   history-reads-last-finished m n out = fresh-read hs m n out
 
   -- nor does 15 come of a further addition
@@ -198,7 +197,7 @@ module _ (hs : List Addition) where
   -- the same from a log b in which no record is bad, of whichever kinds they are: the last finished addition, or what b held
   module _ (b : List ℕ) (sound : damaged (records b) ≡ false) where
     pub history-reads-last-since : (n : ℕ) (out : List ℤ)
-        → readWritten (after hs b) n out ≡ showing (lastSince (latest n (records b)) n hs b) out
+        → written (askRead (after hs b) n out) ≡ written (showing (lastSince (latest n (records b)) n hs b) out)
     history-reads-last-since n out = after-read hs b sound n out
 
     pub history-adds-without-new-damage : (n f : ℕ) (l : List ℤ) (k : ℕ) (carries : List ℕ)

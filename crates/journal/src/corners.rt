@@ -3,15 +3,12 @@ ghost use mathlib.Core.Path.{_≡_};
 ghost use Prim.Native.Nat.{_+_, _*_, _%_, _≤_};
 ghost use lib.ListN.{length};
 ghost use Rattle.plane.specs.Limits.{maxCorners};
-ghost use Rattle.plane.specs.Judge.{judged};
 ghost use Rattle.plane.specs.Output.{overwritten};
 ghost use Rattle.journal.specs.Bytes.{wordsAt};
-ghost use Rattle.journal.specs.Format.{isAnswer};
+ghost use Rattle.journal.specs.Format.{judged, isAnswer};
 use crate::bytes;
-use calipers::sorted;
+use calipers::convex;
 use polygon::limits;
-use polygon::rules;
-use polygon::rules::Broken;
 
 // Whether the n numbers from a place of the log on are a shape. The buffer holds the numbers of any shape.
 pub fn is_shape_at(log: &[u8], p: usize, n: usize, buffer: &mut [i32]) -> bool
@@ -23,7 +20,7 @@ pub fn is_shape_at(log: &[u8], p: usize, n: usize, buffer: &mut [i32]) -> bool
         return false;
     }
     decode(log, p, n, buffer);
-    is_shape(&buffer[..n])
+    convex::passes(&buffer[..n])
 }
 
 // Reads n numbers from a place of the log on to the front of an output; all behind them is kept.
@@ -36,26 +33,4 @@ pub fn decode(log: &[u8], p: usize, n: usize, out: &mut [i32])
         out[i] = bytes::word_at(log, p + 4 * i);
         i += 1;
     }
-}
-
-// Whether a list is a shape.
-pub fn is_shape(list: &[i32]) -> bool
-    ensures { λ r. ⌜ r ≡ isAnswer (judged (now (list .entry))) ⌝ }
-{
-    if rules::bad_count(list) {
-        return false;
-    }
-    if rules::too_many(list) {
-        return false;
-    }
-    if rules::some_outside(list) {
-        return false;
-    }
-    if sorted::is_sorted(list) {
-        return true;
-    }
-    if let Broken::At { edge, corner } = rules::first_broken(list) {
-        return false;
-    }
-    !rules::bad_start(list)
 }

@@ -1,6 +1,5 @@
 -- Order and grouping of calls (document 01, "When many shapes come together"; document 02, W11: "Demand 3 speaks of shapes on one floor,
 -- with that floor's origin point"). A shape is its list of numbers and its floor, as they are lent to a call.
---     corners a             the corners of the shape a
 --     ShapeOn f a           a is a valid shape on floor f; AllOn f L: every shape of the list L is
 --     originPoint f         the shape 0 0 on floor f
 --     Call                  a question on two shapes and a lent output: `sumCall` or `mergeCall`
@@ -21,16 +20,13 @@ use Prim.Native.Nat.{ℕ, _*_, _≤_}
 use lib.IntN.{ℤ, pos}
 use lib.ListN.{length, take}
 use Rattle.plane.specs.Limits.{maxCorners}
-use Rattle.plane.specs.Point.{Point, points, numbers}
+use Rattle.plane.specs.Point.{Point, numbers}
 use Rattle.plane.specs.Reply.{answered, refused}
 use Rattle.plane.specs.Refusal.{InRange, Valid}
 use Rattle.plane.specs.Corner.{shapeOf, sumsOf}
 use Rattle.plane.specs.Output.{Written, overwritten}
-use Rattle.plane.specs.Combine.{sumWritten, mergeWritten}
-use Rattle.plane.specs.Floor.{Floored, on, writtenBetween}
-
-abbrev pub corners : Floored → List Point
-corners a = points (a .list)
+use Rattle.plane.specs.Floor.{Floored, on, corners}
+use Rattle.plane.specs.Question.{written, askSum, askMerge}
 
 pub record ShapeOn (f : ℕ) (a : Floored) : Type 0 where
   pub valid : Valid (a .list)
@@ -51,10 +47,10 @@ abbrev pub Call : Type 0
 Call = Floored → Floored → List ℤ → Written
 
 abbrev pub sumCall : Call
-sumCall a b out = writtenBetween a b sumWritten out
+sumCall a b out = written (askSum a b out)
 
 abbrev pub mergeCall : Call
-mergeCall a b out = writtenBetween a b mergeWritten out
+mergeCall a b out = written (askMerge a b out)
 
 -- "of an output, only the numbers that its answer counts are the shape"; "Answers carry the floor"
 pub record Gives (w : Written) (s : Floored) : Type 0 where

@@ -5,7 +5,7 @@
 --     two and three    the origin point, a shape merged with itself, a sum over a merge, taking a sum back
 -- Every law speaks of calls that are answered, whatever is refused elsewhere, and of any outputs that they are lent; of the origin point,
 -- and of a shape with itself, it says that they are answered. Equal shapes are equal in their floors too.
-use mathlib.Core.Path.{_≡_, ap}
+use mathlib.Core.Path.{_≡_}
 use mathlib.Core.Logic.{_↔_}
 use mathlib.Core.List.{List, [], _∷_, _++_, List·Memᴰ}
 use Prim.Native.Nat.{ℕ, _≤_, _<_}
@@ -17,30 +17,26 @@ use lib.Seq.{ext-getD}
 use Rattle.plane.specs.Point.{numbers}
 use Rattle.plane.specs.Reply.{answered}
 use Rattle.plane.specs.Refusal.{Valid}
-use Rattle.plane.specs.Judge.{judged}
 use Rattle.plane.specs.Corner.{shapeOf, sums}
-use Rattle.plane.specs.Floor.{Floored, on, withFloor}
+use Rattle.plane.specs.Floor.{Floored, on, corners, twoShapes}
+use Rattle.plane.specs.Question.{reply, askJudge}
 use Rattle.plane.specs.Meaning.{accepted-is-valid, valid-is-accepted}
 use Rattle.plane.specs.theory.lists.Flat.{points-length}
-use Rattle.plane.specs.theory.refusals.Floors.{withFloor-answered}
-use Rattle.laws.specs.Grouping.{corners, ShapeOn, AllOn, originPoint, Call, sumCall, mergeCall, answeredWith, Gives, Fits, Called}
+use Rattle.laws.specs.Grouping.{ShapeOn, AllOn, originPoint, Call, sumCall, mergeCall, answeredWith, Gives, Fits, Called}
 use Rattle.laws.specs.Grouping.{Grouping, Result, Refused, sumOfAll, mergeOfAll}
-use Rattle.laws.specs.theory.Answer.{sum-combines, merge-combines, floored-same}
+use Rattle.laws.specs.theory.Answer.{made-answered, sum-combines, merge-combines, floored-same}
 use Rattle.laws.specs.theory.Refused.{refused→no-result}
 use Rattle.laws.specs.theory.Fold.{grouping-some, result-floor, result-on}
 use Rattle.laws.specs.theory.Whole.{sums-whole, merges-whole, sums-result, merges-result}
 use Rattle.laws.specs.theory.Pair.{origin-neutral, merge-idem, call-comm, sum-distributes, sum-cancels}
-use Rattle.laws.specs.theory.Acceptance.{sum-accepted, merge-accepted, sum-answered, merge-answered, valid-gives}
+use Rattle.laws.specs.theory.Acceptance.{pair-accepted, valid-gives}
 
 -- ---- ground
 
 -- "A shape is valid exactly if its list meets all that stands under "What makes a shape"": exactly if judging accepts it
 pub valid-exactly-if-judged : (a : Floored)
-    → Valid (a .list) ↔ (withFloor (a .floor) (judged (a .list)) ≡ answered (pos (length (corners a)) ∷ pos (a .floor) ∷ []))
-valid-exactly-if-judged a = (
-  λ v. ap (withFloor (a .floor)) (valid-is-accepted (a .list) v),
-  λ h. accepted-is-valid (a .list) _ (withFloor-answered (a .floor) (judged (a .list)) _ h .1),
-)
+    → Valid (a .list) ↔ (reply (askJudge a) ≡ answered (pos (length (corners a)) ∷ pos (a .floor) ∷ []))
+valid-exactly-if-judged a = (λ v. valid-is-accepted (a .list) (a .floor) v, λ h. accepted-is-valid (a .list) (a .floor) _ h)
 
 -- "Two shapes are equal if they have as many corners and the same numbers in the same order"; here, on one floor
 pub equal-by-count-and-numbers : (a b : Floored) → Valid (a .list) → Valid (b .list) → a .floor ≡ b .floor
@@ -55,21 +51,21 @@ module _ (a b : Floored) (out : List ℤ) where
   pub answered-sum : (v : List ℤ) → sumCall a b out .reply ≡ answered v
       → (v ≡ pos (length (shapeOf (sums (corners a) (corners b)))) ∷ pos (a .floor) ∷ [])
       × Gives (sumCall a b out) (on (numbers (shapeOf (sums (corners a) (corners b)))) (a .floor))
-  answered-sum v h = sum-answered a b out v h
+  answered-sum v h = made-answered (twoShapes a b) _ out v h
 
   pub answered-merge : (v : List ℤ) → mergeCall a b out .reply ≡ answered v
       → (v ≡ pos (length (shapeOf (corners a ++ corners b))) ∷ pos (a .floor) ∷ [])
       × Gives (mergeCall a b out) (on (numbers (shapeOf (corners a ++ corners b))) (a .floor))
-  answered-merge v h = merge-answered a b out v h
+  answered-merge v h = made-answered (twoShapes a b) _ out v h
 
   -- "Given exactly when": of valid shapes on one floor, a sum or merge that fits is answered
   pub fitting-sum : (f : ℕ) → ShapeOn f a → ShapeOn f b → Fits (shapeOf (sums (corners a) (corners b))) out
       → sumCall a b out .reply ≡ answered (pos (length (shapeOf (sums (corners a) (corners b)))) ∷ pos f ∷ [])
-  fitting-sum f v w fits = sum-accepted a b out f v w fits
+  fitting-sum f v w fits = pair-accepted f a b _ out v w fits
 
   pub fitting-merge : (f : ℕ) → ShapeOn f a → ShapeOn f b → Fits (shapeOf (corners a ++ corners b)) out
       → mergeCall a b out .reply ≡ answered (pos (length (shapeOf (corners a ++ corners b))) ∷ pos f ∷ [])
-  fitting-merge f v w fits = merge-accepted a b out f v w fits
+  fitting-merge f v w fits = pair-accepted f a b _ out v w fits
 
 -- ---- whole lists
 

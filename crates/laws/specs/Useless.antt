@@ -17,9 +17,9 @@ use Rattle.plane.specs.Refusal.{badCount, tooMany, outside, someOutside, equalP
 use Rattle.plane.specs.Refusal.{brokenEdge, brokenCorner, badStart}
 use Rattle.plane.specs.Corner.{shapeOf, sums}
 use Rattle.plane.specs.Output.{Written, noRoom, overwritten}
-use Rattle.plane.specs.Combine.{sumWritten}
-use Rattle.plane.specs.Floor.{Floored, on, between, writtenBetween}
-use Rattle.laws.specs.Grouping.{corners, Call, sumCall, Gives, originPoint}
+use Rattle.plane.specs.Floor.{Floored, on, corners}
+use Rattle.plane.specs.Question.{reply, output}
+use Rattle.laws.specs.Grouping.{Call, sumCall, Gives, originPoint}
 use Rattle.laws.specs.Laws.{answered-sum}
 
 -- "the promise is an equation with its definition"
@@ -43,7 +43,7 @@ fiveCorners = record {
 }
 
 pub square-plus-triangle : sumCall square triangle room ≡ fiveCorners
-unfolding between writtenBetween sumWritten shapeOf overwritten noRoom maxCorners maxCoordinate turn breaks precedes samePoint
+unfolding reply output shapeOf overwritten noRoom maxCorners maxCoordinate turn breaks precedes samePoint
     badCount tooMany outside someOutside equalPair leftBroken breakingEdge breakingCorner ruleBroken brokenEdge brokenCorner badStart
 square-plus-triangle = refl
 

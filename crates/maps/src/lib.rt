@@ -1,5 +1,6 @@
-// Pictures: a map of up to eight shapes on one floor; of two also the outline of their sum, or of the first grown by the
-// second, unless it is refused, and if they are apart the four lines that just touch both and the shortest between them.
+// Pictures: a map of up to eight shapes on one floor; of two also the outline of their sum, or of the first grown by
+// the second, unless it is refused, and if they are apart the four lines that just touch both and the shortest between
+// them.
 mod legends;
 
 use picture::frames;

@@ -1,8 +1,9 @@
--- What is answered, what pairs and edges are compared by, and what the two searches know along the walk; what length and width mean;
--- then the theory behind it.
+-- What is answered, what pairs and edges are compared by, what the two searches know along the walk, and the paper's sentences; what
+-- length and width mean; then the theory behind it.
 pub mod Answer
 pub mod Comparison
 pub mod Half
 pub mod Scan
+pub mod Extremes
 pub mod Meaning
 pub mod theory

@@ -1,8 +1,10 @@
 -- What length and width mean, in document 01's words. Each theorem is proved in the theory; here it is only cited.
 --     length     of a list with a corner: the first pair at the greatest distance
 --     width      of a shape of three corners or more: the first narrowest edge, its first corner of greatest turn, the rounded width
+--     replies    to a valid shape with its floor: exactly these numbers are answered, and 10 exactly of fewer than three corners
 use mathlib.Core.Path.{_≡_}
 use mathlib.Core.List.{List, [], _∷_}
+use mathlib.Core.Logic.{_↔_}
 use Prim.Native.Nat.{ℕ, _+_, _*_, _≤_, _<_}
 use native.Mathlib.Omega.{arith}
 use lib.IntN.{ℤ, pos, natAbs, _*ℤ_}
@@ -12,10 +14,16 @@ use Rattle.plane.specs.Point.{Point, corner}
 use Rattle.plane.specs.Shape.{IsShape}
 use Rattle.plane.specs.Measure.{squared, lengthSquared, lengthFrom, lengthTo, edgeTurn, height, edgeSquared, widthEdge, widthCorner}
 use Rattle.plane.specs.Measure.{widthRounded}
+use Rattle.plane.specs.Reply.{answered, refused}
+use Rattle.plane.specs.Refusal.{Valid}
+use Rattle.plane.specs.Floor.{Floored, corners}
+use Rattle.plane.specs.Question.{reply, askLength, askWidth}
+use Rattle.measure.specs.Extremes.{FirstLongest, FirstNarrowest}
 use Rattle.measure.specs.theory.Longest.{squared-le-length, length-longest, length-from-least, length-to-least, length-point}
 use Rattle.measure.specs.theory.Height.{height-above, height-had, height-positive, edgeSquared-positive, width-facing, width-earlier}
 use Rattle.measure.specs.theory.Narrowest.{width-narrowest, noWider-le, wider-lt}
 use Rattle.measure.specs.theory.Rounded.{rounded-low, rounded-high, positive-size}
+use Rattle.measure.specs.theory.Replies.{length-reply, width-reply, width-refused}
 
 -- ---- length
 
@@ -104,3 +112,20 @@ module _ (ps : List Point) (shape : IsShape ps) (three : 2 < length ps) where
   width-rounded-down =
       let long = positive-size (edge-is-positive e width-edge-is-position) in
       (rounded-low (natAbs (t e)) (natAbs (q e)) long, rounded-high (natAbs (t e)) (natAbs (q e)) long)
+
+-- ---- the replies
+
+module _ (a : Floored) (v : Valid (a .list)) where
+  -- "Length: the greatest squared distance between two corners, at positions i ≤ j, smallest i and then smallest j among equals"
+  pub length-is-answered-exactly : (d : ℤ) (i j : ℕ)
+      → reply (askLength a) ≡ answered (d ∷ pos i ∷ pos j ∷ pos (a .floor) ∷ []) ↔ FirstLongest (corners a) d i j
+  length-is-answered-exactly d i j = length-reply a v d i j
+
+  -- "Width", "Answered: edge, corner, t, q and w"
+  pub width-is-answered-exactly : 2 < length (corners a) → (e c : ℕ) (t q : ℤ) (w : ℕ)
+      → reply (askWidth a) ≡ answered (pos e ∷ pos c ∷ t ∷ q ∷ pos w ∷ pos (a .floor) ∷ []) ↔ FirstNarrowest (corners a) e c t q w
+  width-is-answered-exactly three e c t q w = width-reply a v three e c t q w
+
+  -- 10: "width of a shape with fewer than three corners"
+  pub width-is-refused-exactly : reply (askWidth a) ≡ refused 10 [] ↔ length (corners a) < 3
+  width-is-refused-exactly = width-refused a v

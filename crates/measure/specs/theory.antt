@@ -1,4 +1,4 @@
--- The theory of length and width, which only proves: the half walk, and what stands at its places.
+-- The theory of length and width, which only proves: the half walk, and what stands at its places; the replies.
 pub mod Longest
 pub mod CutCorner
 pub mod Chains
@@ -11,3 +11,4 @@ pub mod Passed
 pub mod Narrowest
 pub mod Rounded
 pub mod WidthScan
+pub mod Replies

@@ -1,5 +1,5 @@
-// The corners of shapes, each a dot, and their numbers. A number stands where nothing else does, away from the middle of
-// the shape if it can, else over lines, and is left out where other numbers and dots are in every place.
+// The corners of shapes, each a dot, and their numbers. A number stands where nothing else does, away from the middle
+// of the shape if it can, else over lines, and is left out where other numbers and dots are in every place.
 ghost use Prim.Native.Nat.{_≤_};
 use crate::frames;
 use crate::frames::Frame;

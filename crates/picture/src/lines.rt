@@ -28,8 +28,8 @@ pub fn tangent(
     answers::word(out, now, b"\"/>")
 }
 
-// Adds the line from a corner to the place of an edge nearest to it, of two shapes apart whose nearest points these are.
-// Where both are corners the edge's ends are the same.
+// Adds the line from a corner to the place of an edge nearest to it, of two shapes apart whose nearest points these
+// are. Where both are corners the edge's ends are the same.
 pub fn nearest(
     out: &mut [u8],
     filled: usize,

@@ -1,5 +1,6 @@
 // The page that a picture stands on: its size, a white ground, the scale bar, and below it the legend, row under row.
-// What has the same size in every picture is told in pixels, of which the larger side of the shapes has 640, and scaled.
+// What has the same size in every picture is told in pixels, of which the larger side of the shapes has 640, and
+// scaled.
 ghost use Prim.Native.Nat.{_≤_};
 use crate::frames;
 use crate::frames::Frame;

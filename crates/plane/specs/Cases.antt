@@ -16,37 +16,53 @@ use Rattle.plane.specs.Shape.{next, breaks, precedes}
 use Rattle.plane.specs.Reply.{Reply, answered, refused}
 use Rattle.plane.specs.Refusal.{badCount, tooMany, outside, someOutside, equalPair, leftBroken, breakingEdge, breakingCorner}
 use Rattle.plane.specs.Refusal.{ruleBroken, brokenEdge, brokenCorner, badStart}
-use Rattle.plane.specs.Judge.{judged}
 use Rattle.plane.specs.Direction.{max, value, support, furthest}
 use Rattle.plane.specs.Corner.{shapeOf}
 use Rattle.plane.specs.Output.{Written, noRoom, overwritten}
 use Rattle.plane.specs.Face.{faceFirst, faceLast}
-use Rattle.plane.specs.Furthest.{badDirection, commonDivisor, furthestReply}
+use Rattle.plane.specs.Furthest.{badDirection, commonDivisor}
 use Rattle.plane.specs.Primitive.{primitive}
-use Rattle.plane.specs.Combine.{sumWritten, mergeWritten, growWritten}
-use Rattle.plane.specs.Sweep.{tooManyPoints, sweepWritten}
-use Rattle.plane.specs.Measure.{squared, lengthSquared, furthestPair, lengthFrom, lengthTo, lengthReply, edgeTurn, height}
-use Rattle.plane.specs.Measure.{edgeSquared, noWider, widthEdge, widthCorner, widthRounded, widthReply}
-use Rattle.plane.specs.Separation.{inside, apart, notLeft, onRim, touching, relationReply}
-use Rattle.plane.specs.Offer.{below, offerReply}
-use Rattle.plane.specs.Tangent.{onSide, touches, nearer, tangent, tangentFrom, tangentTo, tangentsReply}
-use Rattle.plane.specs.Floor.{on, between, writtenBetween}
-use Rattle.plane.specs.Clearance.{falls, top, bottom, noFurther, nearest, clearanceReply}
+use Rattle.plane.specs.Sweep.{tooManyPoints}
+use Rattle.plane.specs.Measure.{squared, lengthSquared, furthestPair, lengthFrom, lengthTo, edgeTurn, height}
+use Rattle.plane.specs.Measure.{edgeSquared, noWider, widthEdge, widthCorner, widthRounded}
+use Rattle.plane.specs.Separation.{inside, apart, notLeft, onRim, touching, relationNumber}
+use Rattle.plane.specs.Offer.{below}
+use Rattle.plane.specs.Tangent.{onSide, touches, nearer, tangent, tangentFrom, tangentTo}
+use Rattle.plane.specs.Floor.{Floored, on}
+use Rattle.plane.specs.Clearance.{falls, top, bottom, noFurther, nearest}
+use Rattle.plane.specs.Question.{Question, written, reply, output, askJudge, askFurthest, askSum, askMerge, askGrow, askSweep}
+use Rattle.plane.specs.Question.{askLength, askWidth, askRelation, askOffer, askClearance, askTangents}
 
 -- what the definition gives and what 01 states: each a reply and a whole output
 pub record Case : Type 0 where
   pub given : Written
   pub stated : Written
 
--- a question that writes nothing
+-- two replies without an output
 abbrev says : Reply → Reply → Case
 says r s = record { given = record { reply = r; output = [] }; stated = record { reply = s; output = [] } }
 
--- a question that writes so many corners: it is lent an output full of 7s, two numbers longer than the answer, and these two stay
-abbrev writes : (List ℤ → Written) → ℕ → List ℤ → Case
-writes call n l = record {
-  given = call (replicate (length l + 2) (pos 7));
-  stated = record { reply = answered (pos n ∷ []); output = l ++ (pos 7 ∷ pos 7 ∷ []) };
+-- a list on the ground floor, 0
+abbrev ground : List ℤ → Floored
+ground l = on l 0
+
+-- a question about the ground floor that only answers: the values, and the floor after them
+abbrev answers : Question → List ℤ → Case
+answers q values = record { given = written q; stated = record { reply = answered (values ++ (pos 0 ∷ [])); output = [] } }
+
+-- a question that is refused: whatever it is lent stays
+abbrev refuses : Question → ℕ → List ℕ → Case
+refuses q n carries = record { given = written q; stated = record { reply = refused n carries; output = q .lent } }
+
+-- an output of 7s, two numbers longer than l
+abbrev sevens : List ℤ → List ℤ
+sevens l = replicate (length l + 2) (pos 7)
+
+-- a question that writes the n corners of l: it is lent sevens, and the last two stay
+abbrev fills : (List ℤ → Question) → ℕ → List ℤ → Case
+fills question n l = record {
+  given = written (question (sevens l));
+  stated = record { reply = answered (pos n ∷ pos 0 ∷ []); output = l ++ (pos 7 ∷ pos 7 ∷ []) };
 }
 
 -- 0 0 2 0 2 2 0 2
@@ -97,108 +113,106 @@ turnsLeft l e =
 abbrev named : Point → Reply
 named d = answered (primitive d .x ∷ primitive d .y ∷ [])
 
--- a direction offered, the shapes with their floors
-abbrev offered : List ℤ → ℕ → List ℤ → ℕ → Point → Reply
-offered a f b g d = between (on a f) (on b g) (λ l m. offerReply l m d)
+-- a direction offered, the shapes on floors 4 and g
+abbrev offered : List ℤ → List ℤ → ℕ → Point → Question
+offered a b g d = askOffer (on a 4) (on b g) d
+
+-- 0 0 3 0 3 2 2 3 0 3, the sum of S and T
+abbrev five : List ℤ
+five = pos 0 ∷ pos 0 ∷ pos 3 ∷ pos 0 ∷ pos 3 ∷ pos 2 ∷ pos 2 ∷ pos 3 ∷ pos 0 ∷ pos 3 ∷ []
+
+-- 2 2 1 0 0 2 1 1 2 2 2 0 0 0
+abbrev scattered : List ℤ
+scattered =
+    pos 2 ∷ pos 2 ∷ pos 1 ∷ pos 0 ∷ pos 0 ∷ pos 2 ∷ pos 1 ∷ pos 1 ∷ pos 2 ∷ pos 2 ∷ pos 2 ∷ pos 0 ∷ pos 0 ∷ pos 0 ∷ []
 
 pub rows : List Case
 rows =
     -- S plus T, whole output: 5 corners
-    writes (λ out. sumWritten S T out) 5
-    (pos 0 ∷ pos 0 ∷ pos 3 ∷ pos 0 ∷ pos 3 ∷ pos 2 ∷ pos 2 ∷ pos 3 ∷ pos 0 ∷ pos 3 ∷ [])
+    fills (λ out. askSum (ground S) (ground T) out) 5 five
     -- Segment 0 0 2 0 plus segment 0 0 1 0
-    ∷ writes (λ out. sumWritten (segment 0 0 2 0) (segment 0 0 1 0) out) 2 (segment 0 0 3 0)
+    ∷ fills (λ out. askSum (ground (segment 0 0 2 0)) (ground (segment 0 0 1 0)) out) 2 (segment 0 0 3 0)
     -- Segment 0 0 2 0 plus segment 0 0 0 1
-    ∷ writes (λ out. sumWritten (segment 0 0 2 0) (segment 0 0 0 1) out) 4
+    ∷ fills (λ out. askSum (ground (segment 0 0 2 0)) (ground (segment 0 0 0 1)) out) 4
     (pos 0 ∷ pos 0 ∷ pos 2 ∷ pos 0 ∷ pos 2 ∷ pos 1 ∷ pos 0 ∷ pos 1 ∷ [])
     -- S merged with point 5 1, with point 4 0, with point 1 1
-    ∷ writes (λ out. mergeWritten S (pair 5 1) out) 5
+    ∷ fills (λ out. askMerge (ground S) (ground (pair 5 1)) out) 5
     (pos 0 ∷ pos 0 ∷ pos 2 ∷ pos 0 ∷ pos 5 ∷ pos 1 ∷ pos 2 ∷ pos 2 ∷ pos 0 ∷ pos 2 ∷ [])
-    ∷ writes (λ out. mergeWritten S (pair 4 0) out) 4 (pos 0 ∷ pos 0 ∷ pos 4 ∷ pos 0 ∷ pos 2 ∷ pos 2 ∷ pos 0 ∷ pos 2 ∷ [])
-    ∷ writes (λ out. mergeWritten S (pair 1 1) out) 4 S
+    ∷ fills (λ out. askMerge (ground S) (ground (pair 4 0)) out) 4
+    (pos 0 ∷ pos 0 ∷ pos 4 ∷ pos 0 ∷ pos 2 ∷ pos 2 ∷ pos 0 ∷ pos 2 ∷ [])
+    ∷ fills (λ out. askMerge (ground S) (ground (pair 1 1)) out) 4 S
     -- Points 3 1 and 0 1 merged
-    ∷ writes (λ out. mergeWritten (pair 3 1) (pair 0 1) out) 2 (segment 0 1 3 1)
+    ∷ fills (λ out. askMerge (ground (pair 3 1)) (ground (pair 0 1)) out) 2 (segment 0 1 3 1)
     -- Length of S: 8 at 0, 2. Length of 0 0 4 0 0 3: 25 at 1, 2
-    ∷ says (lengthReply S) (answered (pos 8 ∷ pos 0 ∷ pos 2 ∷ []))
-    ∷ says (lengthReply triangle) (answered (pos 25 ∷ pos 1 ∷ pos 2 ∷ []))
+    ∷ answers (askLength (ground S)) (pos 8 ∷ pos 0 ∷ pos 2 ∷ [])
+    ∷ answers (askLength (ground triangle)) (pos 25 ∷ pos 1 ∷ pos 2 ∷ [])
     -- Width of S: edge 0, corner 2, t 4, q 4, w 2
-    ∷ says (widthReply S) (answered (pos 0 ∷ pos 2 ∷ pos 4 ∷ pos 4 ∷ pos 2 ∷ []))
+    ∷ answers (askWidth (ground S)) (pos 0 ∷ pos 2 ∷ pos 4 ∷ pos 4 ∷ pos 2 ∷ [])
     -- Width of 0 0 4 0 0 3: edge 1, corner 0, t 12, q 25, w 2
-    ∷ says (widthReply triangle) (answered (pos 1 ∷ pos 0 ∷ pos 12 ∷ pos 25 ∷ pos 2 ∷ []))
+    ∷ answers (askWidth (ground triangle)) (pos 1 ∷ pos 0 ∷ pos 12 ∷ pos 25 ∷ pos 2 ∷ [])
     -- S against point 3 1 apart; 2 1 touching; 1 1 overlapping
-    ∷ says (relationReply S (pair 3 1)) (answered (pos 0 ∷ []))
-    ∷ says (relationReply S (pair 2 1)) (answered (pos 1 ∷ []))
-    ∷ says (relationReply S (pair 1 1)) (answered (pos 2 ∷ []))
+    ∷ answers (askRelation (ground S) (ground (pair 3 1))) (pos 0 ∷ [])
+    ∷ answers (askRelation (ground S) (ground (pair 2 1))) (pos 1 ∷ [])
+    ∷ answers (askRelation (ground S) (ground (pair 1 1))) (pos 2 ∷ [])
     -- 0 0 5 4 -1 4 4 0 2 6 turns left at every corner yet is refused 4
     ∷ says (answered (map (turnsLeft star) (0 ∷ 1 ∷ 2 ∷ 3 ∷ 4 ∷ []))) (answered (pos 1 ∷ pos 1 ∷ pos 1 ∷ pos 1 ∷ pos 1 ∷ []))
-    ∷ says (judged star) (refused 4 (1 ∷ 0 ∷ 3 ∷ []))
+    ∷ refuses (askJudge (ground star)) 4 (1 ∷ 0 ∷ 3 ∷ [])
     -- the lines that just touch S and the square 5 0 7 0 7 2 5 2; S and point 2 1 touch: 9
-    ∷ says (tangentsReply S square)
-    (answered (pos 1 ∷ pos 0 ∷ pos 2 ∷ pos 3 ∷ pos 1 ∷ pos 3 ∷ pos 2 ∷ pos 0 ∷ []))
-    ∷ says (tangentsReply S (pair 2 1)) (refused 9 [])
+    ∷ answers (askTangents (ground S) (ground square)) (pos 1 ∷ pos 0 ∷ pos 2 ∷ pos 3 ∷ pos 1 ∷ pos 3 ∷ pos 2 ∷ pos 0 ∷ [])
+    ∷ refuses (askTangents (ground S) (ground (pair 2 1))) 9 []
     -- the cart's nose before a six-metre wall: 40 mm; S and point 3 3: two corners, 2 apart; S and point 2 1 are not apart
-    ∷ says (clearanceReply (pair 0 40) wall) (answered (pos 2 ∷ pos 0 ∷ pos 0 ∷ pos 240000 ∷ pos 36000000 ∷ pos 40 ∷ []))
-    ∷ says (clearanceReply S (pair 3 3)) (answered (pos 1 ∷ pos 2 ∷ pos 0 ∷ pos 2 ∷ pos 1 ∷ []))
-    ∷ says (clearanceReply S (pair 2 1)) (answered (pos 0 ∷ []))
+    ∷ answers (askClearance (ground (pair 0 40)) (ground wall)) (pos 2 ∷ pos 0 ∷ pos 0 ∷ pos 240000 ∷ pos 36000000 ∷ pos 40 ∷ [])
+    ∷ answers (askClearance (ground S) (ground (pair 3 3))) (pos 1 ∷ pos 2 ∷ pos 0 ∷ pos 2 ∷ pos 1 ∷ [])
+    ∷ answers (askClearance (ground S) (ground (pair 2 1))) (pos 0 ∷ [])
     -- four feet on parallel edges: the first corner of the first shape that falls on the second
-    ∷ says (clearanceReply under over) (answered (pos 2 ∷ pos 2 ∷ pos 0 ∷ pos 5 ∷ pos 25 ∷ pos 1 ∷ []))
+    ∷ answers (askClearance (ground under) (ground over)) (pos 2 ∷ pos 2 ∷ pos 0 ∷ pos 5 ∷ pos 25 ∷ pos 1 ∷ [])
     -- the face of S to the right, and to the left, over the end of the list; one corner; a segment across, both ways
-    ∷ says (furthestReply S (point (pos 1) (pos 0))) (answered (pos 1 ∷ pos 2 ∷ pos 2 ∷ []))
-    ∷ says (furthestReply S (point (negsuc 0) (pos 0))) (answered (pos 3 ∷ pos 0 ∷ pos 0 ∷ []))
-    ∷ says (furthestReply S (point (pos 1) (pos 1))) (answered (pos 2 ∷ pos 2 ∷ pos 4 ∷ []))
-    ∷ says (furthestReply (segment 0 1 2 1) (point (pos 0) (pos 1))) (answered (pos 0 ∷ pos 1 ∷ pos 1 ∷ []))
-    ∷ says (furthestReply (segment 0 1 2 1) (point (pos 0) (negsuc 0))) (answered (pos 0 ∷ pos 1 ∷ negsuc 0 ∷ []))
+    ∷ answers (askFurthest (ground S) (point (pos 1) (pos 0))) (pos 1 ∷ pos 2 ∷ pos 2 ∷ [])
+    ∷ answers (askFurthest (ground S) (point (negsuc 0) (pos 0))) (pos 3 ∷ pos 0 ∷ pos 0 ∷ [])
+    ∷ answers (askFurthest (ground S) (point (pos 1) (pos 1))) (pos 2 ∷ pos 2 ∷ pos 4 ∷ [])
+    ∷ answers (askFurthest (ground (segment 0 1 2 1)) (point (pos 0) (pos 1))) (pos 0 ∷ pos 1 ∷ pos 1 ∷ [])
+    ∷ answers (askFurthest (ground (segment 0 1 2 1)) (point (pos 0) (negsuc 0))) (pos 0 ∷ pos 1 ∷ negsuc 0 ∷ [])
     -- a sweep of S in another order, with 2 2 twice, 1 0 in line and 1 1 inside; of one point three times; of three in line; of none: 1
-    ∷ writes (λ out. sweepWritten (pos 2 ∷ pos 2 ∷ pos 1 ∷ pos 0 ∷ pos 0 ∷ pos 2 ∷ pos 1 ∷ pos 1 ∷ pos 2 ∷ pos 2 ∷ pos 2 ∷ pos 0
-    ∷ pos 0 ∷ pos 0 ∷ []) out) 4 S
-    ∷ writes (λ out. sweepWritten (pair 3 1 ++ (pair 3 1 ++ pair 3 1)) out) 1 (pair 3 1)
-    ∷ writes (λ out. sweepWritten (pair 2 1 ++ segment 3 1 0 1) out) 2 (segment 0 1 3 1)
-    ∷ says (sweepWritten [] [] .reply) (refused 1 (1 ∷ []))
+    ∷ fills (λ out. askSweep (ground scattered) out) 4 S
+    ∷ fills (λ out. askSweep (ground (pair 3 1 ++ (pair 3 1 ++ pair 3 1))) out) 1 (pair 3 1)
+    ∷ fills (λ out. askSweep (ground (pair 2 1 ++ segment 3 1 0 1)) out) 2 (segment 0 1 3 1)
+    ∷ refuses (askSweep (ground []) (pair 7 7)) 1 (1 ∷ [])
     -- floors: S and point 3 1 both on floor 2; on two floors; the second shape's own checks come first, whatever its floor
-    ∷ says (between (on S 2) (on (pair 3 1) 2) relationReply) (answered (pos 0 ∷ pos 2 ∷ []))
-    ∷ says (between (on S 2) (on (pair 3 1) 0) relationReply) (refused 13 [])
-    ∷ says (between (on S 2) (on [] 0) relationReply) (refused 1 (2 ∷ []))
-    -- 13 before the rest: S and point 2 1 touch; the floor behind the count; an output of 7s is left alone
-    ∷ says (between (on S 65535) (on (pair 2 1) 0) tangentsReply) (refused 13 [])
-    ∷ says (writtenBetween (on S 7) (on (pair 1 1) 7) mergeWritten (S ++ S) .reply) (answered (pos 4 ∷ pos 7 ∷ []))
-    ∷ record {
-      given = writtenBetween (on S 7) (on T 8) sumWritten (pair 7 7);
-      stated = record { reply = refused 13 []; output = pair 7 7 };
-    }
+    ∷ says (reply (askRelation (on S 2) (on (pair 3 1) 2))) (answered (pos 0 ∷ pos 2 ∷ []))
+    ∷ refuses (askRelation (on S 2) (on (pair 3 1) 0)) 13 []
+    ∷ refuses (askRelation (on S 2) (on [] 0)) 1 (2 ∷ [])
+    -- 13 before the rest: S and point 2 1 touch; the floor after the count; an output with room for the sum of S and T stays as it was
+    ∷ refuses (askTangents (on S 65535) (on (pair 2 1) 0)) 13 []
+    ∷ says (reply (askMerge (on S 7) (on (pair 1 1) 7) (S ++ S))) (answered (pos 4 ∷ pos 7 ∷ []))
+    ∷ refuses (askSum (on S 7) (on T 8) (sevens five)) 13 []
     -- "(0,1) passes and (0,5) does not"; 2 4: 12; (0,0), and 4000000 2000000, out of range: 11; the name of 0 -5, and that of 2 4
-    ∷ says (furthestReply S (point (pos 0) (pos 1))) (answered (pos 2 ∷ pos 3 ∷ pos 2 ∷ []))
-    ∷ says (furthestReply S (point (pos 0) (pos 5))) (refused 12 [])
-    ∷ says (furthestReply S (point (pos 2) (pos 4))) (refused 12 [])
-    ∷ says (furthestReply S (point (pos 0) (pos 0))) (refused 11 [])
-    ∷ says (furthestReply S (point (pos 4_000_000) (pos 2_000_000))) (refused 11 [])
+    ∷ answers (askFurthest (ground S) (point (pos 0) (pos 1))) (pos 2 ∷ pos 3 ∷ pos 2 ∷ [])
+    ∷ refuses (askFurthest (ground S) (point (pos 0) (pos 5))) 12 []
+    ∷ refuses (askFurthest (ground S) (point (pos 2) (pos 4))) 12 []
+    ∷ refuses (askFurthest (ground S) (point (pos 0) (pos 0))) 11 []
+    ∷ refuses (askFurthest (ground S) (point (pos 4_000_000) (pos 2_000_000))) 11 []
     ∷ says (named (point (pos 0) (negsuc 4))) (answered (pos 0 ∷ negsuc 0 ∷ []))
     ∷ says (named (point (pos 2) (pos 4))) (answered (pos 1 ∷ pos 2 ∷ []))
     -- S against point 3 1: 1 0 is accepted, its opposite is not; nor is it where they touch; 12 even there; 13 before 11
-    ∷ says (offered S 4 (pair 3 1) 4 (point (pos 1) (pos 0))) (answered (pos 1 ∷ pos 4 ∷ []))
-    ∷ says (offered S 4 (pair 3 1) 4 (point (negsuc 0) (pos 0))) (answered (pos 0 ∷ pos 4 ∷ []))
-    ∷ says (offered S 4 (pair 2 1) 4 (point (pos 1) (pos 0))) (answered (pos 0 ∷ pos 4 ∷ []))
-    ∷ says (offered S 4 (pair 2 1) 4 (point (pos 2) (pos 0))) (refused 12 [])
-    ∷ says (offered S 4 (pair 3 1) 5 (point (pos 0) (pos 0))) (refused 13 [])
-    ∷ says (offered S 4 (pair 3 1) 4 (point (pos 0) (pos 0))) (refused 11 [])
-    -- growing, our own: S by a cart T, and by a cart that is a point; S and T on two floors: 13
-    ∷ writes (λ out. growWritten S T out) 5
+    ∷ says (reply (offered S (pair 3 1) 4 (point (pos 1) (pos 0)))) (answered (pos 1 ∷ pos 4 ∷ []))
+    ∷ says (reply (offered S (pair 3 1) 4 (point (negsuc 0) (pos 0)))) (answered (pos 0 ∷ pos 4 ∷ []))
+    ∷ says (reply (offered S (pair 2 1) 4 (point (pos 1) (pos 0)))) (answered (pos 0 ∷ pos 4 ∷ []))
+    ∷ refuses (offered S (pair 2 1) 4 (point (pos 2) (pos 0))) 12 []
+    ∷ refuses (offered S (pair 3 1) 5 (point (pos 0) (pos 0))) 13 []
+    ∷ refuses (offered S (pair 3 1) 4 (point (pos 0) (pos 0))) 11 []
+    -- growing, our own: S by a cart T, and by a cart that is a point; S and T on two floors, with room for the answer: 13
+    ∷ fills (λ out. askGrow (ground S) (ground T) out) 5
     (pos 0 ∷ negsuc 0 ∷ pos 2 ∷ negsuc 0 ∷ pos 2 ∷ pos 2 ∷ negsuc 0 ∷ pos 2 ∷ negsuc 0 ∷ pos 0 ∷ [])
-    ∷ writes (λ out. growWritten S (pair 0 0) out) 4 S
-    ∷ record {
-      given = writtenBetween (on S 7) (on T 8) growWritten (pair 7 7);
-      stated = record { reply = refused 13 []; output = pair 7 7 };
-    }
+    ∷ fills (λ out. askGrow (ground S) (ground (pair 0 0)) out) 4 S
+    ∷ refuses (askGrow (on S 7) (on T 8) (sevens five)) 13 []
     ∷ []
 
 pub rows-hold : map (λ (r : Case). r .given) rows ≡ map (λ (r : Case). r .stated) rows
 unfolding rows maxCorners maxCoordinate maxPoints maxPart turn breaks precedes samePoint max shapeOf
-    badCount tooMany outside someOutside equalPair leftBroken breakingEdge breakingCorner ruleBroken brokenEdge brokenCorner badStart judged
-    noRoom overwritten sumWritten mergeWritten growWritten tooManyPoints sweepWritten
-    squared lengthSquared furthestPair lengthFrom lengthTo lengthReply
-    edgeTurn height edgeSquared noWider widthEdge widthCorner widthRounded widthReply
-    inside apart notLeft onRim touching relationReply
-    onSide touches nearer tangent tangentFrom tangentTo tangentsReply
-    value falls top bottom noFurther nearest clearanceReply
-    support furthest faceFirst faceLast badDirection euclid gcd commonDivisor furthestReply primitive below offerReply
-    between writtenBetween
+    badCount tooMany outside someOutside equalPair leftBroken breakingEdge breakingCorner ruleBroken brokenEdge brokenCorner badStart
+    noRoom overwritten tooManyPoints squared lengthSquared furthestPair lengthFrom lengthTo
+    edgeTurn height edgeSquared noWider widthEdge widthCorner widthRounded
+    inside apart notLeft onRim touching relationNumber onSide touches nearer tangent tangentFrom tangentTo
+    value falls top bottom noFurther nearest
+    support furthest faceFirst faceLast badDirection euclid gcd commonDivisor primitive below reply output
 rows-hold = refl

@@ -5,6 +5,7 @@
 --     top, bottom         its squared distance as a fraction: the squared distance over 1, or t·t over q
 --     candidates A B      all of them in the ticket's order, an edge having the position of the corner it leaves
 --     nearest A B         the first of the least
+--     clearanceNumbers A B     what is answered
 -- What it means: no two points of the shapes are nearer, and two are so near (`Meaning.antt` of the crate `clearance`).
 use mathlib.Core.Bool.{Bool, cond, _&&_}
 use mathlib.Core.List.{List, [], _∷_, _++_}
@@ -12,12 +13,10 @@ use Prim.Native.Nat.{ℕ, zero, suc}
 use lib.IntN.{ℤ, pos, natAbs, _*ℤ_}
 use lib.ListN.{length}
 use lib.Signed.{ltZ, leZ}
-use Rattle.plane.specs.Point.{Point, points, corner, _⊖_}
+use Rattle.plane.specs.Point.{Point, corner, _⊖_}
 use Rattle.plane.specs.Turn.{turn}
 use Rattle.plane.specs.Shape.{next}
 use Rattle.plane.specs.Direction.{value}
-use Rattle.plane.specs.Reply.{Reply, answered, firstRow}
-use Rattle.plane.specs.Refusal.{shapeRows}
 use Rattle.plane.specs.Measure.{squared, edgeSquared, widthRounded}
 use Rattle.plane.specs.Separation.{apart}
 
@@ -92,8 +91,5 @@ numbersOf A B (onSecond i e) = pos 2 ∷ pos i ∷ pos e ∷ shown (turnOn B e (
 numbersOf A B (onFirst j e) = pos 3 ∷ pos j ∷ pos e ∷ shown (turnOn A e (corner B j)) (edgeSquared A e)
 
 -- "Shapes not apart still answer 0, with no positions"
-unfoldable pub clearanceReply : List ℤ → List ℤ → Reply
-clearanceReply a b =
-    let A = points a in
-    let B = points b in
-    firstRow (shapeRows 1 a ++ shapeRows 2 b) (answered (cond (apart A B) (numbersOf A B (nearest A B)) (pos 0 ∷ [])))
+abbrev pub clearanceNumbers : List Point → List Point → List ℤ
+clearanceNumbers A B = cond (apart A B) (numbersOf A B (nearest A B)) (pos 0 ∷ [])

@@ -1,16 +1,16 @@
--- Furthest corner (document 01, "What each question asks", first paragraph, and document 02, requests W8 and W12): refusals 1 to 5, then 11
--- and 12; otherwise the first and the last of the corners with the greatest value in the direction, and that value.
+-- Furthest corner (document 01, "What each question asks", first paragraph, and document 02, requests W8 and W12).
+--     directionRows d           refusals 11 and 12 of a direction that a caller gives
+--     furthestNumbers d ps      the first and the last of the corners with the greatest value in the direction, and that value
 use mathlib.Core.Bool.{Bool, _&&_, _||_}
-use mathlib.Core.List.{List, [], _∷_, _++_}
+use mathlib.Core.List.{List, [], _∷_}
 use Prim.Native.Nat.{ℕ}
 use lib.Dec.{eqb, ltb}
 use lib.IntN.{ℤ, pos, natAbs}
 use Rattle.divisor.specs.Divisor.{gcd}
 use Rattle.plane.specs.Limits.{maxPart}
-use Rattle.plane.specs.Point.{Point, points}
+use Rattle.plane.specs.Point.{Point}
 use Rattle.plane.specs.Direction.{support}
-use Rattle.plane.specs.Reply.{Reply, answered, Row, row, firstRow}
-use Rattle.plane.specs.Refusal.{shapeRows}
+use Rattle.plane.specs.Reply.{Row, row}
 use Rattle.plane.specs.Face.{faceFirst, faceLast}
 
 -- 11: "direction (0,0), or a part of it outside -2,000,000 to 2,000,000"
@@ -30,7 +30,5 @@ commonDivisor d = ltb 1 (partsDivisor d)
 abbrev pub directionRows : Point → List Row
 directionRows d = row 11 (badDirection d) [] ∷ row 12 (commonDivisor d) [] ∷ []
 
-unfoldable pub furthestReply : List ℤ → Point → Reply
-furthestReply l d =
-    firstRow (shapeRows 1 l ++ directionRows d)
-    (answered (pos (faceFirst d (points l)) ∷ pos (faceLast d (points l)) ∷ support d (points l) ∷ []))
+abbrev pub furthestNumbers : Point → List Point → List ℤ
+furthestNumbers d ps = pos (faceFirst d ps) ∷ pos (faceLast d ps) ∷ support d ps ∷ []

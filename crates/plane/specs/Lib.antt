@@ -8,15 +8,14 @@ pub mod Forms
 pub mod Cycle
 pub mod Reply
 pub mod Refusal
-pub mod Judge
 pub mod Direction
 pub mod Corner
+pub mod Cut
 pub mod Output
 pub mod VectorSum
 pub mod Face
 pub mod Furthest
 pub mod Primitive
-pub mod Combine
 pub mod Sweep
 pub mod Measure
 pub mod Separation

@@ -5,78 +5,78 @@
 --     forms          three ways to say that a list is a shape
 --     directions     how far sums, lists taken together and mirrored lists reach; a shape is known by how far it reaches
 --     faces          the furthest corners of a shape, from the first to the last counterclockwise
---     names          of all directions that point one way, 11 and 12 let exactly one pass
+--     names          of all directions that point one way, 11 and 12 let exactly one pass; 12 is a common divisor above 1
 --     mirror, sweep  refusals 6 and 7 cannot come of them
 use mathlib.Core.Path.{_≡_, refl, sym}
 use mathlib.Core.Bool.{true, false}
 use mathlib.Core.List.{List, [], _∷_, _++_}
-use mathlib.Core.Logic.{_⊎_}
+use mathlib.Core.Logic.{_⊎_, _↔_}
 use Prim.Native.Nat.{ℕ, _≤_, _<_}
 use lib.ListN.{length, drop}
 use lib.IntN.{ℤ, pos, _+ℤ_, _*ℤ_}
 use lib.Signed.{_≤ℤ_, _<ℤ_}
 use Rattle.integer.specs.Bound.{Within}
+use Rattle.plane.specs.Cut.{cutSum}
 use Rattle.plane.specs.Limits.{maxPart}
-use Rattle.plane.specs.Point.{Point, points, numbers, corner, opposite}
+use Rattle.plane.specs.Point.{Point, points, numbers, corner, opposite, _∈_, _⊆_}
 use Rattle.plane.specs.Turn.{turn, Left}
 use Rattle.plane.specs.Shape.{next, breaks, IsShape}
-use Rattle.plane.specs.Reply.{Reply, answered, refused, Row}
+use Rattle.plane.specs.Reply.{Reply, answered, refused, Row, NoneApply, First}
 use Rattle.plane.specs.Refusal.{tooMany, someOutside, equalPair, leftBroken, breakingEdge, breakingCorner, shapeRows, InRange, Valid}
-use Rattle.plane.specs.Judge.{judged}
-use Rattle.plane.specs.Direction.{value, support, max, furthest}
+use Rattle.plane.specs.Direction.{value, support, max, furthest, SameWay}
 use Rattle.plane.specs.Corner.{Corner, shapeOf, sums, mirrored}
 use Rattle.plane.specs.Forms.{Ordered, Sorted, NonZero, edges}
-use Rattle.plane.specs.Output.{Written, overwritten, written}
-use Rattle.plane.specs.Face.{faceFirst, faceLast}
+use Rattle.plane.specs.Output.{overwritten}
+use Rattle.plane.specs.Face.{faceFirst, faceLast, Face}
 use Rattle.plane.specs.Furthest.{badDirection, partsDivisor, commonDivisor}
 use Rattle.plane.specs.Primitive.{primitive}
 use Rattle.plane.specs.Sweep.{ValidPoints}
-use Rattle.plane.specs.Floor.{Floored, withFloor, writtenOn, between, writtenBetween}
-use Rattle.plane.specs.Question.{Question, reply, table}
-use Rattle.plane.specs.theory.lists.Members.{_∈_, _⊆_, position-member}
-use Rattle.plane.specs.theory.refusals.Rows.{NoneApply, First, firstRow-none, firstRow-answered}
+use Rattle.plane.specs.Floor.{Floored, on, Shapes, twoShapes, rowsOf, Admitted}
+use Rattle.plane.specs.Question.{Question, table, values, reply, output, askJudge}
+use Rattle.plane.specs.theory.lists.Members.{position-member}
 use Rattle.plane.specs.theory.lists.Flat.{points-near}
 use Rattle.plane.specs.theory.refusals.Tests.{equalPair-equal, break-found, break-first-edge, break-first-corner}
-use Rattle.plane.specs.theory.refusals.Accept.{accepted→valid, valid→accepted}
-use Rattle.plane.specs.theory.refusals.Write.{refused-output, answered-output}
-use Rattle.plane.specs.theory.refusals.Floors.{between-same, written-same, between-different}
-use Rattle.plane.specs.theory.refusals.Tables.{table-given, table-refused, table-none, table-answered}
+use Rattle.plane.specs.theory.refusals.Asked.{admitted→none, none→admitted, asked-given, asked-refused, asked-none, asked-answered}
+use Rattle.plane.specs.theory.refusals.Asked.{asked-values, asked-kept, asked-wrote, asked-shapes, asked-floors, rest-none}
 use Rattle.plane.specs.theory.forms.Standard.{shape→sorted, sorted→ordered, ordered→shape}
-use Rattle.plane.specs.theory.forms.SameWay.{SameWay}
 use Rattle.plane.specs.theory.support.Support.{value-le-support, support-append, support-sums, support-mirrored}
 use Rattle.plane.specs.theory.hull.ShapeOf.{shapeOf-support, shapeOf-shape, shapeOf-corner, corner-shapeOf, shapeOf-unique}
 use Rattle.plane.specs.theory.hull.ShapeOf.{shapeOf-same, shape-extensional, shape-known, shape-own}
 use Rattle.plane.specs.theory.support.Bounds.{turn-size, value-size, support-size}
-use Rattle.plane.specs.theory.sum.Cut.{cutSum, cut-formula}
+use Rattle.plane.specs.theory.sum.Cut.{cut-formula}
 use Rattle.plane.specs.VectorSum.{vectorSum}
 use Rattle.plane.specs.theory.sum.EdgeSum.{vectorSum-shape}
 use Rattle.plane.specs.theory.face.FirstFurthest.{furthest-greatest}
-use Rattle.plane.specs.theory.face.Face.{Face, face-is, face-unique, face-left, segment-face}
+use Rattle.plane.specs.theory.face.Face.{face-is, face-unique, face-left, segment-face}
 use Rattle.plane.specs.theory.direction.Rows.{direction-some}
 use Rattle.plane.specs.theory.direction.Scaled.{same-face-first, same-face-last}
 use Rattle.plane.specs.theory.direction.Primitive.{primitive-multiple, primitive-support, primitive-same, primitive-bad}
 use Rattle.plane.specs.theory.direction.Primitive.{primitive-common, primitive-only}
+use Rattle.plane.specs.theory.direction.Divisor.{common→divides, divides→common}
 use Rattle.plane.specs.theory.mirror.Mirror.{mirror-count}
-use Rattle.plane.specs.theory.mirror.MirrorWritten.{mirror-few, mirror-near}
+use Rattle.plane.specs.theory.mirror.MirrorSize.{mirror-few, mirror-near}
 use Rattle.plane.specs.theory.sweep.Few.{shapeOf-few}
-use Rattle.plane.specs.theory.sweep.SweepWritten.{sweep-few, sweep-near}
+use Rattle.plane.specs.theory.sweep.SweepSize.{sweep-few, sweep-near}
 
 -- ---- judging
 
+-- what is lent to a question is good exactly if none of its rows applies: a valid shape; two on one floor; the points of a sweep
+pub admitted-exactly : (s : Shapes) → Admitted s ↔ NoneApply (rowsOf s)
+admitted-exactly s = (admitted→none s, none→admitted s)
+
 module _ (l : List ℤ) where
-  -- "A shape is valid exactly if its list meets all that stands under "What makes a shape"": what is accepted is valid
-  pub accepted-is-valid : (v : List ℤ) → judged l ≡ answered v → Valid l
-  unfolding judged
-  accepted-is-valid v h = accepted→valid l 1 (firstRow-answered (shapeRows 1 l) _ v h)
+  module _ (f : ℕ) where
+    -- "A shape is valid exactly if its list meets all that stands under "What makes a shape"": what is accepted is valid
+    pub accepted-is-valid : (v : List ℤ) → reply (askJudge (on l f)) ≡ answered v → Valid l
+    accepted-is-valid v h = asked-shapes (askJudge (on l f)) v h
 
-  -- and what is valid is accepted, "and the answer says how many corners"
-  pub valid-is-accepted : Valid l → judged l ≡ answered (pos (length (points l)) ∷ [])
-  unfolding judged
-  valid-is-accepted v = firstRow-none (shapeRows 1 l) _ (valid→accepted l 1 v)
+    -- and what is valid is accepted, "and the answer says how many corners"
+    pub valid-is-accepted : Valid l → reply (askJudge (on l f)) ≡ answered (pos (length (points l)) ∷ pos f ∷ [])
+    valid-is-accepted v = asked-none (askJudge (on l f)) (rest-none (askJudge (on l f)) v tt)
 
-  -- "A made-up corner count fails because it is the count of the defined list"
-  pub accepted-counts-corners : (v : List ℤ) → judged l ≡ answered v → v ≡ pos (length (points l)) ∷ []
-  accepted-counts-corners v h = cc (valid-is-accepted (accepted-is-valid v h))
+    -- "A made-up corner count fails because it is the count of the defined list"
+    pub accepted-counts-corners : (v : List ℤ) → reply (askJudge (on l f)) ≡ answered v → v ≡ pos (length (points l)) ∷ pos f ∷ []
+    accepted-counts-corners v h = asked-values (askJudge (on l f)) v h
 
   module _ (r : InRange l) where
     -- "No turn exceeds 8,000,000,000,000 in size"
@@ -114,53 +114,39 @@ module _ (ps : List Point) where
 
 -- ---- the table
 
+-- of any question
 module _ (q : Question) where
-  -- "Given exactly when", "Several at once: ..": of any question, a row that applies, with none before it, gives its refusal
+  -- "Given exactly when", "Several at once: ..": a row that applies, with none before it, gives its refusal
   pub first-row-refuses : {w : Row} → First w (table q) → reply q ≡ refused (w .number) (w .carries)
-  first-row-refuses f = table-given q f
+  first-row-refuses f = asked-given q f
 
   -- and nothing else does
   pub refused-by-first-row : (n : ℕ) (carries : List ℕ) → reply q ≡ refused n carries
       → (w : Row) × First w (table q) × (w .number ≡ n) × (w .carries ≡ carries)
-  refused-by-first-row n carries h = table-refused q n carries h
+  refused-by-first-row n carries h = asked-refused q n carries h
 
-  -- "Refusing everything fails .. the table's "exactly"": where no row applies, the question is answered
-  pub answered-if-none : NoneApply (table q) → (values : List ℤ) × (reply q ≡ answered values)
-  answered-if-none n = table-none q n
+  -- "Refusing everything fails .. the table's "exactly"": where no row applies, the question is answered, with its values
+  pub answered-if-none : NoneApply (table q) → reply q ≡ answered (values q)
+  answered-if-none n = asked-none q n
 
-  -- and only there
-  pub none-if-answered : (values : List ℤ) → reply q ≡ answered values → NoneApply (table q)
-  none-if-answered values h = table-answered q values h
+  -- and only there, and with nothing else
+  pub none-if-answered : (v : List ℤ) → reply q ≡ answered v → NoneApply (table q) × (v ≡ values q)
+  none-if-answered v h = (asked-answered q v h, asked-values q v h)
 
--- floors
-module _ (a b : Floored) (v : Valid (a .list)) (w : Valid (b .list)) where
-  -- "Any question on two shapes of different floors is refused 13, after both shapes' own checks and before the rest"
-  pub different-floors-are-refused : (a .floor ≡ b .floor → ⊥) → (question : List ℤ → List ℤ → Reply)
-      → between a b question ≡ refused 13 []
-  different-floors-are-refused f question = between-different v w f question
-
-  module _ (one : a .floor ≡ b .floor) where
-    -- on one floor each is replied to as it was, and "Answers carry the floor"
-    pub one-floor-is-answered : (question : List ℤ → List ℤ → Reply)
-        → between a b question ≡ withFloor (a .floor) (question (a .list) (b .list))
-    one-floor-is-answered question = between-same (record { first-valid = v; second-valid = w; one-floor = one }) question
-
-    pub one-floor-is-written : (question : List ℤ → List ℤ → List ℤ → Written) (out : List ℤ)
-        → writtenBetween a b question out ≡ writtenOn (a .floor) (question (a .list) (b .list) out)
-    one-floor-is-written question out = written-same (record { first-valid = v; second-valid = w; one-floor = one }) question out
-
--- whatever the table and the shape of a question that writes
-module _ (rows : List Row) (shape : List Point) (out : List ℤ) where
   -- "The output is untouched on refusal"
-  pub refused-leaves-output : (n : ℕ) (carries : List ℕ) → written rows shape out .reply ≡ refused n carries
-      → written rows shape out .output ≡ out
-  refused-leaves-output n carries h = refused-output rows shape out n carries h
+  pub refused-leaves-output : (n : ℕ) (carries : List ℕ) → reply q ≡ refused n carries → output q ≡ q .lent
+  refused-leaves-output n carries h = asked-kept q n carries h
 
-  -- "On success only its first numbers are written, and the answer says how many corners"
-  pub answered-writes-shape : (v : List ℤ) → written rows shape out .reply ≡ answered v
-      → (v ≡ pos (length shape) ∷ []) × (written rows shape out .output ≡ numbers shape ++ drop (length (numbers shape)) out)
+  -- "On success only its first numbers are written"
+  pub answered-writes-shape : (v : List ℤ) → reply q ≡ answered v
+      → output q ≡ numbers (q .shape) ++ drop (length (numbers (q .shape))) (q .lent)
   unfolding overwritten
-  answered-writes-shape v h = answered-output rows shape out v h
+  answered-writes-shape v h = asked-wrote q v h
+
+  -- "Any question on two shapes of different floors is refused 13, after both shapes' own checks and before the rest"
+  pub different-floors-are-refused : (a b : Floored) → q .shapes ≡ twoShapes a b → Valid (a .list) → Valid (b .list)
+      → (a .floor ≡ b .floor → ⊥) → reply q ≡ refused 13 []
+  different-floors-are-refused a b e v w f = asked-floors q a b e v w f
 
 -- ---- corners
 
@@ -317,6 +303,16 @@ module _ (d : Point) (good : badDirection d ≡ false) where
 pub same-way-same-face : {d e : Point} → SameWay d e → (ps : List Point)
     → (faceFirst d ps ≡ faceFirst e ps) × (faceLast d ps ≡ faceLast e ps)
 same-way-same-face s ps = (same-face-first s ps, same-face-last s ps)
+
+module _ (d : Point) where
+  -- "refuses 12 if the two parts have a common divisor above 1": where row 12 applies, some k above 1 divides both parts
+  pub twelve-has-divisor : commonDivisor d ≡ true
+      → (k : ℕ) × (1 < k) × (u : ℤ) × (v : ℤ) × (d .x ≡ pos k *ℤ u) × (d .y ≡ pos k *ℤ v)
+  twelve-has-divisor h = common→divides d h
+
+  -- and where some k above 1 divides both parts, row 12 applies; (0,0) is 11, "12 .. after 11"
+  pub divisor-has-twelve : NonZero d → (k : ℕ) → 1 < k → (u v : ℤ) → d .x ≡ pos k *ℤ u → d .y ≡ pos k *ℤ v → commonDivisor d ≡ true
+  divisor-has-twelve some k above u v x y = divides→common d some k above u v x y
 
 -- ---- mirror
 

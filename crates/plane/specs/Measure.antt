@@ -5,20 +5,19 @@
 --     height ps e        "for each edge, the greatest turn t over the corners", and edgeSquared ps e "the edge's squared length q"
 --     widthEdge ps       the edge with the least t·t/q; widthCorner ps the smallest corner position that has its greatest turn
 --     widthRounded t q   "w, the width rounded down: w·w·q ≤ t·t < (w+1)·(w+1)·q"
+--     lengthNumbers ps, widthNumbers ps     what is answered
 use mathlib.Core.Bool.{Bool, _&&_}
-use mathlib.Core.List.{List, [], _∷_, _++_}
+use mathlib.Core.List.{List, [], _∷_}
 use Prim.Native.Nat.{ℕ, zero, suc, _+_, _*_}
 use lib.Dec.{leb, ltb}
 use lib.IntN.{ℤ, pos, natAbs, _+ℤ_, _-ℤ_, _*ℤ_}
 use lib.ListN.{length}
 use lib.Signed.{leZ}
-use Rattle.plane.specs.Point.{Point, points, corner}
+use Rattle.plane.specs.Point.{Point, corner}
 use Rattle.plane.specs.Turn.{turn}
 use Rattle.plane.specs.Search.{some, every, first}
 use Rattle.plane.specs.Shape.{next}
 use Rattle.plane.specs.Direction.{max}
-use Rattle.plane.specs.Reply.{Reply, answered, row, firstRow}
-use Rattle.plane.specs.Refusal.{shapeRows}
 
 abbrev pub greatest : (ℕ → ℤ) → ℕ → ℤ
 greatest f zero = pos 0
@@ -43,10 +42,8 @@ lengthFrom ps = first (λ i. some (furthestPair ps i) (length ps)) (length ps)
 unfoldable pub lengthTo : List Point → ℕ
 lengthTo ps = first (furthestPair ps (lengthFrom ps)) (length ps)
 
-unfoldable pub lengthReply : List ℤ → Reply
-lengthReply l =
-    firstRow (shapeRows 1 l)
-    (answered (lengthSquared (points l) ∷ pos (lengthFrom (points l)) ∷ pos (lengthTo (points l)) ∷ []))
+abbrev pub lengthNumbers : List Point → List ℤ
+lengthNumbers ps = lengthSquared ps ∷ pos (lengthFrom ps) ∷ pos (lengthTo ps) ∷ []
 
 -- ---- width
 
@@ -75,11 +72,9 @@ widthCorner ps = first (λ c. leZ (height ps (widthEdge ps)) (edgeTurn ps (width
 unfoldable pub widthRounded : ℕ → ℕ → ℕ
 widthRounded t q = first (λ w. ltb (t * t) ((w + 1) * (w + 1) * q)) t
 
--- 10: "width of a shape with fewer than three corners"
-unfoldable pub widthReply : List ℤ → Reply
-widthReply l =
-    let ps = points l in
+-- "Answered: edge, corner, t, q and w"
+abbrev pub widthNumbers : List Point → List ℤ
+widthNumbers ps =
     let e = widthEdge ps in
-    firstRow (shapeRows 1 l ++ (row 10 (ltb (length ps) 3) [] ∷ []))
-    (answered (pos e ∷ pos (widthCorner ps) ∷ height ps e ∷ edgeSquared ps e
-    ∷ pos (widthRounded (natAbs (height ps e)) (natAbs (edgeSquared ps e))) ∷ []))
+    pos e ∷ pos (widthCorner ps) ∷ height ps e ∷ edgeSquared ps e
+    ∷ pos (widthRounded (natAbs (height ps e)) (natAbs (edgeSquared ps e))) ∷ []

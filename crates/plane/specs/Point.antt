@@ -4,8 +4,9 @@
 --     numbers ps    the list of numbers that holds these corners
 --     corner ps i   the corner at position i, counted from 0; the origin past the end
 --     samePoint p q   p and q are the same point: eqZ of both coordinates
+--     p ∈ ps, A ⊆ B   p is in ps; every point of A is in B
 use mathlib.Core.Bool.{Bool, false, _&&_}
-use mathlib.Core.List.{List, [], _∷_}
+use mathlib.Core.List.{List, [], _∷_, List·Memᴰ}
 use Prim.Native.Nat.{ℕ}
 use lib.Dec.{eqb}
 use lib.ListN.{getD}
@@ -53,3 +54,11 @@ eqZ (negsuc m) (negsuc n) = eqb m n
 
 unfoldable pub samePoint : Point → Point → Bool
 samePoint p q = eqZ (p .x) (q .x) && eqZ (p .y) (q .y)
+
+-- a proof of p ∈ ps is a place of p in ps
+infix 50 _∈_ _⊆_
+abbrev pub _∈_ : Point → List Point → Type 0
+p ∈ ps = List·Memᴰ p ps
+
+abbrev pub _⊆_ : List Point → List Point → Type 0
+A ⊆ B = (p : Point) → p ∈ A → p ∈ B

@@ -2,8 +2,11 @@
 --     Reply            the values of an answer in the paper's order, or a refusal's number and what it carries
 --     Row              a row of the table: its number, whether it applies, and what it carries
 --     firstRow rs r    the refusal of the first row that applies, in the order of the list; r where none does
--- What it means: `firstRow-given` and `firstRow-none` of the theory: a refusal is given exactly when its row applies and none before it.
-use mathlib.Core.Bool.{Bool, cond}
+--     NoneApply rs     none of the rows applies
+--     First w rs       w is a row of rs, it applies, and none before it does
+-- What it means: the section of the table in `Meaning.antt`.
+use mathlib.Core.Path.{_≡_}
+use mathlib.Core.Bool.{Bool, true, false, cond}
 use mathlib.Core.List.{List, [], _∷_}
 use Prim.Native.Nat.{ℕ}
 use lib.IntN.{ℤ}
@@ -23,3 +26,11 @@ row n b c = record { number = n; applies = b; carries = c }
 abbrev pub firstRow : List Row → Reply → Reply
 firstRow [] r = r
 firstRow (w ∷ ws) r = let later = firstRow ws r in cond (w .applies) (refused (w .number) (w .carries)) later
+
+abbrev pub NoneApply : List Row → Type 0
+NoneApply [] = Unit {0}
+NoneApply (w ∷ ws) = (w .applies ≡ false) × NoneApply ws
+
+pub data First (w : Row) : List Row → Type 0 where
+  here : {ws : List Row} → w .applies ≡ true → First w (w ∷ ws)
+  later : {v : Row} {ws : List Row} → v .applies ≡ false → First w ws → First w (v ∷ ws)

@@ -5,6 +5,7 @@
 --     differences A B   all points a - b: A and B are apart in a direction exactly if all of these have a value below 0 in it
 --     apart A B         the origin is not inside the differences
 --     touching A B      not apart, and the differences lie on one line, or the origin is on an edge of their shape
+--     relationNumber A B, insideNumber A B     what is answered
 use mathlib.Core.Bool.{Bool, true, false, not, cond, _&&_, _||_}
 use mathlib.Core.List.{List, [], _∷_, _++_}
 use Prim.Native.Nat.{ℕ}
@@ -12,12 +13,10 @@ use lib.Dec.{ltb}
 use lib.IntN.{ℤ, pos}
 use lib.ListN.{length}
 use lib.Signed.{leZ}
-use Rattle.plane.specs.Point.{Point, origin, points, corner, samePoint}
+use Rattle.plane.specs.Point.{Point, origin, corner, samePoint}
 use Rattle.plane.specs.Turn.{turn}
 use Rattle.plane.specs.Search.{some}
 use Rattle.plane.specs.Shape.{next}
-use Rattle.plane.specs.Reply.{Reply, answered, firstRow}
-use Rattle.plane.specs.Refusal.{shapeRows}
 use Rattle.plane.specs.Corner.{shapeOf, sums, mirrored}
 
 -- two lists of corners are equal
@@ -47,13 +46,10 @@ onRim ps = ltb (length ps) 3 || some (notLeft ps) (length ps)
 unfoldable pub touching : List Point → List Point → Bool
 touching A B = not (apart A B) && onRim (shapeOf (differences A B))
 
--- 0 apart, 1 touching, 2 overlapping
-unfoldable pub relationReply : List ℤ → List ℤ → Reply
-relationReply a b =
-    let A = points a in
-    let B = points b in
-    firstRow (shapeRows 1 a ++ shapeRows 2 b) (answered (cond (apart A B) (pos 0) (cond (touching A B) (pos 1) (pos 2)) ∷ []))
+-- what is answered: 0 apart, 1 touching, 2 overlapping
+unfoldable pub relationNumber : List Point → List Point → ℤ
+relationNumber A B = cond (apart A B) (pos 0) (cond (touching A B) (pos 1) (pos 2))
 
 -- 1 yes, 0 no
-unfoldable pub insideReply : List ℤ → List ℤ → Reply
-insideReply a b = firstRow (shapeRows 1 a ++ shapeRows 2 b) (answered (cond (inside (points a) (points b)) (pos 1) (pos 0) ∷ []))
+abbrev pub insideNumber : List Point → List Point → ℤ
+insideNumber A B = cond (inside A B) (pos 1) (pos 0)

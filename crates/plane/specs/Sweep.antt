@@ -1,12 +1,11 @@
--- A sweep (document 02, W10: "up to 1,024 points in any order, with repeats and points in line"). Its points are the paper's dots.
+-- The points of a sweep (document 02, W10: "up to 1,024 points in any order, with repeats and points in line"), the paper's dots.
 --     tooManyPoints ps      2, counted before repeats are dropped
 --     pointRows l           refusals 1, 2 and 3 of the list; it is the question's one list, so they blame shape 1
 --     ValidPoints l         the list holds the points of a sweep: none of these rows applies to it
---     sweepWritten l out    "Give the shape of that set, as document 01 defines it"
 -- "Refusals are 1, 2, 3 and 8 only": that 6 and 7 cannot come is proved (`Meaning.antt`).
 use mathlib.Core.Path.{_≡_}
 use mathlib.Core.Bool.{Bool}
-use mathlib.Core.List.{List, [], _∷_, _++_}
+use mathlib.Core.List.{List, [], _∷_}
 use Prim.Native.Nat.{_%_, _≤_, _<_}
 use lib.Dec.{ltb}
 use lib.IntN.{ℤ}
@@ -15,8 +14,6 @@ use Rattle.plane.specs.Limits.{maxPoints}
 use Rattle.plane.specs.Point.{Point, points}
 use Rattle.plane.specs.Reply.{Row, row}
 use Rattle.plane.specs.Refusal.{badCount, someOutside, InRange}
-use Rattle.plane.specs.Corner.{shapeOf}
-use Rattle.plane.specs.Output.{Written, written, noRoom}
 
 unfoldable pub tooManyPoints : List Point → Bool
 tooManyPoints ps = ltb maxPoints (length ps)
@@ -30,10 +27,3 @@ pub record ValidPoints (l : List ℤ) : Type 0 where
   pub some : 0 < length (points l)
   pub few : length (points l) ≤ maxPoints
   pub inRange : InRange l
-
--- 8: "the lent output holds fewer numbers than the answer"
-abbrev pub roomRows : List Point → List ℤ → List Row
-roomRows shape out = row 8 (noRoom shape out) [] ∷ []
-
-unfoldable pub sweepWritten : List ℤ → List ℤ → Written
-sweepWritten l out = let shape = shapeOf (points l) in written (pointRows l ++ roomRows shape out) shape out

@@ -9,18 +9,15 @@
 --     tangentPositions A B  these of all four kinds
 -- What it means: exactly one pair is meant, if A and B are apart (`Meaning.antt` of the crate `tangents`).
 use mathlib.Core.Bool.{Bool, true, false, not, _&&_}
-use mathlib.Core.List.{List, [], _∷_, _++_}
+use mathlib.Core.List.{List, [], _∷_}
 use Prim.Native.Nat.{ℕ}
 use lib.IntN.{ℤ, pos, negsuc, _*ℤ_}
 use lib.ListN.{length}
 use lib.Signed.{ltZ, leZ}
-use Rattle.plane.specs.Point.{Point, points, corner}
+use Rattle.plane.specs.Point.{Point, corner}
 use Rattle.plane.specs.Turn.{turn}
 use Rattle.plane.specs.Search.{some, every, first}
-use Rattle.plane.specs.Reply.{Reply, answered, row, firstRow}
-use Rattle.plane.specs.Refusal.{shapeRows}
 use Rattle.plane.specs.Measure.{squared}
-use Rattle.plane.specs.Separation.{apart}
 
 abbrev pub signOf : Bool → ℤ
 signOf true = pos 1
@@ -59,9 +56,3 @@ tangentPositions A B =
     ∷ pos (tangentFrom false false A B) ∷ pos (tangentTo false false A B)
     ∷ pos (tangentFrom true false A B) ∷ pos (tangentTo true false A B)
     ∷ pos (tangentFrom false true A B) ∷ pos (tangentTo false true A B) ∷ []
-
--- 9: "Refusal 9 is given exactly when the shapes are not apart, after 1 to 5"
-unfoldable pub tangentsReply : List ℤ → List ℤ → Reply
-tangentsReply a b =
-    firstRow (shapeRows 1 a ++ (shapeRows 2 b ++ (row 9 (not (apart (points a) (points b))) [] ∷ [])))
-    (answered (tangentPositions (points a) (points b)))

@@ -4,8 +4,10 @@
 --     path p E           the same, and p itself where there is no edge
 --     joinEdges E F      the edges of both by angle; two that point the same way are one step, their sum
 --     vectorSum A B      from the sum of the first corners along the joined edges; [] where a list is empty
-use mathlib.Core.Bool.{true, false}
+--     shared E F         how many edges of E point the same way as some edge of F
+use mathlib.Core.Bool.{Bool, true, false, not, _&&_, _||_}
 use mathlib.Core.List.{List, [], _∷_}
+use Prim.Native.Nat.{ℕ, suc}
 use Rattle.plane.specs.Point.{Point, _⊕_}
 use Rattle.plane.specs.Forms.{before, edges}
 
@@ -35,3 +37,13 @@ abbrev pub vectorSum : List Point → List Point → List Point
 vectorSum [] B = []
 vectorSum (a ∷ A) [] = []
 vectorSum (a ∷ A) (b ∷ B) = path (a ⊕ b) (joinEdges (edges (a ∷ A)) (edges (b ∷ B)))
+
+-- some edge of F is neither before e nor after it
+abbrev pub meets : Point → List Point → Bool
+meets e [] = false
+meets e (f ∷ F) = (not (before f e) && not (before e f)) || meets e F
+
+-- the number of edges of E that meet one of F
+abbrev pub shared : List Point → List Point → ℕ
+shared [] F = 0
+shared (e ∷ E) F = let later = shared E F in elim (meets e F) [ true ↦ suc later | false ↦ later ]

@@ -24,7 +24,7 @@ pub fn tablet(out: &mut [u8], filled: usize, line: &[u8]) -> usize {
             let then = answers::bits(out, now, pattern(sent.x));
             answers::bits(out, then, pattern(sent.y))
         }
-        Tablet::No(refusal) => replies::refuse(out, filled, refusal),
+        Tablet::No(refusal) => replies::unread(out, filled, refusal),
     }
 }
 

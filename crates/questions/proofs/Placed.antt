@@ -8,15 +8,15 @@ use native.Mathlib.Omega.{arith}
 use types.Run.{OneOf}
 use denote.Enum.Declared.{tagOf}
 use Rattle.plane.specs.Point.{Point}
-use Rattle.plane.specs.Separation.{apart}
+use Rattle.plane.specs.Separation.{apart, relationNumber}
 use Rattle.separation.specs.declared.place.Place.{Place}
 use Rattle.separation.specs.declared.place.Place.the-variants.{Apart, Touching, Overlapping}
 use Rattle.separation.specs.Place.{placeNumber}
-use Rattle.separation.specs.Around.{related}
 use Rattle.separation.specs.theory.Around.{related-not-apart}
 use Rattle.separation.proofs.place.Place.{the-type}
 
-pub not-apart : (A B : List Point) (p : Place) → OneOf (1 ∷ 2 ∷ []) (tagOf the-type p) → placeNumber p ≡ related A B → apart A B ≡ false
+pub not-apart : (A B : List Point) (p : Place)
+    → OneOf (1 ∷ 2 ∷ []) (tagOf the-type p) → placeNumber p ≡ relationNumber A B → apart A B ≡ false
 not-apart A B Apart k h = absurd (neither k)
   where
     neither : OneOf (1 ∷ 2 ∷ []) 0 → ⊥

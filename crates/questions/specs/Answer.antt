@@ -4,7 +4,7 @@
 use mathlib.Core.Bool.{cond}
 use mathlib.Core.List.{[], _∷_, _++_}
 use lib.IntN.{pos}
-use Rattle.plane.specs.Reply.{Reply, answered}
+use Rattle.plane.specs.Reply.{Reply, answered, refused}
 use Rattle.tablet.specs.Reading.{Sent}
 use Rattle.calipers.specs.Part.{walkNumbers}
 pub use Rattle.admission.specs.Answer.{ofRefusal, ofAnswer}
@@ -32,6 +32,8 @@ use Rattle.questions.specs.declared.answer.Clearance.the-variants as Cle
 use Rattle.questions.specs.declared.answer.Line.{Line}
 use Rattle.questions.specs.declared.answer.Tangents.{Tangents}
 use Rattle.questions.specs.declared.answer.Tangents.the-variants as Tangents
+use Rattle.questions.specs.declared.answer.Unread.{Unread}
+use Rattle.questions.specs.declared.answer.Unread.the-variants as Unread
 use Rattle.questions.specs.declared.answer.Tablet.{Tablet}
 use Rattle.questions.specs.declared.answer.Tablet.the-variants as Tablet
 use Rattle.questions.specs.declared.answer.Addition.{Addition}
@@ -97,10 +99,16 @@ ofTangents (Tangents.Lines p q r s floor) =
     ∷ pos (r .from) ∷ pos (r .to) ∷ pos (s .from) ∷ pos (s .to) ∷ pos floor ∷ [])
 ofTangents (Tangents.No r) = ofRefusal r
 
+-- "a refusal says which of them it was and gives nothing else": 1 for x, 2 for y
+abbrev pub ofUnread : Unread → Reply
+ofUnread (Unread.NotFinite part) = refused 17 (part ∷ [])
+ofUnread (Unread.NotWhole part) = refused 18 (part ∷ [])
+ofUnread (Unread.Far part) = refused 3 (part ∷ [])
+
 -- the whole numbers, and the doubles that go back
 abbrev pub ofTablet : Tablet → Sent
 ofTablet (Tablet.Corner sent x y) = record { reply = answered (x ∷ y ∷ []); doubles = sent .x ∷ sent .y ∷ [] }
-ofTablet (Tablet.No r) = record { reply = ofRefusal r; doubles = [] }
+ofTablet (Tablet.No r) = record { reply = ofUnread r; doubles = [] }
 
 -- 1 finished, 0 cut
 abbrev pub ofAddition : Addition → Reply

@@ -6,10 +6,10 @@ use Rattle.tablet.specs.Reading.{readAs, readingRows}
 use Rattle.tablet.specs.declared.reading.Reading.{Reading}
 use Rattle.tablet.specs.declared.reading.Read.the-variants.{Whole}
 use Rattle.admission.specs.Admission.{Refuses}
-use Rattle.questions.specs.Answer.{ofRefusal}
+use Rattle.questions.specs.Answer.{ofUnread}
 use Rattle.questions.specs.declared.coordinate.Coordinate.{Coordinate}
 use Rattle.questions.specs.declared.coordinate.Coordinate.the-variants as Coordinate
 
 abbrev pub Coordinated : ℕ → Reading → Coordinate → Type 0
 Coordinated part x (Coordinate.Whole n) = readAs x ≡ Whole n
-Coordinated part x (Coordinate.No r) = Refuses (readingRows part x) (ofRefusal r)
+Coordinated part x (Coordinate.No r) = Refuses (readingRows part x) (ofUnread r)

@@ -2,4 +2,5 @@
 pub mod Walk
 pub mod Answer
 pub mod Coordinate
+pub mod Meaning
 pub mod theory

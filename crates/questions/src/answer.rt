@@ -83,9 +83,9 @@ pub enum Found {
     No(Refusal),
 }
 
-// Nothing if the shapes are not apart. Else where they are nearest: at two corners, with their squared distance; or at a
-// corner of the first and inside an edge of the second, or the reverse, with the size of the corner's turn against the
-// edge and the edge's squared length. Last the distance rounded down.
+// Nothing if the shapes are not apart. Else where they are nearest: at two corners, with their squared distance; or at
+// a corner of the first and inside an edge of the second, or the reverse, with the size of the corner's turn against
+// the edge and the edge's squared length. Last the distance rounded down.
 pub enum Clearance {
     None {
         floor: u16,
@@ -141,10 +141,20 @@ pub struct Sent {
     pub y: f64,
 }
 
+// A reading of the tablet that is refused, and the part of the corner that it is: 1 for x and 2 for y.
+pub enum Unread {
+    // 17: not finite
+    NotFinite { part: usize },
+    // 18: not a whole number of millimetres
+    NotWhole { part: usize },
+    // 3: out of range
+    Far { part: usize },
+}
+
 // A corner of two readings: the doubles that go back, and the whole numbers that they hold.
 pub enum Tablet {
     Corner { sent: Sent, x: i32, y: i32 },
-    No(Refusal),
+    No(Unread),
 }
 
 // Whether an addition to a log made all of its stores, or ran out of those that it was allowed.

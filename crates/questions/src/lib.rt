@@ -1,33 +1,31 @@
 // The questions of documents 01 and 02, and all that callers need of this library. Each judges its own lists, once
 // each, gives its refusals in the order of the table, and asks one inner function. A shape is lent with its floor, and
-// every answer on shapes carries it: of two shapes, a on floor f and b on floor g, both have the same, or are refused 13
-// behind 1 to 5 of the first and of the second.
+// every answer on shapes carries it: of two shapes, a on floor f and b on floor g, both have the same, or are refused
+// 13 behind 1 to 5 of the first and of the second.
 pub mod answer;
 mod coordinate;
 pub mod separating;
 pub mod walk;
 
 ghost use mathlib.Core.Path.{_≡_};
-ghost use mathlib.Core.List.{[], _∷_};
+ghost use mathlib.Core.List.{[], _∷_, _++_};
+ghost use lib.IntN.{pos};
 ghost use Rattle.plane.specs.Reply.{answered};
 ghost use Rattle.separation.specs.Place.{placeNumber};
 ghost use mathlib.Core.Bool.{true, false};
 ghost use Rattle.plane.specs.Point.{point, points};
 ghost use Rattle.plane.specs.Refusal.{Valid};
-ghost use Rattle.plane.specs.Floor.{on, withFloor, between, writtenBetween};
-ghost use Rattle.plane.specs.Judge.{judged};
-ghost use Rattle.plane.specs.Furthest.{furthestReply};
-ghost use Rattle.plane.specs.Combine.{mirrorWritten, sumWritten, mergeWritten, growWritten};
-ghost use Rattle.plane.specs.Sweep.{sweepWritten};
-ghost use Rattle.plane.specs.Measure.{lengthReply, widthReply};
-ghost use Rattle.plane.specs.Separation.{apart, relationReply, insideReply};
-ghost use Rattle.plane.specs.Clearance.{clearanceReply};
-ghost use Rattle.plane.specs.Tangent.{tangentFrom, tangentTo, tangentsReply};
+ghost use Rattle.plane.specs.Separation.{apart};
+ghost use Rattle.plane.specs.Tangent.{tangentFrom, tangentTo};
+ghost use Rattle.plane.specs.Floor.{on};
+ghost use Rattle.plane.specs.Question.{reply, output, askJudge, askFurthest, askMirror, askSum, askMerge, askGrow};
+ghost use Rattle.plane.specs.Question.{askSweep, askLength, askWidth, askRelation, askInside, askClearance};
+ghost use Rattle.plane.specs.Question.{askTangents};
 ghost use Rattle.questions.specs.Answer.{ofAnswer, ofFurthest, ofLength, ofWidth};
 ghost use Rattle.clearance.specs.Answer.{valuesOf};
 ghost use Rattle.tablet.specs.Reading.{tabletSent};
 ghost use Rattle.journal.specs.Format.{records};
-ghost use Rattle.journal.specs.Reading.{damaged, readWritten};
+ghost use Rattle.journal.specs.Reading.{damaged, askRead};
 ghost use Rattle.journal.specs.Adding.{added, end as Adding·end};
 ghost use Rattle.questions.specs.Answer.{ofRelation, ofInside, ofClearance, ofTangents, ofTablet, ofAddition};
 use admission::Admission;
@@ -65,7 +63,7 @@ pub use tablet::reading::Reading;
 // leftmost one.
 // Ruled out: consecutive turns only; one corner fewer; positions swapped.
 pub fn judge(list: &[i32], floor: u16) -> Answer
-    ensures { λ r. ⌜ ofAnswer r ≡ withFloor floor (judged (now (list .entry))) ⌝ }
+    ensures { λ r. ⌜ ofAnswer r ≡ reply (askJudge (on (now (list .entry)) floor)) ⌝ }
 {
     if let Admission::No(refusal) = admission::admit(list, 1) {
         return Answer::No(refusal);
@@ -84,7 +82,7 @@ pub fn judge(list: &[i32], floor: u16) -> Answer
 // Ruled out: first and last exchanged; segment taken over the end; smallest position over the end; last position on a
 // tie; upright direction refused; eleven and twelve exchanged.
 pub fn furthest(list: &[i32], floor: u16, u: i32, v: i32) -> Furthest
-    ensures { λ r. ⌜ ofFurthest r ≡ withFloor floor (furthestReply (now (list .entry)) (point u v)) ⌝ }
+    ensures { λ r. ⌜ ofFurthest r ≡ reply (askFurthest (on (now (list .entry)) floor) (point u v)) ⌝ }
 {
     if let Admission::No(refusal) = admission::admit(list, 1) {
         return Furthest::No(refusal);
@@ -104,10 +102,10 @@ pub fn furthest(list: &[i32], floor: u16, u: i32, v: i32) -> Furthest
 // Writes the mirror image, the shape of all (-x, -y), at the front of the output, and answers how many corners it has:
 // as many as the list. All behind the image is kept. Refused, with the output as it was: 1 to 5, then an output that
 // holds fewer numbers than the image.
-// Ruled out: mirror begun at the old start; output left alone; coordinates swapped; tail cleared.
+// Ruled out: mirror begun at the old start; output left alone; coordinates swapped; tail lost.
 pub fn mirror(list: &[i32], floor: u16, out: &mut [i32]) -> Answer
-    ensures { λ r. ⌜ (ofAnswer r ≡ withFloor floor (mirrorWritten (now (list .entry)) (now (out .entry)) .reply))
-        × (now (out .exit) ≡ mirrorWritten (now (list .entry)) (now (out .entry)) .output) ⌝ }
+    ensures { λ r. ⌜ (ofAnswer r ≡ reply (askMirror (on (now (list .entry)) floor) (now (out .entry))))
+        × (now (out .exit) ≡ output (askMirror (on (now (list .entry)) floor) (now (out .entry)))) ⌝ }
 {
     if let Admission::No(refusal) = admission::admit(list, 1) {
         return Answer::No(refusal);
@@ -129,10 +127,8 @@ pub fn mirror(list: &[i32], floor: u16, out: &mut [i32]) -> Answer
 // Ruled out: parallel corners kept; segment passed once; origin for every sum; second shape judged first.
 pub fn sum(a: &[i32], f: u16, b: &[i32], g: u16, out: &mut [i32]) -> Answer
     ensures { λ r. ⌜
-        (ofAnswer r
-        ≡ writtenBetween (on (now (a .entry)) f) (on (now (b .entry)) g) sumWritten (now (out .entry)) .reply)
-        × (now (out .exit)
-        ≡ writtenBetween (on (now (a .entry)) f) (on (now (b .entry)) g) sumWritten (now (out .entry)) .output) ⌝ }
+        (ofAnswer r ≡ reply (askSum (on (now (a .entry)) f) (on (now (b .entry)) g) (now (out .entry))))
+        × (now (out .exit) ≡ output (askSum (on (now (a .entry)) f) (on (now (b .entry)) g) (now (out .entry)))) ⌝ }
 {
     if let Admission::No(refusal) = admission::admit_pair(a, f, b, g) {
         return Answer::No(refusal);
@@ -144,15 +140,13 @@ pub fn sum(a: &[i32], f: u16, b: &[i32], g: u16, out: &mut [i32]) -> Answer
 
 // Writes the shape of both corner lists taken together at the front of the output, and answers how many corners it has.
 // The shapes may overlap, lie one in the other, share corners or edges. Refused, with the output as it was: 1 to 5 of
-// the first shape, then of the second; different floors; then an answer of too many corners, and too small an output. No
-// corner of the answer is out of range, since each is a corner of one of the two.
+// the first shape, then of the second; different floors; then an answer of too many corners, and too small an output.
+// No corner of the answer is out of range, since each is a corner of one of the two.
 // Ruled out: points in line kept; second shape forgotten; count one more.
 pub fn merge(a: &[i32], f: u16, b: &[i32], g: u16, out: &mut [i32]) -> Answer
     ensures { λ r. ⌜
-        (ofAnswer r
-        ≡ writtenBetween (on (now (a .entry)) f) (on (now (b .entry)) g) mergeWritten (now (out .entry)) .reply)
-        × (now (out .exit)
-        ≡ writtenBetween (on (now (a .entry)) f) (on (now (b .entry)) g) mergeWritten (now (out .entry)) .output) ⌝ }
+        (ofAnswer r ≡ reply (askMerge (on (now (a .entry)) f) (on (now (b .entry)) g) (now (out .entry))))
+        × (now (out .exit) ≡ output (askMerge (on (now (a .entry)) f) (on (now (b .entry)) g) (now (out .entry)))) ⌝ }
 {
     if let Admission::No(refusal) = admission::admit_pair(a, f, b, g) {
         return Answer::No(refusal);
@@ -171,12 +165,9 @@ pub fn merge(a: &[i32], f: u16, b: &[i32], g: u16, out: &mut [i32]) -> Answer
 // Ruled out: cart not mirrored; obstacle mirrored.
 pub fn grow(obstacle: &[i32], f: u16, cart: &[i32], g: u16, out: &mut [i32]) -> Answer
     ensures { λ r. ⌜
-        (ofAnswer r
-        ≡ writtenBetween (on (now (obstacle .entry)) f) (on (now (cart .entry)) g)
-        growWritten (now (out .entry)) .reply)
+        (ofAnswer r ≡ reply (askGrow (on (now (obstacle .entry)) f) (on (now (cart .entry)) g) (now (out .entry))))
         × (now (out .exit)
-        ≡ writtenBetween (on (now (obstacle .entry)) f) (on (now (cart .entry)) g)
-        growWritten (now (out .entry)) .output) ⌝ }
+        ≡ output (askGrow (on (now (obstacle .entry)) f) (on (now (cart .entry)) g) (now (out .entry)))) ⌝ }
 {
     if let Admission::No(refusal) = admission::admit_pair(obstacle, f, cart, g) {
         return Answer::No(refusal);
@@ -190,10 +181,10 @@ pub fn grow(obstacle: &[i32], f: u16, cart: &[i32], g: u16, out: &mut [i32]) -> 
 // how many corners it has. A point that is repeated counts once in the shape, and one in line between two others is no
 // corner of it; points that are all equal make a point, and points in one line a segment. Refused, with the output as
 // it was: 1 to 3, points counted before repeats are dropped, and then an output that is too small.
-// Ruled out: points in line kept; repeats kept; repeats not counted; output written before the room is known.
+// Ruled out: points in line kept; repeats kept; points not counted; output written before the room is known.
 pub fn sweep(list: &[i32], floor: u16, out: &mut [i32]) -> Answer
-    ensures { λ r. ⌜ (ofAnswer r ≡ withFloor floor (sweepWritten (now (list .entry)) (now (out .entry)) .reply))
-        × (now (out .exit) ≡ sweepWritten (now (list .entry)) (now (out .entry)) .output) ⌝ }
+    ensures { λ r. ⌜ (ofAnswer r ≡ reply (askSweep (on (now (list .entry)) floor) (now (out .entry))))
+        × (now (out .exit) ≡ output (askSweep (on (now (list .entry)) floor) (now (out .entry)))) ⌝ }
 {
     if let Admission::No(refusal) = admission::admit_points(list) {
         return Answer::No(refusal);
@@ -208,7 +199,7 @@ pub fn sweep(list: &[i32], floor: u16, out: &mut [i32]) -> Answer
 // two corners. Refused: 1 to 5.
 // Ruled out: ties to the larger position; first position given twice; search stopped where distance falls.
 pub fn length(list: &[i32], floor: u16) -> Length
-    ensures { λ r. ⌜ ofLength r ≡ withFloor floor (lengthReply (now (list .entry))) ⌝ }
+    ensures { λ r. ⌜ ofLength r ≡ reply (askLength (on (now (list .entry)) floor)) ⌝ }
 {
     if let Admission::No(refusal) = admission::admit(list, 1) {
         return Length::No(refusal);
@@ -228,7 +219,7 @@ pub fn length(list: &[i32], floor: u16) -> Length
 // Refused: 1 to 5, then a point and a segment.
 // Ruled out: later edge on a tie; widths compared after rounding down; rounded width one too large.
 pub fn width(list: &[i32], floor: u16) -> Width
-    ensures { λ r. ⌜ ofWidth r ≡ withFloor floor (widthReply (now (list .entry))) ⌝ }
+    ensures { λ r. ⌜ ofWidth r ≡ reply (askWidth (on (now (list .entry)) floor)) ⌝ }
 {
     if let Admission::No(refusal) = admission::admit(list, 1) {
         return Width::No(refusal);
@@ -254,7 +245,7 @@ pub fn width(list: &[i32], floor: u16) -> Width
 // Ruled out: touching read as apart; less or equal for less; segments in line by normals only; floor zero in every
 // answer.
 pub fn relation(a: &[i32], f: u16, b: &[i32], g: u16) -> Relation
-    ensures { λ r. ⌜ ofRelation r ≡ between (on (now (a .entry)) f) (on (now (b .entry)) g) relationReply ⌝ }
+    ensures { λ r. ⌜ ofRelation r ≡ reply (askRelation (on (now (a .entry)) f) (on (now (b .entry)) g)) ⌝ }
 {
     if let Admission::No(refusal) = admission::admit_pair(a, f, b, g) {
         return Relation::No(refusal);
@@ -264,7 +255,7 @@ pub fn relation(a: &[i32], f: u16, b: &[i32], g: u16) -> Relation
 
 // How two shapes stand, as an answer.
 fn stand(place: Place, floor: u16) -> Relation
-    ensures { λ r. ⌜ ofRelation r ≡ withFloor floor (answered (placeNumber place ∷ [])) ⌝ }
+    ensures { λ r. ⌜ ofRelation r ≡ answered (placeNumber place ∷ pos floor ∷ []) ⌝ }
 {
     match place {
         Place::Apart => Relation::Apart { floor },
@@ -278,7 +269,7 @@ fn stand(place: Place, floor: u16) -> Relation
 // Refused: 1 to 5 of the first shape, then of the second; different floors.
 // Ruled out: shape not inside itself; inside the other way round.
 pub fn inside(a: &[i32], f: u16, b: &[i32], g: u16) -> Inside
-    ensures { λ r. ⌜ ofInside r ≡ between (on (now (a .entry)) f) (on (now (b .entry)) g) insideReply ⌝ }
+    ensures { λ r. ⌜ ofInside r ≡ reply (askInside (on (now (a .entry)) f) (on (now (b .entry)) g)) ⌝ }
 {
     if let Admission::No(refusal) = admission::admit_pair(a, f, b, g) {
         return Inside::No(refusal);
@@ -290,14 +281,14 @@ pub fn inside(a: &[i32], f: u16, b: &[i32], g: u16) -> Inside
 }
 
 // Where two shapes are nearest, and how near: the least distance between any point of one and any point of the other.
-// Nothing if they are not apart. Either two corners, or a corner and an edge that it is over, strictly between its ends.
-// On a tie two corners go first, then a corner of the first shape, then one of the second; each by the smallest
+// Nothing if they are not apart. Either two corners, or a corner and an edge that it is over, strictly between its
+// ends. On a tie two corners go first, then a corner of the first shape, then one of the second; each by the smallest
 // positions. Two points have their own distance. Refused: 1 to 5 of the first shape, then of the second; different
 // floors.
 // Ruled out: clearance where shapes touch; foot at the end counted as inside; ties the other way; only one edge of a
 // parallel pair tried; rounded up.
 pub fn clearance(a: &[i32], f: u16, b: &[i32], g: u16) -> Clearance
-    ensures { λ r. ⌜ ofClearance r ≡ between (on (now (a .entry)) f) (on (now (b .entry)) g) clearanceReply ⌝ }
+    ensures { λ r. ⌜ ofClearance r ≡ reply (askClearance (on (now (a .entry)) f) (on (now (b .entry)) g)) ⌝ }
 {
     if let Admission::No(refusal) = admission::admit_pair(a, f, b, g) {
         return Clearance::No(refusal);
@@ -310,7 +301,7 @@ pub fn clearance(a: &[i32], f: u16, b: &[i32], g: u16) -> Clearance
 
 // How near two shapes are, as an answer.
 fn measured(found: Distance, floor: u16) -> Clearance
-    ensures { λ r. ⌜ ofClearance r ≡ withFloor floor (answered (valuesOf found)) ⌝ }
+    ensures { λ r. ⌜ ofClearance r ≡ answered (valuesOf found ++ (pos floor ∷ [])) ⌝ }
 {
     match found {
         Distance::Corners {
@@ -363,7 +354,7 @@ fn measured(found: Distance, floor: u16) -> Clearance
 // shapes that touch or overlap.
 // Ruled out: far pair for the near one; sides taken strictly; crossing lines exchanged; touching shapes answered.
 pub fn tangents(a: &[i32], f: u16, b: &[i32], g: u16) -> Tangents
-    ensures { λ r. ⌜ ofTangents r ≡ between (on (now (a .entry)) f) (on (now (b .entry)) g) tangentsReply ⌝ }
+    ensures { λ r. ⌜ ofTangents r ≡ reply (askTangents (on (now (a .entry)) f) (on (now (b .entry)) g)) ⌝ }
 {
     if let Admission::No(refusal) = admission::admit_pair(a, f, b, g) {
         return Tangents::No(refusal);
@@ -419,13 +410,13 @@ pub fn tablet(x: Reading, y: Reading) -> Tablet
 }
 
 // Writes the corners of the latest record of a name at the front of the output, and answers how many they are, and the
-// floor of the record: 0 of one of kind 1, which says none. All behind them is kept. A log ends where no whole record stands. Refused, with the output as it was: a log in which some
-// record is of another kind, a wrong length, or no shape (with the byte place of the first); a name that no record has;
-// too small an output.
+// floor of the record: 0 of one of kind 1, which says none. All behind them is kept. A log ends where no whole record
+// stands. Refused, with the output as it was: a log in which some record is of another kind, a wrong length, or no
+// shape (with the byte place of the first); a name that no record has; too small an output.
 // Ruled out: first record of a name.
 pub fn log_read(log: &[u8], name: u16, out: &mut [i32]) -> Answer
-    ensures { λ r. ⌜ (ofAnswer r ≡ readWritten (now (log .entry)) name (now (out .entry)) .reply)
-        × (now (out .exit) ≡ readWritten (now (log .entry)) name (now (out .entry)) .output) ⌝ }
+    ensures { λ r. ⌜ (ofAnswer r ≡ reply (askRead (now (log .entry)) name (now (out .entry))))
+        × (now (out .exit) ≡ output (askRead (now (log .entry)) name (now (out .entry)))) ⌝ }
 {
     if let Surveyed::Bad(place) = journal::survey::survey(log) {
         return Answer::No(Refusal::Damaged { place });
@@ -448,10 +439,10 @@ pub fn log_read(log: &[u8], name: u16, out: &mut [i32]) -> Answer
     }
 }
 
-// Adds a shape on a floor under a name behind the last whole record of a log, with at most so many stores of single bytes as are
-// allowed, and says whether it finished. What was torn there is cleared first, and the record's last byte is stored
-// last: a cut addition changes no answer of `log_read`. Refused, with nothing stored: 1 to 5 of the list; a log in
-// which some record is bad; too little room.
+// Adds a shape on a floor under a name behind the last whole record of a log, with at most so many stores of single
+// bytes as are allowed, and says whether it finished. What was torn there is cleared first, and the record's last byte
+// is stored last: a cut addition changes no answer of `log_read`. Refused, with nothing stored: 1 to 5 of the list; a
+// log in which some record is bad; too little room.
 // Ruled out: full one byte early; cut called finished; last byte stored first; tail cleared from its front.
 pub fn log_add(log: &mut [u8], name: u16, floor: u16, list: &[i32], allowed: usize) -> Addition
     ensures { λ r. ⌜ (ofAddition r ≡ added (now (log .entry)) name floor (now (list .entry)) allowed .reply)

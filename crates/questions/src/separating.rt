@@ -2,9 +2,11 @@
 // shapes being apart, and a search for one.
 ghost use mathlib.Core.Path.{_≡_};
 ghost use Rattle.plane.specs.Point.{point};
-ghost use Rattle.plane.specs.Floor.{on, withFloor, between};
+ghost use mathlib.Core.List.{[], _∷_, _++_};
+ghost use lib.IntN.{pos};
+ghost use Rattle.plane.specs.Floor.{on};
 ghost use Rattle.plane.specs.Reply.{answered};
-ghost use Rattle.plane.specs.Offer.{offerReply};
+ghost use Rattle.plane.specs.Question.{reply, askOffer};
 ghost use Rattle.witness.specs.Found.{foundNumbers, FoundBetween};
 ghost use Rattle.questions.specs.Answer.{ofOffer, ofFound};
 use crate::answer::Found;
@@ -18,8 +20,7 @@ use polygon::point::Point;
 // range, and one whose parts have a common divisor above 1, even if the shapes are not apart.
 // Ruled out: less or equal for less; twelve before thirteen; floor zero in an offer.
 pub fn offer(a: &[i32], f: u16, b: &[i32], g: u16, u: i32, v: i32) -> Offer
-    ensures { λ r. ⌜ ofOffer r
-        ≡ between (on (now (a .entry)) f) (on (now (b .entry)) g) (λ l m. offerReply l m (point u v)) ⌝ }
+    ensures { λ r. ⌜ ofOffer r ≡ reply (askOffer (on (now (a .entry)) f) (on (now (b .entry)) g) (point u v)) ⌝ }
 {
     if let Admission::No(refusal) = admission::admit_pair(a, f, b, g) {
         return Offer::No(refusal);
@@ -48,7 +49,7 @@ pub fn find(a: &[i32], f: u16, b: &[i32], g: u16) -> Found
 
 // What was found, as an answer.
 fn told(found: witness::Found, floor: u16) -> Found
-    ensures { λ r. ⌜ ofFound r ≡ withFloor floor (answered (foundNumbers found)) ⌝ }
+    ensures { λ r. ⌜ ofFound r ≡ answered (foundNumbers found ++ (pos floor ∷ [])) ⌝ }
 {
     match found {
         witness::Found::Direction { u, v } => Found::Direction { u, v, floor },

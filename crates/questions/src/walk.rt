@@ -1,13 +1,14 @@
 // The sum in parts (document 02, request W6): a walk is begun, and each part hands back the next.
 ghost use mathlib.Core.Bool.{true};
 ghost use mathlib.Core.Path.{_≡_};
+ghost use Rattle.plane.specs.Reply.{NoneApply};
 ghost use Rattle.plane.specs.Refusal.{Valid};
-ghost use Rattle.plane.specs.Floor.{on, withFloor};
+ghost use Rattle.plane.specs.Output.{sizeRows};
+ghost use Rattle.plane.specs.Floor.{on, Same};
+ghost use Rattle.plane.specs.Question.{reply, output};
 ghost use Rattle.calipers.specs.PlaceAfter.{wholeSum, isPlace};
-ghost use Rattle.calipers.specs.Part.{partWritten};
-ghost use Rattle.calipers.specs.PartFloor.{beginOn, partOn};
-ghost use Rattle.admission.specs.Admission.{Surveyed};
-ghost use Rattle.admission.specs.declared.Admission.the-variants.{Valid as Admission·Valid};
+ghost use Rattle.calipers.specs.Part.{askBegin, askPart};
+ghost use Rattle.admission.specs.Admission.{Judged};
 ghost use Rattle.questions.specs.Answer.{ofBegun, ofPart};
 ghost use Rattle.questions.specs.Walk.{stateOf};
 use crate::answer::Begun;
@@ -27,11 +28,11 @@ pub struct Walk {
     pub over: bool,
 }
 
-// Begins a sum in parts, of a on floor f and b on floor g: the walk for the first of them. Refused as the sum is: 1 to 5
-// of the first shape, then of the second; different floors; then a sum of too many corners, and one out of range. No
+// Begins a sum in parts, of a on floor f and b on floor g: the walk for the first of them. Refused as the sum is: 1 to
+// 5 of the first shape, then of the second; different floors; then a sum of too many corners, and one out of range. No
 // output is asked for yet.
 pub fn begin(a: &[i32], f: u16, b: &[i32], g: u16) -> Begun
-    ensures { λ r. ⌜ ofBegun r ≡ beginOn (on (now (a .entry)) f) (on (now (b .entry)) g) ⌝ }
+    ensures { λ r. ⌜ ofBegun r ≡ reply (askBegin (on (now (a .entry)) f) (on (now (b .entry)) g)) ⌝ }
 {
     if let Admission::No(refusal) = admission::admit_pair(a, f, b, g) {
         return Begun::No(refusal);
@@ -55,14 +56,14 @@ impl Walk {
     // none, and the walk stays as it is. Refused, with the output as it was: 1 to 5 of the first shape, then of the
     // second; different floors; a walk that is at no place of their sum; then a sum of too many corners, and one out of
     // range; and an output too small for the corners of this call.
-    // Ruled out: fourteen after six; fourteen before thirteen; thirteen after fourteen; one corner too few; walk handed back unmoved; room
-    // counted from k.
+    // Ruled out: fourteen after six; fourteen before thirteen; thirteen after fourteen; one corner too few; walk handed
+    // back unmoved; room counted from k.
     pub fn part(self, a: &[i32], f: u16, b: &[i32], g: u16, k: usize, out: &mut [i32]) -> Part
         ensures { λ r. ⌜
             (ofPart r
-            ≡ partOn (on (now (a .entry)) f) (on (now (b .entry)) g) (stateOf self) k (now (out .entry)) .reply)
+            ≡ reply (askPart (on (now (a .entry)) f) (on (now (b .entry)) g) (stateOf self) k (now (out .entry))))
             × (now (out .exit)
-            ≡ partOn (on (now (a .entry)) f) (on (now (b .entry)) g) (stateOf self) k (now (out .entry)) .output) ⌝ }
+            ≡ output (askPart (on (now (a .entry)) f) (on (now (b .entry)) g) (stateOf self) k (now (out .entry)))) ⌝ }
     {
         if let Admission::No(refusal) = admission::admit_pair(a, f, b, g) {
             return Part::No(refusal);
@@ -73,31 +74,31 @@ impl Walk {
         if let Admission::No(whole) = survey(a, b) {
             return Part::No(whole);
         }
-        self.write(a, b, f, k, out)
+        self.write(a, f, b, g, k, out)
     }
 
     // The same at a place of a sum that is answered, of two shapes on one floor.
-    fn write(self, a: &[i32], b: &[i32], floor: u16, k: usize, out: &mut [i32]) -> Part
-        requires { ⌜ Valid (now a) × Valid (now b) × (isPlace (now a) (now b) (stateOf self) ≡ true)
-            × Surveyed (wholeSum (now a) (now b)) Admission·Valid ⌝ }
+    fn write(self, a: &[i32], f: u16, b: &[i32], g: u16, k: usize, out: &mut [i32]) -> Part
+        requires { ⌜ Same (on (now a) f) (on (now b) g) × (isPlace (now a) (now b) (stateOf self) ≡ true)
+            × NoneApply (sizeRows (wholeSum (now a) (now b))) ⌝ }
         ensures { λ r. ⌜
             (ofPart r
-            ≡ withFloor floor (partWritten (now (a .entry)) (now (b .entry)) (stateOf self) k (now (out .entry)) .reply))
+            ≡ reply (askPart (on (now (a .entry)) f) (on (now (b .entry)) g) (stateOf self) k (now (out .entry))))
             × (now (out .exit)
-            ≡ partWritten (now (a .entry)) (now (b .entry)) (stateOf self) k (now (out .entry)) .output) ⌝ }
+            ≡ output (askPart (on (now (a .entry)) f) (on (now (b .entry)) g) (stateOf self) k (now (out .entry)))) ⌝ }
     {
         if self.over {
             return Part::Corners {
                 count: 0,
                 walk: self,
-                floor,
+                floor: f,
             };
         }
         if k == 0 {
             return Part::Corners {
                 count: 0,
                 walk: self,
-                floor,
+                floor: f,
             };
         }
         let mut corners = [0i32; limits::PAIR_NUMBERS];
@@ -113,7 +114,7 @@ impl Walk {
                 second: went.second,
                 over: went.over,
             },
-            floor,
+            floor: f,
         }
     }
 }
@@ -121,7 +122,8 @@ impl Walk {
 // Refusals 6 and 7 of the whole sum of two shapes.
 fn survey(a: &[i32], b: &[i32]) -> Admission
     requires { ⌜ Valid (now a) × Valid (now b) ⌝ }
-    ensures { λ r. ⌜ Surveyed (wholeSum (now (a .entry)) (now (b .entry))) r ⌝ }
+    ensures { λ r. ⌜ Judged (NoneApply (sizeRows (wholeSum (now (a .entry)) (now (b .entry)))))
+        (sizeRows (wholeSum (now (a .entry)) (now (b .entry)))) r ⌝ }
 {
     let mut shape = [0i32; limits::PAIR_NUMBERS];
     let n = calipers::sum(a, b, &mut shape);

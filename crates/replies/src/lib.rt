@@ -1,6 +1,7 @@
 // Replies, without their newlines; what they are made of is in `text`.
 use questions::answer::Line;
 use questions::answer::Refusal;
+use questions::answer::Unread;
 use text::answers;
 
 // Adds the two positions of a line.
@@ -9,19 +10,18 @@ pub fn line(out: &mut [u8], filled: usize, line: Line) -> usize {
     answers::labelled(out, now, b" ", line.to as u64)
 }
 
-// Adds a refusal: its number, which shape of the question it means, and where the left rule breaks; or which part of a
-// corner, or the place of a byte.
+// Adds a refusal: its number, which shape of the question it means, and where the left rule breaks; or the place of a
+// byte.
 pub fn refuse(out: &mut [u8], filled: usize, refusal: Refusal) -> usize {
     refuse_of(out, filled, refusal, blamed(refusal))
 }
 
 // Adds a refusal that means this shape of the question, counted from 1; 0 where it means none.
 pub fn refuse_of(out: &mut [u8], filled: usize, refusal: Refusal, shape: u64) -> usize {
-    let now = answers::labelled(out, filled, b"no ", number(refusal));
-    let then = answers::labelled_some(out, now, b" shape ", shape);
-    let behind = broken(out, then, refusal);
-    let last = part(out, behind, refusal);
-    place(out, last, refusal)
+    let numbered = answers::labelled(out, filled, b"no ", number(refusal));
+    let blamed = answers::labelled_some(out, numbered, b" shape ", shape);
+    let positioned = broken(out, blamed, refusal);
+    place(out, positioned, refusal)
 }
 
 // Adds the place of the first bad record, if the refusal is of a log.
@@ -32,26 +32,21 @@ fn place(out: &mut [u8], filled: usize, refusal: Refusal) -> usize {
     answers::labelled(out, filled, b" place ", place as u64)
 }
 
-// Adds the part of a corner whose reading is refused, x for 1, if the refusal is of a reading.
-fn part(out: &mut [u8], filled: usize, refusal: Refusal) -> usize {
-    let part = read_part(refusal);
-    if part == 0 {
-        return filled;
+// Adds the refusal of a reading, and the part of the corner that it is, x for 1.
+pub fn unread(out: &mut [u8], filled: usize, refusal: Unread) -> usize {
+    match refusal {
+        Unread::NotFinite { part } => no_part(out, filled, 17, part),
+        Unread::NotWhole { part } => no_part(out, filled, 18, part),
+        Unread::Far { part } => no_part(out, filled, 3, part),
     }
-    if part == 1 {
-        return answers::word(out, filled, b" part x");
-    }
-    answers::word(out, filled, b" part y")
 }
 
-// The part that a refusal of a reading means; 0 for any other refusal.
-fn read_part(refusal: Refusal) -> usize {
-    match refusal {
-        Refusal::NotFinite { part } => part,
-        Refusal::NotWhole { part } => part,
-        Refusal::FarReading { part } => part,
-        _ => 0,
+fn no_part(out: &mut [u8], filled: usize, number: u64, part: usize) -> usize {
+    let numbered = answers::labelled(out, filled, b"no ", number);
+    if part == 1 {
+        return answers::word(out, numbered, b" part x");
     }
+    answers::word(out, numbered, b" part y")
 }
 
 // Adds where the left rule breaks, if it does.
@@ -91,10 +86,7 @@ pub fn number(refusal: Refusal) -> u64 {
         Refusal::NotAPlace => 14,
         Refusal::Damaged { place: _ } => 15,
         Refusal::Full => 16,
-        Refusal::NotFinite { part: _ } => 17,
-        Refusal::NotWhole { part: _ } => 18,
         Refusal::NoRecord => 19,
-        Refusal::FarReading { part: _ } => 3,
     }
 }
 

@@ -2,7 +2,6 @@
 --     crossAt D e       the cross product of the two corners of edge e: positive if the origin is to the left of it
 --     rightOf D e       the origin is to the right of edge e
 --     placed D          0 outside, 1 on the rim, 2 inside; `placedFew D` for a point or a segment on a line through the origin
---     related A B       the number of document 01's relation
 --     Passed D s        a walk saw s of D
 -- What it means: `placed-related` of the theory.
 use mathlib.Core.Path.{_≡_}
@@ -18,7 +17,7 @@ use Rattle.plane.specs.Turn.{cross}
 use Rattle.plane.specs.Search.{some}
 use Rattle.plane.specs.Shape.{next}
 use Rattle.plane.specs.Direction.{value}
-use Rattle.plane.specs.Separation.{notLeft, apart, touching}
+use Rattle.plane.specs.Separation.{notLeft}
 use Rattle.separation.specs.declared.around.Sides.{Sides}
 
 unfoldable pub crossAt : List Point → ℕ → ℤ
@@ -33,9 +32,6 @@ placedFew D = cond (leZ (value (corner D 0) (corner D (next (length D) 0))) (pos
 unfoldable pub placed : List Point → ℤ
 placed D = cond (some (rightOf D) (length D)) (pos 0)
     (cond (ltb (length D) 3) (placedFew D) (cond (some (notLeft D) (length D)) (pos 1) (pos 2)))
-
-unfoldable pub related : List Point → List Point → ℤ
-related A B = cond (apart A B) (pos 0) (cond (touching A B) (pos 1) (pos 2))
 
 -- the walk stops at an edge that has the origin to its right, and then knows no more
 pub record Passed (D : List Point) (s : Sides) : Type 0 where

@@ -1,21 +1,26 @@
 -- What relation and inside mean, in document 01's words. Each theorem is proved in the theory; here it is only cited.
 --     inside         by the greatest values in all directions; an order of shapes; by the merge; against a point, a segment, a polygon
 --     relation       apart, touching and overlapping, by directions; either shape may be the first
+--     the replies    to two shapes on one floor each number is answered exactly if the paper's sentence for it holds
 -- Lists of corners have a corner: 0 < length.
 use mathlib.Core.Path.{_≡_}
 use mathlib.Core.Bool.{true, false}
 use mathlib.Core.List.{List, [], _∷_, _++_}
+use mathlib.Core.Logic.{_↔_}
 use Prim.Native.Nat.{ℕ, _<_}
 use lib.IntN.{pos}
 use lib.ListN.{length}
 use lib.Signed.{_≤ℤ_, _<ℤ_}
-use Rattle.plane.specs.Point.{Point, origin, corner, _⊖_}
+use Rattle.plane.specs.Point.{Point, origin, corner, _⊖_, _∈_}
 use Rattle.plane.specs.Turn.{turn}
 use Rattle.plane.specs.Shape.{next, IsShape}
 use Rattle.plane.specs.Direction.{value, support}
 use Rattle.plane.specs.Corner.{shapeOf}
 use Rattle.plane.specs.Separation.{sameCorners, inside, apart, touching}
-use Rattle.plane.specs.theory.lists.Members.{_∈_}
+use Rattle.plane.specs.Reply.{answered}
+use Rattle.plane.specs.Floor.{Floored, corners, Same}
+use Rattle.plane.specs.Question.{reply, askRelation, askInside}
+use Rattle.separation.specs.Directions.{IsApart, IsTouching, IsOverlapping}
 use Rattle.separation.specs.theory.Inside.{sameCorners→equal, equal→sameCorners, inside→reach, reach→inside, outside→direction}
 use Rattle.separation.specs.theory.Inside.{inside-refl, inside-trans, inside-antisym, inside→merge, merge→inside}
 use Rattle.separation.specs.theory.InsideShape.{inside→each, each→inside, polygon-inside→left, polygon-left→inside}
@@ -23,6 +28,7 @@ use Rattle.separation.specs.theory.InsideShape.{segment-inside→between
 use Rattle.separation.specs.theory.InsideShape.{point-inside→equal, point-equal→inside}
 use Rattle.separation.specs.theory.Apart.{apart→direction, direction→apart, apart-sym, inside→not-apart}
 use Rattle.separation.specs.theory.Rim.{touching→direction, touching→not-apart, direction→touching, touching-sym, overlapping→crossed}
+use Rattle.separation.specs.theory.Replies.{relation-apart, relation-touching, relation-overlapping, inside-yes, inside-no}
 
 -- ---- inside
 
@@ -148,3 +154,30 @@ module _ (A B : List Point) (a : 0 < length A) (b : 0 < length B) where
   -- a shape inside another is not apart from it
   pub inside-is-not-apart : inside A B ≡ true → apart A B ≡ false
   inside-is-not-apart h = inside→not-apart A B a b h
+
+-- ---- the replies
+
+-- two valid shapes on one floor
+module _ (a b : Floored) (s : Same a b) where
+  -- "Relation": 0 is answered exactly if "in some whole-number direction every corner of the first has a value strictly less .."
+  pub apart-is-answered-exactly : reply (askRelation a b) ≡ answered (pos 0 ∷ pos (a .floor) ∷ []) ↔ IsApart (corners a) (corners b)
+  apart-is-answered-exactly = relation-apart a b s
+
+  -- "otherwise "touching" if in some direction other than (0,0) less or equal holds"
+  pub touching-is-answered-exactly : reply (askRelation a b) ≡ answered (pos 1 ∷ pos (a .floor) ∷ []) ↔ IsTouching (corners a) (corners b)
+  touching-is-answered-exactly = relation-touching a b s
+
+  -- "otherwise "overlapping""
+  pub overlapping-is-answered-exactly :
+      reply (askRelation a b) ≡ answered (pos 2 ∷ pos (a .floor) ∷ []) ↔ IsOverlapping (corners a) (corners b)
+  overlapping-is-answered-exactly = relation-overlapping a b s
+
+  -- "Inside: yes exactly if in every whole-number direction the first's greatest value is at most the second's"
+  pub inside-is-answered-exactly : reply (askInside a b) ≡ answered (pos 1 ∷ pos (a .floor) ∷ [])
+      ↔ ((d : Point) → support d (corners a) ≤ℤ support d (corners b))
+  inside-is-answered-exactly = inside-yes a b s
+
+  -- no exactly if in some direction it is greater
+  pub outside-is-answered-exactly : reply (askInside a b) ≡ answered (pos 0 ∷ pos (a .floor) ∷ [])
+      ↔ ((d : Point) × (support d (corners b) <ℤ support d (corners a)))
+  outside-is-answered-exactly = inside-no a b s

@@ -1,4 +1,4 @@
--- The theory of inside, apart and touching, which only proves; then that what the code finds is what the questions ask.
+-- The theory of inside, apart and touching, which only proves; then that what the code finds is what the questions ask; the replies.
 pub mod Inside
 pub mod Apart
 pub mod Sector
@@ -8,3 +8,4 @@ pub mod Stops
 pub mod Around
 pub mod Image
 pub mod Within
+pub mod Replies

@@ -10,10 +10,10 @@ ghost use lib.ListN.{length};
 ghost use Rattle.plane.specs.Point.{points};
 ghost use Rattle.plane.specs.Refusal.{Valid};
 ghost use Rattle.plane.specs.Corner.{shapeOf};
-ghost use Rattle.plane.specs.Separation.{inside as Separation·inside, differences as Separation·differences};
+ghost use Rattle.plane.specs.Separation.{relationNumber, inside as Separation·inside};
+ghost use Rattle.plane.specs.Separation.{differences as Separation·differences};
 ghost use Rattle.polygon.specs.Front.{Front};
 ghost use Rattle.separation.specs.Place.{placeNumber};
-ghost use Rattle.separation.specs.Around.{related};
 use place::Place;
 use polygon::corners;
 use polygon::limits;
@@ -24,7 +24,7 @@ use polygon::opposite;
 // Ruled out: touching read as apart; less or equal for less; segments in line by normals only.
 pub fn relation(a: &[i32], b: &[i32]) -> Place
     requires { ⌜ Valid (now a) × Valid (now b) ⌝ }
-    ensures { λ r. ⌜ placeNumber r ≡ related (points (now (a .entry))) (points (now (b .entry))) ⌝ }
+    ensures { λ r. ⌜ placeNumber r ≡ relationNumber (points (now (a .entry))) (points (now (b .entry))) ⌝ }
 {
     let mut image = [0i32; limits::SHAPE_NUMBERS];
     opposite::mirror(b, &mut image);

@@ -4,7 +4,7 @@
 --     width        no direction is narrower than the edge that width answers; that edge's own direction is as narrow
 --     corridor     no strip between two shapes is wider than their clearance; across the step between the nearest points one is so wide
 -- A direction d is any two whole numbers, without bound; its squared length is value d d. t and q, and the fraction answerTop over
--- answerBottom, are what `widthReply` and `clearanceReply` answer, which the contracts of width and clearance cite.
+-- answerBottom, are of the replies that the contracts of width and clearance cite, to shapes with their floors.
 use mathlib.Core.Path.{_≡_}
 use mathlib.Core.Bool.{true}
 use mathlib.Core.List.{List, [], _∷_}
@@ -12,14 +12,14 @@ use Prim.Native.Nat.{ℕ, _<_}
 use lib.IntN.{ℤ, pos, _-ℤ_, _*ℤ_}
 use lib.ListN.{length}
 use lib.Signed.{_≤ℤ_, _<ℤ_}
-use Rattle.plane.specs.Point.{Point, origin, points}
+use Rattle.plane.specs.Point.{Point, origin, _∈_}
 use Rattle.plane.specs.Direction.{value, support}
 use Rattle.plane.specs.Reply.{answered}
 use Rattle.plane.specs.Refusal.{Valid}
-use Rattle.plane.specs.Measure.{widthReply}
 use Rattle.plane.specs.Separation.{apart}
-use Rattle.plane.specs.Clearance.{nearest, clearanceReply}
-use Rattle.plane.specs.theory.lists.Members.{_∈_}
+use Rattle.plane.specs.Clearance.{nearest}
+use Rattle.plane.specs.Floor.{Floored, corners}
+use Rattle.plane.specs.Question.{reply, askWidth, askClearance}
 use Rattle.separation.specs.theory.Sector.{square-positive}
 use Rattle.strips.specs.Strip.{least, spread, gapIn, Corridor}
 use Rattle.strips.specs.OwnDirection.{outOf, towards, answerTop, answerBottom}
@@ -46,37 +46,37 @@ module _ (d : Point) (ps : List Point) where
 
 -- ---- width
 
-module _ (l : List ℤ) (e : ℕ) (c t q w : ℤ) (h : widthReply l ≡ answered (pos e ∷ c ∷ t ∷ q ∷ w ∷ [])) where
+module _ (a : Floored) (e : ℕ) (c t q w : ℤ) (h : reply (askWidth a) ≡ answered (pos e ∷ c ∷ t ∷ q ∷ w ∷ pos (a .floor) ∷ [])) where
   -- "no whole-number direction other than (0,0) gives a smaller width: the spread of the shape's values in it, squared, over the
   -- direction's squared length, is never below t·t/q"
   pub no-direction-is-narrower : (d : Point) → (d ≡ origin → ⊥)
-      → (t *ℤ t *ℤ value d d) ≤ℤ (spread d (points l) *ℤ spread d (points l) *ℤ q)
-  no-direction-is-narrower d n = answered-no-narrower l e c t q w h d (record { non-zero = n })
+      → (t *ℤ t *ℤ value d d) ≤ℤ (spread d (corners a) *ℤ spread d (corners a) *ℤ q)
+  no-direction-is-narrower d n = answered-no-narrower a e c t q w h d (record { non-zero = n })
 
   -- and the direction out of the edge has exactly it: its spread is t, its squared length q
-  pub own-edge-is-as-narrow : (spread (outOf (points l) e) (points l) ≡ t) × (value (outOf (points l) e) (outOf (points l) e) ≡ q)
-  own-edge-is-as-narrow = answered-attains l e c t q w h
+  pub own-edge-is-as-narrow : (spread (outOf (corners a) e) (corners a) ≡ t) × (value (outOf (corners a) e) (outOf (corners a) e) ≡ q)
+  own-edge-is-as-narrow = answered-attains a e c t q w h
 
   -- q is not 0, so that t·t/q is a fraction
   pub width-is-a-fraction : pos 0 <ℤ q
-  width-is-a-fraction = answered-fraction l e c t q w h
+  width-is-a-fraction = answered-fraction a e c t q w h
 
 -- nor is the squared length of a direction
 pub direction-has-length : (d : Point) → (d ≡ origin → ⊥) → pos 0 <ℤ value d d
 direction-has-length d n = square-positive d (record { non-zero = n })
 
 -- every shape of three or more corners has such an answer
-pub three-corners-are-answered : (l : List ℤ) → Valid l → 2 < length (points l)
-    → (e : ℕ) × (c : ℤ) × (t : ℤ) × (q : ℤ) × (w : ℤ) × (widthReply l ≡ answered (pos e ∷ c ∷ t ∷ q ∷ w ∷ []))
-three-corners-are-answered l v three = (_, _, _, _, _, three-answered l v three)
+pub three-corners-are-answered : (a : Floored) → Valid (a .list) → 2 < length (corners a)
+    → (e : ℕ) × (c : ℤ) × (t : ℤ) × (q : ℤ) × (w : ℤ) × (reply (askWidth a) ≡ answered (pos e ∷ c ∷ t ∷ q ∷ w ∷ pos (a .floor) ∷ []))
+three-corners-are-answered a v three = (_, _, _, _, _, three-answered a v three)
 
 -- ---- corridor
 
-module _ (a b v : List ℤ) (h : clearanceReply a b ≡ answered v) where
+module _ (a b : Floored) (v : List ℤ) (h : reply (askClearance a b) ≡ answered v) where
   -- in every direction in which the first shape is ahead of the second, the gap, squared, over the direction's squared length, is at most
   -- the squared clearance
-  pub no-gap-is-wider : (d : Point) → (d ≡ origin → ⊥) → pos 0 ≤ℤ gapIn d (points a) (points b)
-      → (gapIn d (points a) (points b) *ℤ gapIn d (points a) (points b) *ℤ answerBottom v) ≤ℤ (answerTop v *ℤ value d d)
+  pub no-gap-is-wider : (d : Point) → (d ≡ origin → ⊥) → pos 0 ≤ℤ gapIn d (corners a) (corners b)
+      → (gapIn d (corners a) (corners b) *ℤ gapIn d (corners a) (corners b) *ℤ answerBottom v) ≤ℤ (answerTop v *ℤ value d d)
   no-gap-is-wider d n k = answered-gap-no-wider a b v h d n k
 
   -- which is a fraction
@@ -84,18 +84,18 @@ module _ (a b v : List ℤ) (h : clearanceReply a b ≡ answered v) where
   clearance-is-a-fraction = answered-bottom a b v h
 
   -- so no strip that lies between the shapes is wider
-  pub no-corridor-is-wider : (d : Point) (low high : ℤ) → Corridor (points a) (points b) d low high
+  pub no-corridor-is-wider : (d : Point) (low high : ℤ) → Corridor (corners a) (corners b) d low high
       → ((high -ℤ low) *ℤ (high -ℤ low) *ℤ answerBottom v) ≤ℤ (answerTop v *ℤ value d d)
   no-corridor-is-wider d low high c = answered-no-wider a b v h d low high c
 
-  module _ (are-apart : apart (points a) (points b) ≡ true) where
+  module _ (are-apart : apart (corners a) (corners b) ≡ true) where
     abbrev n : Point
-    n = towards (points a) (points b) (nearest (points a) (points b))
+    n = towards (corners a) (corners b) (nearest (corners a) (corners b))
 
     -- and of shapes that are apart one is so wide: across the step between the nearest points, with a shape on either side
-    pub nearest-makes-corridor : Corridor (points a) (points b) n (support n (points b)) (least n (points a))
+    pub nearest-makes-corridor : Corridor (corners a) (corners b) n (support n (corners b)) (least n (corners a))
     nearest-makes-corridor = answered-corridor a b v h are-apart
 
-    pub nearest-corridor-is-as-wide : gapIn n (points a) (points b) *ℤ gapIn n (points a) (points b) *ℤ answerBottom v
+    pub nearest-corridor-is-as-wide : gapIn n (corners a) (corners b) *ℤ gapIn n (corners a) (corners b) *ℤ answerBottom v
         ≡ answerTop v *ℤ value n n
     nearest-corridor-is-as-wide = answered-wide a b v h are-apart

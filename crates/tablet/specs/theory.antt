@@ -5,4 +5,5 @@ pub mod Tested
 pub mod Reads
 pub mod Rows
 pub mod Value
+pub mod Refused
 pub mod Corner

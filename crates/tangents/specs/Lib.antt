@@ -1,4 +1,6 @@
--- What the search for a tangent compares; what the four tangents mean, in document 02's words; then the theory behind it.
+-- The rule that a tangent meets; what the search for one compares; what the four tangents mean, in document 02's words; then the theory
+-- behind it.
+pub mod Rule
 pub mod Draws
 pub mod Meaning
 pub mod theory

@@ -1,10 +1,14 @@
 -- The theory of lines that touch two lists of corners, which only proves.
-pub mod Counted
-pub mod Stays
-pub mod Walk
-pub mod Neighbours
-pub mod Lines
-pub mod Settled
-pub mod Only
-pub mod Search
+pub mod FiniteOrder
+pub mod Sides
+pub mod DrawsTest
+pub mod DrawsOrder
+pub mod NeighboursSuffice
+pub mod OneLine
+pub mod NearestOnLine
+pub mod EndStays
+pub mod SettledExists
+pub mod Touching
+pub mod TangentUnique
+pub mod TangentSearch
 pub mod Rows

@@ -21,7 +21,7 @@ pub struct Line {
 // apart. A corner on the line counts for either side; of several pairs on the line the nearest is meant. Between
 // points it is the line that joins them, and of shapes that all lie in one line it is the same for every kind. For
 // each corner of the second shape in turn the start walks on to where it rests, until the corner rests as well.
-// Ruled out: the far pair for the near one; sides taken strictly.
+// Ruled out: far pair for the near one; sides taken strictly.
 pub fn tangent(a: &[i32], b: &[i32], s: bool, t: bool) -> Line
     requires { ⌜ Valid (now a) × Valid (now b) × (apart (points (now a)) (points (now b)) ≡ true) ⌝ }
     ensures { λ r. ⌜ (r .from ≡ tangentFrom s t (points (now (a .entry))) (points (now (b .entry))))

@@ -16,15 +16,15 @@ use lib.IntN.{ℤ, pos}
 use lib.ListN.{length}
 use Rattle.plane.specs.Limits.{maxCorners, maxFloor}
 use Rattle.plane.specs.Point.{points}
-use Rattle.plane.specs.Reply.{Reply, answered, refused, row, firstRow}
+use Rattle.plane.specs.Reply.{Reply, answered, refused, row, firstRow, NoneApply}
 use Rattle.plane.specs.Refusal.{badCount, tooMany, shapeRows}
-use Rattle.plane.specs.Judge.{judged}
-use Rattle.plane.specs.Separation.{relationReply}
-use Rattle.plane.specs.Floor.{on, withFloor, floorRow, between}
+use Rattle.plane.specs.Separation.{relationNumber}
+use Rattle.plane.specs.Floor.{on, floorRow}
+use Rattle.plane.specs.Question.{reply, askJudge, askRelation}
 use Rattle.plane.specs.Floor.{pairRows as doorRows}
 use Rattle.plane.specs.theory.lists.Flat.{points-length}
 use Rattle.plane.specs.theory.refusals.Accept.{count-good}
-use Rattle.plane.specs.theory.refusals.Rows.{NoneApply, Outcome, given, passed, outcome, none-join}
+use Rattle.plane.specs.theory.refusals.Rows.{Outcome, given, passed, outcome, none-join}
 use Rattle.plane.specs.theory.refusals.Rows.{firstRow-append, firstRow-given, firstRow-none, firstRow-passed}
 use Rattle.journal.specs.Bytes.{wordsAt}
 use Rattle.journal.specs.theory.Decode.{wordsAt-length}
@@ -132,8 +132,8 @@ agrees which l s (odd h k) = both 1 (which ∷ []) (λ x. rw h) (λ x. rw k)
 agrees which l s (many h k p q) = both 2 (which ∷ []) (λ x. rw (h, p)) (λ x. rw (k, q))
 
 pub judged-same : (a : List ℕ) (s : List ℤ) → Alike (listOf a) s → (f h : ℕ) → (ltb maxFloor f ≡ false → h ≡ f)
-    → barred f (withFloor h (judged s)) ≡ judgedBytes a f
-unfolding judged judgedBytes
+    → barred f (reply (askJudge (on s h))) ≡ judgedBytes a f
+unfolding reply judgedBytes
 judged-same a s alike f h e = go (agrees 1 (listOf a) s alike)
   where
     count : List ℤ → ℕ
@@ -144,14 +144,14 @@ judged-same a s alike f h e = go (agrees 1 (listOf a) s alike)
     last true q = refl
     last false q = ap (λ (k : ℕ). answered (pos (count (listOf a)) ∷ pos k ∷ [])) (e q)
 
-    go : Agrees 1 (listOf a) s → barred f (withFloor h (firstRow (shapeRows 1 s) (answered (pos (count s) ∷ []))))
+    go : Agrees 1 (listOf a) s → barred f (firstRow (shapeRows 1 s) (answered (pos (count s) ∷ pos h ∷ [])))
         ≡ firstRow (judgedRows (listOf a) f) (answered (pos (count (listOf a)) ∷ pos f ∷ []))
     go (both n carries p q) =
-        ap (λ (r : Reply). barred f (withFloor h r)) (q _)
+        ap (barred f) (q _)
         ∙ sym (firstRow-append (shapeRows 1 (listOf a)) (row 13 (ltb maxFloor f) [] ∷ []) _ ∙ p _)
     go (none q n) =
-        ap (λ (l : List ℤ). barred f (withFloor h (firstRow (shapeRows 1 l) (answered (pos (count l) ∷ []))))) q
-        ∙ ap (λ (r : Reply). barred f (withFloor h r)) (firstRow-none (shapeRows 1 (listOf a)) _ n)
+        ap (λ (l : List ℤ). barred f (firstRow (shapeRows 1 l) (answered (pos (count l) ∷ pos h ∷ [])))) q
+        ∙ ap (barred f) (firstRow-none (shapeRows 1 (listOf a)) _ n)
         ∙ last (ltb maxFloor f) refl
         ∙ sym (firstRow-passed (shapeRows 1 (listOf a)) (row 13 (ltb maxFloor f) [] ∷ []) _ n)
 
@@ -201,11 +201,11 @@ agree-self s t h k p q =
     agree s s t t h k h k (equal refl) (equal refl) (passed-both h k (le-ltb maxFloor h p) (le-ltb maxFloor k q))
 
 pub relation-same : (a b : List ℕ) (s t : List ℤ) (f g h k : ℕ) → Agree (listOf a) f (listOf b) g s h t k
-    → between (on s h) (on t k) relationReply ≡ relationBytes a f b g
-unfolding between relationBytes
+    → reply (askRelation (on s h) (on t k)) ≡ relationBytes a f b g
+unfolding reply relationBytes
 relation-same a b s t f g h k (refusals n carries p q) = q _ ∙ sym (p _)
 relation-same a b s t f g h k (sames q q′ e n n′) =
     firstRow-none (doorRows (on s h) (on t k)) _ n′
-    ∙ ap₂ (λ (c d : List ℤ). withFloor h (relationReply c d)) q q′
-    ∙ ap (λ (i : ℕ). withFloor i (relationReply (listOf a) (listOf b))) e
+    ∙ ap₂ (λ (c d : List ℤ). answered (relationNumber (points c) (points d) ∷ pos h ∷ [])) q q′
+    ∙ ap (λ (i : ℕ). answered (relationNumber (points (listOf a)) (points (listOf b)) ∷ pos i ∷ [])) e
     ∙ sym (firstRow-none (pairRows (listOf a) f (listOf b) g) _ n)

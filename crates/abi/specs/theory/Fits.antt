@@ -1,6 +1,6 @@
 -- Every reply of the four calls has room in the bytes of its number.
 --     judged-fits, relation-fits, pair-fits
-use mathlib.Core.Path.{_≡_, refl, sym, ap, subst}
+use mathlib.Core.Path.{_≡_, refl}
 use mathlib.Core.Bool.{Bool, true, false, not, cond, _||_, true≢false}
 use mathlib.Core.List.{List, [], _∷_, _++_}
 use Prim.Native.Nat.{ℕ, _+_, _*_, _≤_, _<_}
@@ -14,11 +14,9 @@ use Rattle.plane.specs.Point.{Point, points, numbers}
 use Rattle.plane.specs.Reply.{Reply, answered, refused, Row, row, firstRow}
 use Rattle.plane.specs.Refusal.{badCount, tooMany, someOutside, equalPair, ruleBroken, badStart, shapeRows}
 use Rattle.plane.specs.Refusal.{breakingEdge, breakingCorner, brokenEdge, brokenCorner}
-use Rattle.plane.specs.Separation.{apart, touching, relationReply}
-use Rattle.plane.specs.Floor.{withFloor}
+use Rattle.plane.specs.Separation.{apart, touching, relationNumber}
 use Rattle.plane.specs.theory.lists.Sought.{first-le}
 use Rattle.plane.specs.theory.refusals.Accept.{few-corners}
-use Rattle.plane.specs.theory.refusals.Rows.{Outcome, given, passed, outcome, firstRow-given, firstRow-none}
 use Rattle.abi.specs.Lists.{listOf}
 use Rattle.abi.specs.Packing.{Fits}
 use Rattle.abi.specs.Calls.{judgedBytes, floorsRow, relationBytes, answerRows, pairBytes}
@@ -104,37 +102,18 @@ low-floor f g h = go (not (eqb f g)) (ltb maxFloor f) refl h
     go false true e h = absurd (true≢false h)
     go false false e h = omega (arith, ltb-false maxFloor f e, floor-small)
 
--- a reply of one value, and its floor
-fits-floor : (ws : List Row) (v : ℤ) (f : ℕ) → Fits (firstRow ws (answered (v ∷ []))) → f < 65536
-    → Fits (withFloor f (firstRow ws (answered (v ∷ []))))
-fits-floor ws v f h k = go (outcome ws)
-  where
-    go : Outcome ws → Fits (withFloor f (firstRow ws (answered (v ∷ []))))
-    go (given w e) = let is = firstRow-given (answered (v ∷ [])) e in subst Fits (sym (ap (withFloor f) is)) (subst Fits is h)
-    go (passed n) =
-        let is = firstRow-none ws (answered (v ∷ [])) n in
-        let one = subst Fits is h in
-        subst Fits (sym (ap (withFloor f) is))
-        (record { refusal-fits = omega arith; shape-fits = omega arith; first-fits = one .first-fits; second-fits = k })
-
 pub relation-fits : (a : List ℕ) (f : ℕ) (b : List ℕ) (g : ℕ) → Fits (relationBytes a f b g)
-unfolding relationBytes relationReply
+unfolding relationBytes relationNumber
 relation-fits a f b g =
     fits-shape 1 (omega arith) (listOf a) (shapeRows 2 (listOf b) ++ (floorsRow f g ∷ [])) _ (λ few.
     fits-shape 2 (omega arith) (listOf b) (floorsRow f g ∷ []) _ (λ few.
     fits-row (floorsRow f g) _ (plain 13 (omega arith)) (λ low.
-    fits-floor (shapeRows 1 (listOf a) ++ shapeRows 2 (listOf b)) _ f
-    (fits-shape 1 (omega arith) (listOf a) (shapeRows 2 (listOf b)) _ (λ few.
-    fits-shape 2 (omega arith) (listOf b) [] _ (λ few.
-    go (apart (points (listOf a)) (points (listOf b))) (touching (points (listOf a)) (points (listOf b)))))) (low-floor f g low))))
+    go (apart (points (listOf a)) (points (listOf b))) (touching (points (listOf a)) (points (listOf b))) (low-floor f g low))))
   where
-    one : (n : ℕ) → n < 65536 → Fits (answered (pos n ∷ []))
-    one n h = record { refusal-fits = omega arith; shape-fits = omega arith; first-fits = h; second-fits = omega arith }
-
-    go : (p q : Bool) → Fits (answered (cond p (pos 0) (cond q (pos 1) (pos 2)) ∷ []))
-    go true q = one 0 (omega arith)
-    go false true = one 1 (omega arith)
-    go false false = one 2 (omega arith)
+    go : (p q : Bool) → f < 65536 → Fits (answered (cond p (pos 0) (cond q (pos 1) (pos 2)) ∷ pos f ∷ []))
+    go true q h = answer-fits 0 f (omega arith) h
+    go false true h = answer-fits 1 f (omega arith) h
+    go false false h = answer-fits 2 f (omega arith) h
 
 pub pair-fits : (combined : List Point → List Point → List Point) (l : List ℤ) (f : ℕ) (m : List ℤ) (g : ℕ) (out : List ℕ)
     → Fits (pairBytes combined l f m g out .reply)

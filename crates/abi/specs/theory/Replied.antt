@@ -12,7 +12,8 @@ use lib.Seq.{length-take-le, take-at}
 use Rattle.plane.specs.Limits.{maxCorners, maxFloor}
 use Rattle.plane.specs.Point.{Point}
 use Rattle.plane.specs.Reply.{Reply}
-use Rattle.plane.specs.Floor.{on, writtenBetween}
+use Rattle.plane.specs.Floor.{on}
+use Rattle.plane.specs.Question.{reply, output}
 use Rattle.abi.specs.Packing.{firstField, packed, Fits}
 use Rattle.abi.specs.Calls.{stored}
 use Rattle.abi.specs.Passing.{asked, Room, Deliverable, Replied}
@@ -28,7 +29,7 @@ module _ (combined : List Point → List Point → List Point) (s : List ℤ) (h
   part : Room (length out) (length (take n shape))
   part = subst (Room (length out)) (sym taken) room
 
-  module _ {r : Reply} (asks : r ≡ writtenBetween (on s h) (on t k) (asked combined) (take n shape) .reply) where
+  module _ {r : Reply} (asks : r ≡ reply (asked combined (on s h) (on t k) (take n shape))) where
     pub asked-fits : h ≤ maxFloor → k ≤ maxFloor → Fits r
     asked-fits p q = subst Fits
         (sym (asks ∙ pair-same combined s h t k s h t k out (take n shape) part (agree-self s t h k p q))) (pair-fits combined s h t k out)
@@ -39,7 +40,7 @@ module _ (combined : List Point → List Point → List Point) (s : List ℤ) (h
         (pair-delivered combined s h t k s h t k out (take n shape) part (agree-self s t h k p q) (length (new ++ drop n shape))
         (omega (arith, same, length-append new (drop n shape))))
 
-    pub asked-replied : {new : List ℤ} → new ≡ writtenBetween (on s h) (on t k) (asked combined) (take n shape) .output
+    pub asked-replied : {new : List ℤ} → new ≡ output (asked combined (on s h) (on t k) (take n shape))
         → length new ≡ length (take n shape)
         → {x : ℕ} → x ≡ packed r → {after : List ℕ} → after ≡ stored r (take (2 * firstField r) (new ++ drop n shape)) out
         → Replied combined s h t k out x after

@@ -18,24 +18,23 @@ use mir.Syntax.{w32}
 use mir.Val.{SFits, ofZ}
 use mir.Facts.{fits-ofZ, fits-lt-pow}
 use Rattle.plane.specs.Point.{Point, points, numbers}
-use Rattle.plane.specs.Reply.{Reply, answered, refused, Row, firstRow}
-use Rattle.plane.specs.Refusal.{tooMany, someOutside, shapeRows}
-use Rattle.plane.specs.Output.{Written, noRoom, overwritten}
+use Rattle.plane.specs.Reply.{Reply, answered, refused, Row, firstRow, NoneApply}
+use Rattle.plane.specs.Refusal.{tooMany, someOutside}
+use Rattle.plane.specs.Output.{noRoom, overwritten, unlessRefused}
 use Rattle.plane.specs.Output.{answerRows as doorAnswerRows}
-use Rattle.plane.specs.Combine.{pairWritten}
-use Rattle.plane.specs.Floor.{on, between, writtenBetween}
+use Rattle.plane.specs.Floor.{on}
 use Rattle.plane.specs.Floor.{pairRows as doorRows}
+use Rattle.plane.specs.Question.{reply, output}
 use Rattle.plane.specs.theory.lists.Flat.{numbers-length}
 use Rattle.plane.specs.theory.refusals.Accept.{few-corners}
-use Rattle.plane.specs.theory.refusals.Floors.{between-rows}
-use Rattle.plane.specs.theory.refusals.Rows.{NoneApply, Outcome, given, passed, outcome, none-append}
+use Rattle.plane.specs.theory.refusals.Rows.{Outcome, given, passed, outcome, none-append}
 use Rattle.plane.specs.theory.refusals.Rows.{firstRow-append, firstRow-given, firstRow-none, firstRow-passed}
-use Rattle.plane.specs.theory.refusals.Write.{none-output, passed-output}
+use Rattle.plane.specs.theory.refusals.Rows.{none-output, passed-output}
 use Rattle.journal.specs.Bytes.{pair, word, words}
 use Rattle.journal.specs.theory.Bytes.{word-length, words-length}
 use Rattle.journal.specs.theory.Storing.{words-more}
 use Rattle.abi.specs.Packing.{firstField}
-use Rattle.abi.specs.Calls.{floorsRow, pairRows, answerRows, overBytes, stored, pairBytes}
+use Rattle.abi.specs.Calls.{pairRows, answerRows, overBytes, stored, pairBytes}
 use Rattle.abi.specs.Passing.{asked, Room, Deliverable}
 use Rattle.abi.specs.theory.Alike.{Agree, refusals, sames}
 
@@ -136,22 +135,17 @@ module _ (combined : List Point → List Point → List Point) (l : List ℤ) (f
   abbrev answer : Reply
   answer = answered (pos (length (combined (points l) (points m))) ∷ pos f ∷ [])
 
-  shapes-pass : NoneApply (pairRows l f m g) → NoneApply (shapeRows 1 l) × NoneApply (shapeRows 2 m)
-  shapes-pass n =
-      let first = none-append (shapeRows 1 l) (shapeRows 2 m ++ (floorsRow f g ∷ [])) n in
-      (first .0, none-append (shapeRows 2 m) (floorsRow f g ∷ []) (first .1) .0)
-
   pub pair-same : Agree l f m g s h t k
-      → writtenBetween (on s h) (on t k) (asked combined) old .reply ≡ pairBytes combined l f m g out .reply
-  unfolding between writtenBetween
+      → reply (asked combined (on s h) (on t k) old) ≡ pairBytes combined l f m g out .reply
+  unfolding reply
   pair-same (refusals n carries p q) =
-      q _ ∙ sym (firstRow-append (pairRows l f m g) (answerRows (combined (points l) (points m)) out) answer ∙ p _)
+      firstRow-append (doorRows (on s h) (on t k)) (doorAnswerRows (combined (points s) (points t)) old) _ ∙ q _
+      ∙ sym (firstRow-append (pairRows l f m g) (answerRows (combined (points l) (points m)) out) answer ∙ p _)
   pair-same (sames e e′ d n n′) =
       let shape = combined (points l) (points m) in
       let behind = doorAnswerRows (combined (points s) (points t)) old in
       let here = answered (pos (length (combined (points s) (points t))) ∷ pos h ∷ []) in
-      between-rows (on s h) (on t k) (λ a b. asked combined a b old .reply) behind _ refl
-      ∙ firstRow-passed (doorRows (on s h) (on t k)) behind here n′
+      firstRow-passed (doorRows (on s h) (on t k)) behind here n′
       ∙ ap₂ (λ (a b : List ℤ). let c = combined (points a) (points b) in
       firstRow (doorAnswerRows c old) (answered (pos (length c) ∷ pos h ∷ []))) e e′
       ∙ ap (λ (i : ℕ). firstRow (doorAnswerRows shape old) (answered (pos (length shape) ∷ pos i ∷ []))) d
@@ -159,7 +153,7 @@ module _ (combined : List Point → List Point → List Point) (l : List ℤ) (f
       ∙ sym (firstRow-passed (pairRows l f m g) (answerRows shape out) answer n)
 
   pub pair-delivered : Agree l f m g s h t k → (n : ℕ) → length old ≤ n
-      → Deliverable (writtenBetween (on s h) (on t k) (asked combined) old .reply) n (length out)
+      → Deliverable (reply (asked combined (on s h) (on t k) old)) n (length out)
   pair-delivered a n most = subst (λ (r : Reply). Deliverable r n (length out)) (sym (pair-same a)) (go (outcome rows))
     where
       go : Outcome rows → Deliverable (firstRow rows answer) n (length out)
@@ -171,29 +165,26 @@ module _ (combined : List Point → List Point → List Point) (l : List ℤ) (f
           let fit = room .enough (length shape) (few-corners shape (none .0)) bytes in
           subst (λ (r : Reply). Deliverable r n (length out)) (sym (firstRow-none rows answer p)) (omega (arith, fit, most), bytes)
 
-  module _ (buffer : List ℤ) (at : take (length old) buffer ≡ writtenBetween (on s h) (on t k) (asked combined) old .output) where
+  module _ (buffer : List ℤ) (at : take (length old) buffer ≡ output (asked combined (on s h) (on t k) old)) where
     -- the numbers that are answered stand at the front of the buffer
     fronted : s ≡ l → t ≡ m → NoneApply rows → NoneApply (doorRows (on s h) (on t k))
         → take (2 * length (combined (points l) (points m))) buffer ≡ numbers (combined (points l) (points m))
-    unfolding writtenBetween overwritten
+    unfolding output overwritten
     fronted e e′ n n′ =
         let shape = combined (points l) (points m) in
         let both = none-append (pairRows l f m g) (answerRows shape out) n in
-        let pass = shapes-pass (both .0) in
         let few = both .1 .0 in
         let fits = room .enough (length shape) (few-corners shape few) (ltb-false (length out) (8 * length shape) (both .1 .1 .1 .0)) in
-        let behind = shapeRows 2 m ++ doorAnswerRows shape old in
         let new = overwritten (numbers shape) old in
-        let written = at ∙ none-output (doorRows (on s h) (on t k)) old _ n′
-        ∙ ap₂ (λ (a b : List ℤ). asked combined a b old .output) e e′
-        ∙ passed-output (shapeRows 1 l) behind old new (pass .0)
-        ∙ passed-output (shapeRows 2 m) (doorAnswerRows shape old) old new (pass .1)
+        let written = at ∙ passed-output (doorRows (on s h) (on t k)) (doorAnswerRows (combined (points s) (points t)) old) old _ n′
+        ∙ ap₂ (λ (a b : List ℤ). let c = combined (points a) (points b) in
+        unlessRefused (doorAnswerRows c old) old (overwritten (numbers c) old)) e e′
         ∙ none-output (doorAnswerRows shape old) old new
         (few, (both .1 .1 .0, (room-same shape out old room few ∙ both .1 .1 .1 .0, tt))) in
         sym (take-take (2 * length shape) (length old) buffer fits) ∙ ap (take (2 * length shape)) written
         ∙ take-at (numbers shape) (drop (length (numbers shape)) old) (2 * length shape) (numbers-length shape)
 
-    pub pair-stored : Agree l f m g s h t k → let r = writtenBetween (on s h) (on t k) (asked combined) old .reply in
+    pub pair-stored : Agree l f m g s h t k → let r = reply (asked combined (on s h) (on t k) old) in
         stored r (take (2 * firstField r) buffer) out ≡ pairBytes combined l f m g out .output
     pair-stored a = ap (λ (r : Reply). stored r (take (2 * firstField r) buffer) out) (pair-same a) ∙ go a (outcome rows)
       where

@@ -6,7 +6,9 @@ use mir.Val.{toZ, ofZ}
 use mir.Facts.{toZ-ofZ}
 use borrow.Author.Needs.{needs}
 use Rattle.plane.specs.Point.{point}
+use Rattle.plane.specs.Reply.{here, later}
 use Rattle.plane.specs.Furthest.{badDirection, commonDivisor}
+use Rattle.admission.specs.theory.Judged.{refuses, passes, turns-away}
 use Rattle.admission.proofs.admit_direction.Statement.{statement}
 use Rattle.admission.proofs.admit_direction.Tie as tie
 
@@ -28,16 +30,16 @@ bad-direction-requires : tie.Need-bad-direction-requires
 bad-direction-requires c κs = search needs
 
 returns : tie.Need-returns
-returns c = record { whatever = λ x. rw (sym (bad-is (c .before)) ∙ c .if1 .taken) }
+returns c = turns-away (refuses (here (sym (bad-is (c .before)) ∙ c .if1 .taken)))
 
 common-divisor-requires : tie.Need-common-divisor-requires
 common-divisor-requires c κs = search needs
 
 returns-2 : tie.Need-returns-2
-returns-2 c = record { whatever = λ x. rw (row-11 (c .before .before), sym (common-is (c .before)) ∙ c .if2 .taken) }
+returns-2 c = turns-away (refuses (later (row-11 (c .before .before)) (here (sym (common-is (c .before)) ∙ c .if2 .taken))))
 
 returns-3 : tie.Need-returns-3
-returns-3 c = (row-11 (c .before .before), sym (common-is (c .before)) ∙ c .if2 .left)
+returns-3 c = passes (row-11 (c .before .before), (sym (common-is (c .before)) ∙ c .if2 .left, tt))
 
 pub admit-direction-spec : {M : Type 1} → statement M
 admit-direction-spec = tie.close (tie.spec bad-direction-requires returns common-divisor-requires returns-2 returns-3)

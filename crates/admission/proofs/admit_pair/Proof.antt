@@ -1,11 +1,13 @@
 -- `admit_pair` meets its contract: the first list's refusal is given before the second's, and that before 13.
-use mathlib.Core.Path.{_≡_, subst}
-use native.Mathlib.Omega.{arith}
+use mathlib.Core.Path.{_≡_}
+use mathlib.Core.List.{[], _∷_, _++_}
 use borrow.Author.Needs.{needs}
-use Rattle.plane.specs.Refusal.{Valid}
-use Rattle.plane.specs.Floor.{Floored, on}
-use Rattle.admission.specs.Admission.{Admitted}
-use Rattle.admission.specs.theory.Rows.{first-refused, second-refused, floors-refused}
+use Rattle.plane.specs.Reply.{NoneApply}
+use Rattle.plane.specs.Refusal.{shapeRows, Valid}
+use Rattle.plane.specs.Floor.{Floored, on, floorRow}
+use Rattle.plane.specs.theory.refusals.Accept.{valid→accepted}
+use Rattle.plane.specs.theory.refusals.Asked.{floors-first}
+use Rattle.admission.specs.theory.Judged.{refuses, refuses-append, refuses-join, passes, turns-away}
 use Rattle.admission.proofs.admit_pair.Statement.{statement}
 use Rattle.admission.proofs.admit_pair.Tie as tie
 
@@ -18,10 +20,14 @@ other c = on (c .args .b .now) (c .args .g)
 
 -- past its judging each is valid
 first : (c : tie.After-enum-told) → Valid (c .before .before .before .args .a .now)
-first c = subst (Admitted 1 _) (c .enum-told .given .1) (c .before .before .admit .ensures)
+first c = c .before .before .admit .ensures .valid (c .enum-told .given .1)
 
 second : (c : tie.After-enum-told2) → Valid (c .before .before .before .before .before .before .args .b .now)
-second c = subst (Admitted 2 _) (c .enum-told2 .given .1) (c .before .before .admit2 .ensures)
+second c = c .before .before .admit2 .ensures .valid (c .enum-told2 .given .1)
+
+-- the rows of the second list and 13, behind those of the first
+behind-first : (c : tie.After-enum-told) → NoneApply (shapeRows 1 (c .before .before .before .args .a .now))
+behind-first c = valid→accepted _ 1 (first c)
 
 admit-requires : tie.Need-admit-requires
 admit-requires c κs = search needs
@@ -32,7 +38,8 @@ enum-known-first c = search needs
 returns : tie.Need-returns
 returns c =
     let start = c .before .before .before .before in
-    first-refused (one start) (other start) (subst (Admitted 1 _) (c .before .first .given .1) (c .before .before .before .admit .ensures))
+    turns-away (refuses-append (shapeRows 2 (start .args .b .now) ++ (floorRow (start .args .f) (start .args .g) ∷ []))
+    (c .before .before .before .admit .ensures .no _ (c .before .first .given .1)))
 
 enum-told : tie.Need-enum-told
 enum-told c = search needs
@@ -47,8 +54,8 @@ returns-2 : tie.Need-returns-2
 returns-2 c =
     let at-second = c .before .before .before in
     let start = at-second .before .before .before .before in
-    second-refused (one start) (other start) (first (at-second .before))
-    (subst (Admitted 2 _) (c .before .second .given .1) (at-second .admit2 .ensures))
+    turns-away (refuses-join (shapeRows 1 (start .args .a .now)) (behind-first (at-second .before))
+    (refuses-append (floorRow (start .args .f) (start .args .g) ∷ []) (at-second .admit2 .ensures .no _ (c .before .second .given .1))))
 
 enum-told-2 : tie.Need-enum-told-2
 enum-told-2 c = search needs
@@ -58,12 +65,16 @@ returns-3 c =
     let at-told = c .before in
     let at-first = at-told .before .before .before in
     let start = at-first .before .before .before in
-    floors-refused (one start) (other start) (first at-first) (second at-told) (c .if1 .taken)
+    turns-away (refuses (floors-first (one start) (other start) (first at-first) (second at-told) (c .if1 .taken)))
 
 returns-4 : tie.Need-returns-4
 returns-4 c =
     let at-told = c .before in
-    (first (at-told .before .before .before), second at-told, c .if1 .left)
+    passes (record {
+      first-valid = first (at-told .before .before .before);
+      second-valid = second at-told;
+      one-floor = c .if1 .left;
+    })
 
 pub admit-pair-spec : {M : Type 1} → statement M
 admit-pair-spec =

@@ -3,9 +3,11 @@ use mathlib.Core.Path.{_≡_, sym, _∙_}
 use mathlib.Core.Bool.{false}
 use borrow.Author.Needs.{needs}
 use Rattle.plane.specs.Point.{points}
+use Rattle.plane.specs.Reply.{here, later}
 use Rattle.plane.specs.Refusal.{badCount}
 use Rattle.plane.specs.Sweep.{tooManyPoints}
-use Rattle.plane.specs.theory.sweep.SweepWritten.{accepted→points}
+use Rattle.plane.specs.theory.refusals.Points.{accepted→points}
+use Rattle.admission.specs.theory.Judged.{refuses, passes, turns-away}
 use Rattle.admission.proofs.admit_points.Statement.{statement}
 use Rattle.admission.proofs.admit_points.Tie as tie
 
@@ -23,13 +25,13 @@ bad-count-requires : tie.Need-bad-count-requires
 bad-count-requires c κs = search needs
 
 returns : tie.Need-returns
-returns c = record { whatever = λ x. rw (sym (c .before .bad-count .ensures) ∙ c .if1 .taken) }
+returns c = turns-away (refuses (here (sym (c .before .bad-count .ensures) ∙ c .if1 .taken)))
 
 too-many-points-requires : tie.Need-too-many-points-requires
 too-many-points-requires c κs = search needs
 
 returns-2 : tie.Need-returns-2
-returns-2 c = record { whatever = λ x. rw (row-1 (c .before .before), sym (c .before .too-many-points .ensures) ∙ c .if2 .taken) }
+returns-2 c = turns-away (refuses (later (row-1 (c .before .before)) (here (sym (c .before .too-many-points .ensures) ∙ c .if2 .taken))))
 
 some-outside-requires : tie.Need-some-outside-requires
 some-outside-requires c κs = search needs
@@ -37,12 +39,13 @@ some-outside-requires c κs = search needs
 returns-3 : tie.Need-returns-3
 returns-3 c =
     let at-2 = c .before .before in
-    record { whatever = λ x. rw (row-1 (at-2 .before .before), row-2 at-2, sym (c .before .some-outside .ensures) ∙ c .if3 .taken) }
+    turns-away (refuses (later (row-1 (at-2 .before .before)) (later (row-2 at-2)
+    (here (sym (c .before .some-outside .ensures) ∙ c .if3 .taken)))))
 
 returns-4 : tie.Need-returns-4
 returns-4 c =
     let at-2 = c .before .before in
-    accepted→points _ (row-1 (at-2 .before .before), (row-2 at-2, (sym (c .before .some-outside .ensures) ∙ c .if3 .left, tt)))
+    passes (accepted→points _ (row-1 (at-2 .before .before), (row-2 at-2, (sym (c .before .some-outside .ensures) ∙ c .if3 .left, tt))))
 
 pub admit-points-spec : {M : Type 1} → statement M
 admit-points-spec =

@@ -1,116 +1,86 @@
 -- A shape's numbers, written to an output.
---     numbers-outside     row 7 is asked of the numbers as they stand
---     little-room         row 8 applies
---     all-delivered       no row does: the numbers are copied
---     pair-delivered      what is delivered of the front of a buffer, where a shape made of two shapes stands; `front-paired`: its numbers
---     sweep-delivered     the same where the shape of a sweep stands
---     mirror-refused, sweep-refused     a list is refused; `mirror-answered`: the image is written
-use mathlib.Core.Path.{_≡_, sym, _∙_, ap, ap₂, subst}
-use mathlib.Core.Bool.{Bool, false}
+--     numbers-outside     row 7 is asked of the numbers as they are
+--     little-room, enough-room     row 8 applies, or does not
+--     copied              a copy of the list is the shape's numbers, and all after them is kept
+--     made-delivered      what is delivered of the front of a buffer, where the shape that a question makes is; `front-paired`: its numbers
+--     sweep-delivered     the same of the shape of a sweep
+use mathlib.Core.Path.{_≡_, sym, _∙_, ap, ap₂}
+use mathlib.Core.Bool.{Bool, true, false}
 use mathlib.Core.List.{List, [], _∷_, _++_}
 use Prim.Native.Nat.{ℕ, _%_, _*_, _+_, _≤_, _<_}
 use native.Mathlib.Omega.{arith}
 use borrow.Author.Tests.{lt-ltb, le-ltb}
-use lib.IntN.{ℤ, pos}
+use lib.IntN.{ℤ}
 use lib.ListN.{length, take, drop}
 use lib.Seq.{paste, take-length}
 use Rattle.plane.specs.Point.{Point, points, numbers}
-use Rattle.plane.specs.Reply.{Reply, answered, refused}
-use Rattle.plane.specs.Refusal.{tooMany, someOutside, shapeRows, Valid}
-use Rattle.plane.specs.Corner.{shapeOf, mirrored}
-use Rattle.plane.specs.Output.{Written, noRoom, answerRows, overwritten}
-use Rattle.plane.specs.Combine.{mirrorWritten, pairWritten}
-use Rattle.plane.specs.Floor.{Floored, withFloor, writtenBetween}
-use Rattle.plane.specs.Sweep.{pointRows, roomRows, ValidPoints, sweepWritten}
+use Rattle.plane.specs.Reply.{Reply}
+use Rattle.plane.specs.Refusal.{someOutside}
+use Rattle.plane.specs.Corner.{shapeOf}
+use Rattle.plane.specs.Output.{noRoom, sizeRows, roomRow, answerRows, overwritten}
+use Rattle.plane.specs.Sweep.{ValidPoints}
+use Rattle.plane.specs.Floor.{Floored, corners, Shapes, noShape, manyPoints, rowsOf, floorOf, Admitted}
+use Rattle.plane.specs.Question.{reply, output, makes, askSweep}
 use Rattle.plane.specs.theory.lists.Flat.{numbers-points}
-use Rattle.plane.specs.theory.refusals.Accept.{valid→accepted}
-use Rattle.plane.specs.theory.refusals.Write.{Wrote, wrote-room, wrote-all, written-passed}
-use Rattle.plane.specs.theory.mirror.Mirror.{topmost, mirror-known}
-use Rattle.plane.specs.theory.mirror.MirrorWritten.{mirror-written}
-use Rattle.plane.specs.theory.sweep.SweepWritten.{sweep-answered}
+use Rattle.plane.specs.theory.refusals.Rows.{firstRow-passed, passed-output}
+use Rattle.plane.specs.theory.refusals.Asked.{admitted→none}
+use Rattle.plane.specs.theory.sweep.SweepSize.{sweep-size}
 use Rattle.polygon.specs.Front.{Front}
 use Rattle.polygon.specs.theory.Fronts.{front-points, front-length}
-use Rattle.admission.specs.Delivery.{delivered}
-use Rattle.admission.specs.declared.Admission.the-variants as Admission
-use Rattle.admission.specs.Admission.{Refuses, AdmittedPair}
-use Rattle.admission.specs.theory.Rows.{refuses-written, refuses-carried, pair-written}
 
 module _ (l : List ℤ) (paired : length l % 2 ≡ 0) where
   pub numbers-outside : {t : Bool} → someOutside l ≡ t → someOutside (numbers (points l)) ≡ t
   numbers-outside h = ap someOutside (numbers-points l paired) ∙ h
 
-  module _ (old : List ℤ) (few : tooMany (points l) ≡ false) (near : someOutside (numbers (points l)) ≡ false) where
-    count : length (numbers (points l)) ≡ length l
-    count = ap length (numbers-points l paired)
+  count : length (numbers (points l)) ≡ length l
+  count = ap length (numbers-points l paired)
 
-    pub little-room : length old < length l → Wrote (answerRows (points l) old) (points l) old (refused 8 []) old
+  module _ (old : List ℤ) where
+    pub little-room : length old < length l → noRoom (points l) old ≡ true
     unfolding noRoom
-    little-room h = wrote-room few near (lt-ltb (length old) (length (numbers (points l))) (omega (arith, count)))
+    little-room h = lt-ltb (length old) (length (numbers (points l))) (omega (arith, count))
 
-    pub all-delivered : length l ≤ length old → {n : ℕ} {out : List ℤ} → n ≡ length (points l) → out ≡ paste old 0 l (length l)
-        → Wrote (answerRows (points l) old) (points l) old (answered (pos n ∷ [])) out
-    unfolding noRoom overwritten
-    all-delivered h {n} {out} e f =
-        let w = wrote-all few near (le-ltb (length old) (length (numbers (points l))) (omega (arith, count))) in
+    pub enough-room : length l ≤ length old → noRoom (points l) old ≡ false
+    unfolding noRoom
+    enough-room h = le-ltb (length old) (length (numbers (points l))) (omega (arith, count))
+
+    pub copied : {out : List ℤ} → out ≡ paste old 0 l (length l) → out ≡ overwritten (numbers (points l)) old
+    unfolding overwritten
+    copied f =
         let zero : 0 + length l ≡ length l = omega arith in
-        let written : out ≡ numbers (points l) ++ drop (length (numbers (points l))) old =
-        f ∙ ap₂ (λ k n. k ++ drop n old) (take-length l) zero ∙ ap (λ k. k ++ drop (length k) old) (sym (numbers-points l paired)) in
-        record {
-          reply-is = ap (λ k. answered (pos k ∷ [])) e ∙ w .reply-is;
-          output-is = written ∙ w .output-is;
-        }
+        f ∙ ap₂ (λ k n. k ++ drop n old) (take-length l) zero ∙ ap (λ k. k ++ drop (length k) old) (sym (numbers-points l paired))
 
--- ---- a shape that stands at the front of a buffer
+-- ---- a shape at the front of a buffer
 
 module _ {ps : List Point} {n : ℕ} {l : List ℤ} (f : Front ps n l) where
   pub front-paired : length (take (2 * n) l) % 2 ≡ 0
   front-paired = omega (arith, front-length f)
 
-  -- what is delivered of the front is written of the shape, behind the rows of two shapes
-  pub pair-delivered : (a b : Floored) → AdmittedPair a b Admission.Valid → (question : List ℤ → List ℤ → List ℤ → Written) (old : List ℤ)
-      → pairWritten (a .list) (b .list) ps old ≡ question (a .list) (b .list) old → {r : Reply} {out : List ℤ}
-      → r ≡ withFloor (a .floor) (delivered (points (take (2 * n) l)) old .reply)
-      → out ≡ delivered (points (take (2 * n) l)) old .output
-      → (r ≡ writtenBetween a b question old .reply) × (out ≡ writtenBetween a b question old .output)
-  pair-delivered a b s question old e h k =
-      let passed = written-passed (shapeRows 1 (a .list)) (shapeRows 2 (b .list) ++ answerRows ps old) ps old
-      (valid→accepted (a .list) 1 (s .0))
-      ∙ written-passed (shapeRows 2 (b .list)) (answerRows ps old) ps old (valid→accepted (b .list) 2 (s .1)) in
-      let same = ap (λ qs. delivered qs old) (front-points f) ∙ sym passed ∙ e in
-      pair-written a b s question old (h ∙ ap (λ (w : Written). withFloor (a .floor) (w .reply)) same)
-      (k ∙ ap (λ (w : Written). w .output) same)
+  -- it is delivered with the floor of the shapes it is made of
+  pub made-delivered : (s : Shapes) → Admitted s → (old : List ℤ) {r : Reply} {out : List ℤ}
+      → r ≡ reply (makes (noShape (floorOf s)) (points (take (2 * n) l)) old)
+      → out ≡ output (makes (noShape (floorOf s)) (points (take (2 * n) l)) old)
+      → (r ≡ reply (makes s ps old)) × (out ≡ output (makes s ps old))
+  unfolding reply output
+  made-delivered s good old h k = (
+    h ∙ ap (λ qs. reply (makes (noShape (floorOf s)) qs old)) (front-points f)
+        ∙ sym (firstRow-passed (rowsOf s) (answerRows ps old) _ (admitted→none s good)),
+    k ∙ ap (λ qs. output (makes (noShape (floorOf s)) qs old)) (front-points f)
+        ∙ sym (passed-output (rowsOf s) (answerRows ps old) old _ (admitted→none s good)),
+  )
 
--- what is delivered of the front is written of the shape of a sweep
-pub sweep-delivered : (list : List ℤ) {n : ℕ} {l : List ℤ} → Front (shapeOf (points list)) n l → ValidPoints list → (old : List ℤ)
-    (floor : ℕ) {r : Reply} {out : List ℤ} → r ≡ withFloor floor (delivered (points (take (2 * n) l)) old .reply)
-    → out ≡ delivered (points (take (2 * n) l)) old .output
-    → (r ≡ withFloor floor (sweepWritten list old .reply)) × (out ≡ sweepWritten list old .output)
-sweep-delivered list f v old floor h k =
-    let same = ap (λ s. delivered s old) (front-points f) ∙ sweep-answered list v old in
-    (h ∙ ap (λ (w : Written). withFloor floor (w .reply)) same, k ∙ ap (λ (w : Written). w .output) same)
-
--- a list that is refused: nothing is written
-pub mirror-refused : (l old : List ℤ) (floor : ℕ) {r : Reply} → Refuses (shapeRows 1 l) r
-    → (r ≡ withFloor floor (mirrorWritten l old .reply)) × (old ≡ mirrorWritten l old .output)
-unfolding mirrorWritten
-mirror-refused l old floor f =
-    let shape = shapeOf (mirrored (points l)) in
-    let w = refuses-written f (answerRows shape old) shape old in (refuses-carried f floor (w .reply-is), w .output-is)
-
-pub sweep-refused : (l old : List ℤ) (floor : ℕ) {r : Reply} → Refuses (pointRows l) r
-    → (r ≡ withFloor floor (sweepWritten l old .reply)) × (old ≡ sweepWritten l old .output)
-unfolding sweepWritten
-sweep-refused l old floor f =
-    let shape = shapeOf (points l) in
-    let w = refuses-written f (roomRows shape old) shape old in (refuses-carried f floor (w .reply-is), w .output-is)
-
-pub mirror-answered : (l : List ℤ) → Valid l → (old : List ℤ) → 2 * length (points l) ≤ length old → {n : ℕ} {out : List ℤ} → n
-    ≡ length (points l)
-    → out ≡ overwritten (numbers (shapeOf (mirrored (points l)))) old
-    → (answered (pos n ∷ []) ≡ mirrorWritten l old .reply) × (out ≡ mirrorWritten l old .output)
-mirror-answered l v old room e f =
-    let top = topmost (points l) (v .shape) in
-    let w = mirror-written l v old (top .0) (top .1) room in (
-      ap (λ k. answered (pos k ∷ [])) e ∙ w .0,
-      f ∙ ap (λ ps. overwritten (numbers ps) old) (mirror-known (points l) (v .shape) (top .0) (top .1)) ∙ w .1,
+-- 6 and 7 cannot come of a sweep, so it is delivered as any answer is
+pub sweep-delivered : (a : Floored) {n : ℕ} {l : List ℤ} → Front (shapeOf (corners a)) n l → ValidPoints (a .list) → (old : List ℤ)
+    {r : Reply} {out : List ℤ} → r ≡ reply (makes (noShape (a .floor)) (points (take (2 * n) l)) old)
+    → out ≡ output (makes (noShape (a .floor)) (points (take (2 * n) l)) old)
+    → (r ≡ reply (askSweep a old)) × (out ≡ output (askSweep a old))
+unfolding reply output
+sweep-delivered a f v old h k =
+    let made = made-delivered f (noShape (a .floor)) tt old h k in
+    let shape = shapeOf (corners a) in
+    let none = admitted→none (manyPoints a) v in (
+      made .0 ∙ firstRow-passed (sizeRows shape) (roomRow shape old ∷ []) _ (sweep-size (a .list) v)
+          ∙ sym (firstRow-passed (rowsOf (manyPoints a)) (roomRow shape old ∷ []) _ none),
+      made .1 ∙ passed-output (sizeRows shape) (roomRow shape old ∷ []) old _ (sweep-size (a .list) v)
+          ∙ sym (passed-output (rowsOf (manyPoints a)) (roomRow shape old ∷ []) old _ none),
     )

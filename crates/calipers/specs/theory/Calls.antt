@@ -1,7 +1,6 @@
 -- Calls of a sum in parts, one after the other: what all of them write.
 --     calls-front       the parts joined are the first corners, up to the last place
 --     whole-at-end      when the walk is over, all corners are written
---     total ks          so many corners may be written together
 --     calls-answered    with room for the sum, calls that may write any counts go on as far as these reach
 use mathlib.Core.Path.{_≡_, refl, sym, _∙_, ap, ap₂, subst}
 use mathlib.Core.Bool.{true, false}
@@ -13,27 +12,22 @@ use lib.IntN.{ℤ}
 use lib.ListN.{length, take, drop, length-take, length-drop}
 use lib.Seq.{take-all, take-add, drop-drop}
 use Rattle.plane.specs.Point.{Point, numbers}
-use Rattle.plane.specs.Output.{noRoom}
-use Rattle.plane.specs.Floor.{Floored}
+use Rattle.plane.specs.Reply.{NoneApply}
+use Rattle.plane.specs.Output.{sizeRows, noRoom}
+use Rattle.plane.specs.Floor.{Floored, Same}
 use Rattle.plane.specs.theory.lists.Flat.{numbers-append, numbers-length}
-use Rattle.plane.specs.theory.refusals.Rows.{NoneApply}
-use Rattle.plane.specs.theory.refusals.Floors.{Same}
 use Rattle.calipers.specs.Walk.{Walk, begun}
 use Rattle.calipers.specs.PlaceAfter.{wholeSum, placeAfter}
-use Rattle.calipers.specs.Part.{partCorners, handedBack, surveyRows}
-use Rattle.calipers.specs.Calls.{Calls, stop, part, refusal}
+use Rattle.calipers.specs.Part.{partCorners, handedBack}
+use Rattle.calipers.specs.Calls.{Calls, stop, part, refusal, total}
 use Rattle.calipers.specs.theory.Reached.{place-at}
 use Rattle.calipers.specs.theory.Parts.{part-from, handed-from, part-in, over-all}
-use Rattle.calipers.specs.theory.PartRows.{part-known, part-written, part-answered}
+use Rattle.calipers.specs.theory.PartAnswers.{part-known, part-written, part-answered}
 
 take-own : (k : ℕ) (ps : List Point) → take (length (take k ps)) ps ≡ take k ps
 take-own zero ps = refl
 take-own (suc k) [] = refl
 take-own (suc k) (p ∷ ps) = ap (λ (l : List Point). p ∷ l) (take-own k ps)
-
-abbrev pub total : List ℕ → ℕ
-total [] = 0
-total (k ∷ ks) = k + total ks
 
 module _ (a b : Floored) (one : Same a b) where
   abbrev S : List Point
@@ -92,7 +86,7 @@ module _ (a b : Floored) (one : Same a b) where
 
   -- ---- any counts
 
-  module _ (survey : NoneApply (surveyRows S)) (out : List ℤ) (room : length (numbers S) ≤ length out) where
+  module _ (size : NoneApply (sizeRows S)) (out : List ℤ) (room : length (numbers S) ≤ length out) where
     part-fits : (c k : ℕ) → c ≤ length S → noRoom (corners (place c) k) out ≡ false
     unfolding noRoom
     part-fits c k h = le-ltb (length out) (length (numbers (corners (place c) k))) (omega (
@@ -109,7 +103,7 @@ module _ (a b : Floored) (one : Same a b) where
     call-first c k h {ks} {x} r =
         let at = place-at (a .list) (b .list) (one .first-valid) (one .second-valid) c h in (
           _,
-          part k out (part-answered a b (place c) k out one survey at (part-fits c k h))
+          part k out (part-answered a b (place c) k out one size at (part-fits c k h))
               (subst (λ (y : Walk). Calls a b y ks (r .0) x) (sym (own-next c k h)) (r .1)),
         )
 

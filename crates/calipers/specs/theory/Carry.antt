@@ -65,8 +65,10 @@ module _ (A B : List Point) where
 pub here-small : {a b : List ℤ} {w : Walk} → At a b w → {p : Point} → p ≡ here (points a) (points b) w → Small (2 ^ 22) p
 unfolding here
 here-small {a} {b} {w} t e =
-    let first = round-within (length (points a)) (w .i) (t .first-shape .some) (omega (arith, edges-at-most (points a), t .standing .left-in)) in
-    let second = round-within (length (points b)) (w .j) (t .second-shape .some) (omega (arith, edges-at-most (points b), t .standing .right-in)) in
+    let first = round-within (length (points a)) (w .i) (t .first-shape .some)
+    (omega (arith, edges-at-most (points a), t .standing .left-in)) in
+    let second = round-within (length (points b)) (w .j) (t .second-shape .some)
+    (omega (arith, edges-at-most (points b), t .standing .right-in)) in
     small-plus (small-corner a (t .first-near) _ first refl) (small-corner b (t .second-near) _ second refl) e
 
 pub sides-walk : (w : Walk) (s t : Side) → s .at ≡ w .i → t .at ≡ w .j → walkOf s t (w .over) ≡ w

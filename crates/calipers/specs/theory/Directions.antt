@@ -1,5 +1,5 @@
 -- How many corners a sum has: one for each direction that an edge of one of the shapes has, and one if there is no edge.
---     sum-directions      `shared` counts the directions that both have (`EdgeCount` of the plane)
+--     sum-directions      `shared` counts the directions that both have
 --     sum-points          two points make a point
 use mathlib.Core.Path.{_≡_, refl, sym, _∙_, ap}
 use mathlib.Core.List.{List, [], _∷_}
@@ -10,14 +10,12 @@ use Rattle.plane.specs.Point.{Point, _⊕_}
 use Rattle.plane.specs.Shape.{IsShape}
 use Rattle.plane.specs.Corner.{shapeOf, sums}
 use Rattle.plane.specs.Forms.{edges, Sorted}
-use Rattle.plane.specs.VectorSum.{along, path}
+use Rattle.plane.specs.VectorSum.{along, path, joinEdges, vectorSum, shared}
 use Rattle.plane.specs.theory.sum.Path.{along-length}
 use Rattle.plane.specs.theory.forms.Standard.{shape→sorted}
-use Rattle.plane.specs.VectorSum.{joinEdges}
-use Rattle.plane.specs.theory.sum.EdgeSum.{joinEdges-comm, Joined, no-left, no-right, take-left, take-right, take-both, joined}
-use Rattle.plane.specs.VectorSum.{vectorSum}
-use Rattle.plane.specs.theory.sum.EdgeSum.{vectorSum-shape}
-use Rattle.plane.specs.theory.sum.EdgeCount.{shared, joinEdges-count}
+use Rattle.plane.specs.theory.sum.EdgeSum.{Joined, no-left, no-right, take-left, take-right, take-both, joined}
+use Rattle.plane.specs.theory.sum.EdgeSum.{joinEdges-comm, vectorSum-shape}
+use Rattle.plane.specs.theory.sum.EdgeCount.{joinEdges-count}
 
 -- joined, there are at least as many edges as in either list
 left-le : {E F G : List Point} → Joined E F G → length E ≤ length G

@@ -10,12 +10,13 @@ use native.Mathlib.Nat.{not-suc-le-zero}
 use native.Mathlib.Omega.{arith}
 use lib.IntN.{_+ℤ_}
 use lib.ListN.{length, take}
+use Rattle.plane.specs.Cut.{quarter}
 use Rattle.plane.specs.Point.{Point, corner, _⊕_}
 use Rattle.plane.specs.Shape.{IsShape}
 use Rattle.plane.specs.Direction.{value, support}
 use Rattle.plane.specs.Forms.{before, edges}
 use Rattle.plane.specs.Cycle.{cornerRound}
-use Rattle.plane.specs.theory.forms.Vector.{total, quarter, value-⊕}
+use Rattle.plane.specs.theory.forms.Vector.{total, value-⊕}
 use Rattle.plane.specs.theory.forms.Standard.{shape→sorted}
 use Rattle.plane.specs.theory.sum.Cut.{toCut, toCut-take, toCut-leave, value-toCut, cut-formula}
 use Rattle.plane.specs.theory.sum.Positions.{shape-in-order, round-total}

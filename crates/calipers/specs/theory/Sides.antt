@@ -20,7 +20,8 @@ use Rattle.plane.specs.Refusal.{InRange}
 use Rattle.plane.specs.Forms.{edges}
 use Rattle.plane.specs.Cycle.{round, cornerRound}
 use Rattle.plane.specs.theory.lists.Next.{next-below}
-use Rattle.plane.specs.theory.sum.Positions.{round-inner, round-within, round-step, edge-at, edge-corners, edges-at-most, edges-some, edges-few}
+use Rattle.plane.specs.theory.sum.Positions.{round-inner, round-within, round-step, edge-at, edge-corners}
+use Rattle.plane.specs.theory.sum.Positions.{edges-at-most, edges-some, edges-few}
 use Rattle.polygon.specs.Point.{Small}
 use Rattle.polygon.specs.theory.Small.{small-corner, small-edge, small-wide}
 use Rattle.calipers.specs.declared.side.Side.{Side}

@@ -17,11 +17,12 @@ use borrow.Author.Count.{below-more}
 use borrow.Author.Tests.{ltb-true, ltb-false, lt-ltb}
 use lib.Dec.{ltb}
 use lib.ListN.{length}
+use Rattle.plane.specs.Direction.{SameWay}
 use Rattle.plane.specs.Point.{Point, corner}
 use Rattle.plane.specs.Forms.{before, Before, InOrder}
 use Rattle.plane.specs.theory.lists.Sought.{true-not-false}
 use Rattle.plane.specs.theory.forms.Angle.{before-trans, before-reversed}
-use Rattle.plane.specs.theory.forms.SameWay.{SameWay, same-left, neither-same}
+use Rattle.plane.specs.theory.forms.SameWay.{same-left, neither-same}
 use Rattle.plane.specs.theory.sum.Positions.{in-order-at, in-order-non-zero}
 use Rattle.calipers.specs.Places.{takes, passed, Standing}
 

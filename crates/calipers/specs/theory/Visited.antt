@@ -1,8 +1,7 @@
 -- Every corner of all sums of two shapes stands at a place of the caliper walk, and at the place of its two parts.
 --     corner-parts        a corner of all sums is the sum of two points in one way only
 --     corner-visited      it stands at some place of the walk; `place-left-in`, `place-right-in`: these are corners of the lists
---     Visited A B i j     the walk comes to corner i of A together with corner j of B
---     place-of-corner     it does so where the sum of the two is a corner of all sums
+--     place-of-corner     the walk comes to two corners together where their sum is a corner of all sums
 use mathlib.Core.Path.{_≡_, sym, _∙_, ap, subst}
 use mathlib.Core.List.{List, [], _∷_, List·Memᴰ, Memᴰ·of-map}
 use Prim.Native.Nat.{ℕ, _<_}
@@ -10,12 +9,12 @@ use native.Mathlib.Omega.{arith}
 use lib.ListN.{length}
 use lib.Signed.{_≤ℤ_}
 use Rattle.integer.specs.Linear.{lia, linear, _&_}
-use Rattle.plane.specs.Point.{Point, corner, _⊕_}
+use Rattle.plane.specs.Point.{Point, corner, _⊕_, _∈_}
 use Rattle.plane.specs.Shape.{IsShape}
 use Rattle.plane.specs.Direction.{value}
 use Rattle.plane.specs.Corner.{Corner, sums}
 use Rattle.plane.specs.Forms.{edges}
-use Rattle.plane.specs.theory.lists.Members.{_∈_, point-path, point-discrete, sums-member, position-member}
+use Rattle.plane.specs.theory.lists.Members.{point-path, point-discrete, sums-member, position-member}
 use Rattle.plane.specs.theory.forms.Vector.{value-⊕, ⊕-comm}
 use Rattle.plane.specs.theory.support.Support.{value-le-support}
 use Rattle.plane.specs.theory.support.Corners.{corner-support}
@@ -23,7 +22,7 @@ use Rattle.plane.specs.theory.hull.ShapeOf.{corner-shapeOf}
 use Rattle.plane.specs.theory.sum.EdgeSum.{vectorSum-shape}
 use Rattle.plane.specs.Cycle.{round}
 use Rattle.plane.specs.theory.sum.Positions.{round-within, edges-at-most, corner-injective}
-use Rattle.calipers.specs.Places.{Place, places}
+use Rattle.calipers.specs.Places.{Place, places, Visited}
 use Rattle.calipers.specs.theory.PlaceCorners.{cornerAt, places-corners, places-pass}
 
 -- ---- one way only
@@ -69,13 +68,6 @@ module _ (A B : List Point) (sA : IsShape A) (sB : IsShape B) where
   pub place-right-in : {p : Place} → List·Memᴰ p (places (edges A) (edges B)) → round (length B) (p .right) < length B
   place-right-in {p} m = round-within (length B) (p .right) (sB .some)
       (omega (arith, edges-at-most B, places-pass (edges A) (edges B) m .right-most))
-
--- the walk comes to corner i of A together with corner j of B
-pub record Visited (A B : List Point) (i j : ℕ) : Type 0 where
-  pub at : Place
-  pub at-in : List·Memᴰ at (places (edges A) (edges B))
-  pub at-left : round (length A) (at .left) ≡ i
-  pub at-right : round (length B) (at .right) ≡ j
 
 pub place-of-corner : (A B : List Point) → IsShape A → IsShape B → (i j : ℕ) → i < length A → j < length B
     → Corner (sums A B) (corner A i ⊕ corner B j) → Visited A B i j

@@ -7,10 +7,10 @@ use mathlib.Core.List.{List}
 use Prim.Native.Nat.{ℕ, _<_}
 use lib.IntN.{ℤ}
 use lib.ListN.{length}
-use Rattle.plane.specs.Point.{Point, points}
+use Rattle.plane.specs.Point.{Point, points, _∈_}
 use Rattle.plane.specs.Refusal.{Valid}
 use Rattle.plane.specs.Corner.{Corner, shapeOf, sums}
-use Rattle.plane.specs.theory.lists.Members.{_∈_, sums-some, position-member}
+use Rattle.plane.specs.theory.lists.Members.{sums-some, position-member}
 use Rattle.plane.specs.theory.hull.ShapeOf.{shapeOf-corner}
 use Rattle.plane.specs.theory.sum.EdgeSum.{vectorSum-shape}
 use Rattle.calipers.specs.Walk.{here, begun, stepped, remaining}

@@ -77,8 +77,10 @@ faces c =
     let a = start .args .a .now in
     let b = start .args .b .now in
     stopped-facing (points a) (points b) (start .pre .0 .shape) (start .pre .1 .shape) (start .pre .2)
-    (subst (λ (D : List Point). Stopped D (at (c .facing .result))) (differences-are a b (start .pre .0 .shape) (start .pre .1 .shape .some))
-    (subst (λ (m : List ℤ). Stopped (vectorSum (points a) (points m)) (at (c .facing .result))) (front (at-image .before) .front) (c .facing .ensures .1)))
+    (subst (λ (D : List Point). Stopped D (at (c .facing .result)))
+    (differences-are a b (start .pre .0 .shape) (start .pre .1 .shape .some))
+    (subst (λ (m : List ℤ). Stopped (vectorSum (points a) (points m)) (at (c .facing .result))) (front (at-image .before) .front)
+    (c .facing .ensures .1)))
 
 first-reached-requires : tie.Need-first-reached-requires
 first-reached-requires c κs =
@@ -92,7 +94,8 @@ measured-requires c κs =
     let B = points (start .args .b .now) in (
       start .pre .0 .inRange,
       start .pre .1 .inRange,
-      subst (Measurable A B) (sym (c .first-reached .ensures)) (nearest-measurable A B (start .pre .0 .shape .some) (start .pre .1 .shape .some) _ (faces (c .before))),
+      subst (Measurable A B) (sym (c .first-reached .ensures))
+          (nearest-measurable A B (start .pre .0 .shape .some) (start .pre .1 .shape .some) _ (faces (c .before))),
     )
 
 returns : tie.Need-returns

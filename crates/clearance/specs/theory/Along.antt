@@ -13,11 +13,11 @@ use lib.Signed.{_≤ℤ_, _<ℤ_}
 use Rattle.integer.specs.Ring.{ring, reify}
 use Rattle.integer.specs.Linear.{linear, lia, _&_}
 use Rattle.integer.specs.Order.{_<×<_, _≤×≤_, _≡×_}
-use Rattle.plane.specs.Point.{Point, origin, _⊕_, _⊖_}
+use Rattle.plane.specs.Point.{Point, origin, _⊕_, _⊖_, _∈_}
 use Rattle.plane.specs.Turn.{turn, cross}
 use Rattle.plane.specs.Direction.{value}
 use Rattle.plane.specs.Mean.{times}
-use Rattle.plane.specs.theory.lists.Members.{_∈_, point-discrete}
+use Rattle.plane.specs.theory.lists.Members.{point-discrete}
 use Rattle.plane.specs.theory.forms.Vector.{value-origin}
 use Rattle.separation.specs.theory.Sector.{square-positive}
 

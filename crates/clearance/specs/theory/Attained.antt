@@ -22,7 +22,7 @@ use Rattle.plane.specs.Mean.{times, weight, heap, gap, Exactly}
 use Rattle.plane.specs.Clearance.{fallsOn, Candidate, corners, onSecond, onFirst, top, bottom}
 use Rattle.plane.specs.theory.lists.Members.{point-path}
 use Rattle.plane.specs.theory.lists.Next.{next-below}
-use Rattle.plane.specs.theory.forms.Vector.{quarter}
+use Rattle.plane.specs.Cut.{quarter}
 use Rattle.clearance.specs.Order.{Listed}
 use Rattle.clearance.specs.theory.Bound.{falls-inside, squared-back}
 use Rattle.clearance.specs.theory.Means.{unit, two}

@@ -17,11 +17,10 @@ use Rattle.integer.specs.Ring.{ring, reify}
 use Rattle.integer.specs.Linear.{linear, lia, _&_}
 use Rattle.integer.specs.Order.{_<×<_, _<×≤_, _≤×<_, _≡×_, Compared, is-below, is-equal, is-above, compared, contra<, contra≤}
 use Rattle.integer.specs.Order.{lt-or-le, weaken}
-use Rattle.plane.specs.Point.{Point, _⊕_, _⊖_}
+use Rattle.plane.specs.Point.{Point, _⊕_, _⊖_, _∈_}
 use Rattle.plane.specs.Turn.{turn, cross}
 use Rattle.plane.specs.Direction.{value}
 use Rattle.plane.specs.Mean.{times}
-use Rattle.plane.specs.theory.lists.Members.{_∈_}
 use Rattle.plane.specs.theory.forms.Vector.{cross-swap}
 use Rattle.clearance.specs.theory.Bound.{value-sym}
 use Rattle.clearance.specs.theory.Segments.{near, under, Inside, View, is-inside, past-first}

@@ -54,7 +54,8 @@ Tried test f g Nowhere = (k l : ℕ) → End f k → End g l → test k l ≡ tr
 
 module _ (test : ℕ → ℕ → Bool) (f g : Face) (f-order : f .first ≤ f .last) (g-order : g .first ≤ g .last) where
   -- what holds at the four pairs of ends holds at all
-  at-ends : (Good : ℕ → ℕ → Type 0) → Good (f .first) (g .first) → Good (f .first) (g .last) → Good (f .last) (g .first) → Good (f .last) (g .last)
+  at-ends : (Good : ℕ → ℕ → Type 0) → Good (f .first) (g .first) → Good (f .first) (g .last) → Good (f .last) (g .first)
+      → Good (f .last) (g .last)
       → (k l : ℕ) → End f k → End g l → Good k l
   at-ends Good a b c d k l (inl p) (inl q) = rw (p, q) a
   at-ends Good a b c d k l (inl p) (inr q) = rw (p, q) b
@@ -69,9 +70,11 @@ module _ (test : ℕ → ℕ → Bool) (f g : Face) (f-order : f .first ≤ f .l
   fails e h = absurd (false≢true (sym e ∙ h))
 
   pub tried-is : Tried test f g (tried test f g)
-  tried-is = go (test (f .first) (g .first)) refl (test (f .first) (g .last)) refl (test (f .last) (g .first)) refl (test (f .last) (g .last)) refl
+  tried-is =
+      go (test (f .first) (g .first)) refl (test (f .first) (g .last)) refl (test (f .last) (g .first)) refl (test (f .last) (g .last)) refl
     where
-      go : (p : Bool) → test (f .first) (g .first) ≡ p → (q : Bool) → test (f .first) (g .last) ≡ q → (r : Bool) → test (f .last) (g .first) ≡ r
+      go : (p : Bool) → test (f .first) (g .first) ≡ p → (q : Bool) → test (f .first) (g .last) ≡ q → (r : Bool)
+          → test (f .last) (g .first) ≡ r
           → (s : Bool) → test (f .last) (g .last) ≡ s → Tried test f g (pickedOf f g p q r s)
       go true a q b r c s d = record {
         one-end = inl refl;
@@ -104,10 +107,12 @@ module _ (test : ℕ → ℕ → Bool) (f g : Face) (f-order : f .first ≤ f .l
         one-end = inr refl;
         other-end = inr refl;
         passes = d;
-        none-sooner = at-ends (λ k l. test k l ≡ true → Sooner k l (f .last) (g .last) → ⊥) (λ h. fails a h) (λ h. fails b h) (λ h. fails c h)
+        none-sooner =
+            at-ends (λ k l. test k l ≡ true → Sooner k l (f .last) (g .last) → ⊥) (λ h. fails a h) (λ h. fails b h) (λ h. fails c h)
             (λ h. late (omega arith) (λ m. omega arith));
       }
-      go false a false b false c false d = at-ends (λ k l. test k l ≡ true → ⊥) (λ h. fails a h) (λ h. fails b h) (λ h. fails c h) (λ h. fails d h)
+      go false a false b false c false d =
+          at-ends (λ k l. test k l ≡ true → ⊥) (λ h. fails a h) (λ h. fails b h) (λ h. fails c h) (λ h. fails d h)
 
 -- ---- the tests of the code, and what is reached
 
@@ -173,7 +178,8 @@ value-of-none p = ring (p .x ∷ p .y ∷ []) (search reify depth 40) tt
 
 pub facing-some : {A B : List Point} {n : Point} → 0 < length A → 0 < length B → Facing A B n → NonZero n
 facing-some {A} {B} {n} a b h = record {
-  non-zero = λ e. <ℤ-irrefl (rw (e, value-of-none (corner A 0), value-of-none (corner B 0)) at (h .above (corner A 0) (corner B 0) (position-member A 0 a) (position-member B 0 b)));
+  non-zero = λ e. <ℤ-irrefl (rw (e, value-of-none (corner A 0), value-of-none (corner B 0)) at
+      (h .above (corner A 0) (corner B 0) (position-member A 0 a) (position-member B 0 b)));
 }
 
 module _ (A B : List Point) (n : Point) (s : IsShape A) (t : IsShape B) (h : Facing A B n) {f g : Face} (F : IsFace n A f)

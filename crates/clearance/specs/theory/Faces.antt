@@ -15,13 +15,14 @@ use Rattle.integer.specs.Ring.{ring, reify}
 use Rattle.integer.specs.Linear.{linear, lia, _&_}
 use Rattle.integer.specs.Order.{_<×<_, _<×≤_, _≡×_, Compared, is-below, is-equal, is-above, compared, contra<}
 use Rattle.integer.specs.Order.{lt-ltZ}
+use Rattle.plane.specs.Cut.{quarter}
 use Rattle.plane.specs.Point.{Point, corner, opposite, _⊖_}
 use Rattle.plane.specs.Turn.{cross}
 use Rattle.plane.specs.Shape.{next, IsShape}
 use Rattle.plane.specs.Direction.{value}
 use Rattle.plane.specs.Measure.{squared}
 use Rattle.plane.specs.Clearance.{falls, fallsOn, Candidate, corners, onSecond, onFirst}
-use Rattle.plane.specs.theory.forms.Vector.{quarter, value-turned}
+use Rattle.plane.specs.theory.forms.Vector.{value-turned}
 use Rattle.clearance.specs.Facing.{Lowest, Reached}
 use Rattle.clearance.specs.theory.Bound.{squared-back, value-⊖}
 use Rattle.clearance.specs.theory.First.{lowest-twice, turned-square}

@@ -4,6 +4,7 @@
 --     nearest-reached         the nearest is reached
 --     nearest-earliest        none that is reached is earlier
 --     nearest-is              so the first that is reached is the nearest
+--     nearest-no-further      no candidate is nearer
 --     tie-after               a candidate as near as the nearest is the nearest, or comes after it
 use mathlib.Core.Path.{_≡_, sym, _∙_}
 use mathlib.Core.Bool.{true}
@@ -289,6 +290,13 @@ module _ (A B : List Point) (a : 0 < length A) (b : 0 < length B) (n : Point) (f
       go : AtOrAfter (nearest A B) c → nearest A B ≡ c
       go (itself e) = sym e
       go (after k) = absurd (none (nearest A B) nearest-reached k)
+
+  pub nearest-no-further : (c : Candidate) → Listed A B c
+      → (top A B (nearest A B) *ℤ bottom A B c) ≤ℤ (top A B c *ℤ bottom A B (nearest A B))
+  unfolding noFurther
+  nearest-no-further c l = leZ-true (keep A B n (held-by .0) (held-by .1) (nearest A B) c
+      (good A B n (held-by .0) (held-by .1) (nearest A B) (nearest-listed A B n (held-by .0) (held-by .1) a b))
+      (good A B n (held-by .0) (held-by .1) c l) nearest-at)
 
   -- those of the same fraction are at the nearest or after it
   pub tie-after : (c : Candidate) → Listed A B c → top A B c *ℤ bottom A B (nearest A B) ≡ top A B (nearest A B) *ℤ bottom A B c

@@ -15,12 +15,12 @@ use Rattle.plane.specs.Point.{Point, corner, opposite}
 use Rattle.plane.specs.Shape.{next, IsShape}
 use Rattle.plane.specs.Direction.{value}
 use Rattle.plane.specs.Forms.{NonZero}
-use Rattle.plane.specs.Face.{faceFirst, faceLast}
+use Rattle.plane.specs.Face.{faceFirst, faceLast, Furthest, Face}
 use Rattle.plane.specs.theory.lists.Members.{position-member, member-position}
 use Rattle.plane.specs.theory.forms.Vector.{value-origin, value-turned}
 use Rattle.plane.specs.theory.support.Support.{value-le-support, support-unique}
 use Rattle.plane.specs.theory.face.Tied.{opposite-non-zero}
-use Rattle.plane.specs.theory.face.Face.{Furthest, Face, furthest-neighbours, face-is}
+use Rattle.plane.specs.theory.face.Face.{furthest-neighbours, face-is}
 use Rattle.clearance.specs.Facing.{Lowest}
 use Rattle.clearance.specs.Faces.{IsFace}
 

@@ -15,11 +15,11 @@ use lib.Signed.{_≤ℤ_, _<ℤ_, ≤ℤ-refl}
 use Rattle.integer.specs.Ring.{ring, reify}
 use Rattle.integer.specs.Linear.{linear, lia, _&_}
 use Rattle.integer.specs.Order.{_<×≤_, _≤×≤_, square-nonneg}
-use Rattle.plane.specs.Point.{Point, origin, corner, _⊕_}
+use Rattle.plane.specs.Point.{Point, origin, corner, _⊕_, _∈_}
 use Rattle.plane.specs.Turn.{cross}
 use Rattle.plane.specs.Direction.{value}
 use Rattle.plane.specs.Mean.{times, weight, heap, gap, share}
-use Rattle.plane.specs.theory.lists.Members.{_∈_, point-path}
+use Rattle.plane.specs.theory.lists.Members.{point-path}
 use Rattle.plane.specs.theory.forms.Vector.{value-origin}
 use Rattle.clearance.specs.theory.Bound.{lagrange}
 

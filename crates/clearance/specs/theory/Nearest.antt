@@ -1,5 +1,6 @@
 -- The nearest candidate is the least distance between points of the two shapes.
 --     nearest-least        no two points are nearer
+--     nearest-is-least     no candidate is nearer
 --     nearest-before-ties  candidates as near come after it
 --     nearest-attained     two points are as near (`Attained`)
 --     nearest-sym          exchanging the shapes gives the same distance
@@ -14,19 +15,20 @@ use lib.ListN.{length}
 use lib.Signed.{_≤ℤ_, _<ℤ_}
 use Rattle.integer.specs.Linear.{linear, lia, _&_}
 use Rattle.integer.specs.Order.{_<×<_, _<×≤_, _≡×_, contra≤, le-antisym}
-use Rattle.plane.specs.Point.{Point, corner, opposite}
+use Rattle.plane.specs.Point.{Point, corner, opposite, _∈_}
 use Rattle.plane.specs.Shape.{IsShape}
 use Rattle.plane.specs.Direction.{value, support}
 use Rattle.plane.specs.Separation.{apart}
 use Rattle.plane.specs.Mean.{times, weight, heap, gap, share, AtMost, CommonPoint}
 use Rattle.plane.specs.Clearance.{Candidate, top, bottom, nearest}
-use Rattle.plane.specs.theory.lists.Members.{_∈_, member-position}
+use Rattle.plane.specs.theory.lists.Members.{member-position}
 use Rattle.plane.specs.theory.forms.Vector.{value-origin, value-turned}
 use Rattle.plane.specs.theory.support.Support.{value-le-support, support-attained}
 use Rattle.separation.specs.theory.Apart.{apart→direction, apart-sym, Separated}
 use Rattle.clearance.specs.Order.{AtOrAfter, Listed}
 use Rattle.clearance.specs.Facing.{Facing}
-use Rattle.clearance.specs.theory.First.{Held, facing-held, held-square, nearest-at, nearest-listed, nearest-whole, tie-after}
+use Rattle.clearance.specs.theory.First.{Held, facing-held, held-square, nearest-at, nearest-listed, nearest-whole}
+use Rattle.clearance.specs.theory.First.{nearest-no-further, tie-after}
 use Rattle.clearance.specs.theory.Stop.{facing-exists}
 use Rattle.clearance.specs.theory.Means.{held-means, gap-value}
 use Rattle.clearance.specs.theory.Attained.{Attained, attained, opposite-square}
@@ -42,6 +44,10 @@ module _ (A B : List Point) (s : IsShape A) (t : IsShape B) (h : apart A B ≡ t
 
   pub nearest-is-whole : pos 0 <ℤ bottom A B (nearest A B)
   nearest-is-whole = let r = facing-held (facing .1) in nearest-whole A B (facing .0) (r .0) (r .1) (s .some) (t .some)
+
+  pub nearest-is-least : (c : Candidate) → Listed A B c
+      → (top A B (nearest A B) *ℤ bottom A B c) ≤ℤ (top A B c *ℤ bottom A B (nearest A B))
+  nearest-is-least = nearest-no-further A B (s .some) (t .some) (facing .0) (facing .1)
 
   pub nearest-before-ties : (c : Candidate) → Listed A B c → top A B c *ℤ bottom A B (nearest A B) ≡ top A B (nearest A B) *ℤ bottom A B c
       → AtOrAfter (nearest A B) c

@@ -6,10 +6,10 @@ use mathlib.Core.List.{List}
 use Prim.Native.Nat.{ℕ, _<_}
 use lib.IntN.{_-ℤ_}
 use lib.ListN.{length}
-use Rattle.plane.specs.Point.{Point, corner, _⊖_}
+use Rattle.plane.specs.Point.{Point, corner, _⊖_, _∈_}
 use Rattle.plane.specs.Direction.{value}
 use Rattle.plane.specs.Separation.{differences}
-use Rattle.plane.specs.theory.lists.Members.{_∈_, member-position}
+use Rattle.plane.specs.theory.lists.Members.{member-position}
 use Rattle.separation.specs.theory.Apart.{value-difference, member-difference}
 
 pub record Pair (A B : List Point) (x : Point) : Type 0 where

@@ -16,11 +16,10 @@ use Rattle.integer.specs.Ring.{ring, reify}
 use Rattle.integer.specs.Linear.{linear, lia, _&_}
 use Rattle.integer.specs.Order.{_<×<_, _<×≤_, _≤×≤_, contra≤}
 use Rattle.integer.specs.Order.{lt-or-le, square-nonneg, ltZ-true, ltZ-false, weaken}
-use Rattle.plane.specs.Point.{Point, _⊕_, _⊖_}
+use Rattle.plane.specs.Point.{Point, _⊕_, _⊖_, _∈_}
 use Rattle.plane.specs.Turn.{cross}
 use Rattle.plane.specs.Direction.{value}
 use Rattle.plane.specs.Mean.{times}
-use Rattle.plane.specs.theory.lists.Members.{_∈_}
 
 -- ---- the least of a list, by a total and transitive relation
 

@@ -16,16 +16,17 @@ use lib.IntN.{ℤ, pos, negℤ, _+ℤ_}
 use lib.ListN.{length}
 use lib.Signed.{_≤ℤ_, _<ℤ_, ≤ℤ-refl}
 use Rattle.integer.specs.Linear.{linear, lia, _&_}
-use Rattle.plane.specs.Point.{Point, corner, opposite, _⊕_, _⊖_}
+use Rattle.plane.specs.Cut.{quarter}
+use Rattle.plane.specs.Point.{Point, corner, opposite, _⊕_, _⊖_, _∈_}
 use Rattle.plane.specs.Turn.{turn, cross, Left, turn-cycle, turn-swap}
 use Rattle.plane.specs.Shape.{next, IsShape}
 use Rattle.plane.specs.Direction.{value, support}
 use Rattle.plane.specs.Corner.{shapeOf}
 use Rattle.plane.specs.Separation.{differences, apart}
 use Rattle.plane.specs.Clearance.{corners}
-use Rattle.plane.specs.theory.lists.Members.{_∈_, position-member, member-position}
+use Rattle.plane.specs.theory.lists.Members.{position-member, member-position}
 use Rattle.plane.specs.theory.lists.Next.{Following, onward, closing, following, next-below, preceding}
-use Rattle.plane.specs.theory.forms.Vector.{quarter, cross-self, value-turned, value-origin}
+use Rattle.plane.specs.theory.forms.Vector.{cross-self, value-turned, value-origin}
 use Rattle.plane.specs.theory.sum.Positions.{edge-turn}
 use Rattle.plane.specs.theory.support.Support.{value-le-support, support-le}
 use Rattle.plane.specs.theory.hull.ShapeOf.{shapeOf-shape, shapeOf-support, shapeOf-corner}

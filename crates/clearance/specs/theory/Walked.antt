@@ -82,7 +82,8 @@ module _ (A B : List Point) (s : IsShape A) (t : IsShape B) (h : apart A B ≡ t
           let p = apart→direction A B (s .some) (t .some) h in
           let u = p .direction in
           lia (value u (r .left) ∷ value u (r .right) ∷ value u (corner D 0) ∷ [])
-          (p .below (r .left) (r .right) (r .left-in) (r .right-in) & ap (value u) (r .is-difference) ∙ value-difference u (r .left) (r .right)
+          (p .below (r .left) (r .right) (r .left-in) (r .right-in) & ap (value u) (r .is-difference)
+          ∙ value-difference u (r .left) (r .right)
           & ap (value u) e ∙ value-origin u) (search linear depth 40) (omega arith)
 
   pub stopped-facing : {n : Point} → Stopped D n → Facing A B n

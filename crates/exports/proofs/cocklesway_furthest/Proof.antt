@@ -5,8 +5,8 @@ use lib.IntN.{ℤ, pos}
 use mir.Facts.{toZ-ofZ}
 use Rattle.plane.specs.Point.{Point, point}
 use Rattle.plane.specs.Reply.{Reply}
-use Rattle.plane.specs.Floor.{withFloor}
-use Rattle.plane.specs.Furthest.{furthestReply}
+use Rattle.plane.specs.Floor.{on}
+use Rattle.plane.specs.Question.{reply, askFurthest}
 use Rattle.questions.specs.Answer.{ofFurthest}
 use Rattle.exports.specs.Crossing.{crossed}
 use Rattle.exports.proofs.Small.{furthest-kept}
@@ -17,10 +17,10 @@ use Rattle.exports.proofs.cocklesway_furthest.Tie as tie
 -- the reply, in the direction itself and not in what is read back from its bits
 reply-is : (c : tie.After-furthest)
     → ofFurthest (c .furthest .result)
-    ≡ withFloor (c .before .args .floor) (furthestReply (c .before .args .list .now) (point (c .before .args .u) (c .before .args .v)))
+    ≡ reply (askFurthest (on (c .before .args .list .now) (c .before .args .floor)) (point (c .before .args .u) (c .before .args .v)))
 reply-is c =
     let direction = ap₂ point (toZ-ofZ (c .before .fits .u)) (toZ-ofZ (c .before .fits .v)) in
-    c .furthest .ensures ∙ ap (λ (d : Point). withFloor (c .before .args .floor) (furthestReply (c .before .args .list .now) d)) direction
+    c .furthest .ensures ∙ ap (λ (d : Point). reply (askFurthest (on (c .before .args .list .now) (c .before .args .floor)) d)) direction
 
 furthest-requires : tie.Need-furthest-requires
 furthest-requires c κs = search needs
@@ -41,7 +41,7 @@ returns c =
     let q = at .0 .1 .0 in
     let g = at .0 .1 .1 .1 .0 in
     let h = ap ofFurthest (sym (at .1)) ∙ reply-is (c .before .before .before) in
-    ap (λ (z : ℤ). pos 0 ∷ pos 0 ∷ pos p ∷ pos q ∷ z ∷ pos g ∷ []) (furthest-kept _ _ _ g p q _ h) ∙ ap (λ (x : Reply). crossed 4 x) h
+    ap (λ (z : ℤ). pos 0 ∷ pos 0 ∷ pos p ∷ pos q ∷ z ∷ pos g ∷ []) (furthest-kept _ _ g p q _ h) ∙ ap (λ (x : Reply). crossed 4 x) h
 
 returns-2 : tie.Need-returns-2
 returns-2 c =

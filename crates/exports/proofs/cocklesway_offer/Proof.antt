@@ -3,8 +3,8 @@ use mathlib.Core.Path.{_∙_, ap, ap₂}
 use mir.Facts.{toZ-ofZ}
 use Rattle.plane.specs.Point.{Point, point}
 use Rattle.plane.specs.Reply.{Reply}
-use Rattle.plane.specs.Floor.{on, between}
-use Rattle.plane.specs.Offer.{offerReply}
+use Rattle.plane.specs.Floor.{on}
+use Rattle.plane.specs.Question.{reply, askOffer}
 use Rattle.exports.specs.Crossing.{crossed}
 use borrow.Author.Needs.{needs}
 use Rattle.exports.proofs.cocklesway_offer.Statement.{statement}
@@ -22,8 +22,8 @@ returns c =
     let start = c .before .before in
     let direction = ap₂ point (toZ-ofZ (start .fits .u)) (toZ-ofZ (start .fits .v)) in
     c .of-offer .ensures ∙ ap (λ (x : Reply). crossed 6 x) (c .before .offer .ensures
-    ∙ ap (λ (d : Point). between (on (start .args .a .now) (start .args .f)) (on (start .args .b .now) (start .args .g))
-    (λ l m. offerReply l m d)) direction)
+    ∙ ap (λ (d : Point). reply (askOffer (on (start .args .a .now) (start .args .f)) (on (start .args .b .now) (start .args .g)) d))
+    direction)
 
 pub cocklesway-offer-spec : {M : Type 1} → statement M
 cocklesway-offer-spec = tie.close (tie.spec offer-requires of-offer-requires returns)

@@ -6,7 +6,8 @@
 --     alike-relation                    relation answers the same number
 --     alike-clearance                   of shapes apart, the clearance is the same fraction
 --     alike-shapeOf                     the shapes of two sets stand as the sets
-use mathlib.Core.Path.{_≡_, sym, _∙_, ap, ap₂}
+--     alike-lists                       and so do the corners that are read in the lists of their numbers
+use mathlib.Core.Path.{_≡_, sym, _∙_, ap, ap₂, subst}
 use mathlib.Core.Bool.{true, not, cond, _&&_}
 use mathlib.Core.List.{List, [], _∷_}
 use Prim.Native.Nat.{_<_}
@@ -16,12 +17,13 @@ use lib.ListN.{length}
 use lib.Signed.{_≤ℤ_, _<ℤ_}
 use Rattle.integer.specs.Linear.{linear, lia, _&_}
 use Rattle.integer.specs.Order.{_<×<_, _<×≤_, _≡×_, contra≤, le-antisym}
-use Rattle.plane.specs.Point.{Point, origin, opposite}
+use Rattle.plane.specs.Point.{Point, origin, points, numbers, opposite}
 use Rattle.plane.specs.Shape.{IsShape}
 use Rattle.plane.specs.Direction.{value, support}
 use Rattle.plane.specs.Corner.{shapeOf, mirrored}
-use Rattle.plane.specs.Separation.{inside, differences, apart, onRim, touching}
+use Rattle.plane.specs.Separation.{inside, differences, apart, onRim, touching, relationNumber}
 use Rattle.plane.specs.Clearance.{top, bottom, nearest}
+use Rattle.plane.specs.theory.lists.Flat.{points-numbers}
 use Rattle.plane.specs.theory.lists.Members.{mirrored-some}
 use Rattle.plane.specs.theory.support.Support.{value-le-support, support-sums, support-mirrored}
 use Rattle.plane.specs.theory.hull.ShapeOf.{shapeOf-support, shapeOf-shape, shape-known}
@@ -33,7 +35,6 @@ use Rattle.strips.specs.Strip.{least, gapIn, Corridor}
 use Rattle.strips.specs.OwnDirection.{towards}
 use Rattle.strips.specs.theory.Spread.{least-le-value}
 use Rattle.strips.specs.theory.Corridors.{corridor-no-wider, towards-corridor, towards-wide}
-use Rattle.growth.specs.Grown.{relationNumber}
 
 pub differences-reach : (A B : List Point) → 0 < length A → 0 < length B → (d : Point)
     → support d (differences A B) ≡ support d A +ℤ support (opposite d) B
@@ -126,3 +127,8 @@ alike-shapeOf {A} {B} {C} {D} k = record {
   fourth = k .fourth;
   reach = λ d. rw (shapeOf-support A (k .first) d, shapeOf-support C (k .third) d) (k .reach d);
 }
+
+pub alike-lists : {A B C D : List Point} → Alike A B C D
+    → Alike (points (numbers A)) (points (numbers B)) (points (numbers C)) (points (numbers D))
+alike-lists {A} {B} {C} {D} k = subst (λ (T : Type 0). T)
+    (λ i. Alike (sym (points-numbers A) i) (sym (points-numbers B) i) (sym (points-numbers C) i) (sym (points-numbers D) i)) k

@@ -1,7 +1,7 @@
 -- Larger carts, more obstacles, two carts: each is a line of arithmetic on how far the shapes reach.
 --     grown-larger-cart, grown-larger-obstacle     a larger cart, or a larger obstacle, makes a larger grown obstacle
 --     grown-merge                                  growing obstacles together is growing each
---     grown-sums, grown-twice                      growing by one outline and then by another is growing by their sum, or by its shape
+--     grown-twice                                  growing by one outline and then by another is growing by the shape of their sum
 --     grown-cancel                                 obstacles that grow alike are equal
 --     grown-shapeOf                                the shapes of two sets may stand for them
 -- Lists have a point: 0 < length.
@@ -10,7 +10,7 @@ use mathlib.Core.Bool.{true}
 use mathlib.Core.List.{List, [], _∷_, _++_}
 use Prim.Native.Nat.{_<_}
 use native.Mathlib.Omega.{arith}
-use lib.IntN.{_+ℤ_}
+use lib.IntN.{_+ℤ_, +ℤ-assoc}
 use lib.ListN.{length, length-append}
 use Rattle.integer.specs.Linear.{linear, lia, _&_}
 use Rattle.plane.specs.Point.{Point, opposite}
@@ -24,7 +24,7 @@ use Rattle.plane.specs.theory.support.Support.{support-append, support-sums}
 use Rattle.plane.specs.theory.hull.ShapeOf.{shapeOf-support, shapeOf-shape, shape-extensional}
 use Rattle.separation.specs.theory.Inside.{inside→reach, reach→inside, inside-refl}
 use Rattle.growth.specs.Grown.{grown}
-use Rattle.growth.specs.theory.Places.{grown-some, grown-shape, grown-reach}
+use Rattle.growth.specs.theory.Places.{grown-some, grown-shape, grown-reach, grown-known}
 
 -- ---- larger
 
@@ -47,21 +47,16 @@ grown-larger-obstacle B C A b c a h = grown-larger B C A A b c a a h (inside-ref
 
 module _ (B C A : List Point) (b : 0 < length B) (c : 0 < length C) (a : 0 < length A) where
   pub grown-merge : grown (B ++ C) A ≡ shapeOf (grown B A ++ grown C A)
-  grown-merge = shape-extensional (grown (B ++ C) A) (shapeOf (grown B A ++ grown C A)) (grown-shape (B ++ C) A both a)
-      (shapeOf-shape (grown B A ++ grown C A) each) reach
+  grown-merge = sym (grown-known (B ++ C) A (omega (arith, length-append B C)) a (shapeOf S) (shapeOf-shape S some)
+      (λ d. shapeOf-support S some d ∙ support-append d (grown B A) (grown C A) (grown-some B A b a) (grown-some C A c a)
+      ∙ ap₂ max (grown-reach B A b a d) (grown-reach C A c a d) ∙ sym (max-plus (support d B) (support d C) (support (opposite d) A))
+      ∙ ap (λ z. z +ℤ support (opposite d) A) (sym (support-append d B C b c))))
     where
-      both : 0 < length (B ++ C)
-      both = omega (arith, length-append B C)
+      S : List Point
+      S = grown B A ++ grown C A
 
-      each : 0 < length (grown B A ++ grown C A)
-      each = omega (arith, length-append (grown B A) (grown C A), grown-some B A b a)
-
-      reach : (d : Point) → support d (grown (B ++ C) A) ≡ support d (shapeOf (grown B A ++ grown C A))
-      reach d = grown-reach (B ++ C) A both a d ∙ ap (λ z. z +ℤ support (opposite d) A) (support-append d B C b c)
-          ∙ max-plus (support d B) (support d C) (support (opposite d) A)
-          ∙ ap₂ max (sym (grown-reach B A b a d)) (sym (grown-reach C A c a d))
-          ∙ sym (support-append d (grown B A) (grown C A) (grown-some B A b a) (grown-some C A c a))
-          ∙ sym (shapeOf-support (grown B A ++ grown C A) each d)
+      some : 0 < length S
+      some = omega (arith, length-append (grown B A) (grown C A), grown-some B A b a)
 
 -- ---- sets and their shapes
 
@@ -70,17 +65,12 @@ module _ (B A : List Point) (b : 0 < length B) (a : 0 < length A) where
   outline-some = shapeOf-shape A a .some
 
   grown-outline : grown B (shapeOf A) ≡ grown B A
-  grown-outline = shape-extensional (grown B (shapeOf A)) (grown B A) (grown-shape B (shapeOf A) b outline-some) (grown-shape B A b a)
-      (λ d. grown-reach B (shapeOf A) b outline-some d ∙ ap (λ z. support d B +ℤ z) (shapeOf-support A a (opposite d))
-      ∙ sym (grown-reach B A b a d))
+  grown-outline = grown-known B A b a (grown B (shapeOf A)) (grown-shape B (shapeOf A) b outline-some)
+      (λ d. grown-reach B (shapeOf A) b outline-some d ∙ ap (λ z. support d B +ℤ z) (shapeOf-support A a (opposite d)))
 
   grown-obstacle : grown (shapeOf B) A ≡ grown B A
-  grown-obstacle = shape-extensional (grown (shapeOf B) A) (grown B A) (grown-shape (shapeOf B) A some a) (grown-shape B A b a)
-      (λ d. grown-reach (shapeOf B) A some a d ∙ ap (λ z. z +ℤ support (opposite d) A) (shapeOf-support B b d)
-      ∙ sym (grown-reach B A b a d))
-    where
-      some : 0 < length (shapeOf B)
-      some = shapeOf-shape B b .some
+  grown-obstacle = let some = shapeOf-shape B b .some in grown-known B A b a (grown (shapeOf B) A) (grown-shape (shapeOf B) A some a)
+      (λ d. grown-reach (shapeOf B) A some a d ∙ ap (λ z. z +ℤ support (opposite d) A) (shapeOf-support B b d))
 
 pub grown-shapeOf : (B A : List Point) → 0 < length B → 0 < length A → grown (shapeOf B) (shapeOf A) ≡ grown B A
 grown-shapeOf B A b a = grown-obstacle B (shapeOf A) b (outline-some B A b a) ∙ grown-outline B A b a
@@ -88,12 +78,10 @@ grown-shapeOf B A b a = grown-obstacle B (shapeOf A) b (outline-some B A b a) �
 -- ---- two outlines
 
 module _ (B A D : List Point) (b : 0 < length B) (a : 0 < length A) (e : 0 < length D) where
-  pub grown-sums : grown (grown B A) D ≡ grown B (sums A D)
-  grown-sums = shape-extensional (grown (grown B A) D) (grown B (sums A D)) (grown-shape (grown B A) D (grown-some B A b a) e)
-      (grown-shape B (sums A D) b (sums-some A D a e)) (λ d. lia (support d (grown (grown B A) D) ∷ support d (grown B (sums A D))
-      ∷ support d (grown B A) ∷ support d B ∷ support (opposite d) A ∷ support (opposite d) D ∷ support (opposite d) (sums A D) ∷ [])
-      (grown-reach (grown B A) D (grown-some B A b a) e d & grown-reach B A b a d & grown-reach B (sums A D) b (sums-some A D a e) d
-      & support-sums (opposite d) A D a e) (search linear depth 40) (omega arith))
+  grown-sums : grown (grown B A) D ≡ grown B (sums A D)
+  grown-sums = grown-known B (sums A D) b (sums-some A D a e) (grown (grown B A) D) (grown-shape (grown B A) D (grown-some B A b a) e)
+      (λ d. grown-reach (grown B A) D (grown-some B A b a) e d ∙ rw (grown-reach B A b a d, support-sums (opposite d) A D a e)
+      (+ℤ-assoc (support d B) (support (opposite d) A) (support (opposite d) D)))
 
   pub grown-twice : grown (grown B A) D ≡ grown B (shapeOf (sums A D))
   grown-twice = grown-sums ∙ sym (grown-outline B (sums A D) b (sums-some A D a e))

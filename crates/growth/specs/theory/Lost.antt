@@ -1,5 +1,4 @@
 -- A shape is known by how points stand to it: of two shapes that differ, a corner of the one is apart from the other.
---     Differs p G H        p is apart from H and not from G
 --     answers-differ       a point inside G and not inside H is apart from H and not from G
 --     numbers-differ       and then relation answers different numbers
 --     shapes-differ        if G is not H, such a point is a corner of one of them
@@ -14,22 +13,17 @@ use Prim.Native.Nat.{ℕ, _<_}
 use native.Mathlib.Omega.{arith}
 use lib.IntN.{pos}
 use lib.ListN.{length}
-use Rattle.plane.specs.Point.{Point}
+use Rattle.plane.specs.Point.{Point, _∈_, _⊆_}
 use Rattle.plane.specs.Shape.{IsShape}
 use Rattle.plane.specs.Corner.{Corner}
-use Rattle.plane.specs.Separation.{inside, apart, touching}
-use Rattle.plane.specs.theory.lists.Members.{_∈_, _⊆_}
+use Rattle.plane.specs.Separation.{inside, touching, relationNumber}
 use Rattle.plane.specs.theory.hull.ShapeOf.{shapeOf-corner, shape-own}
 use Rattle.separation.specs.theory.Inside.{inside-refl, inside-antisym, outside→direction, direction→outside}
 use Rattle.separation.specs.theory.InsideShape.{inside→each}
-use Rattle.growth.specs.Grown.{grown, placed, relationNumber}
+use Rattle.growth.specs.Grown.{grown, placed, Differs}
 use Rattle.growth.specs.theory.Alike.{alike-relation}
 use Rattle.growth.specs.theory.Places.{grown-shape, place-alike, point-apart}
 use Rattle.growth.specs.theory.Laws.{grown-cancel}
-
--- p is apart from H and not from G
-abbrev pub Differs : Point → List Point → List Point → Type 0
-Differs p G H = (apart (p ∷ []) G ≡ false) × (apart (p ∷ []) H ≡ true)
 
 -- only of shapes apart the answer is 0
 pub numbers-differ : (p : Point) (G H : List Point) → Differs p G H → relationNumber (p ∷ []) G ≡ relationNumber (p ∷ []) H → ⊥

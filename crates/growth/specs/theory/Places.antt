@@ -1,5 +1,6 @@
 -- The cart at its places, and the obstacle grown by its outline.
 --     grown-some, grown-shape, grown-reach     the grown obstacle is a shape; how far it reaches
+--     grown-known                              a shape that reaches so far is the grown obstacle
 --     placed-shape, placed-reach               moving a shape gives a shape; how far it reaches
 --     place-alike                              the cart at t stands to the obstacle as the point t to the grown obstacle
 --     drive-alike                              the cart driving from t to u, as the segment from t to u
@@ -53,6 +54,12 @@ module _ (B A : List Point) (b : 0 < length B) (a : 0 < length A) where
   pub grown-reach : (d : Point) → support d (grown B A) ≡ support d B +ℤ support (opposite d) A
   unfolding grown
   grown-reach d = shapeOf-support (differences B A) (differences-some B A b a) d ∙ differences-reach B A b a d
+
+  pub grown-known : (ps : List Point) → IsShape ps → ((d : Point) → support d ps ≡ support d B +ℤ support (opposite d) A)
+      → ps ≡ grown B A
+  unfolding grown
+  grown-known ps s reach = shape-known ps (differences B A) s (differences-some B A b a)
+      (λ d. reach d ∙ sym (differences-reach B A b a d))
 
 -- ---- the cart at a place
 

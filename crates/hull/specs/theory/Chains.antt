@@ -11,11 +11,11 @@ use lib.IntN.{ℤ, pos}
 use lib.ListN.{length}
 use lib.Signed.{_≤ℤ_, _<ℤ_}
 use Rattle.integer.specs.Order.{weaken, lt-or-le, le-antisym}
-use Rattle.plane.specs.Point.{Point, corner}
+use Rattle.plane.specs.Point.{Point, corner, _∈_, _⊆_}
 use Rattle.plane.specs.Direction.{value, support}
 use Rattle.plane.specs.Shape.{IsShape}
 use Rattle.plane.specs.Corner.{push, scan, shapeOf}
-use Rattle.plane.specs.theory.lists.Members.{_∈_, _⊆_, lastOf, all-member, member-all, member-some, position-member}
+use Rattle.plane.specs.theory.lists.Members.{lastOf, all-member, member-all, member-some, position-member}
 use Rattle.plane.specs.theory.forms.Standard.{sorted→shape}
 use Rattle.plane.specs.theory.support.Support.{value-le-support, support-le, support-subset}
 use Rattle.plane.specs.theory.hull.Halves.{Onward, Sideways}

@@ -18,13 +18,13 @@ use lib.ListN.{length, List·getD-append}
 use lib.Seq.{getD-append-add}
 use lib.Signed.{_≤ℤ_}
 use Rattle.integer.specs.Linear.{lia, linear}
-use Rattle.plane.specs.Point.{Point, origin, points, corner}
+use Rattle.plane.specs.Point.{Point, origin, points, corner, _∈_}
 use Rattle.plane.specs.Turn.{turn, Left, turn-cycle}
 use Rattle.plane.specs.Direction.{value}
 use Rattle.plane.specs.Shape.{precedes, IsShape}
 use Rattle.plane.specs.Forms.{Precedes}
 use Rattle.plane.specs.Refusal.{InRange}
-use Rattle.plane.specs.theory.lists.Members.{_∈_, member-position, position-member}
+use Rattle.plane.specs.theory.lists.Members.{member-position, position-member}
 use Rattle.plane.specs.theory.hull.Halves.{Sideways, upward, downward, value-between}
 use Rattle.polygon.specs.Peak.{Peak}
 use Rattle.polygon.specs.theory.Peak.{least, left, rise, behind-peak, fall}

@@ -6,10 +6,10 @@ use mathlib.Core.List.{List, [], _∷_, _++_, List·Memᴰ·head, List·Memᴰ·
 use mathlib.Core.List.{Memᴰ·append-left}
 use mathlib.Core.Logic.{_⊎_, inl, inr, ⊎-elim}
 use Prim.Native.Nat.{ℕ}
-use Rattle.plane.specs.Point.{Point, corner}
+use Rattle.plane.specs.Point.{Point, corner, _∈_}
 use Rattle.plane.specs.Shape.{precedes, IsShape}
 use Rattle.plane.specs.Corner.{shapeOf}
-use Rattle.plane.specs.theory.lists.Members.{_∈_, position-member}
+use Rattle.plane.specs.theory.lists.Members.{position-member}
 use Rattle.plane.specs.theory.forms.Standard.{sorted→shape}
 use Rattle.plane.specs.theory.hull.ShapeOf.{shapeOf-same, shape-own}
 use Rattle.hull.specs.Order.{Ahead, foremost}

@@ -13,11 +13,11 @@ use Prim.Native.Nat.{ℕ, suc, _+_, _^_, _≤_, _<_}
 use native.Mathlib.Omega.{arith}
 use lib.IntN.{ℤ}
 use lib.ListN.{length, length-append}
-use Rattle.plane.specs.Point.{Point, points, corner}
+use Rattle.plane.specs.Point.{Point, points, corner, _∈_}
 use Rattle.plane.specs.Shape.{IsShape}
 use Rattle.plane.specs.Corner.{push, scan, shapeOf}
 use Rattle.plane.specs.Refusal.{Valid}
-use Rattle.plane.specs.theory.lists.Members.{_∈_, position-member}
+use Rattle.plane.specs.theory.lists.Members.{position-member}
 use Rattle.plane.specs.theory.forms.Precedes.{precedes-different}
 use Rattle.plane.specs.theory.hull.Hull.{circuit}
 use Rattle.polygon.specs.Point.{Small}

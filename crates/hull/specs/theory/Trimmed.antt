@@ -16,10 +16,9 @@ use lib.ListN.{length}
 use lib.Signed.{_≤ℤ_, _<ℤ_}
 use Rattle.integer.specs.Linear.{lia, linear}
 use Rattle.integer.specs.Order.{ltZ-true, ltZ-false}
-use Rattle.plane.specs.Point.{Point, corner}
+use Rattle.plane.specs.Point.{Point, corner, _∈_}
 use Rattle.plane.specs.Turn.{turn}
 use Rattle.plane.specs.Direction.{value}
-use Rattle.plane.specs.theory.lists.Members.{_∈_}
 use Rattle.plane.specs.theory.hull.Halves.{Sideways, value-between}
 use Rattle.hull.specs.Order.{Ahead, closed, Rises}
 use Rattle.hull.specs.Chain.{isRight, one, rowFirst, rowEnd, taken}

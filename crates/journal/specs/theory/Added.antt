@@ -6,8 +6,8 @@
 --     unfinished-seen               where it was cut or refused, the records are as before
 --     enough-allowed, nothing-allowed, one-more-allowed                    what an allowance comes to
 --     sound-added                   where no record is bad, 15 does not come
-use mathlib.Core.Path.{_≡_, refl, sym, _∙_, ap, ap₂}
-use mathlib.Core.Bool.{Bool, true, false, cond, _&&_, true≢false}
+use mathlib.Core.Path.{_≡_, refl, sym, _∙_, ap}
+use mathlib.Core.Bool.{Bool, true, false, cond, true≢false, or-false}
 use mathlib.Core.List.{List, [], _∷_, _++_}
 use Prim.Native.Nat.{ℕ, suc, _*_, _-_, _≤_, _<_}
 use native.Mathlib.Omega.{arith}
@@ -17,20 +17,20 @@ use lib.ListN.{length, take, set, replicate}
 use lib.Seq.{set-out, take-all}
 use lib.IntN.{ℤ, pos}
 use Rattle.plane.specs.Point.{points}
-use Rattle.plane.specs.Reply.{Reply, answered, refused, Row, row}
+use Rattle.plane.specs.Reply.{Reply, answered, refused, Row, NoneApply, First}
 use Rattle.plane.specs.Refusal.{Valid}
-use Rattle.plane.specs.Output.{written, noRoom}
-use Rattle.plane.specs.theory.lists.Flat.{points-length}
-use Rattle.plane.specs.theory.refusals.Rows.{NoneApply, First, here, later, Outcome, given, passed, outcome, firstRow-given, firstRow-none}
-use Rattle.plane.specs.theory.refusals.Rows.{firstRow-answered, firstRow-refused}
+use Rattle.plane.specs.Output.{roomRow}
+use Rattle.plane.specs.Floor.{on, noShape}
+use Rattle.plane.specs.Question.{written, writes}
+use Rattle.plane.specs.theory.refusals.Rows.{Outcome, given, passed, outcome, firstRow-given, firstRow-none}
+use Rattle.plane.specs.theory.refusals.Rows.{firstRow-answered, firstRow-refused, first-applies}
 use Rattle.plane.specs.theory.refusals.Accept.{accepted→valid}
-use Rattle.plane.specs.Floor.{Floored, on, writtenOn}
 use Rattle.journal.specs.Format.{recorded, records, name, content}
-use Rattle.journal.specs.Reading.{damaged, latest, readWritten, showing}
+use Rattle.journal.specs.Reading.{damaged, latest, askRead}
 use Rattle.journal.specs.Adding.{Store, end, stores, made, addRows, addReply, unlessRefusal, added}
 use Rattle.journal.specs.History.{isFinished}
-use Rattle.journal.specs.theory.Read.{recorded-entry, recorded-name, recorded-content, recorded-good}
-use Rattle.journal.specs.theory.Reading.{showing-some, read-sound, sound-snoc, latest-snoc}
+use Rattle.journal.specs.theory.Read.{recorded-entry, recorded-name, recorded-floor, recorded-list, recorded-good}
+use Rattle.journal.specs.theory.Reading.{valid-some, showing-some, read-sound, sound-snoc, latest-snoc}
 use Rattle.journal.specs.theory.Stores.{one-byte, left, withNew, stores-done, stores-few, cut-seen}
 
 pub record Accepted (b : List ℕ) (n f : ℕ) (l : List ℤ) : Type 0 where
@@ -45,9 +45,6 @@ accepted b n f l none =
       sound = later .0;
       room = ltb-false _ _ (later .1 .0);
     }
-
-valid-some : (l : List ℤ) → Valid l → 0 < length l
-valid-some l v = omega (arith, v .shape .some, points-length l)
 
 -- ---- the reply and the log
 
@@ -135,24 +132,19 @@ module _ (b : List ℕ) (n f : ℕ) (l : List ℤ) (k : ℕ) where
       named : name (recorded n f l) ≡ n
       named = recorded-name n f l (finished-accepted .valid) name-fits
 
-      -- what a name reads, by whether it is this one
-      read-by : (m : ℕ) (t : Bool) → eqb (name (recorded n f l)) m ≡ t
-          → readWritten (added b n f l k .log) m out ≡ showing (cond t (content (recorded n f l)) (latest m (records b))) out
-      read-by m t e =
-          read-sound (added b n f l k .log) m out finished-sound
-          ∙ ap (λ (x : Floored). showing x out)
-          (finished-latest m ∙ ap (λ (u : Bool). cond u (content (recorded n f l)) (latest m (records b))) e)
-
-      pub finished-read : f < 65536 → readWritten (added b n f l k .log) n out
-          ≡ writtenOn f (written (row 8 (noRoom (points l) out) [] ∷ []) (points l) out)
+      pub finished-read : f < 65536 → written (askRead (added b n f l k .log) n out)
+          ≡ written (writes (noShape f) (roomRow (points l) out ∷ []) (points l) out)
       finished-read floor-fits =
-          read-by n true (eq-eqb _ n named)
-          ∙ ap (λ (x : Floored). showing x out) (recorded-content n f l (finished-accepted .valid) floor-fits)
-          ∙ showing-some (on l f) out (valid-some l (finished-accepted .valid))
+          let valid = finished-accepted .valid in
+          read-sound (added b n f l k .log) n out finished-sound
+          ∙ rw (finished-latest n, eq-eqb _ n named, recorded-list n f l valid, recorded-floor n f l valid floor-fits)
+          (showing-some (on l f) out (valid-some l valid))
 
-      pub finished-others : (m : ℕ) → (m ≡ n → ⊥) → readWritten (added b n f l k .log) m out ≡ readWritten b m out
+      pub finished-others : (m : ℕ) → (m ≡ n → ⊥) → written (askRead (added b n f l k .log) m out) ≡ written (askRead b m out)
       finished-others m other =
-          read-by m false (ne-eqb _ m (λ e. other (sym e ∙ named))) ∙ sym (read-sound b m out (finished-accepted .sound))
+          let before = sym (read-sound b m out (finished-accepted .sound)) in
+          read-sound (added b n f l k .log) m out finished-sound
+          ∙ rw (finished-latest m, ne-eqb _ m (λ e. other (sym e ∙ named))) before
 
   -- ---- one that was cut or refused
 
@@ -195,19 +187,9 @@ one-more-allowed b n f l k = go (outcome (addRows b n f l))
 
 -- ---- refusal 15
 
--- no row of this number applies
-abbrev Without : ℕ → List Row → Type 0
-Without x [] = Unit {0}
-Without x (w ∷ ws) = ((eqb (w .number) x && w .applies) ≡ false) × Without x ws
-
-absent : {w : Row} {ws : List Row} (x : ℕ) → Without x ws → First w ws → w .number ≡ x → ⊥
-absent {w} x without (here e) same =
-    true≢false (sym (ap₂ (λ (s t : Bool). s && t) (eq-eqb (w .number) x same) e) ∙ without .0)
-absent x without (later e f) same = absent x (without .1) f same
-
 pub sound-added : (b : List ℕ) → damaged (records b) ≡ false → (n f : ℕ) (l : List ℤ) (k : ℕ) (c : List ℕ)
     → added b n f l k .reply ≡ refused 15 c → ⊥
 unfolding added addReply
 sound-added b sound n f l k c h =
     let first = firstRow-refused (addRows b n f l) _ 15 c h in
-    absent 15 (refl, (refl, (refl, (refl, (refl, (sound, (refl, tt))))))) (first .1) (first .2)
+    true≢false (sym (first-applies 15 (first .1) (first .2)) ∙ or-false _ ∙ sound)

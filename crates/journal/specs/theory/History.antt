@@ -2,18 +2,19 @@
 -- finished, or the one from before.
 --     after-sound, after-read    from a log with no bad record, of either kind
 --     fresh-sound, fresh-read    a new log is one, and holds nothing
---     Recorded r, written-sound  r is a recorded shape, of either kind; a log of such records is one, whatever is torn behind them
+--     written-sound              a log of recorded shapes is one, whatever is torn behind them
 use mathlib.Core.Path.{_≡_, refl, sym, _∙_, ap, ap₂}
 use mathlib.Core.Bool.{Bool, true, false, cond, _&&_, _||_, and-false, and-true}
-use mathlib.Core.Logic.{_⊎_, ⊎-elim}
+use mathlib.Core.Logic.{⊎-elim}
 use mathlib.Core.List.{List, [], _∷_}
 use Prim.Native.Nat.{ℕ}
 use lib.Dec.{eqb}
 use lib.IntN.{ℤ}
-use Rattle.plane.specs.Refusal.{Valid}
 use Rattle.plane.specs.Floor.{Floored, on}
-use Rattle.journal.specs.Format.{records, recordedPlain, recorded, bad}
-use Rattle.journal.specs.Reading.{damaged, latest, readWritten, showing}
+use Rattle.plane.specs.Question.{written}
+use Rattle.journal.specs.Format.{records, bad}
+use Rattle.journal.specs.Reading.{damaged, latest, askRead, showing}
+use Rattle.journal.specs.Facts.{Recorded, AllRecorded}
 use Rattle.journal.specs.History.{Addition, fresh, step, after, isFinished, finishes, lastSince, lastFinished}
 use Rattle.journal.specs.theory.Records.{records-none}
 use Rattle.journal.specs.theory.Read.{recorded-name, recorded-content, recorded-good, plain-good}
@@ -56,9 +57,9 @@ after-latest n [] b = refl
 after-latest n (h ∷ hs) b = after-latest n hs (step h b .log) ∙ ap (λ (x : Floored). lastSince x n hs (step h b .log)) (next-latest h b n)
 
 pub after-read : (hs : List Addition) (b : List ℕ) → damaged (records b) ≡ false → (n : ℕ) (out : List ℤ)
-    → readWritten (after hs b) n out ≡ showing (lastSince (latest n (records b)) n hs b) out
+    → written (askRead (after hs b) n out) ≡ written (showing (lastSince (latest n (records b)) n hs b) out)
 after-read hs b d n out =
-    read-sound (after hs b) n out (after-sound hs b d) ∙ ap (λ (x : Floored). showing x out) (after-latest n hs b)
+    read-sound (after hs b) n out (after-sound hs b d) ∙ ap (λ (x : Floored). written (showing x out)) (after-latest n hs b)
 
 -- ---- a new log
 
@@ -66,28 +67,17 @@ pub fresh-sound : (m : ℕ) → damaged (records (fresh m)) ≡ false
 fresh-sound m = ap damaged (records-none (fresh m) (zeros-torn m))
 
 pub fresh-read : (hs : List Addition) (m n : ℕ) (out : List ℤ)
-    → readWritten (after hs (fresh m)) n out ≡ showing (lastFinished n hs (fresh m)) out
+    → written (askRead (after hs (fresh m)) n out) ≡ written (showing (lastFinished n hs (fresh m)) out)
 fresh-read hs m n out =
     after-read hs (fresh m) (fresh-sound m) n out
-    ∙ ap (λ (rs : List (List ℕ)). showing (lastSince (latest n rs) n hs (fresh m)) out) (records-none (fresh m) (zeros-torn m))
+    ∙ ap (λ (rs : List (List ℕ)). written (showing (lastSince (latest n rs) n hs (fresh m)) out)) (records-none (fresh m) (zeros-torn m))
 
 -- ---- a log that was written to
 
-pub record Recorded (r : List ℕ) : Type 0 where
-  pub name : ℕ
-  pub floor : ℕ
-  pub list : List ℤ
-  pub valid : Valid list
-  pub is : (r ≡ recordedPlain name list) ⊎ (r ≡ recorded name floor list)
-
-abbrev pub AllRecorded : List (List ℕ) → Type 0
-AllRecorded [] = Unit {0}
-AllRecorded (r ∷ rs) = Recorded r × AllRecorded rs
-
 recorded-sound : (r : List ℕ) → Recorded r → bad r ≡ false
 recorded-sound r w =
-    ⊎-elim (λ e. ap bad e ∙ plain-good (w .name) (w .list) (w .valid))
-    (λ e. ap bad e ∙ recorded-good (w .name) (w .floor) (w .list) (w .valid)) (w .is)
+    ⊎-elim (λ e. ap bad e ∙ plain-good (w .name) (w .numbers) (w .valid))
+    (λ e. ap bad e ∙ recorded-good (w .name) (w .floor) (w .numbers) (w .valid)) (w .is)
 
 pub written-sound : (rs : List (List ℕ)) → AllRecorded rs → damaged rs ≡ false
 written-sound [] ws = refl

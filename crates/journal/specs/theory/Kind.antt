@@ -2,17 +2,24 @@
 --     neither                              a test of two that fails
 --     fixed-least, fixed-most              how many bytes a record has besides its corners
 --     floored-if, plain-if, fixed-floored  which tells the kind
---     Good r, good→facts, facts→good       what a record is that is not bad
-use mathlib.Core.Path.{_≡_, refl, ap, ap₂}
+--     judged-valid, valid-judged           judging answers exactly if the list is a shape
+--     good→facts, facts→good               what a record is that is not bad
+use mathlib.Core.Path.{_≡_, refl, sym, _∙_, ap, ap₂}
 use mathlib.Core.Bool.{Bool, true, false, not, cond, _||_, true≢false}
 use mathlib.Core.Logic.{_⊎_, inl, inr}
 use mathlib.Core.List.{List}
-use Prim.Native.Nat.{ℕ, _+_, _*_, _-_, _/_, _%_, _≤_, _<_}
+use Prim.Native.Nat.{ℕ, _-_, _/_, _%_, _≤_, _<_}
 use native.Mathlib.Omega.{arith}
 use borrow.Author.Tests.{ltb-false, le-ltb, eqb-true, eq-eqb, not-false}
 use lib.Dec.{eqb, ltb}
-use Rattle.plane.specs.Judge.{judged}
-use Rattle.journal.specs.Format.{fixedBytes, size, kind, list, isAnswer, wrongLength, otherKind, bad}
+use lib.IntN.{ℤ}
+use Rattle.plane.specs.Reply.{Reply, answered, refused}
+use Rattle.plane.specs.Refusal.{Valid}
+use Rattle.plane.specs.Floor.{on}
+use Rattle.plane.specs.Question.{askJudge}
+use Rattle.plane.specs.theory.refusals.Asked.{asked-shapes, asked-none, rest-none}
+use Rattle.journal.specs.Format.{fixedBytes, size, kind, list, judged, isAnswer, wrongLength, otherKind, bad}
+use Rattle.journal.specs.Facts.{Good}
 
 pub neither : (a b : Bool) → (a || b) ≡ false → (a ≡ false) × (b ≡ false)
 neither true b h = absurd (true≢false h)
@@ -59,11 +66,17 @@ module _ (k : ℕ) where
 
 -- ---- not bad
 
-pub record Good (r : List ℕ) : Type 0 where
-  pub kind-is : (kind r ≡ 1) ⊎ (kind r ≡ 2)
-  pub corners : ℕ
-  pub length-is : size r ≡ fixedBytes (kind r) + 8 * corners
-  pub shape : isAnswer (judged (list r)) ≡ true
+-- what judging answers is a shape
+module _ (l : List ℤ) where
+  pub judged-valid : isAnswer (judged l) ≡ true → Valid l
+  judged-valid h = go (judged l) refl
+    where
+      go : (r : Reply) → judged l ≡ r → Valid l
+      go (answered v) e = asked-shapes (askJudge (on l 0)) v e
+      go (refused n c) e = absurd (true≢false (sym h ∙ ap isAnswer e))
+
+  pub valid-judged : Valid l → isAnswer (judged l) ≡ true
+  valid-judged v = ap isAnswer (asked-none (askJudge (on l 0)) (rest-none (askJudge (on l 0)) v tt))
 
 -- the kinds that a record may have
 one-or-two : (k : ℕ) → otherKind k ≡ false → (k ≡ 1) ⊎ (k ≡ 2)
@@ -94,7 +107,7 @@ module _ (r : List ℕ) where
         kind-is = one-or-two (kind r) (rest .0);
         corners = (size r - fixed) / 8;
         length-is = omega arith;
-        shape = not-false (isAnswer (judged (list r))) (rest .1);
+        shape = judged-valid (list r) (not-false (isAnswer (judged (list r))) (rest .1));
       }
 
   pub facts→good : Good r → bad r ≡ false
@@ -103,4 +116,4 @@ module _ (r : List ℕ) where
       ap₂ (λ (a b : Bool). a || b)
       (ap₂ (λ (a b : Bool). a || not b) (le-ltb (size r) fixed (omega (arith, g .length-is)))
       (eq-eqb ((size r - fixed) % 8) 0 (omega (arith, g .length-is))))
-      (ap₂ (λ (a b : Bool). a || not b) (no-other (kind r) (g .kind-is)) (g .shape))
+      (ap₂ (λ (a b : Bool). a || not b) (no-other (kind r) (g .kind-is)) (valid-judged (list r) (g .shape)))

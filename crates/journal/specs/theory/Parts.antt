@@ -12,7 +12,8 @@ use native.Mathlib.Omega.{arith}
 use lib.ListN.{length, getD, replicate, length-replicate}
 use Rattle.journal.specs.Bytes.{pairAt}
 use Rattle.journal.specs.Format.{size, whole}
-use Rattle.journal.specs.theory.Records.{Whole, whole→facts, facts→whole}
+use Rattle.journal.specs.Facts.{Whole}
+use Rattle.journal.specs.theory.Records.{whole→facts, facts→whole}
 
 abbrev pub part : ℕ → List ℕ → List ℕ
 part zero t = replicate (length t) 0

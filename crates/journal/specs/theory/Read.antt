@@ -18,17 +18,12 @@ use mir.Val.{SFits}
 use Rattle.integer.specs.Bound.{within-widen}
 use Rattle.integer.specs.Machine.{within-fits}
 use Rattle.plane.specs.Limits.{maxCorners, coordinate-small}
-use Rattle.plane.specs.Point.{points}
-use Rattle.plane.specs.Reply.{answered}
-use Rattle.plane.specs.Refusal.{shapeRows, Valid}
-use Rattle.plane.specs.Judge.{judged}
+use Rattle.plane.specs.Refusal.{Valid}
 use Rattle.plane.specs.theory.lists.Flat.{points-length}
-use Rattle.plane.specs.theory.refusals.Rows.{firstRow-none}
-use Rattle.plane.specs.theory.refusals.Accept.{valid→accepted}
 use Rattle.journal.specs.Bytes.{pair, pairAt, words, wordsAt}
 use Rattle.plane.specs.Floor.{on}
 use Rattle.journal.specs.Format.{lastByte, fixedBytes, recordedAs, recorded, recordedPlain, size, kind, name, floor, list}
-use Rattle.journal.specs.Format.{content, isAnswer, bad}
+use Rattle.journal.specs.Format.{content, bad}
 use Rattle.journal.specs.theory.Bytes.{pair-length, words-length, getD-past, pairAt-past, wordsAt-past, pairAt-take, wordsAt-take}
 use Rattle.journal.specs.theory.Bytes.{pairAt-pair, wordsAt-words}
 use Rattle.journal.specs.theory.Kind.{fixed-least, fixed-most, fixed-floored, facts→good}
@@ -161,16 +156,12 @@ module _ (k n : ℕ) (e : List ℕ) (l : List ℤ) (behind-name : fixedBytes k �
           ap (λ (i : ℕ). wordsAt ((size (recordedAs k n e l) - fixedBytes i) / 4) (recordedAs k n e l) (1 + fixedBytes i)) as-kind
           ∙ ap (λ (c : ℕ). wordsAt c (recordedAs k n e l) (1 + fixedBytes k)) count ∙ numbers-back
 
-      accepted : judged l ≡ answered (pos (length (points l)) ∷ [])
-      unfolding judged
-      accepted = firstRow-none (shapeRows 1 l) _ (valid→accepted l 1 v)
-
       as-good : (k ≡ 1) ⊎ (k ≡ 2) → bad (recordedAs k n e l) ≡ false
       as-good known = facts→good (recordedAs k n e l) (record {
         kind-is = subst (λ (i : ℕ). (i ≡ 1) ⊎ (i ≡ 2)) (sym as-kind) known;
         corners = length l / 2;
         length-is = omega (arith, as-size, ap fixedBytes as-kind, v .paired);
-        shape = ap (λ m. isAnswer (judged m)) as-list ∙ ap isAnswer accepted;
+        shape = subst Valid (sym as-list) v;
       })
 
 -- ---- of kind 2

@@ -1,7 +1,7 @@
 -- Reading, by the log's records alone.
---     FirstBad, first-bad        what `badPlace` is
+--     first-bad                  what `badPlace` is
 --     read-same                  logs with the same records read alike
---     showing-some               what is read where a name has a shape
+--     showing-some               what is read where a name has a shape; `valid-some`: then it has a number
 --     read-sound                 a log with no bad record is read so
 --     sound-snoc, latest-snoc    one record more
 use mathlib.Core.Path.{_≡_, refl, sym, _∙_, ap, ap₂}
@@ -13,28 +13,18 @@ use borrow.Author.Tests.{ne-eqb}
 use lib.Dec.{eqb}
 use lib.ListN.{length, length-append}
 use lib.IntN.{ℤ}
-use Rattle.plane.specs.Point.{points}
-use Rattle.plane.specs.Reply.{Reply, answered, refused, row}
-use Rattle.plane.specs.Refusal.{badCount}
-use Rattle.plane.specs.Judge.{judged}
-use Rattle.plane.specs.Output.{Written, written, noRoom}
-use Rattle.plane.specs.Floor.{Floored, withFloor, writtenOn}
-use Rattle.journal.specs.Format.{records, name, list, content, isAnswer, bad}
-use Rattle.journal.specs.Reading.{damaged, badPlace, held, nothing, latest, readWritten, showing}
+use Rattle.plane.specs.Refusal.{Valid}
+use Rattle.plane.specs.Output.{roomRow}
+use Rattle.plane.specs.Floor.{Floored, corners, noShape}
+use Rattle.plane.specs.Question.{reply, output, written, writes}
+use Rattle.plane.specs.theory.lists.Flat.{points-length}
+use Rattle.journal.specs.Format.{records, name, list, content, bad}
+use Rattle.journal.specs.Reading.{damaged, badPlace, held, nothing, latest, askRead, showing}
 use Rattle.journal.specs.Adding.{joined}
+use Rattle.journal.specs.Facts.{FirstBad}
 use Rattle.journal.specs.theory.Kind.{neither, good→facts}
 
 -- ---- the first bad record
-
--- of these records, `one` is the first that is bad, and stands at this place
-pub record FirstBad (rs : List (List ℕ)) (place : ℕ) : Type 0 where
-  pub before : List (List ℕ)
-  pub one : List ℕ
-  pub behind : List (List ℕ)
-  pub all : rs ≡ before ++ one ∷ behind
-  pub sound : damaged before ≡ false
-  pub is-bad : bad one ≡ true
-  pub at : place ≡ length (joined before)
 
 pub first-bad : (rs : List (List ℕ)) → damaged rs ≡ true → FirstBad rs (badPlace rs)
 first-bad [] d = absurd (true≢false (sym d))
@@ -93,14 +83,11 @@ module _ (r : List ℕ) where
 
 -- ---- a log
 
--- a list that is accepted has a number
-accepted-some : (l : List ℤ) → isAnswer (judged l) ≡ true → eqb (length l) 0 ≡ false
-unfolding judged badCount
-accepted-some [] h = absurd (true≢false (sym h))
-accepted-some (z ∷ l) h = ne-eqb (length (z ∷ l)) 0 (λ e. omega arith)
+pub valid-some : (l : List ℤ) → Valid l → 0 < length l
+valid-some l v = omega (arith, v .shape .some, points-length l)
 
 good-some : (r : List ℕ) → bad r ≡ false → eqb (length (list r)) 0 ≡ false
-good-some r h = accepted-some (list r) (good→facts r h .shape)
+good-some r h = ne-eqb (length (list r)) 0 (λ e. omega (arith, valid-some (list r) (good→facts r h .shape)))
 
 held-latest : (n : ℕ) (rs : List (List ℕ)) → damaged rs ≡ false → not (held n rs) ≡ eqb (length (latest n rs .list)) 0
 held-latest n [] d = refl
@@ -116,33 +103,15 @@ held-latest n (r ∷ rs) d =
     go false false h g = refl
 
 -- a list with a corner is found
-pub showing-some : (found : Floored) (out : List ℤ) → 0 < length (found .list) → let shape = points (found .list) in
-    showing found out ≡ writtenOn (found .floor) (written (row 8 (noRoom shape out) [] ∷ []) shape out)
-showing-some found out h =
-    let shape = points (found .list) in
-    ap (λ (b : Bool). writtenOn (found .floor) (written (row 19 b [] ∷ row 8 (noRoom shape out) [] ∷ []) shape out))
-    (ne-eqb (length (found .list)) 0 (λ e. omega arith))
+pub showing-some : (found : Floored) (out : List ℤ) → 0 < length (found .list)
+    → written (showing found out) ≡ written (writes (noShape (found .floor)) (roomRow (corners found) out ∷ []) (corners found) out)
+unfolding reply output
+showing-some found out h = rw (ne-eqb (length (found .list)) 0 (λ e. omega arith))
 
 module _ (b : List ℕ) (n : ℕ) (out : List ℤ) where
-  pub read-same : (c : List ℕ) → records b ≡ records c → readWritten b n out ≡ readWritten c n out
-  unfolding readWritten
-  read-same c e = ap reading e
-    where
-      reading : List (List ℕ) → Written
-      reading rs =
-          let shape = points (latest n rs .list) in
-          writtenOn (latest n rs .floor)
-          (written (row 15 (damaged rs) (badPlace rs ∷ []) ∷ row 19 (not (held n rs)) [] ∷ row 8 (noRoom shape out) [] ∷ []) shape out)
+  pub read-same : (c : List ℕ) → records b ≡ records c → written (askRead b n out) ≡ written (askRead c n out)
+  read-same c e = rw e
 
-  pub read-sound : damaged (records b) ≡ false → readWritten b n out ≡ showing (latest n (records b)) out
-  unfolding readWritten
-  read-sound d = ap₂ reading d (held-latest n (records b) d)
-    where
-      found : Floored
-      found = latest n (records b)
-
-      reading : Bool → Bool → Written
-      reading a h =
-          let shape = points (found .list) in
-          writtenOn (found .floor)
-          (written (row 15 a (badPlace (records b) ∷ []) ∷ row 19 h [] ∷ row 8 (noRoom shape out) [] ∷ []) shape out)
+  pub read-sound : damaged (records b) ≡ false → written (askRead b n out) ≡ written (showing (latest n (records b)) out)
+  unfolding reply output
+  read-sound d = rw (d, held-latest n (records b) d)

@@ -1,5 +1,5 @@
 -- The whole records of a log: a log is its records, joined, and a torn rest. Behind these laws no count of steps is seen again.
---     Whole t                   what the test `whole t` says: `whole→facts`, `facts→whole`
+--     whole→facts, facts→whole  what the test `whole t` says
 --     Entry r, Entries rs       r is whole, and nothing more; all of rs are
 --     records-of                entries, joined, with a torn rest behind them, have these entries as their records
 --     records-entries, split, end-torn, front-joined, end-le        every log is of this kind, its rest being what stands from `end b` on
@@ -7,7 +7,7 @@
 use mathlib.Core.Path.{_≡_, refl, sym, _∙_, ap, ap₂, subst}
 use mathlib.Core.Bool.{Bool, true, false, not, cond, _&&_, and-eq-true-iff}
 use mathlib.Core.List.{List, [], _∷_, _++_, append-assoc}
-use Prim.Native.Nat.{ℕ, zero, suc, _+_, _*_, _≤_, _<_}
+use Prim.Native.Nat.{ℕ, zero, suc, _+_, _*_, _≤_}
 use native.Mathlib.Nat.{le-of-suc-le-suc, not-suc-le-zero}
 use native.Mathlib.Omega.{arith}
 use borrow.Author.Tests.{leb-true, le-leb, eqb-true, eqb-false, eq-eqb, ne-eqb, not-true}
@@ -17,15 +17,10 @@ use lib.Seq.{length-take-le, getD-take, take-at, drop-at}
 use Rattle.journal.specs.Bytes.{pairAt}
 use Rattle.journal.specs.Format.{lastByte, size, whole, walked, records}
 use Rattle.journal.specs.Adding.{joined, end}
+use Rattle.journal.specs.Facts.{Whole}
 use Rattle.journal.specs.theory.Bytes.{pairAt-take}
 
 -- ---- one record
-
-pub record Whole (t : List ℕ) : Type 0 where
-  pub two : 2 ≤ length t
-  pub some : 0 < size t
-  pub fits : 2 + size t ≤ length t
-  pub ends : getD t (1 + size t) 0 ≡ lastByte
 
 pub whole→facts : (t : List ℕ) → whole t ≡ true → Whole t
 unfolding whole

@@ -1,10 +1,11 @@
--- A sum or merge is answered exactly where document 01 has no reason to refuse it.
---     sum-accepted, merge-accepted        of valid shapes on one floor, what fits is answered
---     sum-whole, merge-whole              of such shapes, where the set of the call has a valid shape: with room for it, it is the answer
---     origin-valid, valid-gives           the origin point is valid; what is answered with a valid shape gives it
---     sum-answered, merge-answered        what is answered is the shape that is defined, its count and its floor
+-- A shape is made exactly where document 01 has no reason to refuse it.
+--     made-accepted        of whatever good shapes are lent, what fits is answered
+--     same-on              shapes on one floor are good together; `pair-accepted`: of them, what fits is answered
+--     made-whole           where what is made is a valid shape: with room for it, it is the answer
+--     origin-valid         the origin point is valid
+--     valid-gives          what is answered with a valid shape gives it
 use mathlib.Core.Path.{_≡_, refl, sym, _∙_, ap, subst}
-use mathlib.Core.List.{List, [], _∷_, _++_}
+use mathlib.Core.List.{List, [], _∷_}
 use Prim.Native.Nat.{ℕ, _*_, _≤_}
 use native.Mathlib.Omega.{arith}
 use borrow.Author.Tests.{le-ltb}
@@ -12,115 +13,59 @@ use lib.IntN.{ℤ, pos}
 use lib.ListN.{length}
 use lib.Seq.{take-at}
 use Rattle.plane.specs.Limits.{maxCorners, maxCoordinate}
-use Rattle.plane.specs.Point.{Point, points, numbers}
-use Rattle.plane.specs.Reply.{answered, Row}
+use Rattle.plane.specs.Point.{Point, numbers}
+use Rattle.plane.specs.Reply.{answered, NoneApply}
 use Rattle.plane.specs.Shape.{breaks, precedes}
-use Rattle.plane.specs.Refusal.{InRange, Valid, shapeRows, badCount, tooMany, outside, someOutside, equalPair, leftBroken, ruleBroken}
-use Rattle.plane.specs.Refusal.{badStart}
-use Rattle.plane.specs.Judge.{judged}
-use Rattle.plane.specs.Corner.{shapeOf, sums}
-use Rattle.plane.specs.Output.{Written, answerRows, noRoom, overwritten}
-use Rattle.plane.specs.Combine.{sumWritten, mergeWritten}
-use Rattle.plane.specs.Floor.{Floored, on, withFloor, writtenBetween}
+use Rattle.plane.specs.Refusal.{InRange, Valid, badCount, tooMany, outside, someOutside, equalPair, leftBroken, ruleBroken, badStart}
+use Rattle.plane.specs.Output.{noRoom, overwritten}
+use Rattle.plane.specs.Floor.{Floored, corners, Shapes, twoShapes, floorOf, Same, Admitted}
+use Rattle.plane.specs.Question.{table, reply, written, makes}
 use Rattle.plane.specs.Meaning.{accepted-is-valid}
-use Rattle.plane.specs.theory.refusals.Rows.{NoneApply, none-join, firstRow-none}
-use Rattle.plane.specs.theory.refusals.Write.{none-output}
+use Rattle.plane.specs.theory.refusals.Asked.{asked-none, none-wrote, rest-none}
 use Rattle.plane.specs.theory.lists.Flat.{points-length, numbers-points}
-use Rattle.plane.specs.theory.refusals.Accept.{valid→accepted, inRange→near}
-use Rattle.plane.specs.theory.refusals.Floors.{Same, written-same}
-use Rattle.laws.specs.Grouping.{corners, ShapeOn, sumCall, mergeCall, answeredWith, Gives, Fits}
-use Rattle.laws.specs.theory.Answer.{pairQuestion, pair-answered}
+use Rattle.plane.specs.theory.refusals.Accept.{corners-few, inRange→near}
+use Rattle.laws.specs.Grouping.{ShapeOn, answeredWith, Gives, Fits}
 
-fits→none : (shape : List Point) (out : List ℤ) → Fits shape out → NoneApply (answerRows shape out)
-unfolding tooMany noRoom
-fits→none shape out f = (
-  le-ltb maxCorners (length shape) (f .few),
-  (inRange→near (numbers shape) (f .inRange), (le-ltb (length out) (length (numbers shape)) (f .room), tt)),
-)
+module _ (s : Shapes) (shape : List Point) (out : List ℤ) (good : Admitted s) where
+  fits→none : Fits shape out → NoneApply (table (makes s shape out))
+  unfolding noRoom
+  fits→none f = rest-none (makes s shape out) good (
+    corners-few shape (f .few),
+    (inRange→near (numbers shape) (f .inRange), (le-ltb (length out) (length (numbers shape)) (f .room), tt)),
+  )
 
-module _ (set : List ℤ → List ℤ → List Point) (a b : Floored) (out : List ℤ) (one : Same a b) where
-  abbrev shape : List Point
-  shape = shapeOf (set (a .list) (b .list))
+  pub made-accepted : Fits shape out → reply (makes s shape out) ≡ answered (pos (length shape) ∷ pos (floorOf s) ∷ [])
+  made-accepted f = asked-none (makes s shape out) (fits→none f)
 
-  abbrev rows : List Row
-  rows = shapeRows 1 (a .list) ++ (shapeRows 2 (b .list) ++ answerRows shape out)
-
-  -- on one floor, and with no row against it, the question is answered with the shape
-  pair-written : Fits shape out → writtenBetween a b (pairQuestion set) out ≡ record {
-    reply = answered (pos (length shape) ∷ pos (a .floor) ∷ []);
-    output = overwritten (numbers shape) out;
-  }
-  pair-written f =
-      let second = none-join (shapeRows 2 (b .list)) (answerRows shape out) (valid→accepted (b .list) 2 (one .second-valid))
-      (fits→none shape out f) in
-      let none = none-join (shapeRows 1 (a .list)) (shapeRows 2 (b .list) ++ answerRows shape out)
-      (valid→accepted (a .list) 1 (one .first-valid)) second in
-      written-same one (pairQuestion set) out ∙ λ i. record {
-        reply = withFloor (a .floor) (firstRow-none rows (answered (pos (length shape) ∷ [])) none i);
-        output = none-output rows out (overwritten (numbers shape) out) none i;
-      }
-
-  -- the answer and the output, where the shape of the set is a valid list
-  pair-whole : (s : Floored) → Valid (s .list) → s .floor ≡ a .floor → corners s ≡ shape → length (s .list) ≤ length out
-      → writtenBetween a b (pairQuestion set) out ≡ answeredWith s out
-  pair-whole s u floors e room =
-      let same : numbers shape ≡ s .list = ap numbers (sym e) ∙ numbers-points (s .list) (u .paired) in
+  pub made-whole : (t : Floored) → Valid (t .list) → t .floor ≡ floorOf s → corners t ≡ shape → length (t .list) ≤ length out
+      → written (makes s shape out) ≡ answeredWith t out
+  made-whole t v floors e room =
+      let same : numbers shape ≡ t .list = ap numbers (sym e) ∙ numbers-points (t .list) (v .paired) in
       let fits : Fits shape out = record {
-        few = subst (λ ps. length ps ≤ maxCorners) e (u .few);
-        inRange = subst InRange (sym same) (u .inRange);
+        few = subst (λ ps. length ps ≤ maxCorners) e (v .few);
+        inRange = subst InRange (sym same) (v .inRange);
         room = rw same room;
       } in
-      pair-written fits ∙ λ i. record {
-        reply = answered (pos (length (sym e i)) ∷ pos (sym floors i) ∷ []);
-        output = overwritten (same i) out;
+      λ i. record {
+        reply = (made-accepted fits ∙ λ j. answered (pos (length (sym e j)) ∷ pos (sym floors j) ∷ [])) i;
+        output = (none-wrote (makes s shape out) (fits→none fits) ∙ ap (λ l. overwritten l out) same) i;
       }
 
-module _ (a b : Floored) (out : List ℤ) where
-  pub sum-whole : (s : Floored) → Same a b → Valid (s .list) → s .floor ≡ a .floor → corners s ≡ shapeOf (sums (corners a) (corners b))
-      → length (s .list) ≤ length out → sumCall a b out ≡ answeredWith s out
-  unfolding sumWritten
-  sum-whole s one u floors e room = pair-whole (λ l m. sums (points l) (points m)) a b out one s u floors e room
+-- ---- two shapes on one floor
 
-  pub merge-whole : (s : Floored) → Same a b → Valid (s .list) → s .floor ≡ a .floor → corners s ≡ shapeOf (corners a ++ corners b)
-      → length (s .list) ≤ length out → mergeCall a b out ≡ answeredWith s out
-  unfolding mergeWritten
-  merge-whole s one u floors e room = pair-whole (λ l m. points l ++ points m) a b out one s u floors e room
+pub same-on : {f : ℕ} {a b : Floored} → ShapeOn f a → ShapeOn f b → Same a b
+same-on v w = record { first-valid = v .valid; second-valid = w .valid; one-floor = v .onFloor ∙ sym (w .onFloor) }
 
-  module _ (f : ℕ) (v : ShapeOn f a) (w : ShapeOn f b) where
-    one-floor : Same a b
-    one-floor = record { first-valid = v .valid; second-valid = w .valid; one-floor = v .onFloor ∙ sym (w .onFloor) }
-
-    pub sum-accepted : Fits (shapeOf (sums (corners a) (corners b))) out
-        → sumCall a b out .reply ≡ answered (pos (length (shapeOf (sums (corners a) (corners b)))) ∷ pos f ∷ [])
-    unfolding sumWritten
-    sum-accepted fits =
-        ap (λ (w : Written). w .reply) (pair-written (λ l m. sums (points l) (points m)) a b out one-floor fits)
-        ∙ ap (λ g. answered (pos (length (shapeOf (sums (corners a) (corners b)))) ∷ pos g ∷ [])) (v .onFloor)
-
-    pub merge-accepted : Fits (shapeOf (corners a ++ corners b)) out
-        → mergeCall a b out .reply ≡ answered (pos (length (shapeOf (corners a ++ corners b))) ∷ pos f ∷ [])
-    unfolding mergeWritten
-    merge-accepted fits =
-        ap (λ (w : Written). w .reply) (pair-written (λ l m. points l ++ points m) a b out one-floor fits)
-        ∙ ap (λ g. answered (pos (length (shapeOf (corners a ++ corners b))) ∷ pos g ∷ [])) (v .onFloor)
-
-  pub sum-answered : (v : List ℤ) → sumCall a b out .reply ≡ answered v
-      → (v ≡ pos (length (shapeOf (sums (corners a) (corners b)))) ∷ pos (a .floor) ∷ [])
-      × Gives (sumCall a b out) (on (numbers (shapeOf (sums (corners a) (corners b)))) (a .floor))
-  unfolding sumWritten
-  sum-answered v h = let r = pair-answered (λ l m. sums (points l) (points m)) a b out v h in (r .2, r .3)
-
-  pub merge-answered : (v : List ℤ) → mergeCall a b out .reply ≡ answered v
-      → (v ≡ pos (length (shapeOf (corners a ++ corners b))) ∷ pos (a .floor) ∷ [])
-      × Gives (mergeCall a b out) (on (numbers (shapeOf (corners a ++ corners b))) (a .floor))
-  unfolding mergeWritten
-  merge-answered v h = let r = pair-answered (λ l m. points l ++ points m) a b out v h in (r .2, r .3)
+pub pair-accepted : (f : ℕ) (a b : Floored) (shape : List Point) (out : List ℤ) → ShapeOn f a → ShapeOn f b → Fits shape out
+    → reply (makes (twoShapes a b) shape out) ≡ answered (pos (length shape) ∷ pos f ∷ [])
+pair-accepted f a b shape out v w fits =
+    made-accepted (twoShapes a b) shape out (same-on v w) fits ∙ ap (λ g. answered (pos (length shape) ∷ pos g ∷ [])) (v .onFloor)
 
 -- ---- the origin point, and what is answered with a shape
 
 pub origin-valid : Valid (pos 0 ∷ pos 0 ∷ [])
-unfolding judged badCount tooMany outside someOutside equalPair leftBroken ruleBroken badStart breaks precedes maxCorners maxCoordinate
-origin-valid = accepted-is-valid (pos 0 ∷ pos 0 ∷ []) (pos 1 ∷ []) refl
+unfolding reply badCount tooMany outside someOutside equalPair leftBroken ruleBroken badStart breaks precedes maxCorners maxCoordinate
+origin-valid = accepted-is-valid (pos 0 ∷ pos 0 ∷ []) 0 (pos 1 ∷ pos 0 ∷ []) refl
 
 pub valid-gives : (s : Floored) (out : List ℤ) → Valid (s .list) → Gives (answeredWith s out) s
 unfolding overwritten

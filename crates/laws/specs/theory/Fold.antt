@@ -18,10 +18,10 @@ use lib.ListN.{length, length-append}
 use Rattle.plane.specs.Point.{Point}
 use Rattle.plane.specs.Refusal.{Valid}
 use Rattle.plane.specs.Direction.{support}
-use Rattle.plane.specs.Floor.{Floored}
-use Rattle.laws.specs.Grouping.{corners, ShapeOn, AllOn, Call, Grouping, alone, split, Result}
+use Rattle.plane.specs.Floor.{Floored, corners}
+use Rattle.laws.specs.Grouping.{ShapeOn, AllOn, Call, Grouping, alone, split, Result}
 use Rattle.laws.specs.theory.Order.{order-length, order-member}
-use Rattle.laws.specs.theory.Answer.{Reaches, Combines}
+use Rattle.laws.specs.theory.Answer.{Reaches, both, Combines}
 
 -- ---- no group is empty
 
@@ -73,9 +73,9 @@ module _ {call : Call} {c : ℤ → ℤ → ℤ} (k : Combines call c) where
       go (result-floor g (r .0) (r .2) a) (result-floor h (r .1) (r .3) a) w (List·Memᴰ·append-cases A (order-member order a m))
     where
       go : {B : List Floored} → (List·Memᴰ a A → a .floor ≡ r .0 .floor) → (List·Memᴰ a B → a .floor ≡ r .1 .floor)
-          → Reaches c (r .0) (r .1) l → List·Memᴰ a A ⊎ List·Memᴰ a B → a .floor ≡ l .floor
+          → Reaches (both c (r .0) (r .1)) (r .0) (r .1) l → List·Memᴰ a A ⊎ List·Memᴰ a B → a .floor ≡ l .floor
       go f s w (inl n) = f n ∙ sym (w .on-floor)
-      go f s w (inr n) = s n ∙ sym (w .on-floor ∙ w .one-floor)
+      go f s w (inr n) = s n ∙ sym (w .on-floor ∙ w .same .one-floor)
 
   result-valid : {f : ℕ} {L : List Floored} → AllOn f L → (g : Grouping L) (l : Floored) → Result call g l → Valid (l .list)
   result-valid v (alone a) l r = subst (λ (s : Floored). Valid (s .list)) (sym r) (v a (List·Memᴰ·head refl) .valid)

@@ -6,21 +6,24 @@
 --     sum-cancels        equal sums with c come of equal shapes
 use mathlib.Core.Path.{_≡_, refl, sym, _∙_, ap}
 use mathlib.Core.List.{List, [], _∷_, _++_}
-use Prim.Native.Nat.{_≤_}
+use Prim.Native.Nat.{_≤_, _<_}
 use native.Mathlib.Omega.{arith}
 use lib.IntN.{ℤ, _+ℤ_, +ℤ-idl, +ℤ-idr}
 use lib.ListN.{length, length-append}
 use Rattle.integer.specs.Linear.{lia, linear}
+use Rattle.plane.specs.Point.{Point}
 use Rattle.plane.specs.Refusal.{Valid}
+use Rattle.plane.specs.Direction.{support}
 use Rattle.plane.specs.Corner.{shapeOf, sums}
-use Rattle.plane.specs.Floor.{Floored}
+use Rattle.plane.specs.Floor.{Floored, corners, twoShapes, Same}
+use Rattle.plane.specs.Question.{written, makes}
 use Rattle.plane.specs.theory.lists.Max.{max-idem, plus-max}
 use Rattle.plane.specs.theory.lists.Members.{sums-some}
 use Rattle.plane.specs.theory.support.Support.{support-append, support-sums}
 use Rattle.plane.specs.theory.hull.ShapeOf.{shape-known}
-use Rattle.laws.specs.Grouping.{corners, originPoint, Call, sumCall, mergeCall, answeredWith, Called}
+use Rattle.laws.specs.Grouping.{originPoint, Call, sumCall, mergeCall, answeredWith, Called}
 use Rattle.laws.specs.theory.Answer.{Combines, sum-combines, merge-combines, called-reaches, valid-same}
-use Rattle.laws.specs.theory.Acceptance.{sum-whole, merge-whole, origin-valid}
+use Rattle.laws.specs.theory.Acceptance.{made-whole, origin-valid}
 use Rattle.laws.specs.theory.Fold.{reach}
 use Rattle.laws.specs.theory.Whole.{support-origin}
 
@@ -31,30 +34,26 @@ module _ (a : Floored) (out : List ℤ) (v : Valid (a .list)) (room : length (a 
   abbrev zero : Floored
   zero = originPoint (a .floor)
 
-  -- the set of the sums reaches as far as a
-  origin-left : corners a ≡ shapeOf (sums (corners zero) (corners a))
-  origin-left = shape-known (corners a) (sums (corners zero) (corners a)) (v .shape)
-      (sums-some (corners zero) (corners a) (omega arith) (v .shape .some))
-      (λ d. sym (support-sums d (corners zero) (corners a) (omega arith) (v .shape .some)
-      ∙ ap (λ x. x +ℤ reach d a) (support-origin d) ∙ +ℤ-idl (reach d a)))
-
-  origin-right : corners a ≡ shapeOf (sums (corners a) (corners zero))
-  origin-right = shape-known (corners a) (sums (corners a) (corners zero)) (v .shape)
-      (sums-some (corners a) (corners zero) (v .shape .some) (omega arith))
-      (λ d. sym (support-sums d (corners a) (corners zero) (v .shape .some) (omega arith)
-      ∙ ap (λ x. reach d a +ℤ x) (support-origin d) ∙ +ℤ-idr (reach d a)))
+  -- a set of points that reaches as far as a has the shape a
+  reached : (b c : Floored) (S : List Point) → Same b c → a .floor ≡ b .floor → 0 < length S → ((d : Point) → support d S ≡ reach d a)
+      → written (makes (twoShapes b c) (shapeOf S) out) ≡ answeredWith a out
+  reached b c S one floors some same =
+      made-whole (twoShapes b c) (shapeOf S) out one a v floors (shape-known (corners a) S (v .shape) some (λ d. sym (same d))) room
 
   pub origin-neutral : (sumCall zero a out ≡ answeredWith a out) × (sumCall a zero out ≡ answeredWith a out)
-  origin-neutral = (
-    sum-whole zero a out a (record { first-valid = origin-valid; second-valid = v; one-floor = refl }) v refl origin-left room,
-    sum-whole a zero out a (record { first-valid = v; second-valid = origin-valid; one-floor = refl }) v refl origin-right room,
+  origin-neutral = let A = corners a in let Z = corners zero in (
+    reached zero a (sums Z A) (record { first-valid = origin-valid; second-valid = v; one-floor = refl }) refl
+        (sums-some Z A (omega arith) (v .shape .some)) (λ d. support-sums d Z A (omega arith) (v .shape .some)
+        ∙ ap (λ x. x +ℤ reach d a) (support-origin d) ∙ +ℤ-idl (reach d a)),
+    reached a zero (sums A Z) (record { first-valid = v; second-valid = origin-valid; one-floor = refl }) refl
+        (sums-some A Z (v .shape .some) (omega arith)) (λ d. support-sums d A Z (v .shape .some) (omega arith)
+        ∙ ap (λ x. reach d a +ℤ x) (support-origin d) ∙ +ℤ-idr (reach d a)),
   )
 
   pub merge-idem : mergeCall a a out ≡ answeredWith a out
-  merge-idem = merge-whole a a out a (record { first-valid = v; second-valid = v; one-floor = refl }) v refl
-      (shape-known (corners a) (corners a ++ corners a) (v .shape)
+  merge-idem = reached a a (corners a ++ corners a) (record { first-valid = v; second-valid = v; one-floor = refl }) refl
       (omega (arith, length-append (corners a) (corners a), v .shape .some))
-      (λ d. sym (support-append d (corners a) (corners a) (v .shape .some) (v .shape .some) ∙ max-idem (reach d a)))) room
+      (λ d. support-append d (corners a) (corners a) (v .shape .some) (v .shape .some) ∙ max-idem (reach d a))
 
 -- ---- two shapes and three
 
@@ -62,7 +61,8 @@ pub call-comm : {call : Call} {c : ℤ → ℤ → ℤ} → Combines call c → 
 call-comm k s t =
     let r = called-reaches k s in
     let q = called-reaches k t in
-    valid-same (r .valid) (q .valid) (r .on-floor ∙ r .one-floor ∙ sym (q .on-floor)) (λ d. r .reach d ∙ k .comm _ _ ∙ sym (q .reach d))
+    let floors = r .on-floor ∙ r .same .one-floor ∙ sym (q .on-floor) in
+    valid-same (r .valid) (q .valid) floors (λ d. r .reach d ∙ k .comm _ _ ∙ sym (q .reach d))
 
 pub sum-distributes : {a b c bc l ab ac m : Floored} → Called mergeCall b c bc → Called sumCall a bc l
     → Called sumCall a b ab → Called sumCall a c ac → Called mergeCall ab ac m → l ≡ m
@@ -83,5 +83,5 @@ pub sum-cancels : {a b c l : Floored} → Called sumCall a c l → Called sumCal
 sum-cancels {a} {b} {c} s t =
     let r = called-reaches sum-combines s in
     let q = called-reaches sum-combines t in
-    valid-same (r .first) (q .first) (sym (r .on-floor) ∙ q .on-floor)
+    valid-same (r .same .first-valid) (q .same .first-valid) (sym (r .on-floor) ∙ q .on-floor)
     (λ d. plus-injective (reach d a) (reach d b) (reach d c) (sym (r .reach d) ∙ q .reach d))

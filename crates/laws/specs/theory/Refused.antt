@@ -1,7 +1,7 @@
 -- A grouping has one result exactly if none of its calls is refused.
 --     result-unique             it has at most one
 --     refused→no-result         none where some call is refused
---     result-or-refused         one where none is, of calls whose answers give a shape
+--     unrefused→result          of calls whose answers give a shape, one where none is: the shape that every result is
 use mathlib.Core.Path.{_≡_, refl, sym, _∙_, ap₂, subst}
 use mathlib.Core.Logic.{_⊎_, inl, inr}
 use mathlib.Core.List.{List}
@@ -29,7 +29,7 @@ module _ (call : Call) where
       let z : _≡_ {A = ℕ} 0 1 = cc (same, f .6, r .4 .answer) in omega arith
 
   module _ (answers : (a b : Floored) (out v : List ℤ) → call a b out .reply ≡ answered v → (l : Floored) × Gives (call a b out) l) where
-    pub result-or-refused : {L : List Floored} (g : Grouping L) → ((l : Floored) × Result call g l) ⊎ Refused call g
+    result-or-refused : {L : List Floored} (g : Grouping L) → ((l : Floored) × Result call g l) ⊎ Refused call g
     result-or-refused (alone a) = inl (a, refl)
     result-or-refused (split order g h out) = go (result-or-refused g) (result-or-refused h)
       where
@@ -44,9 +44,10 @@ module _ (call : Call) where
         go (inl r) (inr f) = inr (inr (inl f))
         go (inl r) (inl s) = last (r .0) (s .0) (r .1) (s .1) (call (r .0) (s .0) out .reply) refl
 
-    pub unrefused→result : {L : List Floored} (g : Grouping L) → (Refused call g → ⊥) → (l : Floored) × Result call g l
-    unrefused→result g f = go (result-or-refused g)
+    pub unrefused→result : {L : List Floored} (g : Grouping L) (s : Floored) → ((l : Floored) → Result call g l → l ≡ s)
+        → (Refused call g → ⊥) → Result call g s
+    unrefused→result g s known f = go (result-or-refused g)
       where
-        go : ((l : Floored) × Result call g l) ⊎ Refused call g → (l : Floored) × Result call g l
-        go (inl r) = r
+        go : ((l : Floored) × Result call g l) ⊎ Refused call g → Result call g s
+        go (inl r) = subst (Result call g) (known (r .0) (r .1)) (r .1)
         go (inr r) = absurd (f r)

@@ -3,7 +3,7 @@
 --     sumsOf-acts, flatten-acts     what all sums of corners, and all corners together, reach is the same fold
 --     sums-whole, merges-whole       so the result is the shape of that set
 --     sums-result, merges-result     and a grouping of which no call is refused has it
-use mathlib.Core.Path.{_≡_, refl, sym, _∙_, ap, subst}
+use mathlib.Core.Path.{_≡_, refl, sym, _∙_, ap}
 use mathlib.Core.List.{List, [], _∷_, map, flatten, append-nil, List·Memᴰ·head, List·Memᴰ·tail}
 use Prim.Native.Nat.{ℕ, _<_}
 use native.Mathlib.Nat.{not-suc-le-zero}
@@ -14,15 +14,14 @@ use Rattle.integer.specs.Ring.{ring, reify}
 use Rattle.plane.specs.Point.{Point, origin, numbers}
 use Rattle.plane.specs.Direction.{value, support, max}
 use Rattle.plane.specs.Corner.{shapeOf, sumsOf}
-use Rattle.plane.specs.Floor.{Floored, on}
+use Rattle.plane.specs.Floor.{Floored, on, corners, twoShapes}
 use Rattle.plane.specs.theory.lists.Flat.{numbers-points}
 use Rattle.plane.specs.theory.lists.Members.{sums-some}
 use Rattle.plane.specs.theory.lists.Max.{max-assoc}
 use Rattle.plane.specs.theory.support.Support.{support-append, support-sums}
 use Rattle.plane.specs.theory.hull.ShapeOf.{shape-known}
-use Rattle.laws.specs.Grouping.{corners, AllOn, Call, sumCall, mergeCall, Grouping, Result, Refused, sumOfAll, mergeOfAll}
-use Rattle.laws.specs.theory.Answer.{Combines, sum-combines, merge-combines, floored-same}
-use Rattle.laws.specs.theory.Acceptance.{sum-answered, merge-answered}
+use Rattle.laws.specs.Grouping.{AllOn, Call, sumCall, mergeCall, Grouping, Result, Refused, sumOfAll, mergeOfAll}
+use Rattle.laws.specs.theory.Answer.{Combines, sum-combines, merge-combines, floored-same, made-answered}
 use Rattle.laws.specs.theory.Refused.{unrefused→result}
 use Rattle.laws.specs.theory.Fold.{grouping-some, reach, act, result-acts, result-on}
 
@@ -87,10 +86,8 @@ module _ (f : ℕ) where
 
   pub sums-result : (L : List Floored) → AllOn f L → (g : Grouping L) → (Refused sumCall g → ⊥) → Result sumCall g (sumOfAll f L)
   sums-result L v g n =
-      let r = unrefused→result sumCall (λ a b out u h. (_, sum-answered a b out u h .1)) g n in
-      subst (Result sumCall g) (sums-whole L v g (r .0) (r .1)) (r .1)
+      unrefused→result sumCall (λ a b out u h. (_, made-answered (twoShapes a b) _ out u h .1)) g (sumOfAll f L) (sums-whole L v g) n
 
   pub merges-result : (L : List Floored) → AllOn f L → (g : Grouping L) → (Refused mergeCall g → ⊥) → Result mergeCall g (mergeOfAll f L)
   merges-result L v g n =
-      let r = unrefused→result mergeCall (λ a b out u h. (_, merge-answered a b out u h .1)) g n in
-      subst (Result mergeCall g) (merges-whole L v g (r .0) (r .1)) (r .1)
+      unrefused→result mergeCall (λ a b out u h. (_, made-answered (twoShapes a b) _ out u h .1)) g (mergeOfAll f L) (merges-whole L v g) n

@@ -12,6 +12,7 @@ use lib.ListN.{length}
 use lib.Signed.{_≤ℤ_, _<ℤ_, ltZ}
 use Rattle.integer.specs.Linear.{lia, linear, _&_}
 use Rattle.integer.specs.Order.{weaken, ltZ-true, ltZ-false}
+use Rattle.plane.specs.Cut.{quarter}
 use Rattle.plane.specs.Point.{Point, corner, opposite}
 use Rattle.plane.specs.Turn.{cross}
 use Rattle.plane.specs.Search.{first}
@@ -21,7 +22,7 @@ use Rattle.plane.specs.Forms.{up, edges}
 use Rattle.plane.specs.Cycle.{round, cornerRound}
 use Rattle.plane.specs.theory.lists.Members.{position-member}
 use Rattle.plane.specs.theory.lists.Sought.{first-le, first-true, first-least}
-use Rattle.plane.specs.theory.forms.Vector.{quarter, cross-turned, value-turned}
+use Rattle.plane.specs.theory.forms.Vector.{cross-turned, value-turned}
 use Rattle.plane.specs.theory.forms.HalfPlane.{Up}
 use Rattle.plane.specs.theory.support.Support.{value-le-support}
 use Rattle.plane.specs.theory.sum.Positions.{edges-at-most, round-inner, round-within}

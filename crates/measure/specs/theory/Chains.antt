@@ -21,13 +21,14 @@ use lib.Signed.{_≤ℤ_, _<ℤ_, ltZ, clashℤ}
 use Rattle.integer.specs.Ring.{ring, reify}
 use Rattle.integer.specs.Linear.{lia, linear, _&_}
 use Rattle.integer.specs.Order.{contra<, ltZ-true, lt-ltZ, le-ltZ}
+use Rattle.plane.specs.Cut.{quarter}
 use Rattle.plane.specs.Point.{Point, corner, origin, _⊖_, opposite}
 use Rattle.plane.specs.Turn.{cross}
 use Rattle.plane.specs.Shape.{next, precedes, IsShape}
 use Rattle.plane.specs.Forms.{up, before, Before, NonZero, edges}
 use Rattle.plane.specs.theory.lists.Sought.{true-not-false}
 use Rattle.plane.specs.theory.forms.Precedes.{precedes-irrefl}
-use Rattle.plane.specs.theory.forms.Vector.{quarter, cross-swap}
+use Rattle.plane.specs.theory.forms.Vector.{cross-swap}
 use Rattle.plane.specs.theory.forms.HalfPlane.{Up, precedes→up, up→precedes, up-opposite, down-up, cross-trans-weak}
 use Rattle.plane.specs.theory.forms.Angle.{Earlier, apart, alike, before→earlier, earlier→before, later→not-before, before-alike}
 use Rattle.plane.specs.theory.sum.Positions.{edge-at, edges-some, in-order-at, in-order-non-zero}

@@ -13,14 +13,15 @@ use lib.Dec.{ltb}
 use lib.IntN.{_+ℤ_}
 use lib.ListN.{length, take}
 use Rattle.integer.specs.Linear.{lia, linear, _&_}
+use Rattle.plane.specs.Cut.{quarter}
 use Rattle.plane.specs.Point.{Point, corner, _⊕_}
 use Rattle.plane.specs.Shape.{IsShape}
-use Rattle.plane.specs.Direction.{value, support}
+use Rattle.plane.specs.Direction.{value, support, SameWay}
 use Rattle.plane.specs.Forms.{before, edges}
 use Rattle.plane.specs.theory.lists.Sought.{true-not-false}
-use Rattle.plane.specs.theory.forms.Vector.{total, quarter, value-cross, value-⊕}
+use Rattle.plane.specs.theory.forms.Vector.{total, value-cross, value-⊕}
 use Rattle.plane.specs.theory.forms.Angle.{before-trans}
-use Rattle.plane.specs.theory.forms.SameWay.{SameWay, same-flat}
+use Rattle.plane.specs.theory.forms.SameWay.{same-flat}
 use Rattle.plane.specs.Cycle.{cornerRound}
 use Rattle.plane.specs.theory.sum.Positions.{shape-in-order}
 use Rattle.calipers.specs.theory.Furthest.{toCut-at, cut-value}

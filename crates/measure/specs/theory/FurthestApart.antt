@@ -13,6 +13,7 @@ use lib.ListN.{length}
 use lib.Signed.{_≤ℤ_, _<ℤ_}
 use Rattle.integer.specs.Ring.{ring, reify}
 use Rattle.integer.specs.Linear.{lia, linear, _&_}
+use Rattle.plane.specs.Cut.{quarter}
 use Rattle.plane.specs.Point.{Point, corner, _⊖_, opposite}
 use Rattle.plane.specs.Shape.{IsShape}
 use Rattle.plane.specs.Direction.{value}
@@ -21,7 +22,7 @@ use Rattle.plane.specs.Forms.{up, NonZero}
 use Rattle.plane.specs.Cycle.{round}
 use Rattle.plane.specs.theory.lists.Members.{point-path}
 use Rattle.plane.specs.theory.forms.Squared.{squared-positive}
-use Rattle.plane.specs.theory.forms.Vector.{quarter, value-turned, ⊖-zero}
+use Rattle.plane.specs.theory.forms.Vector.{value-turned, ⊖-zero}
 use Rattle.plane.specs.theory.forms.HalfPlane.{up-opposite}
 use Rattle.plane.specs.theory.sum.Positions.{corner-injective}
 use Rattle.measure.specs.Half.{Chains, Antipodal}

@@ -20,13 +20,14 @@ use lib.Signed.{_≤ℤ_, _<ℤ_, leZ, clashℤ}
 use Rattle.integer.specs.Ring.{ring, reify}
 use Rattle.integer.specs.Linear.{lia, linear, _&_}
 use Rattle.integer.specs.Order.{le-of-eq, le-antisym, le-leZ, lt-leZ, leZ-true, leZ-false, contra<, square-nonneg}
+use Rattle.plane.specs.Cut.{quarter}
 use Rattle.plane.specs.Point.{Point, corner, _⊖_}
 use Rattle.plane.specs.Turn.{turn, Left}
 use Rattle.plane.specs.Shape.{next, IsShape}
 use Rattle.plane.specs.Direction.{value, support}
 use Rattle.plane.specs.Measure.{greatest, squared, edgeTurn, height, edgeSquared, widthEdge, widthCorner}
 use Rattle.plane.specs.theory.lists.Members.{position-member, member-position}
-use Rattle.plane.specs.theory.forms.Vector.{quarter, turn-stay}
+use Rattle.plane.specs.theory.forms.Vector.{turn-stay}
 use Rattle.plane.specs.theory.support.Support.{value-le-support, support-attained}
 use Rattle.plane.specs.theory.lists.Sought.{first-true, first-least, first-at-most, first-unique}
 use Rattle.plane.specs.theory.lists.Greatest.{greatest-above, greatest-attained, greatest-le}

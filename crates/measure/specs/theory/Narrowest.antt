@@ -1,5 +1,5 @@
 -- Width: which edge has the least t·t/q, found by keeping the best so far.
---     noWider-le, wider-lt           the test as a fact
+--     noWider-le, wider-lt           the test as a fact; `le-noWider`, `lt-wider`: the fact as a test
 --     noWider-fractions              the test on numbers of ℕ, as the fractions are compared in code
 --     Narrowest ps P e               of the edges of which P holds, e is the first with the least t·t/q
 --     More P Q k                     Q holds of one edge more, which is k
@@ -17,7 +17,7 @@ use lib.IntN.{ℤ, pos, _*ℤ_}
 use lib.ListN.{length}
 use lib.Signed.{_≤ℤ_, _<ℤ_, ≤ℤ-refl}
 use Rattle.integer.specs.Linear.{lia, linear, _&_}
-use Rattle.integer.specs.Order.{_<×<_, _≤×<_, contra≤, weaken, leZ-true, leZ-false, le-leZ}
+use Rattle.integer.specs.Order.{_<×<_, _≤×<_, contra≤, weaken, leZ-true, leZ-false, le-leZ, lt-leZ}
 use Rattle.plane.specs.Point.{Point}
 use Rattle.plane.specs.Search.{every}
 use Rattle.plane.specs.Shape.{IsShape}
@@ -43,6 +43,14 @@ noWider-le ps e f h = leZ-true h
 pub wider-lt : (ps : List Point) (e f : ℕ) → noWider ps e f ≡ false → wide ps f e <ℤ wide ps e f
 unfolding noWider
 wider-lt ps e f h = leZ-false h
+
+pub le-noWider : (ps : List Point) (e f : ℕ) → wide ps e f ≤ℤ wide ps f e → noWider ps e f ≡ true
+unfolding noWider
+le-noWider ps e f h = le-leZ h
+
+pub lt-wider : (ps : List Point) (e f : ℕ) → wide ps f e <ℤ wide ps e f → noWider ps e f ≡ false
+unfolding noWider
+lt-wider ps e f h = lt-leZ h
 
 noWider-refl : (ps : List Point) (e : ℕ) → noWider ps e e ≡ true
 unfolding noWider

@@ -15,17 +15,18 @@ use lib.ListN.{length}
 use lib.Signed.{_≤ℤ_, _<ℤ_}
 use Rattle.integer.specs.Linear.{lia, linear, _&_}
 use Rattle.integer.specs.Order.{lt-or-le, weaken, le-of-eq, le-antisym, le-ltZ}
+use Rattle.plane.specs.Cut.{quarter}
 use Rattle.plane.specs.Point.{Point, corner, opposite}
 use Rattle.plane.specs.Turn.{cross}
 use Rattle.plane.specs.Shape.{IsShape}
 use Rattle.plane.specs.Measure.{edgeTurn, height}
 use Rattle.plane.specs.Forms.{up, NonZero, edges}
-use Rattle.plane.specs.Direction.{value, support}
+use Rattle.plane.specs.Direction.{value, support, SameWay}
 use Rattle.plane.specs.Cycle.{round, cornerRound}
-use Rattle.plane.specs.theory.forms.Vector.{quarter, cross-swap, cross-opposite, cross-turned}
+use Rattle.plane.specs.theory.forms.Vector.{cross-swap, cross-opposite, cross-turned}
 use Rattle.plane.specs.theory.forms.HalfPlane.{up-opposite}
 use Rattle.plane.specs.theory.forms.Angle.{before-alike}
-use Rattle.plane.specs.theory.forms.SameWay.{SameWay, neither-same}
+use Rattle.plane.specs.theory.forms.SameWay.{neither-same}
 use Rattle.plane.specs.theory.sum.Positions.{edgeOf, edge-at, edges-some, in-order-non-zero}
 use Rattle.plane.specs.theory.face.Tied.{opposite-non-zero, quarter-non-zero, Tied, after, behind, tied}
 use Rattle.measure.specs.Comparison.{Facing}

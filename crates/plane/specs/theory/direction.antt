@@ -2,3 +2,4 @@
 pub mod Rows
 pub mod Scaled
 pub mod Primitive
+pub mod Divisor

@@ -1,3 +1,3 @@
--- The mirror image of a shape, and what is written of it.
+-- The mirror image of a shape, and how large it is.
 pub mod Mirror
-pub mod MirrorWritten
+pub mod MirrorSize

@@ -1,7 +1,6 @@
--- Document 01's table: which row is given, what is accepted, what is written; floors; that every question follows it.
+-- Document 01's table: which row is given, what is accepted; what every question answers and writes by it.
 pub mod Rows
 pub mod Tests
 pub mod Accept
-pub mod Write
-pub mod Floors
-pub mod Tables
+pub mod Points
+pub mod Asked

@@ -1,3 +1,3 @@
--- The shape of many points: how large it is, and what is written of it.
+-- The shape of many points: how large it is.
 pub mod Few
-pub mod SweepWritten
+pub mod SweepSize

@@ -1,26 +1,19 @@
 -- A walk that keeps the greatest value so far and its smallest position (`Greatest`), and what it has found at the end.
 --     greatest-start, greatest-keep, greatest-rise      the moves of the walk
 --     greatest-furthest                                 past the last corner: the position of the furthest corner
---     furthest-answered                                 what is answered of a valid list and a direction that passes
 use mathlib.Core.Path.{_≡_, sym, _∙_, ap, subst}
-use mathlib.Core.Bool.{false}
-use mathlib.Core.List.{List, [], _∷_, _++_}
+use mathlib.Core.List.{List, [], _∷_}
 use Prim.Native.Nat.{ℕ, _+_, _<_}
 use native.Mathlib.Omega.{arith}
 use borrow.Author.Count.{below-more}
-use lib.IntN.{ℤ, pos}
+use lib.IntN.{ℤ}
 use lib.ListN.{length}
 use lib.Signed.{_≤ℤ_, _<ℤ_}
 use Rattle.integer.specs.Linear.{lia, linear, _&_}
 use Rattle.integer.specs.Order.{weaken, le-of-eq, le-leZ, lt-leZ}
-use Rattle.plane.specs.Point.{Point, points, corner}
+use Rattle.plane.specs.Point.{Point, corner}
 use Rattle.plane.specs.Direction.{value, support, furthest}
-use Rattle.plane.specs.Face.{isFurthest, faceFirst, faceLast}
-use Rattle.plane.specs.Reply.{answered}
-use Rattle.plane.specs.Refusal.{shapeRows, Valid}
-use Rattle.plane.specs.Furthest.{badDirection, commonDivisor, directionRows, furthestReply}
-use Rattle.plane.specs.theory.refusals.Rows.{none-join, firstRow-none}
-use Rattle.plane.specs.theory.refusals.Accept.{valid→accepted}
+use Rattle.plane.specs.Face.{isFurthest}
 use Rattle.plane.specs.theory.lists.Members.{position-member, member-position}
 use Rattle.plane.specs.theory.lists.Sought.{first-unique}
 use Rattle.plane.specs.theory.support.Support.{support-unique}
@@ -74,12 +67,3 @@ module _ (d : Point) (ps : List Point) {i at : ℕ} {z : ℤ} (g : Greatest (λ 
       sym (first-unique (isFurthest d ps) (length ps) at (omega arith)
       (λ h. le-leZ (le-of-eq (sym greatest-support ∙ g .has)))
       (λ k h. lt-leZ (subst (λ s. value d (corner ps k) <ℤ s) greatest-support (g .earliest k h))))
-
--- ---- the answer
-
-pub furthest-answered : (l : List ℤ) → Valid l → (d : Point) → badDirection d ≡ false → commonDivisor d ≡ false
-    → answered (pos (faceFirst d (points l)) ∷ pos (faceLast d (points l)) ∷ support d (points l) ∷ []) ≡ furthestReply l d
-unfolding furthestReply
-furthest-answered l v d h k =
-    let none = none-join (shapeRows 1 l) (directionRows d) (valid→accepted l 1 v) (h, (k, tt)) in
-    sym (firstRow-none (shapeRows 1 l ++ directionRows d) _ none)

@@ -6,55 +6,53 @@ use lib.IntN.{ℤ, pos}
 use mir.Syntax.{w32, w64}
 use mir.Val.{toZ, ofZ}
 use mir.Facts.{toZ-ofZ}
+use borrow.Author.Needs.{needs}
 use Rattle.integer.specs.Machine.{known, machine-read, machine-is}
 use Rattle.integer.specs.Bound.{within-widen}
 use Rattle.plane.specs.Limits.{part-small}
 use Rattle.plane.specs.Point.{Point, point, points}
 use Rattle.plane.specs.Forms.{NonZero}
+use Rattle.plane.specs.Reply.{NoneApply}
+use Rattle.plane.specs.Refusal.{Valid}
 use Rattle.plane.specs.Direction.{support}
 use Rattle.plane.specs.Face.{faceFirst, faceLast}
-use Rattle.plane.specs.Reply.{answered}
-use Rattle.plane.specs.Floor.{withFloor}
-use Rattle.plane.specs.Furthest.{directionRows, furthestReply}
-use Rattle.plane.specs.theory.refusals.Accept.{valid→accepted}
+use Rattle.plane.specs.Furthest.{directionRows}
+use Rattle.plane.specs.Floor.{on}
+use Rattle.plane.specs.Question.{Question, askFurthest}
 use Rattle.plane.specs.theory.support.Bounds.{support-size}
 use Rattle.plane.specs.theory.direction.Rows.{direction-near, direction-some}
 use Rattle.polygon.specs.Point.{Small}
 use Rattle.polygon.specs.theory.Small.{small-wide}
-use Rattle.polygon.specs.theory.Furthest.{furthest-answered}
-use Rattle.admission.specs.theory.Rows.{refuses-more, refuses-behind, refuses-carried}
-use borrow.Author.Needs.{needs}
-use Rattle.plane.specs.Refusal.{shapeRows, Valid}
-use Rattle.questions.specs.Answer.{ofRefusal}
-use Rattle.admission.specs.declared.Admission.the-variants as Admission
-use Rattle.admission.specs.Admission.{Refuses, Admitted, AdmittedDirection}
+use Rattle.admission.specs.Admission.{Judged}
+use Rattle.admission.specs.theory.Door.{shapes-refused, rest-refused, all-answered}
 use Rattle.questions.proofs.furthest.Statement.{statement}
 use Rattle.questions.proofs.furthest.Tie as tie
 
+-- the direction, and the question
+abbrev towards : tie.Start → Point
+towards c = point (c .args .u) (c .args .v)
+
+abbrev asked : tie.Start → Question
+asked c = askFurthest (on (c .args .list .now) (c .args .floor)) (towards c)
+
 -- past the judging the list is a shape
 valid : (c : tie.After-enum-told) → Valid (c .before .before .before .args .list .now)
-valid c = subst (Admitted 1 _) (c .enum-told .given .1) (c .before .before .admit .ensures)
-
--- before it, the list is refused
-refusal : (c : tie.After-known-told) → Refuses (shapeRows 1 (c .before .before .before .before .args .list .now))
-    (ofRefusal (c .before .refusal .given .0 .0))
-refusal c = subst (Admitted 1 _) (c .before .refusal .given .1) (c .before .before .before .admit .ensures)
+valid c = c .before .before .admit .ensures .valid (c .enum-told .given .1)
 
 -- the direction, read back from its bits
-direction-is : (c : tie.Start) → point (toZ w32 (ofZ w32 (c .args .u))) (toZ w32 (ofZ w32 (c .args .v))) ≡ point (c .args .u) (c .args .v)
+direction-is : (c : tie.Start) → point (toZ w32 (ofZ w32 (c .args .u))) (toZ w32 (ofZ w32 (c .args .v))) ≡ towards c
 direction-is c = ap₂ point (toZ-ofZ (c .fits .u)) (toZ-ofZ (c .fits .v))
 
 -- what judging it says
-judged-direction : (c : tie.After-admit-direction) → let start = c .before .before .before .before in
-    AdmittedDirection (point (start .args .u) (start .args .v)) (c .admit-direction .result)
+judged-direction : (c : tie.After-admit-direction) → let d = towards (c .before .before .before .before) in
+    Judged (NoneApply (directionRows d)) (directionRows d) (c .admit-direction .result)
 judged-direction c =
-    subst (λ (d : Point). AdmittedDirection d (c .admit-direction .result)) (direction-is (c .before .before .before .before))
-    (c .admit-direction .ensures)
+    subst (λ (d : Point). Judged (NoneApply (directionRows d)) (directionRows d) (c .admit-direction .result))
+    (direction-is (c .before .before .before .before)) (c .admit-direction .ensures)
 
 -- past it, neither row applies
-passed : (c : tie.After-enum-told2) → let start = c .before .before .before .before .before .before in
-    AdmittedDirection (point (start .args .u) (start .args .v)) Admission.Valid
-passed c = subst (AdmittedDirection _) (c .enum-told2 .given .1) (judged-direction (c .before .before))
+passed : (c : tie.After-enum-told2) → NoneApply (directionRows (towards (c .before .before .before .before .before .before)))
+passed c = judged-direction (c .before .before) .valid (c .enum-told2 .given .1)
 
 admit-requires : tie.Need-admit-requires
 admit-requires c κs = search needs
@@ -66,10 +64,8 @@ enum-told : tie.Need-enum-told
 enum-told c = search needs
 
 returns : tie.Need-returns
-unfolding furthestReply
-returns c =
-    let args = c .before .before .before .before .args in
-    refuses-carried (refusal c) (args .floor) (refuses-more (refusal c) (directionRows (point (args .u) (args .v))) _)
+returns c = shapes-refused (asked (c .before .before .before .before))
+    (c .before .before .before .admit .ensures .no _ (c .before .refusal .given .1)) .0
 
 admit-direction-requires : tie.Need-admit-direction-requires
 admit-direction-requires c κs = search needs
@@ -78,13 +74,10 @@ enum-known-refusal-2 : tie.Need-enum-known-refusal-2
 enum-known-refusal-2 c = search needs
 
 returns-2 : tie.Need-returns-2
-unfolding furthestReply
 returns-2 c =
     let at-judged = c .before .before .before in
-    let args = at-judged .before .before .before .before .args in
-    let refused = refuses-behind (shapeRows 1 _) (valid→accepted _ 1 (valid (at-judged .before)))
-    (subst (AdmittedDirection _) (c .before .refusal2 .given .1) (judged-direction at-judged)) in
-    refuses-carried refused (args .floor) (refused .whatever _)
+    rest-refused (asked (at-judged .before .before .before .before)) (valid (at-judged .before))
+    (judged-direction at-judged .no _ (c .before .refusal2 .given .1)) .0
 
 enum-told-2 : tie.Need-enum-told-2
 enum-told-2 c = search needs
@@ -98,7 +91,8 @@ face-towards-requires c κs =
     let small : Small 2097152 _ = record { small-x = within-widen part-small (near .0); small-y = within-widen part-small (near .1) } in
     (v .inRange, v .shape, subst (Small 4194304) direction (small-wide small), subst NonZero direction (direction-some _ good))
 
-told : {p q i j : ℕ} {y z : ℤ} → p ≡ i → q ≡ j → y ≡ z → answered (pos p ∷ pos q ∷ y ∷ []) ≡ answered (pos i ∷ pos j ∷ z ∷ [])
+told : {p q i j f : ℕ} {y z : ℤ} → p ≡ i → q ≡ j → y ≡ z
+    → pos p ∷ pos q ∷ y ∷ pos f ∷ [] ≡ pos i ∷ pos j ∷ z ∷ pos f ∷ []
 told e f g = rw (e, f, g) refl
 
 returns-3 : tie.Need-returns-3
@@ -115,7 +109,7 @@ returns-3 c =
     let small = known (face .1 .1 ∙ ap (λ (d : Point). support d ps) (direction-is start))
     (support-size _ (v .inRange) (near .0) (near .1) (v .shape .some)) in
     let value = machine-is (machine-read w64 _ small) tt in
-    ap (withFloor (start .args .floor)) (told first last value ∙ furthest-answered _ v _ (good .0) (good .1))
+    all-answered (asked start) v good (told first last value)
 
 pub furthest-spec : {M : Type 1} → statement M
 furthest-spec =

@@ -1,16 +1,13 @@
 -- `grow` meets its contract: a list is refused, or the shape of the differences is made in a buffer and delivered.
-use mathlib.Core.Path.{refl, sym, subst}
+use mathlib.Core.Path.{sym}
 use native.Mathlib.Omega.{arith}
-use Rattle.plane.specs.Limits.{maxCorners}
-use Rattle.plane.specs.Floor.{Floored, on, pairRows}
-use Rattle.plane.specs.Combine.{growWritten}
-use Rattle.polygon.specs.theory.Fronts.{front-length}
-use Rattle.admission.specs.theory.Delivery.{front-paired, pair-delivered}
-use Rattle.admission.specs.theory.Rows.{refuses-output}
 use borrow.Author.Needs.{needs}
-use Rattle.questions.specs.Answer.{ofRefusal}
-use Rattle.admission.specs.declared.Admission.the-variants as Admission
-use Rattle.admission.specs.Admission.{Refuses, AdmittedPair}
+use Rattle.plane.specs.Limits.{maxCorners}
+use Rattle.plane.specs.Floor.{Floored, on, twoShapes, Same}
+use Rattle.plane.specs.Question.{askGrow}
+use Rattle.polygon.specs.theory.Fronts.{front-length}
+use Rattle.admission.specs.theory.Door.{shapes-refused}
+use Rattle.admission.specs.theory.Delivery.{front-paired, made-delivered}
 use Rattle.questions.proofs.grow.Statement.{statement}
 use Rattle.questions.proofs.grow.Tie as tie
 
@@ -22,13 +19,8 @@ abbrev other : tie.Start → Floored
 other c = on (c .args .cart .now) (c .args .g)
 
 -- past the judging they are shapes on one floor
-shapes : (c : tie.After-enum-told) → let start = c .before .before .before in AdmittedPair (one start) (other start) Admission.Valid
-shapes c = subst (AdmittedPair _ _) (c .enum-told .given .1) (c .before .before .admit-pair .ensures)
-
--- before it, they are refused
-refusal : (c : tie.After-known-told) → let start = c .before .before .before .before in
-    Refuses (pairRows (one start) (other start)) (ofRefusal (c .before .refusal .given .0 .0))
-refusal c = subst (AdmittedPair _ _) (c .before .refusal .given .1) (c .before .before .before .admit-pair .ensures)
+shapes : (c : tie.After-enum-told) → let start = c .before .before .before in Same (one start) (other start)
+shapes c = c .before .before .admit-pair .ensures .valid (c .enum-told .given .1)
 
 admit-pair-requires : tie.Need-admit-pair-requires
 admit-pair-requires c κs = search needs
@@ -42,7 +34,8 @@ enum-told c = search needs
 returns : tie.Need-returns
 returns c =
     let start = c .before .before .before .before in
-    refuses-output (one start) (other start) (refusal c) _ (start .args .out .now)
+    shapes-refused (askGrow (one start) (other start) (start .args .out .now))
+    (c .before .before .before .admit-pair .ensures .no _ (c .before .refusal .given .1))
 
 slice-aggregate-differences : tie.Need-slice-aggregate-differences
 slice-aggregate-differences c = search needs
@@ -50,9 +43,8 @@ slice-aggregate-differences c = search needs
 differences-requires : tie.Need-differences-requires
 unfolding maxCorners
 differences-requires c κs =
-    let both = shapes (c .before) in
-    let u = both .0 in
-    let v = both .1 in
+    let u = shapes (c .before) .first-valid in
+    let v = shapes (c .before) .second-valid in
     (search needs, search needs, omega (arith, u .few, v .few))
 
 mul-shape : tie.Need-mul-shape
@@ -71,12 +63,11 @@ same-length : tie.Need-same-length
 same-length c = search needs
 
 returns-2 : tie.Need-returns-2
-unfolding growWritten
 returns-2 c =
     let at-made = c .before .before .before .before .before in
     let at-told = at-made .before .before in
     let start = at-told .before .before .before in
-    pair-delivered (at-made .differences .ensures) (one start) (other start) (shapes at-told) _ (start .args .out .now) refl
+    made-delivered (at-made .differences .ensures) (twoShapes (one start) (other start)) (shapes at-told) (start .args .out .now)
     (c .before .deliver .ensures .0) (c .before .deliver .ensures .1)
 
 pub grow-spec : {M : Type 1} → statement M

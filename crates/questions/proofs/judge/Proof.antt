@@ -1,27 +1,23 @@
 -- `judge` meets its contract: the list is refused, or its corners are counted.
-use mathlib.Core.Path.{_∙_, ap, subst}
+use mathlib.Core.Path.{ap}
 use mathlib.Core.List.{[], _∷_}
 use Prim.Native.Nat.{ℕ}
 use lib.IntN.{pos}
-use Rattle.plane.specs.Reply.{answered}
-use Rattle.plane.specs.Floor.{withFloor}
-use Rattle.plane.specs.Judge.{judged}
-use Rattle.admission.specs.theory.Rows.{valid-answer, refuses-carried}
 use borrow.Author.Needs.{needs}
-use Rattle.plane.specs.Refusal.{shapeRows, Valid}
-use Rattle.questions.specs.Answer.{ofRefusal}
-use Rattle.admission.specs.Admission.{Refuses, Admitted}
+use Rattle.plane.specs.Refusal.{Valid}
+use Rattle.plane.specs.Floor.{on}
+use Rattle.plane.specs.Question.{Question, askJudge}
+use Rattle.admission.specs.theory.Door.{shapes-refused, all-answered}
 use Rattle.questions.proofs.judge.Statement.{statement}
 use Rattle.questions.proofs.judge.Tie as tie
 
+-- the question
+abbrev asked : tie.Start → Question
+asked c = askJudge (on (c .args .list .now) (c .args .floor))
+
 -- past the judging the list is a shape
 valid : (c : tie.After-enum-told) → Valid (c .before .before .before .args .list .now)
-valid c = subst (Admitted 1 _) (c .enum-told .given .1) (c .before .before .admit .ensures)
-
--- before it, the list is refused
-refusal : (c : tie.After-known-told) → Refuses (shapeRows 1 (c .before .before .before .before .args .list .now))
-    (ofRefusal (c .before .refusal .given .0 .0))
-refusal c = subst (Admitted 1 _) (c .before .refusal .given .1) (c .before .before .before .admit .ensures)
+valid c = c .before .before .admit .ensures .valid (c .enum-told .given .1)
 
 admit-requires : tie.Need-admit-requires
 admit-requires c κs = search needs
@@ -33,16 +29,16 @@ enum-told : tie.Need-enum-told
 enum-told c = search needs
 
 returns : tie.Need-returns
-unfolding judged
-returns c = refuses-carried (refusal c) (c .before .before .before .before .args .floor) (refusal c .whatever _)
+returns c = shapes-refused (asked (c .before .before .before .before))
+    (c .before .before .before .admit .ensures .no _ (c .before .refusal .given .1)) .0
 
 count-requires : tie.Need-count-requires
 count-requires c κs = search needs
 
 returns-2 : tie.Need-returns-2
-unfolding judged
-returns-2 c = ap (withFloor (c .before .before .before .before .args .floor))
-    (ap (λ (n : ℕ). answered (pos n ∷ [])) (c .count .ensures) ∙ valid-answer _ (valid (c .before)) _)
+returns-2 c =
+    let start = c .before .before .before .before in
+    all-answered (asked start) (valid (c .before)) tt (ap (λ (n : ℕ). pos n ∷ pos (start .args .floor) ∷ []) (c .count .ensures))
 
 pub judge-spec : {M : Type 1} → statement M
 judge-spec = tie.close (tie.spec admit-requires enum-known-refusal returns enum-told count-requires returns-2)

@@ -1,22 +1,15 @@
 -- `log_add` meets its contract: the list is refused, or a record is bad, or the shape is added behind the last record.
-use mathlib.Core.Path.{sym, _∙_, subst}
+use mathlib.Core.Path.{sym, _∙_}
 use borrow.Author.Needs.{needs}
-use Rattle.plane.specs.Refusal.{shapeRows, Valid}
+use Rattle.plane.specs.Refusal.{Valid}
 use Rattle.journal.specs.theory.Survey.{surveyed-ends}
-use Rattle.questions.specs.Answer.{ofRefusal}
-use Rattle.admission.specs.Admission.{Refuses, Admitted}
 use Rattle.questions.specs.theory.Logs.{add-refused, add-damaged}
 use Rattle.questions.proofs.log_add.Statement.{statement}
 use Rattle.questions.proofs.log_add.Tie as tie
 
 -- past the judging the list is a shape
 valid : (c : tie.After-enum-told) → Valid (c .before .before .before .before .args .list .now)
-valid c = subst (Admitted 1 _) (c .enum-told .given .1) (c .before .before .admit .ensures)
-
--- before it, the list is refused
-refusal : (c : tie.After-known-told) → Refuses (shapeRows 1 (c .before .before .before .before .before .args .list .now))
-    (ofRefusal (c .before .refusal .given .0 .0))
-refusal c = subst (Admitted 1 _) (c .before .refusal .given .1) (c .before .before .before .admit .ensures)
+valid c = c .before .before .admit .ensures .valid (c .enum-told .given .1)
 
 admit-requires : tie.Need-admit-requires
 admit-requires c κs = search needs
@@ -25,7 +18,7 @@ enum-known-refusal : tie.Need-enum-known-refusal
 enum-known-refusal c = search needs
 
 returns : tie.Need-returns
-returns c = add-refused _ _ _ _ _ (refusal c)
+returns c = add-refused _ _ _ _ _ (c .before .before .before .admit .ensures .no _ (c .before .refusal .given .1))
 
 enum-told : tie.Need-enum-told
 enum-told c = search needs

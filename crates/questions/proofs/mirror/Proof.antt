@@ -1,28 +1,30 @@
 -- `mirror` meets its contract: the list is refused, or its output is too small, or the image is written.
-use mathlib.Core.Path.{_≡_, ap, subst}
-use Prim.Native.Nat.{_*_}
+use mathlib.Core.Path.{_≡_, _∙_, sym, ap}
+use mathlib.Core.List.{[], _∷_}
+use Prim.Native.Nat.{ℕ, _*_}
 use native.Mathlib.Omega.{arith}
+use borrow.Author.Needs.{needs}
+use lib.IntN.{pos}
 use lib.ListN.{length}
 use Rattle.plane.specs.Point.{points}
-use Rattle.plane.specs.Floor.{withFloor}
+use Rattle.plane.specs.Refusal.{Valid}
+use Rattle.plane.specs.Floor.{on}
+use Rattle.plane.specs.Question.{Question, askMirror}
 use Rattle.plane.specs.theory.lists.Flat.{points-length}
-use Rattle.plane.specs.theory.mirror.MirrorWritten.{mirror-room}
-use Rattle.admission.specs.theory.Delivery.{mirror-refused, mirror-answered}
-use borrow.Author.Needs.{needs}
-use Rattle.plane.specs.Refusal.{shapeRows, Valid}
-use Rattle.questions.specs.Answer.{ofRefusal}
-use Rattle.admission.specs.Admission.{Refuses, Admitted}
+use Rattle.plane.specs.theory.mirror.Mirror.{mirror-count}
+use Rattle.plane.specs.theory.mirror.MirrorSize.{mirror-little, mirror-enough}
+use Rattle.admission.specs.theory.Judged.{refuses}
+use Rattle.admission.specs.theory.Door.{shapes-refused, rest-refused, all-written}
 use Rattle.questions.proofs.mirror.Statement.{statement}
 use Rattle.questions.proofs.mirror.Tie as tie
 
+-- the question
+abbrev asked : tie.Start → Question
+asked c = askMirror (on (c .args .list .now) (c .args .floor)) (c .args .out .now)
+
 -- past the judging the list is a shape
 valid : (c : tie.After-enum-told) → Valid (c .before .before .before .args .list .now)
-valid c = subst (Admitted 1 _) (c .enum-told .given .1) (c .before .before .admit .ensures)
-
--- before it, the list is refused
-refusal : (c : tie.After-known-told) → Refuses (shapeRows 1 (c .before .before .before .before .args .list .now))
-    (ofRefusal (c .before .refusal .given .0 .0))
-refusal c = subst (Admitted 1 _) (c .before .refusal .given .1) (c .before .before .before .admit .ensures)
+valid c = c .before .before .admit .ensures .valid (c .enum-told .given .1)
 
 admit-requires : tie.Need-admit-requires
 admit-requires c κs = search needs
@@ -34,7 +36,8 @@ enum-told : tie.Need-enum-told
 enum-told c = search needs
 
 returns : tie.Need-returns
-returns c = let args = c .before .before .before .before .args in mirror-refused (args .list .now) (args .out .now) (args .floor) (refusal c)
+returns c = shapes-refused (asked (c .before .before .before .before))
+    (c .before .before .before .admit .ensures .no _ (c .before .refusal .given .1))
 
 -- twice as many numbers as corners
 doubled : (c : tie.After-enum-told) → let l = c .before .before .before .args .list .now in length l ≡ 2 * length (points l)
@@ -42,9 +45,10 @@ doubled c = omega (arith, points-length (c .before .before .before .args .list .
 
 returns-2 : tie.Need-returns-2
 returns-2 c =
-    let args = c .before .before .before .before .args in
-    let w = mirror-room (args .list .now) (valid (c .before)) (args .out .now) (omega (arith, c .if1 .taken, doubled (c .before))) in
-    (ap (withFloor (args .floor)) (w .0), w .1)
+    let start = c .before .before .before .before in
+    rest-refused (asked start) (valid (c .before))
+    (refuses (mirror-little (start .args .list .now) (valid (c .before)) (start .args .out .now)
+    (omega (arith, c .if1 .taken, doubled (c .before)))))
 
 mirror-requires : tie.Need-mirror-requires
 mirror-requires c κs =
@@ -62,10 +66,12 @@ returns-3 c =
     let at-mirror = c .before .before in
     let at-else = at-mirror .before .before in
     let at-told = at-else .before in
-    let args = at-told .before .before .before .args in
-    let w = mirror-answered (args .list .now) (valid at-told) (args .out .now) (omega (arith, at-else .if1 .left, doubled at-told))
-    (c .count .ensures) (at-mirror .mirror .ensures) in
-    (ap (withFloor (args .floor)) (w .0), w .1)
+    let start = at-told .before .before .before in
+    let v = valid at-told in
+    let l = start .args .list .now in
+    all-written (asked start) v (mirror-enough l v (start .args .out .now) (omega (arith, at-else .if1 .left, doubled at-told)))
+    (ap (λ (n : ℕ). pos n ∷ pos (start .args .floor) ∷ []) (c .count .ensures ∙ sym (mirror-count (points l) (v .shape))))
+    (at-mirror .mirror .ensures)
 
 pub mirror-spec : {M : Type 1} → statement M
 mirror-spec =

@@ -1,24 +1,24 @@
 -- `sweep` meets its contract: a list is refused, or the shape is made in a buffer and delivered.
-use mathlib.Core.Path.{sym, subst}
+use mathlib.Core.Path.{sym}
 use native.Mathlib.Omega.{arith}
 use borrow.Author.Needs.{needs}
 use Rattle.plane.specs.Limits.{maxPoints}
-use Rattle.plane.specs.Sweep.{pointRows, ValidPoints}
+use Rattle.plane.specs.Sweep.{ValidPoints}
+use Rattle.plane.specs.Floor.{Floored, on}
+use Rattle.plane.specs.Question.{askSweep}
 use Rattle.polygon.specs.theory.Fronts.{front-length}
-use Rattle.questions.specs.Answer.{ofRefusal}
-use Rattle.admission.specs.Admission.{Refuses, AdmittedPoints}
-use Rattle.admission.specs.theory.Delivery.{front-paired, sweep-delivered, sweep-refused}
+use Rattle.admission.specs.theory.Door.{shapes-refused}
+use Rattle.admission.specs.theory.Delivery.{front-paired, sweep-delivered}
 use Rattle.questions.proofs.sweep.Statement.{statement}
 use Rattle.questions.proofs.sweep.Tie as tie
 
+-- the points
+abbrev swept : tie.Start → Floored
+swept c = on (c .args .list .now) (c .args .floor)
+
 -- past the judging the list holds points
 valid : (c : tie.After-enum-told) → ValidPoints (c .before .before .before .args .list .now)
-valid c = subst (AdmittedPoints _) (c .enum-told .given .1) (c .before .before .admit-points .ensures)
-
--- before it, it is refused
-refusal : (c : tie.After-known-told) → Refuses (pointRows (c .before .before .before .before .args .list .now))
-    (ofRefusal (c .before .refusal .given .0 .0))
-refusal c = subst (AdmittedPoints _) (c .before .refusal .given .1) (c .before .before .before .admit-points .ensures)
+valid c = c .before .before .admit-points .ensures .valid (c .enum-told .given .1)
 
 admit-points-requires : tie.Need-admit-points-requires
 admit-points-requires c κs = search needs
@@ -30,7 +30,10 @@ enum-told : tie.Need-enum-told
 enum-told c = search needs
 
 returns : tie.Need-returns
-returns c = let args = c .before .before .before .before .args in sweep-refused (args .list .now) (args .out .now) (args .floor) (refusal c)
+returns c =
+    let start = c .before .before .before .before in
+    shapes-refused (askSweep (swept start) (start .args .out .now))
+    (c .before .before .before .admit-points .ensures .no _ (c .before .refusal .given .1))
 
 slice-aggregate-sweep : tie.Need-slice-aggregate-sweep
 slice-aggregate-sweep c = search needs
@@ -58,8 +61,8 @@ returns-2 : tie.Need-returns-2
 returns-2 c =
     let at-made = c .before .before .before .before .before in
     let at-told = at-made .before .before in
-    let args = at-told .before .before .before .args in
-    sweep-delivered (args .list .now) (at-made .sweep .ensures) (valid at-told) (args .out .now) (args .floor)
+    let start = at-told .before .before .before in
+    sweep-delivered (swept start) (at-made .sweep .ensures) (valid at-told) (start .args .out .now)
     (c .before .deliver .ensures .0) (c .before .deliver .ensures .1)
 
 pub sweep-spec : {M : Type 1} → statement M

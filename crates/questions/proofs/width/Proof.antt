@@ -1,27 +1,28 @@
 -- `width` meets its contract: the list is refused, or is flat, or its narrowest edge sought.
-use mathlib.Core.Path.{ap, subst}
-use Rattle.plane.specs.Floor.{withFloor}
-use Rattle.admission.specs.theory.Rows.{refuses-carried}
+use mathlib.Core.List.{[], _∷_}
 use Prim.Native.Nat.{_≤_}
 use native.Mathlib.Omega.{arith}
+use borrow.Author.Needs.{needs}
+use borrow.Author.Tests.{lt-ltb, le-ltb}
 use lib.ListN.{length}
 use Rattle.plane.specs.Point.{points}
-use Rattle.questions.specs.theory.Measures.{width-refused, width-flat, width-answered}
-use borrow.Author.Needs.{needs}
-use Rattle.plane.specs.Refusal.{shapeRows, Valid}
-use Rattle.questions.specs.Answer.{ofRefusal}
-use Rattle.admission.specs.Admission.{Refuses, Admitted}
+use Rattle.plane.specs.Reply.{here}
+use Rattle.plane.specs.Refusal.{Valid}
+use Rattle.plane.specs.Floor.{Floored, on, corners}
+use Rattle.plane.specs.Question.{askWidth}
+use Rattle.admission.specs.theory.Judged.{refuses}
+use Rattle.admission.specs.theory.Door.{shapes-refused, rest-refused, all-answered}
+use Rattle.questions.specs.theory.Measures.{width-values}
 use Rattle.questions.proofs.width.Statement.{statement}
 use Rattle.questions.proofs.width.Tie as tie
 
+-- the shape
+abbrev shape : tie.Start → Floored
+shape c = on (c .args .list .now) (c .args .floor)
+
 -- past the judging the list is a shape
 valid : (c : tie.After-enum-told) → Valid (c .before .before .before .args .list .now)
-valid c = subst (Admitted 1 _) (c .enum-told .given .1) (c .before .before .admit .ensures)
-
--- before it, the list is refused
-refusal : (c : tie.After-known-told) → Refuses (shapeRows 1 (c .before .before .before .before .args .list .now))
-    (ofRefusal (c .before .refusal .given .0 .0))
-refusal c = subst (Admitted 1 _) (c .before .refusal .given .1) (c .before .before .before .admit .ensures)
+valid c = c .before .before .admit .ensures .valid (c .enum-told .given .1)
 
 admit-requires : tie.Need-admit-requires
 admit-requires c κs = search needs
@@ -37,14 +38,17 @@ three : (c : tie.Else1) → 3 ≤ length (points (c .before .before .before .bef
 three c = omega (arith, c .if1 .left, c .before .count .ensures)
 
 returns : tie.Need-returns
-returns c = refuses-carried (refusal c) (c .before .before .before .before .args .floor) (width-refused _ (refusal c))
+returns c = shapes-refused (askWidth (shape (c .before .before .before .before)))
+    (c .before .before .before .admit .ensures .no _ (c .before .refusal .given .1)) .0
 
 count-requires : tie.Need-count-requires
 count-requires c κs = search needs
 
 returns-2 : tie.Need-returns-2
-returns-2 c = ap (withFloor (c .before .before .before .before .before .args .floor))
-    (width-flat _ (valid (c .before .before)) (omega (arith, c .if1 .taken, c .before .count .ensures)))
+returns-2 c =
+    let a = shape (c .before .before .before .before .before) in
+    let flat = lt-ltb (length (corners a)) 3 (omega (arith, c .if1 .taken, c .before .count .ensures)) in
+    rest-refused (askWidth a) (valid (c .before .before)) (refuses {rows = askWidth a .rest} (here flat)) .0
 
 narrowest-edge-requires : tie.Need-narrowest-edge-requires
 narrowest-edge-requires c κs = (valid (c .before .before), three c)
@@ -52,8 +56,9 @@ narrowest-edge-requires c κs = (valid (c .before .before), three c)
 returns-3 : tie.Need-returns-3
 returns-3 c =
     let at-else = c .before in
-    ap (withFloor (at-else .before .before .before .before .before .args .floor))
-    (width-answered _ (valid (at-else .before .before)) (three at-else) (c .narrowest-edge .ensures))
+    let a = shape (at-else .before .before .before .before .before) in
+    all-answered (askWidth a) (valid (at-else .before .before)) (le-ltb (length (corners a)) 3 (three at-else), tt)
+    (width-values a (c .narrowest-edge .ensures))
 
 pub width-spec : {M : Type 1} → statement M
 width-spec =

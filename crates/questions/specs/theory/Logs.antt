@@ -2,7 +2,7 @@
 --     read-damaged, read-missing, read-room, read-found     15, 19, 8, or the corners
 --     add-refused, add-damaged, add-full, add-done          1 to 5, 15, 16, or the stores
 use mathlib.Core.Path.{_≡_, refl, sym, _∙_, ap, ap₂}
-use mathlib.Core.Bool.{Bool, false, cond}
+use mathlib.Core.Bool.{Bool, false, not, cond}
 use mathlib.Core.List.{List, [], _∷_}
 use Prim.Native.Nat.{ℕ, _-_, _/_, _≤_, _<_}
 use native.Mathlib.Omega.{arith}
@@ -11,37 +11,43 @@ use lib.Dec.{leb, ltb}
 use lib.IntN.{ℤ, pos}
 use lib.ListN.{length, take}
 use Rattle.plane.specs.Point.{points, numbers}
-use Rattle.plane.specs.Reply.{Reply, answered, refused, Row, row, firstRow}
+use Rattle.plane.specs.Reply.{Reply, answered, refused, Row, row, firstRow, here, later}
 use Rattle.plane.specs.Refusal.{shapeRows, Valid}
 use Rattle.plane.specs.Output.{noRoom, overwritten}
+use Rattle.plane.specs.Question.{Question, reply, output}
 use Rattle.plane.specs.theory.lists.Flat.{numbers-points, points-length}
+use Rattle.plane.specs.theory.refusals.Rows.{firstRow-given, firstRow-passed}
+use Rattle.plane.specs.theory.refusals.Accept.{valid→accepted}
 use Rattle.journal.specs.Bytes.{wordsAt}
 use Rattle.journal.specs.Format.{recorded, records}
-use Rattle.journal.specs.Reading.{damaged, held, latest, damageRow, readWritten}
+use Rattle.journal.specs.Reading.{damaged, held, latest, damageRow, askRead}
 use Rattle.journal.specs.Adding.{end, stores, made, addReply, unlessRefusal, added}
 use Rattle.journal.specs.Survey.{surveyed, LatestAt}
 use Rattle.journal.specs.declared.survey.Surveyed.the-variants as Surveyed
 use Rattle.journal.specs.theory.Decode.{wordsAt-length}
 use Rattle.journal.specs.theory.Survey.{surveyed-bad}
 use Rattle.admission.specs.Admission.{Refuses}
-use Rattle.admission.specs.theory.Rows.{refuses-more, refuses-first, valid-passed}
+use Rattle.admission.specs.theory.Judged.{refuses, refuses-append}
+use Rattle.admission.specs.theory.Door.{rest-refused, all-written}
 
 -- ---- reading
 
 module _ (b : List ℕ) (n : ℕ) (out : List ℤ) where
+  abbrev q : Question
+  q = askRead b n out
+
   -- this reply, with this output
   abbrev Read : Reply → List ℤ → Type 0
-  Read r o = (r ≡ readWritten b n out .reply) × (o ≡ readWritten b n out .output)
+  Read r o = (r ≡ reply q) × (o ≡ output q)
 
   pub read-damaged : (p : ℕ) → surveyed b ≡ Surveyed.Bad p → Read (refused 15 (p ∷ [])) out
-  unfolding readWritten
   read-damaged p h =
-      let s = surveyed-bad b p h in (rw (s .0) (ap (λ (q : ℕ). refused 15 (q ∷ [])) (sym (s .1))), rw (s .0))
+      let s = surveyed-bad b p h in
+      rest-refused q tt (record { by = _; first = here (s .0); is = ap (λ (k : ℕ). refused 15 (k ∷ [])) (sym (s .1)) })
 
   module _ (sound : damaged (records b) ≡ false) where
     pub read-missing : held n (records b) ≡ false → Read (refused 19 []) out
-    unfolding readWritten
-    read-missing h = (rw (sound, h), rw (sound, h))
+    read-missing h = rest-refused q tt (refuses {rows = q .rest} (later sound (here (ap not h))))
 
     module _ (p c f : ℕ) (at : LatestAt n b p c f) where
       abbrev found : List ℤ
@@ -54,19 +60,18 @@ module _ (b : List ℕ) (n : ℕ) (out : List ℤ) where
       same = numbers-points found (omega (arith, count, at .paired))
 
       pub read-room : length out < c → Read (refused 8 []) out
-      unfolding readWritten noRoom
-      read-room h =
-          let small = lt-ltb (length out) (length (numbers (points found))) (omega (arith, ap length same, count)) in
-          (rw (sound, at .has, small), rw (sound, at .has, small))
+      unfolding noRoom
+      read-room h = rest-refused q tt (refuses {rows = q .rest} (later sound (later (ap not (at .has))
+          (here (lt-ltb (length out) (length (numbers (points found))) (omega (arith, ap length same, count)))))))
 
       pub read-found : c ≤ length out → {o : List ℤ} → o ≡ overwritten (wordsAt c b p) out → Read (answered (pos (c / 2) ∷ pos f ∷ [])) o
-      unfolding readWritten noRoom
+      unfolding noRoom
       read-found h {o} e =
           let large = le-ltb (length out) (length (numbers (points found))) (omega (arith, ap length same, count)) in
-          let half : c / 2 ≡ length (points found) = sym (points-length found ∙ ap (λ (k : ℕ). k / 2) count) in (
-            rw (sound, at .has, large) (ap₂ (λ (k m : ℕ). answered (pos k ∷ pos m ∷ [])) half (sym (at .floor-is))),
-            rw (sound, at .has, large) (e ∙ ap (λ (l : List ℤ). overwritten l out) (sym (at .list-is) ∙ sym same)),
-          )
+          let half : c / 2 ≡ length (points found) = sym (points-length found ∙ ap (λ (k : ℕ). k / 2) count) in
+          all-written q tt (sound, (ap not (at .has), (large, tt)))
+          (ap₂ (λ (k m : ℕ). pos k ∷ pos m ∷ []) half (sym (at .floor-is)))
+          (e ∙ ap (λ (l : List ℤ). overwritten l out) (sym (at .list-is) ∙ sym same))
 
 -- ---- adding
 
@@ -92,12 +97,13 @@ module _ (b : List ℕ) (n floor : ℕ) (l : List ℤ) (k : ℕ) where
   pub add-refused : {r : Reply} → Refuses (shapeRows 1 l) r → Adds r b
   unfolding addReply
   add-refused {r} f =
-      follows r b (refuses-more f (damageRow b ∷ full ∷ []) done) (ap (λ (x : Reply). unlessRefusal x b all) (sym (refuses-first f .2)))
+      let more = refuses-append (damageRow b ∷ full ∷ []) f in
+      follows r b (more .is ∙ sym (firstRow-given done (more .first))) (ap (λ (x : Reply). unlessRefusal x b all) (sym (f .is)))
 
   module _ (v : Valid l) where
     past : firstRow (damageRow b ∷ full ∷ []) done ≡ addReply b n floor l k
     unfolding addReply
-    past = valid-passed l v (damageRow b ∷ full ∷ []) done
+    past = sym (firstRow-passed (shapeRows 1 l) (damageRow b ∷ full ∷ []) done (valid→accepted l 1 v))
 
     pub add-damaged : (p : ℕ) → surveyed b ≡ Surveyed.Bad p → Adds (refused 15 (p ∷ [])) b
     add-damaged p h =

@@ -18,13 +18,13 @@ use lib.IntN.{_+ℤ_, _-ℤ_}
 use lib.ListN.{length}
 use lib.Signed.{_<ℤ_, <ℤ-irrefl}
 use Rattle.integer.specs.Linear.{linear, lia, _&_}
-use Rattle.plane.specs.Point.{Point, origin, opposite, _⊕_}
+use Rattle.plane.specs.Point.{Point, origin, opposite, _⊕_, _∈_}
 use Rattle.plane.specs.Shape.{IsShape}
 use Rattle.plane.specs.Direction.{value, support}
 use Rattle.plane.specs.Corner.{shapeOf, sums, mirrored}
 use Rattle.plane.specs.Separation.{inside, differences, apart}
 use Rattle.plane.specs.theory.lists.Sought.{tests-agree}
-use Rattle.plane.specs.theory.lists.Members.{_∈_, sums-member, member-sums, mirrored-member, member-mirrored, sums-some, mirrored-some}
+use Rattle.plane.specs.theory.lists.Members.{sums-member, member-sums, mirrored-member, member-mirrored, sums-some, mirrored-some}
 use Rattle.plane.specs.theory.forms.Vector.{value-⊕, value-opposite, value-turned, value-origin}
 use Rattle.plane.specs.theory.support.Support.{support-attained, support-sums}
 use Rattle.plane.specs.theory.hull.ShapeOf.{shapeOf-support, shapeOf-shape, shape-known}

@@ -20,7 +20,7 @@ use Rattle.plane.specs.Search.{some}
 use Rattle.plane.specs.Shape.{next, IsShape}
 use Rattle.plane.specs.Direction.{value}
 use Rattle.plane.specs.Corner.{shapeOf}
-use Rattle.plane.specs.Separation.{inside, differences, apart, notLeft, onRim, touching}
+use Rattle.plane.specs.Separation.{inside, differences, apart, notLeft, onRim, touching, relationNumber}
 use Rattle.plane.specs.theory.lists.Members.{point-discrete}
 use Rattle.plane.specs.theory.lists.Sought.{some-witness, some-none}
 use Rattle.plane.specs.theory.forms.Vector.{cross-swap, value-origin}
@@ -29,7 +29,7 @@ use Rattle.separation.specs.theory.Apart.{differences-some, apart-shapeO
 use Rattle.separation.specs.theory.InsideShape.{polygon-origin→crosses, polygon-crosses→origin, segment-origin→opposed}
 use Rattle.separation.specs.theory.InsideShape.{segment-opposed→origin, point-inside→equal, point-equal→inside}
 use Rattle.separation.specs.theory.Sector.{square-positive}
-use Rattle.separation.specs.Around.{crossAt, rightOf, placedFew, placed, related}
+use Rattle.separation.specs.Around.{crossAt, rightOf, placedFew, placed}
 
 -- ---- the origin against a shape
 
@@ -94,8 +94,8 @@ placed-origin D s = go (some (rightOf D) (length D)) refl (ltb (length D) 3) ref
 
 -- ---- the relation
 
-pub placed-related : (A B : List Point) → 0 < length A → 0 < length B → placed (shapeOf (differences A B)) ≡ related A B
-unfolding related touching
+pub placed-related : (A B : List Point) → 0 < length A → 0 < length B → placed (shapeOf (differences A B)) ≡ relationNumber A B
+unfolding relationNumber touching
 placed-related A B a b = placed-origin D (shapeOf-shape (differences A B) (differences-some A B a b))
     ∙ rw (apart-shapeOf A B a b) (go (inside (origin ∷ []) D) (onRim D))
   where
@@ -107,8 +107,8 @@ placed-related A B a b = placed-origin D (shapeOf-shape (differences A B) (diffe
     go false r = refl
 
 -- apart is the number 0
-pub related-apart : (A B : List Point) → pos 0 ≡ related A B → apart A B ≡ true
-unfolding related
+pub related-apart : (A B : List Point) → pos 0 ≡ relationNumber A B → apart A B ≡ true
+unfolding relationNumber
 related-apart A B h = go (apart A B) (touching A B) h
   where
     go : (t r : Bool) → pos 0 ≡ cond t (pos 0) (cond r (pos 1) (pos 2)) → t ≡ true
@@ -116,8 +116,8 @@ related-apart A B h = go (apart A B) (touching A B) h
     go false true k = absurd (lia [] k (search linear depth 40) (omega arith))
     go false false k = absurd (lia [] k (search linear depth 40) (omega arith))
 
-pub related-not-apart : (A B : List Point) {n : ℕ} → 0 < n → pos n ≡ related A B → apart A B ≡ false
-unfolding related
+pub related-not-apart : (A B : List Point) {n : ℕ} → 0 < n → pos n ≡ relationNumber A B → apart A B ≡ false
+unfolding relationNumber
 related-not-apart A B {n} l h = go (apart A B) (touching A B) h
   where
     go : (t r : Bool) → pos n ≡ cond t (pos 0) (cond r (pos 1) (pos 2)) → t ≡ false

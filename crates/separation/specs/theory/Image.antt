@@ -15,7 +15,7 @@ use Rattle.plane.specs.Shape.{IsShape}
 use Rattle.plane.specs.Corner.{shapeOf, sums, mirrored}
 use Rattle.plane.specs.Forms.{edges}
 use Rattle.plane.specs.Output.{overwritten}
-use Rattle.plane.specs.Separation.{differences}
+use Rattle.plane.specs.Separation.{differences, relationNumber}
 use Rattle.plane.specs.theory.refusals.Accept.{few-corners, near→inRange}
 use Rattle.plane.specs.theory.lists.Flat.{points-numbers, numbers-length}
 use Rattle.plane.specs.theory.lists.Members.{mirrored-some}
@@ -23,13 +23,13 @@ use Rattle.plane.specs.theory.hull.ShapeOf.{shapeOf-shape}
 use Rattle.plane.specs.VectorSum.{vectorSum}
 use Rattle.plane.specs.theory.sum.EdgeSum.{vectorSum-shape}
 use Rattle.plane.specs.theory.mirror.Mirror.{mirror-count}
-use Rattle.plane.specs.theory.mirror.MirrorWritten.{mirror-few, mirror-near}
+use Rattle.plane.specs.theory.mirror.MirrorSize.{mirror-few, mirror-near}
 use Rattle.separation.specs.theory.Apart.{differences-shape}
 use Rattle.polygon.specs.Front.{Front}
 use Rattle.polygon.specs.theory.Fronts.{overwritten-front}
 use Rattle.calipers.specs.Walk.{begun, At}
 use Rattle.calipers.specs.theory.Standing.{standing-start}
-use Rattle.separation.specs.Around.{placed, related}
+use Rattle.separation.specs.Around.{placed}
 use Rattle.separation.specs.theory.Around.{placed-related}
 
 -- the corners of the image
@@ -62,7 +62,7 @@ module _ (b : List ℤ) (v : Valid b) where
       standing = standing-start (edges (points a)) (edges (points (numbers (image b))));
     }
 
-    pub image-related : placed (vectorSum (points a) (points (numbers (image b)))) ≡ related (points a) (points b)
+    pub image-related : placed (vectorSum (points a) (points (numbers (image b)))) ≡ relationNumber (points a) (points b)
     image-related = ap (λ M. placed (vectorSum (points a) M)) (points-numbers (image b))
         ∙ ap placed (differences-shape (points a) (points b) (u .shape) (v .shape .some))
         ∙ placed-related (points a) (points b) (u .shape .some) (v .shape .some)

@@ -17,13 +17,13 @@ use native.Mathlib.Omega.{arith}
 use lib.ListN.{length, length-append}
 use lib.Signed.{_≤ℤ_, _<ℤ_, ≤ℤ-refl, clashℤ}
 use Rattle.integer.specs.Order.{le-trans, le-antisym}
-use Rattle.plane.specs.Point.{Point, samePoint}
+use Rattle.plane.specs.Point.{Point, samePoint, _∈_, _⊆_}
 use Rattle.plane.specs.Shape.{IsShape}
 use Rattle.plane.specs.Direction.{value, support}
 use Rattle.plane.specs.Corner.{Corner, shapeOf}
 use Rattle.plane.specs.Separation.{sameCorners, inside}
 use Rattle.plane.specs.theory.lists.Sought.{tests-agree}
-use Rattle.plane.specs.theory.lists.Members.{_∈_, _⊆_, point-discrete, samePoint-equal, samePoint-self}
+use Rattle.plane.specs.theory.lists.Members.{point-discrete, samePoint-equal, samePoint-self}
 use Rattle.plane.specs.theory.support.Support.{value-le-support, support-attained, support-le, support-subset}
 use Rattle.plane.specs.theory.hull.Hull.{shapeOf-nonempty}
 use Rattle.plane.specs.theory.hull.ShapeOf.{shapeOf-support, shapeOf-shape, shapeOf-corner, shape-known, shape-own, shape-extensional}

@@ -17,13 +17,13 @@ use lib.Signed.{_≤ℤ_, _<ℤ_, ≤ℤ-refl, <ℤ-irrefl}
 use Rattle.integer.specs.Ring.{ring, reify}
 use Rattle.integer.specs.Linear.{linear, lia, _&_}
 use Rattle.integer.specs.Order.{_<×<_, _<×≤_, _≡×_, contra≤, le-trans, le-antisym, square-nonneg}
-use Rattle.plane.specs.Point.{Point, origin, corner, _⊕_, _⊖_, opposite}
+use Rattle.plane.specs.Point.{Point, origin, corner, _⊕_, _⊖_, opposite, _∈_}
 use Rattle.plane.specs.Turn.{cross, turn, turn-swap}
 use Rattle.plane.specs.Shape.{next, IsShape}
 use Rattle.plane.specs.Direction.{value, support}
 use Rattle.plane.specs.Separation.{inside}
 use Rattle.plane.specs.Forms.{NonZero}
-use Rattle.plane.specs.theory.lists.Members.{_∈_, point-discrete, member-some}
+use Rattle.plane.specs.theory.lists.Members.{point-discrete, member-some}
 use Rattle.plane.specs.theory.forms.Vector.{outward, ⊖-zero, turn-level}
 use Rattle.plane.specs.theory.support.Support.{value-le-support, support-le}
 use Rattle.separation.specs.theory.Inside.{inside→reach, reach→inside, direction→outside, inside-refl}

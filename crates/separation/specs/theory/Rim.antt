@@ -19,7 +19,7 @@ use lib.ListN.{length}
 use lib.Signed.{_≤ℤ_, _<ℤ_, leZ}
 use Rattle.integer.specs.Linear.{linear, lia, _&_}
 use Rattle.integer.specs.Order.{lt-or-le, le-trans, leZ-true, leZ-false}
-use Rattle.plane.specs.Point.{Point, point, origin, corner, _⊕_, opposite}
+use Rattle.plane.specs.Point.{Point, point, origin, corner, _⊕_, opposite, _∈_}
 use Rattle.plane.specs.Turn.{cross, turn}
 use Rattle.plane.specs.Search.{some}
 use Rattle.plane.specs.Shape.{next, IsShape}
@@ -27,7 +27,7 @@ use Rattle.plane.specs.Direction.{value, support}
 use Rattle.plane.specs.Corner.{shapeOf}
 use Rattle.plane.specs.Separation.{differences, apart, notLeft, onRim, touching}
 use Rattle.plane.specs.Forms.{NonZero}
-use Rattle.plane.specs.theory.lists.Members.{_∈_, point-path}
+use Rattle.plane.specs.theory.lists.Members.{point-path}
 use Rattle.plane.specs.theory.lists.Sought.{some-witness, some-none}
 use Rattle.plane.specs.theory.forms.Vector.{outward, value-origin, value-turned, turn-level}
 use Rattle.plane.specs.theory.support.Support.{value-le-support, support-attained, support-le}

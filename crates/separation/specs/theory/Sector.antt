@@ -19,13 +19,14 @@ use lib.ListN.{length}
 use lib.Signed.{_≤ℤ_, _<ℤ_}
 use Rattle.integer.specs.Ring.{ring, reify}
 use Rattle.integer.specs.Linear.{linear, lia, _&_}
-use Rattle.integer.specs.Order.{_<×<_, _<×≤_, _≤×≤_, _≡×_, Compared, is-below, is-equal, is-above, compared, lt-or-le, contra<, contra≤, le-antisym, square-nonneg}
-use Rattle.plane.specs.Point.{Point, origin, corner}
+use Rattle.integer.specs.Order.{_<×<_, _<×≤_, _≤×≤_, _≡×_, Compared, is-below, is-equal, is-above, compared, lt-or-le}
+use Rattle.integer.specs.Order.{contra<, contra≤, le-antisym, square-nonneg}
+use Rattle.plane.specs.Point.{Point, origin, corner, _∈_}
 use Rattle.plane.specs.Turn.{turn, Left}
 use Rattle.plane.specs.Shape.{next, IsShape}
 use Rattle.plane.specs.Direction.{value, support}
 use Rattle.plane.specs.Forms.{NonZero}
-use Rattle.plane.specs.theory.lists.Members.{_∈_, point-path, member-position, position-member}
+use Rattle.plane.specs.theory.lists.Members.{point-path, member-position, position-member}
 use Rattle.plane.specs.theory.forms.Vector.{outward}
 use Rattle.plane.specs.theory.lists.Next.{next-below, preceding, two-steps}
 use Rattle.plane.specs.theory.sum.Positions.{edge-turn}

@@ -13,12 +13,12 @@ use lib.Signed.{_≤ℤ_, _<ℤ_}
 use Rattle.integer.specs.Ring.{ring, reify}
 use Rattle.integer.specs.Linear.{linear, lia, _&_}
 use Rattle.integer.specs.Order.{_<×<_, _<×≤_, _≤×≤_, _≡×_, contra≤, weaken, le-antisym}
-use Rattle.plane.specs.Point.{Point, corner, _⊖_}
+use Rattle.plane.specs.Point.{Point, corner, _⊖_, _∈_}
 use Rattle.plane.specs.Turn.{turn, cross}
 use Rattle.plane.specs.Shape.{next, IsShape}
 use Rattle.plane.specs.Direction.{value}
 use Rattle.plane.specs.Measure.{squared, edgeTurn, height, edgeSquared, widthEdge}
-use Rattle.plane.specs.theory.lists.Members.{_∈_, position-member, member-position}
+use Rattle.plane.specs.theory.lists.Members.{position-member, member-position}
 use Rattle.plane.specs.theory.forms.Vector.{outward}
 use Rattle.plane.specs.theory.support.Support.{support-unique}
 use Rattle.plane.specs.theory.face.Tied.{Tied, after, behind, tied}

@@ -15,7 +15,7 @@ use lib.Signed.{_≤ℤ_, _<ℤ_}
 use Rattle.integer.specs.Ring.{ring, reify}
 use Rattle.integer.specs.Linear.{linear, lia, _&_}
 use Rattle.integer.specs.Order.{_<×<_, _<×≤_, _≤×≤_, _≡×_, contra<, contra≤, weaken, le-antisym, square-nonneg}
-use Rattle.plane.specs.Point.{Point, origin, corner, opposite, _⊕_}
+use Rattle.plane.specs.Point.{Point, origin, corner, opposite, _⊕_, _∈_}
 use Rattle.plane.specs.Turn.{turn, cross, Left}
 use Rattle.plane.specs.Shape.{next, IsShape}
 use Rattle.plane.specs.Direction.{value, support}
@@ -24,7 +24,7 @@ use Rattle.plane.specs.Corner.{shapeOf}
 use Rattle.plane.specs.Separation.{differences, onRim}
 use Rattle.plane.specs.Mean.{times}
 use Rattle.plane.specs.Forms.{NonZero}
-use Rattle.plane.specs.theory.lists.Members.{_∈_, point-discrete, position-member}
+use Rattle.plane.specs.theory.lists.Members.{point-discrete, position-member}
 use Rattle.plane.specs.theory.lists.Next.{next-below}
 use Rattle.plane.specs.theory.forms.Vector.{outward, turn-level, value-turned}
 use Rattle.plane.specs.theory.support.Support.{value-le-support, support-le}

@@ -12,9 +12,8 @@ use lib.ListN.{length}
 use lib.Signed.{_≤ℤ_}
 use Rattle.integer.specs.Ring.{ring, reify}
 use Rattle.integer.specs.Linear.{linear, lia, _&_}
-use Rattle.plane.specs.Point.{Point, opposite}
+use Rattle.plane.specs.Point.{Point, opposite, _∈_}
 use Rattle.plane.specs.Direction.{value, support}
-use Rattle.plane.specs.theory.lists.Members.{_∈_}
 use Rattle.plane.specs.theory.forms.Vector.{value-turned}
 use Rattle.plane.specs.theory.support.Support.{value-le-support, support-attained}
 use Rattle.clearance.specs.theory.Ends.{opposite-twice}

@@ -3,8 +3,8 @@
 use mathlib.Core.Path.{_≡_, sym, ap, ap₂, _∙_}
 use mathlib.Core.List.{[], _∷_}
 use lib.IntN.{ℤ}
-use Rattle.plane.specs.Reply.{answered}
-use Rattle.plane.specs.theory.refusals.Rows.{NoneApply, firstRow-none, firstRow-passed, firstRow-answered}
+use Rattle.plane.specs.Reply.{answered, NoneApply}
+use Rattle.plane.specs.theory.refusals.Rows.{firstRow-none, firstRow-passed, firstRow-answered}
 use Rattle.tablet.specs.Reading.{wholeNumber, readAs, readingRows, cornerRows, tabletReply}
 use Rattle.tablet.specs.theory.Rows.{whole-passed, whole-is, passed-whole}
 use Rattle.tablet.specs.declared.reading.Reading.{Reading}

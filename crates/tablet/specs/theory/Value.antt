@@ -1,6 +1,8 @@
 -- The exact value of a reading, top / bottom, as a whole number.
 --     whole-value       a reading that comes to n has the value n, in range
 --     value-whole       a reading that is finite, has the value n and is in range comes to n
+--     number-value, value-row, value-number     row 18 passes a reading exactly if its value is a whole number, which is `wholeNumber`
+--     near-within, within-near                  what is in range
 --     held-value        the double that is sent back for n has the value n
 --     scaled-value      a double scaled by 0.125 has, as millimetres, the value that it had as eighths
 use mathlib.Core.Path.{_≡_, refl, sym, ap, ap₂, _∙_, subst}
@@ -57,11 +59,11 @@ sign-is false o b (negsuc k) B h =
 
 -- ---- a reading's value
 
-near-within : (z : ℤ) → outside z ≡ false → Within maxCoordinate z
+pub near-within : (z : ℤ) → outside z ≡ false → Within maxCoordinate z
 unfolding outside
 near-within z h = record { size = ltb-false maxCoordinate (natAbs z) h }
 
-within-near : (z : ℤ) → Within maxCoordinate z → outside z ≡ false
+pub within-near : (z : ℤ) → Within maxCoordinate z → outside z ≡ false
 unfolding outside
 within-near z w = le-ltb maxCoordinate (natAbs z) (w .size)
 
@@ -72,7 +74,7 @@ bottom-pos (Eighths v) = mul-pos (under-pos v) (lit< tt)
 divided : (a b : ℕ) → eqb (a % b) 0 ≡ true → a ≡ a / b * b
 divided a b h = sym (div-add-mod' a b) ∙ ap (λ (z : ℕ). a / b * b + z) (eqb-true (a % b) 0 h) ∙ add-zero (a / b * b)
 
-number-value : (r : Reading) → notWhole r ≡ false → top r ≡ wholeNumber r *ℤ pos (bottom r)
+pub number-value : (r : Reading) → notWhole r ≡ false → top r ≡ wholeNumber r *ℤ pos (bottom r)
 unfolding notWhole wholeNumber
 number-value r h =
     ap (signed (negative (double r))) (divided (over (double r)) (bottom r) (not-false _ h))
@@ -89,18 +91,29 @@ whole-value r n h =
       subst (Within maxCoordinate) e (near-within _ (rows .1 .1 .0)),
     )
 
+-- a whole number that is the value is what the value is cut to
+module _ (r : Reading) (n : ℤ) (h : top r ≡ n *ℤ pos (bottom r)) where
+  value-size : over (double r) ≡ natAbs n * bottom r
+  value-size = sym (signed-size (negative (double r)) (over (double r))) ∙ ap natAbs h ∙ times-size n (bottom r)
+
+  pub value-row : notWhole r ≡ false
+  unfolding notWhole
+  value-row =
+      ap not (eq-eqb (over (double r) % bottom r) 0 (ap (λ (z : ℕ). z % bottom r) value-size ∙ mul-mod-left (natAbs n) (bottom r)))
+
+  pub value-number : wholeNumber r ≡ n
+  unfolding wholeNumber
+  value-number =
+      let s = negative (double r) in
+      ap (λ (z : ℕ). signed s (z / bottom r)) value-size ∙ ap (signed s) (mul-div-cancel (natAbs n) (bottom-pos r))
+      ∙ sign-is s (over (double r)) (bottom r) n (bottom-pos r) h
+
 pub value-whole : (r : Reading) (n : ℤ) → finite (double r) ≡ true
     → top r ≡ n *ℤ pos (bottom r) → Within maxCoordinate n → readAs r ≡ Whole n
-unfolding notFinite notWhole wholeNumber far
+unfolding notFinite far
 value-whole r n f h w =
-    let s = negative (double r) in
-    let size : over (double r) ≡ natAbs n * bottom r = sym (signed-size s (over (double r))) ∙ ap natAbs h ∙ times-size n (bottom r) in
-    let is : wholeNumber r ≡ n = ap (λ (z : ℕ). signed s (z / bottom r)) size ∙ ap (signed s) (mul-div-cancel (natAbs n) (bottom-pos r))
-    ∙ sign-is s (over (double r)) (bottom r) n (bottom-pos r) h in
-    sym (reads-near r (ap not f)
-    (ap not (eq-eqb (over (double r) % bottom r) 0 (ap (λ (z : ℕ). z % bottom r) size ∙ mul-mod-left (natAbs n) (bottom r))))
-    (ap outside is ∙ within-near n w))
-    ∙ ap Whole is
+    let is = value-number r n h in
+    sym (reads-near r (ap not f) (value-row r n h) (ap outside is ∙ within-near n w)) ∙ ap Whole is
 
 -- ---- doubles
 

@@ -4,7 +4,7 @@ use native.Mathlib.Omega.{arith}
 use lib.ListN.{length}
 use Rattle.plane.specs.Point.{points}
 use Rattle.plane.specs.theory.lists.Flat.{points-length}
-use Rattle.tangents.specs.theory.Search.{
+use Rattle.tangents.specs.theory.TangentSearch.{
   Searching,
   search-start,
   search-below,

@@ -17,7 +17,7 @@ use Rattle.plane.specs.Corner.{sums}
 use Rattle.plane.specs.VectorSum.{vectorSum}
 use Rattle.plane.specs.theory.lists.Members.{sums-some}
 use Rattle.plane.specs.theory.lists.Sought.{some-witness}
-use Rattle.plane.specs.theory.forms.SameWay.{SameWay}
+use Rattle.plane.specs.Direction.{SameWay}
 use Rattle.plane.specs.theory.hull.ShapeOf.{shapeOf-shape}
 use Rattle.plane.specs.theory.sum.EdgeSum.{vectorSum-shape}
 use Rattle.polygon.specs.Point.{Small}

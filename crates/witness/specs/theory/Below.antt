@@ -15,13 +15,13 @@ use lib.Signed.{_<ℤ_, ltZ}
 use Rattle.integer.specs.Ring.{ring, reify}
 use Rattle.integer.specs.Linear.{linear, lia, _&_}
 use Rattle.integer.specs.Order.{ltZ-true, lt-ltZ}
-use Rattle.plane.specs.Point.{Point, corner, opposite, origin, _⊕_}
+use Rattle.plane.specs.Point.{Point, corner, opposite, origin, _⊕_, _∈_}
 use Rattle.plane.specs.Search.{every}
 use Rattle.plane.specs.Direction.{value, support}
 use Rattle.plane.specs.Forms.{NonZero}
 use Rattle.plane.specs.Corner.{shapeOf}
 use Rattle.plane.specs.Separation.{differences, apart}
-use Rattle.plane.specs.theory.lists.Members.{_∈_, member-position, position-member}
+use Rattle.plane.specs.theory.lists.Members.{member-position, position-member}
 use Rattle.plane.specs.theory.lists.Sought.{every-all, all-every, tests-agree}
 use Rattle.plane.specs.theory.forms.Vector.{value-turned}
 use Rattle.plane.specs.theory.support.Support.{value-le-support, support-attained}

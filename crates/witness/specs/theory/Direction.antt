@@ -17,6 +17,7 @@ use Rattle.integer.specs.Order.{_<×<_, _<×≤_, contra<}
 use Rattle.integer.specs.Bound.{within-widen, within-neg}
 use Rattle.divisor.specs.Divisor.{gcd, Gcd}
 use Rattle.divisor.specs.Euclid.{gcd-is, gcd-zero}
+use Rattle.plane.specs.Direction.{SameWay}
 use Rattle.plane.specs.Point.{Point, opposite}
 use Rattle.plane.specs.Limits.{maxPart, part-small}
 use Rattle.plane.specs.Furthest.{badDirection, partsDivisor}
@@ -24,7 +25,7 @@ use Rattle.plane.specs.Primitive.{primitive}
 use Rattle.plane.specs.Offer.{below}
 use Rattle.plane.specs.theory.lists.Members.{point-path}
 use Rattle.plane.specs.theory.lists.Sought.{tests-agree}
-use Rattle.plane.specs.theory.forms.SameWay.{SameWay, same-sym}
+use Rattle.plane.specs.theory.forms.SameWay.{same-sym}
 use Rattle.plane.specs.theory.direction.Rows.{direction-near, direction-some, near-direction, some-divisor}
 use Rattle.plane.specs.theory.direction.Scaled.{same-value}
 use Rattle.plane.specs.theory.direction.Primitive.{primitive-bad}

@@ -14,17 +14,15 @@ use lib.ListN.{length}
 use lib.Signed.{_<ℤ_, leZ}
 use Rattle.integer.specs.Linear.{linear, lia, _&_}
 use Rattle.integer.specs.Order.{_<×<_, _<×≤_, _≡×_, contra<, ltZ-true, leZ-false}
-use Rattle.plane.specs.Point.{Point, corner, origin, opposite, _⊖_}
+use Rattle.plane.specs.Point.{Point, corner, origin, opposite, _⊖_, _∈_}
 use Rattle.plane.specs.Turn.{cross, turn}
 use Rattle.plane.specs.Limits.{maxPart}
 use Rattle.plane.specs.Search.{some}
 use Rattle.plane.specs.Shape.{next, IsShape}
-use Rattle.plane.specs.Direction.{value, support}
+use Rattle.plane.specs.Direction.{value, support, SameWay}
 use Rattle.plane.specs.Separation.{notLeft}
-use Rattle.plane.specs.theory.lists.Members.{_∈_}
 use Rattle.plane.specs.theory.lists.Sought.{true-not-false}
 use Rattle.plane.specs.theory.forms.Vector.{outward, value-origin, value-turned}
-use Rattle.plane.specs.theory.forms.SameWay.{SameWay}
 use Rattle.plane.specs.theory.support.Support.{support-attained}
 use Rattle.polygon.specs.Point.{Small}
 use Rattle.separation.specs.Around.{crossAt, rightOf, placedFew, placed}

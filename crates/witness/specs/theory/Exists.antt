@@ -13,7 +13,7 @@ use Rattle.plane.specs.Point.{Point, points, numbers}
 use Rattle.plane.specs.Refusal.{Valid}
 use Rattle.plane.specs.Direction.{support}
 use Rattle.plane.specs.Corner.{shapeOf}
-use Rattle.plane.specs.Separation.{differences, apart}
+use Rattle.plane.specs.Separation.{differences, apart, relationNumber}
 use Rattle.plane.specs.Furthest.{badDirection}
 use Rattle.plane.specs.Primitive.{primitive}
 use Rattle.plane.specs.Offer.{below}
@@ -22,7 +22,6 @@ use Rattle.plane.specs.theory.lists.Flat.{points-numbers}
 use Rattle.plane.specs.theory.lists.Sought.{true-not-false}
 use Rattle.plane.specs.theory.direction.Rows.{direction-some, near-direction}
 use Rattle.plane.specs.theory.direction.Primitive.{primitive-same, primitive-bad, primitive-common}
-use Rattle.separation.specs.Around.{related}
 use Rattle.separation.specs.theory.Apart.{differences-shape}
 use Rattle.separation.specs.theory.Around.{refuted}
 use Rattle.separation.specs.theory.Image.{image, image-begun, image-related}
@@ -32,8 +31,8 @@ use Rattle.witness.specs.theory.Below.{negative→below, below→nonzero
 use Rattle.witness.specs.theory.Direction.{same-below}
 use Rattle.witness.specs.theory.Away.{some-away}
 
-apart-related : (A B : List Point) → apart A B ≡ true → related A B ≡ pos 0
-unfolding related
+apart-related : (A B : List Point) → apart A B ≡ true → relationNumber A B ≡ pos 0
+unfolding relationNumber
 apart-related A B h = rw h
 
 pub divided-witness : (A B : List Point) (d : Point) → badDirection d ≡ false → below (primitive d) A B ≡ true → Witness A B (primitive d)

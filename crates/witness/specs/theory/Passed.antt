@@ -16,6 +16,7 @@ use lib.IntN.{ℤ, pos, _*ℤ_}
 use lib.ListN.{length}
 use Rattle.integer.specs.Ring.{ring, reify}
 use Rattle.integer.specs.Bound.{within-widen, within-add, within-neg}
+use Rattle.plane.specs.Direction.{SameWay}
 use Rattle.plane.specs.Point.{Point, points, corner, _⊕_, _⊖_}
 use Rattle.plane.specs.Limits.{maxCoordinate, maxPart}
 use Rattle.plane.specs.Search.{some}
@@ -25,7 +26,7 @@ use Rattle.plane.specs.Cycle.{cornerRound}
 use Rattle.plane.specs.theory.lists.Flat.{Near, points-near}
 use Rattle.plane.specs.theory.lists.Members.{point-path}
 use Rattle.plane.specs.theory.forms.Vector.{step-back}
-use Rattle.plane.specs.theory.forms.SameWay.{SameWay, same-sum}
+use Rattle.plane.specs.theory.forms.SameWay.{same-sum}
 use Rattle.plane.specs.theory.sum.Positions.{round-within, round-step, edges-at-most, shape-in-order}
 use Rattle.polygon.specs.Point.{Small}
 use Rattle.calipers.specs.Walk.{Walk, here, passed, advanced, At}

@@ -112,29 +112,11 @@ enum-told-10 c = search needs
 fields-requires-16 : tie.Need-fields-requires-16
 fields-requires-16 c κs = search needs
 
-enum-known-refusal-7 : tie.Need-enum-known-refusal-7
-enum-known-refusal-7 c = search needs
-
-fields-requires-17 : tie.Need-fields-requires-17
-fields-requires-17 c κs = given-fits (c .before .before .before .pre) (c .before .refusal7 .given .1)
-
-enum-known-refusal-8 : tie.Need-enum-known-refusal-8
-enum-known-refusal-8 c = search needs
-
-fields-requires-18 : tie.Need-fields-requires-18
-fields-requires-18 c κs = given-fits (c .before .before .before .pre) (c .before .refusal8 .given .1)
-
 enum-told-11 : tie.Need-enum-told-11
 enum-told-11 c = search needs
 
-fields-requires-19 : tie.Need-fields-requires-19
-fields-requires-19 c κs = search needs
-
-enum-known-refusal-9 : tie.Need-enum-known-refusal-9
-enum-known-refusal-9 c = search needs
-
-fields-requires-20 : tie.Need-fields-requires-20
-fields-requires-20 c κs = given-fits (c .before .before .before .pre) (c .before .refusal9 .given .1)
+fields-requires-17 : tie.Need-fields-requires-17
+fields-requires-17 c κs = search needs
 
 returns : tie.Need-returns
 returns c = c .fields .ensures ∙ told (c .before .before .refusal .given .1)
@@ -185,16 +167,7 @@ returns-16 : tie.Need-returns-16
 returns-16 c = c .fields16 .ensures ∙ told (c .before .enum-told10 .given .1)
 
 returns-17 : tie.Need-returns-17
-returns-17 c = c .fields17 .ensures ∙ told (c .before .before .refusal7 .given .1)
-
-returns-18 : tie.Need-returns-18
-returns-18 c = c .fields18 .ensures ∙ told (c .before .before .refusal8 .given .1)
-
-returns-19 : tie.Need-returns-19
-returns-19 c = c .fields19 .ensures ∙ told (c .before .enum-told11 .given .1)
-
-returns-20 : tie.Need-returns-20
-returns-20 c = c .fields20 .ensures ∙ told (c .before .before .refusal9 .given .1)
+returns-17 c = c .fields17 .ensures ∙ told (c .before .enum-told11 .given .1)
 
 pub of-refusal-spec : {M : Type 1} → statement M
 of-refusal-spec =
@@ -203,8 +176,6 @@ of-refusal-spec =
     fields-requires-3 enum-known-refusal-4 fields-requires-4 enum-known-refusal-5 fields-requires-5 enum-told
     fields-requires-6 enum-told-2 fields-requires-7 enum-told-3 fields-requires-8 enum-told-4 fields-requires-9 enum-told-5
     fields-requires-10 enum-told-6 fields-requires-11 enum-told-7 fields-requires-12 enum-told-8 fields-requires-13
-    enum-told-9 fields-requires-14 enum-known-refusal-6 fields-requires-15 enum-told-10 fields-requires-16
-    enum-known-refusal-7 fields-requires-17 enum-known-refusal-8 fields-requires-18 enum-told-11 fields-requires-19
-    enum-known-refusal-9 fields-requires-20 returns returns-2 returns-3 returns-4 returns-5 returns-6 returns-7 returns-8
-    returns-9 returns-10 returns-11 returns-12 returns-13 returns-14 returns-15 returns-16 returns-17 returns-18 returns-19
-    returns-20)
+    enum-told-9 fields-requires-14 enum-known-refusal-6 fields-requires-15 enum-told-10 fields-requires-16 enum-told-11
+    fields-requires-17 returns returns-2 returns-3 returns-4 returns-5 returns-6 returns-7 returns-8
+    returns-9 returns-10 returns-11 returns-12 returns-13 returns-14 returns-15 returns-16 returns-17)

@@ -1,5 +1,4 @@
 -- `ask` meets its contract, each way that of its question.
-use Rattle.plane.specs.Combine.{sumWritten, mergeWritten}
 use borrow.Author.Needs.{needs}
 use Rattle.abi.proofs.writing.ask.Statement.{statement}
 use Rattle.abi.proofs.writing.ask.Tie as tie
@@ -14,14 +13,12 @@ same-length : tie.Need-same-length
 same-length c = search needs
 
 returns : tie.Need-returns
-unfolding mergeWritten
 returns c = rw (c .before .before .before .if1 .taken) (c .before .merge .ensures)
 
 same-length-2 : tie.Need-same-length-2
 same-length-2 c = search needs
 
 returns-2 : tie.Need-returns-2
-unfolding sumWritten
 returns-2 c = rw (c .before .before .before .if1 .left) (c .before .sum .ensures)
 
 pub ask-spec : {M : Type 1} → statement M

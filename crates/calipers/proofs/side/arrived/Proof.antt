@@ -16,7 +16,8 @@ add-t4 : tie.Need-add-t4
 add-t4 c = machine-fits (search (machine, bounded) depth 40) tt
 
 returns : tie.Need-returns
-returns c = (refl, refl, ap₂ point (machine-is (search (machine, bounded) depth 40) tt) (machine-is (search (machine, bounded) depth 40) tt), refl)
+returns c =
+    (refl, refl, ap₂ point (machine-is (search (machine, bounded) depth 40) tt) (machine-is (search (machine, bounded) depth 40) tt), refl)
 
 pub arrived-spec : {M : Type 1} → statement M
 arrived-spec = tie.close (tie.spec add-t2 add-t3 add-t4 returns)

@@ -38,7 +38,8 @@ returns-2 c =
     let stands = start .pre .0 in
     let ps = points (start .args .list .now) in (
       c .facing .ensures .0,
-      carried-to (at (c .before .corner-at .result)) stands (c .facing .ensures) (ap (λ q. q ⊖ cornerRound ps (start .args .s .at)) (c .before .corner-at .ensures)
+      carried-to (at (c .before .corner-at .result)) stands (c .facing .ensures)
+          (ap (λ q. q ⊖ cornerRound ps (start .args .s .at)) (c .before .corner-at .ensures)
           ∙ edge-last ps _ _ (stands .end-is) (omega (arith, at-else .if1 .left, stands .at-in, stands .end-is, start .pre .3))),
     )
 

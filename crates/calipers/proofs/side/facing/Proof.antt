@@ -18,7 +18,12 @@ sub-t6 : tie.Need-sub-t6
 sub-t6 c = machine-fits (search (machine, bounded) depth 40) tt
 
 returns : tie.Need-returns
-returns c = (refl, refl, ap₂ point (machine-is (search (machine, bounded) depth 40) tt) (machine-is (search (machine, bounded) depth 40) tt), ap₂ point (machine-is (search (machine, bounded) depth 40) tt) (machine-is (search (machine, bounded) depth 40) tt))
+returns c = (
+  refl,
+  refl,
+  ap₂ point (machine-is (search (machine, bounded) depth 40) tt) (machine-is (search (machine, bounded) depth 40) tt),
+  ap₂ point (machine-is (search (machine, bounded) depth 40) tt) (machine-is (search (machine, bounded) depth 40) tt),
+)
 
 pub facing-spec : {M : Type 1} → statement M
 facing-spec = tie.close (tie.spec cast-t3 sub-t4 cast-t5 sub-t6 returns)

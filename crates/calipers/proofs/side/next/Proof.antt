@@ -47,7 +47,8 @@ onto-requires c κs =
       record {
         at-in = omega (arith, made .0, left at-else);
         end-is = made .1 ∙ start .pre .0 .end-is;
-        corner-is = made .2 ∙ along-edge (start .pre .0) (left at-else) ∙ ap (cornerRound (points (start .args .list .now))) (sym (made .0));
+        corner-is = made .2 ∙ along-edge (start .pre .0) (left at-else)
+            ∙ ap (cornerRound (points (start .args .list .now))) (sym (made .0));
         no-edge = made .3;
       },
       start .pre .1,

@@ -12,7 +12,8 @@ cast-t5 : tie.Need-cast-t5
 cast-t5 c = machine-fits (search (machine, bounded) depth 40) tt
 
 returns : tie.Need-returns
-returns c = (refl, refl, ap₂ point (machine-is (search (machine, bounded) depth 40) tt) (machine-is (search (machine, bounded) depth 40) tt), refl)
+returns c =
+    (refl, refl, ap₂ point (machine-is (search (machine, bounded) depth 40) tt) (machine-is (search (machine, bounded) depth 40) tt), refl)
 
 pub standing-spec : {M : Type 1} → statement M
 standing-spec = tie.close (tie.spec cast-t4 cast-t5 returns)

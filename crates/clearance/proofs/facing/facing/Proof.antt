@@ -58,7 +58,8 @@ add-all c =
 begins : (c : tie.After-struct-known2 Inv-loop μ-loop) → let second = c .before .before in
     walkOf (second .before .side-at .result) (second .side-at2 .result) false ≡ begun
 begins c = let second = c .before .before in
-    sides-walk begun (second .before .side-at .result) (second .side-at2 .result) (second .before .side-at .ensures .0) (second .side-at2 .ensures .0)
+    sides-walk begun (second .before .side-at .result) (second .side-at2 .result) (second .before .side-at .ensures .0)
+    (second .side-at2 .ensures .0)
 
 standing : (c : tie.After-struct-known2 Inv-loop μ-loop) → let second = c .before .before in
     let args = second .before .before .args in
@@ -149,13 +150,15 @@ here-requires-3 c κs =
 -- where it stands before and after the step
 leaves : (c : tie.After-here3 Inv-loop μ-loop) → let at-loop = c .before .before .before .before .before in
     let args = at-loop .before .before .before .before .before .before .args in
-    at (c .before .here2 .result) ≡ here (points (args .a .now)) (points (args .b .now)) (walkOf (at-loop .loop .s) (at-loop .loop .t) false)
+    at (c .before .here2 .result)
+    ≡ here (points (args .a .now)) (points (args .b .now)) (walkOf (at-loop .loop .s) (at-loop .loop .t) false)
 leaves c = let inv = c .before .before .before .before .before .loop .inv in
     c .before .here2 .ensures ∙ sides-here (looking-at (inv .0)) (inv .1) (inv .2)
 
 arrives : (c : tie.After-here3 Inv-loop μ-loop) (end : Bool) → let at-next = c .before .before in
     let args = at-next .before .before .before .before .before .before .before .before .before .args in
-    at (c .here3 .result) ≡ here (points (args .a .now)) (points (args .b .now)) (walkOf (at-next .before .next .result) (at-next .next2 .result) end)
+    at (c .here3 .result)
+    ≡ here (points (args .a .now)) (points (args .b .now)) (walkOf (at-next .before .next .result) (at-next .next2 .result) end)
 arrives c end = let at-next = c .before .before in
     c .here3 .ensures ∙ sides-here (steps at-next end) (at-next .before .next .ensures .1) (at-next .next2 .ensures .1)
 
@@ -174,7 +177,8 @@ returns c =
     let at-loop = at-here .before .before .before .before .before in (
       small-wide (near at-here .0),
       looking-corner (at-loop .loop .inv .0) refl (advances (at-here .before .before)) (leaves at-here)
-          (arrives at-here _) (at-loop .before .before .before .before .before .before .pre .1) (sym (c .before .rests .ensures) ∙ c .if1 .taken),
+          (arrives at-here _) (at-loop .before .before .before .before .before .before .pre .1)
+          (sym (c .before .rests .ensures) ∙ c .if1 .taken),
     )
 
 crosses-requires : tie.Need-crosses-requires Inv-loop μ-loop
@@ -193,7 +197,8 @@ returns-2 c =
         small-x = within-neg (within-add (both .1 .small-y) (within-neg (both .0 .small-y)));
         small-y = within-add (both .1 .small-x) (within-neg (both .0 .small-x));
       }),
-      subst (Stopped _) (sym (c .across .ensures)) (looking-edge (at-loop .loop .inv .0) refl (advances (at-here .before .before)) (leaves at-here)
+      subst (Stopped _) (sym (c .across .ensures))
+          (looking-edge (at-loop .loop .inv .0) refl (advances (at-here .before .before)) (leaves at-here)
           (arrives at-here _) (sym (at-cross .crosses .ensures) ∙ c .before .if2 .taken)),
     )
 
@@ -213,8 +218,10 @@ fails : (c : tie.After-struct-known4 Inv-loop μ-loop) → let at-here = c .befo
     (rests back (at (at-here .before .here2 .result)) (at (at-here .here3 .result)) ≡ false)
     × (crosses (at (at-here .before .here2 .result)) (at (at-here .here3 .result)) ≡ false)
 fails c =
-    let at-cross = c .before .before .before in
-    (sym (at-cross .before .before .rests .ensures) ∙ at-cross .before .if1 .left, sym (at-cross .crosses .ensures) ∙ c .before .before .if2 .left)
+    let at-cross = c .before .before .before in (
+      sym (at-cross .before .before .rests .ensures) ∙ at-cross .before .if1 .left,
+      sym (at-cross .crosses .ensures) ∙ c .before .before .if2 .left,
+    )
 
 returns-3 : tie.Need-returns-3 Inv-loop μ-loop
 returns-3 c =
@@ -226,7 +233,8 @@ returns-3 c =
     let over = all-passed _ _ _ _ (at-next .before .next .ensures .1 .at-in) (at-next .next2 .ensures .1 .at-in)
     (c .if3 .taken ∙ all (at-first .before)) in (
       small-wide (here-near (at-first .before .before .before .before .before .pre .0) (first-here at-first)),
-      looking-end (at-loop .loop .inv .0) refl (advances at-next) (leaves at-here) (arrives at-here _) (fails known .0) (fails known .1) over
+      looking-end (at-loop .loop .inv .0) refl (advances at-next) (leaves at-here) (arrives at-here _) (fails known .0)
+          (fails known .1) over
           (begins-here at-first),
     )
 
@@ -236,7 +244,8 @@ loop-less c =
     let at-loop = at-next .before .before .before in
     let inv = at-loop .loop .inv in
     let args = at-loop .before .before .before .before .before .before .args in
-    edges-less (edges (points (args .a .now))) (edges (points (args .b .now))) _ _ _ _ (inv .1 .at-in) (inv .2 .at-in) (first-step at-next) (second-step at-next)
+    edges-less (edges (points (args .a .now))) (edges (points (args .b .now))) _ _ _ _ (inv .1 .at-in) (inv .2 .at-in) (first-step at-next)
+    (second-step at-next)
     (λ e. c .if3 .left (e ∙ sym (all (at-loop .before .before))))
 
 loop-again : tie.Need-loop-again Inv-loop μ-loop
@@ -246,10 +255,12 @@ loop-again c =
     let at-next = at-here .before .before in
     let at-loop = at-next .before .before .before in
     let args = at-loop .before .before .before .before .before .before .args in
-    let on = some-left _ _ (at-next .before .next .result .at) (at-next .next2 .result .at) (λ e. c .if3 .left (e ∙ sym (all (at-loop .before .before)))) in (
+    let on = some-left _ _ (at-next .before .next .result .at) (at-next .next2 .result .at)
+    (λ e. c .if3 .left (e ∙ sym (all (at-loop .before .before)))) in (
       subst (λ (o : Bool). Looking (args .a .now) (args .b .now) (walkOf (at-next .before .next .result) (at-next .next2 .result) o)
           (at (at-here .before .here2 .result))) on
-          (looking-more (at-loop .loop .inv .0) refl (advances at-next) (leaves at-here) (arrives at-here _) (fails known .0) (fails known .1)),
+          (looking-more (at-loop .loop .inv .0) refl (advances at-next) (leaves at-here) (arrives at-here _)
+          (fails known .0) (fails known .1)),
       at-next .before .next .ensures .1,
       at-next .next2 .ensures .1,
       small-wide (near at-here .0),

@@ -24,12 +24,14 @@ one-is : (c : tie.After-dot3) → let args = c .before .before .before .args in
     ltZ (toZ w64 (ofZ w64 (c .before .before .dot .result))) (toZ w64 (ofZ w64 (c .before .dot2 .result)))
     ≡ ltZ (value (at (args .w)) (at (args .d))) (value (at (args .w)) (at (args .w)))
 one-is c =
-    ap₂ ltZ (result-is w64 (c .before .before .dot .ok) (c .before .before .dot .ensures)) (result-is w64 (c .before .dot2 .ok) (c .before .dot2 .ensures))
+    ap₂ ltZ (result-is w64 (c .before .before .dot .ok) (c .before .before .dot .ensures))
+    (result-is w64 (c .before .dot2 .ok) (c .before .dot2 .ensures))
 
 other-is : (c : tie.After-dot3) → let args = c .before .before .before .args in
     ltZ (toZ w64 (ofZ w64 (c .before .before .dot .result))) (toZ w64 (ofZ w64 (c .dot3 .result)))
     ≡ ltZ (value (at (args .w)) (at (args .d))) (value (at (args .d)) (at (args .d)))
-other-is c = ap₂ ltZ (result-is w64 (c .before .before .dot .ok) (c .before .before .dot .ensures)) (result-is w64 (c .dot3 .ok) (c .dot3 .ensures))
+other-is c =
+    ap₂ ltZ (result-is w64 (c .before .before .dot .ok) (c .before .before .dot .ensures)) (result-is w64 (c .dot3 .ok) (c .dot3 .ensures))
 
 returns : tie.Need-returns
 returns c = and-taken _ (one-is (c .before)) (c .if1 .taken) (other-is (c .before))

@@ -25,12 +25,14 @@ one-is : (c : tie.After-dot3) → let args = c .before .before .before .args in
     leZ (toZ w64 (ofZ w64 (c .before .before .dot .result))) (toZ w64 (ofZ w64 (c .before .dot2 .result)))
     ≡ leZ (value (at (args .w)) (at (args .w))) (value (at (args .w)) (at (args .p)))
 one-is c =
-    ap₂ leZ (result-is w64 (c .before .before .dot .ok) (c .before .before .dot .ensures)) (result-is w64 (c .before .dot2 .ok) (c .before .dot2 .ensures))
+    ap₂ leZ (result-is w64 (c .before .before .dot .ok) (c .before .before .dot .ensures))
+    (result-is w64 (c .before .dot2 .ok) (c .before .dot2 .ensures))
 
 other-is : (c : tie.After-dot3) → let args = c .before .before .before .args in
     leZ (toZ w64 (ofZ w64 (c .before .before .dot .result))) (toZ w64 (ofZ w64 (c .dot3 .result)))
     ≡ leZ (value (at (args .w)) (at (args .w))) (value (at (args .w)) (at (args .d)))
-other-is c = ap₂ leZ (result-is w64 (c .before .before .dot .ok) (c .before .before .dot .ensures)) (result-is w64 (c .dot3 .ok) (c .dot3 .ensures))
+other-is c =
+    ap₂ leZ (result-is w64 (c .before .before .dot .ok) (c .before .before .dot .ensures)) (result-is w64 (c .dot3 .ok) (c .dot3 .ensures))
 
 returns : tie.Need-returns
 unfolding rests

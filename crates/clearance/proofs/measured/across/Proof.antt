@@ -75,7 +75,8 @@ cross-requires c κs = steps-small c
 
 -- the turn
 turn-is : (c : tie.After-cross) → let start = c .before .before .before .before .before .before .before .before in
-    toZ w64 (ofZ w64 (c .cross .result)) ≡ turnOn (points (start .args .b .now)) (start .args .e) (corner (points (start .args .a .now)) (start .args .c))
+    toZ w64 (ofZ w64 (c .cross .result))
+    ≡ turnOn (points (start .args .b .now)) (start .args .e) (corner (points (start .args .a .now)) (start .args .c))
 turn-is c =
     let at-other = c .before in
     let third = at-other .before in
@@ -109,7 +110,8 @@ magnitude-requires : tie.Need-magnitude-requires
 unfolding edgeSquared
 magnitude-requires c κs = rw (squared-is c) (squared-nonneg _ _)
 
-length-is : (c : tie.After-magnitude) → let start = c .before .before .before .before .before .before .before .before .before .before .before in
+length-is : (c : tie.After-magnitude)
+    → let start = c .before .before .before .before .before .before .before .before .before .before .before in
     edgeSquared (points (start .args .b .now)) (start .args .e) ≡ pos (c .magnitude .result)
 length-is c = sym (squared-is (c .before)) ∙ c .magnitude .ensures
 

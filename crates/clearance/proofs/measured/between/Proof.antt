@@ -31,7 +31,8 @@ squared-requires c κs =
 squared-is : (c : tie.After-squared) → let args = c .before .before .before .args in
     toZ w64 (ofZ w64 (c .squared .result)) ≡ squared (corner (points (args .a .now)) (args .i)) (corner (points (args .b .now)) (args .j))
 squared-is c =
-    result-is w64 (c .squared .ok) (c .squared .ensures ∙ ap₂ squared (c .before .before .corner-at .ensures) (c .before .corner-at2 .ensures))
+    result-is w64 (c .squared .ok)
+    (c .squared .ensures ∙ ap₂ squared (c .before .before .corner-at .ensures) (c .before .corner-at2 .ensures))
 
 magnitude-requires : tie.Need-magnitude-requires
 magnitude-requires c κs = rw (squared-is c) (squared-nonneg _ _)

@@ -22,7 +22,8 @@ enum-known-pair c = search needs
 between-requires : tie.Need-between-requires
 between-requires c κs =
     let start = c .before .before .before in
-    let m = subst (λ (p : Pair). Measurable (points (start .args .a .now)) (points (start .args .b .now)) (candidateOf p)) (c .before .pair .given .1) (start .pre .2) in
+    let m = subst (λ (p : Pair). Measurable (points (start .args .a .now)) (points (start .args .b .now)) (candidateOf p))
+    (c .before .pair .given .1) (start .pre .2) in
     (m .0, m .1, start .pre .0, start .pre .1, m .2)
 
 enum-known-pair-2 : tie.Need-enum-known-pair-2
@@ -31,7 +32,8 @@ enum-known-pair-2 c = search needs
 across-requires : tie.Need-across-requires
 across-requires c κs =
     let start = c .before .before .before in
-    let m = subst (λ (p : Pair). Measurable (points (start .args .a .now)) (points (start .args .b .now)) (candidateOf p)) (c .before .pair2 .given .1) (start .pre .2) in
+    let m = subst (λ (p : Pair). Measurable (points (start .args .a .now)) (points (start .args .b .now)) (candidateOf p))
+    (c .before .pair2 .given .1) (start .pre .2) in
     (m .0, m .1, start .pre .0, start .pre .1, m .2)
 
 enum-known-pair-3 : tie.Need-enum-known-pair-3
@@ -40,13 +42,15 @@ enum-known-pair-3 c = search needs
 across-requires-2 : tie.Need-across-requires-2
 across-requires-2 c κs =
     let start = c .before .before .before in
-    let m = subst (λ (p : Pair). Measurable (points (start .args .a .now)) (points (start .args .b .now)) (candidateOf p)) (c .before .pair3 .given .1) (start .pre .2) in
+    let m = subst (λ (p : Pair). Measurable (points (start .args .a .now)) (points (start .args .b .now)) (candidateOf p))
+    (c .before .pair3 .given .1) (start .pre .2) in
     (m .0, m .1, start .pre .1, start .pre .0, m .2)
 
 returns : tie.Need-returns
 returns c =
     let args = c .before .before .before .before .args in
-    c .between .ensures ∙ ap (λ (p : Pair). numbersOf (points (args .a .now)) (points (args .b .now)) (candidateOf p)) (sym (c .before .before .pair .given .1))
+    c .between .ensures
+    ∙ ap (λ (p : Pair). numbersOf (points (args .a .now)) (points (args .b .now)) (candidateOf p)) (sym (c .before .before .pair .given .1))
 
 returns-2 : tie.Need-returns-2
 returns-2 c =

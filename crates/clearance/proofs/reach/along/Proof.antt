@@ -34,7 +34,8 @@ cross-requires c κs =
 
 beside-is : (c : tie.After-cross) → let start = c .before .before .before .before in
     toZ w64 (ofZ w64 (c .cross .result))
-    ≡ cross (at (start .args .n)) (corner (points (start .args .a .now)) (start .args .i) ⊖ corner (points (start .args .b .now)) (start .args .j))
+    ≡ cross (at (start .args .n))
+    (corner (points (start .args .a .now)) (start .args .i) ⊖ corner (points (start .args .b .now)) (start .args .j))
 beside-is c =
     let at-step = c .before in
     let start = at-step .before .before .before in

@@ -27,7 +27,8 @@ lowest-requires-2 c κs =
     let start = c .before .before in
     let small = start .pre .2 in (
       start .pre .1,
-      subst (Small 4194304) (sym (c .against .ensures)) (record { small-x = within-neg (small .small-x); small-y = within-neg (small .small-y) }),
+      subst (Small 4194304) (sym (c .against .ensures))
+          (record { small-x = within-neg (small .small-x); small-y = within-neg (small .small-y) }),
       subst NonZero (sym (c .against .ensures)) (opposite-non-zero (some start)),
     )
 
@@ -57,7 +58,8 @@ first-along-requires c κs = let both = ends c in (both .0, both .1, c .before .
 
 -- what the three searches found
 along-found : (c : tie.After-first-along) {r : Spot} → c .first-along .result ≡ r → let start = c .before .before .before .before in
-    Tried (isAlong (at (start .args .n)) (points (start .args .a .now)) (points (start .args .b .now))) (c .before .before .before .lowest .result) (c .before .lowest2 .result) r
+    Tried (isAlong (at (start .args .n)) (points (start .args .a .now)) (points (start .args .b .now)))
+    (c .before .before .before .lowest .result) (c .before .lowest2 .result) r
 along-found c e =
     let args = c .before .before .before .before .args in
     let test = isAlong (at (args .n)) (points (args .a .now)) (points (args .b .now)) in
@@ -111,7 +113,8 @@ enum-told-2 c = search needs
 first-foot-requires-2 : tie.Need-first-foot-requires-2
 first-foot-requires-2 c κs = let both = ends (c .before .before .before .before .before .before) in (both .1, both .0)
 
-first-found : (c : tie.After-first-foot2) {r : Spot} → c .first-foot2 .result ≡ r → let at-along = c .before .before .before .before .before .before in
+first-found : (c : tie.After-first-foot2) {r : Spot} → c .first-foot2 .result ≡ r
+    → let at-along = c .before .before .before .before .before .before in
     let start = at-along .before .before .before .before in
     let f = at-along .before .before .before .lowest .result in
     let g = at-along .before .lowest2 .result in
@@ -139,7 +142,8 @@ returns-3 c =
     let at-along = none .before .before in
     let start = at-along .before .before .before .before in
     sym (first-first _ _ _ (start .pre .0 .shape) (start .pre .1 .shape) (start .pre .3) (first-face (at-along .before))
-    (second-face (at-along .before)) (along-found at-along (none .enum-told .given .1)) (second-found at-foot (neither .enum-told2 .given .1))
+    (second-face (at-along .before)) (along-found at-along (none .enum-told .given .1))
+    (second-found at-foot (neither .enum-told2 .given .1))
     (first-found at-last (c .before .one3 .given .1)))
 
 returns-4 : tie.Need-returns-4
@@ -151,7 +155,8 @@ returns-4 c =
     let at-along = none .before .before in
     let start = at-along .before .before .before .before in
     absurd (some-reached _ _ _ (start .pre .0 .shape) (start .pre .1 .shape) (start .pre .3) (first-face (at-along .before))
-    (second-face (at-along .before)) (along-found at-along (none .enum-told .given .1)) (second-found at-foot (neither .enum-told2 .given .1))
+    (second-face (at-along .before)) (along-found at-along (none .enum-told .given .1))
+    (second-found at-foot (neither .enum-told2 .given .1))
     (first-found at-last (c .enum-told3 .given .1)))
 
 pub first-reached-spec : {M : Type 1} → statement M

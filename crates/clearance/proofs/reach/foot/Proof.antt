@@ -38,7 +38,8 @@ returns : tie.Need-returns
 unfolding isFoot
 returns c =
     let start = c .before .before .before .before in
-    sym (ap (λ (b : Bool). b && fallsOn (points (start .args .b .now)) (start .args .e) (corner (points (start .args .a .now)) (start .args .c)))
+    sym (ap
+    (λ (b : Bool). b && fallsOn (points (start .args .b .now)) (start .args .e) (corner (points (start .args .a .now)) (start .args .c)))
     (sym (held-is (c .before)) ∙ not-true _ (c .if1 .taken)))
 
 corner-at-requires : tie.Need-corner-at-requires

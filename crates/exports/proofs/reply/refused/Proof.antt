@@ -100,35 +100,17 @@ enum-known-refusal-6 c = search needs
 pair-requires-15 : tie.Need-pair-requires-15
 pair-requires-15 c κs = search needs
 
-enum-known-refusal-7 : tie.Need-enum-known-refusal-7
-enum-known-refusal-7 c = search needs
-
 pair-requires-16 : tie.Need-pair-requires-16
 pair-requires-16 c κs = search needs
-
-enum-known-refusal-8 : tie.Need-enum-known-refusal-8
-enum-known-refusal-8 c = search needs
 
 pair-requires-17 : tie.Need-pair-requires-17
 pair-requires-17 c κs = search needs
 
-enum-known-refusal-9 : tie.Need-enum-known-refusal-9
-enum-known-refusal-9 c = search needs
-
-pair-requires-18 : tie.Need-pair-requires-18
-pair-requires-18 c κs = search needs
-
 enum-told-10 : tie.Need-enum-told-10
 enum-told-10 c = search needs
 
-pair-requires-19 : tie.Need-pair-requires-19
-pair-requires-19 c κs = search needs
-
 enum-told-11 : tie.Need-enum-told-11
 enum-told-11 c = search needs
-
-pair-requires-20 : tie.Need-pair-requires-20
-pair-requires-20 c κs = search needs
 
 returns : tie.Need-returns
 returns c = c .pair .ensures ∙ told (c .before .before .refusal .given .1)
@@ -176,19 +158,10 @@ returns-15 : tie.Need-returns-15
 returns-15 c = c .pair15 .ensures ∙ told (c .before .before .refusal6 .given .1)
 
 returns-16 : tie.Need-returns-16
-returns-16 c = c .pair16 .ensures ∙ told (c .before .before .refusal7 .given .1)
+returns-16 c = c .pair16 .ensures ∙ told (c .before .enum-told10 .given .1)
 
 returns-17 : tie.Need-returns-17
-returns-17 c = c .pair17 .ensures ∙ told (c .before .before .refusal8 .given .1)
-
-returns-18 : tie.Need-returns-18
-returns-18 c = c .pair18 .ensures ∙ told (c .before .before .refusal9 .given .1)
-
-returns-19 : tie.Need-returns-19
-returns-19 c = c .pair19 .ensures ∙ told (c .before .enum-told10 .given .1)
-
-returns-20 : tie.Need-returns-20
-returns-20 c = c .pair20 .ensures ∙ told (c .before .enum-told11 .given .1)
+returns-17 c = c .pair17 .ensures ∙ told (c .before .enum-told11 .given .1)
 
 pub refused-spec : {M : Type 1} → statement M
 refused-spec =
@@ -197,7 +170,6 @@ refused-spec =
     enum-known-refusal-4 pair-requires-4 enum-known-refusal-5 pair-requires-5 enum-told pair-requires-6 enum-told-2
     pair-requires-7 enum-told-3 pair-requires-8 enum-told-4 pair-requires-9 enum-told-5 pair-requires-10 enum-told-6
     pair-requires-11 enum-told-7 pair-requires-12 enum-told-8 pair-requires-13 enum-told-9 pair-requires-14 enum-known-refusal-6
-    pair-requires-15 enum-known-refusal-7 pair-requires-16 enum-known-refusal-8 pair-requires-17 enum-known-refusal-9
-    pair-requires-18 enum-told-10 pair-requires-19 enum-told-11 pair-requires-20 returns returns-2 returns-3 returns-4 returns-5
+    pair-requires-15 enum-told-10 pair-requires-16 enum-told-11 pair-requires-17 returns returns-2 returns-3 returns-4 returns-5
     returns-6 returns-7 returns-8 returns-9 returns-10 returns-11 returns-12 returns-13 returns-14 returns-15 returns-16
-    returns-17 returns-18 returns-19 returns-20)
+    returns-17)

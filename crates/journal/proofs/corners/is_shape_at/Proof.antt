@@ -10,11 +10,10 @@ use lib.Seq.{length-take-le}
 use Rattle.plane.specs.Limits.{maxCorners}
 use Rattle.plane.specs.Point.{points}
 use Rattle.plane.specs.Refusal.{tooMany}
-use Rattle.plane.specs.Judge.{judged}
 use Rattle.plane.specs.theory.lists.Flat.{points-length}
 use Rattle.journal.specs.Bytes.{wordsAt}
-use Rattle.journal.specs.Format.{isAnswer}
-use Rattle.journal.specs.theory.Decode.{wordsAt-length, front-is, front-length, many-refused}
+use Rattle.journal.specs.Format.{judged, isAnswer}
+use Rattle.journal.specs.theory.Decode.{wordsAt-length, front-is, front-length, many-refused, passed-answers}
 use Rattle.journal.proofs.corners.is_shape_at.Statement.{statement}
 use Rattle.journal.proofs.corners.is_shape_at.Tie as tie
 
@@ -50,16 +49,16 @@ kept c =
     front-length (wordsAt (args .n) (args .log .now) (args .p)) (args .buffer .now) _ (c .before .decode .ensures)
     (omega (arith, wordsAt-length (args .log .now) (args .n) (args .p), fits (c .before .before .before)))
 
-slice-reshare-prefix-is-shape : tie.Need-slice-reshare-prefix-is-shape
-slice-reshare-prefix-is-shape c = omega (arith, kept c, fits (c .before .before .before))
+slice-reshare-prefix-passes : tie.Need-slice-reshare-prefix-passes
+slice-reshare-prefix-passes c = omega (arith, kept c, fits (c .before .before .before))
 
-slice-aggregate-is-shape : tie.Need-slice-aggregate-is-shape
-slice-aggregate-is-shape c =
+slice-aggregate-passes : tie.Need-slice-aggregate-passes
+slice-aggregate-passes c =
     let at-decode = c .before .before in
     sym (length-take-le _ (at-decode .decode .last .1 .1 .1 .0) (omega (arith, kept (c .before), fits (at-decode .before .before))))
 
-is-shape-requires : tie.Need-is-shape-requires
-is-shape-requires c κs = search needs
+passes-requires : tie.Need-passes-requires
+passes-requires c κs = search needs
 
 same-length : tie.Need-same-length
 same-length c = search needs
@@ -71,7 +70,7 @@ returns-2 c =
     let args = start .args in
     let l = wordsAt (args .n) (args .log .now) (args .p) in
     let count = wordsAt-length (args .log .now) (args .n) (args .p) in (
-      c .is-shape .ensures
+      passed-answers _ _ (c .passes .ensures)
           ∙ ap (λ m. isAnswer (judged m)) (front-is l (args .buffer .now) _ (at-buffer .before .decode .ensures) (args .n) count),
       kept at-buffer ∙ start .pre .2,
     )
@@ -79,5 +78,5 @@ returns-2 c =
 pub is-shape-at-spec : {M : Type 1} → statement M
 is-shape-at-spec =
     tie.close
-    (tie.spec exceeds-corners-requires returns decode-requires slice-reshare-prefix-is-shape slice-aggregate-is-shape
-    is-shape-requires same-length returns-2)
+    (tie.spec exceeds-corners-requires returns decode-requires slice-reshare-prefix-passes slice-aggregate-passes
+    passes-requires same-length returns-2)

@@ -5,9 +5,8 @@ use Prim.Native.Nat.{ℕ, _+_, _-_, _/_, _%_, _≤_}
 use native.Mathlib.Omega.{arith}
 use borrow.Author.Needs.{needs}
 use lib.ListN.{length, drop}
-use Rattle.plane.specs.Judge.{judged}
 use Rattle.journal.specs.Bytes.{wordsAt}
-use Rattle.journal.specs.Format.{fixedBytes, size, kind, isAnswer, otherKind}
+use Rattle.journal.specs.Format.{fixedBytes, size, kind, judged, isAnswer, otherKind}
 use Rattle.journal.specs.theory.Bytes.{wordsAt-drop}
 use Rattle.journal.specs.theory.Records.{whole→facts}
 use Rattle.journal.specs.theory.Survey.{size-at, kind-at, next-inside, eighth, bad-short, bad-kind, bad-small, bad-length, bad-shape}

@@ -31,14 +31,16 @@ side-at-requires c κs = let v = c .before .before .before .pre in (omega arith,
 
 side-at-requires-2 : tie.Need-side-at-requires-2 Inv-loop μ-loop
 side-at-requires-2 c κs =
-    let v = c .before .before .before .before .pre in (chains-in (chains-found (v .shape) (c .before .before .top .ensures)), v .inRange, v .shape .some)
+    let v = c .before .before .before .before .pre in
+    (chains-in (chains-found (v .shape) (c .before .before .top .ensures)), v .inRange, v .shape .some)
 
 -- the two sides before the loop
 begins : (c : tie.After-side-at2 Inv-loop μ-loop) → let start = c .before .before .before .before .before in
     HalfAt (start .args .list .now) (c .before .before .before .top .result) (c .before .side-at .result) (c .side-at2 .result)
 begins c =
     let start = c .before .before .before .before .before in
-    half-start (start .pre) (chains-found (start .pre .shape) (c .before .before .before .top .ensures)) (c .before .side-at .ensures) (c .side-at2 .ensures)
+    half-start (start .pre) (chains-found (start .pre .shape) (c .before .before .before .top .ensures)) (c .before .side-at .ensures)
+    (c .side-at2 .ensures)
 
 apart-requires : tie.Need-apart-requires Inv-loop μ-loop
 apart-requires c κs = half-corners (begins c)

@@ -25,13 +25,15 @@ side-at-requires c κs = let v = c .before .before .pre .0 in (omega arith, v .i
 
 side-at-requires-2 : tie.Need-side-at-requires-2 Inv-loop μ-loop
 side-at-requires-2 c κs =
-    let v = c .before .before .before .pre .0 in (chains-in (chains-found (v .shape) (c .before .before .top .ensures)), v .inRange, v .shape .some)
+    let v = c .before .before .before .pre .0 in
+    (chains-in (chains-found (v .shape) (c .before .before .top .ensures)), v .inRange, v .shape .some)
 
 loop-holds : tie.Need-loop-holds Inv-loop μ-loop
 loop-holds c =
     let at-sides = c .before .before in
     let start = at-sides .before .before in
-    sweep-start (half-start (start .pre .0) (chains-found (start .pre .0 .shape) (at-sides .before .top .ensures)) (c .before .side-at .ensures) (c .side-at2 .ensures))
+    sweep-start (half-start (start .pre .0) (chains-found (start .pre .0 .shape) (at-sides .before .top .ensures))
+    (c .before .side-at .ensures) (c .side-at2 .ensures))
     (start .pre .1) (at-sides .sides .ensures) (c .before .side-at .ensures .0) (c .side-at2 .ensures .0)
 
 add-if1 : tie.Need-add-if1 Inv-loop μ-loop

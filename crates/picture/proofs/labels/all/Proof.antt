@@ -1,4 +1,5 @@
--- `all` is safe and ends. The invariant: `i` is within the list, and both buffers keep their lengths. The measure: what is left of the list.
+-- `all` is safe and ends. The invariant: `i` is within the list, and both buffers keep their lengths.
+-- The measure: what is left of the list.
 use mathlib.Core.Path.{_≡_}
 use Prim.Native.Nat.{_≤_, _-_}
 use lib.ListN.{length}
@@ -7,7 +8,8 @@ use Rattle.picture.proofs.labels.all.Statement.{statement}
 use Rattle.picture.proofs.labels.all.Tie as tie
 
 abbrev Inv-loop : tie.InvT-loop
-Inv-loop out₀ filled grid₀ list view k own now₀ i₀ out grid now i = (i ≤ length list) × (length out ≡ length out₀) × (length grid ≡ length grid₀)
+Inv-loop out₀ filled grid₀ list view k own now₀ i₀ out grid now i = (i ≤ length list) × (length out ≡ length out₀)
+    × (length grid ≡ length grid₀)
 
 abbrev μ-loop : tie.MeasureT-loop
 μ-loop out₀ filled grid₀ list view k own now₀ i₀ out grid now i = length list - i

@@ -1,4 +1,5 @@
--- `corners` is safe and ends. The invariant: `i` is within the list, and the buffer keeps its length. The measure: what is left of the list.
+-- `corners` is safe and ends. The invariant: `i` is within the list, and the buffer keeps its length.
+-- The measure: what is left of the list.
 use mathlib.Core.Path.{_≡_}
 use Prim.Native.Nat.{_≤_, _-_}
 use lib.ListN.{length}

@@ -1,4 +1,5 @@
--- `take_edges` is safe and ends. The invariant: `i` is within the list, and the squares keep their count. The measure: what is left of the list.
+-- `take_edges` is safe and ends. The invariant: `i` is within the list, and the squares keep their count.
+-- The measure: what is left of the list.
 use mathlib.Core.Path.{_≡_}
 use Prim.Native.Nat.{_≤_, _-_}
 use lib.ListN.{length}

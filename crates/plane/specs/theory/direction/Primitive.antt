@@ -22,11 +22,11 @@ use Rattle.divisor.specs.Euclid.{gcd-is, gcd-scale}
 use Rattle.plane.specs.Limits.{maxPart}
 use Rattle.plane.specs.Point.{Point}
 use Rattle.plane.specs.Forms.{NonZero}
-use Rattle.plane.specs.Direction.{support}
+use Rattle.plane.specs.Direction.{support, SameWay}
 use Rattle.plane.specs.Furthest.{badDirection, partsDivisor, commonDivisor}
 use Rattle.plane.specs.Primitive.{primitive}
 use Rattle.plane.specs.theory.lists.Members.{point-path}
-use Rattle.plane.specs.theory.forms.SameWay.{SameWay, same-sym, same-trans, same-non-zero}
+use Rattle.plane.specs.theory.forms.SameWay.{same-sym, same-trans, same-non-zero}
 use Rattle.plane.specs.theory.direction.Rows.{direction-near, direction-some, near-direction, some-divisor, one-divisor, divisor-one}
 use Rattle.plane.specs.theory.direction.Scaled.{same-support}
 

@@ -13,11 +13,11 @@ use Rattle.integer.specs.Linear.{linear, lia, _&_}
 use Rattle.integer.specs.Order.{_<×<_, _<×≤_, _≡×_, weaken, contra≤, leZ-true, le-leZ}
 use Rattle.plane.specs.Point.{Point, corner}
 use Rattle.plane.specs.Shape.{next}
-use Rattle.plane.specs.Direction.{value, max, support, furthest}
+use Rattle.plane.specs.Direction.{value, max, support, furthest, SameWay}
 use Rattle.plane.specs.Face.{isFurthest, isFlat, flatEdge, faceFirst, faceLast}
 use Rattle.plane.specs.theory.lists.Sought.{first-agree, tests-agree}
 use Rattle.plane.specs.theory.lists.Max.{times-max}
-use Rattle.plane.specs.theory.forms.SameWay.{SameWay, same-sym}
+use Rattle.plane.specs.theory.forms.SameWay.{same-sym}
 
 module _ {d e : Point} (s : SameWay d e) where
   pub same-value : (p : Point) → s .m *ℤ value d p ≡ s .n *ℤ value e p

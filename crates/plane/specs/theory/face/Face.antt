@@ -1,6 +1,5 @@
 -- The face of a shape in a direction other than (0,0): all its furthest corners.
---     Furthest d ps i           the corner at i has the greatest value; `furthest-true`, `true-furthest`: so says the test
---     Face d ps i j             the furthest corners are exactly those at i and j; j is i or comes next; of a segment, i is not behind j
+--     furthest-true, true-furthest     a corner is furthest exactly if the test says so
 --     face-edge, face-corner    an edge with both ends furthest is the face; so is a corner with no furthest neighbour
 --     face-is                   the definition is a face, and `face-unique` the only one
 --     face-left                 the shape lies to the left of the step from the first to the last
@@ -21,24 +20,13 @@ use Rattle.plane.specs.Turn.{Left}
 use Rattle.plane.specs.Shape.{next, IsShape}
 use Rattle.plane.specs.Forms.{NonZero}
 use Rattle.plane.specs.Direction.{value, support, furthest}
-use Rattle.plane.specs.Face.{isFurthest, isFlat, flatEdge, faceFirst, faceLast}
+use Rattle.plane.specs.Face.{isFurthest, isFlat, flatEdge, faceFirst, faceLast, Furthest, Face}
 use Rattle.plane.specs.theory.lists.Members.{position-member}
 use Rattle.plane.specs.theory.lists.Next.{Following, onward, closing, following, next-below, two-steps}
 use Rattle.plane.specs.theory.lists.Sought.{first-true, first-least, true-not-false}
 use Rattle.plane.specs.theory.support.Support.{value-le-support}
 use Rattle.plane.specs.theory.face.Tied.{Tied, after, behind, tied, tied-alone}
 use Rattle.plane.specs.theory.face.FirstFurthest.{furthest-greatest}
-
-pub record Furthest (d : Point) (ps : List Point) (i : ℕ) : Type 0 where
-  pub within : i < length ps
-  pub has : value d (corner ps i) ≡ support d ps
-
-pub record Face (d : Point) (ps : List Point) (i j : ℕ) : Type 0 where
-  pub first-furthest : Furthest d ps i
-  pub last-furthest : Furthest d ps j
-  pub neighbours : (j ≡ i) ⊎ (j ≡ next (length ps) i)
-  pub no-other : (k : ℕ) → Furthest d ps k → (k ≡ i) ⊎ (k ≡ j)
-  pub in-order : length ps ≡ 2 → i ≤ j
 
 -- ---- the test
 

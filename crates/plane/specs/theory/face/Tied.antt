@@ -17,16 +17,17 @@ use lib.Signed.{_≤ℤ_, _<ℤ_}
 use Rattle.integer.specs.Ring.{ring, reify}
 use Rattle.integer.specs.Linear.{lia, linear, _&_}
 use Rattle.integer.specs.Order.{_<×<_, _≤×<_, _≡×_, contra<, le-of-eq, le-ltZ}
+use Rattle.plane.specs.Cut.{quarter}
 use Rattle.plane.specs.Point.{Point, corner, _⊖_, opposite}
 use Rattle.plane.specs.Turn.{cross, turn-cross}
 use Rattle.plane.specs.Shape.{next, IsShape}
-use Rattle.plane.specs.Direction.{value, support}
+use Rattle.plane.specs.Direction.{value, support, SameWay}
 use Rattle.plane.specs.Forms.{up, NonZero}
 use Rattle.plane.specs.theory.lists.Members.{point-path, position-member}
-use Rattle.plane.specs.theory.forms.Vector.{quarter, cross-swap, cross-opposite, cross-nonzero, ⊖-zero}
+use Rattle.plane.specs.theory.forms.Vector.{cross-swap, cross-opposite, cross-nonzero, ⊖-zero}
 use Rattle.plane.specs.theory.forms.HalfPlane.{up-opposite}
 use Rattle.plane.specs.theory.forms.Angle.{before-alike}
-use Rattle.plane.specs.theory.forms.SameWay.{SameWay, neither-same}
+use Rattle.plane.specs.theory.forms.SameWay.{neither-same}
 use Rattle.plane.specs.theory.support.Support.{value-le-support}
 use Rattle.plane.specs.theory.sum.Positions.{edgeOf, round-within, corner-injective}
 

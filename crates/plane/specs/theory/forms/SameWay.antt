@@ -1,5 +1,5 @@
 -- Vectors that point the same way: some positive multiples of them are equal.
---     SameWay e f, same-sym             with the two numbers; either way round; `same-trans`: and on to a third
+--     same-sym                          either way round; `same-trans`: and on to a third
 --     same-up, same-left, same-right    the order by angle cannot tell them apart
 --     from-same                         what follows the one in order follows the other
 --     neither-same                      vectors that are not zero, neither before the other, point the same way
@@ -18,6 +18,7 @@ use Rattle.integer.specs.Order.{_<×<_, _<×≤_, _≤×<_, _≡×_, le-antisym
 use Rattle.plane.specs.Point.{Point, origin, _⊕_, opposite}
 use Rattle.plane.specs.Turn.{cross}
 use Rattle.plane.specs.Shape.{precedes}
+use Rattle.plane.specs.Direction.{SameWay}
 use Rattle.plane.specs.theory.lists.Sought.{tests-agree}
 use Rattle.plane.specs.Forms.{up, before, NonZero, From}
 use Rattle.plane.specs.theory.lists.Members.{point-path}
@@ -25,15 +26,6 @@ use Rattle.plane.specs.theory.forms.Precedes.{Lower, lower, level, prece
 use Rattle.plane.specs.theory.forms.Vector.{⊕-comm, cross-swap, cross-opposite}
 use Rattle.plane.specs.theory.forms.HalfPlane.{Up, down-up}
 use Rattle.plane.specs.theory.forms.Angle.{Later, apart, alike, not-before→later, earlier→before, before-alike, before-irrefl}
-
--- m·e ≡ n·f
-pub record SameWay (e f : Point) : Type 0 where
-  pub m : ℤ
-  pub n : ℤ
-  pub m-above : pos 0 <ℤ m
-  pub n-above : pos 0 <ℤ n
-  pub along-x : m *ℤ e .x ≡ n *ℤ f .x
-  pub along-y : m *ℤ e .y ≡ n *ℤ f .y
 
 abbrev pub same-sym : {e f : Point} → SameWay e f → SameWay f e
 same-sym s =

@@ -19,6 +19,7 @@ use Rattle.integer.specs.Linear.{linear, lia, _&_}
 use Rattle.plane.specs.Point.{Point, point, origin, _⊕_, _⊖_, opposite}
 use Rattle.plane.specs.Turn.{cross, turn}
 use Rattle.plane.specs.Direction.{value}
+use Rattle.plane.specs.Cut.{quarter}
 use Rattle.plane.specs.Forms.{NonZero}
 use Rattle.plane.specs.theory.lists.Members.{point-path}
 
@@ -124,10 +125,6 @@ turn-level p q = ring (p .x ∷ p .y ∷ q .x ∷ q .y ∷ []) (search reify dep
 -- the outer normal of the edge a to b
 abbrev pub outward : Point → Point → Point
 outward a b = point (b .y -ℤ a .y) (a .x -ℤ b .x)
-
--- d turned left by a quarter
-abbrev pub quarter : Point → Point
-quarter d = point (negℤ (d .y)) (d .x)
 
 pub value-cross : (d e : Point) → value d e ≡ cross e (quarter d)
 unfolding value cross

@@ -20,11 +20,11 @@ use lib.IntN.{ℤ, pos}
 use lib.ListN.{length}
 use lib.Signed.{_≤ℤ_, _<ℤ_}
 use Rattle.integer.specs.Order.{weaken, lt-or-le}
-use Rattle.plane.specs.Point.{Point, _⊖_}
+use Rattle.plane.specs.Point.{Point, _⊖_, _∈_}
 use Rattle.plane.specs.Direction.{value}
 use Rattle.plane.specs.Corner.{ascending, scan, outline, shapeOf}
 use Rattle.plane.specs.Forms.{Before, NonZero, edgesTo, From, InOrder, Sorted}
-use Rattle.plane.specs.theory.lists.Members.{_∈_, lastOf, last-member, member-reverse, reverse-member, all-member, member-all}
+use Rattle.plane.specs.theory.lists.Members.{lastOf, last-member, member-reverse, reverse-member, all-member, member-all}
 use Rattle.plane.specs.theory.lists.Members.{all-subset}
 use Rattle.plane.specs.theory.hull.Halves.{Onward, Sideways, onward-nonzero, onward-before, onward-around, onward-irrefl}
 use Rattle.plane.specs.theory.hull.Ascending.{Runs, Ends, ends, runs-last, reverse-runs, reverse-ends, ascending-runs}

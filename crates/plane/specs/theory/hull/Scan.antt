@@ -14,12 +14,12 @@ use mathlib.Core.List.{List, [], _∷_, reverse, reverseAux, List·Memᴰ·tail}
 use lib.IntN.{ℤ, pos}
 use lib.Signed.{_≤ℤ_, ltZ}
 use Rattle.integer.specs.Order.{ltZ-true, ltZ-false}
-use Rattle.plane.specs.Point.{Point}
+use Rattle.plane.specs.Point.{Point, _∈_}
 use Rattle.plane.specs.Turn.{turn, Left}
 use Rattle.plane.specs.Direction.{value}
 use Rattle.plane.specs.Corner.{push, scan}
 use Rattle.plane.specs.Forms.{All}
-use Rattle.plane.specs.theory.lists.Members.{_∈_, lastOf, member-cons, member-reverse, reverse-member, all-subset}
+use Rattle.plane.specs.theory.lists.Members.{lastOf, member-cons, member-reverse, reverse-member, all-subset}
 use Rattle.plane.specs.theory.hull.Halves.{Onward, Sideways, onward-trans, value-between}
 use Rattle.plane.specs.theory.hull.Ascending.{Runs, Ends, ends}
 

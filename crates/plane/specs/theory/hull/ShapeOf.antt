@@ -13,12 +13,12 @@ use Prim.Native.Nat.{_<_}
 use native.Mathlib.Omega.{arith}
 use lib.ListN.{length}
 use Rattle.integer.specs.Order.{le-antisym}
-use Rattle.plane.specs.Point.{Point}
+use Rattle.plane.specs.Point.{Point, _∈_, _⊆_}
 use Rattle.plane.specs.Shape.{IsShape}
 use Rattle.plane.specs.Direction.{support}
 use Rattle.plane.specs.Corner.{Corner, shapeOf}
 use Rattle.plane.specs.Forms.{Ordered}
-use Rattle.plane.specs.theory.lists.Members.{_∈_, _⊆_, member-some}
+use Rattle.plane.specs.theory.lists.Members.{member-some}
 use Rattle.plane.specs.theory.forms.Standard.{sorted→ordered, sorted→shape, shape→ordered}
 use Rattle.plane.specs.theory.support.Support.{value-le-support, support-le, support-subset}
 use Rattle.plane.specs.theory.support.Corners.{corner-same, corner-transfer, ordered→corners}

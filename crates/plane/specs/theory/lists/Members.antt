@@ -1,5 +1,4 @@
 -- Members of a list of points, as data: a proof of p ∈ ps is a place of p in ps.
---     p ∈ ps, A ⊆ B                     p is in ps; every point of A is in B
 --     all-member, member-all            what holds of all holds of each member, and back; `all-subset`: of all points of a part
 --     member-cons, member-reverse, reverse-member     members under one more point; the same points read backwards
 --     lastOf p ps, last-member          the last point of p ∷ ps
@@ -23,16 +22,9 @@ use native.Mathlib.Omega.{arith}
 use borrow.Author.Tests.{eqb-true, eq-eqb}
 use lib.IntN.{ℤ, pos, negsuc, ℤ-discrete}
 use lib.ListN.{length}
-use Rattle.plane.specs.Point.{Point, corner, _⊕_, opposite, eqZ, samePoint}
+use Rattle.plane.specs.Point.{Point, corner, _⊕_, opposite, eqZ, samePoint, _∈_, _⊆_}
 use Rattle.plane.specs.Corner.{sums, mirrored}
 use Rattle.plane.specs.Forms.{All, Pairs}
-
-infix 50 _∈_ _⊆_
-abbrev pub _∈_ : Point → List Point → Type 0
-p ∈ ps = List·Memᴰ p ps
-
-abbrev pub _⊆_ : List Point → List Point → Type 0
-A ⊆ B = (p : Point) → p ∈ A → p ∈ B
 
 -- ---- equality of points
 

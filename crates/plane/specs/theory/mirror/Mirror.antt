@@ -17,13 +17,13 @@ use lib.IntN.{negℤ-negℤ}
 use lib.ListN.{length, take, drop, length-append, length-drop, length-map, take-append-drop, List·getD-append, List·getD-map}
 use lib.Seq.{getD-append-add, getD-drop, getD-take, length-take-le}
 use Rattle.integer.specs.Ring.{ring, reify}
-use Rattle.plane.specs.Point.{Point, numbers, corner, origin, opposite}
+use Rattle.plane.specs.Point.{Point, numbers, corner, origin, opposite, _∈_}
 use Rattle.plane.specs.Turn.{turn, Left}
 use Rattle.plane.specs.Shape.{next, precedes, IsShape}
 use Rattle.plane.specs.Direction.{support}
 use Rattle.plane.specs.Corner.{shapeOf, mirrored}
 use Rattle.plane.specs.Forms.{Precedes}
-use Rattle.plane.specs.theory.lists.Members.{_∈_, point-path, mirrored-member, member-mirrored, mirrored-some}
+use Rattle.plane.specs.theory.lists.Members.{point-path, mirrored-member, member-mirrored, mirrored-some}
 use Rattle.plane.specs.theory.forms.Precedes.{precedes-irrefl, precedes-trans, precedes-opposite, not-precedes}
 use Rattle.plane.specs.theory.lists.Flat.{numbers-length}
 use Rattle.plane.specs.Cycle.{turned}

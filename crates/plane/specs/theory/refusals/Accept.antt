@@ -23,7 +23,7 @@ use Rattle.plane.specs.Refusal.{badCount, tooMany, outside, someOutside,
 use Rattle.plane.specs.Refusal.{InRange, Valid}
 use Rattle.plane.specs.theory.lists.Flat.{points-length}
 use Rattle.plane.specs.theory.lists.Members.{samePoint-self, samePoint-other}
-use Rattle.plane.specs.theory.refusals.Rows.{NoneApply}
+use Rattle.plane.specs.Reply.{NoneApply}
 use Rattle.plane.specs.theory.lists.Sought.{some-none, none-some}
 use Rattle.plane.specs.theory.refusals.Tests.{breaks-own, breaks-end, breaks-other, equalPair-other, equalPair-two, outside-none}
 use Rattle.plane.specs.theory.refusals.Tests.{none-outside}

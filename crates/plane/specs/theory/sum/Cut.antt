@@ -15,12 +15,13 @@ use lib.IntN.{ℤ, pos, _+ℤ_}
 use lib.Signed.{_<ℤ_, _≤ℤ_, ≤ℤ-refl}
 use Rattle.integer.specs.Linear.{linear, lia, _&_}
 use Rattle.integer.specs.Order.{lt-or-le}
-use Rattle.plane.specs.Point.{Point, origin, _⊕_}
+use Rattle.plane.specs.Point.{Point, origin, _⊕_, _∈_}
 use Rattle.plane.specs.Direction.{value, support}
 use Rattle.plane.specs.Forms.{All, up, before, Before, From, InOrder, Sorted, edges}
-use Rattle.plane.specs.theory.forms.Vector.{total, quarter, value-cross, value-⊕, value-origin, ⊕-assoc, ⊕-zero}
+use Rattle.plane.specs.Cut.{quarter, cutSum}
+use Rattle.plane.specs.theory.forms.Vector.{total, value-cross, value-⊕, value-origin, ⊕-assoc, ⊕-zero}
 use Rattle.plane.specs.theory.forms.Angle.{Earlier, Later, apart, alike, before→earlier, not-before→later, before-trans, cross-rises}
-use Rattle.plane.specs.theory.lists.Members.{_∈_, all-member}
+use Rattle.plane.specs.theory.lists.Members.{all-member}
 use Rattle.plane.specs.theory.support.Support.{support-unique}
 use Rattle.plane.specs.theory.sum.Path.{next-in-order, path-edges, total-edges}
 use Rattle.plane.specs.VectorSum.{along, path}
@@ -29,11 +30,6 @@ use Rattle.plane.specs.VectorSum.{along, path}
 abbrev pub toCut : Point → List Point → Point
 toCut d [] = origin
 toCut d (e ∷ E) = let later = toCut d E in elim (before e (quarter d)) [ true ↦ e ⊕ later | false ↦ later ]
-
--- the sum of the values at the edges before t
-abbrev pub cutSum : Point → List Point → ℤ
-cutSum d [] = pos 0
-cutSum d (e ∷ E) = let later = cutSum d E in elim (before e (quarter d)) [ true ↦ value d e +ℤ later | false ↦ later ]
 
 -- ---- how they compute
 

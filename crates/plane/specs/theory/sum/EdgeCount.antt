@@ -1,30 +1,18 @@
 -- How many edges there are when two lists of edges are joined: one for each direction that one of the lists has.
---     meets e F              some edge of F points the same way as e
---     shared E F             how many edges of E do so with some edge of F
 --     joinEdges-count        the joined edges and the shared ones together are as many as those of both lists
 use mathlib.Core.Path.{_≡_, refl, sym, _∙_, ap}
-use mathlib.Core.Bool.{Bool, true, false, not, _&&_, _||_}
+use mathlib.Core.Bool.{Bool, true, false}
 use mathlib.Core.List.{List, [], _∷_}
-use Prim.Native.Nat.{ℕ, suc, _+_}
+use Prim.Native.Nat.{suc, _+_}
 use native.Mathlib.Omega.{arith}
 use lib.ListN.{length}
 use Rattle.plane.specs.Point.{Point}
-use Rattle.plane.specs.Forms.{All, before, Before, From, InOrder}
+use Rattle.plane.specs.Forms.{All, Before, From, InOrder}
 use Rattle.plane.specs.theory.forms.Angle.{before-trans, before-reversed}
 use Rattle.plane.specs.theory.forms.SameWay.{neither-same, from-same}
 use Rattle.plane.specs.theory.sum.Path.{next-in-order}
-use Rattle.plane.specs.VectorSum.{joinEdges}
+use Rattle.plane.specs.VectorSum.{joinEdges, meets, shared}
 use Rattle.plane.specs.theory.sum.EdgeSum.{Joined, no-left, no-right, take-left, take-right, take-both, joined}
-
--- some edge of F is neither before e nor after it
-abbrev pub meets : Point → List Point → Bool
-meets e [] = false
-meets e (f ∷ F) = (not (before f e) && not (before e f)) || meets e F
-
--- the number of edges of E that meet one of F
-abbrev pub shared : List Point → List Point → ℕ
-shared [] F = 0
-shared (e ∷ E) F = let later = shared E F in elim (meets e F) [ true ↦ suc later | false ↦ later ]
 
 shared-met : (e : Point) (E F : List Point) → meets e F ≡ true → shared (e ∷ E) F ≡ suc (shared E F)
 shared-met e E F h = rw (h, shared)

@@ -16,12 +16,12 @@ use lib.Signed.{_≤ℤ_, _<ℤ_}
 use Rattle.integer.specs.Ring.{ring, reify}
 use Rattle.integer.specs.Linear.{lia, linear, _&_}
 use Rattle.integer.specs.Order.{weaken, le-of-eq, contra<, _<×<_, _≤×≤_, square-nonneg}
-use Rattle.plane.specs.Point.{Point, point, _⊕_, _⊖_}
+use Rattle.plane.specs.Point.{Point, point, _⊕_, _⊖_, _∈_, _⊆_}
 use Rattle.plane.specs.Turn.{turn, Left, turn-cycle}
 use Rattle.plane.specs.Direction.{value, support}
 use Rattle.plane.specs.Corner.{Corner}
 use Rattle.plane.specs.Forms.{Pairs, Triples, Ordered, Precedes}
-use Rattle.plane.specs.theory.lists.Members.{_∈_, _⊆_, point-path, point-discrete, all-member, member-all, pairs-append-last}
+use Rattle.plane.specs.theory.lists.Members.{point-path, point-discrete, all-member, member-all, pairs-append-last}
 use Rattle.plane.specs.theory.forms.Vector.{outward, turn-level}
 use Rattle.plane.specs.theory.support.Support.{value-le-support, support-attained, support-unique}
 use Rattle.plane.specs.theory.forms.Precedes.{Lower, lower, level, precedes-lower}

@@ -18,10 +18,10 @@ use lib.ListN.{length, length-append}
 use lib.Signed.{_≤ℤ_}
 use Rattle.integer.specs.Linear.{lia, linear, _&_}
 use Rattle.integer.specs.Order.{le-of-eq, le-trans, le-antisym}
-use Rattle.plane.specs.Point.{Point, opposite}
+use Rattle.plane.specs.Point.{Point, opposite, _∈_, _⊆_}
 use Rattle.plane.specs.Direction.{value, support, max}
 use Rattle.plane.specs.Corner.{sums, mirrored}
-use Rattle.plane.specs.theory.lists.Members.{_∈_, _⊆_, sums-member, member-sums, SumOf, member-some}
+use Rattle.plane.specs.theory.lists.Members.{sums-member, member-sums, SumOf, member-some}
 use Rattle.plane.specs.theory.lists.Max.{left-le-max, right-le-max, max-either, max-least}
 use Rattle.plane.specs.theory.forms.Vector.{value-⊕, value-opposite, value-turned}
 

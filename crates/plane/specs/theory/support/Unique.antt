@@ -10,11 +10,11 @@ use Prim.Native.Nat.{_<_}
 use native.Mathlib.Omega.{arith}
 use lib.ListN.{length}
 use Rattle.integer.specs.Linear.{lia, linear, _&_}
-use Rattle.plane.specs.Point.{Point}
+use Rattle.plane.specs.Point.{Point, _∈_, _⊆_}
 use Rattle.plane.specs.Turn.{turn, Left}
 use Rattle.plane.specs.Direction.{support}
 use Rattle.plane.specs.Forms.{All, Pairs, Ordered, Precedes}
-use Rattle.plane.specs.theory.lists.Members.{_∈_, _⊆_, all-member}
+use Rattle.plane.specs.theory.lists.Members.{all-member}
 use Rattle.plane.specs.theory.forms.Precedes.{precedes-asym}
 use Rattle.plane.specs.theory.support.Corners.{corner-transfer, ordered→corners}
 

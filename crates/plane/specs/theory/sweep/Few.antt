@@ -12,10 +12,10 @@ use Prim.Native.Nat.{ℕ, suc, _%_, _≤_, _<_}
 use native.Mathlib.Omega.{arith}
 use lib.IntN.{ℤ}
 use lib.ListN.{length}
-use Rattle.plane.specs.Point.{Point, points, numbers, corner}
+use Rattle.plane.specs.Point.{Point, points, numbers, corner, _∈_, _⊆_}
 use Rattle.plane.specs.Refusal.{someOutside, InRange}
 use Rattle.plane.specs.Corner.{shapeOf}
-use Rattle.plane.specs.theory.lists.Members.{_∈_, _⊆_, position-member, member-position}
+use Rattle.plane.specs.theory.lists.Members.{position-member, member-position}
 use Rattle.plane.specs.theory.lists.Flat.{Near, points-near, points-numbers, numbers-points, numbers-inRange}
 use Rattle.plane.specs.theory.refusals.Accept.{near→inRange, inRange→near}
 use Rattle.plane.specs.theory.hull.Hull.{shapeOf-member}

@@ -5,9 +5,10 @@ use mir.Syntax.{w32, w64}
 use mir.Val.{toZ, ofZ}
 use Rattle.integer.specs.Bound.{within-neg}
 use Rattle.integer.specs.Machine.{machine, bounded, machine-fits, machine-is, result-is}
+use Rattle.plane.specs.Cut.{quarter}
 use Rattle.plane.specs.Point.{point}
 use Rattle.plane.specs.Turn.{cross}
-use Rattle.plane.specs.theory.forms.Vector.{quarter, value-cross}
+use Rattle.plane.specs.theory.forms.Vector.{value-cross}
 use Rattle.polygon.specs.Point.{at, Small}
 use Rattle.polygon.proofs.point.dot.Statement.{statement}
 use Rattle.polygon.proofs.point.dot.Tie as tie

@@ -1,13 +1,9 @@
 -- `find` meets its contract: a list is refused, or what is found is told.
-use mathlib.Core.Path.{refl, _∙_, subst}
+use mathlib.Core.Path.{refl, _∙_}
 use borrow.Author.Needs.{needs}
-use Rattle.plane.specs.Reply.{answered}
-use Rattle.plane.specs.Floor.{Floored, on, pairRows}
-use Rattle.witness.specs.Found.{foundNumbers}
-use Rattle.questions.specs.Answer.{ofRefusal}
-use Rattle.admission.specs.declared.Admission.the-variants as Admission
-use Rattle.admission.specs.Admission.{Refuses, AdmittedPair}
-use Rattle.admission.specs.theory.Rows.{pair-carried}
+use Rattle.plane.specs.Floor.{Floored, on, Same}
+use Rattle.witness.specs.Found.{askFound}
+use Rattle.admission.specs.theory.Door.{all-answered}
 use Rattle.questions.specs.theory.Offers.{search-refused}
 use Rattle.questions.proofs.separating.find.Statement.{statement}
 use Rattle.questions.proofs.separating.find.Tie as tie
@@ -20,13 +16,8 @@ abbrev other : tie.Start → Floored
 other c = on (c .args .b .now) (c .args .g)
 
 -- past the judging they are shapes on one floor
-shapes : (c : tie.After-enum-told) → let start = c .before .before .before in AdmittedPair (one start) (other start) Admission.Valid
-shapes c = subst (AdmittedPair _ _) (c .enum-told .given .1) (c .before .before .admit-pair .ensures)
-
--- before it, they are refused
-refusal : (c : tie.After-known-told) → let start = c .before .before .before .before in
-    Refuses (pairRows (one start) (other start)) (ofRefusal (c .before .refusal .given .0 .0))
-refusal c = subst (AdmittedPair _ _) (c .before .refusal .given .1) (c .before .before .before .admit-pair .ensures)
+shapes : (c : tie.After-enum-told) → let start = c .before .before .before in Same (one start) (other start)
+shapes c = c .before .before .admit-pair .ensures .valid (c .enum-told .given .1)
 
 admit-pair-requires : tie.Need-admit-pair-requires
 admit-pair-requires c κs = search needs
@@ -38,10 +29,12 @@ enum-told : tie.Need-enum-told
 enum-told c = search needs
 
 returns : tie.Need-returns
-returns c = let start = c .before .before .before .before in search-refused (one start) (other start) (refusal c)
+returns c =
+    let start = c .before .before .before .before in
+    search-refused (one start) (other start) (c .before .before .before .admit-pair .ensures .no _ (c .before .refusal .given .1))
 
 find-requires : tie.Need-find-requires
-find-requires c κs = let both = shapes c in (both .0, both .1)
+find-requires c κs = let both = shapes c in (both .first-valid, both .second-valid)
 
 told-requires : tie.Need-told-requires
 told-requires c κs = search needs
@@ -53,9 +46,8 @@ returns-2 c =
     let found = at-find .find .result in
     record {
       found = found;
-      reply-is = c .told .ensures
-          ∙ pair-carried (one start) (other start) (shapes (at-find .before)) (λ l m. answered (foundNumbers found)) refl;
-      found-is = λ u v e. at-find .find .ensures;
+      reply-is = c .told .ensures ∙ all-answered (askFound (one start) (other start) found) (shapes (at-find .before)) tt refl;
+      found-is = λ same. at-find .find .ensures;
     }
 
 pub find-spec : {M : Type 1} → statement M

@@ -1,19 +1,20 @@
 -- `offer` meets its contract: a list is refused, or the direction, or it is tried.
 use mathlib.Core.Path.{_≡_, sym, _∙_, ap, ap₂, subst}
-use mathlib.Core.Bool.{false}
+use mathlib.Core.Bool.{Bool, false, cond}
+use mathlib.Core.List.{[], _∷_}
 use borrow.Author.Needs.{needs}
+use lib.IntN.{pos}
 use mir.Syntax.{w32}
 use mir.Val.{toZ, ofZ}
 use mir.Facts.{toZ-ofZ}
 use Rattle.plane.specs.Point.{Point, point, points}
-use Rattle.plane.specs.Furthest.{badDirection}
-use Rattle.plane.specs.Offer.{below, offerReply}
-use Rattle.plane.specs.Floor.{Floored, on, pairRows}
-use Rattle.questions.specs.Answer.{ofRefusal}
-use Rattle.admission.specs.declared.Admission.the-variants as Admission
-use Rattle.admission.specs.Admission.{Refuses, AdmittedPair, AdmittedDirection}
-use Rattle.admission.specs.theory.Rows.{refuses-between}
-use Rattle.questions.specs.theory.Offers.{offer-refused, offer-answered}
+use Rattle.plane.specs.Reply.{NoneApply}
+use Rattle.plane.specs.Furthest.{badDirection, directionRows}
+use Rattle.plane.specs.Offer.{below}
+use Rattle.plane.specs.Floor.{Floored, on, Same}
+use Rattle.plane.specs.Question.{Question, askOffer}
+use Rattle.admission.specs.Admission.{Judged}
+use Rattle.admission.specs.theory.Door.{shapes-refused, rest-refused, all-answered}
 use Rattle.questions.proofs.separating.offer.Statement.{statement}
 use Rattle.questions.proofs.separating.offer.Tie as tie
 
@@ -27,29 +28,27 @@ other c = on (c .args .b .now) (c .args .g)
 abbrev offered : tie.Start → Point
 offered c = point (c .args .u) (c .args .v)
 
--- past the judging they are shapes on one floor
-shapes : (c : tie.After-enum-told) → let start = c .before .before .before in AdmittedPair (one start) (other start) Admission.Valid
-shapes c = subst (AdmittedPair _ _) (c .enum-told .given .1) (c .before .before .admit-pair .ensures)
+abbrev asked : tie.Start → Question
+asked c = askOffer (one c) (other c) (offered c)
 
--- before it, they are refused
-refusal : (c : tie.After-known-told) → let start = c .before .before .before .before in
-    Refuses (pairRows (one start) (other start)) (ofRefusal (c .before .refusal .given .0 .0))
-refusal c = subst (AdmittedPair _ _) (c .before .refusal .given .1) (c .before .before .before .admit-pair .ensures)
+-- past the judging they are shapes on one floor
+shapes : (c : tie.After-enum-told) → let start = c .before .before .before in Same (one start) (other start)
+shapes c = c .before .before .admit-pair .ensures .valid (c .enum-told .given .1)
 
 -- the direction, read back from its bits
 direction-is : (c : tie.Start) → point (toZ w32 (ofZ w32 (c .args .u))) (toZ w32 (ofZ w32 (c .args .v))) ≡ offered c
 direction-is c = ap₂ point (toZ-ofZ (c .fits .u)) (toZ-ofZ (c .fits .v))
 
 -- what judging it says
-judged-direction : (c : tie.After-admit-direction)
-    → AdmittedDirection (offered (c .before .before .before .before)) (c .admit-direction .result)
+judged-direction : (c : tie.After-admit-direction) → let d = offered (c .before .before .before .before) in
+    Judged (NoneApply (directionRows d)) (directionRows d) (c .admit-direction .result)
 judged-direction c =
-    subst (λ (d : Point). AdmittedDirection d (c .admit-direction .result)) (direction-is (c .before .before .before .before))
-    (c .admit-direction .ensures)
+    subst (λ (d : Point). Judged (NoneApply (directionRows d)) (directionRows d) (c .admit-direction .result))
+    (direction-is (c .before .before .before .before)) (c .admit-direction .ensures)
 
 -- past it, neither row applies
-passed : (c : tie.After-enum-told2) → AdmittedDirection (offered (c .before .before .before .before .before .before)) Admission.Valid
-passed c = subst (AdmittedDirection _) (c .enum-told2 .given .1) (judged-direction (c .before .before))
+passed : (c : tie.After-enum-told2) → NoneApply (directionRows (offered (c .before .before .before .before .before .before)))
+passed c = judged-direction (c .before .before) .valid (c .enum-told2 .given .1)
 
 admit-pair-requires : tie.Need-admit-pair-requires
 admit-pair-requires c κs = search needs
@@ -61,9 +60,8 @@ enum-told : tie.Need-enum-told
 enum-told c = search needs
 
 returns : tie.Need-returns
-returns c =
-    let start = c .before .before .before .before in
-    refuses-between (one start) (other start) (refusal c) (λ l m. offerReply l m (offered start))
+returns c = shapes-refused (asked (c .before .before .before .before))
+    (c .before .before .before .admit-pair .ensures .no _ (c .before .refusal .given .1)) .0
 
 admit-direction-requires : tie.Need-admit-direction-requires
 admit-direction-requires c κs = search needs
@@ -74,9 +72,8 @@ enum-known-direction c = search needs
 returns-2 : tie.Need-returns-2
 returns-2 c =
     let at-judged = c .before .before .before in
-    let start = at-judged .before .before .before .before in
-    offer-refused (one start) (other start) (shapes (at-judged .before)) (offered start)
-    (subst (AdmittedDirection _) (c .before .direction .given .1) (judged-direction at-judged))
+    rest-refused (asked (at-judged .before .before .before .before)) (shapes (at-judged .before))
+    (judged-direction at-judged .no _ (c .before .direction .given .1)) .0
 
 enum-told-2 : tie.Need-enum-told-2
 enum-told-2 c = search needs
@@ -85,15 +82,16 @@ is-below-requires : tie.Need-is-below-requires
 is-below-requires c κs =
     let both = shapes (c .before .before .before) in
     let direction = sym (direction-is (c .before .before .before .before .before .before)) in
-    (both .0, both .1, subst (λ (d : Point). badDirection d ≡ false) direction (passed c .0))
+    (both .first-valid, both .second-valid, subst (λ (d : Point). badDirection d ≡ false) direction (passed c .0))
 
 returns-3 : tie.Need-returns-3
 returns-3 c =
     let at-passed = c .before in
     let at-shapes = at-passed .before .before .before in
     let start = at-shapes .before .before .before in
-    offer-answered (one start) (other start) (shapes at-shapes) (offered start) (passed at-passed)
-    (c .is-below .ensures ∙ ap (λ (d : Point). below d (points (start .args .a .now)) (points (start .args .b .now))) (direction-is start))
+    all-answered (asked start) (shapes at-shapes) (passed at-passed)
+    (ap (λ (t : Bool). cond t (pos 1) (pos 0) ∷ pos (start .args .f) ∷ []) (c .is-below .ensures
+    ∙ ap (λ (d : Point). below d (points (start .args .a .now)) (points (start .args .b .now))) (direction-is start)))
 
 pub offer-spec : {M : Type 1} → statement M
 offer-spec =

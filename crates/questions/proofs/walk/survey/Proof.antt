@@ -6,7 +6,9 @@ use Rattle.plane.specs.Limits.{maxCorners}
 use Rattle.plane.specs.Point.{Point}
 use mathlib.Core.List.{List}
 use Rattle.polygon.specs.theory.Fronts.{front-points, front-length}
-use Rattle.admission.specs.Admission.{Surveyed}
+use Rattle.plane.specs.Reply.{NoneApply}
+use Rattle.plane.specs.Output.{sizeRows}
+use Rattle.admission.specs.Admission.{Judged}
 use Rattle.admission.specs.theory.Delivery.{front-paired}
 use Rattle.questions.proofs.walk.survey.Statement.{statement}
 use Rattle.questions.proofs.walk.survey.Tie as tie
@@ -32,7 +34,7 @@ survey-requires c κs = front-paired (c .before .before .sum .ensures)
 
 returns : tie.Need-returns
 returns c =
-    subst (λ (ps : List Point). Surveyed ps (c .survey .result))
+    subst (λ (ps : List Point). Judged (NoneApply (sizeRows ps)) (sizeRows ps) (c .survey .result))
     (front-points (c .before .before .before .sum .ensures)) (c .survey .ensures)
 
 pub survey-spec : {M : Type 1} → statement M

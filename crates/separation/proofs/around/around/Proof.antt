@@ -22,13 +22,15 @@ few : (c : tie.Then2) → let start = c .before .before .before .before in
     ltb (length (vectorSum (points (start .args .a .now)) (points (start .args .b .now)))) 3 ≡ true
 few c =
     let at-pass = c .before .before .before in
-    ap (λ (n : ℕ). ltb n 3) (sym (at-pass .pass .ensures .count-is (c .before .before .if1 .left))) ∙ lt-ltb (at-pass .pass .result .count) 3 (c .if2 .taken)
+    ap (λ (n : ℕ). ltb n 3) (sym (at-pass .pass .ensures .count-is (c .before .before .if1 .left)))
+    ∙ lt-ltb (at-pass .pass .result .count) 3 (c .if2 .taken)
 
 many : (c : tie.Else2) → let start = c .before .before .before .before in
     ltb (length (vectorSum (points (start .args .a .now)) (points (start .args .b .now)))) 3 ≡ false
 many c =
     let at-pass = c .before .before .before in
-    ap (λ (n : ℕ). ltb n 3) (sym (at-pass .pass .ensures .count-is (c .before .before .if1 .left))) ∙ le-ltb (at-pass .pass .result .count) 3 (c .if2 .left)
+    ap (λ (n : ℕ). ltb n 3) (sym (at-pass .pass .ensures .count-is (c .before .before .if1 .left)))
+    ∙ le-ltb (at-pass .pass .result .count) 3 (c .if2 .left)
 
 -- ---- the needs
 
@@ -50,13 +52,21 @@ returns-3 : tie.Need-returns-3
 unfolding placed
 returns-3 c =
     let at-else = c .before in
-    rw (inner (at-else .before .before), many at-else, sym (at-else .before .before .before .pass .ensures .rim-is (at-else .before .before .if1 .left)) ∙ c .if3 .taken)
+    rw (
+      inner (at-else .before .before),
+      many at-else,
+      sym (at-else .before .before .before .pass .ensures .rim-is (at-else .before .before .if1 .left)) ∙ c .if3 .taken,
+    )
 
 returns-4 : tie.Need-returns-4
 unfolding placed
 returns-4 c =
     let at-else = c .before in
-    rw (inner (at-else .before .before), many at-else, sym (at-else .before .before .before .pass .ensures .rim-is (at-else .before .before .if1 .left)) ∙ c .if3 .left)
+    rw (
+      inner (at-else .before .before),
+      many at-else,
+      sym (at-else .before .before .before .pass .ensures .rim-is (at-else .before .before .if1 .left)) ∙ c .if3 .left,
+    )
 
 pub around-spec : {M : Type 1} → statement M
 around-spec =

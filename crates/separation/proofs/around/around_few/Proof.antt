@@ -32,7 +32,8 @@ begins : (c : tie.After-side-at2) → walkOf (c .before .side-at .result) (c .si
 begins c = sides-walk begun (c .before .side-at .result) (c .side-at2 .result) (c .before .side-at .ensures .0) (c .side-at2 .ensures .0)
 
 stands : (c : tie.After-side-at2)
-    → At (c .before .before .args .a .now) (c .before .before .args .b .now) (walkOf (c .before .side-at .result) (c .side-at2 .result) false)
+    → At (c .before .before .args .a .now) (c .before .before .args .b .now)
+    (walkOf (c .before .side-at .result) (c .side-at2 .result) false)
 stands c = rw (begins c) (c .before .before .pre)
 
 order-requires : tie.Need-order-requires
@@ -58,7 +59,8 @@ steps c end =
     let at-order = c .before .before in
     let at-sides = at-order .before in
     sides-at (stands at-sides) (at-sides .before .side-at .ensures .1) (at-sides .side-at2 .ensures .1)
-    (result-is w64 (at-order .order .ok) (at-order .order .ensures)) (c .before .next .result) (c .next2 .result) (c .before .next .ensures .0)
+    (result-is w64 (at-order .order .ok) (at-order .order .ensures)) (c .before .next .result) (c .next2 .result)
+    (c .before .next .ensures .0)
     (c .next2 .ensures .0)
 
 here-requires-2 : tie.Need-here-requires-2

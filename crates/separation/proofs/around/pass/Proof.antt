@@ -62,7 +62,8 @@ loop-holds c =
     let second = c .before .before in
     let first = second .before in (
       passing-start (first .before .pre)
-          (sides-walk begun (first .side-at .result) (second .side-at2 .result) (first .side-at .ensures .0) (second .side-at2 .ensures .0)),
+          (sides-walk begun (first .side-at .result) (second .side-at2 .result) (first .side-at .ensures .0)
+          (second .side-at2 .ensures .0)),
       first .side-at .ensures .1,
       second .side-at2 .ensures .1,
     )
@@ -114,7 +115,8 @@ leaves c = let inv = c .before .before .before .before .before .loop .inv in
 
 arrives : (c : tie.After-here2 Inv-loop μ-loop) (end : Bool) → let at-next = c .before .before in
     let args = at-next .before .before .before .before .before .before .before .before .args in
-    at (c .here2 .result) ≡ here (points (args .a .now)) (points (args .b .now)) (walkOf (at-next .before .next .result) (at-next .next2 .result) end)
+    at (c .here2 .result)
+    ≡ here (points (args .a .now)) (points (args .b .now)) (walkOf (at-next .before .next .result) (at-next .next2 .result) end)
 arrives c end = let at-next = c .before .before in
     c .here2 .ensures ∙ sides-here (steps at-next end) (at-next .before .next .ensures .1) (at-next .next2 .ensures .1)
 
@@ -187,7 +189,8 @@ loop-again c =
     let at-next = at-either .before .before .before .before .before in
     let at-loop = at-next .before .before .before in
     let args = at-loop .before .before .before .before .before .args in
-    let on = some-left _ _ (at-next .before .next .result .at) (at-next .next2 .result .at) (λ e. c .if2 .left (e ∙ sym (all (at-loop .before)))) in (
+    let on = some-left _ _ (at-next .before .next .result .at) (at-next .next2 .result .at)
+    (λ e. c .if2 .left (e ∙ sym (all (at-loop .before)))) in (
       subst (λ (o : Bool). Passing (args .a .now) (args .b .now) (walkOf (at-next .before .next .result) (at-next .next2 .result) o)
           (at-loop .loop .count + 1) (at-either .either .result)) on (more at-either),
       at-next .before .next .ensures .1,

@@ -13,7 +13,7 @@ use Rattle.plane.specs.Direction.{value}
 use Rattle.plane.specs.Tangent.{signOf, onSide}
 use Rattle.polygon.specs.Point.{at}
 use Rattle.polygon.specs.theory.Small.{small-step}
-use Rattle.tangents.specs.theory.Stays.{draws-off, draws-beside, draws-along}
+use Rattle.tangents.specs.theory.DrawsTest.{draws-off, draws-beside, draws-along}
 use Rattle.tangents.proofs.draws.draws.Statement.{statement}
 use Rattle.tangents.proofs.draws.draws.Tie as tie
 

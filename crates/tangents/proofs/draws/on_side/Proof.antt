@@ -5,7 +5,7 @@ use lib.IntN.{ℤ, pos, _*ℤ_}
 use lib.Signed.{leZ}
 use mir.Facts.{toZ-ofZ}
 use Rattle.plane.specs.Tangent.{signOf}
-use Rattle.tangents.specs.theory.Stays.{side-left, side-right}
+use Rattle.tangents.specs.theory.Sides.{side-left, side-right}
 use Rattle.tangents.proofs.draws.on_side.Statement.{statement}
 use Rattle.tangents.proofs.draws.on_side.Tie as tie
 

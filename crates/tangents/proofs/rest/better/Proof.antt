@@ -9,7 +9,7 @@ use Rattle.plane.specs.Point.{points, corner}
 use Rattle.plane.specs.Shape.{next}
 use Rattle.polygon.specs.Point.{at}
 use Rattle.tangents.specs.Draws.{draws}
-use Rattle.tangents.specs.theory.Neighbours.{better-moved, better-rests}
+use Rattle.tangents.specs.theory.NeighboursSuffice.{better-moved, better-rests}
 use Rattle.tangents.proofs.rest.better.Statement.{statement}
 use Rattle.tangents.proofs.rest.better.Tie as tie
 

@@ -4,9 +4,9 @@ use lib.ListN.{length}
 use Rattle.plane.specs.Point.{points, corner}
 use Rattle.polygon.specs.Point.{at}
 use Rattle.tangents.specs.Draws.{draws}
-use Rattle.tangents.specs.theory.Counted.{counted, counted-after}
-use Rattle.tangents.specs.theory.Walk.{draws-self}
-use Rattle.tangents.specs.theory.Settled.{rest-trans}
+use Rattle.tangents.specs.theory.FiniteOrder.{counted, counted-after}
+use Rattle.tangents.specs.theory.DrawsOrder.{draws-self}
+use Rattle.tangents.specs.theory.SettledExists.{rest-trans}
 use Rattle.tangents.proofs.rest.settle.Statement.{statement}
 use Rattle.tangents.proofs.rest.settle.Tie as tie
 

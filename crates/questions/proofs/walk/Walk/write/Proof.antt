@@ -5,6 +5,7 @@ use mathlib.Core.Logic.{inl, inr}
 use native.Mathlib.Omega.{arith}
 use borrow.Author.Needs.{needs}
 use Rattle.plane.specs.Limits.{maxCorners}
+use Rattle.plane.specs.Floor.{Floored, on}
 use Rattle.polygon.specs.Front.{Front}
 use Rattle.calipers.specs.Walk.{At}
 use Rattle.calipers.specs.Advance.{state, reached, Advanced}
@@ -16,6 +17,13 @@ use Rattle.questions.specs.theory.Parts.{part-little-room, part-done, pa
 use Rattle.questions.proofs.walk.Walk.write.Statement.{statement}
 use Rattle.questions.proofs.walk.Walk.write.Tie as tie
 
+-- the two shapes
+abbrev one : tie.Start → Floored
+one c = on (c .args .a .now) (c .args .f)
+
+abbrev other : tie.Start → Floored
+other c = on (c .args .b .now) (c .args .g)
+
 -- the walk is not over: it stands at a place, and the corners are written that are due
 went : (c : tie.After-walk-on) → let args = c .before .before .before .before .args in
     Front (partCorners (args .a .now) (args .b .now) (stateOf (args .self)) (args .k)) (c .walk-on .result .count)
@@ -26,21 +34,22 @@ went c =
     let start = not-over .before in
     let args = start .args in
     let self = args .self in
-    part-advanced (args .a .now) (args .b .now) (start .pre .0) (start .pre .1) (stateOf self) (args .k) (start .pre .2)
+    part-advanced (args .a .now) (args .b .now) (start .pre .0 .first-valid) (start .pre .0 .second-valid) (stateOf self) (args .k)
+    (start .pre .1)
     (subst (λ (o : Bool). Advanced (args .a .now) (args .b .now) (state (self .first) (self .second) o) (args .k) (c .walk-on .result)
     (c .walk-on .last .1 .1 .1 .1 .1 .0)) (sym (not-over .if1 .left)) (c .walk-on .ensures))
 
 returns : tie.Need-returns
 returns c =
     let start = c .before in
-    part-idle (start .args .a .now) (start .args .b .now) (stateOf (start .args .self)) (start .args .k) (start .args .out .now)
-    (start .args .floor) (start .pre .0) (start .pre .1) (start .pre .2) (start .pre .3) (inl (c .if1 .taken))
+    part-idle (one start) (other start) (stateOf (start .args .self)) (start .args .k) (start .args .out .now)
+    (start .pre .0) (start .pre .1) (start .pre .2) (inl (c .if1 .taken))
 
 returns-2 : tie.Need-returns-2
 returns-2 c =
     let start = c .before .before in
-    part-idle (start .args .a .now) (start .args .b .now) (stateOf (start .args .self)) (start .args .k) (start .args .out .now)
-    (start .args .floor) (start .pre .0) (start .pre .1) (start .pre .2) (start .pre .3) (inr (c .if2 .taken))
+    part-idle (one start) (other start) (stateOf (start .args .self)) (start .args .k) (start .args .out .now)
+    (start .pre .0) (start .pre .1) (start .pre .2) (inr (c .if2 .taken))
 
 slice-aggregate-walk-on : tie.Need-slice-aggregate-walk-on
 slice-aggregate-walk-on c = search needs
@@ -52,11 +61,11 @@ walk-on-requires c κs =
     let start = not-over .before in
     let args = start .args in
     let self = args .self in
-    let pre = start .pre in (
+    let both = start .pre .0 in (
       subst (λ (o : Bool). At (args .a .now) (args .b .now) (state (self .first) (self .second) o)) (not-over .if1 .left)
-          (place-standing (args .a .now) (args .b .now) (pre .0) (pre .1) (stateOf self) (pre .2)),
+          (place-standing (args .a .now) (args .b .now) (both .first-valid) (both .second-valid) (stateOf self) (start .pre .1)),
       omega (arith, c .before .if2 .left),
-      omega (arith, pre .0 .few, pre .1 .few),
+      omega (arith, both .first-valid .few, both .second-valid .few),
     )
 
 mul-if3 : tie.Need-mul-if3
@@ -66,8 +75,8 @@ returns-3 : tie.Need-returns-3
 returns-3 c =
     let at-walk = c .before .before .before in
     let start = at-walk .before .before .before .before in
-    part-little-room (start .args .a .now) (start .args .b .now) (stateOf (start .args .self)) (start .args .k) (start .args .out .now)
-    (start .args .floor) (start .pre .0) (start .pre .1) (start .pre .2) (start .pre .3) (went at-walk .0 .counted) (c .if3 .taken)
+    part-little-room (one start) (other start) (stateOf (start .args .self)) (start .args .k) (start .args .out .now)
+    (start .pre .0) (start .pre .1) (start .pre .2) (went at-walk .0 .counted) (c .if3 .taken)
 
 slice-aggregate-copy : tie.Need-slice-aggregate-copy
 slice-aggregate-copy c = search needs
@@ -88,8 +97,8 @@ returns-4 c =
     let at-walk = at-room .before .before .before in
     let start = at-walk .before .before .before .before in
     let w = went at-walk in
-    part-done (start .args .a .now) (start .args .b .now) (stateOf (start .args .self)) (start .args .k) (start .args .out .now)
-    (start .args .floor) (start .pre .0) (start .pre .1) (start .pre .2) (start .pre .3) (w .0 .counted) (omega (arith, at-room .if3 .left)) (w .1)
+    part-done (one start) (other start) (stateOf (start .args .self)) (start .args .k) (start .args .out .now)
+    (start .pre .0) (start .pre .1) (start .pre .2) (w .0 .counted) (omega (arith, at-room .if3 .left)) (w .1)
     (copied-over (w .0) (start .args .out .now) (c .before .copy .ensures))
 
 pub write-spec : {M : Type 1} → statement M
