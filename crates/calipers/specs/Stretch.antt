@@ -1,8 +1,8 @@
 -- Edges that go one way, up or down. Our own, not of document 01.
---     vector e              the edge of the code as a vector of the plane
---     goesOn half e f       the edge f goes up or level, or it goes down, and it is strictly left of the edge e
---     Stretch E half s r    from s to r the edges go on, each from the one before it, and they do not from r; the last edge, which closes
---                           the way round, is not looked at
+--     vector e              the code's edge as a vector of the plane
+--     goesOn half e f       f goes up or level if half is true, down if it is false, and is strictly left of e
+--     Stretch E half s r    each edge after s, up to r, goes on from the edge before it; the one after r does not, unless it is the last
+--                           of E, which is left out
 use mathlib.Core.Path.{_≡_}
 use mathlib.Core.Bool.{Bool, true, false, cond, _&&_}
 use mathlib.Core.List.{List}
