@@ -26,7 +26,7 @@ use Rattle.clearance.specs.Order.{AtOrAfter, Listed, FirstOfLeast}
 use Rattle.clearance.specs.theory.Candidates.{listed, unlisted}
 use Rattle.clearance.specs.theory.Nearest.{nearest-least, nearest-attained, nearest-is-listed, nearest-is-whole, nearest-before-ties}
 use Rattle.clearance.specs.theory.Nearest.{nearest-sym, common-not-apart}
-use Rattle.clearance.specs.theory.Only.{candidate-whole, nearest-first-least, first-least-nearest}
+use Rattle.clearance.specs.theory.NearestUnique.{candidate-whole, nearest-first-least, first-least-nearest}
 use Rattle.clearance.specs.theory.Common.{not-apart-common}
 use Rattle.clearance.specs.theory.Rounding.{nearest-rounded}
 use Rattle.clearance.specs.theory.Replies.{nearest-reply, zero-reply}

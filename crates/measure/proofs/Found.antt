@@ -18,7 +18,7 @@ use Rattle.plane.specs.Refusal.{Valid}
 use Rattle.plane.specs.Turn.{turn}
 use Rattle.plane.specs.Cycle.{round}
 use Rattle.plane.specs.Measure.{edgeTurn, height, edgeSquared, widthEdge, widthRounded}
-use Rattle.words.specs.Root.{RoundedRoot}
+use Rattle.wide.specs.Root.{RoundedRoot}
 use Rattle.measure.specs.declared.narrowest.Across.{Across}
 use Rattle.measure.specs.Answer.{IsWidth}
 use Rattle.measure.specs.Comparison.{Facing, Measured}

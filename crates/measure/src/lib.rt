@@ -52,6 +52,6 @@ pub fn narrowest_edge(list: &[i32]) -> Width
         corner: narrowest::first_facing(list, best.edge, best.corner),
         turn: best.turn,
         squared: best.squared,
-        rounded: words::root_of_fraction(best.turn, best.squared),
+        rounded: wide::root_of_fraction(best.turn, best.squared),
     }
 }

@@ -16,7 +16,7 @@ use Rattle.plane.specs.Shape.{next, breaks, precedes}
 use Rattle.plane.specs.Reply.{Reply, answered, refused}
 use Rattle.plane.specs.Refusal.{badCount, tooMany, outside, someOutside, equalPair, leftBroken, breakingEdge, breakingCorner}
 use Rattle.plane.specs.Refusal.{ruleBroken, brokenEdge, brokenCorner, badStart}
-use Rattle.plane.specs.Direction.{max, value, support, furthest}
+use Rattle.plane.specs.Direction.{greater, value, support, furthest}
 use Rattle.plane.specs.Corner.{shapeOf}
 use Rattle.plane.specs.Output.{Written, noRoom, overwritten}
 use Rattle.plane.specs.Face.{faceFirst, faceLast}
@@ -208,7 +208,7 @@ rows =
     ∷ []
 
 pub rows-hold : map (λ (r : Case). r .given) rows ≡ map (λ (r : Case). r .stated) rows
-unfolding rows maxCorners maxCoordinate maxPoints maxPart turn breaks precedes samePoint max shapeOf
+unfolding rows maxCorners maxCoordinate maxPoints maxPart turn breaks precedes samePoint greater shapeOf
     badCount tooMany outside someOutside equalPair leftBroken breakingEdge breakingCorner ruleBroken brokenEdge brokenCorner badStart
     noRoom overwritten tooManyPoints squared lengthSquared furthestPair lengthFrom lengthTo
     edgeTurn height edgeSquared noWider widthEdge widthCorner widthRounded

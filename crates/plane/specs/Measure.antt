@@ -17,12 +17,12 @@ use Rattle.plane.specs.Point.{Point, corner}
 use Rattle.plane.specs.Turn.{turn}
 use Rattle.plane.specs.Search.{some, every, first}
 use Rattle.plane.specs.Shape.{next}
-use Rattle.plane.specs.Direction.{max}
+use Rattle.plane.specs.Direction.{greater}
 
 abbrev pub greatest : (ℕ → ℤ) → ℕ → ℤ
 greatest f zero = pos 0
 greatest f (suc zero) = f 0
-greatest f (suc (suc n)) = max (f 0) (greatest (λ i. f (suc i)) (suc n))
+greatest f (suc (suc n)) = greater (f 0) (greatest (λ i. f (suc i)) (suc n))
 
 unfoldable pub squared : Point → Point → ℤ
 squared p q = (p .x -ℤ q .x) *ℤ (p .x -ℤ q .x) +ℤ (p .y -ℤ q .y) *ℤ (p .y -ℤ q .y)

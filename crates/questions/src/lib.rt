@@ -4,14 +4,14 @@
 // 13 behind 1 to 5 of the first and of the second.
 pub mod answer;
 mod coordinate;
-pub mod separating;
+pub mod separators;
 pub mod walk;
 
 ghost use mathlib.Core.Path.{_≡_};
 ghost use mathlib.Core.List.{[], _∷_, _++_};
 ghost use lib.IntN.{pos};
 ghost use Rattle.plane.specs.Reply.{answered};
-ghost use Rattle.separation.specs.Place.{placeNumber};
+ghost use Rattle.separation.specs.Answer.{numberOf};
 ghost use mathlib.Core.Bool.{true, false};
 ghost use Rattle.plane.specs.Point.{point, points};
 ghost use Rattle.plane.specs.Refusal.{Valid};
@@ -54,7 +54,6 @@ use polygon::limits;
 pub use polygon::limits::SHAPE_NUMBERS;
 use polygon::opposite;
 use polygon::point::Point;
-use separation::place::Place;
 pub use tablet::reading::Reading;
 
 // Whether the list is a shape, and how many corners it has. A point and a segment are shapes. Refused: an empty or odd
@@ -253,13 +252,13 @@ pub fn relation(a: &[i32], f: u16, b: &[i32], g: u16) -> Relation
 }
 
 // How two shapes stand, as an answer.
-fn stand(place: Place, floor: u16) -> Relation
-    ensures { λ r. ⌜ ofRelation r ≡ answered (placeNumber place ∷ pos floor ∷ []) ⌝ }
+fn stand(found: separation::answer::Relation, floor: u16) -> Relation
+    ensures { λ r. ⌜ ofRelation r ≡ answered (numberOf found ∷ pos floor ∷ []) ⌝ }
 {
-    match place {
-        Place::Apart => Relation::Apart { floor },
-        Place::Touching => Relation::Touching { floor },
-        Place::Overlapping => Relation::Overlapping { floor },
+    match found {
+        separation::answer::Relation::Apart => Relation::Apart { floor },
+        separation::answer::Relation::Touching => Relation::Touching { floor },
+        separation::answer::Relation::Overlapping => Relation::Overlapping { floor },
     }
 }
 
@@ -292,7 +291,7 @@ pub fn clearance(a: &[i32], f: u16, b: &[i32], g: u16) -> Clearance
     if let Admission::No(refusal) = admission::admit_pair(a, f, b, g) {
         return Clearance::No(refusal);
     }
-    let Place::Apart = separation::relation(a, b) else {
+    let separation::answer::Relation::Apart = separation::relation(a, b) else {
         return Clearance::None { floor: f };
     };
     measured(clearance::nearest(a, b), f)
@@ -359,7 +358,7 @@ pub fn tangents(a: &[i32], f: u16, b: &[i32], g: u16) -> Tangents
         return Tangents::No(refusal);
     }
     let place = separation::relation(a, b);
-    let Place::Apart = place else {
+    let separation::answer::Relation::Apart = place else {
         return Tangents::No(Refusal::NotApart);
     };
     Tangents::Lines {

@@ -34,7 +34,7 @@ use Rattle.calipers.specs.theory.Places.{finished-all}
 use Rattle.calipers.specs.theory.Standing.{standing-swap}
 use Rattle.calipers.specs.theory.Steps.{at-advanced}
 use Rattle.calipers.specs.theory.Sides.{corner-fits, edge-fits}
-use Rattle.calipers.specs.theory.Led.{shape-gentle, led-passed}
+use Rattle.calipers.specs.theory.CrossOrder.{shape-gentle, led-passed}
 
 -- the sign of the product read the other way round
 sign-swap : (e f : Point) → ltZ (cross f e) (pos 0) ≡ ltZ (pos 0) (cross e f)

@@ -22,14 +22,14 @@ use Rattle.integer.specs.Ring.{ring, reify}
 use Rattle.integer.specs.Linear.{linear, lia, _&_}
 use Rattle.plane.specs.Point.{Point, opposite, _⊕_, _⊖_}
 use Rattle.plane.specs.Shape.{IsShape}
-use Rattle.plane.specs.Direction.{value, support, max}
+use Rattle.plane.specs.Direction.{value, support, greater}
 use Rattle.plane.specs.Corner.{shapeOf, sums}
 use Rattle.plane.specs.Separation.{inside, differences, apart}
 use Rattle.plane.specs.Mean.{CommonPoint}
 use Rattle.plane.specs.Clearance.{top, bottom, nearest}
 use Rattle.plane.specs.Forms.{edgesTo, Sorted, InOrder}
 use Rattle.plane.specs.theory.lists.Members.{point-path, sums-some}
-use Rattle.plane.specs.theory.lists.Max.{plus-max}
+use Rattle.plane.specs.theory.lists.Greater.{plus-greater}
 use Rattle.plane.specs.theory.forms.Standard.{shape→sorted, sorted→shape, ordered→shape}
 use Rattle.plane.specs.theory.support.Support.{support-append, support-sums}
 use Rattle.plane.specs.theory.hull.ShapeOf.{shapeOf-support, shapeOf-shape, shape-known}
@@ -156,8 +156,8 @@ module _ (A : List Point) (a : 0 < length A) (t u : Point) where
       reach : (d : Point) → support d (shapeOf (driven A t u)) ≡ support d (placed A t ++ placed A u)
       reach d = shapeOf-support (driven A t u) some d ∙ support-sums d A (t ∷ u ∷ []) a (omega arith)
           ∙ ap (λ z. support d A +ℤ z) (support-append d (t ∷ []) (u ∷ []) (omega arith) (omega arith)
-          ∙ ap₂ max (support-point d t) (support-point d u)) ∙ plus-max (support d A) (value d t) (value d u)
-          ∙ ap₂ max (sym (placed-reach A t a d)) (sym (placed-reach A u a d))
+          ∙ ap₂ greater (support-point d t) (support-point d u)) ∙ plus-greater (support d A) (value d t) (value d u)
+          ∙ ap₂ greater (sym (placed-reach A t a d)) (sym (placed-reach A u a d))
           ∙ sym (support-append d (placed A t) (placed A u) (placed-some A t a) (placed-some A u a))
 
   pub driven-passes : (w : Point) → inside (w ∷ []) (t ∷ u ∷ []) ≡ true → inside (placed A w) (driven A t u) ≡ true

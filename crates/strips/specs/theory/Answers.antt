@@ -39,7 +39,7 @@ use Rattle.strips.specs.Strip.{least, spread, gapIn, Corridor}
 use Rattle.strips.specs.OwnDirection.{outOf, towards, answerTop, answerBottom}
 use Rattle.strips.specs.theory.Spread.{least-le-value}
 use Rattle.strips.specs.theory.Edges.{out-squared, out-spread}
-use Rattle.strips.specs.theory.Every.{width-every}
+use Rattle.strips.specs.theory.WidthBound.{width-every}
 use Rattle.strips.specs.theory.Corridors.{corridor-no-wider, corridor-level, towards-corridor, towards-wide}
 
 -- ---- width
