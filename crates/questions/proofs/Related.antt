@@ -1,4 +1,4 @@
--- What a place says of two shapes.
+-- What a relation says of two shapes.
 --     not-apart     one that is not the first says that they are not apart
 use mathlib.Core.Path.{_≡_}
 use mathlib.Core.Bool.{false}

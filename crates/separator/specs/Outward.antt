@@ -9,11 +9,11 @@ use Rattle.plane.specs.Point.{Point, point}
 use Rattle.plane.specs.Limits.{maxPart}
 use Rattle.plane.specs.Direction.{support}
 use Rattle.polygon.specs.Point.{Small}
-use Rattle.separation.specs.Around.{placed}
+use Rattle.separation.specs.Around.{originIn}
 
 abbrev pub outerNormal : Point → Point → Point
 outerNormal p q = point (q .y -ℤ p .y) (p .x -ℤ q .x)
 
 pub record Outward (D : List Point) (d : Point) : Type 0 where
   pub in-limits : Small maxPart d
-  pub negative : placed D ≡ pos 0 → support d D <ℤ pos 0
+  pub negative : originIn D ≡ pos 0 → support d D <ℤ pos 0

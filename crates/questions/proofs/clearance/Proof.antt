@@ -1,4 +1,4 @@
--- `clearance` meets its contract: a list is refused, or the shapes are placed, and the nearest candidate sought if they are apart.
+-- `clearance` meets its contract: a list is refused, or the shapes are compared, and the nearest candidate sought if they are apart.
 use mathlib.Core.Path.{_≡_, sym, _∙_, ap}
 use mathlib.Core.List.{List, [], _∷_, _++_}
 use mathlib.Core.Bool.{Bool, true, cond}

@@ -50,8 +50,8 @@ mul-image c = omega (arith, c .count .ensures, points-length (c .before .before 
 array-share-prefix-image : tie.Need-array-share-prefix-image
 array-share-prefix-image c = front c .fits
 
-slice-aggregate-away : tie.Need-slice-aggregate-away
-slice-aggregate-away c = sym (front-length (front (c .before)))
+slice-aggregate-seek : tie.Need-slice-aggregate-seek
+slice-aggregate-seek c = sym (front-length (front (c .before)))
 
 seek-requires : tie.Need-seek-requires
 seek-requires c κs =
@@ -123,5 +123,5 @@ returns-3 c =
 pub find-spec : {M : Type 1} → statement M
 find-spec =
     tie.close
-    (tie.spec slice-aggregate-mirror mirror-requires count-requires mul-image array-share-prefix-image slice-aggregate-away seek-requires
+    (tie.spec slice-aggregate-mirror mirror-requires count-requires mul-image array-share-prefix-image slice-aggregate-seek seek-requires
     bad-direction-requires returns primitive-requires is-below-requires returns-2 returns-3)

@@ -25,7 +25,7 @@ use Rattle.plane.specs.theory.lists.Sought.{true-not-false}
 use Rattle.plane.specs.theory.forms.Vector.{outward, value-origin, value-turned}
 use Rattle.plane.specs.theory.support.Support.{support-attained}
 use Rattle.polygon.specs.Point.{Small}
-use Rattle.separation.specs.Around.{crossAt, rightOf, placedFew, placed}
+use Rattle.separation.specs.Around.{crossAt, rightOf, originInFew, originIn}
 use Rattle.separation.specs.theory.InsideShape.{turn-origin}
 use Rattle.separation.specs.theory.Sector.{square-positive, value-outward, edge-outermost}
 use Rattle.separator.specs.Outward.{outerNormal, Outward}
@@ -72,9 +72,9 @@ module _ (D : List Point) (s : IsShape D) where
 -- ---- no edge
 
 -- the origin is outside, but to the right of no edge
-outside-few : (D : List Point) → placed D ≡ pos 0 → some (rightOf D) (length D) ≡ false
+outside-few : (D : List Point) → originIn D ≡ pos 0 → some (rightOf D) (length D) ≡ false
     → (length D < 3) × (pos 0 <ℤ value (corner D 0) (corner D (next (length D) 0)))
-unfolding placed placedFew
+unfolding originIn originInFew
 outside-few D o none = go (some (rightOf D) (length D)) none (ltb (length D) 3) refl
     (leZ (value (corner D 0) (corner D (next (length D) 0))) (pos 0)) refl (some (notLeft D) (length D)) o
   where
