@@ -6,6 +6,7 @@ use Prim.Native.Nat.{ℕ, _*_, _^_}
 use lib.IntN.{ℤ, pos}
 use lib.ListN.{length, drop}
 use Rattle.integer.specs.Bound.{within-widen}
+use Rattle.integer.specs.Machine.{within-fits}
 use Rattle.plane.specs.Limits.{coordinate-small}
 use Rattle.plane.specs.Point.{Point, points, numbers}
 use Rattle.plane.specs.Reply.{Reply, answered}
