@@ -30,8 +30,8 @@ use Rattle.plane.specs.Offer.{below}
 use Rattle.plane.specs.Tangent.{onSide, touches, nearer, tangent, tangentFrom, tangentTo}
 use Rattle.plane.specs.Floor.{Floored, on}
 use Rattle.plane.specs.Clearance.{falls, top, bottom, noFurther, nearest}
-use Rattle.plane.specs.Question.{Question, written, reply, output, askJudge, askFurthest, askSum, askMerge, askGrow, askSweep, askLength}
-use Rattle.plane.specs.Question.{askWidth, askRelation, askOffer, askClearance, askTangents}
+use Rattle.plane.specs.Question.{Question, written, reply, output, askJudge, askFurthest, askSum, askMerge, askGrow, askSweep}
+use Rattle.plane.specs.Question.{askLength, askWidth, askRelation, askOffer, askClearance, askTangents}
 
 -- what the definition gives and what 01 states: each a reply and a whole output
 pub record Case : Type 0 where

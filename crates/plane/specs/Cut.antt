@@ -1,4 +1,4 @@
--- Where the corner furthest in a direction is among sorted edges. Our own, not of document 01: `furthest-at-cut` of `Meaning.antt` cites it.
+-- Where the corner furthest in a direction is among sorted edges. Our own, for `furthest-at-cut` of `Meaning.antt`.
 --     quarter d      d turned left by a quarter
 --     cutSum d E     the sum of the values of d at those of the edges E that come before quarter d by angle
 use mathlib.Core.Bool.{true, false}

@@ -101,7 +101,7 @@ pub fn furthest(list: &[i32], floor: u16, u: i32, v: i32) -> Furthest
 // Writes the mirror image, the shape of all (-x, -y), at the front of the output, and answers how many corners it has:
 // as many as the list. All behind the image is kept. Refused, with the output as it was: 1 to 5, then an output that
 // holds fewer numbers than the image.
-// Ruled out: mirror begun at the old start; output left alone; coordinates swapped; tail cleared.
+// Ruled out: mirror begun at the old start; output left alone; coordinates swapped; tail lost.
 pub fn mirror(list: &[i32], floor: u16, out: &mut [i32]) -> Answer
     ensures { λ r. ⌜ (ofAnswer r ≡ reply (askMirror (on (now (list .entry)) floor) (now (out .entry))))
         × (now (out .exit) ≡ output (askMirror (on (now (list .entry)) floor) (now (out .entry)))) ⌝ }
@@ -165,7 +165,8 @@ pub fn merge(a: &[i32], f: u16, b: &[i32], g: u16, out: &mut [i32]) -> Answer
 pub fn grow(obstacle: &[i32], f: u16, cart: &[i32], g: u16, out: &mut [i32]) -> Answer
     ensures { λ r. ⌜
         (ofAnswer r ≡ reply (askGrow (on (now (obstacle .entry)) f) (on (now (cart .entry)) g) (now (out .entry))))
-        × (now (out .exit) ≡ output (askGrow (on (now (obstacle .entry)) f) (on (now (cart .entry)) g) (now (out .entry)))) ⌝ }
+        × (now (out .exit)
+        ≡ output (askGrow (on (now (obstacle .entry)) f) (on (now (cart .entry)) g) (now (out .entry)))) ⌝ }
 {
     if let Admission::No(refusal) = admission::admit_pair(obstacle, f, cart, g) {
         return Answer::No(refusal);
@@ -179,7 +180,7 @@ pub fn grow(obstacle: &[i32], f: u16, cart: &[i32], g: u16, out: &mut [i32]) -> 
 // how many corners it has. A point that is repeated counts once in the shape, and one in line between two others is no
 // corner of it; points that are all equal make a point, and points in one line a segment. Refused, with the output as
 // it was: 1 to 3, points counted before repeats are dropped, and then an output that is too small.
-// Ruled out: points in line kept; repeats kept; repeats not counted; output written before the room is known.
+// Ruled out: points in line kept; repeats kept; points not counted; output written before the room is known.
 pub fn sweep(list: &[i32], floor: u16, out: &mut [i32]) -> Answer
     ensures { λ r. ⌜ (ofAnswer r ≡ reply (askSweep (on (now (list .entry)) floor) (now (out .entry))))
         × (now (out .exit) ≡ output (askSweep (on (now (list .entry)) floor) (now (out .entry)))) ⌝ }

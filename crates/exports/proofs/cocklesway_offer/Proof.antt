@@ -22,7 +22,8 @@ returns c =
     let start = c .before .before in
     let direction = ap₂ point (toZ-ofZ (start .fits .u)) (toZ-ofZ (start .fits .v)) in
     c .of-offer .ensures ∙ ap (λ (x : Reply). crossed 6 x) (c .before .offer .ensures
-    ∙ ap (λ (d : Point). reply (askOffer (on (start .args .a .now) (start .args .f)) (on (start .args .b .now) (start .args .g)) d)) direction)
+    ∙ ap (λ (d : Point). reply (askOffer (on (start .args .a .now) (start .args .f)) (on (start .args .b .now) (start .args .g)) d))
+    direction)
 
 pub cocklesway-offer-spec : {M : Type 1} → statement M
 cocklesway-offer-spec = tie.close (tie.spec offer-requires of-offer-requires returns)

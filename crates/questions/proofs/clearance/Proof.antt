@@ -39,7 +39,8 @@ enum-told c = search needs
 returns : tie.Need-returns
 returns c =
     let start = c .before .before .before .before in
-    shapes-refused (askClearance (one start) (other start)) (c .before .before .before .admit-pair .ensures .no _ (c .before .refusal .given .1)) .0
+    shapes-refused (askClearance (one start) (other start))
+    (c .before .before .before .admit-pair .ensures .no _ (c .before .refusal .given .1)) .0
 
 relation-requires : tie.Need-relation-requires
 relation-requires c κs = let both = shapes c in (both .first-valid, both .second-valid)

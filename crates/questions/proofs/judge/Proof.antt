@@ -29,7 +29,8 @@ enum-told : tie.Need-enum-told
 enum-told c = search needs
 
 returns : tie.Need-returns
-returns c = shapes-refused (asked (c .before .before .before .before)) (c .before .before .before .admit .ensures .no _ (c .before .refusal .given .1)) .0
+returns c = shapes-refused (asked (c .before .before .before .before))
+    (c .before .before .before .admit .ensures .no _ (c .before .refusal .given .1)) .0
 
 count-requires : tie.Need-count-requires
 count-requires c κs = search needs

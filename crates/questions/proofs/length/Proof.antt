@@ -26,7 +26,8 @@ enum-told : tie.Need-enum-told
 enum-told c = search needs
 
 returns : tie.Need-returns
-returns c = shapes-refused (askLength (shape (c .before .before .before .before))) (c .before .before .before .admit .ensures .no _ (c .before .refusal .given .1)) .0
+returns c = shapes-refused (askLength (shape (c .before .before .before .before)))
+    (c .before .before .before .admit .ensures .no _ (c .before .refusal .given .1)) .0
 
 furthest-pair-requires : tie.Need-furthest-pair-requires
 furthest-pair-requires c κs = valid c

@@ -19,13 +19,16 @@ enum-known-found-3 : tie.Need-enum-known-found-3
 enum-known-found-3 c = search needs
 
 returns : tie.Need-returns
-returns c = ap (λ (d : Distance). answered (valuesOf d ++ (pos (c .before .before .before .args .floor) ∷ []))) (sym (c .before .found .given .1))
+returns c =
+    ap (λ (d : Distance). answered (valuesOf d ++ (pos (c .before .before .before .args .floor) ∷ []))) (sym (c .before .found .given .1))
 
 returns-2 : tie.Need-returns-2
-returns-2 c = ap (λ (d : Distance). answered (valuesOf d ++ (pos (c .before .before .before .args .floor) ∷ []))) (sym (c .before .found2 .given .1))
+returns-2 c =
+    ap (λ (d : Distance). answered (valuesOf d ++ (pos (c .before .before .before .args .floor) ∷ []))) (sym (c .before .found2 .given .1))
 
 returns-3 : tie.Need-returns-3
-returns-3 c = ap (λ (d : Distance). answered (valuesOf d ++ (pos (c .before .before .before .args .floor) ∷ []))) (sym (c .before .found3 .given .1))
+returns-3 c =
+    ap (λ (d : Distance). answered (valuesOf d ++ (pos (c .before .before .before .args .floor) ∷ []))) (sym (c .before .found3 .given .1))
 
 pub measured-spec : {M : Type 1} → statement M
 measured-spec =

@@ -36,7 +36,8 @@ enum-told : tie.Need-enum-told
 enum-told c = search needs
 
 returns : tie.Need-returns
-returns c = shapes-refused (asked (c .before .before .before .before)) (c .before .before .before .admit .ensures .no _ (c .before .refusal .given .1))
+returns c = shapes-refused (asked (c .before .before .before .before))
+    (c .before .before .before .admit .ensures .no _ (c .before .refusal .given .1))
 
 -- twice as many numbers as corners
 doubled : (c : tie.After-enum-told) → let l = c .before .before .before .args .list .now in length l ≡ 2 * length (points l)

@@ -40,7 +40,8 @@ enum-told c = search needs
 returns : tie.Need-returns
 returns c =
     let start = c .before .before .before .before in
-    shapes-refused (askTangents (one start) (other start)) (c .before .before .before .admit-pair .ensures .no _ (c .before .refusal .given .1)) .0
+    shapes-refused (askTangents (one start) (other start))
+    (c .before .before .before .admit-pair .ensures .no _ (c .before .refusal .given .1)) .0
 
 relation-requires : tie.Need-relation-requires
 relation-requires c κs = let both = shapes c in (both .first-valid, both .second-valid)
@@ -62,7 +63,12 @@ ready : (c : tie.After-enum-told2) → let args = c .before .before .before .bef
 ready c =
     let at-place = c .before .before in
     let both = shapes (at-place .before) in
+<<<<<<< HEAD
     (both .first-valid, both .second-valid, related-apart _ _ (ap numberOf (sym (c .enum-told2 .given .1)) ∙ at-place .relation .ensures))
+=======
+    let apart-is = related-apart _ _ (ap placeNumber (sym (c .enum-told2 .given .1)) ∙ at-place .relation .ensures) in
+    (both .first-valid, both .second-valid, apart-is)
+>>>>>>> question
 
 line-requires : tie.Need-line-requires
 line-requires c κs = ready c

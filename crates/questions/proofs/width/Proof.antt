@@ -38,7 +38,8 @@ three : (c : tie.Else1) → 3 ≤ length (points (c .before .before .before .bef
 three c = omega (arith, c .if1 .left, c .before .count .ensures)
 
 returns : tie.Need-returns
-returns c = shapes-refused (askWidth (shape (c .before .before .before .before))) (c .before .before .before .admit .ensures .no _ (c .before .refusal .given .1)) .0
+returns c = shapes-refused (askWidth (shape (c .before .before .before .before)))
+    (c .before .before .before .admit .ensures .no _ (c .before .refusal .given .1)) .0
 
 count-requires : tie.Need-count-requires
 count-requires c κs = search needs

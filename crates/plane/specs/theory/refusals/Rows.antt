@@ -113,7 +113,8 @@ pub none-output : {X : Type 0} (ws : List Row) (kept new : List X) → NoneApply
 none-output [] kept new n = refl
 none-output (w ∷ ws) kept new n = ap (λ (b : Bool). cond b kept (unlessRefused ws kept new)) (n .0) ∙ none-output ws kept new (n .1)
 
-pub passed-output : {X : Type 0} (vs ws : List Row) (kept new : List X) → NoneApply vs → unlessRefused (vs ++ ws) kept new ≡ unlessRefused ws kept new
+pub passed-output : {X : Type 0} (vs ws : List Row) (kept new : List X) → NoneApply vs
+    → unlessRefused (vs ++ ws) kept new ≡ unlessRefused ws kept new
 passed-output [] ws kept new n = refl
 passed-output (v ∷ vs) ws kept new n =
     ap (λ (b : Bool). cond b kept (unlessRefused (vs ++ ws) kept new)) (n .0) ∙ passed-output vs ws kept new (n .1)
