@@ -15,12 +15,8 @@ use Rattle.separation.specs.Answer.{numberOf}
 use Rattle.separation.specs.theory.Around.{related-not-apart}
 use Rattle.separation.proofs.answer.Relation.{the-type}
 
-<<<<<<< HEAD:crates/questions/proofs/Related.antt
-pub not-apart : (A B : List Point) (p : Relation) → OneOf (1 ∷ 2 ∷ []) (tagOf the-type p) → numberOf p ≡ relationNumber A B → apart A B ≡ false
-=======
-pub not-apart : (A B : List Point) (p : Place)
-    → OneOf (1 ∷ 2 ∷ []) (tagOf the-type p) → placeNumber p ≡ relationNumber A B → apart A B ≡ false
->>>>>>> question:crates/questions/proofs/Placed.antt
+pub not-apart : (A B : List Point) (p : Relation)
+    → OneOf (1 ∷ 2 ∷ []) (tagOf the-type p) → numberOf p ≡ relationNumber A B → apart A B ≡ false
 not-apart A B Apart k h = absurd (neither k)
   where
     neither : OneOf (1 ∷ 2 ∷ []) 0 → ⊥

@@ -63,12 +63,8 @@ ready : (c : tie.After-enum-told2) → let args = c .before .before .before .bef
 ready c =
     let at-place = c .before .before in
     let both = shapes (at-place .before) in
-<<<<<<< HEAD
-    (both .first-valid, both .second-valid, related-apart _ _ (ap numberOf (sym (c .enum-told2 .given .1)) ∙ at-place .relation .ensures))
-=======
-    let apart-is = related-apart _ _ (ap placeNumber (sym (c .enum-told2 .given .1)) ∙ at-place .relation .ensures) in
+    let apart-is = related-apart _ _ (ap numberOf (sym (c .enum-told2 .given .1)) ∙ at-place .relation .ensures) in
     (both .first-valid, both .second-valid, apart-is)
->>>>>>> question
 
 line-requires : tie.Need-line-requires
 line-requires c κs = ready c

@@ -21,12 +21,8 @@ returns : tie.Need-returns
 returns c =
     ap₂ (λ (u v : ℤ). answered (pos 1 ∷ u ∷ v ∷ pos (c .before .before .before .args .floor) ∷ []))
     (result-is w32 (c .known-told .given .0 .1) refl) (result-is w32 (c .known-told .given .1 .0 .1) refl)
-<<<<<<< HEAD:crates/questions/proofs/separators/told/Proof.antt
-    ∙ ap (λ (x : Separator). answered (separatorNumbers x ++ (pos (c .before .before .before .args .floor) ∷ []))) (sym (c .before .found .given .1))
-=======
-    ∙ ap (λ (x : Found). answered (foundNumbers x ++ (pos (c .before .before .before .args .floor) ∷ [])))
+    ∙ ap (λ (x : Separator). answered (separatorNumbers x ++ (pos (c .before .before .before .args .floor) ∷ [])))
     (sym (c .before .found .given .1))
->>>>>>> question:crates/questions/proofs/separating/told/Proof.antt
 
 returns-2 : tie.Need-returns-2
 returns-2 c = ap (λ (x : Separator). answered (separatorNumbers x ++ (pos (c .before .before .args .floor) ∷ []))) (sym (c .enum-told .given .1))
