@@ -9,14 +9,15 @@ use mathlib.Core.List.{List, [], _∷_, _++_}
 use Prim.Native.Nat.{ℕ, _*_}
 use lib.Dec.{eqb, ltb}
 use lib.IntN.{ℤ, pos}
-use lib.ListN.{length, drop}
+use lib.ListN.{length}
 use Rattle.plane.specs.Limits.{maxFloor}
 use Rattle.plane.specs.Point.{Point, points, numbers}
 use Rattle.plane.specs.Reply.{Reply, answered, refused, Row, row, firstRow}
 use Rattle.plane.specs.Refusal.{tooMany, someOutside, shapeRows}
+use Rattle.plane.specs.Output.{overwritten}
 use Rattle.plane.specs.Corner.{shapeOf, sums}
 use Rattle.plane.specs.Separation.{relationNumber}
-use Rattle.journal.specs.Bytes.{words}
+use Rattle.endian.specs.Bytes.{words}
 use Rattle.abi.specs.Lists.{listOf}
 
 -- "one above 65,535 being refused 13 with the same place in the order"
@@ -46,13 +47,9 @@ pub record BytesWritten : Type 0 where
   pub reply : Reply
   pub output : List ℕ
 
--- what stands at the front of the bytes, all behind it being kept
-abbrev pub overBytes : List ℕ → List ℕ → List ℕ
-overBytes new out = new ++ drop (length new) out
-
 -- "The output is untouched on refusal. On success only its first numbers are written"
 abbrev pub stored : Reply → List ℤ → List ℕ → List ℕ
-stored (answered values) l out = overBytes (words l) out
+stored (answered values) l out = overwritten (words l) out
 stored (refused n carries) l out = out
 
 -- a shape made of two

@@ -12,9 +12,10 @@ use Rattle.plane.specs.Reply.{Reply}
 use Rattle.plane.specs.Refusal.{badCount, tooMany, outside, someOutside, equalPair, leftBroken, breakingEdge, breakingCorner}
 use Rattle.plane.specs.Refusal.{ruleBroken, brokenEdge, brokenCorner, badStart}
 use Rattle.plane.specs.Direction.{greater, value, support, furthest}
+use Rattle.plane.specs.Output.{overwritten}
 use Rattle.plane.specs.Corner.{shapeOf}
 use Rattle.plane.specs.Separation.{inside, apart, notLeft, onRim, touching, relationNumber}
-use Rattle.journal.specs.Bytes.{pair, pairAt, word, wordAt, words, wordsAt}
+use Rattle.endian.specs.Bytes.{pair, pairAt, word, wordAt, words, wordsAt}
 use Rattle.abi.specs.Lists.{listOf}
 use Rattle.abi.specs.Packing.{fields, packed}
 use Rattle.abi.specs.Calls.{judgedBytes, relationBytes, BytesWritten, sumBytes, mergeBytes}
@@ -82,7 +83,8 @@ rows =
     ∷ []
 
 pub rows-hold : map (λ (c : Case). c .given) rows ≡ map (λ (c : Case). c .stated) rows
-unfolding listOf judgedBytes relationBytes sumBytes mergeBytes pair pairAt word wordAt words wordsAt maxCorners maxCoordinate maxFloor turn
-    breaks precedes samePoint greater shapeOf value support furthest inside apart notLeft onRim touching relationNumber
-    badCount tooMany outside someOutside equalPair leftBroken breakingEdge breakingCorner ruleBroken brokenEdge brokenCorner badStart
+unfolding listOf judgedBytes relationBytes sumBytes mergeBytes overwritten pair pairAt word wordAt words wordsAt
+    maxCorners maxCoordinate maxFloor turn breaks precedes samePoint greater shapeOf value support furthest inside apart notLeft
+    onRim touching relationNumber badCount tooMany outside someOutside equalPair leftBroken breakingEdge breakingCorner
+    ruleBroken brokenEdge brokenCorner badStart
 rows-hold = refl

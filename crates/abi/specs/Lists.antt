@@ -6,7 +6,7 @@ use Prim.Native.Nat.{ℕ, _/_, _%_}
 use lib.Dec.{eqb}
 use lib.ListN.{length}
 use lib.IntN.{ℤ}
-use Rattle.journal.specs.Bytes.{wordsAt}
+use Rattle.endian.specs.Bytes.{wordsAt}
 
 unfoldable pub listOf : List ℕ → List ℤ
 listOf bs = cond (eqb (length bs % 4) 0) (wordsAt (length bs / 4) bs 0) []

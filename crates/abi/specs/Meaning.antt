@@ -14,7 +14,7 @@ use Rattle.plane.specs.Point.{points, numbers}
 use Rattle.plane.specs.Reply.{answered}
 use Rattle.plane.specs.Floor.{on}
 use Rattle.plane.specs.Question.{reply, askJudge, askRelation, askSum, askMerge}
-use Rattle.journal.specs.Bytes.{wordsAt}
+use Rattle.endian.specs.Bytes.{wordsAt}
 use Rattle.abi.specs.Lists.{listOf}
 use Rattle.abi.specs.Packing.{packed, Unpacked, packed-back}
 use Rattle.abi.specs.Calls.{judgedBytes, relationBytes, sumBytes, mergeBytes, sumShape, mergeShape}

@@ -1,18 +1,15 @@
 // Inner functions: an answer's numbers, written to the output as bytes.
 ghost use mathlib.Core.Path.{_≡_};
-ghost use Prim.Native.Nat.{_+_, _*_, _≤_, _<_};
+ghost use Prim.Native.Nat.{_*_};
 ghost use lib.ListN.{length, take};
-ghost use lib.Seq.{sets};
 ghost use Rattle.plane.specs.Limits.{maxCorners};
 ghost use Rattle.plane.specs.Floor.{on};
 ghost use Rattle.plane.specs.Question.{reply, output};
-ghost use Rattle.journal.specs.Bytes.{word, words};
 ghost use Rattle.questions.specs.Answer.{ofAnswer};
 ghost use Rattle.abi.specs.Packing.{packed, Fits, firstField};
-ghost use Rattle.abi.specs.Calls.{stored, overBytes};
+ghost use Rattle.abi.specs.Calls.{stored};
 ghost use Rattle.abi.specs.Passing.{Deliverable, Room, Replied, combined, asked};
 use crate::packing;
-use journal::bytes;
 use polygon::limits;
 use questions::answer::Answer;
 
@@ -71,32 +68,8 @@ fn deliver(answer: Answer, shape: &[i32], out: &mut [u8]) -> u64
         (take (2 * firstField (ofAnswer answer)) (now (shape .entry))) (now (out .entry))) ⌝ }
 {
     if let Answer::Corners { count, floor } = answer {
-        encode(shape, 2 * count, out);
+        endian::encode(shape, 2 * count, out);
         return packing::of_answer(answer);
     }
     packing::of_answer(answer)
-}
-
-// Writes the first n numbers of a list at the front of the output, four bytes each; all behind them is kept.
-fn encode(list: &[i32], n: usize, out: &mut [u8])
-    requires { ⌜ (n ≤ length (now list)) × (4 * n ≤ length (now out)) ⌝ }
-    ensures { λ r. ⌜ now (out .exit) ≡ overBytes (words (take n (now (list .entry)))) (now (out .entry)) ⌝ }
-{
-    let mut i = 0;
-    while i < n {
-        put(out, 4 * i, list[i]);
-        i += 1;
-    }
-}
-
-// Writes a number at a place of the output, the lowest byte first.
-fn put(out: &mut [u8], p: usize, z: i32)
-    requires { ⌜ 3 + p < length (now out) ⌝ }
-    ensures { λ r. ⌜ now (out .exit) ≡ sets (now (out .entry)) p (word z) ⌝ }
-{
-    let n = bytes::bits(z);
-    out[p] = (n % 256) as u8;
-    out[p + 1] = (n / 256 % 256) as u8;
-    out[p + 2] = (n / 65536 % 256) as u8;
-    out[p + 3] = (n / 16777216) as u8;
 }

@@ -12,13 +12,13 @@ use questions::answer::Addition;
 use questions::answer::Answer;
 use questions::answer::Begun;
 use questions::answer::Clearance;
-use questions::answer::Separator;
 use questions::answer::Inside;
 use questions::answer::Length;
 use questions::answer::Offer;
 use questions::answer::Part;
 use questions::answer::Refusal;
 use questions::answer::Relation;
+use questions::answer::Separator;
 use questions::answer::Tangents;
 use questions::answer::Width;
 

@@ -4,7 +4,6 @@ ghost use mathlib.Core.Path.{_≡_};
 ghost use Rattle.journal.specs.Format.{records};
 ghost use Rattle.journal.specs.Reading.{damaged};
 ghost use Rattle.journal.specs.Survey.{Legible, Latest, newer as Survey·newer};
-use crate::bytes;
 use crate::records;
 
 // Where the numbers of the latest record of a name stand, how many they are, and the floor of the record.
@@ -27,7 +26,7 @@ pub fn latest(log: &[u8], name: u16) -> Found
     let mut p = 0;
     while records::whole_at(log, p) {
         found = newer(log, p, name, found);
-        p += 2 + bytes::pair_at(log, p);
+        p += 2 + endian::pair_at(log, p);
     }
     found
 }
@@ -37,13 +36,13 @@ fn newer(log: &[u8], p: usize, name: u16, found: Found) -> Found
     requires { ⌜ Legible (now log) p ⌝ }
     ensures { λ r. ⌜ r ≡ Survey·newer name (now (log .entry)) p found ⌝ }
 {
-    if bytes::pair_at(log, p + 4) != name as usize {
+    if endian::pair_at(log, p + 4) != name as usize {
         return found;
     }
-    let fixed = records::fixed_bytes(bytes::pair_at(log, p + 2));
+    let fixed = records::fixed_bytes(endian::pair_at(log, p + 2));
     Found::At {
         place: p + (1 + fixed),
-        count: (bytes::pair_at(log, p) - fixed) / 4,
+        count: (endian::pair_at(log, p) - fixed) / 4,
         floor: records::floor_at(log, p, fixed),
     }
 }

@@ -1,7 +1,7 @@
 // Questions on directions in which one shape is below another: each asks the library and adds the reply, without its
 // newline.
-use questions::answer::Separator;
 use questions::answer::Offer;
+use questions::answer::Separator;
 use questions::separators;
 use text::answers;
 use text::fields;

@@ -431,7 +431,7 @@ pub fn log_read(log: &[u8], name: u16, out: &mut [i32]) -> Answer
     if out.len() < count {
         return Answer::No(Refusal::Room);
     }
-    journal::corners::decode(log, place, count, out);
+    endian::decode(log, place, count, out);
     Answer::Corners {
         count: count / 2,
         floor,

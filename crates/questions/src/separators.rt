@@ -9,8 +9,8 @@ ghost use Rattle.plane.specs.Reply.{answered};
 ghost use Rattle.plane.specs.Question.{reply, askOffer};
 ghost use Rattle.separator.specs.Separator.{separatorNumbers, SeparatorBetween};
 ghost use Rattle.questions.specs.Answer.{ofOffer, ofSeparator};
-use crate::answer::Separator;
 use crate::answer::Offer;
+use crate::answer::Separator;
 use admission::Admission;
 use polygon::point::Point;
 

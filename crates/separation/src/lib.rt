@@ -1,7 +1,7 @@
 // Inner functions for how two shapes stand to each other (document 01, "Relation" and "Inside"), and for their
 // differences. Callers ask the crate `questions`.
-mod around;
 pub mod answer;
+mod around;
 mod within;
 
 ghost use mathlib.Core.Path.{_≡_};

@@ -115,7 +115,8 @@ module _ {a b : List ℤ} {s t : Side} (p : Seeking a b s t) where
       pub seeking-end : m .at + n .at ≡ length (edges A) + length (edges B) → Outward D (opposite (cornerOf m ⊕ cornerOf n))
       seeking-end last =
           let seen = passing-end more (all-passed A B (m .at) (n .at) (w .first-next .at-in) (w .second-next .at-in) last) in
-          subst (λ q. Outward D (opposite q)) (sym (sides-here (seeking-next _) (w .first-next) (w .second-next) ∙ home (seen .count-is refl)))
+          subst (λ q. Outward D (opposite q))
+          (sym (sides-here (seeking-next _) (w .first-next) (w .second-next) ∙ home (seen .count-is refl)))
           (begun-away a b (p .passing .start) (sym (seen .outside-is)))
 
       module _ (on : m .at + n .at ≡ length (edges A) + length (edges B) → ⊥) where

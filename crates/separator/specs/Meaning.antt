@@ -1,8 +1,8 @@
 -- What a separating direction means, in document 02's words (request W13). Each theorem is proved in the theory; here it is only cited.
 --     below            "every corner of the first is strictly below every corner of the second in it"; acceptance means apart
 --     askOffer         the same of the reply to two shapes with their floors; shapes apart have a direction that is accepted
---     SeparatorBetween     the search is refused exactly by 1 to 5 and 13; else it finds such a direction exactly if the shapes are apart, and
---                      says none exactly if they are not
+--     SeparatorBetween     the search is refused exactly by 1 to 5 and 13; else it finds such a direction exactly if the shapes are
+--                          apart, and says none exactly if they are not
 -- That 11 and 12 are "after 1 to 5 and 13" is `askOffer` of plane's `Question.antt`.
 use mathlib.Core.Bool.{true, false}
 use mathlib.Core.List.{List, [], _∷_}

@@ -1,7 +1,7 @@
 // Inner functions for a direction in which one shape is below another: the witness that they are apart (document 02,
 // request W13). Callers ask the crate `questions`.
-mod search;
 mod primitive;
+mod search;
 
 ghost use mathlib.Core.Bool.{false};
 ghost use mathlib.Core.Path.{_≡_};

@@ -26,8 +26,8 @@ use Rattle.plane.specs.theory.lists.Flat.{points-length}
 use Rattle.plane.specs.theory.refusals.Accept.{count-good}
 use Rattle.plane.specs.theory.refusals.Rows.{Outcome, given, passed, outcome, none-join}
 use Rattle.plane.specs.theory.refusals.Rows.{firstRow-append, firstRow-given, firstRow-none, firstRow-passed}
-use Rattle.journal.specs.Bytes.{wordsAt}
-use Rattle.journal.specs.theory.Decode.{wordsAt-length}
+use Rattle.endian.specs.Bytes.{wordsAt}
+use Rattle.endian.specs.theory.Bytes.{wordsAt-length}
 use Rattle.abi.specs.Lists.{listOf}
 use Rattle.abi.specs.Calls.{judgedRows, judgedBytes, floorsRow, pairRows, relationBytes}
 use Rattle.abi.specs.Passing.{Alike, equal, odd, many, Cut, Passed, barred}

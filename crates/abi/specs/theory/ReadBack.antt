@@ -10,16 +10,18 @@ use Rattle.integer.specs.Machine.{within-fits}
 use Rattle.plane.specs.Limits.{coordinate-small}
 use Rattle.plane.specs.Point.{Point, points, numbers}
 use Rattle.plane.specs.Reply.{Reply, answered}
+use Rattle.plane.specs.Output.{overwritten}
 use Rattle.plane.specs.theory.lists.Flat.{numbers-length}
 use Rattle.plane.specs.theory.refusals.Accept.{near→inRange}
 use Rattle.plane.specs.theory.refusals.Rows.{none-append, firstRow-answered, firstRow-none}
-use Rattle.journal.specs.Bytes.{words, wordsAt}
-use Rattle.journal.specs.theory.Bytes.{wordsAt-words}
+use Rattle.endian.specs.Bytes.{words, wordsAt}
+use Rattle.endian.specs.theory.Bytes.{wordsAt-words}
 use Rattle.abi.specs.Calls.{pairRows, answerRows, stored, pairBytes}
 
 pub pair-read-back : (combined : List Point → List Point → List Point) (l : List ℤ) (f : ℕ) (m : List ℤ) (g : ℕ) (out : List ℕ) (c : ℕ)
     (h : ℤ) → pairBytes combined l f m g out .reply ≡ answered (pos c ∷ h ∷ [])
     → wordsAt (2 * c) (pairBytes combined l f m g out .output) 0 ≡ numbers (combined (points l) (points m))
+unfolding overwritten
 pair-read-back combined l f m g out c h e =
     let shape = combined (points l) (points m) in
     let rows = pairRows l f m g ++ answerRows shape out in

@@ -1,22 +1,17 @@
 -- A shape made of two, asked of a question that writes numbers, and what becomes of the bytes.
---     word-stored          a number written as four bytes
---     encoded-start, encoded-more, encoded-done     numbers written as bytes, one by one
 --     pair-same            the question's reply is that of the call
 --     pair-delivered       its corners are in the buffer, and there is room for their bytes
 --     pair-stored          the bytes that are written are those of the call
 use mathlib.Core.Path.{_≡_, refl, sym, _∙_, ap, ap₂, subst}
 use mathlib.Core.Bool.{Bool, true, false, cond}
 use mathlib.Core.List.{List, [], _∷_, _++_}
-use Prim.Native.Nat.{ℕ, suc, _+_, _*_, _/_, _%_, _≤_, _<_}
+use Prim.Native.Nat.{ℕ, _*_, _≤_}
 use native.Mathlib.Omega.{arith}
 use borrow.Author.Tests.{ltb-true, ltb-false}
 use lib.Dec.{ltb}
 use lib.IntN.{ℤ, pos}
-use lib.ListN.{length, take, drop, getD, set, length-append, length-drop}
-use lib.Seq.{sets, sets-eq, take-at, drop-at, take-take, drop-drop, length-take-le}
-use mir.Syntax.{w32}
-use mir.Val.{SFits, ofZ}
-use mir.Facts.{fits-ofZ, fits-lt-pow}
+use lib.ListN.{length, take, drop}
+use lib.Seq.{take-at, take-take}
 use Rattle.plane.specs.Point.{Point, points, numbers}
 use Rattle.plane.specs.Reply.{Reply, answered, refused, Row, firstRow, NoneApply}
 use Rattle.plane.specs.Refusal.{tooMany, someOutside}
@@ -30,70 +25,10 @@ use Rattle.plane.specs.theory.refusals.Accept.{few-corners}
 use Rattle.plane.specs.theory.refusals.Rows.{Outcome, given, passed, outcome, none-append}
 use Rattle.plane.specs.theory.refusals.Rows.{firstRow-append, firstRow-given, firstRow-none, firstRow-passed}
 use Rattle.plane.specs.theory.refusals.Rows.{none-output, passed-output}
-use Rattle.journal.specs.Bytes.{pair, word, words}
-use Rattle.journal.specs.theory.Bytes.{word-length, words-length}
-use Rattle.journal.specs.theory.Storing.{words-more}
 use Rattle.abi.specs.Packing.{firstField}
-use Rattle.abi.specs.Calls.{pairRows, answerRows, overBytes, stored, pairBytes}
+use Rattle.abi.specs.Calls.{pairRows, answerRows, stored, pairBytes}
 use Rattle.abi.specs.Passing.{asked, Room, Deliverable}
 use Rattle.abi.specs.theory.Alike.{Agree, refusals, sames}
-
--- ---- numbers as bytes
-
--- four stores in a row
-four : (out : List ℕ) (p : ℕ) {a b c d a′ b′ c′ d′ i j k : ℕ} → i ≡ suc p → j ≡ suc (suc p) → k ≡ suc (suc (suc p))
-    → a ≡ a′ → b ≡ b′ → c ≡ c′ → d ≡ d′ → set (set (set (set out p a) i b) j c) k d ≡ sets out p (a′ ∷ b′ ∷ c′ ∷ d′ ∷ [])
-four out p ei ej ek ea eb ec ed = λ t. set (set (set (set out p (ea t)) (ei t) (eb t)) (ej t) (ec t)) (ek t) (ed t)
-
-pub word-stored : (z : ℤ) → SFits w32 z → (n : ℕ) → n ≡ ofZ w32 z → (out : List ℕ) (p : ℕ)
-    → set (set (set (set out p (n % 256)) (p + 1) (n / 256 % 256)) (p + 2) (n / 65536 % 256)) (p + 3) (n / 16777216) ≡ sets out p (word z)
-unfolding word pair
-word-stored z f n q out p =
-    let small = fits-lt-pow (fits-ofZ f) in
-    four out p (omega arith) (omega arith) (omega arith) (omega (arith, q)) (omega (arith, q)) (omega (arith, q)) (omega (arith, q, small))
-
--- i numbers of the list stand at the front of the bytes, and all behind them is as it was
-pub record Encoded (old : List ℕ) (l : List ℤ) (i : ℕ) (out : List ℕ) : Type 0 where
-  pub front : out ≡ words (take i l) ++ drop (4 * i) old
-
-front-bytes : (l : List ℤ) (i : ℕ) → i ≤ length l → length (words (take i l)) ≡ 4 * i
-front-bytes l i h = words-length (take i l) ∙ ap (λ (k : ℕ). 4 * k) (length-take-le i l h)
-
-pub encoded-start : (old : List ℕ) (l : List ℤ) → Encoded old l 0 old
-unfolding words
-encoded-start old l = record { front = refl }
-
-pub encoded-length : {old : List ℕ} {l : List ℤ} {i : ℕ} {out : List ℕ} → Encoded old l i out → i ≤ length l → 4 * i ≤ length old
-    → length out ≡ length old
-encoded-length {old} {l} {i} e h k =
-    omega (arith, ap length (e .front) ∙ length-append (words (take i l)) (drop (4 * i) old), front-bytes l i h, length-drop (4 * i) old)
-
-pub encoded-more : {old : List ℕ} {l : List ℤ} {i : ℕ} {out : List ℕ} {z : ℤ} → Encoded old l i out → i < length l
-    → 4 + 4 * i ≤ length old → z ≡ getD l i (pos 0) → Encoded old l (i + 1) (sets out (4 * i) (word z))
-encoded-more {old} {l} {i} {out} {z} e h room q = record {
-  front =
-      sets-eq (word z) out (4 * i) (omega (arith, word-length z, encoded-length e (omega arith) (omega (arith, room)), room))
-      ∙ ap₂ (λ (x y : List ℕ). x ++ word z ++ y) head tail
-      ∙ ap (λ (y : ℤ). words (take i l) ++ word y ++ drop (4 * (i + 1)) old) q
-      ∙ ap (λ (x : List ℕ). x ++ drop (4 * (i + 1)) old) (words-more l i h);
-}
-  where
-    head : take (4 * i) out ≡ words (take i l)
-    head = ap (take (4 * i)) (e .front) ∙ take-at (words (take i l)) (drop (4 * i) old) (4 * i) (front-bytes l i (omega arith))
-
-    same : drop (4 * i) out ≡ drop (4 * i) old
-    same = ap (drop (4 * i)) (e .front) ∙ drop-at (words (take i l)) (drop (4 * i) old) (4 * i) (front-bytes l i (omega arith))
-
-    tail : drop (4 * i + length (word z)) out ≡ drop (4 * (i + 1)) old
-    tail =
-        ap (λ (n : ℕ). drop (4 * i + n) out) (word-length z) ∙ sym (drop-drop 4 (4 * i) out) ∙ ap (drop 4) same
-        ∙ drop-drop 4 (4 * i) old ∙ ap (λ (n : ℕ). drop n old) (let d : 4 * i + 4 ≡ 4 * (i + 1) = omega arith in d)
-
-pub encoded-done : {old : List ℕ} {l : List ℤ} {i n : ℕ} {out : List ℕ} → Encoded old l i out → i ≡ n → n ≤ length l
-    → out ≡ overBytes (words (take n l)) old
-encoded-done {old} {l} {i} {n} e q h =
-    e .front ∙ ap (λ (k : ℕ). words (take k l) ++ drop (4 * k) old) q
-    ∙ ap (λ (k : ℕ). words (take n l) ++ drop k old) (sym (front-bytes l n h))
 
 -- ---- refusal 8, in numbers and in bytes
 

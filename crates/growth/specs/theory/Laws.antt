@@ -49,7 +49,8 @@ module _ (B C A : List Point) (b : 0 < length B) (c : 0 < length C) (a : 0 < len
   pub grown-merge : grown (B ++ C) A ≡ shapeOf (grown B A ++ grown C A)
   grown-merge = sym (grown-known (B ++ C) A (omega (arith, length-append B C)) a (shapeOf S) (shapeOf-shape S some)
       (λ d. shapeOf-support S some d ∙ support-append d (grown B A) (grown C A) (grown-some B A b a) (grown-some C A c a)
-      ∙ ap₂ greater (grown-reach B A b a d) (grown-reach C A c a d) ∙ sym (greater-plus (support d B) (support d C) (support (opposite d) A))
+      ∙ ap₂ greater (grown-reach B A b a d) (grown-reach C A c a d)
+      ∙ sym (greater-plus (support d B) (support d C) (support (opposite d) A))
       ∙ ap (λ z. z +ℤ support (opposite d) A) (sym (support-append d B C b c))))
     where
       S : List Point

@@ -10,15 +10,15 @@ use native.Mathlib.Omega.{arith}
 use lib.Dec.{eqb}
 use lib.ListN.{length, take, drop}
 use lib.Seq.{drop-drop}
-use Rattle.journal.specs.Bytes.{wordsAt}
 use Rattle.plane.specs.Floor.{Floored, on}
+use Rattle.endian.specs.Bytes.{wordsAt}
+use Rattle.endian.specs.theory.Bytes.{wordsAt-drop}
 use Rattle.journal.specs.Format.{fixedBytes, size, whole, records, kind, name, floor, list, content}
 use Rattle.journal.specs.Format.{bad}
 use Rattle.journal.specs.Reading.{damaged, held, nothing, latest}
 use Rattle.journal.specs.Survey.{Legible, foundAt, newer, Latest}
 use Rattle.journal.specs.declared.latest.Found.{Found}
 use Rattle.journal.specs.declared.latest.Found.the-variants as Found
-use Rattle.journal.specs.theory.Bytes.{wordsAt-drop}
 use Rattle.journal.specs.theory.Records.{records-none, records-front}
 use Rattle.journal.specs.theory.Kind.{neither, fixed-least, good→facts}
 use Rattle.journal.specs.theory.Survey.{next-inside, eighth}

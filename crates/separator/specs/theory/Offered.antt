@@ -110,7 +110,8 @@ module _ (a b : Floored) where
         same : Same a b
         same = asked-shapes (askSeparator a b (f .found)) _ told
 
-        go : (x : Separator) → Finds A B x → pos 1 ∷ u ∷ v ∷ floor ∷ [] ≡ separatorNumbers x ++ (pos (a .floor) ∷ []) → Separates A B (point u v)
+        go : (x : Separator) → Finds A B x → pos 1 ∷ u ∷ v ∷ floor ∷ [] ≡ separatorNumbers x ++ (pos (a .floor) ∷ [])
+            → Separates A B (point u v)
         go (Direction s t) w e =
             let left : s ≡ u = cc e in
             let right : t ≡ v = cc e in subst (λ y. Separates A B (point u y)) right (subst (λ x. Separates A B (point x t)) left w)

@@ -51,7 +51,8 @@ greater-least {a} {b} {c} h k = go (greater-either a b)
 -- ---- algebra
 
 pub greater-comm : (a b : ℤ) → greater a b ≡ greater b a
-greater-comm a b = le-antisym (greater-least (right-le-greater b a) (left-le-greater b a)) (greater-least (right-le-greater a b) (left-le-greater a b))
+greater-comm a b =
+    le-antisym (greater-least (right-le-greater b a) (left-le-greater b a)) (greater-least (right-le-greater a b) (left-le-greater a b))
 
 pub greater-idem : (a : ℤ) → greater a a ≡ a
 greater-idem a = le-antisym (greater-least (≤ℤ-refl a) (≤ℤ-refl a)) (left-le-greater a a)

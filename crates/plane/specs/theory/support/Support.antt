@@ -5,7 +5,7 @@
 --     support-le           a number that no point is above is at least the support value
 --     support-subset       more points, no smaller support; support-same: the same points, the same support
 --     support-append, support-sums, support-mirrored     the support of a union, of all sums, of the mirror image
--- The laws of the greater of two numbers are in `Max.antt`, how a value goes through points and directions in `Vector.antt`.
+-- The laws of the greater of two numbers are in `Greater.antt`, how a value goes through points and directions in `Vector.antt`.
 use mathlib.Core.Path.{_≡_, refl, sym, _∙_, ap, ap₂}
 use mathlib.Core.Logic.{_⊎_, inl, inr}
 use mathlib.Core.List.{List, [], _∷_, _++_, List·Memᴰ·head, List·Memᴰ·tail, List·Memᴰ·not-nil}

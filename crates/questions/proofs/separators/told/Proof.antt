@@ -25,7 +25,8 @@ returns c =
     (sym (c .before .found .given .1))
 
 returns-2 : tie.Need-returns-2
-returns-2 c = ap (λ (x : Separator). answered (separatorNumbers x ++ (pos (c .before .before .args .floor) ∷ []))) (sym (c .enum-told .given .1))
+returns-2 c =
+    ap (λ (x : Separator). answered (separatorNumbers x ++ (pos (c .before .before .args .floor) ∷ []))) (sym (c .enum-told .given .1))
 
 pub told-spec : {M : Type 1} → statement M
 told-spec = tie.close (tie.spec enum-known-found enum-told returns returns-2)

@@ -4,9 +4,9 @@ use Prim.Native.Nat.{ℕ, _+_, _*_}
 use native.Mathlib.Omega.{arith}
 use borrow.Author.Needs.{needs}
 use lib.ListN.{getD}
-use Rattle.journal.specs.Bytes.{pairAt}
-use Rattle.journal.proofs.bytes.pair_at.Statement.{statement}
-use Rattle.journal.proofs.bytes.pair_at.Tie as tie
+use Rattle.endian.specs.Bytes.{pairAt}
+use Rattle.endian.proofs.pair_at.Statement.{statement}
+use Rattle.endian.proofs.pair_at.Tie as tie
 
 byte-at-requires : tie.Need-byte-at-requires
 byte-at-requires c κs = search needs
@@ -30,7 +30,7 @@ returns c =
     let low = c .before .byte-at .ensures in
     let high = c .byte-at2 .ensures in
     let next : start .args .p + 1 ≡ 1 + start .args .p = omega arith in (
-      ap₂ (λ (x y : ℕ). x + 256 * y) (low .0) (high .0 ∙ ap (λ (i : ℕ). getD (start .args .log .now) i 0) next),
+      ap₂ (λ (x y : ℕ). x + 256 * y) (low .0) (high .0 ∙ ap (λ (i : ℕ). getD (start .args .bytes .now) i 0) next),
       omega (arith, low .1, high .1),
     )
 

@@ -10,8 +10,8 @@ use lib.Signed.{ltZ, nonNeg}
 use mir.Syntax.{w32}
 use mir.Val.{Fits, SFits, ofZ, toZ}
 use mir.Facts.{toZ-ofZ, toZ-pos, fits-ofZ}
-use Rattle.journal.proofs.bytes.bits.Statement.{statement}
-use Rattle.journal.proofs.bytes.bits.Tie as tie
+use Rattle.endian.proofs.bits.Statement.{statement}
+use Rattle.endian.proofs.bits.Tie as tie
 
 -- below 0, what is turned over fits a positive number
 turned : (z : ℤ) → SFits w32 z → ltZ z (pos 0) ≡ true → 4294967295 - ofZ w32 z < 2 ^ 31

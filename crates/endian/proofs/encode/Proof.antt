@@ -6,9 +6,9 @@ use mathlib.Core.List.{List}
 use borrow.Author.Needs.{sfits-of}
 use lib.ListN.{length}
 use mir.Facts.{toZ-ofZ}
-use Rattle.abi.specs.theory.Stored.{Encoded, encoded-start, encoded-more, encoded-length, encoded-done}
-use Rattle.abi.proofs.writing.encode.Statement.{statement}
-use Rattle.abi.proofs.writing.encode.Tie as tie
+use Rattle.endian.specs.theory.Coded.{Encoded, encoded-start, encoded-more, encoded-length, encoded-done}
+use Rattle.endian.proofs.encode.Statement.{statement}
+use Rattle.endian.proofs.encode.Tie as tie
 
 abbrev Inv-loop : tie.InvT-loop
 Inv-loop list n out₀ i₀ out i = (i ≤ n) × Encoded out₀ list i out

@@ -5,8 +5,8 @@ use native.Mathlib.Omega.{arith}
 use borrow.Author.Needs.{needs}
 use mir.Syntax.{w32}
 use mir.Val.{toZ}
-use Rattle.journal.proofs.bytes.signed.Statement.{statement}
-use Rattle.journal.proofs.bytes.signed.Tie as tie
+use Rattle.endian.proofs.signed.Statement.{statement}
+use Rattle.endian.proofs.signed.Tie as tie
 
 cast-result : tie.Need-cast-result
 cast-result c = search needs

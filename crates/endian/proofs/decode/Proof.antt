@@ -6,22 +6,22 @@ use borrow.Author.Needs.{sfits-of}
 use lib.ListN.{length}
 use mir.Facts.{toZ-ofZ}
 use Rattle.plane.specs.theory.lists.Filled.{Filled, filled-start, filled-put, filled-length, filled-done}
-use Rattle.journal.specs.Bytes.{wordsAt}
-use Rattle.journal.specs.theory.Decode.{wordsAt-length, wordsAt-at}
-use Rattle.journal.proofs.corners.decode.Statement.{statement}
-use Rattle.journal.proofs.corners.decode.Tie as tie
+use Rattle.endian.specs.Bytes.{wordsAt}
+use Rattle.endian.specs.theory.Bytes.{wordsAt-length, wordsAt-at}
+use Rattle.endian.proofs.decode.Statement.{statement}
+use Rattle.endian.proofs.decode.Tie as tie
 
 abbrev Inv-loop : tie.InvT-loop
-Inv-loop log p n out₀ i₀ out i = (i ≤ n) × Filled out₀ (wordsAt n log p) i out
+Inv-loop bytes p n out₀ i₀ out i = (i ≤ n) × Filled out₀ (wordsAt n bytes p) i out
 
 abbrev μ-loop : tie.MeasureT-loop
-μ-loop log p n out₀ i₀ out i = n - i
+μ-loop bytes p n out₀ i₀ out i = n - i
 
 -- the output is as long as it was
 room : (c : tie.At-loop Inv-loop μ-loop) → length (c .loop .out) ≡ length (c .before .before .args .out .now)
 room c =
     let start = c .before .before in
-    let count = wordsAt-length (start .args .log .now) (start .args .n) (start .args .p) in
+    let count = wordsAt-length (start .args .bytes .now) (start .args .n) (start .args .p) in
     filled-length (c .loop .inv .1) (omega (arith, c .loop .inv .0, count)) (omega (arith, c .loop .inv .0, start .pre .1))
 
 loop-holds : tie.Need-loop-holds Inv-loop μ-loop
@@ -56,11 +56,11 @@ loop-again c =
     let start = at-loop .before .before in
     let args = start .args in
     let taken = c .before .loop-test .taken in
-    let count = wordsAt-length (args .log .now) (args .n) (args .p) in (
+    let count = wordsAt-length (args .bytes .now) (args .n) (args .p) in (
       omega (arith, taken),
       filled-put (at-loop .loop .inv .1) (omega (arith, taken, count)) (omega (arith, taken, start .pre .1))
           (toZ-ofZ (sfits-of (c .word-at .ok)) ∙ c .word-at .ensures
-          ∙ sym (wordsAt-at (args .log .now) (args .n) (args .p) (at-loop .loop .i) taken)),
+          ∙ sym (wordsAt-at (args .bytes .now) (args .n) (args .p) (at-loop .loop .i) taken)),
     )
 
 same-length : tie.Need-same-length Inv-loop μ-loop
@@ -71,7 +71,7 @@ returns c =
     let at-loop = c .before in
     let args = at-loop .before .before .args in
     filled-done (at-loop .loop .inv .1)
-    (omega (arith, at-loop .loop .inv .0, c .loop-test .left, wordsAt-length (args .log .now) (args .n) (args .p)))
+    (omega (arith, at-loop .loop .inv .0, c .loop-test .left, wordsAt-length (args .bytes .now) (args .n) (args .p)))
 
 pub decode-spec : {M : Type 1} → statement M
 decode-spec =

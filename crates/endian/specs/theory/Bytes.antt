@@ -1,19 +1,22 @@
 -- Numbers as bytes: how many there are, and that they read back.
---     pair-length, word-length, words-length      two bytes, four, and four for each number
+--     pair-length, word-length, words-length      two bytes, four, and four for each number; `wordsAt-length`: as many numbers as are read
+--     words-more      the bytes of one number more; `wordsAt-at`: each number that is read
 --     getD-past, pairAt-past, wordAt-past, wordsAt-past      what is read behind some bytes f does not depend on f
 --     pairAt-drop, wordAt-drop, wordsAt-drop, and -take      the same of a part
 --     pairAt-pair, wordsAt-words      what was written at the place p reads back
-use mathlib.Core.Path.{_≡_, refl, _∙_, ap, ap₂}
-use mathlib.Core.List.{List, [], _∷_, _++_, append-assoc}
+use mathlib.Core.Path.{_≡_, refl, sym, _∙_, ap, ap₂}
+use mathlib.Core.List.{List, [], _∷_, _++_, append-assoc, append-nil}
 use Prim.Native.Nat.{ℕ, zero, suc, _+_, _*_, _/_, _%_, _≤_, _<_, suc-le-suc}
+use native.Mathlib.Nat.{le-of-suc-le-suc, not-suc-le-zero}
+use native.Mathlib.Numerals.{add-one}
 use native.Mathlib.Omega.{arith}
 use lib.ListN.{length, getD, take, drop, length-append}
-use lib.Seq.{getD-append-add, getD-take, getD-drop}
+use lib.Seq.{getD-append-add, getD-take, getD-drop, take-suc}
 use lib.IntN.{ℤ, pos}
 use mir.Syntax.{w32}
 use mir.Val.{SFits, ofZ, toZ}
 use mir.Facts.{fits-ofZ, fits-lt-pow, toZ-ofZ}
-use Rattle.journal.specs.Bytes.{pair, pairAt, word, wordAt, words, wordsAt}
+use Rattle.endian.specs.Bytes.{pair, pairAt, word, wordAt, words, wordsAt}
 
 -- ---- lengths
 
@@ -29,6 +32,33 @@ pub words-length : (l : List ℤ) → length (words l) ≡ 4 * length l
 unfolding words
 words-length [] = refl
 words-length (z ∷ l) = omega (arith, length-append (word z) (words l), word-length z, words-length l)
+
+-- ---- one number more
+
+words-append : (l m : List ℤ) → words (l ++ m) ≡ words l ++ words m
+unfolding words
+words-append [] m = refl
+words-append (z ∷ l) m = ap (λ (t : List ℕ). word z ++ t) (words-append l m) ∙ sym (append-assoc (word z) (words l) (words m))
+
+pub words-more : (l : List ℤ) (i : ℕ) → i < length l → words (take i l) ++ word (getD l i (pos 0)) ≡ words (take (i + 1) l)
+unfolding words
+words-more l i h =
+    ap (λ (t : List ℕ). words (take i l) ++ t) (sym (append-nil (word (getD l i (pos 0)))))
+    ∙ sym (words-append (take i l) (getD l i (pos 0) ∷ []))
+    ∙ ap words (sym (take-suc l i (pos 0) h) ∙ ap (λ (k : ℕ). take k l) (sym (add-one i)))
+
+module _ (t : List ℕ) where
+  pub wordsAt-length : (c p : ℕ) → length (wordsAt c t p) ≡ c
+  unfolding wordsAt
+  wordsAt-length zero p = refl
+  wordsAt-length (suc c) p = ap suc (wordsAt-length c (4 + p))
+
+  pub wordsAt-at : (c p i : ℕ) → i < c → getD (wordsAt c t p) i (pos 0) ≡ wordAt t (p + 4 * i)
+  unfolding wordsAt
+  wordsAt-at zero p i h = absurd (not-suc-le-zero h)
+  wordsAt-at (suc c) p zero h = ap (wordAt t) (let e : p ≡ p + 4 * 0 = omega arith in e)
+  wordsAt-at (suc c) p (suc i) h =
+      wordsAt-at c (4 + p) i (le-of-suc-le-suc h) ∙ ap (wordAt t) (let e : (4 + p) + 4 * i ≡ p + 4 * suc i = omega arith in e)
 
 -- ---- a place, counted from a later one
 

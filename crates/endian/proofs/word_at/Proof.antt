@@ -6,9 +6,9 @@ use borrow.Author.Needs.{needs, sfits-of}
 use mir.Syntax.{w32}
 use mir.Val.{toZ}
 use mir.Facts.{toZ-ofZ}
-use Rattle.journal.specs.Bytes.{pairAt, wordAt}
-use Rattle.journal.proofs.bytes.word_at.Statement.{statement}
-use Rattle.journal.proofs.bytes.word_at.Tie as tie
+use Rattle.endian.specs.Bytes.{pairAt, wordAt}
+use Rattle.endian.proofs.word_at.Statement.{statement}
+use Rattle.endian.proofs.word_at.Tie as tie
 
 pair-at-requires : tie.Need-pair-at-requires
 pair-at-requires c κs = search needs
@@ -38,7 +38,7 @@ returns c =
     let next : start .args .p + 2 ≡ 2 + start .args .p = omega arith in
     toZ-ofZ (sfits-of (c .signed .ok)) ∙ c .signed .ensures
     ∙ ap₂ (λ (x y : ℕ). toZ w32 (x + 65536 * y)) (c .before .before .pair-at .ensures .0)
-    (c .before .pair-at2 .ensures .0 ∙ ap (pairAt (start .args .log .now)) next)
+    (c .before .pair-at2 .ensures .0 ∙ ap (pairAt (start .args .bytes .now)) next)
 
 pub word-at-spec : {M : Type 1} → statement M
 word-at-spec =

@@ -7,10 +7,10 @@ use lib.ListN.{length, set, length-set}
 use mir.Syntax.{w32}
 use mir.Val.{ofZ}
 use mir.Facts.{toZ-ofZ}
-use Rattle.abi.specs.theory.Stored.{word-stored}
+use Rattle.endian.specs.theory.Coded.{word-stored}
 use borrow.Author.Needs.{needs}
-use Rattle.abi.proofs.writing.put.Statement.{statement}
-use Rattle.abi.proofs.writing.put.Tie as tie
+use Rattle.endian.proofs.put.Statement.{statement}
+use Rattle.endian.proofs.put.Tie as tie
 
 -- the output after one store, two and three is as long as it was
 abbrev old : tie.After-bits → List ℕ

@@ -1,4 +1,4 @@
--- Numbers as bytes (document 02, W5: "all little-endian"). A byte is a number below 256.
+-- Numbers as bytes (document 02, W5: "all little-endian"; W14: "four-byte little-endian"). A byte is a number below 256.
 --     pair n         the two bytes of a number below 65,536
 --     pairAt t p     the two-byte number at place p
 --     word z         the four bytes of a number, "four-byte two's-complement"; the kit's `ofZ w32` gives its bits
