@@ -5,7 +5,7 @@ use native.Mathlib.Omega.{arith}
 use borrow.Author.Tests.{ltb-false}
 use lib.Dec.{ltb}
 use Rattle.plane.specs.Limits.{maxFloor, floor-small}
-use Rattle.abi.specs.theory.Alike.{passed-first, passed-second, passed-both}
+use Rattle.abi.specs.theory.Floors.{passed-first, passed-second, passed-both}
 use borrow.Author.Needs.{needs}
 use Rattle.abi.proofs.floors.pass.Statement.{statement}
 use Rattle.abi.proofs.floors.pass.Tie as tie

@@ -7,8 +7,7 @@ use Rattle.admission.specs.declared.answer.Answer.{Answer}
 use Rattle.admission.specs.declared.answer.Answer.the-variants as Answer
 use Rattle.questions.specs.Answer.{ofAnswer}
 use Rattle.abi.specs.Packing.{packed, firstField, Fits}
-use Rattle.abi.specs.Calls.{stored}
-use Rattle.abi.specs.Passing.{Deliverable}
+use Rattle.abi.specs.Passing.{Deliverable, stored}
 use Rattle.abi.proofs.Refused.{refusal-stored}
 use borrow.Author.Needs.{needs}
 use Rattle.abi.proofs.writing.deliver.Statement.{statement}
