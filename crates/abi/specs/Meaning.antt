@@ -84,10 +84,10 @@ module _ (q : Question) (out : List ℕ) where
 
 -- ---- the number, and the bytes read back
 
-module _ (a : List ℕ) (f : ℕ) (b : List ℕ) (g : ℕ) where
-  pub judged-unpacked : Unpacked (packed (reply (askJudgeBytes a f))) (reply (askJudgeBytes a f))
-  judged-unpacked = packed-back _ (judged-fits a f)
+pub judged-unpacked : (a : List ℕ) (f : ℕ) → Unpacked (packed (reply (askJudgeBytes a f))) (reply (askJudgeBytes a f))
+judged-unpacked a f = packed-back _ (judged-fits a f)
 
+module _ (a : List ℕ) (f : ℕ) (b : List ℕ) (g : ℕ) where
   pub relation-unpacked : Unpacked (packed (reply (askRelationBytes a f b g))) (reply (askRelationBytes a f b g))
   relation-unpacked = packed-back _ (relation-fits _ _ (λ e. one-floor f g e .1))
 

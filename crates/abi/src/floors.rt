@@ -14,7 +14,7 @@ pub struct Floors {
 }
 
 // Returns the floors, or two different ones if one is above its limit: the question then refuses 13 in its place.
-// Ruled out: floor above the limit answered.
+// Ruled out: floor above the limit answered; different floors answered.
 pub fn pass(f: u32, g: u32) -> Floors
     ensures { λ r. ⌜ Passed f (otherFloor f g) (r .first) (r .second) ⌝ }
 {

@@ -34,7 +34,7 @@ pub extern "C" fn cocklesway_judge_bytes(list: &[u8], floor: u32) -> u64
 // returns how many corners the shape has. Refused, with the output as it was: 1 to 5 of the first list, then of the
 // second; 13 if the floors differ or one is above its limit; then 6, 7, and 8 if the output has fewer than eight bytes
 // to a corner.
-// Ruled out: room counted in numbers.
+// Ruled out: room counted in numbers; half of the answer written.
 #[no_mangle]
 pub extern "C" fn cocklesway_sum_bytes(a: &[u8], f: u32, b: &[u8], g: u32, out: &mut [u8]) -> u64
     ensures { λ r. ⌜
@@ -47,6 +47,7 @@ pub extern "C" fn cocklesway_sum_bytes(a: &[u8], f: u32, b: &[u8], g: u32, out: 
 
 // Writes the bytes of the shape of both corner lists taken together, and returns how many corners it has. Refused as
 // a sum is, but never 7.
+// Ruled out: sum for merge; count and floor exchanged.
 #[no_mangle]
 pub extern "C" fn cocklesway_merge_bytes(a: &[u8], f: u32, b: &[u8], g: u32, out: &mut [u8]) -> u64
     ensures { λ r. ⌜
@@ -83,6 +84,7 @@ fn combine(merged: bool, a: &[u8], f: u32, b: &[u8], g: u32, out: &mut [u8]) -> 
 
 // Returns whether the shapes are apart, touching or overlapping. Refused: 1 to 5 of the first list, then of the second;
 // 13 if the floors differ or one is above its limit.
+// Ruled out: different floors answered; touching called apart.
 #[no_mangle]
 pub extern "C" fn cocklesway_relation_bytes(a: &[u8], f: u32, b: &[u8], g: u32) -> u64
     ensures { λ r. ⌜ r ≡ packed (reply (askRelationBytes (now (a .entry)) f (now (b .entry)) g)) ⌝ }

@@ -65,6 +65,7 @@ fn room(bytes: usize) -> usize
 }
 
 // Writes the corners that are answered to the front of the output, and packs the answer.
+// Ruled out: half of the answer written.
 fn deliver(answer: Answer, shape: &[i32], out: &mut [u8]) -> u64
     requires { ⌜ Fits (ofAnswer answer) × Deliverable (ofAnswer answer) (length (now shape)) (length (now out)) ⌝ }
     ensures { λ r. ⌜ (r ≡ packed (ofAnswer answer))

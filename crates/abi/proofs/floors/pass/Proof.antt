@@ -33,7 +33,7 @@ cast-t5 : tie.Need-cast-t5
 cast-t5 c = record { fits = omega (arith, ltb-false maxFloor _ (first-low c), floor-small) }
 
 cast-t6 : tie.Need-cast-t6
-cast-t6 c = record { fits = omega (arith, ltb-false maxFloor _ (second-low c), floor-small) }
+cast-t6 c = record { fits = omega (arith, ltb-false maxFloor _ (first-low c), ltb-false maxFloor _ (second-low c), floor-small) }
 
 returns-3 : tie.Need-returns-3
 returns-3 c = passed-both _ _ (first-low c) (second-low c)

@@ -31,7 +31,7 @@ mul-encode : tie.Need-mul-encode
 mul-encode c = omega (arith, fitting c .first-fits)
 
 encode-requires : tie.Need-encode-requires
-encode-requires c κs = let d = delivered (c .before) in (d .0, omega (arith, d .1))
+encode-requires c κs = let d = delivered (c .before) in (omega (arith, d .0), omega (arith, d .1))
 
 of-answer-requires : tie.Need-of-answer-requires
 of-answer-requires c κs = fitting (c .before .before .before .before)
