@@ -21,12 +21,12 @@ use Rattle.plane.specs.Point.{Point, origin, points, corner, _⊖_}
 use Rattle.plane.specs.Direction.{value}
 use Rattle.plane.specs.Forms.{NonZero}
 use Rattle.plane.specs.VectorSum.{vectorSum}
-use Rattle.plane.specs.theory.forms.Vector.{value-origin}
+use Rattle.plane.specs.Cut.{quarter}
+use Rattle.plane.specs.theory.forms.Vector.{value-origin, square-positive}
 use Rattle.calipers.specs.Walk.{Walk, here, begun, advanced, stepped, At}
 use Rattle.calipers.specs.theory.Steps.{at-stepped}
 use Rattle.separation.specs.theory.Stops.{on-below, over-end, corner-here, stop-here}
-use Rattle.separation.specs.theory.Sector.{square-positive}
-use Rattle.clearance.specs.Stop.{rests, crosses, leftward, behind, after, Stopped, at-corner, at-edge, at-first}
+use Rattle.clearance.specs.Stop.{rests, crosses, behind, after, Stopped, at-corner, at-edge, at-first}
 
 -- the last of k + 1 positions, or one before it
 last-or : (k j : ℕ) → j < k + 1 → (j ≡ k) ⊎ (j < k)
@@ -104,8 +104,8 @@ module _ {a b : List ℤ} where
       pub looking-corner : NonZero (corner D 0) → rests back w d ≡ true → Stopped D w
       looking-corner some t = subst (Stopped D) (sym w-corner) (stopped-corner D (p .count) below some (sym rests-here ∙ t))
 
-      pub looking-edge : crosses w d ≡ true → Stopped D (leftward (d ⊖ w))
-      looking-edge t = at-edge (p .count) below (sym crosses-here ∙ t) (ap₂ (λ x y. leftward (x ⊖ y)) d-corner w-corner)
+      pub looking-edge : crosses w d ≡ true → Stopped D (quarter (d ⊖ w))
+      looking-edge t = at-edge (p .count) below (sym crosses-here ∙ t) (ap₂ (λ x y. quarter (x ⊖ y)) d-corner w-corner)
 
       module _ (r : rests back w d ≡ false) (c : crosses w d ≡ false) where
         corners-fail : (k : ℕ) → suc k < p .count + 1 → rests (corner D k) (corner D (suc k)) (after D (suc k)) ≡ false

@@ -18,8 +18,7 @@ use Rattle.plane.specs.Turn.{turn, cross}
 use Rattle.plane.specs.Direction.{value}
 use Rattle.plane.specs.Mean.{times}
 use Rattle.plane.specs.theory.lists.Members.{point-discrete}
-use Rattle.plane.specs.theory.forms.Vector.{value-origin}
-use Rattle.separation.specs.theory.Sector.{square-positive}
+use Rattle.plane.specs.theory.forms.Vector.{value-origin, square-positive}
 
 -- ---- values and products along the segment from w to d
 

@@ -11,14 +11,13 @@ use lib.IntN.{ℤ, pos, _+ℤ_, _-ℤ_, _*ℤ_}
 use lib.Signed.{_≤ℤ_, _<ℤ_, ltZ}
 use Rattle.integer.specs.Ring.{ring, reify}
 use Rattle.integer.specs.Linear.{linear, lia, _&_}
-use Rattle.integer.specs.Order.{_<×<_, _<×≤_, _≤×≤_, _≡×_, Compared, is-below, is-equal, is-above, compared, contra≤, ltZ-true}
+use Rattle.integer.specs.Order.{_<×<_, _<×≤_, _≤×≤_, _≡×_, Compared, is-below, is-equal, is-above, compared, contra≤, ltZ-true, zero-factor}
 use Rattle.integer.specs.Order.{square-nonneg, le-antisym}
 use Rattle.plane.specs.Point.{Point, _⊖_}
 use Rattle.plane.specs.Turn.{turn, cross, turn-cross}
 use Rattle.plane.specs.Direction.{value}
 use Rattle.plane.specs.Measure.{squared}
 use Rattle.plane.specs.Clearance.{falls}
-use Rattle.separation.specs.theory.Sector.{zero-factor}
 
 pub zero-square : {x : ℤ} → (x *ℤ x) ≤ℤ pos 0 → x ≡ pos 0
 zero-square {x} h = go (compared x (pos 0))

@@ -18,9 +18,8 @@ use Rattle.plane.specs.Direction.{value}
 use Rattle.plane.specs.Separation.{differences, apart}
 use Rattle.plane.specs.Mean.{times, weight, heap, CommonPoint}
 use Rattle.plane.specs.theory.lists.Members.{point-path, point-discrete}
-use Rattle.plane.specs.theory.forms.Vector.{value-turned}
+use Rattle.plane.specs.theory.forms.Vector.{value-turned, square-positive}
 use Rattle.separation.specs.theory.Apart.{value-difference, differences-some, difference-member, direction→apart}
-use Rattle.separation.specs.theory.Sector.{square-positive}
 use Rattle.clearance.specs.theory.Pairs.{Pair, pair-of}
 use Rattle.clearance.specs.theory.Along.{ZeroMean, cross-turn}
 use Rattle.clearance.specs.theory.Closest.{Closest, at-point, at-foot, settled}

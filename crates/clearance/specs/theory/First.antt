@@ -16,7 +16,7 @@ use lib.ListN.{length}
 use lib.Signed.{_≤ℤ_, _<ℤ_}
 use Rattle.integer.specs.Ring.{ring, reify}
 use Rattle.integer.specs.Linear.{linear, lia, _&_}
-use Rattle.integer.specs.Order.{_<×<_, _<×≤_, _≡×_, contra≤, le-antisym, leZ-true, le-leZ}
+use Rattle.integer.specs.Order.{_<×<_, _<×≤_, _≡×_, contra≤, le-antisym, leZ-true, le-leZ, zero-factor}
 use Rattle.plane.specs.Point.{Point, origin, corner, opposite}
 use Rattle.plane.specs.Shape.{next}
 use Rattle.plane.specs.Direction.{value}
@@ -24,8 +24,7 @@ use Rattle.plane.specs.Measure.{squared, edgeSquared}
 use Rattle.plane.specs.Clearance.{Candidate, corners, onSecond, onFirst, top, bottom, noFurther, nearest}
 use Rattle.plane.specs.theory.lists.Members.{position-member}
 use Rattle.plane.specs.theory.lists.Next.{next-below}
-use Rattle.plane.specs.theory.forms.Vector.{value-origin, value-turned}
-use Rattle.separation.specs.theory.Sector.{zero-factor, square-positive}
+use Rattle.plane.specs.theory.forms.Vector.{value-origin, value-turned, square-positive}
 use Rattle.clearance.specs.Order.{Earlier, AtOrAfter, itself, after, Listed}
 use Rattle.clearance.specs.Facing.{Lowest, Reached, Facing}
 use Rattle.clearance.specs.theory.Candidates.{least-listed, least-passes, least-first}

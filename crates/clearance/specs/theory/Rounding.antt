@@ -10,13 +10,14 @@ use lib.Dec.{le→leb, lt→ltb}
 use lib.IntN.{ℤ, pos, negsuc, natAbs, _+ℤ_, _*ℤ_}
 use lib.Signed.{_≤ℤ_, _<ℤ_}
 use Rattle.integer.specs.Order.{weaken}
+use Rattle.integer.specs.Bound.{positive-size}
 use Rattle.plane.specs.Point.{Point, corner}
 use Rattle.plane.specs.Shape.{IsShape}
 use Rattle.plane.specs.Measure.{rootBelow}
 use Rattle.plane.specs.Separation.{apart}
 use Rattle.plane.specs.Clearance.{turnOn, Candidate, corners, onSecond, onFirst, top, bottom, nearest, numbersOf}
 use Rattle.plane.specs.theory.forms.Squared.{squared-nonneg}
-use Rattle.measure.specs.theory.Rounded.{rounded-low, rounded-high, positive-size}
+use Rattle.measure.specs.theory.Rounded.{rounded-low, rounded-high}
 use Rattle.clearance.specs.theory.Attained.{size-is}
 use Rattle.clearance.specs.theory.Nearest.{nearest-is-whole}
 

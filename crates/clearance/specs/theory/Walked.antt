@@ -23,10 +23,9 @@ use Rattle.plane.specs.Separation.{differences, apart}
 use Rattle.plane.specs.Clearance.{fallsOn, Candidate, corners, onSecond, onFirst, nearest}
 use Rattle.plane.specs.theory.lists.Members.{position-member}
 use Rattle.plane.specs.theory.lists.Next.{Following, onward, closing, following}
-use Rattle.plane.specs.theory.forms.Vector.{value-origin}
+use Rattle.plane.specs.theory.forms.Vector.{value-origin, square-positive}
 use Rattle.plane.specs.theory.hull.ShapeOf.{shapeOf-shape, shapeOf-corner}
 use Rattle.separation.specs.theory.Apart.{value-difference, differences-some, member-difference, apart→direction}
-use Rattle.separation.specs.theory.Sector.{square-positive}
 use Rattle.clearance.specs.Facing.{Reached, Facing, StopsAtCorner, StopsOnEdge}
 use Rattle.clearance.specs.Stop.{rests, crosses, after, Stopped, at-corner, at-edge, at-first}
 use Rattle.clearance.specs.Answer.{Measurable}

@@ -27,8 +27,8 @@ use Rattle.plane.specs.theory.lists.Flat.{points-numbers}
 use Rattle.plane.specs.theory.lists.Members.{mirrored-some}
 use Rattle.plane.specs.theory.support.Support.{value-le-support, support-sums, support-mirrored}
 use Rattle.plane.specs.theory.hull.ShapeOf.{shapeOf-support, shapeOf-shape, shape-known}
+use Rattle.plane.specs.theory.forms.Vector.{square-positive}
 use Rattle.separation.specs.theory.Apart.{differences-some, apart-shapeOf}
-use Rattle.separation.specs.theory.Sector.{square-positive}
 use Rattle.clearance.specs.theory.Ends.{opposite-twice}
 use Rattle.clearance.specs.theory.Nearest.{nearest-is-whole}
 use Rattle.strips.specs.Strip.{least, gapIn, Corridor}

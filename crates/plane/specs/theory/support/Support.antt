@@ -1,11 +1,12 @@
 -- The support value of a list of points, and the facts by which everything else uses it. A list with a point is one with 0 < length.
+--     support-one          that of one point is its value
 --     value-le-support     no point is above it
 --     support-attained     some point has it (`Attained`)
 --     support-unique       the value of a point that none is above is the support value
 --     support-le           a number that no point is above is at least the support value
 --     support-subset       more points, no smaller support; support-same: the same points, the same support
 --     support-append, support-sums, support-mirrored     the support of a union, of all sums, of the mirror image
--- The laws of the greater of two numbers are in `Max.antt`, how a value goes through points and directions in `Vector.antt`.
+-- The laws of the greater of two numbers are in `Greater.antt`, how a value goes through points and directions in `Vector.antt`.
 use mathlib.Core.Path.{_≡_, refl, sym, _∙_, ap, ap₂}
 use mathlib.Core.Logic.{_⊎_, inl, inr}
 use mathlib.Core.List.{List, [], _∷_, _++_, List·Memᴰ·head, List·Memᴰ·tail, List·Memᴰ·not-nil}
@@ -31,7 +32,7 @@ support-cons : (d p q : Point) (ps : List Point) → support d (p ∷ q ∷ ps) 
 unfolding support
 support-cons d p q ps = refl
 
-support-one : (d p : Point) → support d (p ∷ []) ≡ value d p
+pub support-one : (d p : Point) → support d (p ∷ []) ≡ value d p
 unfolding support
 support-one d p = refl
 
