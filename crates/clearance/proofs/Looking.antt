@@ -4,7 +4,7 @@
 --     looking-corner, looking-edge     the corner or the edge at hand passes
 --     looking-end                      all are passed, and the first corner is left
 use mathlib.Core.Path.{_≡_, refl, sym, _∙_, ap, ap₂, subst}
-use mathlib.Core.Bool.{Bool, true, false, _&&_, false≢true}
+use mathlib.Core.Bool.{Bool, true, false, and-eq-true-iff}
 use mathlib.Core.Logic.{_⊎_, inl, inr}
 use mathlib.Core.List.{List, [], _∷_}
 use Prim.Native.Nat.{ℕ, zero, suc, _+_, _≤_, _<_, zero-le}
@@ -49,13 +49,9 @@ pub record Looking (a b : List ℤ) (walk : Walk) (back : Point) : Type 0 where
 -- the origin is nearer than a corner that is not there
 origin-nearer : (w d : Point) → NonZero w → rests origin w d ≡ true → ⊥
 unfolding rests
-origin-nearer w d some h = go (leZ (value w w) (value w origin)) refl h
-  where
-    go : (b : Bool) → leZ (value w w) (value w origin) ≡ b → (b && leZ (value w w) (value w d)) ≡ true → ⊥
-    go true e h =
-        lia (value w w ∷ value w origin ∷ []) (square-positive w some & value-origin w & leZ-true {x = value w w} {y = value w origin} e)
-        (search linear depth 40) (omega arith)
-    go false e h = false≢true h
+origin-nearer w d some h = let near = and-eq-true-iff (leZ (value w w) (value w origin)) _ .0 h .0 in
+    lia (value w w ∷ value w origin ∷ []) (square-positive w some & value-origin w & leZ-true {x = value w w} {y = value w origin} near)
+    (search linear depth 40) (omega arith)
 
 stopped-corner : (D : List Point) (k : ℕ) → k < length D → NonZero (corner D 0) → rests (behind D k) (corner D k) (after D k) ≡ true
     → Stopped D (corner D k)
