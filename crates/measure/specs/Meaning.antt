@@ -10,6 +10,7 @@ use native.Mathlib.Omega.{arith}
 use lib.IntN.{ℤ, pos, natAbs, _*ℤ_}
 use lib.ListN.{length}
 use lib.Signed.{_≤ℤ_, _<ℤ_}
+use Rattle.integer.specs.Bound.{positive-size}
 use Rattle.plane.specs.Point.{Point, corner}
 use Rattle.plane.specs.Shape.{IsShape}
 use Rattle.plane.specs.Measure.{squared, lengthSquared, lengthFrom, lengthTo, edgeTurn, height, edgeSquared, widthEdge, widthCorner}
@@ -22,7 +23,7 @@ use Rattle.measure.specs.Extremes.{FirstLongest, FirstNarrowest}
 use Rattle.measure.specs.theory.Longest.{squared-le-length, length-longest, length-from-least, length-to-least, length-point}
 use Rattle.measure.specs.theory.Height.{height-above, height-had, height-positive, edgeSquared-positive, width-facing, width-earlier}
 use Rattle.measure.specs.theory.Narrowest.{width-narrowest, noWider-le, wider-lt}
-use Rattle.measure.specs.theory.Rounded.{rounded-low, rounded-high, positive-size}
+use Rattle.measure.specs.theory.Rounded.{rounded-low, rounded-high}
 use Rattle.measure.specs.theory.Replies.{length-reply, width-reply, width-refused}
 
 -- ---- length

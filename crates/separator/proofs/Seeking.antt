@@ -20,6 +20,7 @@ use Rattle.plane.specs.Point.{Point, points, corner, opposite, _⊕_}
 use Rattle.plane.specs.Turn.{cross}
 use Rattle.plane.specs.Forms.{edges}
 use Rattle.plane.specs.VectorSum.{vectorSum}
+use Rattle.plane.specs.Cut.{outward}
 use Rattle.plane.specs.theory.lists.Members.{point-path}
 use Rattle.calipers.specs.declared.side.Side.{Side}
 use Rattle.calipers.specs.Side.{cornerOf, nextOf, onward, Carried, walkOf}
@@ -28,7 +29,7 @@ use Rattle.calipers.specs.theory.Steps.{remaining-here}
 use Rattle.calipers.specs.theory.Carry.{all-passed, some-left, sides-walk, sides-here, sides-advanced, sides-at}
 use Rattle.separation.specs.Around.{crossAt, rightOf}
 use Rattle.separation.proofs.Passing.{Passing, passing-start, passing-at, passing-below, passing-more, passing-end, passing-corners}
-use Rattle.separator.specs.Outward.{outerNormal, Outward}
+use Rattle.separator.specs.Outward.{Outward}
 use Rattle.separator.specs.theory.Passed.{passedNormal}
 use Rattle.separator.specs.theory.Outward.{stepped-away, begun-away}
 
@@ -93,13 +94,13 @@ module _ {a b : List ℤ} {s t : Side} (p : Seeking a b s t) where
 
     -- the edge, by the places of the walk
     normal-is : passedNormal A B (stepped A B (p .count) begun) (advanced A B (stepped A B (p .count) begun))
-        ≡ cond (ltb (s .at) (m .at)) (outerNormal (cornerOf s) (cornerOf m)) (outerNormal (cornerOf t) (cornerOf n))
+        ≡ cond (ltb (s .at) (m .at)) (outward (cornerOf s) (cornerOf m)) (outward (cornerOf t) (cornerOf n))
     normal-is = ap₂ (passedNormal A B) (sym (p .passing .moved)) (sym (steps ∙ ap (advanced A B) (p .passing .moved)))
-        ∙ ap₂ (cond (ltb (s .at) (m .at))) (ap₂ outerNormal (sym (p .first-side .corner-is)) (sym (w .first-next .corner-is)))
-        (ap₂ outerNormal (sym (p .second-side .corner-is)) (sym (w .second-next .corner-is)))
+        ∙ ap₂ (cond (ltb (s .at) (m .at))) (ap₂ outward (sym (p .first-side .corner-is)) (sym (w .first-next .corner-is)))
+        (ap₂ outward (sym (p .second-side .corner-is)) (sym (w .second-next .corner-is)))
 
     pub seeking-out : ltZ (turnOf s t m n) (pos 0) ≡ true
-        → Outward D (cond (ltb (s .at) (m .at)) (outerNormal (cornerOf s) (cornerOf m)) (outerNormal (cornerOf t) (cornerOf n)))
+        → Outward D (cond (ltb (s .at) (m .at)) (outward (cornerOf s) (cornerOf m)) (outward (cornerOf t) (cornerOf n)))
     seeking-out h = subst (Outward D) normal-is
         (stepped-away a b (p .passing .start) (p .count) (passing-below (p .passing) refl) (sym turned ∙ h))
 

@@ -4,11 +4,12 @@ ghost use mathlib.Core.Path.{_≡_};
 ghost use Prim.Native.Nat.{_^_};
 ghost use lib.Dec.{ltb};
 ghost use Rattle.plane.specs.Point.{points};
+ghost use Rattle.plane.specs.Cut.{outward};
 ghost use Rattle.plane.specs.VectorSum.{vectorSum};
 ghost use Rattle.polygon.specs.Point.{at, Small};
 ghost use Rattle.calipers.specs.Side.{cornerOf};
 ghost use Rattle.calipers.specs.Walk.{At, begun};
-ghost use Rattle.separator.specs.Outward.{outerNormal, Outward};
+ghost use Rattle.separator.specs.Outward.{Outward};
 use calipers::side;
 use calipers::side::Side;
 use polygon::point;
@@ -45,8 +46,8 @@ pub fn seek(a: &[i32], b: &[i32]) -> Point
 fn passed_normal(s: Side, t: Side, m: Side, n: Side) -> Point
     requires { ⌜ Small (2 ^ 21) (cornerOf s) × Small (2 ^ 21) (cornerOf t)
         × Small (2 ^ 21) (cornerOf m) × Small (2 ^ 21) (cornerOf n) ⌝ }
-    ensures { λ r. ⌜ at r ≡ cond (ltb (s .at) (m .at)) (outerNormal (cornerOf s) (cornerOf m))
-        (outerNormal (cornerOf t) (cornerOf n)) ⌝ }
+    ensures { λ r. ⌜ at r ≡ cond (ltb (s .at) (m .at)) (outward (cornerOf s) (cornerOf m))
+        (outward (cornerOf t) (cornerOf n)) ⌝ }
 {
     if s.at < m.at {
         return normal(side::here(s, t), side::here(m, t));
@@ -57,7 +58,7 @@ fn passed_normal(s: Side, t: Side, m: Side, n: Side) -> Point
 // The outer normal of an edge from p to q: to its right.
 fn normal(p: Point, q: Point) -> Point
     requires { ⌜ Small (2 ^ 22) (at p) × Small (2 ^ 22) (at q) ⌝ }
-    ensures { λ r. ⌜ at r ≡ outerNormal (at p) (at q) ⌝ }
+    ensures { λ r. ⌜ at r ≡ outward (at p) (at q) ⌝ }
 {
     Point {
         x: q.y - p.y,

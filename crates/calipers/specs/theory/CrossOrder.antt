@@ -14,18 +14,17 @@ use lib.Dec.{ltb}
 use lib.IntN.{ℤ, pos, negℤ}
 use lib.ListN.{length, List·getD-eq-default}
 use lib.Signed.{_≤ℤ_, _<ℤ_, ltZ}
-use Rattle.integer.specs.Ring.{ring, reify}
 use Rattle.integer.specs.Linear.{lia, linear, _&_}
 use Rattle.integer.specs.Order.{lt-ltZ, le-ltZ, le-of-eq, weaken}
 use Rattle.plane.specs.Point.{Point, corner, origin}
 use Rattle.plane.specs.Turn.{cross}
 use Rattle.plane.specs.Shape.{next, IsShape}
-use Rattle.plane.specs.Forms.{up, before, Before, Precedes, InOrder, edges}
+use Rattle.plane.specs.Forms.{Before, Precedes, InOrder, edges}
 use Rattle.plane.specs.theory.forms.Angle.{Earlier, apart, alike, before→earlier}
 use Rattle.plane.specs.theory.forms.HalfPlane.{Up, up-clash, down-up, precedes→up, cross-trans-weak}
 use Rattle.plane.specs.theory.forms.SameWay.{same-flat}
 use Rattle.plane.specs.theory.forms.Standard.{all-at, shape→ordered}
-use Rattle.plane.specs.theory.forms.Vector.{cross-swap, cross-turned, turn-edges}
+use Rattle.plane.specs.theory.forms.Vector.{cross-swap, cross-turned, turn-edges, cross-origin}
 use Rattle.plane.specs.theory.lists.Next.{next-below}
 use Rattle.plane.specs.theory.sum.Positions.{edge-at, edge-corners, edge-turn, in-order-non-zero}
 use Rattle.calipers.specs.Places.{passed, Standing}
@@ -81,13 +80,9 @@ led {E} {F} i (suc j) o g s h k b = go (before→earlier b) (before→earlier (s
 
 -- ---- what the next step passes
 
-none-flat : (f : Point) → cross origin f ≡ pos 0
-unfolding cross
-none-flat f = ring (f .x ∷ f .y ∷ []) (search reify depth 40) tt
-
 -- where an edge is missing, the product is 0
 flat-left : (E : List Point) (i : ℕ) (f : Point) → length E ≤ i → cross (corner E i) f ≡ pos 0
-flat-left E i f h = rw (List·getD-eq-default E origin h) (none-flat f)
+flat-left E i f h = rw (List·getD-eq-default E origin h) (cross-origin f .0)
 
 flat-right : (F : List Point) (j : ℕ) (e : Point) → length F ≤ j → cross e (corner F j) ≡ pos 0
 flat-right F j e h = cross-swap (corner F j) e ∙ ap negℤ (flat-left F j e h)

@@ -1,5 +1,4 @@
 -- Of all candidates the nearest is the only one that meets the ticket's rule.
---     candidate-whole       what a candidate's fraction is divided by is positive
 --     earlier-asym          of two candidates only one comes before the other
 --     nearest-first-least   the nearest is the first of the least
 --     first-least-nearest   and no other candidate is
@@ -9,29 +8,17 @@ use mathlib.Core.Logic.{inl, inr}
 use mathlib.Core.List.{List, [], _∷_}
 use Prim.Native.Nat.{ℕ}
 use native.Mathlib.Omega.{arith}
-use lib.IntN.{ℤ, pos, _*ℤ_}
-use lib.ListN.{length}
-use lib.Signed.{_<ℤ_}
+use lib.IntN.{_*ℤ_}
 use Rattle.integer.specs.Linear.{linear, lia, _&_}
 use Rattle.integer.specs.Order.{contra<, le-antisym}
-use Rattle.plane.specs.Point.{Point, origin, corner}
-use Rattle.plane.specs.Shape.{IsShape, next}
-use Rattle.plane.specs.Measure.{edgeSquared}
+use Rattle.plane.specs.Point.{Point}
+use Rattle.plane.specs.Shape.{IsShape}
 use Rattle.plane.specs.Separation.{apart}
 use Rattle.plane.specs.Clearance.{Candidate, corners, onSecond, onFirst, top, bottom, nearest}
-use Rattle.clearance.specs.Order.{Sooner, Earlier, AtOrAfter, itself, after, Listed, FirstOfLeast}
-use Rattle.clearance.specs.theory.Bound.{foot-positive}
+use Rattle.clearance.specs.Order.{Sooner, Earlier, AtOrAfter, itself, after, FirstOfLeast}
 use Rattle.clearance.specs.theory.Nearest.{nearest-is-listed, nearest-is-least, nearest-before-ties}
 
 -- ---- fractions
-
-pub candidate-whole : (A B : List Point) (c : Candidate) → Listed A B c → pos 0 <ℤ bottom A B c
-unfolding bottom edgeSquared
-candidate-whole A B (corners i j) l = record { lt = tt }
-candidate-whole A B (onSecond i e) (p, q, r) =
-    foot-positive origin (corner B e) (corner B (next (length B) e)) (corner A i) (pos 1) (record { lt = tt }) r
-candidate-whole A B (onFirst j e) (p, q, r) =
-    foot-positive origin (corner A e) (corner A (next (length A) e)) (corner B j) (pos 1) (record { lt = tt }) r
 
 -- ---- the order
 

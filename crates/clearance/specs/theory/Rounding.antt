@@ -1,32 +1,27 @@
 -- The distance rounded down, bounded as width is.
 --     Bounded n d w          w·w·d ≤ n < (w+1)·(w+1)·d
---     size-square            the square of a number's size
 --     nearest-rounded        the last number of the answer is so bounded by the nearest candidate's fraction
 use mathlib.Core.Path.{_≡_, refl}
 use mathlib.Core.Bool.{true}
 use mathlib.Core.List.{List, [], _∷_, _++_}
 use Prim.Native.Nat.{ℕ}
 use lib.Dec.{le→leb, lt→ltb}
-use lib.IntN.{ℤ, pos, negsuc, natAbs, _+ℤ_, _*ℤ_}
+use lib.IntN.{ℤ, pos, natAbs, _+ℤ_, _*ℤ_}
 use lib.Signed.{_≤ℤ_, _<ℤ_}
 use Rattle.integer.specs.Order.{weaken}
+use Rattle.integer.specs.Bound.{positive-size, size-is, size-square}
 use Rattle.plane.specs.Point.{Point, corner}
 use Rattle.plane.specs.Shape.{IsShape}
 use Rattle.plane.specs.Measure.{rootBelow}
 use Rattle.plane.specs.Separation.{apart}
 use Rattle.plane.specs.Clearance.{turnOn, Candidate, corners, onSecond, onFirst, top, bottom, nearest, numbersOf}
 use Rattle.plane.specs.theory.forms.Squared.{squared-nonneg}
-use Rattle.measure.specs.theory.Rounded.{rounded-low, rounded-high, positive-size}
-use Rattle.clearance.specs.theory.Attained.{size-is}
+use Rattle.measure.specs.theory.Rounded.{rounded-low, rounded-high}
 use Rattle.clearance.specs.theory.Nearest.{nearest-is-whole}
 
 pub record Bounded (n d : ℤ) (w : ℕ) : Type 0 where
   pub low : (pos w *ℤ pos w *ℤ d) ≤ℤ n
   pub high : n <ℤ ((pos w +ℤ pos 1) *ℤ (pos w +ℤ pos 1) *ℤ d)
-
-pub size-square : (t : ℤ) → pos (natAbs t) *ℤ pos (natAbs t) ≡ t *ℤ t
-size-square (pos n) = refl
-size-square (negsuc n) = refl
 
 -- the root of m/q
 root-bounded : {m : ℕ} {n q : ℤ} → pos m ≡ n → pos 0 <ℤ q → Bounded n q (rootBelow m (natAbs q))

@@ -7,7 +7,7 @@ use mathlib.Core.Path.{_≡_, refl, sym, _∙_, ap}
 use mathlib.Core.Bool.{Bool, true, false}
 use mathlib.Core.Logic.{_⊎_, inl, inr}
 use mathlib.Core.List.{List, [], _∷_}
-use Prim.Native.Nat.{ℕ, _≤_, _<_}
+use Prim.Native.Nat.{ℕ, _<_}
 use native.Mathlib.Decide.{ℕ-discrete}
 use native.Mathlib.Omega.{arith}
 use borrow.Author.Tests.{ltb-true, ltb-false}
@@ -26,13 +26,13 @@ use Rattle.plane.specs.Separation.{differences, apart}
 use Rattle.plane.specs.Clearance.{corners}
 use Rattle.plane.specs.theory.lists.Members.{position-member, member-position}
 use Rattle.plane.specs.theory.lists.Next.{Following, onward, closing, following, next-below, preceding}
-use Rattle.plane.specs.theory.forms.Vector.{cross-self, value-turned, value-origin}
-use Rattle.plane.specs.theory.sum.Positions.{edge-turn}
+use Rattle.plane.specs.theory.forms.Vector.{cross-self, value-turned, value-origin, square-positive}
+use Rattle.plane.specs.theory.sum.Positions.{edge-turn, next-left}
 use Rattle.plane.specs.theory.support.Support.{value-le-support, support-le}
 use Rattle.plane.specs.theory.hull.ShapeOf.{shapeOf-shape, shapeOf-support, shapeOf-corner}
 use Rattle.separation.specs.theory.Apart.{Separated, value-difference, differences-some, difference-member, member-difference}
 use Rattle.separation.specs.theory.Apart.{apart→direction}
-use Rattle.separation.specs.theory.Sector.{square-positive, next-left, sector-weak}
+use Rattle.separation.specs.theory.Sector.{sector-weak}
 use Rattle.clearance.specs.Facing.{Lowest, Facing, StopsAtCorner, StopsOnEdge}
 use Rattle.clearance.specs.theory.First.{Held, touched-low, touched-high}
 use Rattle.clearance.specs.theory.Pairs.{Pair, pair-of, pair-value}

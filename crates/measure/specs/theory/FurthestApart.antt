@@ -4,11 +4,11 @@
 use mathlib.Core.Path.{_≡_, refl, _∙_, ap}
 use mathlib.Core.Bool.{Bool, true, false, not, cond}
 use mathlib.Core.List.{List, [], _∷_}
-use Prim.Native.Nat.{ℕ, _-_, _≤_, _<_}
+use Prim.Native.Nat.{ℕ, _≤_, _<_}
 use native.Mathlib.Omega.{arith}
 use borrow.Author.Tests.{ltb-true, ltb-false, ne-eqb}
 use lib.Dec.{eqb, ltb}
-use lib.IntN.{pos, _-ℤ_}
+use lib.IntN.{pos}
 use lib.ListN.{length}
 use lib.Signed.{_≤ℤ_, _<ℤ_}
 use Rattle.integer.specs.Ring.{ring, reify}
@@ -22,7 +22,7 @@ use Rattle.plane.specs.Forms.{up, NonZero}
 use Rattle.plane.specs.Cycle.{round}
 use Rattle.plane.specs.theory.lists.Members.{point-path}
 use Rattle.plane.specs.theory.forms.Squared.{squared-positive}
-use Rattle.plane.specs.theory.forms.Vector.{value-turned, ⊖-zero}
+use Rattle.plane.specs.theory.forms.Vector.{value-turned, ⊖-zero, value-⊖}
 use Rattle.plane.specs.theory.forms.HalfPlane.{up-opposite}
 use Rattle.plane.specs.theory.sum.Positions.{corner-injective}
 use Rattle.measure.specs.Half.{Chains, Antipodal}
@@ -30,10 +30,6 @@ use Rattle.measure.specs.Comparison.{Stands}
 use Rattle.measure.specs.theory.HalfWalk.{antipodal-start}
 use Rattle.measure.specs.theory.Antipodal.{strict-antipodal}
 use Rattle.measure.specs.theory.Longest.{longest-strict, squared-le-length, Longest}
-
-value-⊖ : (d p q : Point) → value d (p ⊖ q) ≡ value d p -ℤ value d q
-unfolding value
-value-⊖ d p q = ring (d .x ∷ d .y ∷ p .x ∷ p .y ∷ q .x ∷ q .y ∷ []) (search reify depth 40) tt
 
 cancel-from : (p q r : Point) → r ⊖ q ≡ p ⊖ q → r ≡ p
 cancel-from p q r e = point-path

@@ -13,6 +13,7 @@ use lib.IntN.{ℤ, pos, natAbs}
 use lib.ListN.{length}
 use lib.Signed.{clashℤ}
 use Rattle.integer.specs.Order.{le-of-eq, le-trans, le-antisym}
+use Rattle.integer.specs.Bound.{positive-size}
 use Rattle.plane.specs.Point.{Point, corner}
 use Rattle.plane.specs.Shape.{IsShape}
 use Rattle.plane.specs.Reply.{answered, refused, here}
@@ -25,7 +26,7 @@ use Rattle.measure.specs.Extremes.{FirstLongest, FirstNarrowest}
 use Rattle.measure.specs.theory.Longest.{squared-le-length, Longest, length-longest, length-from-least, length-to-least}
 use Rattle.measure.specs.theory.Height.{edgeSquared-positive, facing-width, width-facing, width-earlier}
 use Rattle.measure.specs.theory.Narrowest.{noWider-le, wider-lt, le-noWider, lt-wider, narrowest-done, width-narrowest}
-use Rattle.measure.specs.theory.Rounded.{rounded-low, rounded-high, rounded-unique, positive-size}
+use Rattle.measure.specs.theory.Rounded.{rounded-low, rounded-high, rounded-unique}
 
 -- ---- length
 

@@ -2,18 +2,14 @@
 --     rounded-low, rounded-high     rootBelow n q meets it, where q is not 0
 --     rounded-unique                and nothing else does
 --     root-square-over              the root of d·d/d is that of d
---     positive-size                 the size of a number above 0 is not 0
 use mathlib.Core.Path.{_≡_, refl}
-use mathlib.Core.Bool.{Bool, true, false, false≢true}
+use mathlib.Core.Bool.{Bool, true, false}
 use Prim.Native.Nat.{ℕ, zero, suc, _+_, _*_, _≤_, _<_, zero-le}
 use native.Mathlib.Nat.{mul-le-mul, mul-le-mul-right, mul-lt-mul-of-pos-right, le-mul-of-pos-right, mul-one, zero-mul, zero-lt-suc}
 use native.Mathlib.Numerals.{add-one}
 use native.Mathlib.Omega.{arith}
 use borrow.Author.Tests.{ltb-true, ltb-false, lt-ltb, le-ltb}
 use lib.Dec.{ltb}
-use lib.IntN.{ℤ, pos, negsuc, natAbs}
-use lib.Signed.{_<ℤ_, ltZ}
-use Rattle.integer.specs.Order.{lt-ltZ}
 use Rattle.plane.specs.Search.{first}
 use Rattle.plane.specs.Measure.{rootBelow}
 use Rattle.plane.specs.theory.lists.Sought.{first-true, first-least, first-unique}
@@ -56,10 +52,3 @@ root-square-over d some =
     let low : w * w ≤ d = rw mul-one at (rounded-low d 1 (omega arith)) in
     let high : d < (w + 1) * (w + 1) = rw mul-one at (rounded-high d 1 (omega arith)) in
     rounded-unique (d * d) d some w (mul-le-mul-right d low) (mul-lt-mul-of-pos-right high some)
-
-pub positive-size : {z : ℤ} → pos 0 <ℤ z → 0 < natAbs z
-positive-size {z} h = go z (lt-ltZ h)
-  where
-    go : (z : ℤ) → ltZ (pos 0) z ≡ true → 0 < natAbs z
-    go (pos n) e = ltb-true 0 n e
-    go (negsuc n) e = absurd (false≢true e)

@@ -23,12 +23,11 @@ use Rattle.plane.specs.Corner.{shapeOf}
 use Rattle.plane.specs.Separation.{inside, differences, apart, notLeft, onRim, touching, relationNumber}
 use Rattle.plane.specs.theory.lists.Members.{point-discrete}
 use Rattle.plane.specs.theory.lists.Sought.{some-witness, some-none}
-use Rattle.plane.specs.theory.forms.Vector.{cross-swap, value-origin}
+use Rattle.plane.specs.theory.forms.Vector.{cross-swap, value-origin, square-positive}
 use Rattle.plane.specs.theory.hull.ShapeOf.{shapeOf-shape}
 use Rattle.separation.specs.theory.Apart.{differences-some, apart-shapeOf}
 use Rattle.separation.specs.theory.InsideShape.{polygon-origin→crosses, polygon-crosses→origin, segment-origin→opposed}
 use Rattle.separation.specs.theory.InsideShape.{segment-opposed→origin, point-inside→equal, point-equal→inside}
-use Rattle.separation.specs.theory.Sector.{square-positive}
 use Rattle.separation.specs.Around.{crossAt, rightOf, originInFew, originIn}
 
 -- ---- the origin against a shape

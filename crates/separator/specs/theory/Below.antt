@@ -12,7 +12,6 @@ use native.Mathlib.Omega.{arith}
 use lib.IntN.{pos, negℤ}
 use lib.ListN.{length}
 use lib.Signed.{_<ℤ_, ltZ}
-use Rattle.integer.specs.Ring.{ring, reify}
 use Rattle.integer.specs.Linear.{linear, lia, _&_}
 use Rattle.integer.specs.Order.{ltZ-true, lt-ltZ}
 use Rattle.plane.specs.Point.{Point, corner, opposite, origin, _⊕_, _∈_}
@@ -23,7 +22,7 @@ use Rattle.plane.specs.Corner.{shapeOf}
 use Rattle.plane.specs.Separation.{differences, apart}
 use Rattle.plane.specs.theory.lists.Members.{member-position, position-member}
 use Rattle.plane.specs.theory.lists.Sought.{every-all, all-every, tests-agree}
-use Rattle.plane.specs.theory.forms.Vector.{value-turned}
+use Rattle.plane.specs.theory.forms.Vector.{value-turned, origin-value}
 use Rattle.plane.specs.theory.support.Support.{value-le-support, support-attained}
 use Rattle.plane.specs.theory.hull.ShapeOf.{shapeOf-support}
 use Rattle.separation.specs.theory.Apart.{value-difference, differences-some, difference-member, direction→apart}
@@ -73,13 +72,9 @@ module _ (d : Point) (A B : List Point) where
         & value-difference d p q) (search linear depth 40) (omega arith))
 
     pub below→nonzero : below d A B ≡ true → NonZero d
-    unfolding value
     below→nonzero h = record { non-zero = λ e. never e (below→all h _ _ (position-member A 0 a) (position-member B 0 b)) }
       where
-        level : (p : Point) → value origin p ≡ pos 0
-        level p = ring (p .x ∷ p .y ∷ []) (search reify depth 40) tt
-
         never : d ≡ origin → value d (corner A 0) <ℤ value d (corner B 0) → ⊥
         never e k = lia (value d (corner A 0) ∷ value d (corner B 0) ∷ [])
-            (k & ap (λ z. value z (corner A 0)) e ∙ level (corner A 0) & ap (λ z. value z (corner B 0)) e ∙ level (corner B 0))
+            (k & ap (λ z. value z (corner A 0)) e ∙ origin-value (corner A 0) & ap (λ z. value z (corner B 0)) e ∙ origin-value (corner B 0))
             (search linear depth 40) (omega arith)

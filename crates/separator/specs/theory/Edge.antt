@@ -21,14 +21,15 @@ use Rattle.plane.specs.Search.{some}
 use Rattle.plane.specs.Shape.{next, IsShape}
 use Rattle.plane.specs.Direction.{value, support, SameWay}
 use Rattle.plane.specs.Separation.{notLeft}
+use Rattle.plane.specs.Cut.{outward}
 use Rattle.plane.specs.theory.lists.Sought.{true-not-false}
-use Rattle.plane.specs.theory.forms.Vector.{outward, value-origin, value-turned}
+use Rattle.plane.specs.theory.forms.Vector.{value-origin, value-turned, square-positive}
 use Rattle.plane.specs.theory.support.Support.{support-attained}
 use Rattle.polygon.specs.Point.{Small}
 use Rattle.separation.specs.Around.{crossAt, rightOf, originInFew, originIn}
 use Rattle.separation.specs.theory.InsideShape.{turn-origin}
-use Rattle.separation.specs.theory.Sector.{square-positive, value-outward, edge-outermost}
-use Rattle.separator.specs.Outward.{outerNormal, Outward}
+use Rattle.separation.specs.theory.Sector.{value-outward, edge-outermost}
+use Rattle.separator.specs.Outward.{Outward}
 
 -- what all points of a list are below, the greatest value is below
 support-lt : (d : Point) (D : List Point) {v : ℤ} → 0 < length D → ((r : Point) → r ∈ D → value d r <ℤ v) → support d D <ℤ v
@@ -37,7 +38,7 @@ support-lt d D h f = let top = support-attained d D h in rw (← top .at-value) 
 -- ---- an edge
 
 -- values in the directions of two normals go together
-scaled : (p q a b : Point) (w : SameWay (q ⊖ p) (b ⊖ a)) (r : Point) → w .m *ℤ value (outerNormal p q) r ≡ w .n *ℤ value (outward a b) r
+scaled : (p q a b : Point) (w : SameWay (q ⊖ p) (b ⊖ a)) (r : Point) → w .m *ℤ value (outward p q) r ≡ w .n *ℤ value (outward a b) r
 unfolding value
 scaled p q a b w r = lia (w .m ∷ w .n ∷ p .x ∷ p .y ∷ q .x ∷ q .y ∷ a .x ∷ a .y ∷ b .x ∷ b .y ∷ r .x ∷ r .y ∷ [])
     (w .along-x ≡× r .y & w .along-y ≡× r .x) (search linear depth 40) (omega arith)
@@ -55,9 +56,9 @@ module _ (D : List Point) (s : IsShape D) where
       & ltZ-true {x = cross a b} {y = pos 0} right) (search linear depth 40) (omega arith)
 
   pub edge-away : (e : ℕ) → e < length D → rightOf D e ≡ true → (p q : Point)
-      → SameWay (q ⊖ p) (corner D (next (length D) e) ⊖ corner D e) → Small maxPart (outerNormal p q) → Outward D (outerNormal p q)
+      → SameWay (q ⊖ p) (corner D (next (length D) e) ⊖ corner D e) → Small maxPart (outward p q) → Outward D (outward p q)
   edge-away e h right p q w near =
-      record { in-limits = near; negative = λ o. support-lt (outerNormal p q) D (s .some) negative }
+      record { in-limits = near; negative = λ o. support-lt (outward p q) D (s .some) negative }
     where
       a : Point
       a = corner D e
@@ -65,8 +66,8 @@ module _ (D : List Point) (s : IsShape D) where
       b : Point
       b = corner D (next (length D) e)
 
-      negative : (r : Point) → r ∈ D → value (outerNormal p q) r <ℤ pos 0
-      negative r m = contra< (λ g. lia (w .m ∷ w .n ∷ value (outerNormal p q) r ∷ value (outward a b) r ∷ [])
+      negative : (r : Point) → r ∈ D → value (outward p q) r <ℤ pos 0
+      negative r m = contra< (λ g. lia (w .m ∷ w .n ∷ value (outward p q) r ∷ value (outward a b) r ∷ [])
           (scaled p q a b w r & w .m-above <×≤ g & w .n-above <×< edge-negative e h right r m) (search linear depth 40) (omega arith))
 
 -- ---- no edge

@@ -23,9 +23,10 @@ use Rattle.plane.specs.Search.{some}
 use Rattle.plane.specs.Refusal.{InRange}
 use Rattle.plane.specs.Forms.{edges}
 use Rattle.plane.specs.Cycle.{cornerRound}
+use Rattle.plane.specs.Cut.{outward}
 use Rattle.plane.specs.theory.lists.Flat.{Near, points-near}
 use Rattle.plane.specs.theory.lists.Members.{point-path}
-use Rattle.plane.specs.theory.forms.Vector.{step-back}
+use Rattle.plane.specs.theory.forms.Vector.{step-back, ⊕-comm, step-moved}
 use Rattle.plane.specs.theory.forms.SameWay.{same-sum}
 use Rattle.plane.specs.theory.sum.Positions.{round-within, round-step, edges-at-most, shape-in-order}
 use Rattle.polygon.specs.Point.{Small}
@@ -33,11 +34,10 @@ use Rattle.calipers.specs.Walk.{Walk, here, passed, advanced, At}
 use Rattle.calipers.specs.theory.Standing.{Taken, taken-same, Step, ended, left, right, both, step}
 use Rattle.calipers.specs.theory.Standing.{passed-taken, passed-ended, passed-waits}
 use Rattle.calipers.specs.theory.Steps.{at-advanced}
-use Rattle.separator.specs.Outward.{outerNormal}
 
 abbrev pub passedNormal : List Point → List Point → Walk → Walk → Point
-passedNormal A B w v = cond (ltb (w .i) (v .i)) (outerNormal (cornerRound A (w .i)) (cornerRound A (v .i)))
-    (outerNormal (cornerRound B (w .j)) (cornerRound B (v .j)))
+passedNormal A B w v = cond (ltb (w .i) (v .i)) (outward (cornerRound A (w .i)) (cornerRound A (v .i)))
+    (outward (cornerRound B (w .j)) (cornerRound B (v .j)))
 
 -- ---- the size of a direction
 
@@ -45,7 +45,7 @@ coordinates-fit : maxCoordinate + maxCoordinate ≤ maxPart
 unfolding maxCoordinate maxPart
 coordinates-fit = lit≤ tt
 
-normal-small : {p q : Point} → Near p → Near q → Small maxPart (outerNormal p q)
+normal-small : {p q : Point} → Near p → Near q → Small maxPart (outward p q)
 normal-small p q = record {
   small-x = within-widen coordinates-fit (within-add (q .near-y) (within-neg (p .near-y)));
   small-y = within-widen coordinates-fit (within-add (p .near-x) (within-neg (q .near-x)));
@@ -78,22 +78,16 @@ same-refl {e} {f} q = record {
   along-y = ap (λ z. pos 1 *ℤ z .y) q;
 }
 
-pub normal-left : (p q r : Point) → outerNormal (r ⊕ p) (r ⊕ q) ≡ outerNormal p q
-normal-left p q r =
-    point-path (ring (p .y ∷ q .y ∷ r .y ∷ []) (search reify depth 40) tt) (ring (p .x ∷ q .x ∷ r .x ∷ []) (search reify depth 40) tt)
-
-pub normal-right : (p q r : Point) → outerNormal (p ⊕ r) (q ⊕ r) ≡ outerNormal p q
+pub normal-right : (p q r : Point) → outward (p ⊕ r) (q ⊕ r) ≡ outward p q
 normal-right p q r =
     point-path (ring (p .y ∷ q .y ∷ r .y ∷ []) (search reify depth 40) tt) (ring (p .x ∷ q .x ∷ r .x ∷ []) (search reify depth 40) tt)
 
--- two sums with a common part differ by the other
-left-part : (p q r : Point) → (q ⊕ r) ⊖ (p ⊕ r) ≡ q ⊖ p
-left-part p q r =
-    point-path (ring (p .x ∷ q .x ∷ r .x ∷ []) (search reify depth 40) tt) (ring (p .y ∷ q .y ∷ r .y ∷ []) (search reify depth 40) tt)
+pub normal-left : (p q r : Point) → outward (r ⊕ p) (r ⊕ q) ≡ outward p q
+normal-left p q r = ap₂ outward (⊕-comm r p) (⊕-comm r q) ∙ normal-right p q r
 
+-- two sums with a common part differ by the other
 right-part : (p q r : Point) → (r ⊕ q) ⊖ (r ⊕ p) ≡ q ⊖ p
-right-part p q r =
-    point-path (ring (p .x ∷ q .x ∷ r .x ∷ []) (search reify depth 40) tt) (ring (p .y ∷ q .y ∷ r .y ∷ []) (search reify depth 40) tt)
+right-part p q r = ap₂ _⊖_ (⊕-comm r q) (⊕-comm r p) ∙ step-moved p q r
 
 two-parts : (p e q f : Point) → ((p ⊕ e) ⊕ (q ⊕ f)) ⊖ (p ⊕ q) ≡ e ⊕ f
 two-parts p e q f = point-path (ring (p .x ∷ e .x ∷ q .x ∷ f .x ∷ []) (search reify depth 40) tt)
@@ -103,8 +97,8 @@ two-parts p e q f = point-path (ring (p .x ∷ e .x ∷ q .x ∷ f .x ∷ []) (s
 pub record NormalOf (e d : Point) : Type 0 where
   pub from : Point
   pub to : Point
-  pub small : Small maxPart (outerNormal from to)
-  pub normal-is : d ≡ outerNormal from to
+  pub small : Small maxPart (outward from to)
+  pub normal-is : d ≡ outward from to
   pub same-way : SameWay (to ⊖ from) e
 
 -- ---- one step
@@ -153,7 +147,7 @@ module _ (a b : List ℤ) (w : Walk) (t : At a b w) where
 
   alone : (v : Walk) → v .j ≡ j → SameWay (cornerRound A (v .i) ⊖ cornerRound A i) (here A B v ⊖ here A B w)
   unfolding here
-  alone v e = same-refl (sym (left-part (cornerRound A i) (cornerRound A (v .i)) (cornerRound B j))
+  alone v e = same-refl (sym (step-moved (cornerRound A i) (cornerRound A (v .i)) (cornerRound B j))
       ∙ ap (λ k. (cornerRound A (v .i) ⊕ cornerRound B k) ⊖ (cornerRound A i ⊕ cornerRound B j)) (sym e))
 
   -- the two edges point the same way, and so does their sum

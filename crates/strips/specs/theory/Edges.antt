@@ -18,14 +18,14 @@ use Rattle.plane.specs.Turn.{turn, cross}
 use Rattle.plane.specs.Shape.{next, IsShape}
 use Rattle.plane.specs.Direction.{value}
 use Rattle.plane.specs.Measure.{squared, edgeTurn, height, edgeSquared, widthEdge}
+use Rattle.plane.specs.Cut.{outward}
 use Rattle.plane.specs.theory.lists.Members.{position-member, member-position}
-use Rattle.plane.specs.theory.forms.Vector.{outward}
+use Rattle.plane.specs.theory.forms.Vector.{value-nonneg, value-⊖}
 use Rattle.plane.specs.theory.support.Support.{support-unique}
 use Rattle.plane.specs.theory.face.Tied.{Tied, after, behind, tied}
 use Rattle.separation.specs.theory.Sector.{value-outward, edge-outermost}
-use Rattle.measure.specs.theory.Height.{height-above, height-had, edgeSquared-positive, value-nonneg}
+use Rattle.measure.specs.theory.Height.{height-above, height-had, edgeSquared-positive}
 use Rattle.measure.specs.theory.Narrowest.{width-narrowest, noWider-le}
-use Rattle.clearance.specs.theory.Bound.{value-⊖}
 use Rattle.clearance.specs.theory.Lowest.{positive-some}
 use Rattle.strips.specs.Strip.{spread}
 use Rattle.strips.specs.OwnDirection.{outOf}

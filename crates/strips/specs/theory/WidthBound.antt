@@ -24,13 +24,15 @@ use Rattle.plane.specs.Corner.{shapeOf}
 use Rattle.plane.specs.Separation.{differences, onRim}
 use Rattle.plane.specs.Mean.{times}
 use Rattle.plane.specs.Forms.{NonZero}
+use Rattle.plane.specs.Cut.{outward}
 use Rattle.plane.specs.theory.lists.Members.{point-discrete, position-member}
 use Rattle.plane.specs.theory.lists.Next.{next-below}
-use Rattle.plane.specs.theory.forms.Vector.{outward, turn-level, value-turned}
+use Rattle.plane.specs.theory.forms.Vector.{turn-level, value-turned, square-positive}
 use Rattle.plane.specs.theory.support.Support.{value-le-support, support-le}
 use Rattle.plane.specs.theory.hull.ShapeOf.{shapeOf-support, shapeOf-shape, shapeOf-corner}
+use Rattle.plane.specs.theory.sum.Positions.{next-left}
 use Rattle.separation.specs.theory.Apart.{differences-some, difference-member, member-difference}
-use Rattle.separation.specs.theory.Sector.{square-positive, value-outward, next-left, level-zero, edge-outermost, edge-nonzero, left→passed}
+use Rattle.separation.specs.theory.Sector.{value-outward, level-zero, edge-outermost, edge-nonzero, left→passed}
 use Rattle.separation.specs.theory.Rim.{Below, rim→below}
 use Rattle.measure.specs.theory.Height.{edgeSquared-positive}
 use Rattle.measure.specs.theory.Narrowest.{width-narrowest}

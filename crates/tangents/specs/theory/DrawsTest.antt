@@ -19,8 +19,7 @@ use Rattle.plane.specs.Point.{Point, opposite, _⊖_}
 use Rattle.plane.specs.Turn.{turn, cross}
 use Rattle.plane.specs.Direction.{value}
 use Rattle.plane.specs.Tangent.{signOf, onSide}
-use Rattle.plane.specs.theory.forms.Vector.{⊖-zero, value-turned}
-use Rattle.separation.specs.theory.Sector.{square-positive}
+use Rattle.plane.specs.theory.forms.Vector.{⊖-zero, value-turned, square-positive}
 use Rattle.tangents.specs.Draws.{draws}
 use Rattle.tangents.specs.theory.Sides.{sign-not, sign-zero}
 

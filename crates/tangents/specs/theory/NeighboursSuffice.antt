@@ -25,8 +25,8 @@ use Rattle.plane.specs.Direction.{value}
 use Rattle.plane.specs.Tangent.{signOf}
 use Rattle.plane.specs.theory.lists.Sought.{true-not-false}
 use Rattle.plane.specs.theory.lists.Next.{Following, onward, closing, following, next-below}
-use Rattle.plane.specs.theory.sum.Positions.{edge-turn}
-use Rattle.separation.specs.theory.Sector.{next-left, sector}
+use Rattle.plane.specs.theory.sum.Positions.{edge-turn, next-left}
+use Rattle.separation.specs.theory.Sector.{sector}
 use Rattle.tangents.specs.Draws.{draws, Facing, Rests, Better}
 use Rattle.tangents.specs.theory.Sides.{sign-zero}
 use Rattle.tangents.specs.theory.DrawsTest.{Rises, Stays, draws→stays, stays→draws}

@@ -1,4 +1,5 @@
 -- The support value of a list of points, and the facts by which everything else uses it. A list with a point is one with 0 < length.
+--     support-one          that of one point is its value
 --     value-le-support     no point is above it
 --     support-attained     some point has it (`Attained`)
 --     support-unique       the value of a point that none is above is the support value
@@ -31,7 +32,7 @@ support-cons : (d p q : Point) (ps : List Point) → support d (p ∷ q ∷ ps) 
 unfolding support
 support-cons d p q ps = refl
 
-support-one : (d p : Point) → support d (p ∷ []) ≡ value d p
+pub support-one : (d p : Point) → support d (p ∷ []) ≡ value d p
 unfolding support
 support-one d p = refl
 
