@@ -13,14 +13,14 @@ use borrow.Author.Tests.{eq-eqb, eqb-true}
 use lib.Dec.{eqb}
 use lib.IntN.{ℤ, pos}
 use lib.ListN.{length}
-use lib.Signed.{leZ, <ℤ-irrefl}
+use lib.Signed.{leZ}
 use Rattle.integer.specs.Order.{le-antisym, leZ-true}
 use Rattle.plane.specs.Point.{Point, corner, opposite}
 use Rattle.plane.specs.Shape.{next, IsShape}
 use Rattle.plane.specs.Forms.{NonZero}
 use Rattle.plane.specs.Clearance.{Candidate, corners, onSecond, onFirst, nearest}
 use Rattle.plane.specs.theory.lists.Members.{position-member}
-use Rattle.plane.specs.theory.forms.Vector.{opposite-opposite, origin-value}
+use Rattle.plane.specs.theory.forms.Vector.{opposite-opposite, below-non-zero}
 use Rattle.clearance.specs.Order.{Sooner, Earlier}
 use Rattle.clearance.specs.Facing.{Lowest, Foot, Across, Reached, Facing}
 use Rattle.clearance.specs.Faces.{IsFace, isEnd, isAlong, isFoot, pickedOf, tried}
@@ -160,10 +160,8 @@ module _ (n : Point) (qs ps : List Point) {f g : Face} (F : IsFace n qs f) (G : 
 -- ---- the nearest candidate
 
 pub facing-some : {A B : List Point} {n : Point} → 0 < length A → 0 < length B → Facing A B n → NonZero n
-facing-some {A} {B} {n} a b h = record {
-  non-zero = λ e. <ℤ-irrefl (rw (e, origin-value (corner A 0), origin-value (corner B 0)) at
-      (h .above (corner A 0) (corner B 0) (position-member A 0 a) (position-member B 0 b)));
-}
+facing-some {A} {B} {n} a b h = below-non-zero n (corner B 0) (corner A 0)
+    (h .above (corner A 0) (corner B 0) (position-member A 0 a) (position-member B 0 b))
 
 module _ (A B : List Point) (n : Point) (s : IsShape A) (t : IsShape B) (h : Facing A B n) {f g : Face} (F : IsFace n A f)
     (G : IsFace (opposite n) B g) where

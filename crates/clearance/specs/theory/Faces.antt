@@ -22,12 +22,12 @@ use Rattle.plane.specs.Shape.{next, IsShape}
 use Rattle.plane.specs.Direction.{value}
 use Rattle.plane.specs.Measure.{squared}
 use Rattle.plane.specs.Clearance.{falls, fallsOn, Candidate, corners, onSecond, onFirst}
-use Rattle.plane.specs.theory.forms.Vector.{value-turned, value-⊖}
+use Rattle.plane.specs.theory.forms.Vector.{value-⊖, turned-back, turned-lt}
 use Rattle.plane.specs.theory.forms.Squared.{squared-value}
 use Rattle.clearance.specs.Facing.{Lowest, Reached}
 use Rattle.clearance.specs.theory.First.{lowest-twice, turned-square}
 use Rattle.clearance.specs.theory.Along.{by-edge}
-use Rattle.clearance.specs.theory.Lowest.{turned-back, lowest-neighbours}
+use Rattle.clearance.specs.theory.Lowest.{lowest-neighbours}
 
 -- ---- a point over an edge
 
@@ -81,10 +81,7 @@ edge-under ps s m e c some long i j l k flat after before = go (lowest-neighbour
 
     back : falls (corner ps j) (corner ps i) c ≡ true
     back = falls-between (opposite e) (corner ps j) (corner ps i) c (rw (turned-square e) long) level
-        (lia (value e c ∷ value e (corner ps j) ∷ value (opposite e) c ∷ value (opposite e) (corner ps j) ∷ [])
-        (before & value-turned e c & value-turned e (corner ps j)) (search linear depth 40) (omega arith))
-        (lia (value e c ∷ value e (corner ps i) ∷ value (opposite e) c ∷ value (opposite e) (corner ps i) ∷ [])
-        (after & value-turned e c & value-turned e (corner ps i)) (search linear depth 40) (omega arith))
+        (turned-lt e c (corner ps j) before) (turned-lt e (corner ps i) c after)
       where
         level : cross (opposite e) (corner ps i ⊖ corner ps j) ≡ pos 0
         level = reversed e (corner ps i) (corner ps j) ∙ flat

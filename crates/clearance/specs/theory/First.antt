@@ -18,14 +18,14 @@ use lib.Signed.{_≤ℤ_, _<ℤ_}
 use Rattle.integer.specs.Ring.{ring, reify}
 use Rattle.integer.specs.Linear.{linear, lia, _&_}
 use Rattle.integer.specs.Order.{_<×<_, _<×≤_, _≡×_, contra≤, le-antisym, leZ-true, le-leZ, zero-factor}
-use Rattle.plane.specs.Point.{Point, origin, corner, opposite}
+use Rattle.plane.specs.Point.{Point, corner, opposite}
 use Rattle.plane.specs.Shape.{next}
 use Rattle.plane.specs.Direction.{value}
 use Rattle.plane.specs.Measure.{squared, edgeSquared}
 use Rattle.plane.specs.Clearance.{Candidate, corners, onSecond, onFirst, top, bottom, noFurther, nearest}
 use Rattle.plane.specs.theory.lists.Members.{position-member}
 use Rattle.plane.specs.theory.lists.Next.{next-below}
-use Rattle.plane.specs.theory.forms.Vector.{value-turned, square-positive, opposite-opposite, origin-value}
+use Rattle.plane.specs.theory.forms.Vector.{value-turned, square-positive, opposite-opposite, below-non-zero}
 use Rattle.clearance.specs.Order.{Earlier, AtOrAfter, itself, after, Listed}
 use Rattle.clearance.specs.Facing.{Lowest, Reached, Facing}
 use Rattle.clearance.specs.theory.Candidates.{least-listed, least-passes, least-first}
@@ -111,14 +111,9 @@ record Good (A B : List Point) (n : Point) (t : ℤ) (c : Candidate) : Type 0 wh
 
 module _ (A B : List Point) (n : Point) (t : ℤ) (h : Held A B n t) where
   pub held-square : pos 0 <ℤ value n n
-  held-square = square-positive n (record { non-zero = λ e. flat e })
-    where
-      level : n ≡ origin → (p : Point) → value n p ≡ pos 0
-      level e p = rw e (origin-value p)
-
-      flat : n ≡ origin → ⊥
-      flat e = lia (value n (corner A (h .low)) ∷ value n (corner B (h .high)) ∷ t ∷ [])
-          (h .some & h .exact & level e (corner A (h .low)) & level e (corner B (h .high))) (search linear depth 40) (omega arith)
+  held-square = square-positive n (below-non-zero n (corner B (h .high)) (corner A (h .low))
+      (lia (value n (corner A (h .low)) ∷ value n (corner B (h .high)) ∷ t ∷ []) (h .some & h .exact)
+      (search linear depth 40) (omega arith)))
 
   -- corner j of B against corner i of A, in the direction turned round
   turned-held : (i j : ℕ) → i < length A → j < length B → (value (opposite n) (corner A i) +ℤ t) ≤ℤ value (opposite n) (corner B j)
@@ -170,8 +165,8 @@ module _ (A B : List Point) (n : Point) (t : ℤ) (h : Held A B n t) where
       (search linear depth 40) (omega arith)
   not-below (onSecond i e) (p, q, r) = foot-bound n (corner B e) (corner B (next (length B) e)) (corner A i) t (h .some) r (h .held i e p q)
       (h .held i (next (length B) e) p (next-below (length B) e q))
-  not-below (onFirst j e) (p, q, r) = rw (← turned-square n) (foot-bound (opposite n) (corner A e) (corner A (next (length A) e)) (corner B j) t
-      (h .some) r (turned-held e j q p) (turned-held (next (length A) e) j (next-below (length A) e q) p))
+  not-below (onFirst j e) (p, q, r) = rw (← turned-square n) (foot-bound (opposite n) (corner A e) (corner A (next (length A) e))
+      (corner B j) t (h .some) r (turned-held e j q p) (turned-held (next (length A) e) j (next-below (length A) e q) p))
 
   good : (c : Candidate) → Listed A B c → Good A B n t c
   good c l = record { whole = candidate-whole A B c l; bound = not-below c l }

@@ -10,10 +10,10 @@ use Prim.Native.Nat.{ℕ, suc, _<_}
 use native.Mathlib.Omega.{arith}
 use lib.IntN.{pos}
 use lib.ListN.{length}
-use lib.Signed.{_<ℤ_}
+use lib.Signed.{_<ℤ_, <ℤ-irrefl}
 use Rattle.integer.specs.Linear.{linear, lia, _&_}
 use Rattle.integer.specs.Order.{ltZ-true, leZ-true, lt-ltZ, le-leZ}
-use Rattle.plane.specs.Point.{Point, origin, corner, _⊖_}
+use Rattle.plane.specs.Point.{Point, origin, corner}
 use Rattle.plane.specs.Shape.{next, IsShape}
 use Rattle.plane.specs.Direction.{value}
 use Rattle.plane.specs.Corner.{shapeOf}
@@ -23,9 +23,9 @@ use Rattle.plane.specs.Separation.{differences, apart}
 use Rattle.plane.specs.Clearance.{fallsOn, Candidate, corners, onSecond, onFirst, nearest}
 use Rattle.plane.specs.theory.lists.Members.{position-member}
 use Rattle.plane.specs.theory.lists.Next.{Following, onward, closing, following}
-use Rattle.plane.specs.theory.forms.Vector.{value-origin, square-positive, value-⊖}
+use Rattle.plane.specs.theory.forms.Vector.{value-origin}
 use Rattle.plane.specs.theory.hull.ShapeOf.{shapeOf-shape, shapeOf-corner}
-use Rattle.plane.specs.theory.forms.Squared.{squared-sym, squared-value}
+use Rattle.plane.specs.theory.forms.Squared.{squared-positive}
 use Rattle.separation.specs.theory.Apart.{value-difference, differences-some, member-difference, apart→direction}
 use Rattle.clearance.specs.Facing.{Reached, Facing, StopsAtCorner, StopsOnEdge}
 use Rattle.clearance.specs.Stop.{rests, crosses, after, Stopped, at-corner, at-edge, at-first}
@@ -110,10 +110,7 @@ unfolding edgeSquared
 foot-some ps e c i = foot-positive (corner ps e) (corner ps (next (length ps) e)) c i
 
 pair-some : (n a b : Point) → value n b <ℤ value n a → pos 0 <ℤ squared a b
-pair-some n a b l = rw (squared-sym a b ∙ squared-value b a) (square-positive (a ⊖ b) (record {
-  non-zero = λ e. lia (value n a ∷ value n b ∷ value n (a ⊖ b) ∷ []) (l & value-⊖ n a b & ap (value n) e ∙ value-origin n)
-      (search linear depth 40) (omega arith);
-}))
+pair-some n a b l = squared-positive a b (λ e. <ℤ-irrefl (rw e at l))
 
 pub nearest-measurable : (A B : List Point) → 0 < length A → 0 < length B → (n : Point) → Facing A B n → Measurable A B (nearest A B)
 nearest-measurable A B a b n f = go (nearest A B) (nearest-reached A B a b n f)

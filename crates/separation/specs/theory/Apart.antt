@@ -25,7 +25,7 @@ use Rattle.plane.specs.Corner.{shapeOf, sums, mirrored}
 use Rattle.plane.specs.Separation.{inside, differences, apart}
 use Rattle.plane.specs.theory.lists.Sought.{tests-agree}
 use Rattle.plane.specs.theory.lists.Members.{sums-member, member-sums, mirrored-member, member-mirrored, sums-some, mirrored-some}
-use Rattle.plane.specs.theory.forms.Vector.{value-⊕, value-opposite, value-turned, value-origin}
+use Rattle.plane.specs.theory.forms.Vector.{value-⊕, value-opposite, value-turned, value-origin, turned-lt}
 use Rattle.plane.specs.theory.support.Support.{support-attained, support-sums}
 use Rattle.plane.specs.theory.hull.ShapeOf.{shapeOf-support, shapeOf-shape, shape-known}
 use Rattle.plane.specs.VectorSum.{vectorSum}
@@ -125,14 +125,10 @@ module _ (A B : List Point) (a : 0 < length A) (b : 0 < length B) where
 
 -- the direction turned round
 separated-sym : {A B : List Point} → Separated A B → Separated B A
-separated-sym {A} {B} s = record { direction = opposite d; below = below }
-  where
-    d : Point
-    d = s .direction
-
-    below : (b a : Point) → b ∈ B → a ∈ A → value (opposite d) b <ℤ value (opposite d) a
-    below b a m n = lia (value d a ∷ value d b ∷ value (opposite d) a ∷ value (opposite d) b ∷ [])
-        (s .below a b n m & value-turned d a & value-turned d b) (search linear depth 40) (omega arith)
+separated-sym s = record {
+  direction = opposite (s .direction);
+  below = λ q p m n. turned-lt (s .direction) p q (s .below p q n m);
+}
 
 pub apart-sym : (A B : List Point) → 0 < length A → 0 < length B → apart A B ≡ apart B A
 apart-sym A B a b = tests-agree (apart A B) (apart B A)

@@ -30,11 +30,10 @@ use Rattle.plane.specs.Forms.{NonZero}
 use Rattle.plane.specs.Cut.{outward}
 use Rattle.plane.specs.theory.lists.Members.{point-path}
 use Rattle.plane.specs.theory.lists.Sought.{some-witness, some-none}
-use Rattle.plane.specs.theory.forms.Vector.{value-origin, value-turned, turn-level}
+use Rattle.plane.specs.theory.forms.Vector.{value-origin, value-turned, turn-level, opposite-non-zero, turned-le}
 use Rattle.plane.specs.theory.support.Support.{value-le-support, support-attained, support-le}
 use Rattle.plane.specs.theory.hull.ShapeOf.{shapeOf-support, shapeOf-shape}
 use Rattle.plane.specs.theory.lists.Sought.{tests-agree}
-use Rattle.plane.specs.theory.face.Tied.{opposite-non-zero}
 use Rattle.separation.specs.theory.Apart.{value-difference, differences-some, difference-member, member-difference, DifferenceOf}
 use Rattle.separation.specs.theory.Apart.{apart-sym}
 use Rattle.separation.specs.theory.InsideShape.{turn-origin}
@@ -238,14 +237,11 @@ module _ (A B : List Point) (a : 0 < length A) (b : 0 < length B) where
 -- ---- either may be the first
 
 abutting-sym : {A B : List Point} → Abutting A B → Abutting B A
-abutting-sym {A} {B} r = record { direction = opposite d; non-zero = opposite-non-zero (r .non-zero); no-above = no-above }
-  where
-    d : Point
-    d = r .direction
-
-    no-above : (b a : Point) → b ∈ B → a ∈ A → value (opposite d) b ≤ℤ value (opposite d) a
-    no-above b a m n = lia (value d a ∷ value d b ∷ value (opposite d) a ∷ value (opposite d) b ∷ [])
-        (r .no-above a b n m & value-turned d a & value-turned d b) (search linear depth 40) (omega arith)
+abutting-sym r = record {
+  direction = opposite (r .direction);
+  non-zero = opposite-non-zero (r .non-zero);
+  no-above = λ q p m n. turned-le (r .direction) p q (r .no-above p q n m);
+}
 
 pub touching-sym : (A B : List Point) → 0 < length A → 0 < length B → touching A B ≡ touching B A
 touching-sym A B a b = tests-agree (touching A B) (touching B A) (turned A B a b) (turned B A b a)

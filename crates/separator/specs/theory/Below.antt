@@ -4,7 +4,7 @@
 --     below-support             by the greatest value of the first, and the greatest of the second in the opposite direction
 --     negative→below            if all differences have a value below 0
 --     below→nonzero             in the direction (0,0) none is below another
-use mathlib.Core.Path.{_≡_, _∙_, sym, ap}
+use mathlib.Core.Path.{_≡_, _∙_, sym}
 use mathlib.Core.Bool.{Bool, true}
 use mathlib.Core.List.{List, [], _∷_}
 use Prim.Native.Nat.{ℕ, _<_}
@@ -14,7 +14,7 @@ use lib.ListN.{length}
 use lib.Signed.{_<ℤ_, ltZ}
 use Rattle.integer.specs.Linear.{linear, lia, _&_}
 use Rattle.integer.specs.Order.{ltZ-true, lt-ltZ}
-use Rattle.plane.specs.Point.{Point, corner, opposite, origin, _⊕_, _∈_}
+use Rattle.plane.specs.Point.{Point, corner, opposite, _⊕_, _∈_}
 use Rattle.plane.specs.Search.{every}
 use Rattle.plane.specs.Direction.{value, support}
 use Rattle.plane.specs.Forms.{NonZero}
@@ -22,7 +22,7 @@ use Rattle.plane.specs.Corner.{shapeOf}
 use Rattle.plane.specs.Separation.{differences, apart}
 use Rattle.plane.specs.theory.lists.Members.{member-position, position-member}
 use Rattle.plane.specs.theory.lists.Sought.{every-all, all-every, tests-agree}
-use Rattle.plane.specs.theory.forms.Vector.{value-turned, origin-value}
+use Rattle.plane.specs.theory.forms.Vector.{value-turned, below-non-zero}
 use Rattle.plane.specs.theory.support.Support.{value-le-support, support-attained}
 use Rattle.plane.specs.theory.hull.ShapeOf.{shapeOf-support}
 use Rattle.separation.specs.theory.Apart.{value-difference, differences-some, difference-member, direction→apart}
@@ -72,9 +72,4 @@ module _ (d : Point) (A B : List Point) where
         & value-difference d p q) (search linear depth 40) (omega arith))
 
     pub below→nonzero : below d A B ≡ true → NonZero d
-    below→nonzero h = record { non-zero = λ e. never e (below→all h _ _ (position-member A 0 a) (position-member B 0 b)) }
-      where
-        never : d ≡ origin → value d (corner A 0) <ℤ value d (corner B 0) → ⊥
-        never e k = lia (value d (corner A 0) ∷ value d (corner B 0) ∷ [])
-            (k & ap (λ z. value z (corner A 0)) e ∙ origin-value (corner A 0) & ap (λ z. value z (corner B 0)) e ∙ origin-value (corner B 0))
-            (search linear depth 40) (omega arith)
+    below→nonzero h = below-non-zero d (corner A 0) (corner B 0) (below→all h _ _ (position-member A 0 a) (position-member B 0 b))

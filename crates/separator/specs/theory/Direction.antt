@@ -4,7 +4,7 @@
 --     divisor-limit       what its parts are divided by is no more than a part may be
 --     primitive-small     and what is left is in the limits as well
 --     same-below          of directions that point the same way, a list is below another in both or in none
-use mathlib.Core.Path.{_≡_, refl, _∙_, ap, ap₂}
+use mathlib.Core.Path.{_≡_, refl, _∙_, ap₂}
 use mathlib.Core.Bool.{true, false}
 use mathlib.Core.List.{List, [], _∷_}
 use Prim.Native.Nat.{ℕ, zero, suc, _^_, _≤_}
@@ -23,12 +23,12 @@ use Rattle.plane.specs.Limits.{maxPart, part-small}
 use Rattle.plane.specs.Furthest.{badDirection, partsDivisor}
 use Rattle.plane.specs.Primitive.{primitive}
 use Rattle.plane.specs.Offer.{below}
-use Rattle.plane.specs.theory.lists.Members.{point-path}
 use Rattle.plane.specs.theory.lists.Sought.{tests-agree}
 use Rattle.plane.specs.theory.forms.SameWay.{same-sym}
 use Rattle.plane.specs.theory.direction.Rows.{direction-near, direction-some, near-direction, some-divisor}
 use Rattle.plane.specs.theory.direction.Scaled.{same-value}
 use Rattle.plane.specs.theory.direction.Primitive.{primitive-bad}
+use Rattle.plane.specs.theory.forms.Vector.{opposite-non-zero}
 use Rattle.polygon.specs.Point.{Small}
 use Rattle.separator.specs.theory.Below.{below→all, all→below}
 
@@ -45,12 +45,7 @@ module _ (d : Point) (good : badDirection d ≡ false) where
   pub opposite-good : badDirection (opposite d) ≡ false
   opposite-good =
       let near = direction-near d good in
-      near-direction (opposite d) (within-neg (near .0)) (within-neg (near .1))
-      (record {
-        non-zero = λ e. direction-some d good .non-zero (point-path
-            (lia (d .x ∷ []) (ap (λ (z : Point). z .x) e) (search linear depth 40) (omega arith))
-            (lia (d .y ∷ []) (ap (λ (z : Point). z .y) e) (search linear depth 40) (omega arith)));
-      })
+      near-direction (opposite d) (within-neg (near .0)) (within-neg (near .1)) (opposite-non-zero (direction-some d good))
 
 -- ---- names
 

@@ -23,7 +23,7 @@ use Rattle.plane.specs.Direction.{value, support, SameWay}
 use Rattle.plane.specs.Separation.{notLeft}
 use Rattle.plane.specs.Cut.{outward}
 use Rattle.plane.specs.theory.lists.Sought.{true-not-false}
-use Rattle.plane.specs.theory.forms.Vector.{value-origin, value-turned, square-positive}
+use Rattle.plane.specs.theory.forms.Vector.{value-origin, value-turned, square-positive, positive-non-zero}
 use Rattle.plane.specs.theory.support.Support.{support-attained}
 use Rattle.polygon.specs.Point.{Small}
 use Rattle.separation.specs.Around.{crossAt, rightOf, originInFew, originIn}
@@ -97,11 +97,7 @@ turned-negative : (p q : Point) → pos 0 <ℤ value p q → value (opposite p) 
 turned-negative p q h = lia (value p q ∷ value (opposite p) q ∷ []) (h & value-turned p q) (search linear depth 40) (omega arith)
 
 own-positive : (p q : Point) → pos 0 <ℤ value p q → pos 0 <ℤ value p p
-unfolding value
-own-positive p q h = square-positive p (record {
-  non-zero = λ e.
-      lia (p .x ∷ p .y ∷ q .x ∷ q .y ∷ []) (h & ap (λ z. z .x) e ≡× q .x & ap (λ z. z .y) e ≡× q .y) (search linear depth 40) (omega arith);
-})
+own-positive p q h = square-positive p (positive-non-zero p q h)
 
 few-negative : (D : List Point) → 0 < length D → length D < 3 → pos 0 <ℤ value (corner D 0) (corner D (next (length D) 0))
     → (r : Point) → r ∈ D → value (opposite (corner D 0)) r <ℤ pos 0

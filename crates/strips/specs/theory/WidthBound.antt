@@ -14,7 +14,7 @@ use lib.ListN.{length, length-map}
 use lib.Signed.{_≤ℤ_, _<ℤ_}
 use Rattle.integer.specs.Ring.{ring, reify}
 use Rattle.integer.specs.Linear.{linear, lia, _&_}
-use Rattle.integer.specs.Order.{_<×<_, _<×≤_, _≤×≤_, _≡×_, contra<, contra≤, weaken, le-antisym, square-nonneg}
+use Rattle.integer.specs.Order.{_<×<_, _<×≤_, _≤×≤_, _≡×_, contra<, contra≤, weaken, le-antisym, square-nonneg, cancel-le}
 use Rattle.plane.specs.Point.{Point, origin, corner, opposite, _⊕_, _∈_}
 use Rattle.plane.specs.Turn.{turn, cross, Left}
 use Rattle.plane.specs.Shape.{next, IsShape}
@@ -27,7 +27,7 @@ use Rattle.plane.specs.Forms.{NonZero}
 use Rattle.plane.specs.Cut.{outward}
 use Rattle.plane.specs.theory.lists.Members.{point-discrete, position-member}
 use Rattle.plane.specs.theory.lists.Next.{next-below}
-use Rattle.plane.specs.theory.forms.Vector.{turn-level, value-turned, square-positive}
+use Rattle.plane.specs.theory.forms.Vector.{turn-level, square-positive, turned-le}
 use Rattle.plane.specs.theory.support.Support.{value-le-support, support-le}
 use Rattle.plane.specs.theory.hull.ShapeOf.{shapeOf-support, shapeOf-shape, shapeOf-corner}
 use Rattle.plane.specs.theory.sum.Positions.{next-left}
@@ -53,10 +53,6 @@ value-between n a b k = ring (n .x ∷ n .y ∷ a .x ∷ a .y ∷ b .x ∷ b .y 
 outward-self : (p : Point) → value (outward p p) (outward p p) ≡ pos 0
 unfolding value
 outward-self p = ring (p .x ∷ p .y ∷ []) (search reify depth 40) tt
-
--- a positive factor may be dropped
-shorter : {k x y : ℤ} → pos 0 <ℤ k → (k *ℤ x) ≤ℤ (k *ℤ y) → x ≤ℤ y
-shorter {k} {x} {y} long h = contra≤ (λ g. lia (k ∷ x ∷ y ∷ []) (h & long <×< g) (search linear depth 40) (omega arith))
 
 -- ---- the differences of the corners, k times
 
@@ -120,7 +116,7 @@ module _ (ps : List Point) (s : IsShape ps) (three : 2 < length ps) (k : ℤ) (l
       j-in = next-below (length ps) i i-in
 
       same : (e f : ℕ) → e < length ps → f < length ps → value n (corner ps e) ≤ℤ value n (corner ps f)
-      same e f h o = shorter long (lia (k ∷ value n (corner ps e) ∷ value n (corner ps f) ∷ support n D ∷ [])
+      same e f h o = cancel-le long (lia (k ∷ value n (corner ps e) ∷ value n (corner ps f) ∷ support n D ∷ [])
           (reach n (position-member ps e h) (position-member ps f o) & support-le n D (shape .some) (b .below))
           (search linear depth 40) (omega arith))
 
@@ -139,16 +135,15 @@ module _ (ps : List Point) (s : IsShape ps) (three : 2 < length ps) (k : ℤ) (l
 
   module _ (n : Point) {u : Point} (r : Between u) (top : support n D ≤ℤ value n u) where
     left-highest : (p : Point) → p ∈ ps → value n p ≤ℤ value n (r .left)
-    left-highest p m = shorter long (lia (k ∷ value n p ∷ value n (r .left) ∷ value n (r .right) ∷ value n u ∷ support n D ∷ [])
+    left-highest p m = cancel-le long (lia (k ∷ value n p ∷ value n (r .left) ∷ value n (r .right) ∷ value n u ∷ support n D ∷ [])
         (top & reach n m (r .right-in) & between-value n r) (search linear depth 40) (omega arith))
 
     right-lowest : (p : Point) → p ∈ ps → value (opposite n) p ≤ℤ value (opposite n) (r .right)
     right-lowest p m =
-        let low : value n (r .right) ≤ℤ value n p = shorter long
+        let low : value n (r .right) ≤ℤ value n p = cancel-le long
         (lia (k ∷ value n p ∷ value n (r .left) ∷ value n (r .right) ∷ value n u ∷ support n D ∷ [])
         (top & reach n (r .left-in) m & between-value n r) (search linear depth 40) (omega arith)) in
-        lia (value n p ∷ value n (r .right) ∷ value (opposite n) p ∷ value (opposite n) (r .right) ∷ [])
-        (low & value-turned n p & value-turned n (r .right)) (search linear depth 40) (omega arith)
+        turned-le n (r .right) p low
 
   -- ---- across an edge of them
 
@@ -204,7 +199,7 @@ module _ (ps : List Point) (s : IsShape ps) (three : 2 < length ps) (k : ℤ) (l
 squeezed : (k S N X v c t q : ℤ) → pos 0 <ℤ k → pos 0 <ℤ N → pos 0 ≤ℤ X → pos 0 ≤ℤ q → v *ℤ v +ℤ c *ℤ c ≡ N *ℤ k
     → (t *ℤ t *ℤ N) ≤ℤ (X *ℤ X *ℤ q) → (S *ℤ S *ℤ q) <ℤ (t *ℤ t *ℤ k) → (k *ℤ X) ≤ℤ (S *ℤ v) → ⊥
 squeezed k S N X v c t q long size up some schwarz wide narrow past =
-    lia (k ∷ S ∷ N ∷ X ∷ t ∷ q ∷ []) (size <×< narrow & long <×≤ wide & some ≤×≤ shorter long squares)
+    lia (k ∷ S ∷ N ∷ X ∷ t ∷ q ∷ []) (size <×< narrow & long <×≤ wide & some ≤×≤ cancel-le long squares)
     (search linear depth 40) (omega arith)
   where
     start : pos 0 ≤ℤ (k *ℤ X)

@@ -80,7 +80,8 @@ across-line d p q x = (
 module _ {d p q : Point} (x : Point) (rise : Rises d p q) where
   pub on-line-same : turn p q x ≡ pos 0 → value d x ≡ value d p → x ≡ p
   on-line-same e f = point-path
-      (difference-zero (x .x) (p .x) (zero-factor (rise-gap rise) part-x)) (difference-zero (x .y) (p .y) (zero-factor (rise-gap rise) part-y))
+      (difference-zero (x .x) (p .x) (zero-factor (rise-gap rise) part-x))
+      (difference-zero (x .y) (p .y) (zero-factor (rise-gap rise) part-y))
     where
       part-x : (value d q -ℤ value d p) *ℤ (x .x -ℤ p .x) ≡ pos 0
       part-x = lia (value d p ∷ value d q ∷ value d x ∷ turn p q x ∷ d .y ∷ p .x ∷ q .x ∷ x .x ∷ [])

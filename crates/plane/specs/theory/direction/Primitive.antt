@@ -14,8 +14,7 @@ use borrow.Author.Tests.{lt-ltb}
 use lib.IntN.{ℤ, pos, negsuc, negℤ, natAbs, _*ℤ_}
 use lib.Signed.{quotZ, _<ℤ_}
 use Rattle.integer.specs.Ring.{ring, reify}
-use Rattle.integer.specs.Linear.{linear, lia, _&_}
-use Rattle.integer.specs.Order.{_<×<_, contra≤, le-antisym, ltZ-true, weaken}
+use Rattle.integer.specs.Order.{ltZ-true, weaken, cancel}
 use Rattle.integer.specs.Bound.{Within, natAbs-*, positive-size, size-is}
 use Rattle.integer.specs.Laws.{one-*ℤ}
 use Rattle.divisor.specs.Divisor.{gcd}
@@ -97,15 +96,10 @@ primitive-bad d good =
 
 -- ---- and no other
 
-cancelled : (m a b : ℤ) → pos 0 <ℤ m → m *ℤ a ≡ m *ℤ b → a ≡ b
-cancelled m a b h e = le-antisym
-    (contra≤ (λ g. lia (m ∷ a ∷ b ∷ []) (e & h <×< g) (search linear depth 40) (omega arith)))
-    (contra≤ (λ g. lia (m ∷ a ∷ b ∷ []) (e & h <×< g) (search linear depth 40) (omega arith)))
-
 -- m·e and n·f are equal, and so are their divisors: m times that of e, which is 1, and n times that of f
 pub primitive-unique : {e f : Point} → partsDivisor e ≡ 1 → partsDivisor f ≡ 1 → SameWay e f → e ≡ f
-primitive-unique {e} {f} p q s = point-path (cancelled (s .m) _ _ (s .m-above) (s .along-x ∙ ap (λ (k : ℤ). k *ℤ f .x) (sym same)))
-    (cancelled (s .m) _ _ (s .m-above) (s .along-y ∙ ap (λ (k : ℤ). k *ℤ f .y) (sym same)))
+primitive-unique {e} {f} p q s = point-path (cancel {k = s .m} (s .m-above) (s .along-x ∙ ap (λ (k : ℤ). k *ℤ f .x) (sym same)))
+    (cancel {k = s .m} (s .m-above) (s .along-y ∙ ap (λ (k : ℤ). k *ℤ f .y) (sym same)))
   where
     sizes : natAbs (s .m) ≡ natAbs (s .n)
     sizes = sym (scaled-divisor (s .m) (s .m-above) e ∙ ap (λ (k : ℕ). natAbs (s .m) * k) p ∙ mul-one _)

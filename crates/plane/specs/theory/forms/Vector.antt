@@ -12,7 +12,10 @@
 --     value-⊕, value-⊖, value-sym         the value of a sum and of a step; a direction and a vector may be exchanged
 --     value-origin, origin-value          the value of the origin, and in direction (0,0)
 --     value-opposite, value-turned        the value of -p, and of p in direction -d
+--     turned-lt, turned-le, turned-back   the opposite direction turns orders round
 --     value-nonneg, square-positive       the value of a vector in its own direction is not below 0; of one not zero it is above
+--     opposite-non-zero, quarter-non-zero     a vector that is not zero, turned round or left by a quarter
+--     positive-non-zero, below-non-zero   a direction with a value above 0, or with two values, is not zero
 -- Which vectors are up is in `HalfPlane.antt`, their order by angle in `Angle.antt`.
 use mathlib.Core.Path.{_≡_, _∙_, ap}
 use mathlib.Core.List.{List, [], _∷_}
@@ -177,3 +180,41 @@ unfolding value
 square-positive d n = contra< (λ g. n .non-zero (point-path
     (square-zero (lia (d .x ∷ d .y ∷ []) (g & square-nonneg (d .y)) (search linear depth 40) (omega arith)))
     (square-zero (lia (d .x ∷ d .y ∷ []) (g & square-nonneg (d .x)) (search linear depth 40) (omega arith)))))
+
+-- what is less in a direction is greater in the opposite one
+pub turned-lt : (d p q : Point) → value d p <ℤ value d q → value (opposite d) q <ℤ value (opposite d) p
+turned-lt d p q h = lia (value d p ∷ value d q ∷ value (opposite d) p ∷ value (opposite d) q ∷ [])
+    (h & value-turned d p & value-turned d q) (search linear depth 40) (omega arith)
+
+pub turned-le : (d p q : Point) → value d p ≤ℤ value d q → value (opposite d) q ≤ℤ value (opposite d) p
+turned-le d p q h = lia (value d p ∷ value d q ∷ value (opposite d) p ∷ value (opposite d) q ∷ [])
+    (h & value-turned d p & value-turned d q) (search linear depth 40) (omega arith)
+
+pub turned-back : (d p q : Point) → value (opposite d) q ≤ℤ value (opposite d) p → value d p ≤ℤ value d q
+turned-back d p q h = lia (value d p ∷ value d q ∷ value (opposite d) p ∷ value (opposite d) q ∷ [])
+    (h & value-turned d p & value-turned d q) (search linear depth 40) (omega arith)
+
+-- ---- vectors that are not zero
+
+pub opposite-non-zero : {v : Point} → NonZero v → NonZero (opposite v)
+opposite-non-zero {v} n = record {
+  non-zero = λ e. n .non-zero (point-path
+      (lia (v .x ∷ []) (ap (λ (p : Point). p .x) e) (search linear depth 40) (omega arith))
+      (lia (v .y ∷ []) (ap (λ (p : Point). p .y) e) (search linear depth 40) (omega arith)));
+}
+
+pub quarter-non-zero : {v : Point} → NonZero v → NonZero (quarter v)
+quarter-non-zero {v} n = record {
+  non-zero = λ e. n .non-zero (point-path (ap (λ (p : Point). p .y) e)
+      (lia (v .y ∷ []) (ap (λ (p : Point). p .x) e) (search linear depth 40) (omega arith)));
+}
+
+pub positive-non-zero : (d p : Point) → pos 0 <ℤ value d p → NonZero d
+positive-non-zero d p h = record {
+  non-zero = λ e. lia (value d p ∷ []) (h & ap (λ z. value z p) e ∙ origin-value p) (search linear depth 40) (omega arith);
+}
+
+-- a direction in which two points differ
+pub below-non-zero : (d p q : Point) → value d p <ℤ value d q → NonZero d
+below-non-zero d p q h = positive-non-zero d (q ⊖ p)
+    (lia (value d p ∷ value d q ∷ value d (q ⊖ p) ∷ []) (h & value-⊖ d q p) (search linear depth 40) (omega arith))
