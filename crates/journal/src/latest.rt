@@ -17,7 +17,7 @@ pub enum Found {
 }
 
 // Goes over all records of a log in which none is bad.
-// Ruled out: first record of a name.
+// Ruled out: record lost behind another.
 pub fn latest(log: &[u8], name: u16) -> Found
     requires { ⌜ damaged (records (now log)) ≡ false ⌝ }
     ensures { λ r. ⌜ Latest name (now (log .entry)) r ⌝ }
@@ -32,6 +32,7 @@ pub fn latest(log: &[u8], name: u16) -> Found
 }
 
 // What is found once the record at a place is looked at: a later record of the name counts.
+// Ruled out: first record for the latest.
 fn newer(log: &[u8], p: usize, name: u16, found: Found) -> Found
     requires { ⌜ Legible (now log) p ⌝ }
     ensures { λ r. ⌜ r ≡ Survey·newer name (now (log .entry)) p found ⌝ }
