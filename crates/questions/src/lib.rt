@@ -412,7 +412,7 @@ pub fn tablet(x: Reading, y: Reading) -> Tablet
 // floor of the record: 0 of one of kind 1, which says none. All behind them is kept. A log ends where no whole record
 // stands. Refused, with the output as it was: a log in which some record is of another kind, a wrong length, or no
 // shape (with the byte place of the first); a name that no record has; too small an output.
-// Ruled out: first record for the latest; record lost behind another.
+// Ruled out: first record for the latest; record lost after another.
 pub fn log_read(log: &[u8], name: u16, out: &mut [i32]) -> Answer
     ensures { λ r. ⌜ (ofAnswer r ≡ reply (askRead (now (log .entry)) name (now (out .entry))))
         × (now (out .exit) ≡ output (askRead (now (log .entry)) name (now (out .entry)))) ⌝ }
