@@ -18,7 +18,7 @@ pub enum Found {
 }
 
 // Goes over all records of a log in which none is bad.
-// Ruled out: record lost behind another.
+// Ruled out: record lost after another.
 pub fn latest(log: &[u8], name: u16) -> Found
     requires { ⌜ damaged (records (now log)) ≡ false ⌝ }
     ensures { λ r. ⌜ Latest name (now (log .entry)) r ⌝ }

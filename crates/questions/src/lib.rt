@@ -196,7 +196,7 @@ pub fn sweep(list: &[i32], floor: u16, out: &mut [i32]) -> Answer
 // The greatest squared distance between two corners, and the positions of two corners that are so far apart. Of several
 // such pairs: the smallest first position, then the smallest second. A point answers 0 at 0, 0, and a segment its own
 // two corners. Refused: 1 to 5.
-// Ruled out: ties to the larger position; first position given twice; search stopped half way.
+// Ruled out: ties to the larger position; first position given twice; search turned on distance.
 pub fn length(list: &[i32], floor: u16) -> Length
     ensures { λ r. ⌜ ofLength r ≡ reply (askLength (on (now (list .entry)) floor)) ⌝ }
 {
@@ -411,7 +411,7 @@ pub fn tablet(x: Reading, y: Reading) -> Tablet
 // floor of the record: 0 of one of kind 1, which says none. All behind them is kept. A log ends where no whole record
 // stands. Refused, with the output as it was: a log in which some record is of another kind, a wrong length, or no
 // shape (with the byte place of the first); a name that no record has; too small an output.
-// Ruled out: first record for the latest; record lost behind another.
+// Ruled out: first record for the latest; record lost after another.
 pub fn log_read(log: &[u8], name: u16, out: &mut [i32]) -> Answer
     ensures { λ r. ⌜ (ofAnswer r ≡ reply (askRead (now (log .entry)) name (now (out .entry))))
         × (now (out .exit) ≡ output (askRead (now (log .entry)) name (now (out .entry)))) ⌝ }
