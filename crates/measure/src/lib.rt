@@ -30,7 +30,7 @@ pub struct Width {
 
 // The two corners of a shape that are furthest apart. Of several such pairs: the smallest first position, then the
 // smallest second. A point has 0 at 0, 0, and a segment its own two corners.
-// Ruled out: ties to the larger position; first position given twice; search stopped half way.
+// Ruled out: ties to the larger position; first position given twice; search turned on distance.
 pub fn furthest_pair(list: &[i32]) -> Length
     requires { ⌜ Valid (now list) ⌝ }
     ensures { λ r. ⌜ IsLength (points (now (list .entry))) r ⌝ }

@@ -197,7 +197,7 @@ pub fn sweep(list: &[i32], floor: u16, out: &mut [i32]) -> Answer
 // The greatest squared distance between two corners, and the positions of two corners that are so far apart. Of several
 // such pairs: the smallest first position, then the smallest second. A point answers 0 at 0, 0, and a segment its own
 // two corners. Refused: 1 to 5.
-// Ruled out: ties to the larger position; first position given twice; search stopped half way.
+// Ruled out: ties to the larger position; first position given twice; search turned on distance.
 pub fn length(list: &[i32], floor: u16) -> Length
     ensures { λ r. ⌜ ofLength r ≡ reply (askLength (on (now (list .entry)) floor)) ⌝ }
 {
