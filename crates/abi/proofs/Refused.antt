@@ -9,8 +9,7 @@ use Rattle.plane.specs.Reply.{Reply, refused}
 use Rattle.questions.specs.Answer.{ofRefusal}
 use Rattle.admission.specs.declared.answer.Refusal.{Refusal}
 use Rattle.admission.specs.declared.answer.Refusal.the-variants as Refusal
-use Rattle.abi.specs.Calls.{stored}
-use Rattle.abi.specs.Passing.{barred}
+use Rattle.abi.specs.Passing.{barred, stored}
 
 refusal-is : (x : Refusal) → (n : ℕ) × (carries : List ℕ) × (ofRefusal x ≡ refused n carries)
 refusal-is (Refusal.Count s) = (_, _, refl)

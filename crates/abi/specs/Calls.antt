@@ -1,76 +1,43 @@
--- The four calls on bytes and numbers (document 02, W14: "with the same refusals"). A floor is any number.
---     judgedBytes a f          the list by 1 to 5, then the floor by 13; else the count of corners and the floor
---     pairRows l f m g         two lists by 1 to 5, then 13, which stands where `Floor.antt` has it
---     relationBytes a f b g    these rows; else how the shapes are to each other, and the floor
---     answerRows shape out     refusals 6, 7 and 8 of an answer, 8 in bytes
---     BytesWritten, sumBytes a f b g out, mergeBytes a f b g out    the reply, and the whole output bytes afterwards
-use mathlib.Core.Bool.{not, _||_}
-use mathlib.Core.List.{List, [], _∷_, _++_}
-use Prim.Native.Nat.{ℕ, _*_}
-use lib.Dec.{eqb, ltb}
-use lib.IntN.{ℤ, pos}
-use lib.ListN.{length, drop}
+-- The four calls on bytes and numbers (document 02, W14: "with the same refusals"): each is a question about the lists that the bytes hold.
+-- A floor is any number.
+--     askJudgeBytes a f                                         judging; the floor is judged last
+--     otherFloor f g                                            the second floor, as it is asked about
+--     askRelationBytes a f b g                                  how two shapes are to each other
+--     askSumBytes a f b g out, askMergeBytes a f b g out        a shape made of two; the output is asked about as the numbers that it holds
+--     bytesAfter q out                                          the whole output bytes afterwards
+-- What it means: `Meaning.antt`, and there `room-in-bytes`, `floors-agree`, `refused-leaves-bytes`, `answered-writes-bytes`.
+use mathlib.Core.Bool.{cond, _||_}
+use mathlib.Core.List.{List, [], _∷_}
+use Prim.Native.Nat.{ℕ, suc}
+use lib.Dec.{ltb}
+use lib.IntN.{pos}
+use lib.ListN.{length}
 use Rattle.plane.specs.Limits.{maxFloor}
-use Rattle.plane.specs.Point.{Point, points, numbers}
-use Rattle.plane.specs.Reply.{Reply, answered, refused, Row, row, firstRow}
-use Rattle.plane.specs.Refusal.{tooMany, someOutside, shapeRows}
-use Rattle.plane.specs.Corner.{shapeOf, sums}
-use Rattle.plane.specs.Separation.{relationNumber}
-use Rattle.journal.specs.Bytes.{words}
-use Rattle.abi.specs.Lists.{listOf}
+use Rattle.plane.specs.Point.{points, numbers}
+use Rattle.plane.specs.Reply.{row}
+use Rattle.plane.specs.Output.{overwritten, unlessRefused}
+use Rattle.plane.specs.Floor.{on, oneShape}
+use Rattle.plane.specs.Question.{Question, table, asks, askRelation, askSum, askMerge}
+use Rattle.endian.specs.Bytes.{words}
+use Rattle.abi.specs.Lists.{wordsIn, listOf}
 
--- "one above 65,535 being refused 13 with the same place in the order"
-abbrev pub judgedRows : List ℤ → ℕ → List Row
-judgedRows l f = shapeRows 1 l ++ (row 13 (ltb maxFloor f) [] ∷ [])
+-- "Floors pass as numbers, one above 65,535 being refused 13 with the same place in the order"
+abbrev pub askJudgeBytes : List ℕ → ℕ → Question
+askJudgeBytes a f = asks (oneShape (on (listOf a) f)) (row 13 (ltb maxFloor f) [] ∷ []) (pos (length (points (listOf a))) ∷ [])
 
-unfoldable pub judgedBytes : List ℕ → ℕ → Reply
-judgedBytes a f = firstRow (judgedRows (listOf a) f) (answered (pos (length (points (listOf a))) ∷ pos f ∷ []))
+-- another floor than the first if one of them is above the limit, so that 13 is given in its place
+unfoldable pub otherFloor : ℕ → ℕ → ℕ
+otherFloor f g = cond (ltb maxFloor f || ltb maxFloor g) (suc f) g
 
--- 13: different floors, or one above the limit
-abbrev pub floorsRow : ℕ → ℕ → Row
-floorsRow f g = row 13 (not (eqb f g) || (ltb maxFloor f || ltb maxFloor g)) []
+abbrev pub askRelationBytes : List ℕ → ℕ → List ℕ → ℕ → Question
+askRelationBytes a f b g = askRelation (on (listOf a) f) (on (listOf b) (otherFloor f g))
 
-abbrev pub pairRows : List ℤ → ℕ → List ℤ → ℕ → List Row
-pairRows l f m g = shapeRows 1 l ++ (shapeRows 2 m ++ (floorsRow f g ∷ []))
+abbrev pub askSumBytes : List ℕ → ℕ → List ℕ → ℕ → List ℕ → Question
+askSumBytes a f b g out = askSum (on (listOf a) f) (on (listOf b) (otherFloor f g)) (wordsIn out)
 
-unfoldable pub relationBytes : List ℕ → ℕ → List ℕ → ℕ → Reply
-relationBytes a f b g =
-    firstRow (pairRows (listOf a) f (listOf b) g) (answered (relationNumber (points (listOf a)) (points (listOf b)) ∷ pos f ∷ []))
+abbrev pub askMergeBytes : List ℕ → ℕ → List ℕ → ℕ → List ℕ → Question
+askMergeBytes a f b g out = askMerge (on (listOf a) f) (on (listOf b) (otherFloor f g)) (wordsIn out)
 
--- "8 now also speaks of output bytes, eight to a corner"
-abbrev pub answerRows : List Point → List ℕ → List Row
-answerRows shape out =
-    row 6 (tooMany shape) [] ∷ row 7 (someOutside (numbers shape)) [] ∷ row 8 (ltb (length out) (8 * length shape)) [] ∷ []
-
-pub record BytesWritten : Type 0 where
-  pub reply : Reply
-  pub output : List ℕ
-
--- what stands at the front of the bytes, all behind it being kept
-abbrev pub overBytes : List ℕ → List ℕ → List ℕ
-overBytes new out = new ++ drop (length new) out
-
--- "The output is untouched on refusal. On success only its first numbers are written"
-abbrev pub stored : Reply → List ℤ → List ℕ → List ℕ
-stored (answered values) l out = overBytes (words l) out
-stored (refused n carries) l out = out
-
--- a shape made of two
-abbrev pub pairBytes : (List Point → List Point → List Point) → List ℤ → ℕ → List ℤ → ℕ → List ℕ → BytesWritten
-pairBytes combined l f m g out =
-    let shape = combined (points l) (points m) in
-    let r = firstRow (pairRows l f m g ++ answerRows shape out) (answered (pos (length shape) ∷ pos f ∷ [])) in
-    record { reply = r; output = stored r (numbers shape) out }
-
--- "all corner-plus-corner points"; "both corner lists taken together"
-abbrev pub sumShape : List Point → List Point → List Point
-sumShape A B = shapeOf (sums A B)
-
-abbrev pub mergeShape : List Point → List Point → List Point
-mergeShape A B = shapeOf (A ++ B)
-
-unfoldable pub sumBytes : List ℕ → ℕ → List ℕ → ℕ → List ℕ → BytesWritten
-sumBytes a f b g out = pairBytes sumShape (listOf a) f (listOf b) g out
-
-unfoldable pub mergeBytes : List ℕ → ℕ → List ℕ → ℕ → List ℕ → BytesWritten
-mergeBytes a f b g out = pairBytes mergeShape (listOf a) f (listOf b) g out
+-- "The output is untouched on refusal. On success only its first numbers are written": as `output` says it of numbers
+unfoldable pub bytesAfter : Question → List ℕ → List ℕ
+bytesAfter q out = unlessRefused (table q) out (overwritten (words (numbers (q .shape))) out)

@@ -1,15 +1,17 @@
 -- What is passed to the questions for bytes and floors. Our own, not of document 02.
 --     Alike l s               s may be asked about in place of l: it is l, or both are refused 1, or both 2
---     Passed f g h k          h and k may be given in place of the floors f and g: where 13 is due they differ, else they are the same
+--     Passed f g h k          h and k may be given in place of the floors f and g: they differ where these do, else they are the same
 --     barred f r              a reply about one shape, refused 13 where its floor is above the limit
 --     Cut n r                 r of n numbers are read: all, or more than a shape may have, even or odd as n is
---     Room b r                an output of b bytes has room for a shape exactly if it has room for r numbers of it
+--     Room b r                an output of b bytes has room for a shape exactly if r numbers have
 --     Deliverable r s o       an answer has its corners in s numbers, and room in o bytes
---     combined m, asked c     how two shapes are made one, merged or summed, and the question that writes what c makes of them
---     Replied ..              a number and output bytes are right for each call in whose place two lists and floors are asked about
+--     stored r l out          an answer's numbers l at the front of the bytes; all of them kept after a refusal
+--     combined m              how two shapes are made one: merged or summed
+--     asked c a b out         the question that writes what c makes of two shapes, as `askSum` and `askMerge` are
+--     askBytes m a f b g out  the call, as `askSumBytes` and `askMergeBytes` are
 use mathlib.Core.Path.{_≡_}
-use mathlib.Core.Bool.{Bool, true, false, not, cond}
-use mathlib.Core.List.{List, []}
+use mathlib.Core.Bool.{Bool, true, false, cond}
+use mathlib.Core.List.{List, [], _++_}
 use Prim.Native.Nat.{ℕ, _+_, _*_, _%_, _≤_, _<_}
 use lib.Dec.{eqb, ltb}
 use lib.IntN.{ℤ}
@@ -17,10 +19,14 @@ use Rattle.plane.specs.Limits.{maxCorners, maxFloor}
 use Rattle.plane.specs.Point.{Point, points}
 use Rattle.plane.specs.Reply.{Reply, answered, refused}
 use Rattle.plane.specs.Refusal.{badCount, tooMany}
-use Rattle.plane.specs.Floor.{Floored, corners, twoShapes}
+use Rattle.plane.specs.Corner.{shapeOf, sums}
+use Rattle.plane.specs.Output.{overwritten}
+use Rattle.plane.specs.Floor.{Floored, on, corners, twoShapes}
 use Rattle.plane.specs.Question.{Question, makes}
-use Rattle.abi.specs.Packing.{firstField, packed}
-use Rattle.abi.specs.Calls.{floorsRow, pairBytes, sumShape, mergeShape}
+use Rattle.endian.specs.Bytes.{words}
+use Rattle.abi.specs.Lists.{wordsIn, listOf}
+use Rattle.abi.specs.Packing.{firstField}
+use Rattle.abi.specs.Calls.{otherFloor}
 
 pub data Alike (l s : List ℤ) : Type 0 where
   equal : s ≡ l → Alike l s
@@ -28,8 +34,8 @@ pub data Alike (l s : List ℤ) : Type 0 where
   many : badCount l ≡ false → badCount s ≡ false → tooMany (points l) ≡ true → tooMany (points s) ≡ true → Alike l s
 
 pub record Passed (f g h k : ℕ) : Type 0 where
-  pub refused-same : not (eqb h k) ≡ floorsRow f g .applies
-  pub first-same : floorsRow f g .applies ≡ false → h ≡ f
+  pub differ-same : eqb h k ≡ eqb f g
+  pub first-same : f ≡ g → h ≡ f
 
 abbrev pub barred : ℕ → Reply → Reply
 barred f (answered values) = cond (ltb maxFloor f) (refused 13 []) (answered values)
@@ -42,7 +48,6 @@ pub record Cut (n r : ℕ) : Type 0 where
   pub parity : r % 2 ≡ n % 2
 
 pub record Room (b r : ℕ) : Type 0 where
-  pub small : r ≤ 2 * maxCorners
   pub holds : (c : ℕ) → 2 * c ≤ r → 8 * c ≤ b
   pub enough : (c : ℕ) → c ≤ maxCorners → 8 * c ≤ b → 2 * c ≤ r
 
@@ -50,15 +55,16 @@ abbrev pub Deliverable : Reply → ℕ → ℕ → Type 0
 Deliverable (answered values) s o = (2 * firstField (answered values) ≤ s) × (8 * firstField (answered values) ≤ o)
 Deliverable (refused n carries) s o = Unit {0}
 
-abbrev pub combined : Bool → List Point → List Point → List Point
-combined true = mergeShape
-combined false = sumShape
+abbrev pub stored : Reply → List ℤ → List ℕ → List ℕ
+stored (answered values) l out = overwritten (words l) out
+stored (refused n carries) l out = out
 
--- as `askSum` and `askMerge` are
+abbrev pub combined : Bool → List Point → List Point → List Point
+combined true A B = shapeOf (A ++ B)
+combined false A B = shapeOf (sums A B)
+
 abbrev pub asked : (List Point → List Point → List Point) → Floored → Floored → List ℤ → Question
 asked made a b out = makes (twoShapes a b) (made (corners a) (corners b)) out
 
-pub record Replied (made : List Point → List Point → List Point) (s : List ℤ) (h : ℕ) (t : List ℤ) (k : ℕ) (old : List ℕ) (r : ℕ)
-    (new : List ℕ) : Type 0 where
-  pub calls : (l : List ℤ) (f : ℕ) (m : List ℤ) (g : ℕ) → Alike l s → Alike m t → Passed f g h k
-      → (r ≡ packed (pairBytes made l f m g old .reply)) × (new ≡ pairBytes made l f m g old .output)
+abbrev pub askBytes : Bool → List ℕ → ℕ → List ℕ → ℕ → List ℕ → Question
+askBytes merged a f b g out = asked (combined merged) (on (listOf a) f) (on (listOf b) (otherFloor f g)) (wordsIn out)

@@ -1,6 +1,7 @@
 // Inner functions: floors that are any numbers.
 ghost use mathlib.Core.Path.{_≡_};
 ghost use Rattle.questions.specs.Answer.{ofAnswer};
+ghost use Rattle.abi.specs.Calls.{otherFloor};
 ghost use Rattle.abi.specs.Passing.{Passed, barred};
 use polygon::limits;
 use questions::answer::Answer;
@@ -12,10 +13,10 @@ pub struct Floors {
     pub second: u16,
 }
 
-// The floors themselves, or two different ones where one is above its limit: the question then refuses 13 in its place.
-// Ruled out: floor above the limit answered.
+// Returns the floors, or two different ones if one is above its limit: the question then refuses 13 in its place.
+// Ruled out: floor above the limit answered; different floors answered.
 pub fn pass(f: u32, g: u32) -> Floors
-    ensures { λ r. ⌜ Passed f g (r .first) (r .second) ⌝ }
+    ensures { λ r. ⌜ Passed f (otherFloor f g) (r .first) (r .second) ⌝ }
 {
     if limits::exceeds_floor(f) {
         return Floors {
@@ -35,7 +36,7 @@ pub fn pass(f: u32, g: u32) -> Floors
     }
 }
 
-// An answer about one shape, refused 13 if its floor is above its limit.
+// Returns an answer about one shape, or refusal 13 if its floor is above its limit.
 pub fn bar(answer: Answer, floor: u32) -> Answer
     ensures { λ r. ⌜ ofAnswer r ≡ barred floor (ofAnswer answer) ⌝ }
 {

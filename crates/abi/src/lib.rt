@@ -1,26 +1,27 @@
 // The questions of a host that knows plain bytes and numbers (document 02, W14). A list is lent as bytes, four to a
-// number, the lowest first, and a floor as a number. Each call answers one number, from its low end: a byte for the
+// number, the lowest first, and a floor as a number. Each call returns one number, from its low end: a byte for the
 // refusal, or 0; a byte for the shape that 1 to 5 blame, or 0; two bytes for 4's edge, or when answered for the count
 // of corners, of a relation 0 apart, 1 touching, 2 overlapping; two for 4's corner, or when answered for the floor.
-// The lists are decoded into buffers, and one question of the crate `questions` judges them and answers.
+// Each call is a question about the lists that the bytes hold. They are decoded into buffers, and one question of the
+// crate `questions` judges them and answers.
 mod floors;
 mod packing;
 mod reading;
 mod writing;
 
 ghost use mathlib.Core.Path.{_≡_};
+ghost use Rattle.plane.specs.Question.{reply};
 ghost use Rattle.abi.specs.Packing.{packed};
-ghost use Rattle.abi.specs.Lists.{listOf};
-ghost use Rattle.abi.specs.Calls.{judgedBytes, relationBytes, pairBytes, sumBytes, mergeBytes};
-ghost use Rattle.abi.specs.Passing.{combined};
+ghost use Rattle.abi.specs.Calls.{askJudgeBytes, askRelationBytes, askSumBytes, askMergeBytes, bytesAfter};
+ghost use Rattle.abi.specs.Passing.{askBytes};
 use questions::SHAPE_NUMBERS;
 
-// Whether the bytes hold a shape, and how many corners it has. Refused: 1 to 5, no multiple of four bytes being 1; a
-// floor above its limit.
+// Judges whether the bytes hold a shape, and returns how many corners it has. Refused: 1 to 5, where a count of bytes
+// that is no multiple of four is 1; then 13 if the floor is above its limit.
 // Ruled out: floor above the limit answered; edge and corner exchanged; long odd list refused 2.
 #[no_mangle]
 pub extern "C" fn cocklesway_judge_bytes(list: &[u8], floor: u32) -> u64
-    ensures { λ r. ⌜ r ≡ packed (judgedBytes (now (list .entry)) floor) ⌝ }
+    ensures { λ r. ⌜ r ≡ packed (reply (askJudgeBytes (now (list .entry)) floor)) ⌝ }
 {
     let mut numbers = [0i32; reading::NUMBERS];
     let n = reading::read(list, &mut numbers);
@@ -29,26 +30,30 @@ pub extern "C" fn cocklesway_judge_bytes(list: &[u8], floor: u32) -> u64
     packing::of_answer(floors::bar(answer, floor))
 }
 
-// Writes the bytes of the shape of all corner-plus-corner points at the front of the output, all behind them being
-// kept, and answers how many corners it has. Refused, with the output as it was: 1 to 5 of the first list, then of the
-// second; different floors or one above its limit; then 6, 7, and an output of fewer than eight bytes to a corner.
-// Ruled out: room counted in numbers.
+// Writes the bytes of the shape of all corner-plus-corner points to the front of the output, keeps all after them, and
+// returns how many corners the shape has. Refused, with the output as it was: 1 to 5 of the first list, then of the
+// second; 13 if the floors differ or one is above its limit; then 6, 7, and 8 if the output has fewer than eight bytes
+// to a corner.
+// Ruled out: room counted in numbers; half of the answer written.
 #[no_mangle]
 pub extern "C" fn cocklesway_sum_bytes(a: &[u8], f: u32, b: &[u8], g: u32, out: &mut [u8]) -> u64
     ensures { λ r. ⌜
-        (r ≡ packed (sumBytes (now (a .entry)) f (now (b .entry)) g (now (out .entry)) .reply))
-        × (now (out .exit) ≡ sumBytes (now (a .entry)) f (now (b .entry)) g (now (out .entry)) .output) ⌝ }
+        (r ≡ packed (reply (askSumBytes (now (a .entry)) f (now (b .entry)) g (now (out .entry)))))
+        × (now (out .exit)
+        ≡ bytesAfter (askSumBytes (now (a .entry)) f (now (b .entry)) g (now (out .entry))) (now (out .entry))) ⌝ }
 {
     combine(false, a, f, b, g, out)
 }
 
-// Writes the bytes of the shape of both corner lists taken together, and answers how many corners it has. Refused as
+// Writes the bytes of the shape of both corner lists taken together, and returns how many corners it has. Refused as
 // a sum is, but never 7.
+// Ruled out: sum for merge; count and floor exchanged.
 #[no_mangle]
 pub extern "C" fn cocklesway_merge_bytes(a: &[u8], f: u32, b: &[u8], g: u32, out: &mut [u8]) -> u64
     ensures { λ r. ⌜
-        (r ≡ packed (mergeBytes (now (a .entry)) f (now (b .entry)) g (now (out .entry)) .reply))
-        × (now (out .exit) ≡ mergeBytes (now (a .entry)) f (now (b .entry)) g (now (out .entry)) .output) ⌝ }
+        (r ≡ packed (reply (askMergeBytes (now (a .entry)) f (now (b .entry)) g (now (out .entry)))))
+        × (now (out .exit)
+        ≡ bytesAfter (askMergeBytes (now (a .entry)) f (now (b .entry)) g (now (out .entry))) (now (out .entry))) ⌝ }
 {
     combine(true, a, f, b, g, out)
 }
@@ -56,10 +61,9 @@ pub extern "C" fn cocklesway_merge_bytes(a: &[u8], f: u32, b: &[u8], g: u32, out
 // Reads two lists and asks for their merge, or for their sum.
 fn combine(merged: bool, a: &[u8], f: u32, b: &[u8], g: u32, out: &mut [u8]) -> u64
     ensures { λ r. ⌜
-        (r ≡ packed (pairBytes (combined merged) (listOf (now (a .entry))) f (listOf (now (b .entry))) g
-        (now (out .entry)) .reply))
-        × (now (out .exit) ≡ pairBytes (combined merged) (listOf (now (a .entry))) f (listOf (now (b .entry))) g
-        (now (out .entry)) .output) ⌝ }
+        (r ≡ packed (reply (askBytes merged (now (a .entry)) f (now (b .entry)) g (now (out .entry)))))
+        × (now (out .exit)
+        ≡ bytesAfter (askBytes merged (now (a .entry)) f (now (b .entry)) g (now (out .entry))) (now (out .entry))) ⌝ }
 {
     let mut first = [0i32; reading::NUMBERS];
     let m = reading::read(a, &mut first);
@@ -78,11 +82,12 @@ fn combine(merged: bool, a: &[u8], f: u32, b: &[u8], g: u32, out: &mut [u8]) -> 
     )
 }
 
-// Whether the shapes are apart, touching or overlapping. Refused: 1 to 5 of the first list, then of the second;
-// different floors or one above its limit.
+// Returns whether the shapes are apart, touching or overlapping. Refused: 1 to 5 of the first list, then of the second;
+// 13 if the floors differ or one is above its limit.
+// Ruled out: different floors answered; touching called apart.
 #[no_mangle]
 pub extern "C" fn cocklesway_relation_bytes(a: &[u8], f: u32, b: &[u8], g: u32) -> u64
-    ensures { λ r. ⌜ r ≡ packed (relationBytes (now (a .entry)) f (now (b .entry)) g) ⌝ }
+    ensures { λ r. ⌜ r ≡ packed (reply (askRelationBytes (now (a .entry)) f (now (b .entry)) g)) ⌝ }
 {
     let mut first = [0i32; reading::NUMBERS];
     let m = reading::read(a, &mut first);

@@ -7,7 +7,8 @@ use questions::answer::Answer;
 use questions::answer::Refusal;
 use questions::answer::Relation;
 
-// A shape that was judged or written: how many corners it has, and its floor.
+// Packs how many corners a shape has that was judged or written, and its floor.
+// Ruled out: count and floor exchanged.
 pub fn of_answer(answer: Answer) -> u64
     requires { ⌜ Fits (ofAnswer answer) ⌝ }
     ensures { λ r. ⌜ r ≡ packed (ofAnswer answer) ⌝ }
@@ -18,7 +19,8 @@ pub fn of_answer(answer: Answer) -> u64
     }
 }
 
-// 0 apart, 1 touching, 2 overlapping, and the floor.
+// Packs 0 for apart, 1 for touching or 2 for overlapping, and the floor.
+// Ruled out: touching called apart.
 pub fn of_relation(answer: Relation) -> u64
     requires { ⌜ Fits (ofRelation answer) ⌝ }
     ensures { λ r. ⌜ r ≡ packed (ofRelation answer) ⌝ }
@@ -31,7 +33,7 @@ pub fn of_relation(answer: Relation) -> u64
     }
 }
 
-// The row of the table and what it carries.
+// Packs the row of the table and what it carries.
 // Ruled out: edge and corner exchanged.
 pub fn of_refusal(refusal: Refusal) -> u64
     requires { ⌜ Fits (ofRefusal refusal) ⌝ }
@@ -62,7 +64,7 @@ pub fn of_refusal(refusal: Refusal) -> u64
     }
 }
 
-// A byte, a byte, two bytes and two bytes, from the low end.
+// Packs a byte, a byte, two bytes and two bytes, from the low end.
 fn fields(refusal: u64, shape: usize, first: usize, second: usize) -> u64
     requires { ⌜ (refusal < 256) × (shape < 256) × (first < 65536) × (second < 65536) ⌝ }
     ensures { λ r. ⌜ r ≡ Packing·fields refusal shape first second ⌝ }

@@ -5,7 +5,6 @@ ghost use lib.ListN.{length, take};
 ghost use Rattle.plane.specs.Limits.{maxCorners};
 ghost use Rattle.abi.specs.Lists.{listOf};
 ghost use Rattle.abi.specs.Passing.{Alike, Cut};
-use journal::corners;
 use polygon::limits;
 
 // So many numbers are more than a shape may have, whether their count is even or odd.
@@ -22,7 +21,7 @@ pub fn read(bytes: &[u8], numbers: &mut [i32]) -> usize
         return 0;
     }
     let n = cut(bytes.len() / 4);
-    corners::decode(bytes, 0, n, numbers);
+    endian::decode(bytes, 0, n, numbers);
     n
 }
 

@@ -1,22 +1,20 @@
 // Inner functions: an answer's numbers, written to the output as bytes.
 ghost use mathlib.Core.Path.{_≡_};
-ghost use Prim.Native.Nat.{_+_, _*_, _≤_, _<_};
+ghost use Prim.Native.Nat.{_*_, _≤_};
 ghost use lib.ListN.{length, take};
-ghost use lib.Seq.{sets};
 ghost use Rattle.plane.specs.Limits.{maxCorners};
 ghost use Rattle.plane.specs.Floor.{on};
 ghost use Rattle.plane.specs.Question.{reply, output};
-ghost use Rattle.journal.specs.Bytes.{word, words};
 ghost use Rattle.questions.specs.Answer.{ofAnswer};
+ghost use Rattle.abi.specs.Lists.{wordsIn};
 ghost use Rattle.abi.specs.Packing.{packed, Fits, firstField};
-ghost use Rattle.abi.specs.Calls.{stored, overBytes};
-ghost use Rattle.abi.specs.Passing.{Deliverable, Room, Replied, combined, asked};
+ghost use Rattle.abi.specs.Calls.{bytesAfter};
+ghost use Rattle.abi.specs.Passing.{Deliverable, Room, stored, combined, asked};
 use crate::packing;
-use journal::bytes;
 use polygon::limits;
 use questions::answer::Answer;
 
-// Asks for the merge of two lists or for their sum, a buffer being lent for its numbers, writes its bytes and packs the
+// Asks for the merge of two lists, or for their sum, into a buffer of numbers; then writes their bytes and packs the
 // answer.
 pub fn combine(
     merged: bool,
@@ -29,7 +27,10 @@ pub fn combine(
 ) -> u64
     requires { ⌜ length (now shape) ≡ 2 * maxCorners ⌝ }
     ensures { λ r. ⌜
-        Replied (combined merged) (now (a .entry)) f (now (b .entry)) g (now (out .entry)) r (now (out .exit)) ⌝ }
+        (r ≡ packed (reply (asked (combined merged) (on (now (a .entry)) f) (on (now (b .entry)) g)
+        (wordsIn (now (out .entry))))))
+        × (now (out .exit) ≡ bytesAfter (asked (combined merged) (on (now (a .entry)) f) (on (now (b .entry)) g)
+        (wordsIn (now (out .entry)))) (now (out .entry))) ⌝ }
 {
     let n = room(out.len());
     let answer = ask(merged, a, f, b, g, &mut shape[..n]);
@@ -51,10 +52,10 @@ fn ask(merged: bool, a: &[i32], f: u16, b: &[i32], g: u16, shape: &mut [i32]) ->
     }
 }
 
-// For how many numbers of an answer so many bytes have room: a shape has no more than this needs.
+// Returns for how many numbers of an answer the bytes have room, at most as many as a shape may have.
 // Ruled out: room counted in numbers.
 fn room(bytes: usize) -> usize
-    ensures { λ r. ⌜ Room bytes r ⌝ }
+    ensures { λ r. ⌜ (r ≤ 2 * maxCorners) × Room bytes r ⌝ }
 {
     let n = bytes / 4;
     if limits::SHAPE_NUMBERS < n {
@@ -63,7 +64,8 @@ fn room(bytes: usize) -> usize
     n
 }
 
-// Writes the corners that are answered at the front of the output, and packs the answer.
+// Writes the corners that are answered to the front of the output, and packs the answer.
+// Ruled out: half of the answer written.
 fn deliver(answer: Answer, shape: &[i32], out: &mut [u8]) -> u64
     requires { ⌜ Fits (ofAnswer answer) × Deliverable (ofAnswer answer) (length (now shape)) (length (now out)) ⌝ }
     ensures { λ r. ⌜ (r ≡ packed (ofAnswer answer))
@@ -71,32 +73,8 @@ fn deliver(answer: Answer, shape: &[i32], out: &mut [u8]) -> u64
         (take (2 * firstField (ofAnswer answer)) (now (shape .entry))) (now (out .entry))) ⌝ }
 {
     if let Answer::Corners { count, floor } = answer {
-        encode(shape, 2 * count, out);
+        endian::encode(shape, 2 * count, out);
         return packing::of_answer(answer);
     }
     packing::of_answer(answer)
-}
-
-// Writes the first n numbers of a list at the front of the output, four bytes each; all behind them is kept.
-fn encode(list: &[i32], n: usize, out: &mut [u8])
-    requires { ⌜ (n ≤ length (now list)) × (4 * n ≤ length (now out)) ⌝ }
-    ensures { λ r. ⌜ now (out .exit) ≡ overBytes (words (take n (now (list .entry)))) (now (out .entry)) ⌝ }
-{
-    let mut i = 0;
-    while i < n {
-        put(out, 4 * i, list[i]);
-        i += 1;
-    }
-}
-
-// Writes a number at a place of the output, the lowest byte first.
-fn put(out: &mut [u8], p: usize, z: i32)
-    requires { ⌜ 3 + p < length (now out) ⌝ }
-    ensures { λ r. ⌜ now (out .exit) ≡ sets (now (out .entry)) p (word z) ⌝ }
-{
-    let n = bytes::bits(z);
-    out[p] = (n % 256) as u8;
-    out[p + 1] = (n / 256 % 256) as u8;
-    out[p + 2] = (n / 65536 % 256) as u8;
-    out[p + 3] = (n / 16777216) as u8;
 }

@@ -34,7 +34,8 @@ pub fn survey(shape: &[i32]) -> Admission
 
 // Writes a shape's numbers at the front of the output, all behind them being kept, and answers how many corners it has;
 // with its floor; or refuses 6, 7 and 8 in their order, with the output as it was.
-// Ruled out: exact room refused; tail lost.
+// Ruled out: exact room refused; output written before the room is known; output left alone; tail cleared; floor zero
+// in every answer.
 pub fn deliver(shape: &[i32], floor: u16, out: &mut [i32]) -> Answer
     requires paired { ⌜ length (now shape) % 2 ≡ 0 ⌝ }
     ensures { λ r. ⌜

@@ -25,7 +25,7 @@ pub enum Admission {
 
 // Judges a list that is the first or the second shape of a question: refusals 1 to 5 in their order. A shape is told in
 // one pass round its corners; only a list that fails the pass has its edges compared with all corners.
-// Ruled out: positions swapped; everything refused.
+// Ruled out: positions swapped; two for a corner out of range; everything refused.
 pub fn admit(list: &[i32], shape: usize) -> Admission
     ensures { λ r. ⌜ Judged (Valid (now (list .entry))) (shapeRows shape (now (list .entry))) r ⌝ }
 {

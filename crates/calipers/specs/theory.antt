@@ -1,6 +1,6 @@
 -- The theory of the walk, which only proves: where it stands, the places it visits, the corners there.
 pub mod Standing
-pub mod Led
+pub mod CrossOrder
 pub mod Furthest
 pub mod Places
 pub mod PlaceCorners

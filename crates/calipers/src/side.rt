@@ -159,6 +159,7 @@ pub fn is_before(s: Side, t: Side) -> bool
 }
 
 // The corner of the sum at which two sides stand.
+// Ruled out: origin for every sum.
 pub fn here(s: Side, t: Side) -> Point
     requires { ⌜ Small (2 ^ 21) (cornerOf s) × Small (2 ^ 21) (cornerOf t) ⌝ }
     ensures { λ r. ⌜ at r ≡ cornerOf s ⊕ cornerOf t ⌝ }

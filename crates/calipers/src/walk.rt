@@ -28,7 +28,7 @@ pub struct Advance {
 // Goes on from the place at which i edges of the first shape and j of the second are passed, and writes the corners on
 // its way at the front of the buffer: k of them or what remains, whichever is less. Edges of equal direction make one
 // step, so no three corners are in line. A point moves the other shape; a segment's edge is passed twice.
-// Ruled out: parallel corners kept; made up count; everything in the first part.
+// Ruled out: parallel corners kept; made up count; one corner too few; everything in the first part.
 pub fn walk_on(a: &[i32], b: &[i32], i: usize, j: usize, k: usize, buf: &mut [i32]) -> Advance
     requires { ⌜ At (now a) (now b) (state i j false) × (0 < k)
         × (length (points (now a)) + length (points (now b)) ≤ length (points (now buf))) ⌝ }

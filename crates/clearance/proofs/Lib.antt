@@ -1,4 +1,3 @@
 -- Lemmas that function proofs share.
 pub mod Tests
-pub mod Near
 pub mod Looking

@@ -4,7 +4,7 @@
 --     looking-corner, looking-edge     the corner or the edge at hand passes
 --     looking-end                      all are passed, and the first corner is left
 use mathlib.Core.Path.{_≡_, refl, sym, _∙_, ap, ap₂, subst}
-use mathlib.Core.Bool.{Bool, true, false, _&&_, false≢true}
+use mathlib.Core.Bool.{Bool, true, false, and-eq-true-iff}
 use mathlib.Core.Logic.{_⊎_, inl, inr}
 use mathlib.Core.List.{List, [], _∷_}
 use Prim.Native.Nat.{ℕ, zero, suc, _+_, _≤_, _<_, zero-le}
@@ -21,12 +21,12 @@ use Rattle.plane.specs.Point.{Point, origin, points, corner, _⊖_}
 use Rattle.plane.specs.Direction.{value}
 use Rattle.plane.specs.Forms.{NonZero}
 use Rattle.plane.specs.VectorSum.{vectorSum}
-use Rattle.plane.specs.theory.forms.Vector.{value-origin}
+use Rattle.plane.specs.Cut.{quarter}
+use Rattle.plane.specs.theory.forms.Vector.{value-origin, square-positive}
 use Rattle.calipers.specs.Walk.{Walk, here, begun, advanced, stepped, At}
 use Rattle.calipers.specs.theory.Steps.{at-stepped}
 use Rattle.separation.specs.theory.Stops.{on-below, over-end, corner-here, stop-here}
-use Rattle.separation.specs.theory.Sector.{square-positive}
-use Rattle.clearance.specs.Stop.{rests, crosses, leftward, behind, after, Stopped, at-corner, at-edge, at-first}
+use Rattle.clearance.specs.Stop.{rests, crosses, behind, after, Stopped, at-corner, at-edge, at-first}
 
 -- the last of k + 1 positions, or one before it
 last-or : (k j : ℕ) → j < k + 1 → (j ≡ k) ⊎ (j < k)
@@ -49,13 +49,9 @@ pub record Looking (a b : List ℤ) (walk : Walk) (back : Point) : Type 0 where
 -- the origin is nearer than a corner that is not there
 origin-nearer : (w d : Point) → NonZero w → rests origin w d ≡ true → ⊥
 unfolding rests
-origin-nearer w d some h = go (leZ (value w w) (value w origin)) refl h
-  where
-    go : (b : Bool) → leZ (value w w) (value w origin) ≡ b → (b && leZ (value w w) (value w d)) ≡ true → ⊥
-    go true e h =
-        lia (value w w ∷ value w origin ∷ []) (square-positive w some & value-origin w & leZ-true {x = value w w} {y = value w origin} e)
-        (search linear depth 40) (omega arith)
-    go false e h = false≢true h
+origin-nearer w d some h = let near = and-eq-true-iff (leZ (value w w) (value w origin)) _ .0 h .0 in
+    lia (value w w ∷ value w origin ∷ []) (square-positive w some & value-origin w & leZ-true {x = value w w} {y = value w origin} near)
+    (search linear depth 40) (omega arith)
 
 stopped-corner : (D : List Point) (k : ℕ) → k < length D → NonZero (corner D 0) → rests (behind D k) (corner D k) (after D k) ≡ true
     → Stopped D (corner D k)
@@ -104,8 +100,8 @@ module _ {a b : List ℤ} where
       pub looking-corner : NonZero (corner D 0) → rests back w d ≡ true → Stopped D w
       looking-corner some t = subst (Stopped D) (sym w-corner) (stopped-corner D (p .count) below some (sym rests-here ∙ t))
 
-      pub looking-edge : crosses w d ≡ true → Stopped D (leftward (d ⊖ w))
-      looking-edge t = at-edge (p .count) below (sym crosses-here ∙ t) (ap₂ (λ x y. leftward (x ⊖ y)) d-corner w-corner)
+      pub looking-edge : crosses w d ≡ true → Stopped D (quarter (d ⊖ w))
+      looking-edge t = at-edge (p .count) below (sym crosses-here ∙ t) (ap₂ (λ x y. quarter (x ⊖ y)) d-corner w-corner)
 
       module _ (r : rests back w d ≡ false) (c : crosses w d ≡ false) where
         corners-fail : (k : ℕ) → suc k < p .count + 1 → rests (corner D k) (corner D (suc k)) (after D (suc k)) ≡ false

@@ -5,12 +5,12 @@
 --     Measurable A B c         the positions of candidate c are in the lists, and what it is divided by is not 0
 use mathlib.Core.Path.{_≡_}
 use mathlib.Core.List.{List, [], _∷_}
-use Prim.Native.Nat.{_<_}
+use Prim.Native.Nat.{_*_, _<_}
 use lib.IntN.{ℤ, pos, natAbs}
 use lib.ListN.{length}
 use lib.Signed.{_<ℤ_}
 use Rattle.plane.specs.Point.{Point, corner}
-use Rattle.plane.specs.Measure.{squared, edgeSquared, widthRounded}
+use Rattle.plane.specs.Measure.{squared, edgeSquared, rootBelow}
 use Rattle.plane.specs.Clearance.{Candidate, corners, onSecond, onFirst}
 use Rattle.clearance.specs.declared.reach.Pair.{Pair}
 use Rattle.clearance.specs.declared.reach.Pair.the-variants as Pair
@@ -31,7 +31,7 @@ valuesOf (Distance.OnFirst c e t q w) = pos 3 ∷ pos c ∷ pos e ∷ pos t ∷ 
 pub record HasSize (t q : ℤ) (r : Height) : Type 0 where
   pub turn-is : r .turn ≡ natAbs t
   pub squared-is : pos (r .squared) ≡ q
-  pub rounded-is : r .rounded ≡ widthRounded (natAbs t) (natAbs q)
+  pub rounded-is : r .rounded ≡ rootBelow (natAbs t * natAbs t) (natAbs q)
 
 abbrev pub Measurable : List Point → List Point → Candidate → Type 0
 Measurable A B (corners i j) = (i < length A) × (j < length B) × (pos 0 <ℤ squared (corner A i) (corner B j))

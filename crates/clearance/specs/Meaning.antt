@@ -26,10 +26,11 @@ use Rattle.clearance.specs.Order.{AtOrAfter, Listed, FirstOfLeast}
 use Rattle.clearance.specs.theory.Candidates.{listed, unlisted}
 use Rattle.clearance.specs.theory.Nearest.{nearest-least, nearest-attained, nearest-is-listed, nearest-is-whole, nearest-before-ties}
 use Rattle.clearance.specs.theory.Nearest.{nearest-sym, common-not-apart}
-use Rattle.clearance.specs.theory.Only.{candidate-whole, nearest-first-least, first-least-nearest}
+use Rattle.clearance.specs.theory.NearestUnique.{nearest-first-least, first-least-nearest}
 use Rattle.clearance.specs.theory.Common.{not-apart-common}
 use Rattle.clearance.specs.theory.Rounding.{nearest-rounded}
 use Rattle.clearance.specs.theory.Replies.{nearest-reply, zero-reply}
+use Rattle.clearance.specs.theory.First.{candidate-whole}
 
 module _ (A B : List Point) (s : IsShape A) (t : IsShape B) (h : apart A B ≡ true) where
   -- "the least distance between any point of one shape and any point of the other": none are nearer than the nearest candidate's fraction

@@ -12,7 +12,7 @@ pub mod Stop
 pub mod Means
 pub mod Attained
 pub mod Nearest
-pub mod Only
+pub mod NearestUnique
 pub mod Common
 pub mod Ends
 pub mod Walked

@@ -4,10 +4,11 @@ ghost use mathlib.Core.Path.{_≡_};
 ghost use Prim.Native.Nat.{_^_};
 ghost use Rattle.plane.specs.Point.{points, corner, _⊖_};
 ghost use Rattle.plane.specs.Forms.{NonZero};
+ghost use Rattle.plane.specs.Cut.{quarter};
 ghost use Rattle.plane.specs.VectorSum.{vectorSum};
 ghost use Rattle.polygon.specs.Point.{at, Small};
 ghost use Rattle.calipers.specs.Walk.{At, begun};
-ghost use Rattle.clearance.specs.Stop.{footInside, leftward, Stopped};
+ghost use Rattle.clearance.specs.Stop.{footInside, Stopped};
 ghost use Rattle.clearance.specs.Stop.{rests as Stop·rests, crosses as Stop·crosses};
 use calipers::side;
 use polygon::point;
@@ -82,7 +83,7 @@ fn foot_inside(w: Point, d: Point) -> bool
 // The step from w to d, turned left by a quarter.
 fn across(w: Point, d: Point) -> Point
     requires { ⌜ Small (2 ^ 21) (at w) × Small (2 ^ 21) (at d) ⌝ }
-    ensures { λ r. ⌜ at r ≡ leftward (at d ⊖ at w) ⌝ }
+    ensures { λ r. ⌜ at r ≡ quarter (at d ⊖ at w) ⌝ }
 {
     Point {
         x: w.y - d.y,

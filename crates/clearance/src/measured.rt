@@ -94,7 +94,7 @@ fn between(a: &[i32], i: usize, b: &[i32], j: usize) -> Distance
         first: i,
         second: j,
         squared,
-        rounded: words::root_of_fraction(squared, squared),
+        rounded: wide::root_of_fraction(squared, squared),
     }
 }
 
@@ -113,7 +113,7 @@ fn across(a: &[i32], c: usize, b: &[i32], e: usize) -> Height
     Height {
         turn,
         squared,
-        rounded: words::root_of_fraction(turn, squared),
+        rounded: wide::root_of_fraction(turn, squared),
     }
 }
 

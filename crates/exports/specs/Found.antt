@@ -5,18 +5,18 @@ use mathlib.Core.List.{List, [], _∷_}
 use mathlib.Core.Path.{_≡_}
 use lib.IntN.{ℤ, pos}
 use Rattle.plane.specs.Floor.{Floored}
-use Rattle.witness.specs.Found.{FoundBetween}
-use Rattle.questions.specs.declared.answer.Found.{Found}
-use Rattle.questions.specs.declared.answer.Found.the-variants as Found
-use Rattle.questions.specs.Answer.{ofRefusal, ofFound}
+use Rattle.separator.specs.Separator.{SeparatorBetween}
+use Rattle.questions.specs.declared.answer.Separator.{Separator}
+use Rattle.questions.specs.declared.answer.Separator.the-variants as Separator
+use Rattle.questions.specs.Answer.{ofRefusal, ofSeparator}
 use Rattle.exports.specs.Crossing.{crossed}
 
-abbrev pub crossedFound : Found → List ℤ
-crossedFound (Found.Direction u v floor) = pos 0 ∷ pos 0 ∷ pos 1 ∷ pos 0 ∷ u ∷ v ∷ pos floor ∷ []
-crossedFound (Found.Nothing floor) = pos 0 ∷ pos 0 ∷ pos 0 ∷ pos 0 ∷ pos 0 ∷ pos 0 ∷ pos floor ∷ []
-crossedFound (Found.No r) = crossed 5 (ofRefusal r)
+abbrev pub crossedFound : Separator → List ℤ
+crossedFound (Separator.Direction u v floor) = pos 0 ∷ pos 0 ∷ pos 1 ∷ pos 0 ∷ u ∷ v ∷ pos floor ∷ []
+crossedFound (Separator.Nothing floor) = pos 0 ∷ pos 0 ∷ pos 0 ∷ pos 0 ∷ pos 0 ∷ pos 0 ∷ pos floor ∷ []
+crossedFound (Separator.No r) = crossed 5 (ofRefusal r)
 
 pub record FoundCrossed (a b : Floored) (ns : List ℤ) : Type 0 where
-  pub answer : Found
-  pub answer-is : FoundBetween a b (ofFound answer)
+  pub answer : Separator
+  pub answer-is : SeparatorBetween a b (ofSeparator answer)
   pub numbers-are : ns ≡ crossedFound answer

@@ -17,7 +17,7 @@ ghost use Rattle.exports.specs.Crossing.{crossed};
 ghost use Rattle.exports.specs.Found.{FoundCrossed};
 ghost use Rattle.exports.specs.Numbers.{numbers, signedNumbers, lineNumbers, nearestNumbers, directionNumbers};
 use questions::answer::Furthest;
-use questions::separating;
+use questions::separators;
 use questions::walk;
 use questions::walk::Walk;
 use reply::Direction;
@@ -195,7 +195,7 @@ pub extern "C" fn cocklesway_offer(a: &[i32], f: u16, b: &[i32], g: u16, u: i32,
     ensures { λ r. ⌜ numbers r ≡ crossed 6
         (Question·reply (askOffer (on (now (a .entry)) f) (on (now (b .entry)) g) (point u v))) ⌝ }
 {
-    reply::of_offer(separating::offer(a, f, b, g, u, v))
+    reply::of_offer(separators::offer(a, f, b, g, u, v))
 }
 
 // A direction that is accepted, or that there is none.
@@ -203,7 +203,7 @@ pub extern "C" fn cocklesway_offer(a: &[i32], f: u16, b: &[i32], g: u16, u: i32,
 pub extern "C" fn cocklesway_find(a: &[i32], f: u16, b: &[i32], g: u16) -> Direction
     ensures { λ r. ⌜ FoundCrossed (on (now (a .entry)) f) (on (now (b .entry)) g) (directionNumbers r) ⌝ }
 {
-    reply::of_found(separating::find(a, f, b, g))
+    reply::of_found(separators::find(a, f, b, g))
 }
 
 // Where two shapes are nearest, and how near.

@@ -12,13 +12,13 @@ use questions::answer::Addition;
 use questions::answer::Answer;
 use questions::answer::Begun;
 use questions::answer::Clearance;
-use questions::answer::Found;
 use questions::answer::Inside;
 use questions::answer::Length;
 use questions::answer::Offer;
 use questions::answer::Part;
 use questions::answer::Refusal;
 use questions::answer::Relation;
+use questions::answer::Separator;
 use questions::answer::Tangents;
 use questions::answer::Width;
 
@@ -314,11 +314,11 @@ fn direction_refusal(refusal: Refusal) -> Direction
 }
 
 // A direction that is found, or none.
-pub fn of_found(answer: Found) -> Direction
+pub fn of_found(answer: Separator) -> Direction
     ensures { λ r. ⌜ directionNumbers r ≡ crossedFound answer ⌝ }
 {
     match answer {
-        Found::Direction { u, v, floor } => Direction {
+        Separator::Direction { u, v, floor } => Direction {
             refusal: 0,
             shape: 0,
             first: 1,
@@ -327,7 +327,7 @@ pub fn of_found(answer: Found) -> Direction
             v,
             floor,
         },
-        Found::Nothing { floor } => Direction {
+        Separator::Nothing { floor } => Direction {
             refusal: 0,
             shape: 0,
             first: 0,
@@ -336,7 +336,7 @@ pub fn of_found(answer: Found) -> Direction
             v: 0,
             floor,
         },
-        Found::No(refusal) => direction_refusal(refusal),
+        Separator::No(refusal) => direction_refusal(refusal),
     }
 }
 

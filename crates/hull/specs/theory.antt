@@ -5,7 +5,7 @@ pub mod Least
 pub mod Run
 pub mod Unite
 pub mod Stored
-pub mod Pour
+pub mod CornersWritten
 pub mod Key
 pub mod Stack
 pub mod Reading
@@ -14,7 +14,7 @@ pub mod Trimmed
 pub mod Chains
 pub mod Counted
 pub mod Spread
-pub mod Same
+pub mod OnePoint
 pub mod Written
 pub mod Halves
 pub mod Route

@@ -1,18 +1,19 @@
 -- Bounds on the size of an integer.
 --     Within n x      x is from -n to n
 -- `beyond-size`: a bound as two tests. `within-le`, `within-ge` read it as two orders, `within-of` makes it of them; `within-widen` takes
--- a larger bound. `natAbs-*`: the size of a product.
+-- a larger bound. `natAbs-*`: the size of a product; `size-square`: a number and its size have one square. `size-is`: a number that is not
+-- below 0 is its size; `positive-size`: above 0 that is not 0.
 use mathlib.Core.Path.{_≡_, refl, sym, subst}
 use mathlib.Core.Bool.{Bool, true, false, _||_}
 use mathlib.Core.Logic.{_⊎_, inl, inr}
-use Prim.Native.Nat.{ℕ, zero, suc, _+_, _*_, _≤_}
+use Prim.Native.Nat.{ℕ, zero, suc, _+_, _*_, _≤_, _<_}
 use native.Mathlib.Omega.{arith}
 use native.Mathlib.Nat.{mul-le-mul, le-trans}
-use borrow.Author.Tests.{lt-ltb, le-ltb}
+use borrow.Author.Tests.{lt-ltb, le-ltb, ltb-true}
 use lib.Dec.{ltb}
 use lib.IntN.{ℤ, pos, negsuc, negℤ, natAbs, _+ℤ_, _*ℤ_}
 use lib.Signed.{_≤ℤ_, _<ℤ_, ltZ}
-use Rattle.integer.specs.Order.{ltZ-true, ltZ-false}
+use Rattle.integer.specs.Order.{ltZ-true, ltZ-false, lt-ltZ}
 use Rattle.integer.specs.Parts.{above, below, le-parts, parts-le, lt-parts, differs-own, differs-add, differs-neg}
 
 pub record Within (n : ℕ) (x : ℤ) : Type 0 where
@@ -58,6 +59,24 @@ natAbs-* (pos a) (pos b) = refl
 natAbs-* (pos a) (negsuc b) = neg-size (a * suc b)
 natAbs-* (negsuc a) (pos b) = neg-size (suc a * b)
 natAbs-* (negsuc a) (negsuc b) = refl
+
+pub size-square : (z : ℤ) → pos (natAbs z) *ℤ pos (natAbs z) ≡ z *ℤ z
+size-square (pos n) = refl
+size-square (negsuc n) = refl
+
+pub size-is : {z : ℤ} → pos 0 ≤ℤ z → pos (natAbs z) ≡ z
+size-is {z} h = go z h
+  where
+    go : (z : ℤ) → pos 0 ≤ℤ z → pos (natAbs z) ≡ z
+    go (pos n) h = refl
+    go (negsuc n) h = absurd (h .le)
+
+pub positive-size : {z : ℤ} → pos 0 <ℤ z → 0 < natAbs z
+positive-size {z} h = go z h
+  where
+    go : (z : ℤ) → pos 0 <ℤ z → 0 < natAbs z
+    go (pos n) h = ltb-true 0 n (lt-ltZ h)
+    go (negsuc n) h = absurd (h .lt)
 
 pub within-mul : {m n : ℕ} {x y : ℤ} → Within m x → Within n y → Within (m * n) (x *ℤ y)
 within-mul {m} {n} {x} {y} v w = record { size = subst (λ k. k ≤ m * n) (sym (natAbs-* x y)) (mul-le-mul (v .size) (w .size)) }

@@ -1,6 +1,8 @@
 -- The order of ℤ beyond what linear arithmetic knows: products of facts, proof by the contrary, tests read as facts.
 --     _<×<_ _<×≤_ _≤×<_ _≤×≤_     the product of two differences of known sign, as a hint to `lia`
 --     _≡×_                        an equation times a number, likewise
+--     square-nonneg, square-zero  a square is not below 0; only 0 has a square that is not above it
+--     cancel-le, cancel           a positive factor may be dropped; `zero-factor`: from a product that is 0
 --     contra< contra≤             a strict (weak) order, from the absurdity of the contrary
 --     lt-or-le, compared          cases
 --     weaken, le-of-eq, le-trans, le-antisym      weak orders by name, where no atom need be written
@@ -111,6 +113,20 @@ e ≡× z = ap (λ x. x *ℤ z) e
 pub square-nonneg : (x : ℤ) → pos 0 ≤ℤ (x *ℤ x)
 square-nonneg (pos a) = record { le = le→leb 0 (a * a) zero-le }
 square-nonneg (negsuc a) = record { le = le→leb 0 (suc a * suc a) zero-le }
+
+pub square-zero : {x : ℤ} → (x *ℤ x) ≤ℤ pos 0 → x ≡ pos 0
+square-zero {x} h = le-antisym
+    (contra≤ (λ g. lia (x ∷ []) (h & g <×< g) (search linear depth 40) (omega arith)))
+    (contra≤ (λ g. lia (x ∷ []) (h & g <×< g) (search linear depth 40) (omega arith)))
+
+pub cancel-le : {k x y : ℤ} → pos 0 <ℤ k → (k *ℤ x) ≤ℤ (k *ℤ y) → x ≤ℤ y
+cancel-le {k} {x} {y} some h = contra≤ (λ g. lia (k ∷ x ∷ y ∷ []) (h & some <×< g) (search linear depth 40) (omega arith))
+
+pub cancel : {k x y : ℤ} → pos 0 <ℤ k → k *ℤ x ≡ k *ℤ y → x ≡ y
+cancel {k} {x} {y} some e = le-antisym (cancel-le some (le-of-eq e)) (cancel-le some (le-of-eq (sym e)))
+
+pub zero-factor : {t z : ℤ} → pos 0 <ℤ t → t *ℤ z ≡ pos 0 → z ≡ pos 0
+zero-factor {t} {z} h e = cancel {k = t} {y = pos 0} h (lia (t ∷ z ∷ []) e (search linear depth 40) (omega arith))
 
 -- ---- tests
 

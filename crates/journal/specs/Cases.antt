@@ -11,7 +11,7 @@ use Rattle.plane.specs.Reply.{Reply, answered, refused}
 use Rattle.plane.specs.Refusal.{badCount, tooMany, outside, someOutside, equalPair, leftBroken, ruleBroken, badStart}
 use Rattle.plane.specs.Output.{Written, noRoom, overwritten}
 use Rattle.plane.specs.Question.{reply, output, written}
-use Rattle.journal.specs.Bytes.{pair, pairAt, word, wordAt, words, wordsAt}
+use Rattle.endian.specs.Bytes.{pair, pairAt, word, wordAt, words, wordsAt}
 use Rattle.journal.specs.Format.{fixedBytes, recordedAs, recorded, recordedPlain, size, whole, records, kind, name, floor, list}
 use Rattle.journal.specs.Format.{wrongLength, otherKind, bad}
 use Rattle.journal.specs.Reading.{askRead}

@@ -17,7 +17,7 @@ use lib.IntN.{ℤ}
 use Rattle.plane.specs.Reply.{Reply, answered, refused}
 use Rattle.plane.specs.Floor.{Floored, on}
 use Rattle.plane.specs.Question.{reply, askJudge}
-use Rattle.journal.specs.Bytes.{pair, pairAt, words, wordsAt}
+use Rattle.endian.specs.Bytes.{pair, pairAt, words, wordsAt}
 
 abbrev pub lastByte : ℕ
 lastByte = 90

@@ -13,7 +13,6 @@ use lib.ListN.{replicate}
 use lib.IntN.{ℤ, pos, negsuc}
 use Rattle.plane.specs.Reply.{Reply, answered, refused}
 use Rattle.plane.specs.Floor.{Floored, on}
-use Rattle.journal.specs.Format.{}
 use Rattle.journal.specs.Reading.{nothing}
 use Rattle.journal.specs.Adding.{Added, added}
 

@@ -1,5 +1,4 @@
--- A log of shapes (the paper's floor book): its bytes, records, reading, adding, and histories; then what they mean, and the theory.
-pub mod Bytes
+-- A log of shapes (the paper's floor book): its records, reading, adding, and histories; then what they mean, and the theory.
 pub mod Format
 pub mod Reading
 pub mod Adding

@@ -10,7 +10,7 @@ use mathlib.Core.List.{List}
 use Prim.Native.Nat.{ℕ, _+_, _*_, _-_, _/_, _%_, _≤_}
 use lib.Dec.{eqb}
 use lib.ListN.{length, drop}
-use Rattle.journal.specs.Bytes.{wordsAt}
+use Rattle.endian.specs.Bytes.{wordsAt}
 use Rattle.journal.specs.Format.{fixedBytes, records, size, kind, name, floor}
 use Rattle.journal.specs.Reading.{damaged, badPlace, held, latest}
 use Rattle.journal.specs.Adding.{end}

@@ -1,13 +1,13 @@
 -- What the meaning stands on, in reading order:
---     Bytes, Records          numbers as bytes; a log is its records and a torn rest
+--     Records                 a log is its records and a torn rest
 --     Kind, Read              the kind of a record; what a record says
 --     Reading                 reading, by the records alone
 --     Parts, Stores           what stands behind the records after each store of an addition
 --     Added, History          one addition; any history of them
 -- Then what the code's loops stand on:
---     Decode, Survey, Latest  numbers read one by one; a pass that judges records, and one that keeps the latest of a name
+--     Judging                 the numbers of a record are a shape or not
+--     Survey, Latest          a pass that judges records, and one that keeps the latest of a name
 --     Storing                 stores made as far as they are allowed
-pub mod Bytes
 pub mod Records
 pub mod Kind
 pub mod Read
@@ -16,7 +16,7 @@ pub mod Parts
 pub mod Stores
 pub mod Added
 pub mod History
-pub mod Decode
+pub mod Judging
 pub mod Survey
 pub mod Latest
 pub mod Storing

@@ -3,10 +3,8 @@ ghost use mathlib.Core.Path.{_≡_};
 ghost use Prim.Native.Nat.{_+_, _*_, _%_, _≤_};
 ghost use lib.ListN.{length};
 ghost use Rattle.plane.specs.Limits.{maxCorners};
-ghost use Rattle.plane.specs.Output.{overwritten};
-ghost use Rattle.journal.specs.Bytes.{wordsAt};
+ghost use Rattle.endian.specs.Bytes.{wordsAt};
 ghost use Rattle.journal.specs.Format.{judged, isAnswer};
-use crate::bytes;
 use calipers::convex;
 use polygon::limits;
 
@@ -19,18 +17,6 @@ pub fn is_shape_at(log: &[u8], p: usize, n: usize, buffer: &mut [i32]) -> bool
     if limits::exceeds_corners(n / 2) {
         return false;
     }
-    decode(log, p, n, buffer);
+    endian::decode(log, p, n, buffer);
     convex::passes(&buffer[..n])
-}
-
-// Reads n numbers from a place of the log on to the front of an output; all behind them is kept.
-pub fn decode(log: &[u8], p: usize, n: usize, out: &mut [i32])
-    requires { ⌜ (p + 4 * n ≤ length (now log)) × (n ≤ length (now out)) ⌝ }
-    ensures { λ r. ⌜ now (out .exit) ≡ overwritten (wordsAt n (now (log .entry)) p) (now (out .entry)) ⌝ }
-{
-    let mut i = 0;
-    while i < n {
-        out[i] = bytes::word_at(log, p + 4 * i);
-        i += 1;
-    }
 }

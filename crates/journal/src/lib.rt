@@ -1,7 +1,6 @@
 // A log of shapes in a lent run of bytes (document 02, W5 and W11: the floor book). Inner functions; callers ask the
 // crate `questions`.
-pub mod bytes;
-pub mod corners;
+mod corners;
 pub mod latest;
 mod records;
 pub mod storing;

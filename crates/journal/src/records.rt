@@ -7,7 +7,6 @@ ghost use Rattle.plane.specs.Limits.{maxCorners};
 ghost use Rattle.journal.specs.Format.{size as Format·size, kind as Format·kind, floor};
 ghost use Rattle.journal.specs.Format.{whole, bad, fixedBytes, otherKind};
 ghost use Rattle.journal.specs.Survey.{Legible};
-use crate::bytes;
 use crate::corners;
 
 // The kind of a record that says its floor: the one that is written.
@@ -34,7 +33,7 @@ pub fn whole_at(log: &[u8], p: usize) -> bool
     if room < 2 {
         return false;
     }
-    let size = bytes::pair_at(log, p);
+    let size = endian::pair_at(log, p);
     if size == 0 {
         return false;
     }
@@ -51,11 +50,11 @@ pub fn bad_at(log: &[u8], p: usize, buffer: &mut [i32]) -> bool
     ensures { λ r. ⌜ (r ≡ bad (take (2 + Format·size (drop p (now (log .entry)))) (drop p (now (log .entry)))))
         × (length (now (buffer .exit)) ≡ 2 * maxCorners) ⌝ }
 {
-    let size = bytes::pair_at(log, p);
+    let size = endian::pair_at(log, p);
     if size < PLAIN_BYTES {
         return true;
     }
-    let kind = bytes::pair_at(log, p + 2);
+    let kind = endian::pair_at(log, p + 2);
     if is_other(kind) {
         return true;
     }
@@ -98,5 +97,5 @@ pub fn floor_at(log: &[u8], p: usize, fixed: usize) -> u16
     if fixed < FLOORED_BYTES {
         return 0;
     }
-    bytes::pair_at(log, p + 6) as u16
+    endian::pair_at(log, p + 6) as u16
 }

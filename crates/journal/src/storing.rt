@@ -4,11 +4,10 @@ ghost use mathlib.Core.List.{[], _∷_};
 ghost use Prim.Native.Nat.{ℕ, _+_, _*_, _-_, _≤_, _<_};
 ghost use lib.Dec.{leb, ltb};
 ghost use lib.ListN.{length, take, drop, getD};
-ghost use Rattle.journal.specs.Bytes.{pair as Bytes·pair, word as Bytes·word, words as Bytes·words};
+ghost use Rattle.endian.specs.Bytes.{pair as Bytes·pair, word as Bytes·word, words as Bytes·words};
 ghost use Rattle.journal.specs.Format.{recorded};
 ghost use Rattle.journal.specs.Adding.{clears, writes, stores, made, end as Adding·end};
 ghost use Rattle.journal.specs.Allowance.{Ran, cleared};
-use crate::bytes;
 use crate::records;
 
 // Whether a record of the list, whatever its name and floor, has too little room from a place on: two bytes for the
@@ -101,7 +100,7 @@ fn word(log: &mut [u8], p: usize, z: i32, allowed: usize) -> usize
     requires { ⌜ 3 + p < length (now log) ⌝ }
     ensures { λ r. ⌜ Ran allowed (writes p (Bytes·word z)) (now (log .entry)) r (now (log .exit)) ⌝ }
 {
-    let n = bytes::bits(z) as usize;
+    let n = endian::bits(z) as usize;
     let left = pair(log, p, n % 65536, allowed);
     pair(log, p + 2, n / 65536, left)
 }

@@ -4,7 +4,6 @@ ghost use Prim.Native.Nat.{_*_};
 ghost use lib.ListN.{length};
 ghost use Rattle.plane.specs.Limits.{maxCorners};
 ghost use Rattle.journal.specs.Survey.{surveyed};
-use crate::bytes;
 use crate::records;
 use polygon::limits;
 
@@ -32,7 +31,7 @@ fn pass(log: &[u8], buffer: &mut [i32]) -> Surveyed
         if records::bad_at(log, p, buffer) {
             return Surveyed::Bad(p);
         }
-        p += 2 + bytes::pair_at(log, p);
+        p += 2 + endian::pair_at(log, p);
     }
     Surveyed::Ends(p)
 }

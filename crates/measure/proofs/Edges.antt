@@ -6,7 +6,7 @@
 --     chosen-best                   the better of two is the best of one edge more
 use mathlib.Core.Path.{_≡_, refl, sym, _∙_, ap, ap₂, subst}
 use mathlib.Core.Bool.{Bool, true, false}
-use mathlib.Core.List.{List, [], _∷_}
+use mathlib.Core.List.{List}
 use mathlib.Core.Logic.{_⊎_, inl, inr}
 use Prim.Native.Nat.{ℕ, _+_, _≤_, _<_}
 use native.Mathlib.Omega.{arith}
@@ -15,7 +15,6 @@ use lib.Dec.{ltb}
 use lib.IntN.{ℤ, pos}
 use lib.ListN.{length, List·getD-eq-default}
 use lib.Signed.{_≤ℤ_, yes-nonNeg, pos-natAbs}
-use Rattle.integer.specs.Ring.{ring, reify}
 use Rattle.integer.specs.Order.{le-of-eq}
 use Rattle.plane.specs.Point.{Point, points, corner, origin, _⊖_}
 use Rattle.plane.specs.Turn.{cross, turn-cross}
@@ -25,13 +24,14 @@ use Rattle.plane.specs.Measure.{edgeTurn, height}
 use Rattle.plane.specs.Forms.{edges}
 use Rattle.plane.specs.Cycle.{round, cornerRound}
 use Rattle.plane.specs.theory.sum.Positions.{edge-at, edges-at-most, edge-turn, round-inner, round-within}
+use Rattle.plane.specs.theory.forms.Vector.{value-nonneg, cross-origin}
 use Rattle.polygon.specs.Point.{at}
 use Rattle.calipers.specs.declared.side.Side.{Side}
 use Rattle.calipers.specs.Side.{cornerOf, nextOf, Carried}
 use Rattle.measure.specs.declared.narrowest.Across.{Across}
 use Rattle.measure.specs.Comparison.{Measured, Width}
 use Rattle.measure.specs.Scan.{measuredAt, Chosen, stays, gives-way}
-use Rattle.measure.specs.theory.Height.{value-nonneg, edgeSquared-value}
+use Rattle.measure.specs.theory.Height.{edgeSquared-value}
 use Rattle.measure.specs.theory.Narrowest.{More}
 use Rattle.measure.specs.theory.WidthScan.{width-keep, width-replace}
 
@@ -47,10 +47,6 @@ abbrev pub MeasuredAt : List Point → Across → Type 0
 MeasuredAt A b = Measured A (b .edge) (b .corner) (b .turn) (b .squared)
 
 -- ---- what is measured
-
-cross-origin : (v : Point) → cross origin v ≡ pos 0
-unfolding cross
-cross-origin v = ring (v .x ∷ v .y ∷ []) (search reify depth 40) tt
 
 module _ {l : List ℤ} {s t : Side} (shape : IsShape (points l)) (a : Carried l s) (b : Carried l t) where
   abbrev A : List Point
@@ -74,7 +70,7 @@ module _ {l : List ℤ} {s t : Side} (shape : IsShape (points l)) (a : Carried l
       go true e = let h = ltb-true (s .at) (length (edges A)) e in
           rw (turns h) (edge-turn A shape (s .at) (round (length A) (t .at)) (omega (arith, edges-at-most A)) other-in)
       go false e = le-of-eq (sym (ap (λ (v : Point). cross v (cornerOf t ⊖ cornerOf s))
-          (a .edge-is ∙ List·getD-eq-default (edges A) origin (ltb-false (s .at) (length (edges A)) e)) ∙ cross-origin _))
+          (a .edge-is ∙ List·getD-eq-default (edges A) origin (ltb-false (s .at) (length (edges A)) e)) ∙ cross-origin _ .0))
 
   pub measured-at : s .at < length (edges A) → edgeTurn A (s .at) (round (length A) (t .at)) ≡ height A (s .at)
       → MeasuredAt A (measuredAt s t)

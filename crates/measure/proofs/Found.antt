@@ -6,7 +6,7 @@
 use mathlib.Core.Path.{_≡_, sym, _∙_, ap, ap₂}
 use mathlib.Core.Bool.{true, false}
 use mathlib.Core.List.{List}
-use Prim.Native.Nat.{ℕ, zero, suc, _+_, _≤_, _<_}
+use Prim.Native.Nat.{ℕ, zero, suc, _+_, _*_, _≤_, _<_}
 use native.Mathlib.Omega.{arith}
 use borrow.Author.Tests.{ltb-true}
 use lib.IntN.{ℤ, pos, natAbs}
@@ -17,8 +17,8 @@ use Rattle.plane.specs.Point.{Point, points, corner}
 use Rattle.plane.specs.Refusal.{Valid}
 use Rattle.plane.specs.Turn.{turn}
 use Rattle.plane.specs.Cycle.{round}
-use Rattle.plane.specs.Measure.{edgeTurn, height, edgeSquared, widthEdge, widthRounded}
-use Rattle.words.specs.Root.{RoundedRoot}
+use Rattle.plane.specs.Measure.{edgeTurn, height, edgeSquared, widthEdge, rootBelow}
+use Rattle.wide.specs.Root.{RoundedRoot}
 use Rattle.measure.specs.declared.narrowest.Across.{Across}
 use Rattle.measure.specs.Answer.{IsWidth}
 use Rattle.measure.specs.Comparison.{Facing, Measured}
@@ -90,6 +90,6 @@ module _ (l : List ℤ) (v : Valid l) (three : 2 < length (points l)) (r : Acros
         corner-is = sym (facing-width (found .0) facing);
         turn-is = sym turns;
         squared-is = sym long;
-        rounded-is = sym (ap₂ (λ (t q : ℤ). widthRounded (natAbs t) (natAbs q)) turns long
-            ∙ rounded-unique (r .turn) (r .squared) some-squared w (root .reached) (root .next-above));
+        rounded-is = sym (ap₂ (λ (t q : ℤ). rootBelow (natAbs t * natAbs t) (natAbs q)) turns long
+            ∙ rounded-unique (r .turn * r .turn) (r .squared) some-squared w (root .reached) (root .next-above));
       }

@@ -3,9 +3,10 @@
 --     IsWidth ps r     its width: edge, corner, t, q and w
 use mathlib.Core.Path.{_≡_}
 use mathlib.Core.List.{List}
+use Prim.Native.Nat.{_*_}
 use lib.IntN.{pos, natAbs}
 use Rattle.plane.specs.Point.{Point}
-use Rattle.plane.specs.Measure.{lengthSquared, lengthFrom, lengthTo, height, edgeSquared, widthEdge, widthCorner, widthRounded}
+use Rattle.plane.specs.Measure.{lengthSquared, lengthFrom, lengthTo, height, edgeSquared, widthEdge, widthCorner, rootBelow}
 use Rattle.measure.specs.declared.Length.{Length}
 use Rattle.measure.specs.declared.Width.{Width}
 
@@ -19,4 +20,4 @@ pub record IsWidth (ps : List Point) (r : Width) : Type 0 where
   pub corner-is : r .corner ≡ widthCorner ps
   pub turn-is : pos (r .turn) ≡ height ps (widthEdge ps)
   pub squared-is : pos (r .squared) ≡ edgeSquared ps (widthEdge ps)
-  pub rounded-is : r .rounded ≡ widthRounded (natAbs (height ps (widthEdge ps))) (natAbs (edgeSquared ps (widthEdge ps)))
+  pub rounded-is : let t = natAbs (height ps (widthEdge ps)) in r .rounded ≡ rootBelow (t * t) (natAbs (edgeSquared ps (widthEdge ps)))

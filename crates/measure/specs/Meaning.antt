@@ -10,10 +10,11 @@ use native.Mathlib.Omega.{arith}
 use lib.IntN.{ℤ, pos, natAbs, _*ℤ_}
 use lib.ListN.{length}
 use lib.Signed.{_≤ℤ_, _<ℤ_}
+use Rattle.integer.specs.Bound.{positive-size}
 use Rattle.plane.specs.Point.{Point, corner}
 use Rattle.plane.specs.Shape.{IsShape}
 use Rattle.plane.specs.Measure.{squared, lengthSquared, lengthFrom, lengthTo, edgeTurn, height, edgeSquared, widthEdge, widthCorner}
-use Rattle.plane.specs.Measure.{widthRounded}
+use Rattle.plane.specs.Measure.{rootBelow}
 use Rattle.plane.specs.Reply.{answered, refused}
 use Rattle.plane.specs.Refusal.{Valid}
 use Rattle.plane.specs.Floor.{Floored, corners}
@@ -22,7 +23,7 @@ use Rattle.measure.specs.Extremes.{FirstLongest, FirstNarrowest}
 use Rattle.measure.specs.theory.Longest.{squared-le-length, length-longest, length-from-least, length-to-least, length-point}
 use Rattle.measure.specs.theory.Height.{height-above, height-had, height-positive, edgeSquared-positive, width-facing, width-earlier}
 use Rattle.measure.specs.theory.Narrowest.{width-narrowest, noWider-le, wider-lt}
-use Rattle.measure.specs.theory.Rounded.{rounded-low, rounded-high, positive-size}
+use Rattle.measure.specs.theory.Rounded.{rounded-low, rounded-high}
 use Rattle.measure.specs.theory.Replies.{length-reply, width-reply, width-refused}
 
 -- ---- length
@@ -107,11 +108,11 @@ module _ (ps : List Point) (shape : IsShape ps) (three : 2 < length ps) where
   earlier-turns-less c h = width-earlier ps c h
 
   -- "w, the width rounded down: w·w·q ≤ t·t < (w+1)·(w+1)·q"
-  pub width-rounded-down : let w = widthRounded (natAbs (t e)) (natAbs (q e)) in
+  pub width-rounded-down : let w = rootBelow (natAbs (t e) * natAbs (t e)) (natAbs (q e)) in
       (w * w * natAbs (q e) ≤ natAbs (t e) * natAbs (t e)) × (natAbs (t e) * natAbs (t e) < (w + 1) * (w + 1) * natAbs (q e))
   width-rounded-down =
       let long = positive-size (edge-is-positive e width-edge-is-position) in
-      (rounded-low (natAbs (t e)) (natAbs (q e)) long, rounded-high (natAbs (t e)) (natAbs (q e)) long)
+      (rounded-low _ (natAbs (q e)) long, rounded-high _ (natAbs (q e)) long)
 
 -- ---- the replies
 

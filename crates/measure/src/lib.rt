@@ -30,7 +30,7 @@ pub struct Width {
 
 // The two corners of a shape that are furthest apart. Of several such pairs: the smallest first position, then the
 // smallest second. A point has 0 at 0, 0, and a segment its own two corners.
-// Ruled out: ties to the larger position; first position given twice.
+// Ruled out: ties to the larger position; first position given twice; search turned on distance.
 pub fn furthest_pair(list: &[i32]) -> Length
     requires { ⌜ Valid (now list) ⌝ }
     ensures { λ r. ⌜ IsLength (points (now (list .entry))) r ⌝ }
@@ -52,6 +52,6 @@ pub fn narrowest_edge(list: &[i32]) -> Width
         corner: narrowest::first_facing(list, best.edge, best.corner),
         turn: best.turn,
         squared: best.squared,
-        rounded: words::root_of_fraction(best.turn, best.squared),
+        rounded: wide::root_of_fraction(best.turn, best.squared),
     }
 }

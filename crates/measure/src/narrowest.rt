@@ -74,10 +74,10 @@ fn measured(s: Side, t: Side) -> Across
 fn narrower(best: Across, found: Across) -> Across
     ensures { λ r. ⌜ Chosen best found r ⌝ }
 {
-    if words::fraction_less(best.turn, best.squared, found.turn, found.squared) {
+    if wide::fraction_less(best.turn, best.squared, found.turn, found.squared) {
         return best;
     }
-    if words::fraction_less(found.turn, found.squared, best.turn, best.squared) {
+    if wide::fraction_less(found.turn, found.squared, best.turn, best.squared) {
         return found;
     }
     if found.edge < best.edge { found } else { best }

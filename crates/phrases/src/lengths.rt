@@ -17,13 +17,13 @@ pub fn of_square(out: &mut [u8], filled: usize, squared: u64) -> usize {
     if squared == 0 {
         return metres(out, filled, 0);
     }
-    let root = words::root_of_fraction(squared, squared);
+    let root = wide::root_of_fraction(squared, squared);
     of_root(out, filled, root, squared, squared)
 }
 
 // Adds the root of t*t/q, which is told rounded down, and that it is if it is.
 pub fn of_root(out: &mut [u8], filled: usize, root: u64, t: u64, q: u64) -> usize {
-    if !words::fraction_less(root, 1, t, q) {
+    if !wide::fraction_less(root, 1, t, q) {
         return metres(out, filled, root);
     }
     if root == 0 {

@@ -16,7 +16,7 @@ use Rattle.plane.specs.Shape.{next, breaks, precedes}
 use Rattle.plane.specs.Reply.{Reply, answered, refused}
 use Rattle.plane.specs.Refusal.{badCount, tooMany, outside, someOutside, equalPair, leftBroken, breakingEdge, breakingCorner}
 use Rattle.plane.specs.Refusal.{ruleBroken, brokenEdge, brokenCorner, badStart}
-use Rattle.plane.specs.Direction.{max, value, support, furthest}
+use Rattle.plane.specs.Direction.{greater, value, support, furthest}
 use Rattle.plane.specs.Corner.{shapeOf}
 use Rattle.plane.specs.Output.{Written, noRoom, overwritten}
 use Rattle.plane.specs.Face.{faceFirst, faceLast}
@@ -24,7 +24,7 @@ use Rattle.plane.specs.Furthest.{badDirection, commonDivisor}
 use Rattle.plane.specs.Primitive.{primitive}
 use Rattle.plane.specs.Sweep.{tooManyPoints}
 use Rattle.plane.specs.Measure.{squared, lengthSquared, furthestPair, lengthFrom, lengthTo, edgeTurn, height}
-use Rattle.plane.specs.Measure.{edgeSquared, noWider, widthEdge, widthCorner, widthRounded}
+use Rattle.plane.specs.Measure.{edgeSquared, noWider, widthEdge, widthCorner, rootBelow}
 use Rattle.plane.specs.Separation.{inside, apart, notLeft, onRim, touching, relationNumber}
 use Rattle.plane.specs.Offer.{below}
 use Rattle.plane.specs.Tangent.{onSide, touches, nearer, tangent, tangentFrom, tangentTo}
@@ -208,10 +208,10 @@ rows =
     ∷ []
 
 pub rows-hold : map (λ (r : Case). r .given) rows ≡ map (λ (r : Case). r .stated) rows
-unfolding rows maxCorners maxCoordinate maxPoints maxPart turn breaks precedes samePoint max shapeOf
+unfolding rows maxCorners maxCoordinate maxPoints maxPart turn breaks precedes samePoint greater shapeOf
     badCount tooMany outside someOutside equalPair leftBroken breakingEdge breakingCorner ruleBroken brokenEdge brokenCorner badStart
     noRoom overwritten tooManyPoints squared lengthSquared furthestPair lengthFrom lengthTo
-    edgeTurn height edgeSquared noWider widthEdge widthCorner widthRounded
+    edgeTurn height edgeSquared noWider widthEdge widthCorner rootBelow
     inside apart notLeft onRim touching relationNumber onSide touches nearer tangent tangentFrom tangentTo
     value falls top bottom noFurther nearest
     support furthest faceFirst faceLast badDirection euclid gcd commonDivisor primitive below reply output

@@ -9,7 +9,7 @@
 -- What it means: no two points of the shapes are nearer, and two are so near (`Meaning.antt` of the crate `clearance`).
 use mathlib.Core.Bool.{Bool, cond, _&&_}
 use mathlib.Core.List.{List, [], _∷_, _++_}
-use Prim.Native.Nat.{ℕ, zero, suc}
+use Prim.Native.Nat.{ℕ, zero, suc, _*_}
 use lib.IntN.{ℤ, pos, natAbs, _*ℤ_}
 use lib.ListN.{length}
 use lib.Signed.{ltZ, leZ}
@@ -17,7 +17,7 @@ use Rattle.plane.specs.Point.{Point, corner, _⊖_}
 use Rattle.plane.specs.Turn.{turn}
 use Rattle.plane.specs.Shape.{next}
 use Rattle.plane.specs.Direction.{value}
-use Rattle.plane.specs.Measure.{squared, edgeSquared, widthRounded}
+use Rattle.plane.specs.Measure.{squared, edgeSquared, rootBelow}
 use Rattle.plane.specs.Separation.{apart}
 
 -- "strictly inside an edge"
@@ -80,13 +80,13 @@ nearest A B = leastOf (noFurther A B) (corners 0 0) (candidates A B)
 
 -- a corner and an edge: "turn size t and squared edge length q", and "the distance rounded down, bounded as width is"
 abbrev pub shown : ℤ → ℤ → List ℤ
-shown t q = pos (natAbs t) ∷ q ∷ pos (widthRounded (natAbs t) (natAbs q)) ∷ []
+shown t q = pos (natAbs t) ∷ q ∷ pos (rootBelow (natAbs t * natAbs t) (natAbs q)) ∷ []
 
--- "their squared distance" d, and its root rounded down: d·d/d is d
+-- two corners: "their squared distance" d, and its root rounded down
 abbrev pub numbersOf : List Point → List Point → Candidate → List ℤ
 numbersOf A B (corners i j) =
     let d = squared (corner A i) (corner B j) in
-    pos 1 ∷ pos i ∷ pos j ∷ d ∷ pos (widthRounded (natAbs d) (natAbs d)) ∷ []
+    pos 1 ∷ pos i ∷ pos j ∷ d ∷ pos (rootBelow (natAbs d) 1) ∷ []
 numbersOf A B (onSecond i e) = pos 2 ∷ pos i ∷ pos e ∷ shown (turnOn B e (corner A i)) (edgeSquared B e)
 numbersOf A B (onFirst j e) = pos 3 ∷ pos j ∷ pos e ∷ shown (turnOn A e (corner B j)) (edgeSquared A e)
 

@@ -23,7 +23,7 @@ use Rattle.plane.specs.Turn.{turn, Left}
 use Rattle.plane.specs.Shape.{next, breaks, IsShape}
 use Rattle.plane.specs.Reply.{Reply, answered, refused, Row, NoneApply, First}
 use Rattle.plane.specs.Refusal.{tooMany, someOutside, equalPair, leftBroken, breakingEdge, breakingCorner, shapeRows, InRange, Valid}
-use Rattle.plane.specs.Direction.{value, support, max, furthest, SameWay}
+use Rattle.plane.specs.Direction.{value, support, greater, furthest, SameWay}
 use Rattle.plane.specs.Corner.{Corner, shapeOf, sums, mirrored}
 use Rattle.plane.specs.Forms.{Ordered, Sorted, NonZero, edges}
 use Rattle.plane.specs.Output.{overwritten}
@@ -211,7 +211,7 @@ module _ (d : Point) where
   sums-reach A B h k = support-sums d A B h k
 
   -- "both corner lists taken together": as far as the one that reaches further
-  pub together-reach : (A B : List Point) → 0 < length A → 0 < length B → support d (A ++ B) ≡ max (support d A) (support d B)
+  pub together-reach : (A B : List Point) → 0 < length A → 0 < length B → support d (A ++ B) ≡ greater (support d A) (support d B)
   together-reach A B h k = support-append d A B h k
 
   -- "the shape of all (-x, -y)": as far as the list in the opposite direction

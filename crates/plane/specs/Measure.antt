@@ -4,7 +4,7 @@
 --     lengthSquared ps   the greatest squared distance between two corners, had at positions lengthFrom ps ≤ lengthTo ps
 --     height ps e        "for each edge, the greatest turn t over the corners", and edgeSquared ps e "the edge's squared length q"
 --     widthEdge ps       the edge with the least t·t/q; widthCorner ps the smallest corner position that has its greatest turn
---     widthRounded t q   "w, the width rounded down: w·w·q ≤ t·t < (w+1)·(w+1)·q"
+--     rootBelow n q      the root of n/q rounded down; of t·t/q it is "w, the width rounded down: w·w·q ≤ t·t < (w+1)·(w+1)·q"
 --     lengthNumbers ps, widthNumbers ps     what is answered
 use mathlib.Core.Bool.{Bool, _&&_}
 use mathlib.Core.List.{List, [], _∷_}
@@ -17,12 +17,12 @@ use Rattle.plane.specs.Point.{Point, corner}
 use Rattle.plane.specs.Turn.{turn}
 use Rattle.plane.specs.Search.{some, every, first}
 use Rattle.plane.specs.Shape.{next}
-use Rattle.plane.specs.Direction.{max}
+use Rattle.plane.specs.Direction.{greater}
 
 abbrev pub greatest : (ℕ → ℤ) → ℕ → ℤ
 greatest f zero = pos 0
 greatest f (suc zero) = f 0
-greatest f (suc (suc n)) = max (f 0) (greatest (λ i. f (suc i)) (suc n))
+greatest f (suc (suc n)) = greater (f 0) (greatest (λ i. f (suc i)) (suc n))
 
 unfoldable pub squared : Point → Point → ℤ
 squared p q = (p .x -ℤ q .x) *ℤ (p .x -ℤ q .x) +ℤ (p .y -ℤ q .y) *ℤ (p .y -ℤ q .y)
@@ -68,13 +68,14 @@ widthEdge ps = first (λ e. every (noWider ps e) (length ps)) (length ps)
 unfoldable pub widthCorner : List Point → ℕ
 widthCorner ps = first (λ c. leZ (height ps (widthEdge ps)) (edgeTurn ps (widthEdge ps) c)) (length ps)
 
--- the first w with t·t < (w+1)·(w+1)·q; where q is not 0 it is at most t
-unfoldable pub widthRounded : ℕ → ℕ → ℕ
-widthRounded t q = first (λ w. ltb (t * t) ((w + 1) * (w + 1) * q)) t
+-- the root of n/q rounded down: the first w with n < (w+1)·(w+1)·q; where q is not 0 it is at most n
+unfoldable pub rootBelow : ℕ → ℕ → ℕ
+rootBelow n q = first (λ w. ltb n ((w + 1) * (w + 1) * q)) n
 
 -- "Answered: edge, corner, t, q and w"
 abbrev pub widthNumbers : List Point → List ℤ
 widthNumbers ps =
     let e = widthEdge ps in
-    pos e ∷ pos (widthCorner ps) ∷ height ps e ∷ edgeSquared ps e
-    ∷ pos (widthRounded (natAbs (height ps e)) (natAbs (edgeSquared ps e))) ∷ []
+    let t = height ps e in
+    let q = edgeSquared ps e in
+    pos e ∷ pos (widthCorner ps) ∷ t ∷ q ∷ pos (rootBelow (natAbs t * natAbs t) (natAbs q)) ∷ []

@@ -25,7 +25,7 @@ row n b c = record { number = n; applies = b; carries = c }
 
 abbrev pub firstRow : List Row → Reply → Reply
 firstRow [] r = r
-firstRow (w ∷ ws) r = let later = firstRow ws r in cond (w .applies) (refused (w .number) (w .carries)) later
+firstRow (w ∷ ws) r = let rest = firstRow ws r in cond (w .applies) (refused (w .number) (w .carries)) rest
 
 abbrev pub NoneApply : List Row → Type 0
 NoneApply [] = Unit {0}

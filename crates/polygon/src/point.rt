@@ -1,7 +1,7 @@
 // Inner functions: points by value, and the arithmetic of two of them.
 ghost use mathlib.Core.Path.{_≡_};
 ghost use Prim.Native.Nat.{_^_};
-ghost use Rattle.plane.specs.Point.{_⊕_, _⊖_, opposite as Point·opposite};
+ghost use Rattle.plane.specs.Point.{_⊖_, opposite as Point·opposite};
 ghost use Rattle.plane.specs.Turn.{cross as Turn·cross};
 ghost use Rattle.plane.specs.Direction.{value};
 ghost use Rattle.plane.specs.Measure.{squared as Measure·squared};
@@ -22,18 +22,6 @@ pub fn step(from: Point, to: Point) -> Point
     Point {
         x: to.x - from.x,
         y: to.y - from.y,
-    }
-}
-
-// The sum of two points, part by part.
-// Ruled out: origin for every sum.
-pub fn plus(p: Point, q: Point) -> Point
-    requires { ⌜ Small (2 ^ 21) (at p) × Small (2 ^ 21) (at q) ⌝ }
-    ensures { λ r. ⌜ at r ≡ at p ⊕ at q ⌝ }
-{
-    Point {
-        x: p.x + q.x,
-        y: p.y + q.y,
     }
 }
 

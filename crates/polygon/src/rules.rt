@@ -27,7 +27,7 @@ pub fn too_many(list: &[i32]) -> bool
 }
 
 // Refusal 2 of a sweep: more points than the limit, repeats counted.
-// Ruled out: points not counted.
+// Ruled out: repeats not counted.
 pub fn too_many_points(list: &[i32]) -> bool
     ensures { λ r. ⌜ r ≡ tooManyPoints (points (now (list .entry))) ⌝ }
 {

@@ -4,7 +4,7 @@ use crate::logs;
 use crate::names;
 use crate::parts;
 use crate::readings;
-use crate::separating;
+use crate::separators;
 use crate::table::Measure;
 use crate::table::Question;
 use crate::table::Written;
@@ -42,8 +42,8 @@ pub fn ask(
     match question {
         Question::Measure(which) => measure(out, filled, which, a, f, b, g),
         Question::Write(which) => write(out, filled, which, a, f, b, g, room),
-        Question::Offer => separating::offer(out, filled, a, f, b, g, c),
-        Question::Find => separating::find(out, filled, a, f, b, g),
+        Question::Offer => separators::offer(out, filled, a, f, b, g, c),
+        Question::Find => separators::find(out, filled, a, f, b, g),
         Question::Draw(grown) => maps::draw(out, filled, grown, line, count, values, marks, cells),
         Question::Tablet => readings::tablet(out, filled, line),
         Question::LogRead => logs::read(out, filled, line, fields::name(b), room),

@@ -7,7 +7,7 @@ mod names;
 mod options;
 mod parts;
 mod readings;
-mod separating;
+mod separators;
 mod table;
 
 use options::Options;

@@ -1,2 +1,2 @@
 -- Lemmas that function proofs share.
-pub mod Placed
+pub mod Related

@@ -25,8 +25,8 @@ use Rattle.questions.specs.declared.answer.Inside.{Inside}
 use Rattle.questions.specs.declared.answer.Inside.the-variants as Inside
 use Rattle.questions.specs.declared.answer.Offer.{Offer}
 use Rattle.questions.specs.declared.answer.Offer.the-variants as Offer
-use Rattle.questions.specs.declared.answer.Found.{Found}
-use Rattle.questions.specs.declared.answer.Found.the-variants as Found
+use Rattle.questions.specs.declared.answer.Separator.{Separator}
+use Rattle.questions.specs.declared.answer.Separator.the-variants as Separator
 use Rattle.questions.specs.declared.answer.Clearance.{Clearance}
 use Rattle.questions.specs.declared.answer.Clearance.the-variants as Clearance
 use Rattle.questions.specs.declared.answer.Line.{Line}
@@ -79,10 +79,10 @@ ofOffer (Offer.Is accepted floor) = answered (cond accepted (pos 1) (pos 0) ∷ 
 ofOffer (Offer.No r) = ofRefusal r
 
 -- 1 and the direction, or 0 if there is none
-abbrev pub ofFound : Found → Reply
-ofFound (Found.Direction u v floor) = answered (pos 1 ∷ u ∷ v ∷ pos floor ∷ [])
-ofFound (Found.Nothing floor) = answered (pos 0 ∷ pos floor ∷ [])
-ofFound (Found.No r) = ofRefusal r
+abbrev pub ofSeparator : Separator → Reply
+ofSeparator (Separator.Direction u v floor) = answered (pos 1 ∷ u ∷ v ∷ pos floor ∷ [])
+ofSeparator (Separator.Nothing floor) = answered (pos 0 ∷ pos floor ∷ [])
+ofSeparator (Separator.No r) = ofRefusal r
 
 -- 0 not apart, 1 two corners, 2 a corner of the first and an edge of the second, 3 a corner of the second and an edge of the first
 abbrev pub ofClearance : Clearance → Reply

@@ -77,7 +77,7 @@ pub enum Offer {
 }
 
 // A direction that is accepted, or that there is none.
-pub enum Found {
+pub enum Separator {
     Direction { u: i32, v: i32, floor: u16 },
     Nothing { floor: u16 },
     No(Refusal),

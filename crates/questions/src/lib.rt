@@ -4,14 +4,14 @@
 // 13 behind 1 to 5 of the first and of the second.
 pub mod answer;
 mod coordinate;
-pub mod separating;
+pub mod separators;
 pub mod walk;
 
 ghost use mathlib.Core.Path.{_≡_};
 ghost use mathlib.Core.List.{[], _∷_, _++_};
 ghost use lib.IntN.{pos};
 ghost use Rattle.plane.specs.Reply.{answered};
-ghost use Rattle.separation.specs.Place.{placeNumber};
+ghost use Rattle.separation.specs.Answer.{numberOf};
 ghost use mathlib.Core.Bool.{true, false};
 ghost use Rattle.plane.specs.Point.{point, points};
 ghost use Rattle.plane.specs.Refusal.{Valid};
@@ -54,7 +54,6 @@ use polygon::limits;
 pub use polygon::limits::SHAPE_NUMBERS;
 use polygon::opposite;
 use polygon::point::Point;
-use separation::place::Place;
 pub use tablet::reading::Reading;
 
 // Whether the list is a shape, and how many corners it has. A point and a segment are shapes. Refused: an empty or odd
@@ -102,7 +101,7 @@ pub fn furthest(list: &[i32], floor: u16, u: i32, v: i32) -> Furthest
 // Writes the mirror image, the shape of all (-x, -y), at the front of the output, and answers how many corners it has:
 // as many as the list. All behind the image is kept. Refused, with the output as it was: 1 to 5, then an output that
 // holds fewer numbers than the image.
-// Ruled out: mirror begun at the old start; output left alone; coordinates swapped; tail lost.
+// Ruled out: mirror begun at the old start; output left alone; coordinates swapped; tail cleared.
 pub fn mirror(list: &[i32], floor: u16, out: &mut [i32]) -> Answer
     ensures { λ r. ⌜ (ofAnswer r ≡ reply (askMirror (on (now (list .entry)) floor) (now (out .entry))))
         × (now (out .exit) ≡ output (askMirror (on (now (list .entry)) floor) (now (out .entry)))) ⌝ }
@@ -124,7 +123,8 @@ pub fn mirror(list: &[i32], floor: u16, out: &mut [i32]) -> Answer
 // Edges of equal direction make one step, so no three corners of the answer are in line. Refused, with the output as it
 // was: 1 to 5 of the first shape, then of the second; different floors; then an answer of too many corners, one out of
 // range, and too small an output. On success all behind the written numbers is kept.
-// Ruled out: parallel corners kept; segment passed once; origin for every sum; second shape judged first.
+// Ruled out: parallel corners kept; segment passed once; origin for every sum; second shape judged first; output left
+// alone; floor zero in every answer.
 pub fn sum(a: &[i32], f: u16, b: &[i32], g: u16, out: &mut [i32]) -> Answer
     ensures { λ r. ⌜
         (ofAnswer r ≡ reply (askSum (on (now (a .entry)) f) (on (now (b .entry)) g) (now (out .entry))))
@@ -142,7 +142,7 @@ pub fn sum(a: &[i32], f: u16, b: &[i32], g: u16, out: &mut [i32]) -> Answer
 // The shapes may overlap, lie one in the other, share corners or edges. Refused, with the output as it was: 1 to 5 of
 // the first shape, then of the second; different floors; then an answer of too many corners, and too small an output.
 // No corner of the answer is out of range, since each is a corner of one of the two.
-// Ruled out: points in line kept; second shape forgotten; count one more.
+// Ruled out: points in line kept; second shape forgotten; count one more; output written on thirteen.
 pub fn merge(a: &[i32], f: u16, b: &[i32], g: u16, out: &mut [i32]) -> Answer
     ensures { λ r. ⌜
         (ofAnswer r ≡ reply (askMerge (on (now (a .entry)) f) (on (now (b .entry)) g) (now (out .entry))))
@@ -181,7 +181,7 @@ pub fn grow(obstacle: &[i32], f: u16, cart: &[i32], g: u16, out: &mut [i32]) -> 
 // how many corners it has. A point that is repeated counts once in the shape, and one in line between two others is no
 // corner of it; points that are all equal make a point, and points in one line a segment. Refused, with the output as
 // it was: 1 to 3, points counted before repeats are dropped, and then an output that is too small.
-// Ruled out: points in line kept; repeats kept; points not counted; output written before the room is known.
+// Ruled out: points in line kept; repeats kept; repeats not counted; output written before the room is known.
 pub fn sweep(list: &[i32], floor: u16, out: &mut [i32]) -> Answer
     ensures { λ r. ⌜ (ofAnswer r ≡ reply (askSweep (on (now (list .entry)) floor) (now (out .entry))))
         × (now (out .exit) ≡ output (askSweep (on (now (list .entry)) floor) (now (out .entry)))) ⌝ }
@@ -197,7 +197,7 @@ pub fn sweep(list: &[i32], floor: u16, out: &mut [i32]) -> Answer
 // The greatest squared distance between two corners, and the positions of two corners that are so far apart. Of several
 // such pairs: the smallest first position, then the smallest second. A point answers 0 at 0, 0, and a segment its own
 // two corners. Refused: 1 to 5.
-// Ruled out: ties to the larger position; first position given twice; search stopped where distance falls.
+// Ruled out: ties to the larger position; first position given twice; search turned on distance.
 pub fn length(list: &[i32], floor: u16) -> Length
     ensures { λ r. ⌜ ofLength r ≡ reply (askLength (on (now (list .entry)) floor)) ⌝ }
 {
@@ -242,8 +242,7 @@ pub fn width(list: &[i32], floor: u16) -> Width
 // point, and segments of which one ends on the other; segments that cross overlap. A point or a segment that meets a
 // polygon touches it if it meets the rim only, and overlaps it otherwise. A polygon overlaps itself and every polygon
 // that is inside it. Refused: 1 to 5 of the first shape, then of the second; different floors.
-// Ruled out: touching read as apart; less or equal for less; segments in line by normals only; floor zero in every
-// answer.
+// Ruled out: touching read as apart; less or equal for less; segments in line by normals only.
 pub fn relation(a: &[i32], f: u16, b: &[i32], g: u16) -> Relation
     ensures { λ r. ⌜ ofRelation r ≡ reply (askRelation (on (now (a .entry)) f) (on (now (b .entry)) g)) ⌝ }
 {
@@ -254,13 +253,13 @@ pub fn relation(a: &[i32], f: u16, b: &[i32], g: u16) -> Relation
 }
 
 // How two shapes stand, as an answer.
-fn stand(place: Place, floor: u16) -> Relation
-    ensures { λ r. ⌜ ofRelation r ≡ answered (placeNumber place ∷ pos floor ∷ []) ⌝ }
+fn stand(found: separation::answer::Relation, floor: u16) -> Relation
+    ensures { λ r. ⌜ ofRelation r ≡ answered (numberOf found ∷ pos floor ∷ []) ⌝ }
 {
-    match place {
-        Place::Apart => Relation::Apart { floor },
-        Place::Touching => Relation::Touching { floor },
-        Place::Overlapping => Relation::Overlapping { floor },
+    match found {
+        separation::answer::Relation::Apart => Relation::Apart { floor },
+        separation::answer::Relation::Touching => Relation::Touching { floor },
+        separation::answer::Relation::Overlapping => Relation::Overlapping { floor },
     }
 }
 
@@ -293,7 +292,7 @@ pub fn clearance(a: &[i32], f: u16, b: &[i32], g: u16) -> Clearance
     if let Admission::No(refusal) = admission::admit_pair(a, f, b, g) {
         return Clearance::No(refusal);
     }
-    let Place::Apart = separation::relation(a, b) else {
+    let separation::answer::Relation::Apart = separation::relation(a, b) else {
         return Clearance::None { floor: f };
     };
     measured(clearance::nearest(a, b), f)
@@ -360,7 +359,7 @@ pub fn tangents(a: &[i32], f: u16, b: &[i32], g: u16) -> Tangents
         return Tangents::No(refusal);
     }
     let place = separation::relation(a, b);
-    let Place::Apart = place else {
+    let separation::answer::Relation::Apart = place else {
         return Tangents::No(Refusal::NotApart);
     };
     Tangents::Lines {
@@ -389,7 +388,7 @@ fn line(a: &[i32], b: &[i32], s: bool, t: bool) -> Line
 // numbers that they hold exactly, from which a shape may be listed. Minus zero is 0 and goes back as plus zero. Nothing
 // is rounded. Refused, with the part that it was: x, then y, each if it is not finite, then if it is not whole, then if
 // it is out of range.
-// Ruled out: y judged first; whole after range; minus zero sent back; scaled before the test.
+// Ruled out: y judged first; x blamed for y; whole after range; minus zero sent back; scaled before the test.
 pub fn tablet(x: Reading, y: Reading) -> Tablet
     ensures { λ r. ⌜ ofTablet r ≡ tabletSent x y ⌝ }
 {
@@ -413,7 +412,7 @@ pub fn tablet(x: Reading, y: Reading) -> Tablet
 // floor of the record: 0 of one of kind 1, which says none. All behind them is kept. A log ends where no whole record
 // stands. Refused, with the output as it was: a log in which some record is of another kind, a wrong length, or no
 // shape (with the byte place of the first); a name that no record has; too small an output.
-// Ruled out: first record of a name.
+// Ruled out: first record for the latest; record lost after another.
 pub fn log_read(log: &[u8], name: u16, out: &mut [i32]) -> Answer
     ensures { λ r. ⌜ (ofAnswer r ≡ reply (askRead (now (log .entry)) name (now (out .entry))))
         × (now (out .exit) ≡ output (askRead (now (log .entry)) name (now (out .entry)))) ⌝ }
@@ -432,7 +431,7 @@ pub fn log_read(log: &[u8], name: u16, out: &mut [i32]) -> Answer
     if out.len() < count {
         return Answer::No(Refusal::Room);
     }
-    journal::corners::decode(log, place, count, out);
+    endian::decode(log, place, count, out);
     Answer::Corners {
         count: count / 2,
         floor,

@@ -28,7 +28,7 @@ use Rattle.calipers.specs.Places.{takes, passed}
 use Rattle.calipers.specs.Side.{cornerOf, nextOf, onward, Carried, walkOf}
 use Rattle.calipers.specs.Walk as Walk
 use Rattle.calipers.specs.Walk.{Walk, begun, advanced, At}
-use Rattle.calipers.specs.theory.Standing.{Taken, takes-taken, passed-taken, passed-waits, Step, ended, left, right, both, step}
+use Rattle.calipers.specs.theory.Standing.{Taken, takes-taken, edges-less}
 use Rattle.calipers.specs.theory.Sides.{onward-inner}
 use Rattle.calipers.specs.theory.Steps.{at-begin}
 use Rattle.calipers.specs.theory.Carry.{sides-walk, sides-advanced, sides-at}
@@ -100,18 +100,7 @@ module _ {a b : List ℤ} {s t : Side} (p : Beside a b s t) where
 
       -- one edge at least is passed
       pub beside-less : length (edges A) - m .at + (length (edges B) - n .at) < length (edges A) - s .at + (length (edges B) - t .at)
-      beside-less = go (step (edges A) (edges B) (s .at) (t .at))
-        where
-          go : Step (edges A) (edges B) (s .at) (t .at)
-              → length (edges A) - m .at + (length (edges B) - n .at) < length (edges A) - s .at + (length (edges B) - t .at)
-          go (ended h k) = absurd (omega (arith, sides))
-          go (left u w) =
-              let waits = passed-waits (edges B) (t .at) (edges A) (s .at) (u .there) w in
-              omega (arith, first-step ∙ passed-taken u, second-step ∙ waits, u .there)
-          go (right u w) =
-              let waits = passed-waits (edges A) (s .at) (edges B) (t .at) (u .there) w in
-              omega (arith, first-step ∙ waits, second-step ∙ passed-taken u, u .there)
-          go (both u w) = omega (arith, first-step ∙ passed-taken u, second-step ∙ passed-taken w, u .there, w .there)
+      beside-less = edges-less (edges A) (edges B) (s .at) (t .at) first-step second-step (λ h k. omega (arith, sides))
 
       more-left : (leZ c (pos 0) ≡ true → isRight s t ≡ false) → LeftUpTo A B (n .at)
       more-left asked = go (ltZ (pos 0) c) refl

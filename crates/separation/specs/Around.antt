@@ -1,9 +1,9 @@
 -- How two shapes stand, as a walk round the corners of their differences finds it: the origin against each edge.
 --     crossAt D e       the cross product of the two corners of edge e: positive if the origin is to the left of it
 --     rightOf D e       the origin is to the right of edge e
---     placed D          0 outside, 1 on the rim, 2 inside; `placedFew D` for a point or a segment on a line through the origin
+--     originIn D          0 outside, 1 on the rim, 2 inside; `originInFew D` for a point or a segment on a line through the origin
 --     Passed D s        a walk saw s of D
--- What it means: `placed-related` of the theory.
+-- What it means: `originIn-relation` of the theory.
 use mathlib.Core.Path.{_≡_}
 use mathlib.Core.Bool.{Bool, false, cond}
 use mathlib.Core.List.{List}
@@ -26,12 +26,12 @@ crossAt D e = cross (corner D e) (corner D (next (length D) e))
 unfoldable pub rightOf : List Point → ℕ → Bool
 rightOf D e = ltZ (crossAt D e) (pos 0)
 
-unfoldable pub placedFew : List Point → ℤ
-placedFew D = cond (leZ (value (corner D 0) (corner D (next (length D) 0))) (pos 0)) (pos 1) (pos 0)
+unfoldable pub originInFew : List Point → ℤ
+originInFew D = cond (leZ (value (corner D 0) (corner D (next (length D) 0))) (pos 0)) (pos 1) (pos 0)
 
-unfoldable pub placed : List Point → ℤ
-placed D = cond (some (rightOf D) (length D)) (pos 0)
-    (cond (ltb (length D) 3) (placedFew D) (cond (some (notLeft D) (length D)) (pos 1) (pos 2)))
+unfoldable pub originIn : List Point → ℤ
+originIn D = cond (some (rightOf D) (length D)) (pos 0)
+    (cond (ltb (length D) 3) (originInFew D) (cond (some (notLeft D) (length D)) (pos 1) (pos 2)))
 
 -- the walk stops at an edge that has the origin to its right, and then knows no more
 pub record Passed (D : List Point) (s : Sides) : Type 0 where

@@ -3,9 +3,9 @@ ghost use mathlib.Core.Path.{_≡_};
 ghost use Rattle.plane.specs.Point.{points};
 ghost use Rattle.plane.specs.VectorSum.{vectorSum};
 ghost use Rattle.calipers.specs.Walk.{At, begun};
-ghost use Rattle.separation.specs.Place.{placeNumber};
-ghost use Rattle.separation.specs.Around.{Passed, placed, placedFew};
-use crate::place::Place;
+ghost use Rattle.separation.specs.Answer.{numberOf};
+ghost use Rattle.separation.specs.Around.{Passed, originIn, originInFew};
+use crate::answer::Relation;
 use calipers::side;
 use polygon::point;
 use polygon::rules::either;
@@ -19,27 +19,27 @@ pub struct Sides {
 }
 
 // Apart if the origin is outside the sum, touching if on its rim, else overlapping.
-pub fn around(a: &[i32], b: &[i32]) -> Place
+pub fn around(a: &[i32], b: &[i32]) -> Relation
     requires { ⌜ At (now a) (now b) begun ⌝ }
-    ensures { λ r. ⌜ placeNumber r ≡ placed (vectorSum (points (now (a .entry))) (points (now (b .entry)))) ⌝ }
+    ensures { λ r. ⌜ numberOf r ≡ originIn (vectorSum (points (now (a .entry))) (points (now (b .entry)))) ⌝ }
 {
     let sides = pass(a, b);
     if sides.outside {
-        return Place::Apart;
+        return Relation::Apart;
     }
     if sides.count < 3 {
         return around_few(a, b);
     }
     if sides.rim {
-        return Place::Touching;
+        return Relation::Touching;
     }
-    Place::Overlapping
+    Relation::Overlapping
 }
 
 // A point or a segment that has the origin on its line: it is on it unless the first two corners lie the same way.
-fn around_few(a: &[i32], b: &[i32]) -> Place
+fn around_few(a: &[i32], b: &[i32]) -> Relation
     requires { ⌜ At (now a) (now b) begun ⌝ }
-    ensures { λ r. ⌜ placeNumber r ≡ placedFew (vectorSum (points (now (a .entry))) (points (now (b .entry)))) ⌝ }
+    ensures { λ r. ⌜ numberOf r ≡ originInFew (vectorSum (points (now (a .entry))) (points (now (b .entry)))) ⌝ }
 {
     let s = side::side_at(a, 0);
     let t = side::side_at(b, 0);
@@ -48,9 +48,9 @@ fn around_few(a: &[i32], b: &[i32]) -> Place
     let n = side::next(b, t, 0 < c);
     let along = point::dot(side::here(s, t), side::here(m, n));
     if along <= 0 {
-        return Place::Touching;
+        return Relation::Touching;
     }
-    Place::Apart
+    Relation::Apart
 }
 
 // Passes the edges of the sum, each once, up to one that has the origin to its right. Behind the last edge both sides

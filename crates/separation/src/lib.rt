@@ -1,7 +1,7 @@
 // Inner functions for how two shapes stand to each other (document 01, "Relation" and "Inside"), and for their
 // differences. Callers ask the crate `questions`.
+pub mod answer;
 mod around;
-pub mod place;
 mod within;
 
 ghost use mathlib.Core.Path.{_≡_};
@@ -13,8 +13,8 @@ ghost use Rattle.plane.specs.Corner.{shapeOf};
 ghost use Rattle.plane.specs.Separation.{relationNumber, inside as Separation·inside};
 ghost use Rattle.plane.specs.Separation.{differences as Separation·differences};
 ghost use Rattle.polygon.specs.Front.{Front};
-ghost use Rattle.separation.specs.Place.{placeNumber};
-use place::Place;
+ghost use Rattle.separation.specs.Answer.{numberOf};
+use answer::Relation;
 use polygon::corners;
 use polygon::limits;
 use polygon::opposite;
@@ -22,9 +22,9 @@ use polygon::opposite;
 // Whether two shapes are apart, touching or overlapping, by a walk round their differences: the sum of the first and
 // the mirror image of the second, which has as many corners as the second.
 // Ruled out: touching read as apart; less or equal for less; segments in line by normals only.
-pub fn relation(a: &[i32], b: &[i32]) -> Place
+pub fn relation(a: &[i32], b: &[i32]) -> Relation
     requires { ⌜ Valid (now a) × Valid (now b) ⌝ }
-    ensures { λ r. ⌜ placeNumber r ≡ relationNumber (points (now (a .entry))) (points (now (b .entry))) ⌝ }
+    ensures { λ r. ⌜ numberOf r ≡ relationNumber (points (now (a .entry))) (points (now (b .entry))) ⌝ }
 {
     let mut image = [0i32; limits::SHAPE_NUMBERS];
     opposite::mirror(b, &mut image);

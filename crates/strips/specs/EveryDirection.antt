@@ -20,7 +20,7 @@ use Rattle.plane.specs.Separation.{apart}
 use Rattle.plane.specs.Clearance.{nearest}
 use Rattle.plane.specs.Floor.{Floored, corners}
 use Rattle.plane.specs.Question.{reply, askWidth, askClearance}
-use Rattle.separation.specs.theory.Sector.{square-positive}
+use Rattle.plane.specs.theory.forms.Vector.{square-positive}
 use Rattle.strips.specs.Strip.{least, spread, gapIn, Corridor}
 use Rattle.strips.specs.OwnDirection.{outOf, towards, answerTop, answerBottom}
 use Rattle.strips.specs.theory.Spread.{least-le-value, least-attained, spread-above, spread-attained}

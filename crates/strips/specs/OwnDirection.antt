@@ -6,19 +6,17 @@
 use mathlib.Core.Bool.{cond}
 use mathlib.Core.List.{List}
 use Prim.Native.Nat.{ℕ}
-use lib.IntN.{ℤ, pos, negℤ, _-ℤ_, _*ℤ_}
+use lib.IntN.{ℤ, pos, negℤ, _*ℤ_}
 use lib.ListN.{length, getD}
-use Rattle.plane.specs.Point.{Point, point, corner, _⊖_, eqZ}
+use Rattle.plane.specs.Point.{Point, corner, _⊖_, eqZ}
 use Rattle.plane.specs.Shape.{next}
 use Rattle.plane.specs.Mean.{times}
 use Rattle.plane.specs.Clearance.{Candidate, corners, onSecond, onFirst, turnOn}
+use Rattle.plane.specs.Cut.{outward}
 
 -- the edge turned right by a quarter
 abbrev pub outOf : List Point → ℕ → Point
-outOf ps e =
-    let a = corner ps e in
-    let b = corner ps (next (length ps) e) in
-    point (b .y -ℤ a .y) (a .x -ℤ b .x)
+outOf ps e = outward (corner ps e) (corner ps (next (length ps) e))
 
 -- the step between the two corners; or that between the foot on an edge and the corner, times the edge's squared length: the sign of the
 -- corner's turn says on which side of the edge it stands

@@ -3,6 +3,6 @@
 pub mod Spread
 pub mod Parallel
 pub mod Edges
-pub mod Every
+pub mod WidthBound
 pub mod Corridors
 pub mod Answers

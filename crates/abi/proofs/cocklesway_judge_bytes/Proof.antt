@@ -3,19 +3,21 @@ use mathlib.Core.Path.{_≡_, refl, sym, _∙_, ap, subst}
 use native.Mathlib.Omega.{arith}
 use lib.Seq.{length-take-le}
 use Rattle.plane.specs.Limits.{maxCorners}
+use Rattle.plane.specs.Question.{reply}
 use Rattle.questions.specs.Answer.{ofAnswer}
 use Rattle.abi.specs.Packing.{packed, Fits}
-use Rattle.abi.specs.Calls.{judgedBytes}
+use Rattle.abi.specs.Calls.{askJudgeBytes}
 use Rattle.abi.specs.Passing.{barred}
+use Rattle.abi.specs.theory.Floors.{passed-one}
 use Rattle.abi.specs.theory.Fits.{judged-fits}
-use Rattle.abi.specs.theory.Alike.{passed-one, judged-same}
+use Rattle.abi.specs.theory.Alike.{judged-same}
 use borrow.Author.Needs.{needs}
 use Rattle.abi.proofs.cocklesway_judge_bytes.Statement.{statement}
 use Rattle.abi.proofs.cocklesway_judge_bytes.Tie as tie
 
 -- the answer is that of the call
 replied : (c : tie.After-bar) → let start = c .before .before .before .before .before .before .before .before in
-    ofAnswer (c .bar .result) ≡ judgedBytes (start .args .list .now) (start .args .floor)
+    ofAnswer (c .bar .result) ≡ reply (askJudgeBytes (start .args .list .now) (start .args .floor))
 replied c =
     let at-pass = c .before .before .before in
     let at-read = at-pass .before .before in

@@ -1,5 +1,4 @@
 -- `cocklesway_merge_bytes` meets its contract, which is that of `combine`.
-use Rattle.abi.specs.Calls.{mergeBytes}
 use borrow.Author.Needs.{needs}
 use Rattle.abi.proofs.cocklesway_merge_bytes.Statement.{statement}
 use Rattle.abi.proofs.cocklesway_merge_bytes.Tie as tie
@@ -11,7 +10,6 @@ same-length : tie.Need-same-length
 same-length c = search needs
 
 returns : tie.Need-returns
-unfolding mergeBytes
 returns c = c .before .before .combine .ensures
 
 pub cocklesway-merge-bytes-spec : {M : Type 1} → statement M

@@ -3,11 +3,13 @@ use mathlib.Core.Path.{_≡_, refl, sym, _∙_, ap, subst}
 use native.Mathlib.Omega.{arith}
 use lib.Seq.{length-take-le}
 use Rattle.plane.specs.Limits.{maxCorners}
+use Rattle.plane.specs.Question.{reply}
 use Rattle.questions.specs.Answer.{ofRelation}
 use Rattle.abi.specs.Packing.{packed, Fits}
-use Rattle.abi.specs.Calls.{relationBytes}
+use Rattle.abi.specs.Calls.{askRelationBytes}
+use Rattle.abi.specs.theory.Floors.{one-floor}
 use Rattle.abi.specs.theory.Fits.{relation-fits}
-use Rattle.abi.specs.theory.Alike.{agree, relation-same}
+use Rattle.abi.specs.theory.Alike.{relation-same}
 use borrow.Author.Needs.{needs}
 use Rattle.abi.proofs.cocklesway_relation_bytes.Statement.{statement}
 use Rattle.abi.proofs.cocklesway_relation_bytes.Tie as tie
@@ -15,14 +17,12 @@ use Rattle.abi.proofs.cocklesway_relation_bytes.Tie as tie
 -- the answer is that of the call
 replied : (c : tie.After-relation) → let at-first = c .before .before .before .before .before .before .before .before in
     let args = at-first .before .before .before .before .args in
-    ofRelation (c .relation .result) ≡ relationBytes (args .a .now) (args .f) (args .b .now) (args .g)
+    ofRelation (c .relation .result) ≡ reply (askRelationBytes (args .a .now) (args .f) (args .b .now) (args .g))
 replied c =
     let at-pass = c .before .before .before in
     let at-second = at-pass .before .before in
     let at-first = at-second .before .before .before in
-    c .relation .ensures
-    ∙ relation-same _ _ _ _ _ _ _ _
-    (agree _ _ _ _ _ _ _ _ (at-first .read .ensures .2) (at-second .read2 .ensures .2) (at-pass .pass .ensures))
+    relation-same (at-first .read .ensures .2) (at-second .read2 .ensures .2) (at-pass .pass .ensures) (c .relation .ensures)
 
 slice-aggregate-read : tie.Need-slice-aggregate-read
 slice-aggregate-read c = search needs
@@ -60,7 +60,7 @@ relation-requires : tie.Need-relation-requires
 relation-requires c κs = search needs
 
 of-relation-requires : tie.Need-of-relation-requires
-of-relation-requires c κs = subst Fits (sym (replied c)) (relation-fits _ _ _ _)
+of-relation-requires c κs = subst Fits (sym (replied c)) (relation-fits _ _ (λ e. one-floor _ _ e .1))
 
 returns : tie.Need-returns
 returns c = c .of-relation .ensures ∙ ap packed (replied (c .before))

@@ -3,6 +3,9 @@ use mathlib.Core.Path.{refl, sym}
 use native.Mathlib.Omega.{arith}
 use lib.Seq.{length-take-le}
 use Rattle.plane.specs.Limits.{maxCorners}
+use Rattle.abi.specs.Lists.{wordsIn}
+use Rattle.abi.specs.Passing.{combined}
+use Rattle.abi.specs.theory.Alike.{asked-same}
 use borrow.Author.Needs.{needs}
 use Rattle.abi.proofs.combine.Statement.{statement}
 use Rattle.abi.proofs.combine.Tie as tie
@@ -54,7 +57,9 @@ returns c =
     let at-pass = at-combine .before .before .before .before .before in
     let at-second = at-pass .before .before in
     let at-first = at-second .before .before .before in
-    at-combine .combine .ensures .calls _ _ _ _ (at-first .read .ensures .2) (at-second .read2 .ensures .2) (at-pass .pass .ensures)
+    let args = at-first .before .before .before .before .before .args in
+    asked-same (at-first .read .ensures .2) (at-second .read2 .ensures .2) (at-pass .pass .ensures)
+    (combined (args .merged)) (wordsIn (args .out .now)) (args .out .now) (at-combine .combine .ensures)
 
 pub combine-spec : {M : Type 1} → statement M
 combine-spec =

@@ -1,36 +1,37 @@
 -- Lists and floors that are passed to a question in place of those of a call: both are refused alike, or they are the same.
 --     cut-alike         the numbers that are read of bytes; `none-alike`: of bytes that hold no list
---     passed-first, -second, -both     floors: the first is above its limit, or the second, or neither; `passed-one`: of one shape
---     barred-above, barred-within, barred-reply      a reply about one shape
---     judged-same       a judging
+--     judged-same       judging; `judged-within`: with a floor within its limit
 --     relation-same     a relation
---     Agree, agree      two lists and their floors: a refusal that is given of both, or none of either; `agree-self`
+--     asked-same        a shape made of two: the number, and the bytes afterwards
 use mathlib.Core.Path.{_≡_, refl, sym, _∙_, ap, ap₂, subst}
-use mathlib.Core.Bool.{Bool, true, false, not, cond, _||_, true≢false}
-use mathlib.Core.List.{List, [], _∷_, _++_}
+use mathlib.Core.Bool.{Bool, true, false, not, cond, _||_}
+use mathlib.Core.List.{List, [], _∷_}
 use Prim.Native.Nat.{ℕ, _+_, _*_, _/_, _%_, _≤_}
 use native.Mathlib.Omega.{arith}
-use borrow.Author.Tests.{ltb-true, ltb-false, lt-ltb, le-ltb, eq-eqb, ne-eqb, eqb-true, eqb-false}
+use borrow.Author.Tests.{ltb-true, ltb-false, lt-ltb, eq-eqb, ne-eqb, eqb-true, eqb-false, not-false}
 use lib.Dec.{eqb, ltb}
 use lib.IntN.{ℤ, pos}
 use lib.ListN.{length}
 use Rattle.plane.specs.Limits.{maxCorners, maxFloor}
-use Rattle.plane.specs.Point.{points}
-use Rattle.plane.specs.Reply.{Reply, answered, refused, row, firstRow, NoneApply}
+use Rattle.plane.specs.Point.{Point, points}
+use Rattle.plane.specs.Reply.{Reply, answered, refused, row, here, later}
 use Rattle.plane.specs.Refusal.{badCount, tooMany, shapeRows}
 use Rattle.plane.specs.Separation.{relationNumber}
-use Rattle.plane.specs.Floor.{on, floorRow}
-use Rattle.plane.specs.Question.{reply, askJudge, askRelation}
-use Rattle.plane.specs.Floor.{pairRows as doorRows}
+use Rattle.plane.specs.Output.{answerRows}
+use Rattle.plane.specs.Floor.{on, pairRows}
+use Rattle.plane.specs.Question.{table, values, reply, askJudge, askRelation}
 use Rattle.plane.specs.theory.lists.Flat.{points-length}
 use Rattle.plane.specs.theory.refusals.Accept.{count-good}
-use Rattle.plane.specs.theory.refusals.Rows.{Outcome, given, passed, outcome, none-join}
-use Rattle.plane.specs.theory.refusals.Rows.{firstRow-append, firstRow-given, firstRow-none, firstRow-passed}
-use Rattle.journal.specs.Bytes.{wordsAt}
-use Rattle.journal.specs.theory.Decode.{wordsAt-length}
+use Rattle.plane.specs.theory.refusals.Rows.{first-append, first-join, none-join}
+use Rattle.plane.specs.theory.refusals.Asked.{asked-given, asked-none}
+use Rattle.endian.specs.Bytes.{wordsAt}
+use Rattle.endian.specs.theory.Bytes.{wordsAt-length}
 use Rattle.abi.specs.Lists.{listOf}
-use Rattle.abi.specs.Calls.{judgedRows, judgedBytes, floorsRow, pairRows, relationBytes}
-use Rattle.abi.specs.Passing.{Alike, equal, odd, many, Cut, Passed, barred}
+use Rattle.abi.specs.Packing.{packed}
+use Rattle.abi.specs.Calls.{askJudgeBytes, bytesAfter}
+use Rattle.abi.specs.Passing.{Alike, equal, odd, many, Cut, Passed, barred, asked}
+use Rattle.abi.specs.theory.Floors.{barred-above, barred-within}
+use Rattle.abi.specs.theory.Agree.{Agree, both, none, agree-same, agree-row, agree-join, same-reply, same-bytes}
 
 -- ---- lists that are cut
 
@@ -76,136 +77,60 @@ cut-alike bs r h c =
         long-alike _ _ (omega (arith, long, c .within, n)) (omega (arith, long, m))
         (ap (λ (k : ℕ). k % 2) m ∙ c .parity ∙ sym (ap (λ (k : ℕ). k % 2) n))
 
--- ---- floors
-
--- two floors that differ, where 13 is due
-passed-apart : (f g : ℕ) → floorsRow f g .applies ≡ true → Passed f g 0 1
-passed-apart f g h = record { refused-same = sym h; first-same = λ e. absurd (true≢false (sym h ∙ e)) }
-
-module _ (f g : ℕ) where
-  pub passed-first : ltb maxFloor f ≡ true → Passed f g 0 1
-  passed-first h = passed-apart f g (or-true (not (eqb f g)) (ap (λ (b : Bool). b || ltb maxFloor g) h))
-
-  pub passed-second : ltb maxFloor g ≡ true → Passed f g 0 1
-  passed-second h = passed-apart f g (or-true (not (eqb f g)) (or-true (ltb maxFloor f) h))
-
-  pub passed-both : ltb maxFloor f ≡ false → ltb maxFloor g ≡ false → Passed f g f g
-  passed-both h k = record {
-    refused-same = sym (ap₂ (λ (b c : Bool). not (eqb f g) || (b || c)) h k ∙ or-false (not (eqb f g)));
-    first-same = λ e. refl;
-  }
-    where
-      or-false : (a : Bool) → (a || false) ≡ a
-      or-false true = refl
-      or-false false = refl
-
--- one shape is asked about with its own floor twice
-pub passed-one : {f h k : ℕ} → Passed f f h k → ltb maxFloor f ≡ false → h ≡ f
-passed-one {f} p e = p .first-same (ap₂ (λ (b c : Bool). not b || (c || c)) (eq-eqb f f refl) e)
-
-pub barred-above : (f : ℕ) (values : List ℤ) → ltb maxFloor f ≡ true → refused 13 [] ≡ barred f (answered values)
-barred-above f values h = ap (λ (b : Bool). cond b (refused 13 []) (answered values)) (sym h)
-
-pub barred-within : (f : ℕ) (values : List ℤ) → ltb maxFloor f ≡ false → answered values ≡ barred f (answered values)
-barred-within f values h = ap (λ (b : Bool). cond b (refused 13 []) (answered values)) (sym h)
-
-pub barred-reply : (f : ℕ) (r : Reply) → ltb maxFloor f ≡ false → barred f r ≡ r
-barred-reply f (answered values) h = sym (barred-within f values h)
-barred-reply f (refused n carries) h = refl
-
 -- ---- one list
 
--- a refusal of both, or none and they are the same
-data Agrees (which : ℕ) (l s : List ℤ) : Type 0 where
-  both : (n : ℕ) (carries : List ℕ) → ((x : Reply) → firstRow (shapeRows which l) x ≡ refused n carries)
-      → ((x : Reply) → firstRow (shapeRows which s) x ≡ refused n carries) → Agrees which l s
-  none : s ≡ l → NoneApply (shapeRows which l) → Agrees which l s
-
-agrees : (which : ℕ) (l s : List ℤ) → Alike l s → Agrees which l s
-agrees which l s (equal e) = go (outcome (shapeRows which l))
-  where
-    go : Outcome (shapeRows which l) → Agrees which l s
-    go (given w f) = both (w .number) (w .carries) (λ x. firstRow-given x f)
-        (λ x. ap (λ (k : List ℤ). firstRow (shapeRows which k) x) e ∙ firstRow-given x f)
-    go (passed n) = none e n
-agrees which l s (odd h k) = both 1 (which ∷ []) (λ x. rw h) (λ x. rw k)
-agrees which l s (many h k p q) = both 2 (which ∷ []) (λ x. rw (h, p)) (λ x. rw (k, q))
+alike-rows : (which : ℕ) (l s : List ℤ) → Alike l s → Agree (shapeRows which s) (shapeRows which l) (s ≡ l)
+alike-rows which l s (equal e) = agree-same (ap (shapeRows which) e) (λ n. e)
+alike-rows which l s (odd h k) = both (here k) (here h) refl refl
+alike-rows which l s (many h k p q) = both (later k (here q)) (later h (here p)) refl refl
 
 pub judged-same : (a : List ℕ) (s : List ℤ) → Alike (listOf a) s → (f h : ℕ) → (ltb maxFloor f ≡ false → h ≡ f)
-    → barred f (reply (askJudge (on s h))) ≡ judgedBytes a f
-unfolding reply judgedBytes
-judged-same a s alike f h e = go (agrees 1 (listOf a) s alike)
+    → barred f (reply (askJudge (on s h))) ≡ reply (askJudgeBytes a f)
+judged-same a s alike f h e = go (alike-rows 1 (listOf a) s alike)
   where
-    count : List ℤ → ℕ
-    count l = length (points l)
+    go : Agree (shapeRows 1 s) (shapeRows 1 (listOf a)) (s ≡ listOf a) → barred f (reply (askJudge (on s h))) ≡ reply (askJudgeBytes a f)
+    go (both i j n c) =
+        ap (barred f) (asked-given (askJudge (on s h)) (first-append [] i) ∙ ap₂ refused n c)
+        ∙ sym (asked-given (askJudgeBytes a f) (first-append _ j))
+    go (none n m q) = ap (barred f) (asked-none (askJudge (on s h)) (none-join (shapeRows 1 s) [] n tt)) ∙ floor (ltb maxFloor f) refl
+      where
+        floor : (b : Bool) → ltb maxFloor f ≡ b → barred f (answered (values (askJudge (on s h)))) ≡ reply (askJudgeBytes a f)
+        floor true p =
+            sym (barred-above f _ p) ∙ sym (asked-given (askJudgeBytes a f) (first-join (shapeRows 1 (listOf a)) m (here p)))
+        floor false p =
+            sym (barred-within f _ p) ∙ ap₂ (λ (l : List ℤ) (k : ℕ). answered (pos (length (points l)) ∷ pos k ∷ [])) q (e p)
+            ∙ sym (asked-none (askJudgeBytes a f) (none-join (shapeRows 1 (listOf a)) (row 13 (ltb maxFloor f) [] ∷ []) m (p, tt)))
 
-    last : (b : Bool) → ltb maxFloor f ≡ b → cond b (refused 13 []) (answered (pos (count (listOf a)) ∷ pos h ∷ []))
-        ≡ cond b (refused 13 []) (answered (pos (count (listOf a)) ∷ pos f ∷ []))
-    last true q = refl
-    last false q = ap (λ (k : ℕ). answered (pos (count (listOf a)) ∷ pos k ∷ [])) (e q)
-
-    go : Agrees 1 (listOf a) s → barred f (firstRow (shapeRows 1 s) (answered (pos (count s) ∷ pos h ∷ [])))
-        ≡ firstRow (judgedRows (listOf a) f) (answered (pos (count (listOf a)) ∷ pos f ∷ []))
-    go (both n carries p q) =
-        ap (barred f) (q _)
-        ∙ sym (firstRow-append (shapeRows 1 (listOf a)) (row 13 (ltb maxFloor f) [] ∷ []) _ ∙ p _)
-    go (none q n) =
-        ap (λ (l : List ℤ). barred f (firstRow (shapeRows 1 l) (answered (pos (count l) ∷ pos h ∷ [])))) q
-        ∙ ap (barred f) (firstRow-none (shapeRows 1 (listOf a)) _ n)
-        ∙ last (ltb maxFloor f) refl
-        ∙ sym (firstRow-passed (shapeRows 1 (listOf a)) (row 13 (ltb maxFloor f) [] ∷ []) _ n)
+pub judged-within : (a : List ℕ) (f : ℕ) → ltb maxFloor f ≡ false → reply (askJudgeBytes a f) ≡ reply (askJudge (on (listOf a) f))
+judged-within a f h =
+    same-reply _ _ (agree-join (agree-same {vs = shapeRows 1 (listOf a)} refl (λ n. n)) (λ n. none (h, tt) tt n)) (λ e. refl)
 
 -- ---- two lists
 
-pub data Agree (l : List ℤ) (f : ℕ) (m : List ℤ) (g : ℕ) (s : List ℤ) (h : ℕ) (t : List ℤ) (k : ℕ) : Type 0 where
-  refusals : (n : ℕ) (carries : List ℕ) → ((x : Reply) → firstRow (pairRows l f m g) x ≡ refused n carries)
-      → ((x : Reply) → firstRow (doorRows (on s h) (on t k)) x ≡ refused n carries) → Agree l f m g s h t k
-  sames : s ≡ l → t ≡ m → h ≡ f → NoneApply (pairRows l f m g) → NoneApply (doorRows (on s h) (on t k)) → Agree l f m g s h t k
+module _ {l s m t : List ℤ} {f g h k : ℕ} (u : Alike l s) (v : Alike m t) (p : Passed f g h k) where
+  pair-agree : Agree (pairRows (on s h) (on t k)) (pairRows (on l f) (on m g)) ((s ≡ l) × (t ≡ m) × (h ≡ f))
+  pair-agree =
+      agree-join (alike-rows 1 l s u) (λ e. agree-join (alike-rows 2 m t v) (λ e′.
+      agree-row 13 [] (not (eqb h k)) (not (eqb f g)) (ap not (p .differ-same))
+      (λ n. (e, e′, p .first-same (eqb-true f g (not-false _ n))))))
 
-pub agree : (l s m t : List ℤ) (f g h k : ℕ) → Alike l s → Alike m t → Passed f g h k → Agree l f m g s h t k
-agree l s m t f g h k u v p = first (agrees 1 l s u)
-  where
-    floors : s ≡ l → NoneApply (shapeRows 1 l) → t ≡ m → NoneApply (shapeRows 2 m) → (b : Bool) → floorsRow f g .applies ≡ b
-        → Agree l f m g s h t k
-    floors q n q′ n′ true e = refusals 13 []
-        (λ x. firstRow-passed (shapeRows 1 l) (shapeRows 2 m ++ (floorsRow f g ∷ [])) x n
-        ∙ firstRow-passed (shapeRows 2 m) (floorsRow f g ∷ []) x n′ ∙ ap (λ (b : Bool). cond b (refused 13 []) x) e)
-        (λ x. ap₂ (λ (c d : List ℤ). firstRow (doorRows (on c h) (on d k)) x) q q′
-        ∙ firstRow-passed (shapeRows 1 l) (shapeRows 2 m ++ (floorRow h k ∷ [])) x n
-        ∙ firstRow-passed (shapeRows 2 m) (floorRow h k ∷ []) x n′ ∙ ap (λ (b : Bool). cond b (refused 13 []) x) (p .refused-same ∙ e))
-    floors q n q′ n′ false e = sames q q′ (p .first-same e)
-        (none-join (shapeRows 1 l) (shapeRows 2 m ++ (floorsRow f g ∷ [])) n (none-join (shapeRows 2 m) (floorsRow f g ∷ []) n′ (e, tt)))
-        (subst (λ (c : List ℤ). NoneApply (doorRows (on c h) (on t k))) (sym q)
-        (subst (λ (d : List ℤ). NoneApply (doorRows (on l h) (on d k))) (sym q′)
-        (none-join (shapeRows 1 l) (shapeRows 2 m ++ (floorRow h k ∷ [])) n
-        (none-join (shapeRows 2 m) (floorRow h k ∷ []) n′ (p .refused-same ∙ e, tt)))))
+  pub relation-same : {r : Reply} → r ≡ reply (askRelation (on s h) (on t k)) → r ≡ reply (askRelation (on l f) (on m g))
+  relation-same q = q ∙ same-reply _ _ (agree-join pair-agree (λ e. none tt tt e))
+      (λ e. ap₂ (λ (c d : List ℤ). relationNumber (points c) (points d) ∷ pos h ∷ []) (e .0) (e .1)
+      ∙ ap (λ (i : ℕ). relationNumber (points l) (points m) ∷ pos i ∷ []) (e .2))
 
-    second : s ≡ l → NoneApply (shapeRows 1 l) → Agrees 2 m t → Agree l f m g s h t k
-    second q n (both i carries a b) = refusals i carries
-        (λ x. firstRow-passed (shapeRows 1 l) (shapeRows 2 m ++ (floorsRow f g ∷ [])) x n
-        ∙ firstRow-append (shapeRows 2 m) (floorsRow f g ∷ []) x ∙ a _)
-        (λ x. ap (λ (c : List ℤ). firstRow (doorRows (on c h) (on t k)) x) q
-        ∙ firstRow-passed (shapeRows 1 l) (shapeRows 2 t ++ (floorRow h k ∷ [])) x n
-        ∙ firstRow-append (shapeRows 2 t) (floorRow h k ∷ []) x ∙ b _)
-    second q n (none q′ n′) = floors q n q′ n′ (floorsRow f g .applies) refl
+  module _ (made : List Point → List Point → List Point) (old : List ℤ) where
+    asked-agree : Agree (table (asked made (on s h) (on t k) old)) (table (asked made (on l f) (on m g) old))
+        ((made (points s) (points t) ≡ made (points l) (points m)) × (h ≡ f))
+    asked-agree = agree-join pair-agree (λ e.
+        let same = ap₂ (λ (c d : List ℤ). made (points c) (points d)) (e .0) (e .1) in
+        agree-same (ap (λ (ps : List Point). answerRows ps old) same) (λ n. (same, e .2)))
 
-    first : Agrees 1 l s → Agree l f m g s h t k
-    first (both i carries a b) = refusals i carries
-        (λ x. firstRow-append (shapeRows 1 l) (shapeRows 2 m ++ (floorsRow f g ∷ [])) x ∙ a _)
-        (λ x. firstRow-append (shapeRows 1 s) (shapeRows 2 t ++ (floorRow h k ∷ [])) x ∙ b _)
-    first (none q n) = second q n (agrees 2 m t v)
-
--- what is asked about stands for itself, its floors being within their limit
-pub agree-self : (s t : List ℤ) (h k : ℕ) → h ≤ maxFloor → k ≤ maxFloor → Agree s h t k s h t k
-agree-self s t h k p q =
-    agree s s t t h k h k (equal refl) (equal refl) (passed-both h k (le-ltb maxFloor h p) (le-ltb maxFloor k q))
-
-pub relation-same : (a b : List ℕ) (s t : List ℤ) (f g h k : ℕ) → Agree (listOf a) f (listOf b) g s h t k
-    → reply (askRelation (on s h) (on t k)) ≡ relationBytes a f b g
-unfolding reply relationBytes
-relation-same a b s t f g h k (refusals n carries p q) = q _ ∙ sym (p _)
-relation-same a b s t f g h k (sames q q′ e n n′) =
-    firstRow-none (doorRows (on s h) (on t k)) _ n′
-    ∙ ap₂ (λ (c d : List ℤ). answered (relationNumber (points c) (points d) ∷ pos h ∷ [])) q q′
-    ∙ ap (λ (i : ℕ). answered (relationNumber (points (listOf a)) (points (listOf b)) ∷ pos i ∷ [])) e
-    ∙ sym (firstRow-none (pairRows (listOf a) f (listOf b) g) _ n)
+    pub asked-same : (out : List ℕ) {x : ℕ} {after : List ℕ}
+        → let q = asked made (on s h) (on t k) old in (x ≡ packed (reply q)) × (after ≡ bytesAfter q out)
+        → let q = asked made (on l f) (on m g) old in (x ≡ packed (reply q)) × (after ≡ bytesAfter q out)
+    asked-same out r = (
+      r .0
+          ∙ ap packed (same-reply _ _ asked-agree (λ e. ap₂ (λ (ps : List Point) (i : ℕ). pos (length ps) ∷ pos i ∷ []) (e .0) (e .1))),
+      r .1 ∙ same-bytes _ _ out asked-agree (λ e. e .0),
+    )

@@ -1,12 +1,12 @@
 -- Every reply of the four calls has room in the bytes of its number.
---     judged-fits, relation-fits, pair-fits
-use mathlib.Core.Path.{_≡_, refl}
-use mathlib.Core.Bool.{Bool, true, false, not, cond, _||_, true≢false}
+--     judged-fits, relation-fits, made-fits
+use mathlib.Core.Path.{_≡_, refl, sym, subst}
+use mathlib.Core.Bool.{Bool, true, false, cond}
 use mathlib.Core.List.{List, [], _∷_, _++_}
-use Prim.Native.Nat.{ℕ, _+_, _*_, _≤_, _<_}
+use Prim.Native.Nat.{ℕ, _+_, _≤_, _<_}
 use native.Mathlib.Omega.{arith}
-use borrow.Author.Tests.{ltb-false}
-use lib.Dec.{lit<, eqb, ltb}
+use borrow.Author.Tests.{ltb-false, eqb-true, not-false}
+use lib.Dec.{lit<, ltb}
 use lib.IntN.{ℤ, pos}
 use lib.ListN.{length}
 use Rattle.plane.specs.Limits.{maxCorners, maxFloor, floor-small}
@@ -15,11 +15,14 @@ use Rattle.plane.specs.Reply.{Reply, answered, refused, Row, row, firstRow}
 use Rattle.plane.specs.Refusal.{badCount, tooMany, someOutside, equalPair, ruleBroken, badStart, shapeRows}
 use Rattle.plane.specs.Refusal.{breakingEdge, breakingCorner, brokenEdge, brokenCorner}
 use Rattle.plane.specs.Separation.{apart, touching, relationNumber}
+use Rattle.plane.specs.Output.{roomRow, answerRows}
+use Rattle.plane.specs.Floor.{Floored, corners, twoShapes, floorRow, pairRows}
+use Rattle.plane.specs.Question.{reply, makes, askRelation}
 use Rattle.plane.specs.theory.lists.Sought.{first-le}
 use Rattle.plane.specs.theory.refusals.Accept.{few-corners}
 use Rattle.abi.specs.Lists.{listOf}
 use Rattle.abi.specs.Packing.{Fits}
-use Rattle.abi.specs.Calls.{judgedBytes, floorsRow, relationBytes, answerRows, pairBytes}
+use Rattle.abi.specs.Calls.{askJudgeBytes}
 
 -- ---- the fields
 
@@ -83,46 +86,38 @@ fits-shape which h l rest x k =
     row-4 which h (points l) few _
     (fits-row (row 5 (badStart (points l)) (which ∷ [])) _ (blamed 5 which (omega arith) h) (λ e. k few)))))
 
--- ---- the calls
+-- ---- the questions
 
-pub judged-fits : (a : List ℕ) (f : ℕ) → Fits (judgedBytes a f)
-unfolding judgedBytes
+pub judged-fits : (a : List ℕ) (f : ℕ) → Fits (reply (askJudgeBytes a f))
+unfolding reply
 judged-fits a f =
     fits-shape 1 (omega arith) (listOf a) (row 13 (ltb maxFloor f) [] ∷ []) _ (λ few.
     fits-row (row 13 (ltb maxFloor f) []) _ (plain 13 (omega arith)) (λ low.
     answer-fits (length (points (listOf a))) f (omega (arith, few-corners (points (listOf a)) few, corners-fit))
     (omega (arith, ltb-false maxFloor f low, floor-small))))
 
--- where 13 does not apply, the first floor is low
-low-floor : (f g : ℕ) → floorsRow f g .applies ≡ false → f < 65536
-low-floor f g h = go (not (eqb f g)) (ltb maxFloor f) refl h
-  where
-    go : (a b : Bool) → ltb maxFloor f ≡ b → (a || (b || ltb maxFloor g)) ≡ false → f < 65536
-    go true b e h = absurd (true≢false h)
-    go false true e h = absurd (true≢false h)
-    go false false e h = omega (arith, ltb-false maxFloor f e, floor-small)
+-- two shapes, whose floor is low if it is one
+module _ (a b : Floored) (low : a .floor ≡ b .floor → a .floor ≤ maxFloor) where
+  pair-fits : (rest : List Row) (x : Reply) → (a .floor < 65536 → Fits (firstRow rest x)) → Fits (firstRow (pairRows a b ++ rest) x)
+  pair-fits rest x k =
+      fits-shape 1 (omega arith) (a .list) (shapeRows 2 (b .list) ++ (floorRow (a .floor) (b .floor) ∷ rest)) _ (λ few.
+      fits-shape 2 (omega arith) (b .list) (floorRow (a .floor) (b .floor) ∷ rest) _ (λ few.
+      fits-row (floorRow (a .floor) (b .floor)) _ (plain 13 (omega arith)) (λ same.
+      k (omega (arith, low (eqb-true (a .floor) (b .floor) (not-false _ same)), floor-small)))))
 
-pub relation-fits : (a : List ℕ) (f : ℕ) (b : List ℕ) (g : ℕ) → Fits (relationBytes a f b g)
-unfolding relationBytes relationNumber
-relation-fits a f b g =
-    fits-shape 1 (omega arith) (listOf a) (shapeRows 2 (listOf b) ++ (floorsRow f g ∷ [])) _ (λ few.
-    fits-shape 2 (omega arith) (listOf b) (floorsRow f g ∷ []) _ (λ few.
-    fits-row (floorsRow f g) _ (plain 13 (omega arith)) (λ low.
-    go (apart (points (listOf a)) (points (listOf b))) (touching (points (listOf a)) (points (listOf b))) (low-floor f g low))))
-  where
-    go : (p q : Bool) → f < 65536 → Fits (answered (cond p (pos 0) (cond q (pos 1) (pos 2)) ∷ pos f ∷ []))
-    go true q h = answer-fits 0 f (omega arith) h
-    go false true h = answer-fits 1 f (omega arith) h
-    go false false h = answer-fits 2 f (omega arith) h
+  pub relation-fits : Fits (reply (askRelation a b))
+  unfolding reply relationNumber
+  relation-fits = pair-fits [] _ (go (apart (corners a) (corners b)) (touching (corners a) (corners b)))
+    where
+      go : (p q : Bool) → a .floor < 65536 → Fits (answered (cond p (pos 0) (cond q (pos 1) (pos 2)) ∷ pos (a .floor) ∷ []))
+      go true q h = answer-fits 0 (a .floor) (omega arith) h
+      go false true h = answer-fits 1 (a .floor) (omega arith) h
+      go false false h = answer-fits 2 (a .floor) (omega arith) h
 
-pub pair-fits : (combined : List Point → List Point → List Point) (l : List ℤ) (f : ℕ) (m : List ℤ) (g : ℕ) (out : List ℕ)
-    → Fits (pairBytes combined l f m g out .reply)
-pair-fits combined l f m g out =
-    let shape = combined (points l) (points m) in
-    fits-shape 1 (omega arith) l (shapeRows 2 m ++ (floorsRow f g ∷ answerRows shape out)) _ (λ few.
-    fits-shape 2 (omega arith) m (floorsRow f g ∷ answerRows shape out) _ (λ few.
-    fits-row (floorsRow f g) _ (plain 13 (omega arith)) (λ low.
-    fits-row (row 6 (tooMany shape) []) _ (plain 6 (omega arith)) (λ few.
-    fits-row (row 7 (someOutside (numbers shape)) []) _ (plain 7 (omega arith)) (λ near.
-    fits-row (row 8 (ltb (length out) (8 * length shape)) []) _ (plain 8 (omega arith)) (λ room.
-    answer-fits (length shape) f (omega (arith, few-corners shape few, corners-fit)) (low-floor f g low)))))))
+  pub made-fits : (shape : List Point) (out : List ℤ) {r : Reply} → r ≡ reply (makes (twoShapes a b) shape out) → Fits r
+  unfolding reply
+  made-fits shape out e = subst Fits (sym e) (pair-fits (answerRows shape out) _ (λ h.
+      fits-row (row 6 (tooMany shape) []) _ (plain 6 (omega arith)) (λ few.
+      fits-row (row 7 (someOutside (numbers shape)) []) _ (plain 7 (omega arith)) (λ near.
+      fits-row (roomRow shape out) _ (plain 8 (omega arith)) (λ room.
+      answer-fits (length shape) (a .floor) (omega (arith, few-corners shape few, corners-fit)) h)))))

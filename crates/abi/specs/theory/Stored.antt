@@ -1,207 +1,148 @@
--- A shape made of two, asked of a question that writes numbers, and what becomes of the bytes.
---     word-stored          a number written as four bytes
---     encoded-start, encoded-more, encoded-done     numbers written as bytes, one by one
---     pair-same            the question's reply is that of the call
---     pair-delivered       its corners are in the buffer, and there is room for their bytes
---     pair-stored          the bytes that are written are those of the call
-use mathlib.Core.Path.{_≡_, refl, sym, _∙_, ap, ap₂, subst}
-use mathlib.Core.Bool.{Bool, true, false, cond}
+-- What becomes of the output bytes.
+--     kept-bytes, wrote-bytes     a refusal leaves them as they were; an answer writes the shape at their front
+-- Of a question that makes a shape:
+--     room-words         refusal 8 of the numbers that bytes hold: "eight to a corner"
+--     room-same          the reply and the bytes, asked with other numbers that have as much room
+--     made-delivered     its corners are among the numbers, and there is room for their bytes
+--     made-stored        its reply packed, and its numbers at the front of a buffer stored, are what the call promises
+--     made-read-back     the bytes that were written, read back, are the shape's numbers: 7 was not given, so each has room in four bytes
+use mathlib.Core.Path.{_≡_, refl, sym, _∙_, ap, subst}
+use mathlib.Core.Bool.{Bool, true, false}
 use mathlib.Core.List.{List, [], _∷_, _++_}
-use Prim.Native.Nat.{ℕ, suc, _+_, _*_, _/_, _%_, _≤_, _<_}
+use Prim.Native.Nat.{ℕ, _*_, _/_, _≤_, _^_}
 use native.Mathlib.Omega.{arith}
 use borrow.Author.Tests.{ltb-true, ltb-false}
 use lib.Dec.{ltb}
 use lib.IntN.{ℤ, pos}
-use lib.ListN.{length, take, drop, getD, set, length-append, length-drop}
-use lib.Seq.{sets, sets-eq, take-at, drop-at, take-take, drop-drop, length-take-le}
-use mir.Syntax.{w32}
-use mir.Val.{SFits, ofZ}
-use mir.Facts.{fits-ofZ, fits-lt-pow}
-use Rattle.plane.specs.Point.{Point, points, numbers}
-use Rattle.plane.specs.Reply.{Reply, answered, refused, Row, firstRow, NoneApply}
-use Rattle.plane.specs.Refusal.{tooMany, someOutside}
-use Rattle.plane.specs.Output.{noRoom, overwritten, unlessRefused}
-use Rattle.plane.specs.Output.{answerRows as doorAnswerRows}
-use Rattle.plane.specs.Floor.{on}
-use Rattle.plane.specs.Floor.{pairRows as doorRows}
-use Rattle.plane.specs.Question.{reply, output}
+use lib.ListN.{length, take, drop}
+use lib.Seq.{take-at, take-take}
+use Rattle.integer.specs.Bound.{within-widen}
+use Rattle.integer.specs.Machine.{within-fits}
+use Rattle.plane.specs.Limits.{coordinate-small}
+use Rattle.plane.specs.Point.{Point, numbers}
+use Rattle.plane.specs.Reply.{Reply, answered, refused, NoneApply}
+use Rattle.plane.specs.Refusal.{tooMany}
+use Rattle.plane.specs.Output.{noRoom, sizeRows, answerRows, overwritten}
+use Rattle.plane.specs.Floor.{Shapes, rowsOf}
+use Rattle.plane.specs.Question.{Question, table, reply, output, makes}
 use Rattle.plane.specs.theory.lists.Flat.{numbers-length}
-use Rattle.plane.specs.theory.refusals.Accept.{few-corners}
-use Rattle.plane.specs.theory.refusals.Rows.{Outcome, given, passed, outcome, none-append}
-use Rattle.plane.specs.theory.refusals.Rows.{firstRow-append, firstRow-given, firstRow-none, firstRow-passed}
-use Rattle.plane.specs.theory.refusals.Rows.{none-output, passed-output}
-use Rattle.journal.specs.Bytes.{pair, word, words}
-use Rattle.journal.specs.theory.Bytes.{word-length, words-length}
-use Rattle.journal.specs.theory.Storing.{words-more}
-use Rattle.abi.specs.Packing.{firstField}
-use Rattle.abi.specs.Calls.{pairRows, answerRows, overBytes, stored, pairBytes}
-use Rattle.abi.specs.Passing.{asked, Room, Deliverable}
-use Rattle.abi.specs.theory.Alike.{Agree, refusals, sames}
+use Rattle.plane.specs.theory.refusals.Accept.{few-corners, near→inRange}
+use Rattle.plane.specs.theory.refusals.Rows.{Outcome, given, passed, outcome, none-append, given-output, none-output}
+use Rattle.plane.specs.theory.refusals.Asked.{asked-given, asked-none, asked-refused, asked-answered, asked-values, asked-rest, none-wrote}
+use Rattle.endian.specs.Bytes.{words, wordsAt}
+use Rattle.endian.specs.theory.Bytes.{words-length, wordsAt-length, wordsAt-words}
+use Rattle.abi.specs.Lists.{wordsIn}
+use Rattle.abi.specs.Packing.{firstField, packed}
+use Rattle.abi.specs.Calls.{bytesAfter}
+use Rattle.abi.specs.Passing.{Room, Deliverable, stored}
+use Rattle.abi.specs.theory.Agree.{Agree, agree-same, agree-row, agree-join, same-reply, same-bytes}
 
--- ---- numbers as bytes
+-- ---- every question
 
--- four stores in a row
-four : (out : List ℕ) (p : ℕ) {a b c d a′ b′ c′ d′ i j k : ℕ} → i ≡ suc p → j ≡ suc (suc p) → k ≡ suc (suc (suc p))
-    → a ≡ a′ → b ≡ b′ → c ≡ c′ → d ≡ d′ → set (set (set (set out p a) i b) j c) k d ≡ sets out p (a′ ∷ b′ ∷ c′ ∷ d′ ∷ [])
-four out p ei ej ek ea eb ec ed = λ t. set (set (set (set out p (ea t)) (ei t) (eb t)) (ej t) (ec t)) (ek t) (ed t)
+eight-bytes : (ps : List Point) → length (words (numbers ps)) ≡ 8 * length ps
+eight-bytes ps = omega (arith, words-length (numbers ps), numbers-length ps)
 
-pub word-stored : (z : ℤ) → SFits w32 z → (n : ℕ) → n ≡ ofZ w32 z → (out : List ℕ) (p : ℕ)
-    → set (set (set (set out p (n % 256)) (p + 1) (n / 256 % 256)) (p + 2) (n / 65536 % 256)) (p + 3) (n / 16777216) ≡ sets out p (word z)
-unfolding word pair
-word-stored z f n q out p =
-    let small = fits-lt-pow (fits-ofZ f) in
-    four out p (omega arith) (omega arith) (omega arith) (omega (arith, q)) (omega (arith, q)) (omega (arith, q)) (omega (arith, q, small))
+module _ (q : Question) (out : List ℕ) where
+  pub kept-bytes : (n : ℕ) (carries : List ℕ) → reply q ≡ refused n carries → bytesAfter q out ≡ out
+  unfolding bytesAfter
+  kept-bytes n carries h = given-output out _ (asked-refused q n carries h .1)
 
--- i numbers of the list stand at the front of the bytes, and all behind them is as it was
-pub record Encoded (old : List ℕ) (l : List ℤ) (i : ℕ) (out : List ℕ) : Type 0 where
-  pub front : out ≡ words (take i l) ++ drop (4 * i) old
+  pub wrote-bytes : (v : List ℤ) → reply q ≡ answered v → bytesAfter q out ≡ words (numbers (q .shape)) ++ drop (8 * length (q .shape)) out
+  unfolding bytesAfter overwritten
+  wrote-bytes v h =
+      none-output (table q) out _ (asked-answered q v h) ∙ ap (λ (n : ℕ). words (numbers (q .shape)) ++ drop n out) (eight-bytes (q .shape))
 
-front-bytes : (l : List ℤ) (i : ℕ) → i ≤ length l → length (words (take i l)) ≡ 4 * i
-front-bytes l i h = words-length (take i l) ∙ ap (λ (k : ℕ). 4 * k) (length-take-le i l h)
+-- ---- refusal 8
 
-pub encoded-start : (old : List ℕ) (l : List ℤ) → Encoded old l 0 old
-unfolding words
-encoded-start old l = record { front = refl }
-
-pub encoded-length : {old : List ℕ} {l : List ℤ} {i : ℕ} {out : List ℕ} → Encoded old l i out → i ≤ length l → 4 * i ≤ length old
-    → length out ≡ length old
-encoded-length {old} {l} {i} e h k =
-    omega (arith, ap length (e .front) ∙ length-append (words (take i l)) (drop (4 * i) old), front-bytes l i h, length-drop (4 * i) old)
-
-pub encoded-more : {old : List ℕ} {l : List ℤ} {i : ℕ} {out : List ℕ} {z : ℤ} → Encoded old l i out → i < length l
-    → 4 + 4 * i ≤ length old → z ≡ getD l i (pos 0) → Encoded old l (i + 1) (sets out (4 * i) (word z))
-encoded-more {old} {l} {i} {out} {z} e h room q = record {
-  front =
-      sets-eq (word z) out (4 * i) (omega (arith, word-length z, encoded-length e (omega arith) (omega (arith, room)), room))
-      ∙ ap₂ (λ (x y : List ℕ). x ++ word z ++ y) head tail
-      ∙ ap (λ (y : ℤ). words (take i l) ++ word y ++ drop (4 * (i + 1)) old) q
-      ∙ ap (λ (x : List ℕ). x ++ drop (4 * (i + 1)) old) (words-more l i h);
-}
-  where
-    head : take (4 * i) out ≡ words (take i l)
-    head = ap (take (4 * i)) (e .front) ∙ take-at (words (take i l)) (drop (4 * i) old) (4 * i) (front-bytes l i (omega arith))
-
-    same : drop (4 * i) out ≡ drop (4 * i) old
-    same = ap (drop (4 * i)) (e .front) ∙ drop-at (words (take i l)) (drop (4 * i) old) (4 * i) (front-bytes l i (omega arith))
-
-    tail : drop (4 * i + length (word z)) out ≡ drop (4 * (i + 1)) old
-    tail =
-        ap (λ (n : ℕ). drop (4 * i + n) out) (word-length z) ∙ sym (drop-drop 4 (4 * i) out) ∙ ap (drop 4) same
-        ∙ drop-drop 4 (4 * i) old ∙ ap (λ (n : ℕ). drop n old) (let d : 4 * i + 4 ≡ 4 * (i + 1) = omega arith in d)
-
-pub encoded-done : {old : List ℕ} {l : List ℤ} {i n : ℕ} {out : List ℕ} → Encoded old l i out → i ≡ n → n ≤ length l
-    → out ≡ overBytes (words (take n l)) old
-encoded-done {old} {l} {i} {n} e q h =
-    e .front ∙ ap (λ (k : ℕ). words (take k l) ++ drop (4 * k) old) q
-    ∙ ap (λ (k : ℕ). words (take n l) ++ drop k old) (sym (front-bytes l n h))
-
--- ---- refusal 8, in numbers and in bytes
-
-room-same : (shape : List Point) (out : List ℕ) (old : List ℤ) → Room (length out) (length old) → tooMany shape ≡ false
-    → noRoom shape old ≡ ltb (length out) (8 * length shape)
-unfolding noRoom
-room-same shape out old room few = go (ltb (length old) (length (numbers shape))) (ltb (length out) (8 * length shape)) refl refl
-  where
-    go : (a b : Bool) → ltb (length old) (length (numbers shape)) ≡ a → ltb (length out) (8 * length shape) ≡ b → a ≡ b
-    go true true p q = refl
-    go true false p q =
-        let fit = room .enough (length shape) (few-corners shape few) (ltb-false (length out) (8 * length shape) q) in
-        let less = ltb-true (length old) (length (numbers shape)) p in
-        absurd (omega (arith, fit, less, numbers-length shape))
-    go false true p q =
-        let most = ltb-false (length old) (length (numbers shape)) p in
-        let fit = room .holds (length shape) (omega (arith, most, numbers-length shape)) in
-        absurd (omega (arith, fit, ltb-true (length out) (8 * length shape) q))
-    go false false p q = refl
-
-answer-same : (shape : List Point) (out : List ℕ) (old : List ℤ) → Room (length out) (length old) → (x : Reply)
-    → firstRow (doorAnswerRows shape old) x ≡ firstRow (answerRows shape out) x
-answer-same shape out old room x = go (tooMany shape) refl
-  where
-    go : (b : Bool) → tooMany shape ≡ b → firstRow (doorAnswerRows shape old) x ≡ firstRow (answerRows shape out) x
-    go true e = rw e
-    go false e = ap
-        (λ (b : Bool). cond (tooMany shape) (refused 6 []) (cond (someOutside (numbers shape)) (refused 7 []) (cond b (refused 8 []) x)))
-        (room-same shape out old room e)
-
--- ---- a question that writes a shape made of two
-
-module _ (combined : List Point → List Point → List Point) (l : List ℤ) (f : ℕ) (m : List ℤ) (g : ℕ) (s : List ℤ) (h : ℕ)
-    (t : List ℤ) (k : ℕ) (out : List ℕ) (old : List ℤ) (room : Room (length out) (length old)) where
-  -- the rows of the call
-  abbrev rows : List Row
-  rows = pairRows l f m g ++ answerRows (combined (points l) (points m)) out
-
-  abbrev answer : Reply
-  answer = answered (pos (length (combined (points l) (points m))) ∷ pos f ∷ [])
-
-  pub pair-same : Agree l f m g s h t k
-      → reply (asked combined (on s h) (on t k) old) ≡ pairBytes combined l f m g out .reply
-  unfolding reply
-  pair-same (refusals n carries p q) =
-      firstRow-append (doorRows (on s h) (on t k)) (doorAnswerRows (combined (points s) (points t)) old) _ ∙ q _
-      ∙ sym (firstRow-append (pairRows l f m g) (answerRows (combined (points l) (points m)) out) answer ∙ p _)
-  pair-same (sames e e′ d n n′) =
-      let shape = combined (points l) (points m) in
-      let behind = doorAnswerRows (combined (points s) (points t)) old in
-      let here = answered (pos (length (combined (points s) (points t))) ∷ pos h ∷ []) in
-      firstRow-passed (doorRows (on s h) (on t k)) behind here n′
-      ∙ ap₂ (λ (a b : List ℤ). let c = combined (points a) (points b) in
-      firstRow (doorAnswerRows c old) (answered (pos (length c) ∷ pos h ∷ []))) e e′
-      ∙ ap (λ (i : ℕ). firstRow (doorAnswerRows shape old) (answered (pos (length shape) ∷ pos i ∷ []))) d
-      ∙ answer-same shape out old room answer
-      ∙ sym (firstRow-passed (pairRows l f m g) (answerRows shape out) answer n)
-
-  pub pair-delivered : Agree l f m g s h t k → (n : ℕ) → length old ≤ n
-      → Deliverable (reply (asked combined (on s h) (on t k) old)) n (length out)
-  pair-delivered a n most = subst (λ (r : Reply). Deliverable r n (length out)) (sym (pair-same a)) (go (outcome rows))
+module _ (shape : List Point) (out : List ℕ) where
+  -- it is the same of numbers and of bytes that both have room, or both have none
+  room-test : (old : List ℤ) → (2 * length shape ≤ length old → 8 * length shape ≤ length out)
+      → (8 * length shape ≤ length out → 2 * length shape ≤ length old) → noRoom shape old ≡ ltb (length out) (8 * length shape)
+  unfolding noRoom
+  room-test old h k = go (ltb (length old) (length (numbers shape))) (ltb (length out) (8 * length shape)) refl refl
     where
-      go : Outcome rows → Deliverable (firstRow rows answer) n (length out)
-      go (given w f) = subst (λ (r : Reply). Deliverable r n (length out)) (sym (firstRow-given answer f)) tt
+      go : (a b : Bool) → ltb (length old) (length (numbers shape)) ≡ a → ltb (length out) (8 * length shape) ≡ b → a ≡ b
+      go true true p q = refl
+      go true false p q =
+          let fit = k (ltb-false (length out) (8 * length shape) q) in
+          absurd (omega (arith, fit, ltb-true (length old) (length (numbers shape)) p, numbers-length shape))
+      go false true p q =
+          let fit = h (omega (arith, ltb-false (length old) (length (numbers shape)) p, numbers-length shape)) in
+          absurd (omega (arith, fit, ltb-true (length out) (8 * length shape) q))
+      go false false p q = refl
+
+  pub room-words : noRoom shape (wordsIn out) ≡ ltb (length out) (8 * length shape)
+  room-words = let n = wordsAt-length out (length out / 4) 0 in room-test (wordsIn out) (λ h. omega (arith, n)) (λ h. omega (arith, n))
+
+  module _ (old : List ℤ) (room : Room (length out) (length old)) where
+    room-old : tooMany shape ≡ false → noRoom shape old ≡ noRoom shape (wordsIn out)
+    room-old few = room-test old (room .holds (length shape)) (room .enough (length shape) (few-corners shape few)) ∙ sym room-words
+
+    module _ (s : Shapes) where
+      room-agree : Agree (table (makes s shape old)) (table (makes s shape (wordsIn out))) (Unit {0})
+      room-agree =
+          agree-join (agree-same {vs = rowsOf s} refl (λ n. n)) (λ n. agree-join (agree-same {vs = sizeRows shape} refl (λ m. m)) (λ m.
+          agree-row 8 [] (noRoom shape old) (noRoom shape (wordsIn out)) (room-old (m .0)) (λ e. tt)))
+
+      pub room-same : (reply (makes s shape old) ≡ reply (makes s shape (wordsIn out)))
+          × (bytesAfter (makes s shape old) out ≡ bytesAfter (makes s shape (wordsIn out)) out)
+      room-same = (same-reply _ _ room-agree (λ e. refl), same-bytes _ _ out room-agree (λ e. refl))
+
+-- ---- what is written
+
+module _ (s : Shapes) (shape : List Point) (old : List ℤ) where
+  abbrev made : Question
+  made = makes s shape old
+
+  -- if no row applies there is room
+  fitting : NoneApply (table made) → 2 * length shape ≤ length old
+  unfolding noRoom
+  fitting n =
+      let rest = none-append (rowsOf s) (answerRows shape old) n .1 in
+      omega (arith, ltb-false (length old) (length (numbers shape)) (rest .1 .1 .0), numbers-length shape)
+
+  -- the numbers that are answered are at the front of the buffer
+  numbers-stored : (out : List ℕ) (buffer : List ℤ) → take (length old) buffer ≡ output made
+      → stored (reply made) (take (2 * firstField (reply made)) buffer) out ≡ bytesAfter made out
+  unfolding bytesAfter overwritten
+  numbers-stored out buffer at = go (outcome (table made))
+    where
+      go : Outcome (table made) → stored (reply made) (take (2 * firstField (reply made)) buffer) out ≡ bytesAfter made out
+      go (given w f) =
+          ap (λ (r : Reply). stored r (take (2 * firstField r) buffer) out) (asked-given made f) ∙ sym (given-output out _ f)
       go (passed p) =
-          let shape = combined (points l) (points m) in
-          let none = none-append (pairRows l f m g) (answerRows shape out) p .1 in
-          let bytes = ltb-false (length out) (8 * length shape) (none .1 .1 .0) in
-          let fit = room .enough (length shape) (few-corners shape (none .0)) bytes in
-          subst (λ (r : Reply). Deliverable r n (length out)) (sym (firstRow-none rows answer p)) (omega (arith, fit, most), bytes)
+          let front = sym (take-take (2 * length shape) (length old) buffer (fitting p))
+          ∙ ap (take (2 * length shape)) (at ∙ none-wrote made p)
+          ∙ take-at (numbers shape) (drop (length (numbers shape)) old) (2 * length shape) (numbers-length shape) in
+          ap (λ (r : Reply). stored r (take (2 * firstField r) buffer) out) (asked-none made p)
+          ∙ ap (λ (l : List ℤ). overwritten (words l) out) front ∙ sym (none-output (table made) out _ p)
 
-  module _ (buffer : List ℤ) (at : take (length old) buffer ≡ output (asked combined (on s h) (on t k) old)) where
-    -- the numbers that are answered stand at the front of the buffer
-    fronted : s ≡ l → t ≡ m → NoneApply rows → NoneApply (doorRows (on s h) (on t k))
-        → take (2 * length (combined (points l) (points m))) buffer ≡ numbers (combined (points l) (points m))
-    unfolding output overwritten
-    fronted e e′ n n′ =
-        let shape = combined (points l) (points m) in
-        let both = none-append (pairRows l f m g) (answerRows shape out) n in
-        let few = both .1 .0 in
-        let fits = room .enough (length shape) (few-corners shape few) (ltb-false (length out) (8 * length shape) (both .1 .1 .1 .0)) in
-        let new = overwritten (numbers shape) old in
-        let written = at ∙ passed-output (doorRows (on s h) (on t k)) (doorAnswerRows (combined (points s) (points t)) old) old _ n′
-        ∙ ap₂ (λ (a b : List ℤ). let c = combined (points a) (points b) in
-        unlessRefused (doorAnswerRows c old) old (overwritten (numbers c) old)) e e′
-        ∙ none-output (doorAnswerRows shape old) old new
-        (few, (both .1 .1 .0, (room-same shape out old room few ∙ both .1 .1 .1 .0, tt))) in
-        sym (take-take (2 * length shape) (length old) buffer fits) ∙ ap (take (2 * length shape)) written
-        ∙ take-at (numbers shape) (drop (length (numbers shape)) old) (2 * length shape) (numbers-length shape)
-
-    pub pair-stored : Agree l f m g s h t k → let r = reply (asked combined (on s h) (on t k) old) in
-        stored r (take (2 * firstField r) buffer) out ≡ pairBytes combined l f m g out .output
-    pair-stored a = ap (λ (r : Reply). stored r (take (2 * firstField r) buffer) out) (pair-same a) ∙ go a (outcome rows)
+  module _ (out : List ℕ) (room : Room (length out) (length old)) {r : Reply} (asks : r ≡ reply made) where
+    pub made-delivered : (n : ℕ) → length old ≤ n → Deliverable r n (length out)
+    made-delivered n most = go (outcome (table made))
       where
-        untouched : (n : ℕ) (carries : List ℕ) → firstRow rows answer ≡ refused n carries
-            → stored (firstRow rows answer) (take (2 * firstField (firstRow rows answer)) buffer) out
-            ≡ stored (firstRow rows answer) (numbers (combined (points l) (points m))) out
-        untouched n carries e =
-            ap (λ (r : Reply). stored r (take (2 * firstField r) buffer) out) e
-            ∙ sym (ap (λ (r : Reply). stored r (numbers (combined (points l) (points m))) out) e)
+        go : Outcome (table made) → Deliverable r n (length out)
+        go (given w f) = subst (λ (x : Reply). Deliverable x n (length out)) (sym (asks ∙ asked-given made f)) tt
+        go (passed p) = subst (λ (x : Reply). Deliverable x n (length out)) (sym (asks ∙ asked-none made p))
+            (let fit = fitting p in (omega (arith, fit, most), room .holds (length shape) fit))
 
-        go : Agree l f m g s h t k → Outcome rows
-            → stored (firstRow rows answer) (take (2 * firstField (firstRow rows answer)) buffer) out
-            ≡ stored (firstRow rows answer) (numbers (combined (points l) (points m))) out
-        go (refusals n carries p q) o =
-            untouched n carries (firstRow-append (pairRows l f m g) (answerRows (combined (points l) (points m)) out) answer ∙ p _)
-        go (sames e e′ d n n′) (given w fst) = untouched (w .number) (w .carries) (firstRow-given answer fst)
-        go (sames e e′ d n n′) (passed p) =
-            ap (λ (r : Reply). stored r (take (2 * firstField r) buffer) out) (firstRow-none rows answer p)
-            ∙ ap (λ (x : List ℤ). stored answer x out) (fronted e e′ p n′)
-            ∙ sym (ap (λ (r : Reply). stored r (numbers (combined (points l) (points m))) out) (firstRow-none rows answer p))
+    pub made-stored : {new : List ℤ} (rest : List ℤ) → length new ≡ length old → new ≡ output made → {x : ℕ} {after : List ℕ}
+        → x ≡ packed r → after ≡ stored r (take (2 * firstField r) (new ++ rest)) out
+        → let call = makes s shape (wordsIn out) in (x ≡ packed (reply call)) × (after ≡ bytesAfter call out)
+    made-stored {new} rest long is p q =
+        let same = room-same shape out old room s in (
+          p ∙ ap packed (asks ∙ same .0),
+          q ∙ ap (λ (y : Reply). stored y (take (2 * firstField y) (new ++ rest)) out) asks
+              ∙ numbers-stored out (new ++ rest) (take-at new rest (length old) long ∙ is) ∙ same .1,
+        )
+
+  pub made-read-back : (out : List ℕ) (c : ℕ) (h : ℤ) → reply made ≡ answered (pos c ∷ h ∷ [])
+      → wordsAt (2 * c) (bytesAfter made out) 0 ≡ numbers shape
+  made-read-back out c h e =
+      let range = near→inRange (numbers shape) (asked-rest made (pos c ∷ h ∷ []) e .1 .0) in
+      let count : c ≡ length shape = cc (asked-values made (pos c ∷ h ∷ []) e) in
+      let double : 2 * c ≡ length (numbers shape) = ap (λ (n : ℕ). 2 * n) count ∙ sym (numbers-length shape) in
+      ap (λ (bs : List ℕ). wordsAt (2 * c) bs 0) (wrote-bytes made out (pos c ∷ h ∷ []) e)
+      ∙ ap (λ (n : ℕ). wordsAt n (words (numbers shape) ++ drop (8 * length shape) out) 0) double
+      ∙ wordsAt-words [] (drop (8 * length shape) out) 0 refl (numbers shape)
+      (λ i k. within-fits {n = 2 ^ 20} tt (within-widen coordinate-small (range .near i k)))

@@ -1,13 +1,13 @@
 -- A walk with carried sides goes as the walk of its definition: the recipe for the invariant of a loop that walks.
 -- An invariant of the walk's place w becomes that of `walkOf s t over`, and with it stand `Carried a s` and `Carried b t`.
 --     all-passed, some-left      whether all edges are passed, by the count of those that are
---     here-small          the corner of the sum may be multiplied
+--     here-near           the corner of the sum may be added
 --     sides-walk          sides at a walk's positions have its place
 --     sides-here          the corner of the sum is the sum of the two corners
 --     first-next, second-next, corners-fit, edges-fit      what the functions on sides ask for
 --     sides-advanced      after each side went on by the sign of the product, the place is one step further
 --     sides-at            and the walk stands there
-use mathlib.Core.Path.{_≡_, refl, _∙_, ap₂}
+use mathlib.Core.Path.{_≡_, refl, _∙_, ap₂, sym, subst}
 use mathlib.Core.Bool.{Bool, true, false, cond}
 use mathlib.Core.List.{List, [], _∷_}
 use Prim.Native.Nat.{ℕ, _+_, _^_, _≤_, _<_}
@@ -18,15 +18,17 @@ use lib.ListN.{length}
 use lib.Signed.{_<ℤ_, ltZ}
 use Rattle.integer.specs.Linear.{lia, linear, _&_}
 use Rattle.integer.specs.Order.{lt-ltZ, ltZ-true}
+use Rattle.integer.specs.Bound.{within-add, within-widen}
 use Rattle.plane.specs.Point.{Point, points, corner, _⊕_}
 use Rattle.plane.specs.Turn.{cross}
 use Rattle.plane.specs.Refusal.{InRange}
 use Rattle.plane.specs.Forms.{edges}
+use Rattle.plane.specs.Limits.{coordinate-small}
 use Rattle.plane.specs.theory.forms.Vector.{cross-swap}
 use Rattle.plane.specs.theory.lists.Sought.{tests-agree}
 use Rattle.plane.specs.theory.sum.Positions.{shape-in-order, round-within, edges-at-most}
+use Rattle.plane.specs.theory.lists.Flat.{points-near}
 use Rattle.polygon.specs.Point.{Small}
-use Rattle.polygon.specs.theory.Small.{small-corner, small-plus}
 use Rattle.calipers.specs.declared.side.Side.{Side}
 use Rattle.calipers.specs.Side.{cornerOf, nextOf, onward, Carried, walkOf}
 use Rattle.calipers.specs.Walk.{Walk, here, passed, finished, advanced, At}
@@ -34,7 +36,7 @@ use Rattle.calipers.specs.theory.Places.{finished-all}
 use Rattle.calipers.specs.theory.Standing.{standing-swap}
 use Rattle.calipers.specs.theory.Steps.{at-advanced}
 use Rattle.calipers.specs.theory.Sides.{corner-fits, edge-fits}
-use Rattle.calipers.specs.theory.Led.{shape-gentle, led-passed}
+use Rattle.calipers.specs.theory.CrossOrder.{shape-gentle, led-passed}
 
 -- the sign of the product read the other way round
 sign-swap : (e f : Point) → ltZ (cross f e) (pos 0) ≡ ltZ (pos 0) (cross e f)
@@ -61,15 +63,20 @@ module _ (A B : List Point) where
       go true e = let r = finished-all (edges A) (edges B) i j e in absurd (l (omega (arith, r .0, r .1)))
       go false e = refl
 
--- the corner of the sum may be multiplied
-pub here-small : {a b : List ℤ} {w : Walk} → At a b w → {p : Point} → p ≡ here (points a) (points b) w → Small (2 ^ 22) p
+-- the corner of the sum may be added
+pub here-near : {a b : List ℤ} {w : Walk} → At a b w → {p : Point} → p ≡ here (points a) (points b) w → Small (2 ^ 21) p
 unfolding here
-here-small {a} {b} {w} t e =
+here-near {a} {b} {w} t e =
     let first = round-within (length (points a)) (w .i) (t .first-shape .some)
     (omega (arith, edges-at-most (points a), t .standing .left-in)) in
     let second = round-within (length (points b)) (w .j) (t .second-shape .some)
     (omega (arith, edges-at-most (points b), t .standing .right-in)) in
-    small-plus (small-corner a (t .first-near) _ first refl) (small-corner b (t .second-near) _ second refl) e
+    let p = points-near a (t .first-near) _ first in
+    let q = points-near b (t .second-near) _ second in
+    subst (Small (2 ^ 21)) (sym e) (record {
+      small-x = within-add (within-widen coordinate-small (p .near-x)) (within-widen coordinate-small (q .near-x));
+      small-y = within-add (within-widen coordinate-small (p .near-y)) (within-widen coordinate-small (q .near-y));
+    })
 
 pub sides-walk : (w : Walk) (s t : Side) → s .at ≡ w .i → t .at ≡ w .j → walkOf s t (w .over) ≡ w
 sides-walk w s t h k = ap₂ (λ (i j : ℕ). record { i = i; j = j; over = w .over }) h k

@@ -20,13 +20,13 @@ use Rattle.plane.specs.Point.{Point, corner, origin, _⊖_}
 use Rattle.plane.specs.Turn.{cross}
 use Rattle.plane.specs.Shape.{next, precedes, IsShape}
 use Rattle.plane.specs.Forms.{Precedes, Before, NonZero, InOrder, edgesTo, edges, up}
-use Rattle.plane.specs.theory.lists.Next.{Following, onward, closing, following, next-below, two-steps}
+use Rattle.plane.specs.theory.lists.Next.{Following, onward, closing, following, next-below}
 use Rattle.plane.specs.theory.forms.Precedes.{Lower, lower, level, precedes-lower, precedes-irrefl}
 use Rattle.plane.specs.theory.forms.Vector.{cross-nonzero, turn-edges}
 use Rattle.plane.specs.theory.forms.HalfPlane.{precedes→down}
 use Rattle.plane.specs.theory.forms.Angle.{Earlier, apart, alike, before→earlier}
 use Rattle.plane.specs.theory.forms.Standard.{all-at, shape→ordered, ordered→shape, sorted→shape}
-use Rattle.plane.specs.theory.sum.Positions.{edges-some, edge-at, in-order-at, shape-in-order}
+use Rattle.plane.specs.theory.sum.Positions.{edges-some, edge-at, in-order-at, shape-in-order, next-left}
 use Rattle.calipers.specs.Stretch.{goesOn, Stretch}
 use Rattle.calipers.specs.theory.Stretches.{edge-home, goes-up, goes-down, goes-by-rise, rising-up, falls-on, up→before, down→before}
 
@@ -128,9 +128,8 @@ module _ (ps : List Point) (s : IsShape ps) (three : 2 < length ps) where
       let j = next (length ps) i in
       let k = next (length ps) j in
       let below = next-below (length ps) i h in
-      let far = two-steps (length ps) i three h in
       rw (edge-at ps i (omega arith), edge-at ps j (omega arith), sym (turn-edges (corner ps i) (corner ps j) (corner ps k)))
-      (s .left i k h (next-below (length ps) j below) (far .0) (far .1))
+      (next-left ps s three i h)
 
   inner-left : (k : ℕ) → suc k < length ps → pos 0 <ℤ cross (corner (edges ps) k) (corner (edges ps) (suc k))
   inner-left k h = go (following (length ps) k (omega arith))

@@ -4,7 +4,7 @@
 --     Reaches, reach      the walk comes to every two positions at which each edge passed is before the next of the other list
 --     place-test          exactly the states that pass the test are places
 use mathlib.Core.Path.{_≡_, refl, sym, _∙_, subst}
-use mathlib.Core.Bool.{Bool, true, false, not, cond, _&&_, _||_, false≢true}
+use mathlib.Core.Bool.{Bool, true, false, not, cond, _||_, false≢true, and-eq-true-iff, or-true}
 use mathlib.Core.List.{List}
 use Prim.Native.Nat.{ℕ, zero, suc, _+_, _-_, _≤_, _<_}
 use native.Mathlib.Decide.{ℕ-discrete}
@@ -31,14 +31,6 @@ use Rattle.calipers.specs.theory.Reached.{walk-equal, over-advanced, ove
 use Rattle.calipers.specs.theory.Carry.{all-passed}
 
 -- ---- the last edge passed
-
-both-true : (s t : Bool) → (s && t) ≡ true → (s ≡ true) × (t ≡ true)
-both-true true t h = (refl, h)
-both-true false t h = absurd (false≢true h)
-
-either-true : (s : Bool) → (s || true) ≡ true
-either-true true = refl
-either-true false = refl
 
 module _ (E F : List Point) (i j : ℕ) where
   follows-passed : InOrder E → i ≤ length E → follows E i F j ≡ true → (k : ℕ) → k < i → j < length F → Before (corner E k) (corner F j)
@@ -77,8 +69,8 @@ ends-known remain all over h = go (eqb all 0) refl over h
 
 known-ends : {remain all : ℕ} {over : Bool} → Ends remain all over → ends remain all over ≡ true
 known-ends {remain} {all} (no-edges q) = rw (eq-eqb all 0 q)
-known-ends {remain} {all} (at-end q) = rw (eq-eqb remain 0 q) (either-true (eqb all 0))
-known-ends {remain} {all} (on-the-way q) = rw (lt-ltb 0 remain q) (either-true (eqb all 0))
+known-ends {remain} {all} (at-end q) = rw (eq-eqb remain 0 q) (or-true (eqb all 0))
+known-ends {remain} {all} (on-the-way q) = rw (lt-ltb 0 remain q) (or-true (eqb all 0))
 
 not-less : (m n : ℕ) → not (ltb m n) ≡ true → n ≤ m
 not-less m n h = go (ltb m n) refl h
@@ -220,10 +212,10 @@ module _ (a b : List ℤ) (v : Valid a) (w : Valid b) where
   test-place : (u : Walk) → standsAt a b u ≡ true → isPlace a b u ≡ true
   unfolding standsAt
   test-place u h =
-      let in-first = both-true (not (ltb (length E) (u .i))) _ h in
-      let in-second = both-true (not (ltb (length F) (u .j))) _ (in-first .1) in
-      let ending = both-true (ends (edgesLeft (u .i) (u .j)) (length E + length F) (u .over)) _ (in-second .1) in
-      let after = both-true (follows E (u .i) F (u .j)) _ (ending .1) in
+      let in-first = and-eq-true-iff (not (ltb (length E) (u .i))) _ .0 h in
+      let in-second = and-eq-true-iff (not (ltb (length F) (u .j))) _ .0 (in-first .1) in
+      let ending = and-eq-true-iff (ends (edgesLeft (u .i) (u .j)) (length E + length F) (u .over)) _ .0 (in-second .1) in
+      let after = and-eq-true-iff (follows E (u .i) F (u .j)) _ .0 (ending .1) in
       let i-in = not-less (length E) (u .i) (in-first .0) in
       let j-in = not-less (length F) (u .j) (in-second .0) in
       ends-place (record {

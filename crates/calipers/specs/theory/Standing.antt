@@ -1,17 +1,17 @@
 -- Where the caliper walk stands among two lists of edges in order, E and F, of which i and j are passed.
 --     takes E i F j       whether the next step passes edge i of E: there is one, and edge j of F is not before it
 --     passed E i F j      how many edges of E are passed after the step
---     Taken E i F j       the test as a fact; `takes-taken`, `taken-takes`, `not-takes`; `taken-same`: passed together, they point the
---                         same way
+--     Taken E i F j       the test as a fact; `takes-taken`, `taken-takes`; `taken-same`: passed together, they point the same way
 --     Step E F i j, step  the ways a step goes
 --     passed-taken, passed-left     the step passes edge i of E, or not; `passed-ended`, `passed-waits`: why not
+--     edges-less          where an edge is left, fewer are after the step
 --     Standing E F i j    each edge passed of the one list is before the next of the other
 --     standing-start, standing-advance, standing-swap      it holds at the beginning and after each step; with the lists exchanged
 --     taken-before, taken-after     when edge i is passed, the edges of F before it are those passed: the cut stands at j
 use mathlib.Core.Path.{_≡_, refl, _∙_}
 use mathlib.Core.Bool.{Bool, true, false, not, cond, _&&_, false≢true}
 use mathlib.Core.List.{List}
-use Prim.Native.Nat.{ℕ, _+_, _≤_, _<_}
+use Prim.Native.Nat.{ℕ, _+_, _-_, _≤_, _<_}
 use native.Mathlib.Omega.{arith}
 use borrow.Author.Count.{below-more}
 use borrow.Author.Tests.{ltb-true, ltb-false, lt-ltb}
@@ -50,9 +50,6 @@ taken-takes {E} {i} {F} {j} t = rw (lt-ltb i (length E) (t .there)) (go (ltb j (
     go : (b : Bool) → ltb j (length F) ≡ b → not (b && before (corner F j) (corner E i)) ≡ true
     go true p = rw (t .free (ltb-true j (length F) p))
     go false p = refl
-
-pub not-takes : {E : List Point} {i : ℕ} {F : List Point} {j : ℕ} → takes E i F j ≡ false → Taken E i F j → ⊥
-not-takes h t = true-not-false (taken-takes t) h
 
 pub passed-taken : {E : List Point} {i : ℕ} {F : List Point} {j : ℕ} → Taken E i F j → passed E i F j ≡ i + 1
 passed-taken {E} {i} {F} {j} t = rw (taken-takes t)
@@ -153,6 +150,16 @@ standing-advance {E} {F} {i} {j} oE oF s = go (step E F i j)
       left-passed = both-passed oE s (t .there) oF (u .there) (taken-same oE oF t u);
       right-passed = both-passed oF (standing-swap s) (u .there) oE (t .there) (taken-same oF oE u t);
     })
+
+pub edges-less : (E F : List Point) (i j : ℕ) {m n : ℕ} → m ≡ passed E i F j → n ≡ passed F j E i → (length E ≤ i → length F ≤ j → ⊥)
+    → length E - m + (length F - n) < length E - i + (length F - j)
+edges-less E F i j {m} {n} p q more = go (step E F i j)
+  where
+    go : Step E F i j → length E - m + (length F - n) < length E - i + (length F - j)
+    go (ended h k) = absurd (more h k)
+    go (left t b) = omega (arith, p ∙ passed-taken t, q ∙ passed-waits F j E i (t .there) b, t .there)
+    go (right t b) = omega (arith, p ∙ passed-waits E i F j (t .there) b, q ∙ passed-taken t, t .there)
+    go (both t u) = omega (arith, p ∙ passed-taken t, q ∙ passed-taken u, t .there, u .there)
 
 -- ---- the cut at a place
 

@@ -8,7 +8,7 @@
 --     rising-up, falls-on             two edges with a left turn: the first is up if neither goes down; after one down comes no level one
 --     up→before, down→before          the first edge is before the second by angle
 use mathlib.Core.Path.{_≡_, refl, sym, _∙_, ap}
-use mathlib.Core.Bool.{Bool, true, false, cond, _&&_, Bool·beq, true≢false, false≢true}
+use mathlib.Core.Bool.{Bool, true, false, cond, _&&_, Bool·beq, true≢false, and-eq-true-iff}
 use mathlib.Core.List.{List, [], _∷_}
 use Prim.Native.Nat.{ℕ, suc, _+_, _≤_, _<_}
 use native.Mathlib.Numerals.{add-one}
@@ -88,20 +88,16 @@ module _ (half : Bool) (e f : Point) where
   unfolding goesOn
   own-half h = ap (λ b. b && ltZ (pos 0) (cross e f)) (half-is half (f .y) ∙ h)
 
-both-true : (a b : Bool) → (a && b) ≡ true → (a ≡ true) × (b ≡ true)
-both-true true b h = (refl, h)
-both-true false b h = absurd (false≢true h)
-
 pub goes-up : (e f : Point) → goesOn true e f ≡ true → (pos 0 ≤ℤ f .y) × (pos 0 <ℤ cross e f)
 unfolding goesOn
 goes-up e f h =
-    let t = both-true (leZ (pos 0) (f .y)) (ltZ (pos 0) (cross e f)) h in
+    let t = and-eq-true-iff (leZ (pos 0) (f .y)) (ltZ (pos 0) (cross e f)) .0 h in
     (leZ-true (t .0), ltZ-true (t .1))
 
 pub goes-down : (e f : Point) → goesOn false e f ≡ true → (f .y <ℤ pos 0) × (pos 0 <ℤ cross e f)
 unfolding goesOn
 goes-down e f h =
-    let t = both-true (ltZ (f .y) (pos 0)) (ltZ (pos 0) (cross e f)) h in
+    let t = and-eq-true-iff (ltZ (f .y) (pos 0)) (ltZ (pos 0) (cross e f)) .0 h in
     (ltZ-true (t .0), ltZ-true (t .1))
 
 and-true : (a b : Bool) → b ≡ true → (a && b) ≡ a

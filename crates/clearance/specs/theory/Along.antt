@@ -6,7 +6,6 @@
 --     one-sided                      where all of S is on one side of the origin, the origin is no mean
 use mathlib.Core.Path.{_≡_, _∙_, ap}
 use mathlib.Core.List.{List, [], _∷_}
-use Prim.Native.Nat.{_<_}
 use native.Mathlib.Omega.{arith}
 use lib.IntN.{ℤ, pos, negℤ, _+ℤ_, _-ℤ_, _*ℤ_}
 use lib.Signed.{_≤ℤ_, _<ℤ_}
@@ -18,8 +17,7 @@ use Rattle.plane.specs.Turn.{turn, cross}
 use Rattle.plane.specs.Direction.{value}
 use Rattle.plane.specs.Mean.{times}
 use Rattle.plane.specs.theory.lists.Members.{point-discrete}
-use Rattle.plane.specs.theory.forms.Vector.{value-origin}
-use Rattle.separation.specs.theory.Sector.{square-positive}
+use Rattle.plane.specs.theory.forms.Vector.{value-origin, square-positive}
 
 -- ---- values and products along the segment from w to d
 

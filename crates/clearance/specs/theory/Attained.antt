@@ -1,18 +1,19 @@
 -- Every candidate is the distance of two points: two corners, or a corner and the foot on an edge, a mean of its ends.
 --     Attained A B c, attained     weights of these points, and that c's fraction is their distance
---     size-is, gap-is              the size of a number that is not below 0; a gap, by weights and heaps
+--     gap-is                       a gap, by weights and heaps
 --     opposite-square              a step and its opposite
-use mathlib.Core.Path.{_≡_, refl, sym, _∙_, ap, ap₂}
+use mathlib.Core.Path.{_≡_, sym, _∙_, ap, ap₂}
 use mathlib.Core.Bool.{true}
 use mathlib.Core.List.{List, [], _∷_}
 use Prim.Native.Nat.{ℕ, _<_}
 use native.Mathlib.Omega.{arith}
-use lib.IntN.{ℤ, pos, negsuc, natAbs, _+ℤ_, _-ℤ_, _*ℤ_}
+use lib.IntN.{ℤ, pos, natAbs, _+ℤ_, _-ℤ_, _*ℤ_}
 use lib.ListN.{length}
-use lib.Signed.{_≤ℤ_, _<ℤ_}
+use lib.Signed.{_<ℤ_}
 use Rattle.integer.specs.Ring.{ring, reify}
 use Rattle.integer.specs.Linear.{linear, lia, _&_}
 use Rattle.integer.specs.Order.{_≡×_, weaken}
+use Rattle.integer.specs.Bound.{size-is}
 use Rattle.plane.specs.Point.{Point, corner, _⊕_, _⊖_}
 use Rattle.plane.specs.Turn.{turn}
 use Rattle.plane.specs.Shape.{next}
@@ -23,8 +24,9 @@ use Rattle.plane.specs.Clearance.{fallsOn, Candidate, corners, onSecond, onFirs
 use Rattle.plane.specs.theory.lists.Members.{point-path}
 use Rattle.plane.specs.theory.lists.Next.{next-below}
 use Rattle.plane.specs.Cut.{quarter}
+use Rattle.plane.specs.theory.forms.Squared.{squared-value}
 use Rattle.clearance.specs.Order.{Listed}
-use Rattle.clearance.specs.theory.Bound.{falls-inside, squared-back}
+use Rattle.clearance.specs.theory.Bound.{falls-inside}
 use Rattle.clearance.specs.theory.Means.{unit, two}
 use Rattle.clearance.specs.theory.Means.{weight-unit, heap-unit, weight-two, heap-two}
 
@@ -56,19 +58,12 @@ step-square : (p q c : Point)
     (times (squared p q) c ⊖ (times (squared p q -ℤ value (q ⊖ p) (c ⊖ p)) p ⊕ times (value (q ⊖ p) (c ⊖ p)) q))
     ≡ turn p q c *ℤ turn p q c *ℤ squared p q
 step-square p q c = ap (λ z. value z z) (foot-step p q c) ∙ times-square (turn p q c) (q ⊖ p)
-    ∙ ap (λ z. turn p q c *ℤ turn p q c *ℤ z) (sym (squared-back p q))
+    ∙ ap (λ z. turn p q c *ℤ turn p q c *ℤ z) (sym (squared-value p q))
 
 falls-before : (ps : List Point) (e : ℕ) (c : Point) → fallsOn ps e c ≡ true
     → value (corner ps (next (length ps) e) ⊖ corner ps e) (c ⊖ corner ps e) <ℤ edgeSquared ps e
 unfolding edgeSquared
 falls-before ps e c r = falls-inside (corner ps e) (corner ps (next (length ps) e)) c r .1
-
-pub size-is : {z : ℤ} → pos 0 ≤ℤ z → pos (natAbs z) ≡ z
-size-is {z} h = go z h
-  where
-    go : (z : ℤ) → pos 0 ≤ℤ z → pos (natAbs z) ≡ z
-    go (pos n) h = refl
-    go (negsuc n) h = absurd (h .le)
 
 times-one : (p : Point) → times (pos 1) p ≡ p
 times-one p = point-path (ring (p .x ∷ []) (search reify depth 40) tt) (ring (p .y ∷ []) (search reify depth 40) tt)

@@ -3,42 +3,27 @@
 --     lagrange                                        value and cross product, squared
 --     pair-bound, pair-attains, pair-attained         two corners
 --     foot-bound, foot-attains, foot-attained         a corner that falls strictly inside an edge
-use mathlib.Core.Path.{_≡_, refl, sym, _∙_, ap, ap₂}
-use mathlib.Core.Bool.{Bool, true, false, _&&_, false≢true}
+use mathlib.Core.Path.{_≡_, sym, _∙_, ap, ap₂}
+use mathlib.Core.Bool.{true, and-eq-true-iff}
 use mathlib.Core.List.{[], _∷_}
 use native.Mathlib.Omega.{arith}
 use lib.IntN.{ℤ, pos, _+ℤ_, _-ℤ_, _*ℤ_}
 use lib.Signed.{_≤ℤ_, _<ℤ_, ltZ}
 use Rattle.integer.specs.Ring.{ring, reify}
 use Rattle.integer.specs.Linear.{linear, lia, _&_}
-use Rattle.integer.specs.Order.{_<×<_, _<×≤_, _≤×≤_, _≡×_, Compared, is-below, is-equal, is-above, compared, contra≤, ltZ-true}
-use Rattle.integer.specs.Order.{square-nonneg, le-antisym}
+use Rattle.integer.specs.Order.{_<×<_, _<×≤_, _≤×≤_, _≡×_, contra≤, ltZ-true, zero-factor}
+use Rattle.integer.specs.Order.{square-nonneg, le-antisym, square-zero}
 use Rattle.plane.specs.Point.{Point, _⊖_}
 use Rattle.plane.specs.Turn.{turn, cross, turn-cross}
 use Rattle.plane.specs.Direction.{value}
 use Rattle.plane.specs.Measure.{squared}
 use Rattle.plane.specs.Clearance.{falls}
-use Rattle.separation.specs.theory.Sector.{zero-factor}
-
-pub zero-square : {x : ℤ} → (x *ℤ x) ≤ℤ pos 0 → x ≡ pos 0
-zero-square {x} h = go (compared x (pos 0))
-  where
-    go : Compared x (pos 0) → x ≡ pos 0
-    go (is-below k) = absurd (lia (x ∷ []) (h & k <×< k) (search linear depth 40) (omega arith))
-    go (is-equal k) = k
-    go (is-above k) = absurd (lia (x ∷ []) (h & k <×< k) (search linear depth 40) (omega arith))
+use Rattle.plane.specs.theory.forms.Vector.{value-⊖, value-sym}
+use Rattle.plane.specs.theory.forms.Squared.{squared-sym, squared-value}
 
 pub lagrange : (u v : Point) → value u v *ℤ value u v +ℤ cross u v *ℤ cross u v ≡ value u u *ℤ value v v
 unfolding value cross
 lagrange u v = ring (u .x ∷ u .y ∷ v .x ∷ v .y ∷ []) (search reify depth 40) tt
-
-pub squared-value : (p q : Point) → squared p q ≡ value (p ⊖ q) (p ⊖ q)
-unfolding squared value
-squared-value p q = refl
-
-pub value-⊖ : (n p q : Point) → value n (p ⊖ q) ≡ value n p -ℤ value n q
-unfolding value
-value-⊖ n p q = ring (n .x ∷ n .y ∷ p .x ∷ p .y ∷ q .x ∷ q .y ∷ []) (search reify depth 40) tt
 
 -- ---- two corners: x their value in n, k their cross product with it, s their squared distance
 
@@ -50,13 +35,13 @@ module _ (x k s nn t : ℤ) (e : x *ℤ x +ℤ k *ℤ k ≡ nn *ℤ s) (some : p
   pair-equal f = (
     le-antisym (contra≤ (λ g. lia (x ∷ k ∷ s ∷ nn ∷ t ∷ []) (e & f & g <×< g & some <×< g & square-nonneg k)
         (search linear depth 40) (omega arith))) far,
-    zero-square (lia (x ∷ k ∷ s ∷ nn ∷ t ∷ [])
+    square-zero (lia (x ∷ k ∷ s ∷ nn ∷ t ∷ [])
         (e & f & far ≤×≤ far & some <×≤ far) (search linear depth 40) (omega arith)),
   )
 
 module _ (n a b : Point) (t : ℤ) (some : pos 0 <ℤ t) where
   product : value n (a ⊖ b) *ℤ value n (a ⊖ b) +ℤ cross n (a ⊖ b) *ℤ cross n (a ⊖ b) ≡ value n n *ℤ squared a b
-  product = lagrange n (a ⊖ b) ∙ ap (λ z. value n n *ℤ z) (sym (squared-value a b))
+  product = lagrange n (a ⊖ b) ∙ ap (λ z. value n n *ℤ z) (sym (squared-sym a b ∙ squared-value b a))
 
   module _ (far : (value n b +ℤ t) ≤ℤ value n a) where
     apart-by : t ≤ℤ value n (a ⊖ b)
@@ -103,7 +88,7 @@ module _ (k g x z uu uv nn t : ℤ) (e : k *ℤ g ≡ uu *ℤ x -ℤ uv *ℤ z) 
     foot-equal h = (le-antisym (contra≤ (λ l. too-far l)) one, level)
       where
         flat : k *ℤ z ≡ pos 0
-        flat = zero-square (lia (k ∷ g ∷ z ∷ uu ∷ nn ∷ t ∷ []) (h ≡× uu & squares & f ≡× (k *ℤ k)) (search linear depth 40) (omega arith))
+        flat = square-zero (lia (k ∷ g ∷ z ∷ uu ∷ nn ∷ t ∷ []) (h ≡× uu & squares & f ≡× (k *ℤ k)) (search linear depth 40) (omega arith))
 
         level : z ≡ pos 0
         level = zero-factor {t = k *ℤ g} (lia (k ∷ g ∷ uu ∷ t ∷ []) (reach & grown) (search linear depth 40) (omega arith))
@@ -134,23 +119,14 @@ binet : (n u v : Point) → cross u v *ℤ cross u n ≡ value u u *ℤ value n 
 unfolding value cross
 binet n u v = ring (n .x ∷ n .y ∷ u .x ∷ u .y ∷ v .x ∷ v .y ∷ []) (search reify depth 40) tt
 
-pub value-sym : (u v : Point) → value u v ≡ value v u
-unfolding value
-value-sym u v = ring (u .x ∷ u .y ∷ v .x ∷ v .y ∷ []) (search reify depth 40) tt
-
-pub squared-back : (p q : Point) → squared p q ≡ value (q ⊖ p) (q ⊖ p)
-unfolding squared value
-squared-back p q = ring (p .x ∷ p .y ∷ q .x ∷ q .y ∷ []) (search reify depth 40) tt
-
 pub falls-inside : (p q c : Point) → falls p q c ≡ true → (pos 0 <ℤ value (q ⊖ p) (c ⊖ p)) × (value (q ⊖ p) (c ⊖ p) <ℤ squared p q)
 unfolding falls
-falls-inside p q c h = go (ltZ (pos 0) (value (q ⊖ p) (c ⊖ p))) refl (ltZ (value (q ⊖ p) (c ⊖ p)) (squared p q)) refl h
-  where
-    go : (s : Bool) → ltZ (pos 0) (value (q ⊖ p) (c ⊖ p)) ≡ s → (t : Bool) → ltZ (value (q ⊖ p) (c ⊖ p)) (squared p q) ≡ t
-        → (s && t) ≡ true → (pos 0 <ℤ value (q ⊖ p) (c ⊖ p)) × (value (q ⊖ p) (c ⊖ p) <ℤ squared p q)
-    go true e true f k = (ltZ-true e, ltZ-true f)
-    go true e false f k = absurd (false≢true k)
-    go false e t f k = absurd (false≢true k)
+falls-inside p q c h = let r = and-eq-true-iff (ltZ (pos 0) (value (q ⊖ p) (c ⊖ p))) _ .0 h in (ltZ-true (r .0), ltZ-true (r .1))
+
+-- such an edge has a length
+pub foot-positive : (p q c : Point) → falls p q c ≡ true → pos 0 <ℤ squared p q
+foot-positive p q c h = let r = falls-inside p q c h in
+    lia (value (q ⊖ p) (c ⊖ p) ∷ squared p q ∷ []) (r .0 & r .1) (search linear depth 40) (omega arith)
 
 module _ (n p q c : Point) (t : ℤ) (some : pos 0 <ℤ t) (inside : falls p q c ≡ true) where
   abbrev u : Point
@@ -163,7 +139,7 @@ module _ (n p q c : Point) (t : ℤ) (some : pos 0 <ℤ t) (inside : falls p q c
   area = cross u v
 
   before : value u v <ℤ value u u
-  before = rw (sym (squared-back p q)) (falls-inside p q c inside .1)
+  before = rw (sym (squared-value p q)) (falls-inside p q c inside .1)
 
   across : cross u n *ℤ cross u n ≡ value u u *ℤ value n n -ℤ value n u *ℤ value n u
   across = lia (cross u n ∷ value u u ∷ value n n ∷ value n u ∷ value u n ∷ [])
@@ -175,10 +151,6 @@ module _ (n p q c : Point) (t : ℤ) (some : pos 0 <ℤ t) (inside : falls p q c
   turn-squared : turn p q c *ℤ turn p q c ≡ area *ℤ area
   turn-squared = ap₂ (λ y z. y *ℤ z) (turn-cross p q c) (turn-cross p q c)
 
-  pub foot-positive : pos 0 <ℤ squared p q
-  foot-positive = let r = falls-inside p q c inside in
-      lia (value u v ∷ squared p q ∷ []) (r .0 & r .1) (search linear depth 40) (omega arith)
-
   module _ (start : (value n p +ℤ t) ≤ℤ value n c) (end : (value n q +ℤ t) ≤ℤ value n c) where
     one : t ≤ℤ value n v
     one = lia (value n p ∷ value n c ∷ value n v ∷ t ∷ []) (start & stepped c p) (search linear depth 40) (omega arith)
@@ -188,7 +160,7 @@ module _ (n p q c : Point) (t : ℤ) (some : pos 0 <ℤ t) (inside : falls p q c
         (search linear depth 40) (omega arith)
 
     pub foot-bound : (t *ℤ t *ℤ squared p q) ≤ℤ (turn p q c *ℤ turn p q c *ℤ value n n)
-    foot-bound = rw (turn-squared, squared-back p q) (foot-low area (cross u n) (value n v) (value n u) (value u u) (value u v)
+    foot-bound = rw (turn-squared, squared-value p q) (foot-low area (cross u n) (value n v) (value n u) (value u u) (value u v)
         (value n n) t
         (binet n u v) across some (falls-inside p q c inside .0) before one other)
 
@@ -196,7 +168,7 @@ module _ (n p q c : Point) (t : ℤ) (some : pos 0 <ℤ t) (inside : falls p q c
         → (value n c ≡ value n p +ℤ t) × (value n c ≡ value n q +ℤ t)
     foot-attained h =
         let r = foot-equal area (cross u n) (value n v) (value n u) (value u u) (value u v) (value n n) t
-        (binet n u v) across some (falls-inside p q c inside .0) before one other (rw (turn-squared, squared-back p q) at h) in (
+        (binet n u v) across some (falls-inside p q c inside .0) before one other (rw (turn-squared, squared-value p q) at h) in (
           lia (value n p ∷ value n c ∷ value n v ∷ t ∷ []) (r .0 & stepped c p) (search linear depth 40) (omega arith),
           lia (value n p ∷ value n q ∷ value n c ∷ value n v ∷ value n u ∷ t ∷ []) (r .0 & r .1 & stepped c p & stepped q p)
               (search linear depth 40) (omega arith),
@@ -204,7 +176,7 @@ module _ (n p q c : Point) (t : ℤ) (some : pos 0 <ℤ t) (inside : falls p q c
 
   pub foot-attains : value n c ≡ value n p +ℤ t → value n c ≡ value n q +ℤ t
       → turn p q c *ℤ turn p q c *ℤ value n n ≡ t *ℤ t *ℤ squared p q
-  foot-attains start end = rw (turn-squared, squared-back p q) (foot-level area (cross u n) (value n v) (value n u) (value u u) (value u v)
+  foot-attains start end = rw (turn-squared, squared-value p q) (foot-level area (cross u n) (value n v) (value n u) (value u u) (value u v)
       (value n n) t (binet n u v) across some (falls-inside p q c inside .0) before
       (lia (value n p ∷ value n c ∷ value n v ∷ t ∷ []) (start & stepped c p) (search linear depth 40) (omega arith))
       (lia (value n p ∷ value n q ∷ value n c ∷ value n u ∷ t ∷ []) (start & end & stepped q p) (search linear depth 40) (omega arith)))

@@ -11,6 +11,7 @@ use lib.ListN.{length}
 use lib.Signed.{_≤ℤ_, _<ℤ_, ≤ℤ-refl}
 use Rattle.integer.specs.Ring.{ring, reify}
 use Rattle.integer.specs.Linear.{linear, lia, _&_}
+use Rattle.integer.specs.Bound.{size-is}
 use Rattle.plane.specs.Cut.{quarter}
 use Rattle.plane.specs.Point.{Point, origin, corner, opposite, _⊕_, _⊖_, _∈_}
 use Rattle.plane.specs.Turn.{turn, cross}
@@ -18,15 +19,14 @@ use Rattle.plane.specs.Direction.{value}
 use Rattle.plane.specs.Separation.{differences, apart}
 use Rattle.plane.specs.Mean.{times, weight, heap, CommonPoint}
 use Rattle.plane.specs.theory.lists.Members.{point-path, point-discrete}
-use Rattle.plane.specs.theory.forms.Vector.{value-turned}
+use Rattle.plane.specs.theory.forms.Vector.{value-turned, square-positive}
 use Rattle.separation.specs.theory.Apart.{value-difference, differences-some, difference-member, direction→apart}
-use Rattle.separation.specs.theory.Sector.{square-positive}
 use Rattle.clearance.specs.theory.Pairs.{Pair, pair-of}
 use Rattle.clearance.specs.theory.Along.{ZeroMean, cross-turn}
 use Rattle.clearance.specs.theory.Closest.{Closest, at-point, at-foot, settled}
 use Rattle.clearance.specs.theory.Faces.{value-quarter}
 use Rattle.clearance.specs.theory.Means.{two, weight-two, heap-two, weight-add, heap-add}
-use Rattle.clearance.specs.theory.Attained.{size-is, gap-is}
+use Rattle.clearance.specs.theory.Attained.{gap-is}
 
 -- ---- weights of four differences
 

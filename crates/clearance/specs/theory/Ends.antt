@@ -3,26 +3,24 @@
 --     Tried test f g r          r is the first pair of ends that passes, or none does; `tried-is`: what the code picks
 --     corners-first, second-first, first-first     the nearest candidate, where such a pair is reached and none of an earlier kind
 --     some-reached              one is reached
---     both-true                 two tests that hold together
 use mathlib.Core.Path.{_≡_, refl, sym, _∙_, ap, subst}
-use mathlib.Core.Bool.{Bool, true, false, _&&_, _||_, false≢true}
+use mathlib.Core.Bool.{Bool, true, false, _&&_, _||_, false≢true, and-eq-true-iff}
 use mathlib.Core.Logic.{_⊎_, inl, inr}
-use mathlib.Core.List.{List, [], _∷_}
+use mathlib.Core.List.{List}
 use Prim.Native.Nat.{ℕ, _≤_, _<_}
 use native.Mathlib.Omega.{arith}
 use borrow.Author.Tests.{eq-eqb, eqb-true}
 use lib.Dec.{eqb}
 use lib.IntN.{ℤ, pos}
 use lib.ListN.{length}
-use lib.Signed.{leZ, <ℤ-irrefl}
-use Rattle.integer.specs.Ring.{ring, reify}
+use lib.Signed.{leZ}
 use Rattle.integer.specs.Order.{le-antisym, leZ-true}
-use Rattle.plane.specs.Point.{Point, origin, corner, opposite}
+use Rattle.plane.specs.Point.{Point, corner, opposite}
 use Rattle.plane.specs.Shape.{next, IsShape}
-use Rattle.plane.specs.Direction.{value}
 use Rattle.plane.specs.Forms.{NonZero}
 use Rattle.plane.specs.Clearance.{Candidate, corners, onSecond, onFirst, nearest}
-use Rattle.plane.specs.theory.lists.Members.{point-path, position-member}
+use Rattle.plane.specs.theory.lists.Members.{position-member}
+use Rattle.plane.specs.theory.forms.Vector.{opposite-opposite, below-non-zero}
 use Rattle.clearance.specs.Order.{Sooner, Earlier}
 use Rattle.clearance.specs.Facing.{Lowest, Foot, Across, Reached, Facing}
 use Rattle.clearance.specs.Faces.{IsFace, isEnd, isAlong, isFoot, pickedOf, tried}
@@ -117,19 +115,11 @@ module _ (test : ℕ → ℕ → Bool) (f g : Face) (f-order : f .first ≤ f .l
 -- ---- the tests of the code, and what is reached
 
 along-zero : {z : ℤ} → (leZ (pos 0) z && leZ z (pos 0)) ≡ true → z ≡ pos 0
-along-zero {z} h = go (leZ (pos 0) z) refl (leZ z (pos 0)) refl h
-  where
-    go : (b : Bool) → leZ (pos 0) z ≡ b → (c : Bool) → leZ z (pos 0) ≡ c → (b && c) ≡ true → z ≡ pos 0
-    go true p true q h = le-antisym (leZ-true {x = z} {y = pos 0} q) (leZ-true {x = pos 0} {y = z} p)
-    go true p false q h = absurd (false≢true h)
-    go false p c q h = absurd (false≢true h)
+along-zero {z} h = let r = and-eq-true-iff (leZ (pos 0) z) (leZ z (pos 0)) .0 h in
+    le-antisym (leZ-true {x = z} {y = pos 0} (r .1)) (leZ-true {x = pos 0} {y = z} (r .0))
 
 zero-along : {z : ℤ} → z ≡ pos 0 → (leZ (pos 0) z && leZ z (pos 0)) ≡ true
 zero-along e = rw e refl
-
-pub both-true : {p q : Bool} → (p && q) ≡ true → (p ≡ true) × (q ≡ true)
-both-true {p = true} {q = q} h = (refl, h)
-both-true {p = false} {q = q} h = absurd (false≢true h)
 
 end-is : (g : Face) (i : ℕ) → isEnd g i ≡ true → End g i
 end-is g i h = go (eqb i (g .first)) refl h
@@ -156,7 +146,7 @@ module _ (n : Point) (qs ps : List Point) {f g : Face} (F : IsFace n qs f) (G : 
   pub test-foot : {c e : ℕ} → End f c → End g e → isFoot g qs ps c e ≡ true → Foot n qs ps c e
   unfolding isFoot
   test-foot {c} {e} a b h =
-      let r = both-true {p = isEnd g (next (length ps) e)} h in
+      let r = and-eq-true-iff (isEnd g (next (length ps) e)) _ .0 h in
       record { from = end-lowest F a; start = end-lowest G b; end = end-lowest G (end-is g _ (r .0)); inside = r .1 }
 
   pub across-test : {i j : ℕ} → Across n qs ps i j → End f i × End g j × (isAlong n qs ps i j ≡ true)
@@ -169,24 +159,15 @@ module _ (n : Point) (qs ps : List Point) {f g : Face} (F : IsFace n qs f) (G : 
 
 -- ---- the nearest candidate
 
-pub opposite-twice : (n : Point) → opposite (opposite n) ≡ n
-opposite-twice n = point-path (ring (n .x ∷ []) (search reify depth 40) tt) (ring (n .y ∷ []) (search reify depth 40) tt)
-
-value-of-none : (p : Point) → value origin p ≡ pos 0
-unfolding value
-value-of-none p = ring (p .x ∷ p .y ∷ []) (search reify depth 40) tt
-
 pub facing-some : {A B : List Point} {n : Point} → 0 < length A → 0 < length B → Facing A B n → NonZero n
-facing-some {A} {B} {n} a b h = record {
-  non-zero = λ e. <ℤ-irrefl (rw (e, value-of-none (corner A 0), value-of-none (corner B 0)) at
-      (h .above (corner A 0) (corner B 0) (position-member A 0 a) (position-member B 0 b)));
-}
+facing-some {A} {B} {n} a b h = below-non-zero n (corner B 0) (corner A 0)
+    (h .above (corner A 0) (corner B 0) (position-member A 0 a) (position-member B 0 b))
 
 module _ (A B : List Point) (n : Point) (s : IsShape A) (t : IsShape B) (h : Facing A B n) {f g : Face} (F : IsFace n A f)
     (G : IsFace (opposite n) B g) where
   -- the other way round
   F' : IsFace (opposite (opposite n)) A f
-  F' = subst (λ m. IsFace m A f) (sym (opposite-twice n)) F
+  F' = subst (λ m. IsFace m A f) (sym (opposite-opposite n)) F
 
   abbrev Corners : Spot → Type 0
   Corners = Tried (isAlong n A B) f g

@@ -6,7 +6,7 @@ use mathlib.Core.Path.{_≡_, sym, _∙_, ap}
 use mathlib.Core.Bool.{true}
 use mathlib.Core.Logic.{_⊎_, inl, inr}
 use mathlib.Core.List.{List, [], _∷_}
-use Prim.Native.Nat.{ℕ, _<_}
+use Prim.Native.Nat.{ℕ}
 use native.Mathlib.Omega.{arith}
 use lib.IntN.{pos, negℤ}
 use lib.ListN.{length}
@@ -22,12 +22,12 @@ use Rattle.plane.specs.Shape.{next, IsShape}
 use Rattle.plane.specs.Direction.{value}
 use Rattle.plane.specs.Measure.{squared}
 use Rattle.plane.specs.Clearance.{falls, fallsOn, Candidate, corners, onSecond, onFirst}
-use Rattle.plane.specs.theory.forms.Vector.{value-turned}
+use Rattle.plane.specs.theory.forms.Vector.{value-⊖, turned-back, turned-lt}
+use Rattle.plane.specs.theory.forms.Squared.{squared-value}
 use Rattle.clearance.specs.Facing.{Lowest, Reached}
-use Rattle.clearance.specs.theory.Bound.{squared-back, value-⊖}
 use Rattle.clearance.specs.theory.First.{lowest-twice, turned-square}
 use Rattle.clearance.specs.theory.Along.{by-edge}
-use Rattle.clearance.specs.theory.Lowest.{turned-back, lowest-neighbours}
+use Rattle.clearance.specs.theory.Lowest.{lowest-neighbours}
 
 -- ---- a point over an edge
 
@@ -52,7 +52,7 @@ falls-between e p q c some flat after before = rw (lt-ltZ past, lt-ltZ short)
         (by-edge e (q ⊖ p) (c ⊖ p) & flat ≡× cross e (c ⊖ p) & along <×< ahead & some <×≤ h) (search linear depth 40) (omega arith))
 
     short : value (q ⊖ p) (c ⊖ p) <ℤ squared p q
-    short = rw (squared-back p q) (contra< (λ h. lia (value e (q ⊖ p) ∷ value e (c ⊖ p) ∷ cross e (q ⊖ p) ∷ cross e (c ⊖ p) ∷ value e e
+    short = rw (squared-value p q) (contra< (λ h. lia (value e (q ⊖ p) ∷ value e (c ⊖ p) ∷ cross e (q ⊖ p) ∷ cross e (c ⊖ p) ∷ value e e
         ∷ value (q ⊖ p) (c ⊖ p) ∷ value (q ⊖ p) (q ⊖ p) ∷ [])
         (by-edge e (q ⊖ p) (c ⊖ p) & by-edge e (q ⊖ p) (q ⊖ p) & flat ≡× cross e (c ⊖ p) & flat ≡× cross e (q ⊖ p)
         & along <×< further & some <×≤ h) (search linear depth 40) (omega arith)))
@@ -81,10 +81,7 @@ edge-under ps s m e c some long i j l k flat after before = go (lowest-neighbour
 
     back : falls (corner ps j) (corner ps i) c ≡ true
     back = falls-between (opposite e) (corner ps j) (corner ps i) c (rw (turned-square e) long) level
-        (lia (value e c ∷ value e (corner ps j) ∷ value (opposite e) c ∷ value (opposite e) (corner ps j) ∷ [])
-        (before & value-turned e c & value-turned e (corner ps j)) (search linear depth 40) (omega arith))
-        (lia (value e c ∷ value e (corner ps i) ∷ value (opposite e) c ∷ value (opposite e) (corner ps i) ∷ [])
-        (after & value-turned e c & value-turned e (corner ps i)) (search linear depth 40) (omega arith))
+        (turned-lt e c (corner ps j) before) (turned-lt e (corner ps i) c after)
       where
         level : cross (opposite e) (corner ps i ⊖ corner ps j) ≡ pos 0
         level = reversed e (corner ps i) (corner ps j) ∙ flat

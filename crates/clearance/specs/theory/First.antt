@@ -1,12 +1,13 @@
 -- In a direction that faces the least distance the nearest candidate is the first that is reached.
 --     Held A B n t            every corner of A is at least t above every corner of B in n; `facing-held`: the reached corners are t apart
 --     At A B n t c            candidate c is at t·t over the squared length of n; `reached-at`: those that are reached
+--     candidate-whole         what a candidate's fraction is divided by is positive
 --     nearest-reached         the nearest is reached
 --     nearest-earliest        none that is reached is earlier
 --     nearest-is              so the first that is reached is the nearest
 --     nearest-no-further      no candidate is nearer
 --     tie-after               a candidate as near as the nearest is the nearest, or comes after it
-use mathlib.Core.Path.{_≡_, sym, _∙_}
+use mathlib.Core.Path.{_≡_, sym, subst}
 use mathlib.Core.Bool.{true}
 use mathlib.Core.List.{List, [], _∷_}
 use Prim.Native.Nat.{ℕ, _<_}
@@ -16,20 +17,19 @@ use lib.ListN.{length}
 use lib.Signed.{_≤ℤ_, _<ℤ_}
 use Rattle.integer.specs.Ring.{ring, reify}
 use Rattle.integer.specs.Linear.{linear, lia, _&_}
-use Rattle.integer.specs.Order.{_<×<_, _<×≤_, _≡×_, contra≤, le-antisym, leZ-true, le-leZ}
-use Rattle.plane.specs.Point.{Point, origin, corner, opposite}
+use Rattle.integer.specs.Order.{_<×<_, _<×≤_, _≡×_, contra≤, le-antisym, leZ-true, le-leZ, zero-factor}
+use Rattle.plane.specs.Point.{Point, corner, opposite}
 use Rattle.plane.specs.Shape.{next}
 use Rattle.plane.specs.Direction.{value}
 use Rattle.plane.specs.Measure.{squared, edgeSquared}
 use Rattle.plane.specs.Clearance.{Candidate, corners, onSecond, onFirst, top, bottom, noFurther, nearest}
 use Rattle.plane.specs.theory.lists.Members.{position-member}
 use Rattle.plane.specs.theory.lists.Next.{next-below}
-use Rattle.plane.specs.theory.forms.Vector.{value-origin, value-turned}
-use Rattle.separation.specs.theory.Sector.{zero-factor, square-positive}
+use Rattle.plane.specs.theory.forms.Vector.{value-turned, square-positive, opposite-opposite, below-non-zero}
 use Rattle.clearance.specs.Order.{Earlier, AtOrAfter, itself, after, Listed}
 use Rattle.clearance.specs.Facing.{Lowest, Reached, Facing}
 use Rattle.clearance.specs.theory.Candidates.{least-listed, least-passes, least-first}
-use Rattle.clearance.specs.theory.Bound.{value-sym, pair-bound, pair-attains, pair-attained}
+use Rattle.clearance.specs.theory.Bound.{pair-bound, pair-attains, pair-attained}
 use Rattle.clearance.specs.theory.Bound.{foot-positive, foot-bound, foot-attains, foot-attained}
 
 -- ---- fractions: those at s over nn, of candidates that are not below it
@@ -51,21 +51,11 @@ pub turned-square : (n : Point) → value (opposite n) (opposite n) ≡ value n 
 unfolding value
 turned-square n = ring (n .x ∷ n .y ∷ []) (search reify depth 40) tt
 
-turned-twice : (n p : Point) → value (opposite (opposite n)) p ≡ value n p
-unfolding value
-turned-twice n p = ring (n .x ∷ n .y ∷ p .x ∷ p .y ∷ []) (search reify depth 40) tt
-
 pub lowest-back : {n : Point} {ps : List Point} {i : ℕ} → Lowest (opposite (opposite n)) ps i → Lowest n ps i
-lowest-back {n} {ps} {i} l = record {
-  within = l .within;
-  lowest = λ k h. rw (sym (turned-twice n (corner ps i)), sym (turned-twice n (corner ps k))) (l .lowest k h);
-}
+lowest-back {n} {ps} {i} l = subst (λ m. Lowest m ps i) (opposite-opposite n) l
 
 pub lowest-twice : {n : Point} {ps : List Point} {i : ℕ} → Lowest n ps i → Lowest (opposite (opposite n)) ps i
-lowest-twice {n} {ps} {i} l = record {
-  within = l .within;
-  lowest = λ k h. rw (turned-twice n (corner ps i), turned-twice n (corner ps k)) (l .lowest k h);
-}
+lowest-twice {n} {ps} {i} l = subst (λ m. Lowest m ps i) (sym (opposite-opposite n)) l
 
 -- ---- the shapes held apart
 
@@ -108,20 +98,22 @@ facing-held {A} {B} {n} f = go (f .some) (f .reached)
 pub record At (A B : List Point) (n : Point) (t : ℤ) (c : Candidate) : Type 0 where
   pub at : top A B c *ℤ value n n ≡ t *ℤ t *ℤ bottom A B c
 
+-- what a candidate's fraction is divided by is positive
+pub candidate-whole : (A B : List Point) (c : Candidate) → Listed A B c → pos 0 <ℤ bottom A B c
+unfolding bottom edgeSquared
+candidate-whole A B (corners i j) l = record { lt = tt }
+candidate-whole A B (onSecond i e) (p, q, r) = foot-positive (corner B e) (corner B (next (length B) e)) (corner A i) r
+candidate-whole A B (onFirst j e) (p, q, r) = foot-positive (corner A e) (corner A (next (length A) e)) (corner B j) r
+
 record Good (A B : List Point) (n : Point) (t : ℤ) (c : Candidate) : Type 0 where
   whole : pos 0 <ℤ bottom A B c
   bound : (t *ℤ t *ℤ bottom A B c) ≤ℤ (top A B c *ℤ value n n)
 
 module _ (A B : List Point) (n : Point) (t : ℤ) (h : Held A B n t) where
   pub held-square : pos 0 <ℤ value n n
-  held-square = square-positive n (record { non-zero = λ e. flat e })
-    where
-      level : n ≡ origin → (p : Point) → value n p ≡ pos 0
-      level e p = rw e (value-sym origin p ∙ value-origin p)
-
-      flat : n ≡ origin → ⊥
-      flat e = lia (value n (corner A (h .low)) ∷ value n (corner B (h .high)) ∷ t ∷ [])
-          (h .some & h .exact & level e (corner A (h .low)) & level e (corner B (h .high))) (search linear depth 40) (omega arith)
+  held-square = square-positive n (below-non-zero n (corner B (h .high)) (corner A (h .low))
+      (lia (value n (corner A (h .low)) ∷ value n (corner B (h .high)) ∷ t ∷ []) (h .some & h .exact)
+      (search linear depth 40) (omega arith)))
 
   -- corner j of B against corner i of A, in the direction turned round
   turned-held : (i j : ℕ) → i < length A → j < length B → (value (opposite n) (corner A i) +ℤ t) ≤ℤ value (opposite n) (corner B j)
@@ -166,24 +158,18 @@ module _ (A B : List Point) (n : Point) (t : ℤ) (h : Held A B n t) where
 
   -- ---- no candidate is below it
 
-  good : (c : Candidate) → Listed A B c → Good A B n t c
+  not-below : (c : Candidate) → Listed A B c → (t *ℤ t *ℤ bottom A B c) ≤ℤ (top A B c *ℤ value n n)
   unfolding top bottom edgeSquared
-  good (corners i j) (p, q) = record {
-    whole = record { lt = tt };
-    bound = lia (squared (corner A i) (corner B j) ∷ value n n ∷ t ∷ [])
-        (pair-bound n (corner A i) (corner B j) t (h .some) (h .held i j p q))
-        (search linear depth 40) (omega arith);
-  }
-  good (onSecond i e) (p, q, r) = record {
-    whole = foot-positive n (corner B e) (corner B (next (length B) e)) (corner A i) t (h .some) r;
-    bound = foot-bound n (corner B e) (corner B (next (length B) e)) (corner A i) t (h .some) r (h .held i e p q)
-        (h .held i (next (length B) e) p (next-below (length B) e q));
-  }
-  good (onFirst j e) (p, q, r) = record {
-    whole = foot-positive n (corner A e) (corner A (next (length A) e)) (corner B j) t (h .some) r;
-    bound = rw (← turned-square n) (foot-bound (opposite n) (corner A e) (corner A (next (length A) e)) (corner B j) t (h .some) r
-        (turned-held e j q p) (turned-held (next (length A) e) j (next-below (length A) e q) p));
-  }
+  not-below (corners i j) (p, q) = lia (squared (corner A i) (corner B j) ∷ value n n ∷ t ∷ [])
+      (pair-bound n (corner A i) (corner B j) t (h .some) (h .held i j p q))
+      (search linear depth 40) (omega arith)
+  not-below (onSecond i e) (p, q, r) = foot-bound n (corner B e) (corner B (next (length B) e)) (corner A i) t (h .some) r (h .held i e p q)
+      (h .held i (next (length B) e) p (next-below (length B) e q))
+  not-below (onFirst j e) (p, q, r) = rw (← turned-square n) (foot-bound (opposite n) (corner A e) (corner A (next (length A) e))
+      (corner B j) t (h .some) r (turned-held e j q p) (turned-held (next (length A) e) j (next-below (length A) e q) p))
+
+  good : (c : Candidate) → Listed A B c → Good A B n t c
+  good c l = record { whole = candidate-whole A B c l; bound = not-below c l }
 
   -- ---- those at it are those that are reached
 
@@ -257,9 +243,6 @@ module _ (A B : List Point) (n : Point) (t : ℤ) (h : Held A B n t) where
     unfolding nearest
     nearest-listed = least-listed (noFurther A B) (Good A B n t) (At A B n t) keep lose A B a b good
 
-    pub nearest-whole : pos 0 <ℤ bottom A B (nearest A B)
-    nearest-whole = good (nearest A B) nearest-listed .whole
-
     at-nearest : (c : Candidate) → Listed A B c → At A B n t c → At A B n t (nearest A B)
     unfolding nearest
     at-nearest = least-passes (noFurther A B) (Good A B n t) (At A B n t) keep lose A B a b good
@@ -303,8 +286,8 @@ module _ (A B : List Point) (a : 0 < length A) (b : 0 < length B) (n : Point) (f
       → AtOrAfter (nearest A B) c
   tie-after c l e = at-first A B n (held-by .0) (held-by .1) a b c l (record {
     at = cancel (value n n) (held-by .0 *ℤ held-by .0)
-        (top A B (nearest A B)) (bottom A B (nearest A B)) (top A B c) (bottom A B c) (nearest-whole A B n (held-by .0) (held-by .1) a b)
-        (nearest-at .at) e;
+        (top A B (nearest A B)) (bottom A B (nearest A B)) (top A B c) (bottom A B c)
+        (candidate-whole A B (nearest A B) (nearest-listed A B n (held-by .0) (held-by .1) a b)) (nearest-at .at) e;
   })
     where
       cancel : (nn s t c u d : ℤ) → pos 0 <ℤ c → t *ℤ nn ≡ s *ℤ c → u *ℤ c ≡ t *ℤ d → u *ℤ nn ≡ s *ℤ d

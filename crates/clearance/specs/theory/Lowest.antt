@@ -1,43 +1,25 @@
 -- Lowest corners are the furthest ones in the opposite direction, so that what is known of the plane's faces is known of them.
---     turned-back                  what is no less in the opposite direction is no more
 --     lowest-neighbours            two lowest corners of a shape are neighbours
 --     face-lowest, face-turned     the first and the last of a face in the opposite direction, by position
-use mathlib.Core.Path.{_≡_, sym, _∙_, ap, subst}
+use mathlib.Core.Path.{_≡_, sym, subst}
 use mathlib.Core.Logic.{_⊎_, inl, inr}
-use mathlib.Core.List.{List, [], _∷_}
+use mathlib.Core.List.{List}
 use Prim.Native.Nat.{ℕ, _≤_, _<_}
 use native.Mathlib.Omega.{arith}
 use lib.IntN.{pos}
 use lib.ListN.{length}
 use lib.Signed.{_≤ℤ_, _<ℤ_}
-use Rattle.integer.specs.Linear.{linear, lia, _&_}
 use Rattle.plane.specs.Point.{Point, corner, opposite}
 use Rattle.plane.specs.Shape.{next, IsShape}
 use Rattle.plane.specs.Direction.{value}
 use Rattle.plane.specs.Forms.{NonZero}
 use Rattle.plane.specs.Face.{faceFirst, faceLast, Furthest, Face}
 use Rattle.plane.specs.theory.lists.Members.{position-member, member-position}
-use Rattle.plane.specs.theory.forms.Vector.{value-origin, value-turned}
+use Rattle.plane.specs.theory.forms.Vector.{opposite-non-zero, turned-le, turned-back, positive-non-zero}
 use Rattle.plane.specs.theory.support.Support.{value-le-support, support-unique}
-use Rattle.plane.specs.theory.face.Tied.{opposite-non-zero}
 use Rattle.plane.specs.theory.face.Face.{furthest-neighbours, face-is}
 use Rattle.clearance.specs.Facing.{Lowest}
 use Rattle.clearance.specs.Faces.{IsFace}
-
--- ---- values in the opposite direction
-
-turned-le : (n p q : Point) → value n p ≤ℤ value n q → value (opposite n) q ≤ℤ value (opposite n) p
-turned-le n p q h = lia (value n p ∷ value n q ∷ value (opposite n) p ∷ value (opposite n) q ∷ [])
-    (h & value-turned n p & value-turned n q) (search linear depth 40) (omega arith)
-
-pub turned-back : (n p q : Point) → value (opposite n) q ≤ℤ value (opposite n) p → value n p ≤ℤ value n q
-turned-back n p q h = lia (value n p ∷ value n q ∷ value (opposite n) p ∷ value (opposite n) q ∷ [])
-    (h & value-turned n p & value-turned n q) (search linear depth 40) (omega arith)
-
-pub positive-some : (n : Point) → pos 0 <ℤ value n n → NonZero n
-positive-some n h = record {
-  non-zero = λ e. lia (value n n ∷ []) (h & ap (value n) e ∙ value-origin n) (search linear depth 40) (omega arith);
-}
 
 -- ---- lowest corners
 
@@ -60,7 +42,7 @@ module _ {n : Point} {ps : List Point} where
 
   pub lowest-neighbours : IsShape ps → pos 0 <ℤ value n n → (i j : ℕ) → Lowest n ps i → Lowest n ps j → (i ≡ j → ⊥)
       → (j ≡ next (length ps) i) ⊎ (i ≡ next (length ps) j)
-  lowest-neighbours s some i j l m other = furthest-neighbours s (opposite-non-zero (positive-some n some)) i j (lowest-furthest l)
+  lowest-neighbours s some i j l m other = furthest-neighbours s (opposite-non-zero (positive-non-zero n n some)) i j (lowest-furthest l)
       (lowest-furthest m) (λ e. other (sym e))
 
   -- ---- the face that the code is given, its ends put in order

@@ -9,18 +9,19 @@ use Prim.Native.Nat.{ℕ, zero, suc, _+_, _<_, zero-le}
 use native.Mathlib.Nat.{not-suc-le-zero}
 use native.Mathlib.Omega.{arith}
 use lib.Dec.{le→leb}
-use lib.IntN.{ℤ, pos, _+ℤ_, _-ℤ_, _*ℤ_}
+use lib.IntN.{ℤ, pos, _+ℤ_, _-ℤ_, _*ℤ_, +ℤ-idl, +ℤ-idr}
 use lib.ListN.{length}
 use lib.Signed.{_≤ℤ_, _<ℤ_, ≤ℤ-refl}
 use Rattle.integer.specs.Ring.{ring, reify}
 use Rattle.integer.specs.Linear.{linear, lia, _&_}
 use Rattle.integer.specs.Order.{_<×≤_, _≤×≤_, square-nonneg}
+use Rattle.integer.specs.Laws.{+ℤ-swap}
 use Rattle.plane.specs.Point.{Point, origin, corner, _⊕_, _∈_}
 use Rattle.plane.specs.Turn.{cross}
 use Rattle.plane.specs.Direction.{value}
 use Rattle.plane.specs.Mean.{times, weight, heap, gap, share}
 use Rattle.plane.specs.theory.lists.Members.{point-path}
-use Rattle.plane.specs.theory.forms.Vector.{value-origin}
+use Rattle.plane.specs.theory.forms.Vector.{value-origin, ⊕-zero}
 use Rattle.clearance.specs.theory.Bound.{lagrange}
 
 -- ---- values of heaps
@@ -109,46 +110,31 @@ unfolding weight
 weight-none [] = refl
 weight-none (p ∷ ps) = ap (λ z. pos 0 +ℤ z) (weight-none ps)
 
+times-none : (p q : Point) → times (pos 0) p ⊕ q ≡ q
+times-none p q = point-path (ring (p .x ∷ q .x ∷ []) (search reify depth 40) tt) (ring (p .y ∷ q .y ∷ []) (search reify depth 40) tt)
+
 heap-none : (ps : List Point) → heap (λ k. 0) ps ≡ origin
 unfolding heap
 heap-none [] = refl
-heap-none (p ∷ ps) = ap (λ z. times (pos 0) p ⊕ z) (heap-none ps) ∙ nothing p
-  where
-    nothing : (p : Point) → times (pos 0) p ⊕ origin ≡ origin
-    nothing p = point-path (ring (p .x ∷ []) (search reify depth 40) tt) (ring (p .y ∷ []) (search reify depth 40) tt)
+heap-none (p ∷ ps) = ap (λ z. times (pos 0) p ⊕ z) (heap-none ps) ∙ times-none p origin
 
 pub weight-unit : (i x : ℕ) (ps : List Point) → i < length ps → weight (unit i x) ps ≡ pos x
 unfolding weight
 weight-unit i x [] h = absurd (not-suc-le-zero h)
-weight-unit zero x (p ∷ ps) h = ap (λ z. pos x +ℤ z) (weight-none ps) ∙ alone (pos x)
-  where
-    alone : (z : ℤ) → z +ℤ pos 0 ≡ z
-    alone z = ring (z ∷ []) (search reify depth 40) tt
-weight-unit (suc i) x (p ∷ ps) h = ap (λ z. pos 0 +ℤ z) (weight-unit i x ps (omega arith)) ∙ nothing (pos x)
-  where
-    nothing : (z : ℤ) → pos 0 +ℤ z ≡ z
-    nothing z = ring (z ∷ []) (search reify depth 40) tt
+weight-unit zero x (p ∷ ps) h = ap (λ z. pos x +ℤ z) (weight-none ps) ∙ +ℤ-idr (pos x)
+weight-unit (suc i) x (p ∷ ps) h = ap (λ z. pos 0 +ℤ z) (weight-unit i x ps (omega arith)) ∙ +ℤ-idl (pos x)
 
 pub heap-unit : (i x : ℕ) (ps : List Point) → i < length ps → heap (unit i x) ps ≡ times (pos x) (corner ps i)
 unfolding heap
 heap-unit i x [] h = absurd (not-suc-le-zero h)
-heap-unit zero x (p ∷ ps) h = ap (λ z. times (pos x) p ⊕ z) (heap-none ps) ∙ alone (times (pos x) p)
-  where
-    alone : (p : Point) → p ⊕ origin ≡ p
-    alone p = point-path (ring (p .x ∷ []) (search reify depth 40) tt) (ring (p .y ∷ []) (search reify depth 40) tt)
-heap-unit (suc i) x (p ∷ ps) h = ap (λ z. times (pos 0) p ⊕ z) (heap-unit i x ps (omega arith)) ∙ nothing p (times (pos x) (corner ps i))
-  where
-    nothing : (p q : Point) → times (pos 0) p ⊕ q ≡ q
-    nothing p q = point-path (ring (p .x ∷ q .x ∷ []) (search reify depth 40) tt) (ring (p .y ∷ q .y ∷ []) (search reify depth 40) tt)
+heap-unit zero x (p ∷ ps) h = ap (λ z. times (pos x) p ⊕ z) (heap-none ps) ∙ ⊕-zero (times (pos x) p)
+heap-unit (suc i) x (p ∷ ps) h = ap (λ z. times (pos 0) p ⊕ z) (heap-unit i x ps (omega arith)) ∙ times-none p (times (pos x) (corner ps i))
 
 pub weight-add : (v w : ℕ → ℕ) (ps : List Point) → weight (λ k. v k + w k) ps ≡ weight v ps +ℤ weight w ps
 unfolding weight
 weight-add v w [] = refl
 weight-add v w (p ∷ ps) = ap (λ z. pos (v 0) +ℤ pos (w 0) +ℤ z) (weight-add (λ i. v (suc i)) (λ i. w (suc i)) ps)
-    ∙ swap (pos (v 0)) (pos (w 0)) (weight (λ i. v (suc i)) ps) (weight (λ i. w (suc i)) ps)
-  where
-    swap : (a b c d : ℤ) → a +ℤ b +ℤ (c +ℤ d) ≡ a +ℤ c +ℤ (b +ℤ d)
-    swap a b c d = ring (a ∷ b ∷ c ∷ d ∷ []) (search reify depth 40) tt
+    ∙ +ℤ-swap (pos (v 0)) (pos (w 0)) (weight (λ i. v (suc i)) ps) (weight (λ i. w (suc i)) ps)
 
 pub heap-add : (v w : ℕ → ℕ) (ps : List Point) → heap (λ k. v k + w k) ps ≡ heap v ps ⊕ heap w ps
 unfolding heap

@@ -27,7 +27,7 @@ use Rattle.plane.specs.theory.support.Support.{value-le-support, support-attain
 use Rattle.separation.specs.theory.Apart.{apart→direction, apart-sym, Separated}
 use Rattle.clearance.specs.Order.{AtOrAfter, Listed}
 use Rattle.clearance.specs.Facing.{Facing}
-use Rattle.clearance.specs.theory.First.{Held, facing-held, held-square, nearest-at, nearest-listed, nearest-whole}
+use Rattle.clearance.specs.theory.First.{Held, facing-held, held-square, nearest-at, nearest-listed, candidate-whole}
 use Rattle.clearance.specs.theory.First.{nearest-no-further, tie-after}
 use Rattle.clearance.specs.theory.Stop.{facing-exists}
 use Rattle.clearance.specs.theory.Means.{held-means, gap-value}
@@ -43,7 +43,7 @@ module _ (A B : List Point) (s : IsShape A) (t : IsShape B) (h : apart A B ≡ t
   nearest-is-listed = let r = facing-held (facing .1) in nearest-listed A B (facing .0) (r .0) (r .1) (s .some) (t .some)
 
   pub nearest-is-whole : pos 0 <ℤ bottom A B (nearest A B)
-  nearest-is-whole = let r = facing-held (facing .1) in nearest-whole A B (facing .0) (r .0) (r .1) (s .some) (t .some)
+  nearest-is-whole = candidate-whole A B (nearest A B) nearest-is-listed
 
   pub nearest-is-least : (c : Candidate) → Listed A B c
       → (top A B (nearest A B) *ℤ bottom A B c) ≤ℤ (top A B c *ℤ bottom A B (nearest A B))

@@ -19,7 +19,7 @@ use Rattle.plane.specs.Question.{reply, askClearance}
 use Rattle.plane.specs.theory.refusals.Asked.{asked-none, asked-values, rest-none}
 use Rattle.clearance.specs.Order.{FirstOfLeast}
 use Rattle.clearance.specs.theory.Nearest.{common-not-apart}
-use Rattle.clearance.specs.theory.Only.{nearest-first-least, first-least-nearest}
+use Rattle.clearance.specs.theory.NearestUnique.{nearest-first-least, first-least-nearest}
 use Rattle.clearance.specs.theory.Common.{not-apart-common}
 
 -- ---- numbers

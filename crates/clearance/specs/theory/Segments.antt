@@ -8,7 +8,6 @@ use mathlib.Core.Path.{_≡_, refl, sym}
 use mathlib.Core.Bool.{Bool, true, false, cond, _&&_}
 use mathlib.Core.Logic.{_⊎_, inl, inr}
 use mathlib.Core.List.{List, [], _∷_, List·Memᴰ·head, List·Memᴰ·tail, List·Memᴰ·not-nil}
-use Prim.Native.Nat.{_<_}
 use native.Mathlib.Omega.{arith}
 use lib.IntN.{ℤ, pos, _+ℤ_, _-ℤ_, _*ℤ_}
 use lib.Signed.{_≤ℤ_, _<ℤ_, ltZ}
@@ -20,6 +19,7 @@ use Rattle.plane.specs.Point.{Point, _⊕_, _⊖_, _∈_}
 use Rattle.plane.specs.Turn.{cross}
 use Rattle.plane.specs.Direction.{value}
 use Rattle.plane.specs.Mean.{times}
+use Rattle.plane.specs.theory.forms.Vector.{value-nonneg}
 
 -- ---- the least of a list, by a total and transitive relation
 
@@ -201,10 +201,6 @@ module _ (s t xx xp pp a b : ℤ) (some : pos 0 <ℤ b) where
 
       low : ((s +ℤ t) *ℤ (s +ℤ t) *ℤ xx) ≤ℤ mean
       low = lia (s ∷ t ∷ xx ∷ xp ∷ pp ∷ []) (both ≤×≤ past & square-nonneg t ≤×≤ longer) (search linear depth 40) (omega arith)
-
-value-nonneg : (v : Point) → pos 0 ≤ℤ value v v
-unfolding value
-value-nonneg v = lia (v .x ∷ v .y ∷ []) (square-nonneg (v .x) & square-nonneg (v .y)) (search linear depth 40) (omega arith)
 
 mean-square : (x p : Point) (s t : ℤ) → value (times s x ⊕ times t p) (times s x ⊕ times t p)
     ≡ s *ℤ s *ℤ value x x +ℤ (s *ℤ t *ℤ value x p +ℤ s *ℤ t *ℤ value x p) +ℤ t *ℤ t *ℤ value p p

@@ -25,14 +25,15 @@ use Rattle.plane.specs.Corner.{shapeOf}
 use Rattle.plane.specs.Separation.{differences, apart}
 use Rattle.plane.specs.Clearance.{corners}
 use Rattle.plane.specs.theory.lists.Members.{position-member, member-position}
-use Rattle.plane.specs.theory.lists.Next.{Following, onward, closing, following, next-below, preceding}
-use Rattle.plane.specs.theory.forms.Vector.{cross-self, value-turned, value-origin}
-use Rattle.plane.specs.theory.sum.Positions.{edge-turn}
+use Rattle.plane.specs.theory.lists.Next.{following, next-below, preceding, one-or-next}
+use Rattle.plane.specs.theory.forms.Vector.{cross-self, value-turned, square-positive}
+use Rattle.plane.specs.theory.sum.Positions.{edge-turn, next-left}
 use Rattle.plane.specs.theory.support.Support.{value-le-support, support-le}
 use Rattle.plane.specs.theory.hull.ShapeOf.{shapeOf-shape, shapeOf-support, shapeOf-corner}
+use Rattle.plane.specs.theory.forms.Vector.{turned-le, turned-back, positive-non-zero, value-sym}
 use Rattle.separation.specs.theory.Apart.{Separated, value-difference, differences-some, difference-member, member-difference}
 use Rattle.separation.specs.theory.Apart.{apart→direction}
-use Rattle.separation.specs.theory.Sector.{square-positive, next-left, sector-weak}
+use Rattle.separation.specs.theory.Sector.{sector-weak}
 use Rattle.clearance.specs.Facing.{Lowest, Facing, StopsAtCorner, StopsOnEdge}
 use Rattle.clearance.specs.theory.First.{Held, touched-low, touched-high}
 use Rattle.clearance.specs.theory.Pairs.{Pair, pair-of, pair-value}
@@ -44,21 +45,12 @@ use Rattle.clearance.specs.theory.Faces.{Level, level-reached, value-qua
 
 -- ---- a shape on one side of the origin
 
-three-or-few : (n : ℕ) → (2 < n) ⊎ (n < 3)
-three-or-few n = go (ltb n 3) refl
+three-or-few : (n : ℕ) → (2 < n) ⊎ (n ≤ 2)
+three-or-few n = go (ltb 2 n) refl
   where
-    go : (b : Bool) → ltb n 3 ≡ b → (2 < n) ⊎ (n < 3)
-    go true e = inr (ltb-true n 3 e)
-    go false e = inl (ltb-false n 3 e)
-
--- of at most two positions each is k or the one after it
-one-or-next : (n k i : ℕ) → n < 3 → k < n → i < n → (i ≡ k) ⊎ (i ≡ next n k)
-one-or-next n k i few h l = go (ℕ-discrete i k) (following n k h)
-  where
-    go : Dec (i ≡ k) → Following n k → (i ≡ k) ⊎ (i ≡ next n k)
-    go (yes e) f = inl e
-    go (no e) (onward m q) = inr (omega arith)
-    go (no e) (closing m q) = inr (omega arith)
+    go : (b : Bool) → ltb 2 n ≡ b → (2 < n) ⊎ (n ≤ 2)
+    go true e = inl (ltb-true 2 n e)
+    go false e = inr (ltb-false 2 n e)
 
 -- w is closest in its own direction if its two neighbours are no nearer
 near-neighbours : (D : List Point) → IsShape D → (k : ℕ) → k < length D → StopsAtCorner D k
@@ -80,17 +72,10 @@ near-neighbours D s k h stop x m = go (three-or-few (length D)) (member-position
     at-in : at < length D
     at-in = next-below (length D) k h
 
-    turned : (y : Point) → value w w ≤ℤ value w y → value (opposite w) y ≤ℤ value (opposite w) w
-    turned y l = lia (value w w ∷ value w y ∷ value (opposite w) y ∷ value (opposite w) w ∷ []) (l & value-turned w y & value-turned w w)
-        (search linear depth 40) (omega arith)
-
-    back : value (opposite w) x ≤ℤ value (opposite w) w → value w w ≤ℤ value w x
-    back l = lia (value w w ∷ value w x ∷ value (opposite w) x ∷ value (opposite w) w ∷ []) (l & value-turned w x & value-turned w w)
-        (search linear depth 40) (omega arith)
-
-    go : (2 < length D) ⊎ (length D < 3) → (i : ℕ) × (i < length D) × (corner D i ≡ x) → value w w ≤ℤ value w x
-    go (inl three) (i, r, q) = back (sector-weak (opposite w) p w d x (next-left D s three k h) (turned p (stop .previous))
-        (turned d (stop .following)) (rw q at (edge-turn D s k i h r)) (rw q at (edge-turn D s at i at-in r)))
+    go : (2 < length D) ⊎ (length D ≤ 2) → (i : ℕ) × (i < length D) × (corner D i ≡ x) → value w w ≤ℤ value w x
+    go (inl three) (i, r, q) = turned-back w w x (sector-weak (opposite w) p w d x (next-left D s three k h)
+        (turned-le w w p (stop .previous)) (turned-le w w d (stop .following))
+        (rw q at (edge-turn D s k i h r)) (rw q at (edge-turn D s at i at-in r)))
     go (inr l) (i, r, q) = pick (one-or-next (length D) k i l h r)
       where
         pick : (i ≡ k) ⊎ (i ≡ at) → value w w ≤ℤ value w x
@@ -181,11 +166,8 @@ module _ (A B : List Point) (s : IsShape A) (t : IsShape B) (h : apart A B ≡ t
       r = pair-of A B (difference m)
 
       positive : pos 0 <ℤ value w w
-      positive = square-positive w (record {
-        non-zero = λ e. lia (value (opposite (parted .direction)) w ∷ [])
-            (side w m & ap (value (opposite (parted .direction))) e ∙ value-origin (opposite (parted .direction)))
-            (search linear depth 40) (omega arith);
-      })
+      positive = let n = opposite (parted .direction) in
+          square-positive w (positive-non-zero w n (rw (value-sym w n) (side w m)))
 
   pub foot-facing : (w d : Point) → w ∈ D → d ∈ D → cross w d <ℤ pos 0 → value w d <ℤ value w w → value w d <ℤ value d d
       → ((x : Point) → x ∈ D → pos 0 ≤ℤ turn w d x) → Facing A B (quarter (d ⊖ w))

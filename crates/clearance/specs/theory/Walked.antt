@@ -3,17 +3,17 @@
 --     stopped-facing        where the walk stopped is a direction that faces the least distance
 --     nearest-measurable    the positions of the nearest candidate are in the lists, and what it is divided by is not 0
 use mathlib.Core.Path.{_≡_, refl, sym, _∙_, ap, subst}
-use mathlib.Core.Bool.{true, false, false≢true}
+use mathlib.Core.Bool.{true, false≢true, and-eq-true-iff}
 use mathlib.Core.Logic.{_⊎_, inl, inr}
 use mathlib.Core.List.{List, [], _∷_}
 use Prim.Native.Nat.{ℕ, suc, _<_}
 use native.Mathlib.Omega.{arith}
 use lib.IntN.{pos}
 use lib.ListN.{length}
-use lib.Signed.{_<ℤ_}
+use lib.Signed.{_<ℤ_, <ℤ-irrefl}
 use Rattle.integer.specs.Linear.{linear, lia, _&_}
 use Rattle.integer.specs.Order.{ltZ-true, leZ-true, lt-ltZ, le-leZ}
-use Rattle.plane.specs.Point.{Point, origin, corner, _⊖_}
+use Rattle.plane.specs.Point.{Point, origin, corner}
 use Rattle.plane.specs.Shape.{next, IsShape}
 use Rattle.plane.specs.Direction.{value}
 use Rattle.plane.specs.Corner.{shapeOf}
@@ -25,22 +25,21 @@ use Rattle.plane.specs.theory.lists.Members.{position-member}
 use Rattle.plane.specs.theory.lists.Next.{Following, onward, closing, following}
 use Rattle.plane.specs.theory.forms.Vector.{value-origin}
 use Rattle.plane.specs.theory.hull.ShapeOf.{shapeOf-shape, shapeOf-corner}
+use Rattle.plane.specs.theory.forms.Squared.{squared-positive}
 use Rattle.separation.specs.theory.Apart.{value-difference, differences-some, member-difference, apart→direction}
-use Rattle.separation.specs.theory.Sector.{square-positive}
 use Rattle.clearance.specs.Facing.{Reached, Facing, StopsAtCorner, StopsOnEdge}
 use Rattle.clearance.specs.Stop.{rests, crosses, after, Stopped, at-corner, at-edge, at-first}
 use Rattle.clearance.specs.Answer.{Measurable}
-use Rattle.clearance.specs.theory.Bound.{squared-value, value-⊖, falls-inside}
 use Rattle.clearance.specs.theory.First.{nearest-reached}
 use Rattle.clearance.specs.theory.Stop.{stop-corner, stop-edge, place-exists}
-use Rattle.clearance.specs.theory.Ends.{both-true}
+use Rattle.clearance.specs.theory.Bound.{foot-positive}
 
 -- ---- the tests, as the theory has them
 
 module _ (D : List Point) (k : ℕ) where
   rests-stops : rests (corner D k) (after D k) (after D (next (length D) k)) ≡ true → StopsAtCorner D k
   unfolding rests
-  rests-stops t = let r = both-true t in record { previous = leZ-true (r .0); following = leZ-true (r .1) }
+  rests-stops t = let r = and-eq-true-iff _ _ .0 t in record { previous = leZ-true (r .0); following = leZ-true (r .1) }
 
   stops-rests : StopsAtCorner D k → rests (corner D k) (after D k) (after D (next (length D) k)) ≡ true
   unfolding rests
@@ -49,8 +48,8 @@ module _ (D : List Point) (k : ℕ) where
   crosses-stops : crosses (corner D k) (after D k) ≡ true → StopsOnEdge D k
   unfolding crosses
   crosses-stops t =
-      let r = both-true t in
-      let q = both-true (r .1) in
+      let r = and-eq-true-iff _ _ .0 t in
+      let q = and-eq-true-iff _ _ .0 (r .1) in
       record { right = ltZ-true (r .0); start = ltZ-true (q .0); end = ltZ-true (q .1) }
 
   stops-crosses : StopsOnEdge D k → crosses (corner D k) (after D k) ≡ true
@@ -108,17 +107,10 @@ module _ (A B : List Point) (s : IsShape A) (t : IsShape B) (h : apart A B ≡ t
 
 foot-some : (ps : List Point) (e : ℕ) (c : Point) → fallsOn ps e c ≡ true → pos 0 <ℤ edgeSquared ps e
 unfolding edgeSquared
-foot-some ps e c i =
-    let p = corner ps e in
-    let q = corner ps (next (length ps) e) in
-    let r = falls-inside p q c i in
-    lia (value (q ⊖ p) (c ⊖ p) ∷ squared p q ∷ []) (r .0 & r .1) (search linear depth 40) (omega arith)
+foot-some ps e c i = foot-positive (corner ps e) (corner ps (next (length ps) e)) c i
 
 pair-some : (n a b : Point) → value n b <ℤ value n a → pos 0 <ℤ squared a b
-pair-some n a b l = rw (squared-value a b) (square-positive (a ⊖ b) (record {
-  non-zero = λ e. lia (value n a ∷ value n b ∷ value n (a ⊖ b) ∷ []) (l & value-⊖ n a b & ap (value n) e ∙ value-origin n)
-      (search linear depth 40) (omega arith);
-}))
+pair-some n a b l = squared-positive a b (λ e. <ℤ-irrefl (rw e at l))
 
 pub nearest-measurable : (A B : List Point) → 0 < length A → 0 < length B → (n : Point) → Facing A B n → Measurable A B (nearest A B)
 nearest-measurable A B a b n f = go (nearest A B) (nearest-reached A B a b n f)

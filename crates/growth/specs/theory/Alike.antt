@@ -27,9 +27,8 @@ use Rattle.plane.specs.theory.lists.Flat.{points-numbers}
 use Rattle.plane.specs.theory.lists.Members.{mirrored-some}
 use Rattle.plane.specs.theory.support.Support.{value-le-support, support-sums, support-mirrored}
 use Rattle.plane.specs.theory.hull.ShapeOf.{shapeOf-support, shapeOf-shape, shape-known}
+use Rattle.plane.specs.theory.forms.Vector.{square-positive, opposite-opposite}
 use Rattle.separation.specs.theory.Apart.{differences-some, apart-shapeOf}
-use Rattle.separation.specs.theory.Sector.{square-positive}
-use Rattle.clearance.specs.theory.Ends.{opposite-twice}
 use Rattle.clearance.specs.theory.Nearest.{nearest-is-whole}
 use Rattle.strips.specs.Strip.{least, gapIn, Corridor}
 use Rattle.strips.specs.OwnDirection.{towards}
@@ -78,7 +77,7 @@ module _ (A B C D : List Point) (k : Alike A B C D) where
   unfolding gapIn least
   alike-gap d =
       lia (support (opposite d) A ∷ support d B ∷ support (opposite d) C ∷ support d D ∷ [])
-      (rw (opposite-twice d) at (k .reach (opposite d))) (search linear depth 40) (omega arith)
+      (rw (opposite-opposite d) at (k .reach (opposite d))) (search linear depth 40) (omega arith)
 
 -- g the gap and N the squared length of a direction, in which it is x/y and at most v/w
 fraction-le : (g N x y v w : ℤ) → pos 0 <ℤ N → pos 0 <ℤ y → g *ℤ g *ℤ y ≡ x *ℤ N → (g *ℤ g *ℤ w) ≤ℤ (v *ℤ N)

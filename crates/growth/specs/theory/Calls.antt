@@ -15,7 +15,7 @@ use Rattle.plane.specs.Corner.{shapeOf, mirrored}
 use Rattle.plane.specs.Separation.{differences}
 use Rattle.plane.specs.Floor.{Floored, corners, oneShape, twoShapes}
 use Rattle.plane.specs.theory.lists.Flat.{numbers-points}
-use Rattle.plane.specs.theory.lists.Max.{max-plus}
+use Rattle.plane.specs.theory.lists.Greater.{greater-plus}
 use Rattle.plane.specs.theory.lists.Members.{mirrored-some}
 use Rattle.plane.specs.theory.support.Support.{support-mirrored}
 use Rattle.plane.specs.theory.hull.ShapeOf.{shapeOf-support}
@@ -70,7 +70,7 @@ module _ (a b c o g h l n : Floored) (out put lent : List ℤ) (first : Gives (g
       let r = called-reaches merge-combines q in
       valid-same (whole .valid) (r .valid) (whole .on-floor ∙ merged .on-floor ∙ sym (r .on-floor ∙ one .on-floor))
       (λ d. whole .reach d ∙ rw (merged .reach d, r .reach d, one .reach d, other .reach d)
-      (max-plus (support d (corners b)) (support d (corners c)) (support (opposite d) (corners a))))
+      (greater-plus (support d (corners b)) (support d (corners c)) (support (opposite d) (corners a))))
 
 -- ---- two outlines
 

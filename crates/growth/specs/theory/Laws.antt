@@ -15,11 +15,11 @@ use lib.ListN.{length, length-append}
 use Rattle.integer.specs.Linear.{linear, lia, _&_}
 use Rattle.plane.specs.Point.{Point, opposite}
 use Rattle.plane.specs.Shape.{IsShape}
-use Rattle.plane.specs.Direction.{support, max}
+use Rattle.plane.specs.Direction.{support, greater}
 use Rattle.plane.specs.Corner.{shapeOf, sums}
 use Rattle.plane.specs.Separation.{inside}
 use Rattle.plane.specs.theory.lists.Members.{sums-some}
-use Rattle.plane.specs.theory.lists.Max.{max-plus}
+use Rattle.plane.specs.theory.lists.Greater.{greater-plus}
 use Rattle.plane.specs.theory.support.Support.{support-append, support-sums}
 use Rattle.plane.specs.theory.hull.ShapeOf.{shapeOf-support, shapeOf-shape, shape-extensional}
 use Rattle.separation.specs.theory.Inside.{inside→reach, reach→inside, inside-refl}
@@ -49,7 +49,8 @@ module _ (B C A : List Point) (b : 0 < length B) (c : 0 < length C) (a : 0 < len
   pub grown-merge : grown (B ++ C) A ≡ shapeOf (grown B A ++ grown C A)
   grown-merge = sym (grown-known (B ++ C) A (omega (arith, length-append B C)) a (shapeOf S) (shapeOf-shape S some)
       (λ d. shapeOf-support S some d ∙ support-append d (grown B A) (grown C A) (grown-some B A b a) (grown-some C A c a)
-      ∙ ap₂ max (grown-reach B A b a d) (grown-reach C A c a d) ∙ sym (max-plus (support d B) (support d C) (support (opposite d) A))
+      ∙ ap₂ greater (grown-reach B A b a d) (grown-reach C A c a d)
+      ∙ sym (greater-plus (support d B) (support d C) (support (opposite d) A))
       ∙ ap (λ z. z +ℤ support (opposite d) A) (sym (support-append d B C b c))))
     where
       S : List Point

@@ -18,24 +18,23 @@ use native.Mathlib.Omega.{arith}
 use lib.IntN.{_+ℤ_, _*ℤ_}
 use lib.ListN.{length, length-append}
 use lib.Signed.{_<ℤ_}
-use Rattle.integer.specs.Ring.{ring, reify}
 use Rattle.integer.specs.Linear.{linear, lia, _&_}
-use Rattle.plane.specs.Point.{Point, opposite, _⊕_, _⊖_}
+use Rattle.plane.specs.Point.{Point, opposite, _⊕_}
 use Rattle.plane.specs.Shape.{IsShape}
-use Rattle.plane.specs.Direction.{value, support, max}
+use Rattle.plane.specs.Direction.{value, support, greater}
 use Rattle.plane.specs.Corner.{shapeOf, sums}
 use Rattle.plane.specs.Separation.{inside, differences, apart}
 use Rattle.plane.specs.Mean.{CommonPoint}
 use Rattle.plane.specs.Clearance.{top, bottom, nearest}
 use Rattle.plane.specs.Forms.{edgesTo, Sorted, InOrder}
-use Rattle.plane.specs.theory.lists.Members.{point-path, sums-some}
-use Rattle.plane.specs.theory.lists.Max.{plus-max}
+use Rattle.plane.specs.theory.lists.Members.{sums-some}
+use Rattle.plane.specs.theory.lists.Greater.{plus-greater}
 use Rattle.plane.specs.theory.forms.Standard.{shape→sorted, sorted→shape, ordered→shape}
-use Rattle.plane.specs.theory.support.Support.{support-append, support-sums}
+use Rattle.plane.specs.theory.support.Support.{support-append, support-sums, support-one}
 use Rattle.plane.specs.theory.hull.ShapeOf.{shapeOf-support, shapeOf-shape, shape-known}
+use Rattle.plane.specs.theory.forms.Vector.{opposite-opposite, step-moved}
 use Rattle.separation.specs.theory.Inside.{inside→reach, reach→inside, outside→direction}
 use Rattle.separation.specs.theory.Apart.{differences-some, direction→apart, apart-sym, inside→not-apart}
-use Rattle.clearance.specs.theory.Ends.{opposite-twice}
 use Rattle.clearance.specs.theory.Nearest.{common-not-apart}
 use Rattle.clearance.specs.theory.Common.{not-apart-common}
 use Rattle.growth.specs.Grown.{grown, placed, driven}
@@ -63,10 +62,6 @@ module _ (B A : List Point) (b : 0 < length B) (a : 0 < length A) where
 
 -- ---- the cart at a place
 
-support-point : (d p : Point) → support d (p ∷ []) ≡ value d p
-unfolding support
-support-point d p = refl
-
 placed-sums : (A : List Point) (t : Point) → placed A t ≡ sums A (t ∷ [])
 placed-sums [] t = refl
 placed-sums (p ∷ A) t = ap (λ ps. (p ⊕ t) ∷ ps) (placed-sums A t)
@@ -76,13 +71,9 @@ placed-some A t a = rw (placed-sums A t) (sums-some A (t ∷ []) a (omega arith)
 
 pub placed-reach : (A : List Point) (t : Point) → 0 < length A → (d : Point) → support d (placed A t) ≡ support d A +ℤ value d t
 placed-reach A t a d = ap (support d) (placed-sums A t) ∙ support-sums d A (t ∷ []) a (omega arith)
-    ∙ ap (λ z. support d A +ℤ z) (support-point d t)
+    ∙ ap (λ z. support d A +ℤ z) (support-one d t)
 
 -- its edges are those of the outline
-step-moved : (p q t : Point) → (q ⊕ t) ⊖ (p ⊕ t) ≡ q ⊖ p
-step-moved p q t = point-path (ring (p .x ∷ q .x ∷ t .x ∷ []) (search reify depth 40) tt)
-    (ring (p .y ∷ q .y ∷ t .y ∷ []) (search reify depth 40) tt)
-
 edges-moved : (t s p : Point) (ps : List Point) → edgesTo (s ⊕ t) (p ⊕ t) (placed ps t) ≡ edgesTo s p ps
 edges-moved t s p [] = ap (λ e. e ∷ []) (step-moved p s t)
 edges-moved t s p (q ∷ ps) = ap₂ (λ e F. e ∷ F) (step-moved p q t) (edges-moved t s q ps)
@@ -105,7 +96,7 @@ module _ (A B : List Point) (a : 0 < length A) (b : 0 < length B) where
     third = p;
     fourth = grown-some B A b a;
     reach = λ d. lia (support d (sums A P) ∷ support d A ∷ support d P ∷ support (opposite d) B ∷ support (opposite d) (grown B A) ∷ [])
-        (support-sums d A P a p & rw (opposite-twice d) at (grown-reach B A b a (opposite d))) (search linear depth 40) (omega arith);
+        (support-sums d A P a p & rw (opposite-opposite d) at (grown-reach B A b a (opposite d))) (search linear depth 40) (omega arith);
   }
 
   pub place-alike : (t : Point) → Alike (placed A t) B (t ∷ []) (grown B A)
@@ -156,14 +147,14 @@ module _ (A : List Point) (a : 0 < length A) (t u : Point) where
       reach : (d : Point) → support d (shapeOf (driven A t u)) ≡ support d (placed A t ++ placed A u)
       reach d = shapeOf-support (driven A t u) some d ∙ support-sums d A (t ∷ u ∷ []) a (omega arith)
           ∙ ap (λ z. support d A +ℤ z) (support-append d (t ∷ []) (u ∷ []) (omega arith) (omega arith)
-          ∙ ap₂ max (support-point d t) (support-point d u)) ∙ plus-max (support d A) (value d t) (value d u)
-          ∙ ap₂ max (sym (placed-reach A t a d)) (sym (placed-reach A u a d))
+          ∙ ap₂ greater (support-one d t) (support-one d u)) ∙ plus-greater (support d A) (value d t) (value d u)
+          ∙ ap₂ greater (sym (placed-reach A t a d)) (sym (placed-reach A u a d))
           ∙ sym (support-append d (placed A t) (placed A u) (placed-some A t a) (placed-some A u a))
 
   pub driven-passes : (w : Point) → inside (w ∷ []) (t ∷ u ∷ []) ≡ true → inside (placed A w) (driven A t u) ≡ true
   driven-passes w h = reach→inside (placed A w) (driven A t u) (placed-some A w a) (sums-some A (t ∷ u ∷ []) a (omega arith))
       (λ d. lia (support d (placed A w) ∷ support d (driven A t u) ∷ support d A ∷ value d w ∷ support d (w ∷ [])
-      ∷ support d (t ∷ u ∷ []) ∷ []) (placed-reach A w a d & support-sums d A (t ∷ u ∷ []) a (omega arith) & support-point d w
+      ∷ support d (t ∷ u ∷ []) ∷ []) (placed-reach A w a d & support-sums d A (t ∷ u ∷ []) a (omega arith) & support-one d w
       & inside→reach (w ∷ []) (t ∷ u ∷ []) (omega arith) (omega arith) h d) (search linear depth 40) (omega arith))
 
 -- ---- a point

@@ -6,9 +6,8 @@
 use mathlib.Core.Path.{_≡_, refl, sym, _∙_, ap, ap₂, subst}
 use mathlib.Core.Bool.{Bool, true, false}
 use mathlib.Core.List.{List, [], _∷_, _++_, append-assoc}
-use Prim.Native.Nat.{ℕ, zero-le}
+use Prim.Native.Nat.{ℕ}
 use native.Mathlib.Omega.{arith}
-use lib.Dec.{le→leb}
 use lib.IntN.{ℤ, pos, _+ℤ_, _*ℤ_}
 use lib.Signed.{_≤ℤ_, _<ℤ_}
 use Rattle.integer.specs.Linear.{linear, lia, _&_}
@@ -23,6 +22,7 @@ use Rattle.plane.specs.theory.refusals.Asked.{asked-none, asked-shapes, rest-no
 use Rattle.clearance.specs.theory.Nearest.{nearest-is-whole}
 use Rattle.clearance.specs.theory.Rounding.{Bounded, nearest-rounded}
 use Rattle.clearance.specs.theory.Replies.{clearance-values}
+use Rattle.clearance.specs.theory.Means.{size-nonneg}
 use Rattle.strips.specs.OwnDirection.{answerTop, answerBottom}
 use Rattle.strips.specs.theory.Answers.{top-is, bottom-is}
 use Rattle.growth.specs.Grown.{EndsIn}
@@ -59,7 +59,7 @@ root-le w x n d m e start some other same low high =
 
 rounded-le : {w x : ℕ} {n d m e : ℤ} → pos 0 <ℤ d → pos 0 <ℤ e → n *ℤ e ≡ m *ℤ d → Bounded n d w → Bounded m e x → pos w ≤ℤ pos x
 rounded-le {w} {x} {n} {d} {m} {e} some other same r s =
-    root-le (pos w) (pos x) n d m e (record { le = le→leb 0 x zero-le }) some other same (r .low) (s .high)
+    root-le (pos w) (pos x) n d m e (size-nonneg x) some other same (r .low) (s .high)
 
 -- what ends in a number ends in it and the floor, once that is put after it
 ends : {v u : List ℤ} (before : List ℤ) (last : ℤ) (f : ℕ) → v ≡ u ++ (pos f ∷ []) → u ≡ before ++ (last ∷ [])

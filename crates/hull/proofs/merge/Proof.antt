@@ -6,7 +6,7 @@ use borrow.Author.Needs.{needs}
 use Rattle.plane.specs.Point.{Point}
 use Rattle.plane.specs.theory.lists.Flat.{points-length}
 use Rattle.polygon.specs.Front.{Front}
-use Rattle.hull.specs.theory.Same.{same-shape}
+use Rattle.hull.specs.theory.OnePoint.{same-shape}
 use Rattle.hull.specs.theory.Written.{front-one}
 use Rattle.hull.proofs.merge.Statement.{statement}
 use Rattle.hull.proofs.merge.Tie as tie

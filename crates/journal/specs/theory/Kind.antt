@@ -1,5 +1,4 @@
 -- The kind of a record, and what it says of the record's length.
---     neither                              a test of two that fails
 --     fixed-least, fixed-most              how many bytes a record has besides its corners
 --     floored-if, plain-if, fixed-floored  which tells the kind
 --     judged-valid, valid-judged           judging answers exactly if the list is a shape
@@ -18,12 +17,9 @@ use Rattle.plane.specs.Refusal.{Valid}
 use Rattle.plane.specs.Floor.{on}
 use Rattle.plane.specs.Question.{askJudge}
 use Rattle.plane.specs.theory.refusals.Asked.{asked-shapes, asked-none, rest-none}
+use Rattle.plane.specs.theory.lists.Sought.{either-false}
 use Rattle.journal.specs.Format.{fixedBytes, size, kind, list, judged, isAnswer, wrongLength, otherKind, bad}
 use Rattle.journal.specs.Facts.{Good}
-
-pub neither : (a b : Bool) → (a || b) ≡ false → (a ≡ false) × (b ≡ false)
-neither true b h = absurd (true≢false h)
-neither false b h = (refl, h)
 
 -- ---- the bytes besides the corners
 
@@ -99,11 +95,11 @@ module _ (r : List ℕ) where
   pub good→facts : bad r ≡ false → Good r
   unfolding bad wrongLength
   good→facts h =
-      let parts = neither (wrongLength r) (otherKind (kind r) || not (isAnswer (judged (list r)))) h in
-      let lengths = neither (ltb (size r) fixed) (not (eqb ((size r - fixed) % 8) 0)) (parts .0) in
+      let parts = either-false (wrongLength r) (otherKind (kind r) || not (isAnswer (judged (list r)))) h in
+      let lengths = either-false (ltb (size r) fixed) (not (eqb ((size r - fixed) % 8) 0)) (parts .0) in
       let fits = ltb-false (size r) fixed (lengths .0) in
       let even = eqb-true ((size r - fixed) % 8) 0 (not-false _ (lengths .1)) in
-      let rest = neither (otherKind (kind r)) (not (isAnswer (judged (list r)))) (parts .1) in record {
+      let rest = either-false (otherKind (kind r)) (not (isAnswer (judged (list r)))) (parts .1) in record {
         kind-is = one-or-two (kind r) (rest .0);
         corners = (size r - fixed) / 8;
         length-is = omega arith;

@@ -10,17 +10,18 @@ use native.Mathlib.Omega.{arith}
 use lib.Dec.{eqb}
 use lib.ListN.{length, take, drop}
 use lib.Seq.{drop-drop}
-use Rattle.journal.specs.Bytes.{wordsAt}
 use Rattle.plane.specs.Floor.{Floored, on}
+use Rattle.plane.specs.theory.lists.Sought.{either-false}
+use Rattle.endian.specs.Bytes.{wordsAt}
+use Rattle.endian.specs.theory.Bytes.{wordsAt-drop}
 use Rattle.journal.specs.Format.{fixedBytes, size, whole, records, kind, name, floor, list, content}
 use Rattle.journal.specs.Format.{bad}
 use Rattle.journal.specs.Reading.{damaged, held, nothing, latest}
 use Rattle.journal.specs.Survey.{Legible, foundAt, newer, Latest}
 use Rattle.journal.specs.declared.latest.Found.{Found}
 use Rattle.journal.specs.declared.latest.Found.the-variants as Found
-use Rattle.journal.specs.theory.Bytes.{wordsAt-drop}
 use Rattle.journal.specs.theory.Records.{records-none, records-front}
-use Rattle.journal.specs.theory.Kind.{neither, fixed-least, good→facts}
+use Rattle.journal.specs.theory.Kind.{fixed-least, good→facts}
 use Rattle.journal.specs.theory.Survey.{next-inside, eighth}
 use Rattle.journal.specs.theory.Read.{size-front, kind-front, name-front, content-front}
 
@@ -79,7 +80,7 @@ module _ {n : ℕ} {b : List ℕ} {p : ℕ} {r : Found} (f : SoFar n b p r) (w :
   split = records-front at w ∙ ap (λ (t : List ℕ). front ∷ records t) (drop-drop (2 + size at) p b)
 
   both-good : (bad front ≡ false) × (damaged (records rest) ≡ false)
-  both-good = neither (bad front) (damaged (records rest)) (sym (ap damaged split) ∙ f .good)
+  both-good = either-false (bad front) (damaged (records rest)) (sym (ap damaged split) ∙ f .good)
 
   abbrev fixed : ℕ
   fixed = fixedBytes (kind at)

@@ -10,7 +10,7 @@ use native.Mathlib.Nat.{le-of-suc-le-suc, not-suc-le-zero}
 use native.Mathlib.Decide.{decLt}
 use native.Mathlib.Omega.{arith}
 use lib.ListN.{length, getD, replicate, length-replicate}
-use Rattle.journal.specs.Bytes.{pairAt}
+use Rattle.endian.specs.Bytes.{pairAt}
 use Rattle.journal.specs.Format.{size, whole}
 use Rattle.journal.specs.Facts.{Whole}
 use Rattle.journal.specs.theory.Records.{whole→facts, facts→whole}

@@ -20,12 +20,12 @@ use Rattle.integer.specs.Machine.{within-fits}
 use Rattle.plane.specs.Limits.{maxCorners, coordinate-small}
 use Rattle.plane.specs.Refusal.{Valid}
 use Rattle.plane.specs.theory.lists.Flat.{points-length}
-use Rattle.journal.specs.Bytes.{pair, pairAt, words, wordsAt}
 use Rattle.plane.specs.Floor.{on}
+use Rattle.endian.specs.Bytes.{pair, pairAt, words, wordsAt}
+use Rattle.endian.specs.theory.Bytes.{pair-length, words-length, getD-past, pairAt-past, wordsAt-past, pairAt-take, wordsAt-take}
+use Rattle.endian.specs.theory.Bytes.{pairAt-pair, wordsAt-words}
 use Rattle.journal.specs.Format.{lastByte, fixedBytes, recordedAs, recorded, recordedPlain, size, kind, name, floor, list}
 use Rattle.journal.specs.Format.{content, bad}
-use Rattle.journal.specs.theory.Bytes.{pair-length, words-length, getD-past, pairAt-past, wordsAt-past, pairAt-take, wordsAt-take}
-use Rattle.journal.specs.theory.Bytes.{pairAt-pair, wordsAt-words}
 use Rattle.journal.specs.theory.Kind.{fixed-least, fixed-most, fixed-floored, facts→good}
 use Rattle.journal.specs.theory.Records.{Entry, size-take}
 

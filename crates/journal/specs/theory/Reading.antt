@@ -18,11 +18,12 @@ use Rattle.plane.specs.Output.{roomRow}
 use Rattle.plane.specs.Floor.{Floored, corners, noShape}
 use Rattle.plane.specs.Question.{reply, output, written, writes}
 use Rattle.plane.specs.theory.lists.Flat.{points-length}
+use Rattle.plane.specs.theory.lists.Sought.{either-false}
 use Rattle.journal.specs.Format.{records, name, list, content, bad}
 use Rattle.journal.specs.Reading.{damaged, badPlace, held, nothing, latest, askRead, showing}
 use Rattle.journal.specs.Adding.{joined}
 use Rattle.journal.specs.Facts.{FirstBad}
-use Rattle.journal.specs.theory.Kind.{neither, good→facts}
+use Rattle.journal.specs.theory.Kind.{good→facts}
 
 -- ---- the first bad record
 
@@ -59,7 +60,7 @@ module _ (r : List ℕ) where
   pub sound-snoc : (rs : List (List ℕ)) → damaged rs ≡ false → bad r ≡ false → damaged (rs ++ (r ∷ [])) ≡ false
   sound-snoc [] d g = ap (λ (b : Bool). b || false) g
   sound-snoc (s ∷ rs) d g =
-      let parts = neither (bad s) (damaged rs) d in
+      let parts = either-false (bad s) (damaged rs) d in
       ap₂ (λ (a b : Bool). a || b) (parts .0) (sound-snoc rs (parts .1) g)
 
   module _ (n : ℕ) where
@@ -92,7 +93,7 @@ good-some r h = ne-eqb (length (list r)) 0 (λ e. omega (arith, valid-some (list
 held-latest : (n : ℕ) (rs : List (List ℕ)) → damaged rs ≡ false → not (held n rs) ≡ eqb (length (latest n rs .list)) 0
 held-latest n [] d = refl
 held-latest n (r ∷ rs) d =
-    let parts = neither (bad r) (damaged rs) d in
+    let parts = either-false (bad r) (damaged rs) d in
     go (eqb (name r) n) (held n rs) (held-latest n rs (parts .1)) (good-some r (parts .0))
   where
     go : (a b : Bool) → not b ≡ eqb (length (latest n rs .list)) 0 → eqb (length (list r)) 0 ≡ false

@@ -14,11 +14,11 @@ use borrow.Author.Tests.{leb-true, le-leb, eqb-true, eqb-false, eq-eqb, ne-eqb, 
 use lib.Dec.{eqb, leb}
 use lib.ListN.{length, getD, take, drop, length-append, length-drop, take-append-drop, List·getD-append}
 use lib.Seq.{length-take-le, getD-take, take-at, drop-at}
-use Rattle.journal.specs.Bytes.{pairAt}
+use Rattle.endian.specs.Bytes.{pairAt}
+use Rattle.endian.specs.theory.Bytes.{pairAt-take}
 use Rattle.journal.specs.Format.{lastByte, size, whole, walked, records}
 use Rattle.journal.specs.Adding.{joined, end}
 use Rattle.journal.specs.Facts.{Whole}
-use Rattle.journal.specs.theory.Bytes.{pairAt-take}
 
 -- ---- one record
 

@@ -3,28 +3,27 @@
 --     ran-kept, ran-cleared               a byte that is 0, and one that is cleared
 --     Cleared, cleared-start, -next       the bytes from a place on are cleared; one byte more
 --     ran-pair, ran-word                  numbers of two and of four bytes
---     ran-start, ran-more                 a list of numbers; one more. `words-more`: the bytes of one more
+--     ran-start, ran-more                 a list of numbers; one more
 --     ran-recorded                        a record, field by field, and whether its last byte was stored
 --     ran-stores                          all stores of an addition, and whether they were made
 use mathlib.Core.Path.{_≡_, refl, sym, _∙_, ap, ap₂, subst}
 use mathlib.Core.Bool.{Bool, true, false, cond}
-use mathlib.Core.List.{List, [], _∷_, _++_, append-assoc, append-nil}
+use mathlib.Core.List.{List, [], _∷_, _++_}
 use Prim.Native.Nat.{ℕ, zero, suc, _+_, _*_, _-_, _/_, _%_, _≤_, _<_}
 use native.Mathlib.Nat.{not-suc-le-zero}
-use native.Mathlib.Numerals.{add-one}
 use native.Mathlib.Omega.{arith}
 use borrow.Author.Tests.{leb-true, leb-false, le-leb, lt-leb, eq-eqb, ne-eqb}
 use lib.Dec.{eqb, leb, ltb}
 use lib.IntN.{ℤ, pos}
 use lib.ListN.{length, getD, take, drop, set, length-append, length-set}
-use lib.Seq.{take-nil, take-take, take-set-le, take-suc, length-take-le, getD-take, drop-cons, drop-length}
+use lib.Seq.{take-nil, take-take, take-set-le, length-take-le, getD-take, drop-cons, drop-length}
 use mir.Syntax.{w32}
 use mir.Val.{ofZ}
-use Rattle.journal.specs.Bytes.{pair, word, words}
+use Rattle.endian.specs.Bytes.{pair, word, words}
+use Rattle.endian.specs.theory.Bytes.{pair-length, words-length, words-more}
 use Rattle.journal.specs.Format.{lastByte, fixedBytes, recordedAs, recorded}
 use Rattle.journal.specs.Adding.{Store, store, end, clears, writes, stores, made}
 use Rattle.journal.specs.Allowance.{cleared, Ran}
-use Rattle.journal.specs.theory.Bytes.{pair-length, words-length}
 use Rattle.journal.specs.theory.Read.{recorded-length}
 use Rattle.journal.specs.theory.Stores.{made-append, writes-length}
 
@@ -135,18 +134,6 @@ unfolding word
 ran-word {k} {m} {o} {n} {b} {c} {d} p z e f g =
     subst (λ (x : ℕ). Ran k (writes p (pair (x % 65536) ++ pair (x / 65536))) b o d) e
     (ran-writes p (p + 2) (pair (n % 65536)) (pair (n / 65536)) f (omega (arith, pair-length (n % 65536))) g)
-
-words-append : (l m : List ℤ) → words (l ++ m) ≡ words l ++ words m
-unfolding words
-words-append [] m = refl
-words-append (z ∷ l) m = ap (λ (t : List ℕ). word z ++ t) (words-append l m) ∙ sym (append-assoc (word z) (words l) (words m))
-
-pub words-more : (l : List ℤ) (i : ℕ) → i < length l → words (take i l) ++ word (getD l i (pos 0)) ≡ words (take (i + 1) l)
-unfolding words
-words-more l i h =
-    ap (λ (t : List ℕ). words (take i l) ++ t) (sym (append-nil (word (getD l i (pos 0)))))
-    ∙ sym (words-append (take i l) (getD l i (pos 0) ∷ []))
-    ∙ ap words (sym (take-suc l i (pos 0) h) ∙ ap (λ (k : ℕ). take k l) (sym (add-one i)))
 
 pub ran-start : (k p : ℕ) (b : List ℕ) → Ran k (writes p (words [])) b k b
 unfolding words

@@ -15,8 +15,9 @@ use lib.Dec.{eqb, ltb}
 use lib.ListN.{length, getD, take, drop, length-drop}
 use lib.Seq.{drop-drop, length-take-le}
 use lib.IntN.{ℤ}
-use Rattle.journal.specs.Bytes.{pairAt, wordsAt}
 use Rattle.plane.specs.Floor.{Floored}
+use Rattle.endian.specs.Bytes.{pairAt, wordsAt}
+use Rattle.endian.specs.theory.Bytes.{pairAt-drop}
 use Rattle.journal.specs.Format.{lastByte, fixedBytes, size, whole, records, kind, name, list, isAnswer, wrongLength}
 use Rattle.journal.specs.Format.{judged, otherKind, bad}
 use Rattle.journal.specs.Reading.{damaged, badPlace}
@@ -25,7 +26,6 @@ use Rattle.journal.specs.Facts.{Whole}
 use Rattle.journal.specs.Survey.{surveyed}
 use Rattle.journal.specs.declared.survey.Surveyed.{Surveyed}
 use Rattle.journal.specs.declared.survey.Surveyed.the-variants as Surveyed
-use Rattle.journal.specs.theory.Bytes.{pairAt-drop}
 use Rattle.journal.specs.theory.Kind.{fixed-least}
 use Rattle.journal.specs.theory.Records.{whole→facts, records-none, records-front, end-none, end-front}
 use Rattle.journal.specs.theory.Read.{size-front, kind-front, content-front}

@@ -24,7 +24,7 @@ use Rattle.plane.specs.Point.{Point, numbers}
 use Rattle.plane.specs.Shape.{IsShape}
 use Rattle.plane.specs.Reply.{answered}
 use Rattle.plane.specs.Refusal.{Valid, InRange}
-use Rattle.plane.specs.Direction.{support, max}
+use Rattle.plane.specs.Direction.{support, greater}
 use Rattle.plane.specs.Corner.{shapeOf, sums}
 use Rattle.plane.specs.Output.{Written, overwritten}
 use Rattle.plane.specs.Floor.{Floored, on, corners, Shapes, twoShapes, floorOf, Same, Admitted}
@@ -33,7 +33,7 @@ use Rattle.plane.specs.theory.refusals.Asked.{asked-none, asked-answered, asked
 use Rattle.plane.specs.theory.refusals.Accept.{few-corners, near→inRange}
 use Rattle.plane.specs.theory.lists.Flat.{points-numbers, numbers-points, numbers-length}
 use Rattle.plane.specs.theory.lists.Members.{sums-some}
-use Rattle.plane.specs.theory.lists.Max.{left-le-max, max-comm, max-assoc, max-idem}
+use Rattle.plane.specs.theory.lists.Greater.{left-le-greater, greater-comm, greater-assoc, greater-idem}
 use Rattle.plane.specs.theory.support.Support.{support-append, support-sums}
 use Rattle.plane.specs.theory.hull.ShapeOf.{shapeOf-support, shapeOf-shape, shape-extensional}
 use Rattle.laws.specs.Grouping.{Call, sumCall, mergeCall, Gives, Called, as-named, swapped}
@@ -127,10 +127,10 @@ plus-cancel : (x y : ℤ) → ((z : ℤ) → x +ℤ z ≡ y +ℤ z) → x ≡ y
 plus-cancel x y h = sym (+ℤ-idr x) ∙ h (pos 0) ∙ +ℤ-idr y
 
 -- with z the one, the other is at most it
-max-cancel : (x y : ℤ) → ((z : ℤ) → max x z ≡ max y z) → x ≡ y
-max-cancel x y h = le-antisym
-    (le-trans (left-le-max x y) (le-of-eq (h y ∙ max-idem y)))
-    (le-trans (left-le-max y x) (le-of-eq (sym (h x) ∙ max-idem x)))
+greater-cancel : (x y : ℤ) → ((z : ℤ) → greater x z ≡ greater y z) → x ≡ y
+greater-cancel x y h = le-antisym
+    (le-trans (left-le-greater x y) (le-of-eq (h y ∙ greater-idem y)))
+    (le-trans (left-le-greater y x) (le-of-eq (sym (h x) ∙ greater-idem x)))
 
 pub sum-combines : Combines sumCall _+ℤ_
 sum-combines = record {
@@ -141,12 +141,12 @@ sum-combines = record {
       (sums-some (corners a) (corners b)) (λ m n d. support-sums d (corners a) (corners b) m n);
 }
 
-pub merge-combines : Combines mergeCall max
+pub merge-combines : Combines mergeCall greater
 merge-combines = record {
-  comm = max-comm;
-  assoc = max-assoc;
-  cancel = max-cancel;
-  gives→reaches = λ a b out s. made-reaches (both max a b) a b (corners a ++ corners b) out s
+  comm = greater-comm;
+  assoc = greater-assoc;
+  cancel = greater-cancel;
+  gives→reaches = λ a b out s. made-reaches (both greater a b) a b (corners a ++ corners b) out s
       (λ m n. omega (arith, length-append (corners a) (corners b))) (λ m n d. support-append d (corners a) (corners b) m n);
 }
 

@@ -17,7 +17,7 @@ use Rattle.plane.specs.Direction.{support}
 use Rattle.plane.specs.Corner.{shapeOf, sums}
 use Rattle.plane.specs.Floor.{Floored, corners, twoShapes, Same}
 use Rattle.plane.specs.Question.{written, makes}
-use Rattle.plane.specs.theory.lists.Max.{max-idem, plus-max}
+use Rattle.plane.specs.theory.lists.Greater.{greater-idem, plus-greater}
 use Rattle.plane.specs.theory.lists.Members.{sums-some}
 use Rattle.plane.specs.theory.support.Support.{support-append, support-sums}
 use Rattle.plane.specs.theory.hull.ShapeOf.{shape-known}
@@ -53,7 +53,7 @@ module _ (a : Floored) (out : List ℤ) (v : Valid (a .list)) (room : length (a 
   pub merge-idem : mergeCall a a out ≡ answeredWith a out
   merge-idem = reached a a (corners a ++ corners a) (record { first-valid = v; second-valid = v; one-floor = refl }) refl
       (omega (arith, length-append (corners a) (corners a), v .shape .some))
-      (λ d. support-append d (corners a) (corners a) (v .shape .some) (v .shape .some) ∙ max-idem (reach d a))
+      (λ d. support-append d (corners a) (corners a) (v .shape .some) (v .shape .some) ∙ greater-idem (reach d a))
 
 -- ---- two shapes and three
 
@@ -74,7 +74,7 @@ sum-distributes {a} {b} {c} u s p q t =
     let parts = called-reaches merge-combines t in
     let floors = whole .on-floor ∙ sym (one .on-floor) ∙ sym (parts .on-floor) in
     valid-same (whole .valid) (parts .valid) floors (λ d. whole .reach d
-    ∙ rw (merged .reach d, parts .reach d, one .reach d, other .reach d) (plus-max (reach d a) (reach d b) (reach d c)))
+    ∙ rw (merged .reach d, parts .reach d, one .reach d, other .reach d) (plus-greater (reach d a) (reach d b) (reach d c)))
 
 plus-injective : (x y z : ℤ) → x +ℤ z ≡ y +ℤ z → x ≡ y
 plus-injective x y z h = lia (x ∷ y ∷ z ∷ []) h (search linear depth 40) (omega arith)

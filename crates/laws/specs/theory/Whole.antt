@@ -12,12 +12,12 @@ use lib.IntN.{ℤ, pos, _+ℤ_, +ℤ-idl, +ℤ-assoc}
 use lib.ListN.{length, length-append}
 use Rattle.integer.specs.Ring.{ring, reify}
 use Rattle.plane.specs.Point.{Point, origin, numbers}
-use Rattle.plane.specs.Direction.{value, support, max}
+use Rattle.plane.specs.Direction.{value, support, greater}
 use Rattle.plane.specs.Corner.{shapeOf, sumsOf}
 use Rattle.plane.specs.Floor.{Floored, on, corners, twoShapes}
 use Rattle.plane.specs.theory.lists.Flat.{numbers-points}
 use Rattle.plane.specs.theory.lists.Members.{sums-some}
-use Rattle.plane.specs.theory.lists.Max.{max-assoc}
+use Rattle.plane.specs.theory.lists.Greater.{greater-assoc}
 use Rattle.plane.specs.theory.support.Support.{support-append, support-sums}
 use Rattle.plane.specs.theory.hull.ShapeOf.{shape-known}
 use Rattle.laws.specs.Grouping.{AllOn, Call, sumCall, mergeCall, Grouping, Result, Refused, sumOfAll, mergeOfAll}
@@ -53,13 +53,13 @@ unfolding flatten
 flatten-some a L v = omega (arith, some-first v, length-append (corners a) (flatten (map corners L)))
 
 flatten-acts : {f : ℕ} (d : Point) (a : Floored) (L : List Floored) → AllOn f (a ∷ L)
-    → (z : ℤ) → max (support d (flatten (map corners (a ∷ L)))) z ≡ act max d (a ∷ L) z
+    → (z : ℤ) → greater (support d (flatten (map corners (a ∷ L)))) z ≡ act greater d (a ∷ L) z
 unfolding flatten
-flatten-acts d a [] v z = ap (λ S. max (support d S) z) (append-nil (corners a))
+flatten-acts d a [] v z = ap (λ S. greater (support d S) z) (append-nil (corners a))
 flatten-acts d a (b ∷ L) v z =
     let S = flatten (map corners (b ∷ L)) in
-    ap (λ x. max x z) (support-append d (corners a) S (some-first v) (flatten-some b L (valid-later v)))
-    ∙ max-assoc (reach d a) (support d S) z ∙ ap (max (reach d a)) (flatten-acts d b L (valid-later v) z)
+    ap (λ x. greater x z) (support-append d (corners a) S (some-first v) (flatten-some b L (valid-later v)))
+    ∙ greater-assoc (reach d a) (support d S) z ∙ ap (greater (reach d a)) (flatten-acts d b L (valid-later v) z)
 
 -- ---- the result
 

@@ -22,7 +22,7 @@ use Rattle.plane.specs.Forms.{up, edges}
 use Rattle.plane.specs.Cycle.{round, cornerRound}
 use Rattle.plane.specs.theory.lists.Members.{position-member}
 use Rattle.plane.specs.theory.lists.Sought.{first-le, first-true, first-least}
-use Rattle.plane.specs.theory.forms.Vector.{cross-turned, value-turned}
+use Rattle.plane.specs.theory.forms.Vector.{cross-turned, turned-lt}
 use Rattle.plane.specs.theory.forms.HalfPlane.{Up}
 use Rattle.plane.specs.theory.support.Support.{value-le-support}
 use Rattle.plane.specs.theory.sum.Positions.{edges-at-most, round-inner, round-within}
@@ -125,7 +125,5 @@ module _ {A : List Point} {t : ℕ} (s : IsShape A) (h : Chains A t) (z : Point)
     at-left,
     antipodal-here,
     sym (round-inner (length A) at-right (omega (arith, right-le, h .within))) ∙ cut-alone s furthest-right k hk most,
-    cut-alone s furthest-left l hl (λ i m other. lia (value z (corner A l) ∷ value z (corner A i) ∷ value (opposite z) (corner A l)
-        ∷ value (opposite z) (corner A i) ∷ []) (least i m other & value-turned z (corner A l) & value-turned z (corner A i))
-        (search linear depth 40) (omega arith)),
+    cut-alone s furthest-left l hl (λ i m other. turned-lt z (corner A l) (corner A i) (least i m other)),
   )

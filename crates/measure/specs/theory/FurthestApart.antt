@@ -4,11 +4,11 @@
 use mathlib.Core.Path.{_≡_, refl, _∙_, ap}
 use mathlib.Core.Bool.{Bool, true, false, not, cond}
 use mathlib.Core.List.{List, [], _∷_}
-use Prim.Native.Nat.{ℕ, _-_, _≤_, _<_}
+use Prim.Native.Nat.{ℕ, _≤_, _<_}
 use native.Mathlib.Omega.{arith}
 use borrow.Author.Tests.{ltb-true, ltb-false, ne-eqb}
 use lib.Dec.{eqb, ltb}
-use lib.IntN.{pos, _-ℤ_}
+use lib.IntN.{pos}
 use lib.ListN.{length}
 use lib.Signed.{_≤ℤ_, _<ℤ_}
 use Rattle.integer.specs.Ring.{ring, reify}
@@ -22,7 +22,7 @@ use Rattle.plane.specs.Forms.{up, NonZero}
 use Rattle.plane.specs.Cycle.{round}
 use Rattle.plane.specs.theory.lists.Members.{point-path}
 use Rattle.plane.specs.theory.forms.Squared.{squared-positive}
-use Rattle.plane.specs.theory.forms.Vector.{value-turned, ⊖-zero}
+use Rattle.plane.specs.theory.forms.Vector.{⊖-zero, value-⊖, quarter-non-zero, turned-lt}
 use Rattle.plane.specs.theory.forms.HalfPlane.{up-opposite}
 use Rattle.plane.specs.theory.sum.Positions.{corner-injective}
 use Rattle.measure.specs.Half.{Chains, Antipodal}
@@ -30,10 +30,6 @@ use Rattle.measure.specs.Comparison.{Stands}
 use Rattle.measure.specs.theory.HalfWalk.{antipodal-start}
 use Rattle.measure.specs.theory.Antipodal.{strict-antipodal}
 use Rattle.measure.specs.theory.Longest.{longest-strict, squared-le-length, Longest}
-
-value-⊖ : (d p q : Point) → value d (p ⊖ q) ≡ value d p -ℤ value d q
-unfolding value
-value-⊖ d p q = ring (d .x ∷ d .y ∷ p .x ∷ p .y ∷ q .x ∷ q .y ∷ []) (search reify depth 40) tt
 
 cancel-from : (p q r : Point) → r ⊖ q ≡ p ⊖ q → r ≡ p
 cancel-from p q r e = point-path
@@ -112,23 +108,11 @@ module _ {A : List Point} {t : ℕ} (s : IsShape A) (h : Chains A t) {k l : ℕ}
       looking true u n = let r = strict-antipodal s h z u k l k-in (f .within) most least in
           (r .0, r .1, r .2, first-right (r .2) (r .3) (r .4))
       looking false u n =
-          let back : up (quarter (opposite z)) ≡ true = up-opposite (quarter z) (quarter-differs n) ∙ ap not u in
+          let back : up (quarter (opposite z)) ≡ true = up-opposite (quarter z) (quarter-non-zero n) ∙ ap not u in
           let r = strict-antipodal s h (opposite z) back l k (f .within) k-in
-          (λ i m other. turned l i (least i m other)) (λ i m other. turned i k (most i m other)) in
+          (λ i m other. turned-lt z (corner A l) (corner A i) (least i m other))
+          (λ i m other. turned-lt z (corner A i) (corner A k) (most i m other)) in
           (r .0, r .1, r .2, second-right (r .2) (r .3) (r .4))
-        where
-          quarter-differs : NonZero z → NonZero (quarter z)
-          quarter-differs n = record {
-            non-zero = λ e. n .non-zero (point-path
-                (lia (z .x ∷ []) (ap (λ (p : Point). p .y) e) (search linear depth 40) (omega arith))
-                (lia (z .y ∷ []) (ap (λ (p : Point). p .x) e) (search linear depth 40) (omega arith)));
-          }
-
-          turned : (i j : ℕ) → value z (corner A i) <ℤ value z (corner A j)
-              → value (opposite z) (corner A j) <ℤ value (opposite z) (corner A i)
-          turned i j g = lia (value z (corner A i) ∷ value z (corner A j) ∷ value (opposite z) (corner A i)
-              ∷ value (opposite z) (corner A j) ∷ []) (g & value-turned z (corner A i) & value-turned z (corner A j))
-              (search linear depth 40) (omega arith)
 
       -- a point's only corner is the top
       wide : (c : Bool) → ltb 1 (length A) ≡ c → (a b : ℕ) × Antipodal A t a b × Stands A a b k l

@@ -3,37 +3,36 @@
 --     edgeTurn-value, height-support    the turn, and the greatest turn, by values of the direction to the left of the edge
 --     height-above, height-had          no turn is above it; some corner has it
 --     furthest-height, height-furthest  a corner has the greatest turn exactly if it is furthest in that direction
---     value-nonneg, edgeSquared-value           the squared length as a product of the edge with itself
+--     edgeSquared-value                         the squared length as a product of the edge with itself
 --     height-positive, edgeSquared-positive     of a shape with three corners or more
 --     facing-width                              against the edge of the width the first corner of greatest turn is widthCorner
 --     width-facing, width-earlier               and widthCorner is such a corner; before it all turns are less
-use mathlib.Core.Path.{_≡_, refl, sym, _∙_, ap}
-use mathlib.Core.Bool.{Bool, true, false, cond}
+use mathlib.Core.Path.{_≡_, sym, _∙_, ap}
+use mathlib.Core.Bool.{Bool}
 use mathlib.Core.List.{List, [], _∷_}
-use Prim.Native.Nat.{ℕ, _+_, _≤_, _<_}
+use Prim.Native.Nat.{ℕ, _<_}
 use native.Mathlib.Omega.{arith}
-use borrow.Author.Tests.{eqb-true, eqb-false}
-use lib.Dec.{eqb}
 use lib.IntN.{ℤ, pos, _-ℤ_}
 use lib.ListN.{length}
 use lib.Signed.{_≤ℤ_, _<ℤ_, leZ, clashℤ}
 use Rattle.integer.specs.Ring.{ring, reify}
 use Rattle.integer.specs.Linear.{lia, linear, _&_}
-use Rattle.integer.specs.Order.{le-of-eq, le-antisym, le-leZ, lt-leZ, leZ-true, leZ-false, contra<, square-nonneg}
+use Rattle.integer.specs.Order.{le-of-eq, le-antisym, le-leZ, lt-leZ, leZ-true, leZ-false, contra<}
 use Rattle.plane.specs.Cut.{quarter}
 use Rattle.plane.specs.Point.{Point, corner, _⊖_}
 use Rattle.plane.specs.Turn.{turn, Left}
 use Rattle.plane.specs.Shape.{next, IsShape}
 use Rattle.plane.specs.Direction.{value, support}
-use Rattle.plane.specs.Measure.{greatest, squared, edgeTurn, height, edgeSquared, widthEdge, widthCorner}
+use Rattle.plane.specs.Measure.{greatest, edgeTurn, height, edgeSquared, widthEdge, widthCorner}
 use Rattle.plane.specs.theory.lists.Members.{position-member, member-position}
 use Rattle.plane.specs.theory.forms.Vector.{turn-stay}
 use Rattle.plane.specs.theory.support.Support.{value-le-support, support-attained}
 use Rattle.plane.specs.theory.lists.Sought.{first-true, first-least, first-at-most, first-unique}
 use Rattle.plane.specs.theory.lists.Greatest.{greatest-above, greatest-attained, greatest-le}
-use Rattle.plane.specs.theory.forms.Squared.{squared-positive}
+use Rattle.plane.specs.theory.forms.Squared.{squared-positive, squared-value}
 use Rattle.measure.specs.Comparison.{Facing}
-use Rattle.plane.specs.theory.sum.Positions.{edgeOf}
+use Rattle.plane.specs.theory.sum.Positions.{edgeOf, next-left}
+use Rattle.plane.specs.theory.lists.Next.{next-below}
 
 turn-value : (a b c : Point) → turn a b c ≡ value (quarter (b ⊖ a)) c -ℤ value (quarter (b ⊖ a)) a
 unfolding turn value
@@ -92,33 +91,17 @@ module _ (ps : List Point) (e : ℕ) where
 
 -- ---- the squared length, as a product of the edge with itself
 
-pub value-nonneg : (v : Point) → pos 0 ≤ℤ value v v
-unfolding value
-value-nonneg v = lia (v .x ∷ v .y ∷ []) (square-nonneg (v .x) & square-nonneg (v .y)) (search linear depth 40) (omega arith)
-
-value-step : (p q : Point) → value (q ⊖ p) (q ⊖ p) ≡ squared p q
-unfolding value squared
-value-step p q = ring (p .x ∷ p .y ∷ q .x ∷ q .y ∷ []) (search reify depth 40) tt
-
 pub edgeSquared-value : (ps : List Point) (e : ℕ) → edgeSquared ps e ≡ value (edgeOf ps e) (edgeOf ps e)
 unfolding edgeSquared
-edgeSquared-value ps e = sym (value-step (corner ps e) (corner ps (next (length ps) e)))
+edgeSquared-value ps e = squared-value (corner ps e) (corner ps (next (length ps) e))
 
 -- ---- a shape with three corners or more
 
--- a corner that is no end of the edge: the one after its end, on the way round
-third : (n e : ℕ) → 2 < n → e < n → (c : ℕ) × (c < n) × (c ≡ e → ⊥) × (c ≡ next n e → ⊥)
-third n e h k = go (eqb (e + 1) n) refl (eqb (e + 2) n) refl
-  where
-    go : (s : Bool) → eqb (e + 1) n ≡ s → (t : Bool) → eqb (e + 2) n ≡ t
-        → (c : ℕ) × (c < n) × (c ≡ e → ⊥) × (c ≡ cond s 0 (e + 1) → ⊥)
-    go true p t q = (1, omega arith, λ r. omega (arith, eqb-true (e + 1) n p), λ r. omega arith)
-    go false p true q = (0, omega arith, λ r. omega (arith, eqb-true (e + 2) n q), λ r. omega arith)
-    go false p false q = (e + 2, omega (arith, eqb-false (e + 1) n p, eqb-false (e + 2) n q), λ r. omega arith, λ r. omega arith)
-
 module _ (ps : List Point) (s : IsShape ps) (long : 2 < length ps) (e : ℕ) (h : e < length ps) where
+  -- the corner after the end of the edge
   third-left : (c : ℕ) × (c < length ps) × Left (corner ps e) (corner ps (next (length ps) e)) (corner ps c)
-  third-left = let c = third (length ps) e long h in (c .0, c .1, s .left e (c .0) h (c .1) (c .2) (c .3))
+  third-left = let n = length ps in
+      (next n (next n e), next-below n (next n e) (next-below n e h), next-left ps s long e h)
 
   pub height-positive : pos 0 <ℤ height ps e
   unfolding edgeTurn

@@ -23,12 +23,12 @@ use Rattle.plane.specs.Measure.{edgeTurn, height}
 use Rattle.plane.specs.Forms.{up, NonZero, edges}
 use Rattle.plane.specs.Direction.{value, support, SameWay}
 use Rattle.plane.specs.Cycle.{round, cornerRound}
-use Rattle.plane.specs.theory.forms.Vector.{cross-swap, cross-opposite, cross-turned}
+use Rattle.plane.specs.theory.forms.Vector.{cross-swap, cross-opposite, cross-turned, opposite-non-zero, quarter-non-zero}
 use Rattle.plane.specs.theory.forms.HalfPlane.{up-opposite}
 use Rattle.plane.specs.theory.forms.Angle.{before-alike}
 use Rattle.plane.specs.theory.forms.SameWay.{neither-same}
 use Rattle.plane.specs.theory.sum.Positions.{edgeOf, edge-at, edges-some, in-order-non-zero}
-use Rattle.plane.specs.theory.face.Tied.{opposite-non-zero, quarter-non-zero, Tied, after, behind, tied}
+use Rattle.plane.specs.theory.face.Tied.{Tied, after, behind, tied}
 use Rattle.measure.specs.Comparison.{Facing}
 use Rattle.measure.specs.Half.{Chains, Antipodal, HalfStep, right, left}
 use Rattle.plane.specs.theory.sum.Positions.{shape-in-order}

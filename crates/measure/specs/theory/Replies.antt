@@ -5,7 +5,7 @@ use mathlib.Core.Path.{_≡_, refl, sym, _∙_, ap}
 use mathlib.Core.Bool.{Bool, true, false}
 use mathlib.Core.List.{List, [], _∷_}
 use mathlib.Core.Logic.{_↔_}
-use Prim.Native.Nat.{ℕ, _<_}
+use Prim.Native.Nat.{ℕ, _*_, _<_}
 use native.Mathlib.Omega.{arith}
 use borrow.Author.Tests.{ltb-true, lt-ltb, le-ltb}
 use lib.Dec.{ltb}
@@ -13,11 +13,12 @@ use lib.IntN.{ℤ, pos, natAbs}
 use lib.ListN.{length}
 use lib.Signed.{clashℤ}
 use Rattle.integer.specs.Order.{le-of-eq, le-trans, le-antisym}
+use Rattle.integer.specs.Bound.{positive-size}
 use Rattle.plane.specs.Point.{Point, corner}
 use Rattle.plane.specs.Shape.{IsShape}
 use Rattle.plane.specs.Reply.{answered, refused, here}
 use Rattle.plane.specs.Refusal.{Valid}
-use Rattle.plane.specs.Measure.{squared, lengthSquared, lengthFrom, lengthTo, height, edgeSquared, widthEdge, widthCorner, widthRounded}
+use Rattle.plane.specs.Measure.{squared, lengthSquared, lengthFrom, lengthTo, height, edgeSquared, widthEdge, widthCorner, rootBelow}
 use Rattle.plane.specs.Floor.{Floored, corners}
 use Rattle.plane.specs.Question.{values, reply, askLength, askWidth}
 use Rattle.plane.specs.theory.refusals.Asked.{asked-given, asked-none, asked-values, rest-none, rest-given}
@@ -25,7 +26,7 @@ use Rattle.measure.specs.Extremes.{FirstLongest, FirstNarrowest}
 use Rattle.measure.specs.theory.Longest.{squared-le-length, Longest, length-longest, length-from-least, length-to-least}
 use Rattle.measure.specs.theory.Height.{edgeSquared-positive, facing-width, width-facing, width-earlier}
 use Rattle.measure.specs.theory.Narrowest.{noWider-le, wider-lt, le-noWider, lt-wider, narrowest-done, width-narrowest}
-use Rattle.measure.specs.theory.Rounded.{rounded-low, rounded-high, rounded-unique, positive-size}
+use Rattle.measure.specs.theory.Rounded.{rounded-low, rounded-high, rounded-unique}
 
 -- ---- length
 
@@ -106,7 +107,8 @@ module _ (ps : List Point) (shape : IsShape ps) (three : 2 < length ps) where
   long f h = positive-size (edgeSquared-positive ps shape three f h)
 
   module _ {e c : ℕ} {t q : ℤ} {w : ℕ} where
-    narrowest-first : e ≡ edge → c ≡ widthCorner ps → t ≡ turn → q ≡ squares → w ≡ widthRounded (natAbs turn) (natAbs squares)
+    narrowest-first : e ≡ edge → c ≡ widthCorner ps → t ≡ turn → q ≡ squares
+        → w ≡ rootBelow (natAbs turn * natAbs turn) (natAbs squares)
         → FirstNarrowest ps e c t q w
     narrowest-first at-e at-c at-t at-q at-w =
         let narrowest = width-narrowest shape three in
@@ -122,8 +124,8 @@ module _ (ps : List Point) (shape : IsShape ps) (three : 2 < length ps) where
           corner-in = rw at-c (facing .within);
           corner-has = rw (at-e, at-c, at-t) (facing .has);
           smallest-corner = λ k h. rw (at-e, at-t) (width-earlier ps k (rw at-c at h));
-          rounded-low = rw (at-t, at-q, at-w) (rounded-low (natAbs turn) (natAbs squares) some);
-          rounded-high = rw (at-t, at-q, at-w) (rounded-high (natAbs turn) (natAbs squares) some);
+          rounded-low = rw (at-t, at-q, at-w) (rounded-low _ (natAbs squares) some);
+          rounded-high = rw (at-t, at-q, at-w) (rounded-high _ (natAbs squares) some);
         }
 
     module _ (s : FirstNarrowest ps e c t q w) where
@@ -142,9 +144,9 @@ module _ (ps : List Point) (shape : IsShape ps) (three : 2 < length ps) where
         sole = λ k l m. clashℤ (s .smallest-corner k l) (le-of-eq (sym (m ∙ s .turn-is)));
       })
 
-      first-rounded : widthRounded (natAbs t) (natAbs q) ≡ w
+      first-rounded : rootBelow (natAbs t * natAbs t) (natAbs q) ≡ w
       first-rounded =
-          rounded-unique (natAbs t) (natAbs q) (rw (s .squared-is) at (long e (s .edge-in))) w (s .rounded-low) (s .rounded-high)
+          rounded-unique _ (natAbs q) (rw (s .squared-is) at (long e (s .edge-in))) w (s .rounded-low) (s .rounded-high)
 
 module _ (a : Floored) (v : Valid (a .list)) where
   abbrev ps : List Point

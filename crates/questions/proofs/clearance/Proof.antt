@@ -1,4 +1,4 @@
--- `clearance` meets its contract: a list is refused, or the shapes are placed, and the nearest candidate sought if they are apart.
+-- `clearance` meets its contract: a list is refused, or the shapes are compared, and the nearest candidate sought if they are apart.
 use mathlib.Core.Path.{_≡_, sym, _∙_, ap}
 use mathlib.Core.List.{List, [], _∷_, _++_}
 use mathlib.Core.Bool.{Bool, true, cond}
@@ -9,10 +9,10 @@ use Rattle.plane.specs.Separation.{apart}
 use Rattle.plane.specs.Clearance.{numbersOf, nearest, clearanceNumbers}
 use Rattle.plane.specs.Floor.{Floored, on, Same}
 use Rattle.plane.specs.Question.{askClearance}
-use Rattle.separation.specs.Place.{placeNumber}
+use Rattle.separation.specs.Answer.{numberOf}
 use Rattle.separation.specs.theory.Around.{related-apart}
 use Rattle.admission.specs.theory.Door.{shapes-refused, all-answered}
-use Rattle.questions.proofs.Placed.{not-apart}
+use Rattle.questions.proofs.Related.{not-apart}
 use Rattle.questions.proofs.clearance.Statement.{statement}
 use Rattle.questions.proofs.clearance.Tie as tie
 
@@ -63,7 +63,7 @@ returns-2 c =
 -- past the relation the shapes are apart
 ready : (c : tie.After-enum-told2) → let args = c .before .before .before .before .before .before .args in
     apart (points (args .a .now)) (points (args .b .now)) ≡ true
-ready c = related-apart _ _ (ap placeNumber (sym (c .enum-told2 .given .1)) ∙ c .before .before .relation .ensures)
+ready c = related-apart _ _ (ap numberOf (sym (c .enum-told2 .given .1)) ∙ c .before .before .relation .ensures)
 
 nearest-requires : tie.Need-nearest-requires
 nearest-requires c κs = let both = shapes (c .before .before .before) in (both .first-valid, both .second-valid, ready c)

@@ -4,8 +4,8 @@ use mathlib.Core.List.{[], _∷_}
 use borrow.Author.Needs.{needs}
 use Rattle.plane.specs.Reply.{answered}
 use lib.IntN.{pos}
-use Rattle.separation.specs.declared.place.Place.{Place}
-use Rattle.separation.specs.Place.{placeNumber}
+use Rattle.separation.specs.declared.answer.Relation.{Relation}
+use Rattle.separation.specs.Answer.{numberOf}
 use Rattle.questions.proofs.stand.Statement.{statement}
 use Rattle.questions.proofs.stand.Tie as tie
 
@@ -19,13 +19,13 @@ enum-told-3 : tie.Need-enum-told-3
 enum-told-3 c = search needs
 
 returns : tie.Need-returns
-returns c = ap (λ (p : Place). answered (placeNumber p ∷ pos (c .before .before .args .floor) ∷ [])) (sym (c .enum-told .given .1))
+returns c = ap (λ (p : Relation). answered (numberOf p ∷ pos (c .before .before .args .floor) ∷ [])) (sym (c .enum-told .given .1))
 
 returns-2 : tie.Need-returns-2
-returns-2 c = ap (λ (p : Place). answered (placeNumber p ∷ pos (c .before .before .args .floor) ∷ [])) (sym (c .enum-told2 .given .1))
+returns-2 c = ap (λ (p : Relation). answered (numberOf p ∷ pos (c .before .before .args .floor) ∷ [])) (sym (c .enum-told2 .given .1))
 
 returns-3 : tie.Need-returns-3
-returns-3 c = ap (λ (p : Place). answered (placeNumber p ∷ pos (c .before .before .args .floor) ∷ [])) (sym (c .enum-told3 .given .1))
+returns-3 c = ap (λ (p : Relation). answered (numberOf p ∷ pos (c .before .before .args .floor) ∷ [])) (sym (c .enum-told3 .given .1))
 
 pub stand-spec : {M : Type 1} → statement M
 stand-spec = tie.close (tie.spec enum-told enum-told-2 enum-told-3 returns returns-2 returns-3)

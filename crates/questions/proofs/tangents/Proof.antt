@@ -8,12 +8,12 @@ use Rattle.plane.specs.Refusal.{Valid}
 use Rattle.plane.specs.Separation.{apart}
 use Rattle.plane.specs.Floor.{Floored, on, Same}
 use Rattle.plane.specs.Question.{askTangents}
-use Rattle.separation.specs.Place.{placeNumber}
+use Rattle.separation.specs.Answer.{numberOf}
 use Rattle.separation.specs.theory.Around.{related-apart}
 use Rattle.admission.specs.theory.Judged.{refuses}
 use Rattle.admission.specs.theory.Door.{shapes-refused, rest-refused, all-answered}
 use Rattle.questions.specs.theory.Lines.{tangents-values}
-use Rattle.questions.proofs.Placed.{not-apart}
+use Rattle.questions.proofs.Related.{not-apart}
 use Rattle.questions.proofs.tangents.Statement.{statement}
 use Rattle.questions.proofs.tangents.Tie as tie
 
@@ -63,7 +63,7 @@ ready : (c : tie.After-enum-told2) → let args = c .before .before .before .bef
 ready c =
     let at-place = c .before .before in
     let both = shapes (at-place .before) in
-    let apart-is = related-apart _ _ (ap placeNumber (sym (c .enum-told2 .given .1)) ∙ at-place .relation .ensures) in
+    let apart-is = related-apart _ _ (ap numberOf (sym (c .enum-told2 .given .1)) ∙ at-place .relation .ensures) in
     (both .first-valid, both .second-valid, apart-is)
 
 line-requires : tie.Need-line-requires

@@ -18,13 +18,13 @@ use Rattle.plane.specs.Question.{Question, reply, output}
 use Rattle.plane.specs.theory.lists.Flat.{numbers-points, points-length}
 use Rattle.plane.specs.theory.refusals.Rows.{firstRow-given, firstRow-passed}
 use Rattle.plane.specs.theory.refusals.Accept.{valid→accepted}
-use Rattle.journal.specs.Bytes.{wordsAt}
+use Rattle.endian.specs.Bytes.{wordsAt}
+use Rattle.endian.specs.theory.Bytes.{wordsAt-length}
 use Rattle.journal.specs.Format.{recorded, records}
 use Rattle.journal.specs.Reading.{damaged, held, latest, damageRow, askRead}
 use Rattle.journal.specs.Adding.{end, stores, made, addReply, unlessRefusal, added}
 use Rattle.journal.specs.Survey.{surveyed, LatestAt}
 use Rattle.journal.specs.declared.survey.Surveyed.the-variants as Surveyed
-use Rattle.journal.specs.theory.Decode.{wordsAt-length}
 use Rattle.journal.specs.theory.Survey.{surveyed-bad}
 use Rattle.admission.specs.Admission.{Refuses}
 use Rattle.admission.specs.theory.Judged.{refuses, refuses-append}

@@ -11,7 +11,7 @@ use Rattle.plane.specs.theory.lists.Flat.{points-length}
 use Rattle.polygon.specs.Front.{Front}
 use Rattle.polygon.specs.theory.Fronts.{front-length}
 use Rattle.calipers.specs.Walk.{At, begun}
-use Rattle.separation.specs.Around.{placed}
+use Rattle.separation.specs.Around.{originIn}
 use Rattle.separation.specs.theory.Image.{image, image-front, image-begun, image-related}
 use Rattle.separation.proofs.relation.Statement.{statement}
 use Rattle.separation.proofs.relation.Tie as tie
@@ -50,7 +50,7 @@ returns : tie.Need-returns
 returns c =
     let at-count = c .before .before in
     let start = at-count .before .before .before .before in
-    c .around .ensures ∙ ap (λ (m : List ℤ). placed (vectorSum (points (start .args .a .now)) (points m))) (front at-count .front)
+    c .around .ensures ∙ ap (λ (m : List ℤ). originIn (vectorSum (points (start .args .a .now)) (points m))) (front at-count .front)
     ∙ image-related _ (start .pre .1) _ (start .pre .0)
 
 pub relation-spec : {M : Type 1} → statement M

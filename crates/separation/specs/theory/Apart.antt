@@ -6,7 +6,7 @@
 --     apart→direction, direction→apart                 A and B are apart exactly if there is one
 --     apart-shapeOf                                    apart, by the shape of the differences
 --     apart-sym                                        it does not matter which is the first
---     apart→different, inside→not-apart                lists apart have no point in common; a list inside another is not apart from it
+--     inside→not-apart                                 a list inside another is not apart from it
 -- Lists have a point: 0 < length.
 use mathlib.Core.Path.{_≡_, refl, sym, _∙_, ap}
 use mathlib.Core.Bool.{Bool, true, false, not}
@@ -16,7 +16,7 @@ use native.Mathlib.Omega.{arith}
 use borrow.Author.Tests.{not-true}
 use lib.IntN.{_+ℤ_, _-ℤ_}
 use lib.ListN.{length}
-use lib.Signed.{_<ℤ_, <ℤ-irrefl}
+use lib.Signed.{_<ℤ_}
 use Rattle.integer.specs.Linear.{linear, lia, _&_}
 use Rattle.plane.specs.Point.{Point, origin, opposite, _⊕_, _∈_}
 use Rattle.plane.specs.Shape.{IsShape}
@@ -25,7 +25,7 @@ use Rattle.plane.specs.Corner.{shapeOf, sums, mirrored}
 use Rattle.plane.specs.Separation.{inside, differences, apart}
 use Rattle.plane.specs.theory.lists.Sought.{tests-agree}
 use Rattle.plane.specs.theory.lists.Members.{sums-member, member-sums, mirrored-member, member-mirrored, sums-some, mirrored-some}
-use Rattle.plane.specs.theory.forms.Vector.{value-⊕, value-opposite, value-turned, value-origin}
+use Rattle.plane.specs.theory.forms.Vector.{value-⊕, value-opposite, value-turned, value-origin, turned-lt}
 use Rattle.plane.specs.theory.support.Support.{support-attained, support-sums}
 use Rattle.plane.specs.theory.hull.ShapeOf.{shapeOf-support, shapeOf-shape, shape-known}
 use Rattle.plane.specs.VectorSum.{vectorSum}
@@ -125,25 +125,15 @@ module _ (A B : List Point) (a : 0 < length A) (b : 0 < length B) where
 
 -- the direction turned round
 separated-sym : {A B : List Point} → Separated A B → Separated B A
-separated-sym {A} {B} s = record { direction = opposite d; below = below }
-  where
-    d : Point
-    d = s .direction
-
-    below : (b a : Point) → b ∈ B → a ∈ A → value (opposite d) b <ℤ value (opposite d) a
-    below b a m n = lia (value d a ∷ value d b ∷ value (opposite d) a ∷ value (opposite d) b ∷ [])
-        (s .below a b n m & value-turned d a & value-turned d b) (search linear depth 40) (omega arith)
+separated-sym s = record {
+  direction = opposite (s .direction);
+  below = λ q p m n. turned-lt (s .direction) p q (s .below p q n m);
+}
 
 pub apart-sym : (A B : List Point) → 0 < length A → 0 < length B → apart A B ≡ apart B A
 apart-sym A B a b = tests-agree (apart A B) (apart B A)
     (λ h. direction→apart B A b a (separated-sym (apart→direction A B a b h)))
     (λ h. direction→apart A B a b (separated-sym (apart→direction B A b a h)))
-
-pub apart→different : (A B : List Point) → 0 < length A → 0 < length B → apart A B ≡ true
-    → (p q : Point) → p ∈ A → q ∈ B → p ≡ q → ⊥
-apart→different A B a b h p q m n e =
-    let s = apart→direction A B a b h in
-    <ℤ-irrefl (rw e at (s .below p q m n))
 
 -- the point of B that is lowest in the direction would be below the lowest of A
 pub inside→not-apart : (A B : List Point) → 0 < length A → 0 < length B → inside A B ≡ true → apart A B ≡ false

@@ -1,6 +1,6 @@
 -- How two shapes stand, by the origin against the edges of their differences.
---     placed-origin         the numbers of `placed` say whether the origin is outside a shape, on its rim or inside
---     placed-related        of the differences of two lists: the relation
+--     originIn-inside         the numbers of `originIn` say whether the origin is outside a shape, on its rim or inside
+--     originIn-relation        of the differences of two lists: the relation
 --     refuted               a test that cannot pass
 use mathlib.Core.Path.{_≡_, refl, _∙_, ap}
 use mathlib.Core.Bool.{Bool, true, false, not, cond, _||_, _&&_}
@@ -23,13 +23,12 @@ use Rattle.plane.specs.Corner.{shapeOf}
 use Rattle.plane.specs.Separation.{inside, differences, apart, notLeft, onRim, touching, relationNumber}
 use Rattle.plane.specs.theory.lists.Members.{point-discrete}
 use Rattle.plane.specs.theory.lists.Sought.{some-witness, some-none}
-use Rattle.plane.specs.theory.forms.Vector.{cross-swap, value-origin}
+use Rattle.plane.specs.theory.forms.Vector.{cross-swap, value-origin, square-positive}
 use Rattle.plane.specs.theory.hull.ShapeOf.{shapeOf-shape}
 use Rattle.separation.specs.theory.Apart.{differences-some, apart-shapeOf}
 use Rattle.separation.specs.theory.InsideShape.{polygon-origin→crosses, polygon-crosses→origin, segment-origin→opposed}
 use Rattle.separation.specs.theory.InsideShape.{segment-opposed→origin, point-inside→equal, point-equal→inside}
-use Rattle.separation.specs.theory.Sector.{square-positive}
-use Rattle.separation.specs.Around.{crossAt, rightOf, placedFew, placed}
+use Rattle.separation.specs.Around.{crossAt, rightOf, originInFew, originIn}
 
 -- ---- the origin against a shape
 
@@ -68,8 +67,8 @@ module _ (D : List Point) (s : IsShape D) where
   no-right h e l = ltZ-false (some-none (rightOf D) (length D) h e l)
 
 few-origin : (D : List Point) → IsShape D → ((e : ℕ) → e < length D → pos 0 ≤ℤ cross (corner D e) (corner D (next (length D) e)))
-    → length D < 3 → placedFew D ≡ cond (not (inside (origin ∷ []) D)) (pos 0) (pos 1)
-unfolding placedFew
+    → length D < 3 → originInFew D ≡ cond (not (inside (origin ∷ []) D)) (pos 0) (pos 1)
+unfolding originInFew
 few-origin [] s f h = absurd (omega (arith, s .some))
 few-origin (p ∷ []) s f h = few-number (inside (origin ∷ []) (p ∷ []))
     (λ v. point-equal→inside p origin (point-origin p v)) (λ k. origin-point p (point-inside→equal p origin k))
@@ -79,13 +78,13 @@ few-origin (p ∷ (q ∷ [])) s f h =
     few-number (inside (origin ∷ []) (p ∷ q ∷ [])) (segment-opposed→origin p q level) (λ k. segment-origin→opposed p q k .1)
 few-origin (p ∷ (q ∷ (r ∷ D))) s f h = absurd (omega arith)
 
-pub placed-origin : (D : List Point) → IsShape D
-    → placed D ≡ cond (not (inside (origin ∷ []) D)) (pos 0) (cond (onRim D) (pos 1) (pos 2))
-unfolding placed onRim
-placed-origin D s = go (some (rightOf D) (length D)) refl (ltb (length D) 3) refl
+pub originIn-inside : (D : List Point) → IsShape D
+    → originIn D ≡ cond (not (inside (origin ∷ []) D)) (pos 0) (cond (onRim D) (pos 1) (pos 2))
+unfolding originIn onRim
+originIn-inside D s = go (some (rightOf D) (length D)) refl (ltb (length D) 3) refl
   where
     go : (t : Bool) → some (rightOf D) (length D) ≡ t → (u : Bool) → ltb (length D) 3 ≡ u
-        → cond t (pos 0) (cond u (placedFew D) (cond (some (notLeft D) (length D)) (pos 1) (pos 2)))
+        → cond t (pos 0) (cond u (originInFew D) (cond (some (notLeft D) (length D)) (pos 1) (pos 2)))
         ≡ cond (not (inside (origin ∷ []) D)) (pos 0) (cond (u || some (notLeft D) (length D)) (pos 1) (pos 2))
     go true e u f = rw (right→outside D s e)
     go false e true f = few-origin D s (no-right D s e) (ltb-true (length D) 3 f)
@@ -94,9 +93,9 @@ placed-origin D s = go (some (rightOf D) (length D)) refl (ltb (length D) 3) ref
 
 -- ---- the relation
 
-pub placed-related : (A B : List Point) → 0 < length A → 0 < length B → placed (shapeOf (differences A B)) ≡ relationNumber A B
+pub originIn-relation : (A B : List Point) → 0 < length A → 0 < length B → originIn (shapeOf (differences A B)) ≡ relationNumber A B
 unfolding relationNumber touching
-placed-related A B a b = placed-origin D (shapeOf-shape (differences A B) (differences-some A B a b))
+originIn-relation A B a b = originIn-inside D (shapeOf-shape (differences A B) (differences-some A B a b))
     ∙ rw (apart-shapeOf A B a b) (go (inside (origin ∷ []) D) (onRim D))
   where
     D : List Point

@@ -29,8 +29,8 @@ use Rattle.polygon.specs.Front.{Front}
 use Rattle.polygon.specs.theory.Fronts.{overwritten-front}
 use Rattle.calipers.specs.Walk.{begun, At}
 use Rattle.calipers.specs.theory.Standing.{standing-start}
-use Rattle.separation.specs.Around.{placed}
-use Rattle.separation.specs.theory.Around.{placed-related}
+use Rattle.separation.specs.Around.{originIn}
+use Rattle.separation.specs.theory.Around.{originIn-relation}
 
 -- the corners of the image
 abbrev pub image : List ℤ → List Point
@@ -62,10 +62,10 @@ module _ (b : List ℤ) (v : Valid b) where
       standing = standing-start (edges (points a)) (edges (points (numbers (image b))));
     }
 
-    pub image-related : placed (vectorSum (points a) (points (numbers (image b)))) ≡ relationNumber (points a) (points b)
-    image-related = ap (λ M. placed (vectorSum (points a) M)) (points-numbers (image b))
-        ∙ ap placed (differences-shape (points a) (points b) (u .shape) (v .shape .some))
-        ∙ placed-related (points a) (points b) (u .shape .some) (v .shape .some)
+    pub image-related : originIn (vectorSum (points a) (points (numbers (image b)))) ≡ relationNumber (points a) (points b)
+    image-related = ap (λ M. originIn (vectorSum (points a) M)) (points-numbers (image b))
+        ∙ ap originIn (differences-shape (points a) (points b) (u .shape) (v .shape .some))
+        ∙ originIn-relation (points a) (points b) (u .shape .some) (v .shape .some)
 
     image-sum : shapeOf (sums (points a) (points (numbers (image b)))) ≡ shapeOf (differences (points a) (points b))
     image-sum = ap (λ M. shapeOf (sums (points a) M)) (points-numbers (image b))

@@ -23,11 +23,12 @@ use Rattle.plane.specs.Shape.{next, IsShape}
 use Rattle.plane.specs.Direction.{value, support}
 use Rattle.plane.specs.Separation.{inside}
 use Rattle.plane.specs.Forms.{NonZero}
+use Rattle.plane.specs.Cut.{outward}
 use Rattle.plane.specs.theory.lists.Members.{point-discrete, member-some}
-use Rattle.plane.specs.theory.forms.Vector.{outward, ⊖-zero, turn-level}
+use Rattle.plane.specs.theory.forms.Vector.{⊖-zero, turn-level, square-positive}
 use Rattle.plane.specs.theory.support.Support.{value-le-support, support-le}
 use Rattle.separation.specs.theory.Inside.{inside→reach, reach→inside, direction→outside, inside-refl}
-use Rattle.separation.specs.theory.Sector.{square-positive, value-outward, edge-outermost, left→reached}
+use Rattle.separation.specs.theory.Sector.{value-outward, edge-outermost, left→reached}
 
 -- ---- one point
 

@@ -27,9 +27,10 @@ use Rattle.plane.specs.Direction.{value, support}
 use Rattle.plane.specs.Corner.{shapeOf}
 use Rattle.plane.specs.Separation.{differences, apart, notLeft, onRim, touching}
 use Rattle.plane.specs.Forms.{NonZero}
+use Rattle.plane.specs.Cut.{outward}
 use Rattle.plane.specs.theory.lists.Members.{point-path}
 use Rattle.plane.specs.theory.lists.Sought.{some-witness, some-none}
-use Rattle.plane.specs.theory.forms.Vector.{outward, value-origin, value-turned, turn-level}
+use Rattle.plane.specs.theory.forms.Vector.{value-origin, value-turned, turn-level, opposite-non-zero, turned-le}
 use Rattle.plane.specs.theory.support.Support.{value-le-support, support-attained, support-le}
 use Rattle.plane.specs.theory.hull.ShapeOf.{shapeOf-support, shapeOf-shape}
 use Rattle.plane.specs.theory.lists.Sought.{tests-agree}
@@ -49,13 +50,6 @@ pub record Below (D : List Point) : Type 0 where
   pub non-zero : NonZero direction
   pub below : (q : Point) → q ∈ D → value direction q ≤ℤ pos 0
 
-opposite-nonzero : {d : Point} → NonZero d → NonZero (opposite d)
-opposite-nonzero {d} n = record {
-  non-zero = λ e. n .non-zero (point-path
-      (lia (d .x ∷ []) (ap (λ (z : Point). z .x) e) (search linear depth 40) (omega arith))
-      (lia (d .y ∷ []) (ap (λ (z : Point). z .y) e) (search linear depth 40) (omega arith)));
-}
-
 -- where all points have the same value, the direction or its opposite
 level→below : (D : List Point) (d : Point) (v : ℤ) → NonZero d → ((q : Point) → q ∈ D → value d q ≡ v) → Below D
 level→below D d v n f = go (lt-or-le v (pos 0))
@@ -68,7 +62,7 @@ level→below D d v n f = go (lt-or-le v (pos 0))
     }
     go (inr h) = record {
       direction = opposite d;
-      non-zero = opposite-nonzero n;
+      non-zero = opposite-non-zero n;
       below = λ q m. lia (value d q ∷ value (opposite d) q ∷ v ∷ []) (f q m & h & value-turned d q) (search linear depth 40) (omega arith);
     }
 
@@ -243,14 +237,11 @@ module _ (A B : List Point) (a : 0 < length A) (b : 0 < length B) where
 -- ---- either may be the first
 
 abutting-sym : {A B : List Point} → Abutting A B → Abutting B A
-abutting-sym {A} {B} r = record { direction = opposite d; non-zero = opposite-nonzero (r .non-zero); no-above = no-above }
-  where
-    d : Point
-    d = r .direction
-
-    no-above : (b a : Point) → b ∈ B → a ∈ A → value (opposite d) b ≤ℤ value (opposite d) a
-    no-above b a m n = lia (value d a ∷ value d b ∷ value (opposite d) a ∷ value (opposite d) b ∷ [])
-        (r .no-above a b n m & value-turned d a & value-turned d b) (search linear depth 40) (omega arith)
+abutting-sym r = record {
+  direction = opposite (r .direction);
+  non-zero = opposite-non-zero (r .non-zero);
+  no-above = λ q p m n. turned-le (r .direction) p q (r .no-above p q n m);
+}
 
 pub touching-sym : (A B : List Point) → 0 < length A → 0 < length B → touching A B ≡ touching B A
 touching-sym A B a b = tests-agree (touching A B) (touching B A) (turned A B a b) (turned B A b a)

@@ -1,8 +1,5 @@
 -- Round a shape: the outer normal of an edge, and the sector between the two edges at a corner.
---     zero-factor                      a product that is 0, of a positive number and another
---     square-positive                  the value of a vector, not zero, in its own direction
 --     value-outward                    in the direction that an edge faces outwards a point's value falls by its turn
---     next-left                        the corner after an edge is left of it
 --     sector                           the step from a corner to a point, written by the two edges at the corner
 --     sector-weak                      between the two edges nothing is further than a corner that is no less far than its neighbours
 --     level-zero                       a direction in which both edges at a corner are level is (0,0)
@@ -14,45 +11,23 @@ use mathlib.Core.Logic.{_⊎_, inl, inr}
 use mathlib.Core.List.{List, [], _∷_}
 use Prim.Native.Nat.{ℕ, _<_}
 use native.Mathlib.Omega.{arith}
-use lib.IntN.{ℤ, pos, _+ℤ_, _-ℤ_, _*ℤ_}
+use lib.IntN.{pos, _-ℤ_, _*ℤ_}
 use lib.ListN.{length}
 use lib.Signed.{_≤ℤ_, _<ℤ_}
 use Rattle.integer.specs.Ring.{ring, reify}
 use Rattle.integer.specs.Linear.{linear, lia, _&_}
-use Rattle.integer.specs.Order.{_<×<_, _<×≤_, _≤×≤_, _≡×_, Compared, is-below, is-equal, is-above, compared, lt-or-le}
-use Rattle.integer.specs.Order.{contra<, contra≤, le-antisym, square-nonneg}
+use Rattle.integer.specs.Order.{_<×<_, _<×≤_, _≤×≤_, _≡×_, lt-or-le, zero-factor}
+use Rattle.integer.specs.Order.{contra<, contra≤, le-antisym}
 use Rattle.plane.specs.Point.{Point, origin, corner, _∈_}
 use Rattle.plane.specs.Turn.{turn, Left}
 use Rattle.plane.specs.Shape.{next, IsShape}
 use Rattle.plane.specs.Direction.{value, support}
 use Rattle.plane.specs.Forms.{NonZero}
+use Rattle.plane.specs.Cut.{outward}
 use Rattle.plane.specs.theory.lists.Members.{point-path, member-position, position-member}
-use Rattle.plane.specs.theory.forms.Vector.{outward}
-use Rattle.plane.specs.theory.lists.Next.{next-below, preceding, two-steps}
-use Rattle.plane.specs.theory.sum.Positions.{edge-turn}
+use Rattle.plane.specs.theory.lists.Next.{next-below, preceding}
+use Rattle.plane.specs.theory.sum.Positions.{edge-turn, next-left}
 use Rattle.plane.specs.theory.support.Support.{value-le-support, support-attained}
-
--- ---- vectors
-
-pub zero-factor : {t z : ℤ} → pos 0 <ℤ t → t *ℤ z ≡ pos 0 → z ≡ pos 0
-zero-factor {t} {z} h e = go (compared z (pos 0))
-  where
-    go : Compared z (pos 0) → z ≡ pos 0
-    go (is-below k) = absurd (lia (t ∷ z ∷ []) (e & h <×< k) (search linear depth 40) (omega arith))
-    go (is-equal k) = k
-    go (is-above k) = absurd (lia (t ∷ z ∷ []) (e & h <×< k) (search linear depth 40) (omega arith))
-
--- one of its parts is not 0, and has a positive square
-pub square-positive : (d : Point) → NonZero d → pos 0 <ℤ value d d
-unfolding value
-square-positive d n = go (compared (d .x) (pos 0)) (compared (d .y) (pos 0))
-  where
-    go : Compared (d .x) (pos 0) → Compared (d .y) (pos 0) → pos 0 <ℤ (d .x *ℤ d .x +ℤ d .y *ℤ d .y)
-    go (is-below h) k = lia (d .x ∷ d .y ∷ []) (h <×< h & square-nonneg (d .y)) (search linear depth 40) (omega arith)
-    go (is-above h) k = lia (d .x ∷ d .y ∷ []) (h <×< h & square-nonneg (d .y)) (search linear depth 40) (omega arith)
-    go (is-equal e) (is-below k) = lia (d .x ∷ d .y ∷ []) (k <×< k & square-nonneg (d .x)) (search linear depth 40) (omega arith)
-    go (is-equal e) (is-above k) = lia (d .x ∷ d .y ∷ []) (k <×< k & square-nonneg (d .x)) (search linear depth 40) (omega arith)
-    go (is-equal e) (is-equal f) = absurd (n .non-zero (point-path e f))
 
 -- ---- the outer normal of an edge
 
@@ -88,15 +63,8 @@ module _ (ps : List Point) (s : IsShape ps) where
           (value-outward a b q & rw (r .2) at (edge-turn ps s e (r .0) h (r .1))) (search linear depth 40) (omega arith)
 
   module _ (three : 2 < length ps) where
-    pub next-left : (e : ℕ) → e < length ps
-        → Left (corner ps e) (corner ps (next (length ps) e)) (corner ps (next (length ps) (next (length ps) e)))
-    next-left e h =
-        let below = next-below (length ps) e h in
-        let far = two-steps (length ps) e three h in
-        s .left e (next (length ps) (next (length ps) e)) h (next-below (length ps) (next (length ps) e) below) (far .0) (far .1)
-
     pub edge-nonzero : (e : ℕ) → e < length ps → NonZero (outward (corner ps e) (corner ps (next (length ps) e)))
-    edge-nonzero e h = outward-nonzero _ _ _ (next-left e h)
+    edge-nonzero e h = outward-nonzero _ _ _ (next-left ps s three e h)
 
 -- ---- the sector at a corner p between the edges from a and to c
 

@@ -18,7 +18,7 @@ use lib.Signed.{_≤ℤ_, _<ℤ_, leZ, clashℤ}
 use Rattle.integer.specs.Ring.{ring, reify}
 use Rattle.integer.specs.Linear.{linear, lia, _&_}
 use Rattle.integer.specs.Order.{le-trans, leZ-true, le-leZ}
-use Rattle.plane.specs.Cut.{quarter}
+use Rattle.plane.specs.Cut.{quarter, outward}
 use Rattle.plane.specs.Point.{Point, corner, _⊖_, _∈_}
 use Rattle.plane.specs.Turn.{cross, turn, turn-cross, turn-cycle}
 use Rattle.plane.specs.Shape.{next, IsShape}
@@ -28,7 +28,6 @@ use Rattle.plane.specs.Cycle.{cornerRound}
 use Rattle.plane.specs.Separation.{inside}
 use Rattle.plane.specs.theory.lists.Members.{point-path, position-member, member-position}
 use Rattle.plane.specs.theory.lists.Sought.{tests-agree, true-not-false}
-use Rattle.plane.specs.theory.forms.Vector.{outward}
 use Rattle.plane.specs.theory.sum.Positions.{round-inner, round-within, edges-at-most, edge-at}
 use Rattle.plane.specs.theory.support.Support.{value-le-support, support-same}
 use Rattle.calipers.specs.Places.{Standing}

@@ -17,6 +17,7 @@ use lib.ListN.{length}
 use lib.Signed.{_≤ℤ_, _<ℤ_}
 use Rattle.integer.specs.Linear.{linear, lia}
 use Rattle.integer.specs.Order.{_≡×_}
+use Rattle.integer.specs.Bound.{size-square}
 use Rattle.plane.specs.Point.{Point, origin, points, corner}
 use Rattle.plane.specs.Shape.{IsShape}
 use Rattle.plane.specs.Reply.{answered}
@@ -33,13 +34,12 @@ use Rattle.plane.specs.theory.refusals.Asked.{asked-none, asked-values, asked-s
 use Rattle.measure.specs.theory.Height.{edgeSquared-positive}
 use Rattle.measure.specs.theory.Narrowest.{width-narrowest}
 use Rattle.clearance.specs.theory.Nearest.{nearest-is-whole}
-use Rattle.clearance.specs.theory.Rounding.{size-square}
 use Rattle.clearance.specs.theory.Replies.{clearance-values}
 use Rattle.strips.specs.Strip.{least, spread, gapIn, Corridor}
 use Rattle.strips.specs.OwnDirection.{outOf, towards, answerTop, answerBottom}
 use Rattle.strips.specs.theory.Spread.{least-le-value}
 use Rattle.strips.specs.theory.Edges.{out-squared, out-spread}
-use Rattle.strips.specs.theory.Every.{width-every}
+use Rattle.strips.specs.theory.WidthBound.{width-every}
 use Rattle.strips.specs.theory.Corridors.{corridor-no-wider, corridor-level, towards-corridor, towards-wide}
 
 -- ---- width

@@ -14,7 +14,7 @@ use lib.ListN.{length}
 use lib.Signed.{_≤ℤ_, _<ℤ_}
 use Rattle.integer.specs.Ring.{ring, reify, difference-zero}
 use Rattle.integer.specs.Linear.{linear, lia, _&_}
-use Rattle.integer.specs.Order.{_<×<_, _<×≤_, _≤×≤_, _≡×_, contra≤, weaken, le-antisym, square-nonneg}
+use Rattle.integer.specs.Order.{_<×<_, _<×≤_, _≤×≤_, _≡×_, contra≤, weaken, le-antisym, square-nonneg, zero-factor}
 use Rattle.plane.specs.Point.{Point, corner, opposite, _⊖_, _∈_}
 use Rattle.plane.specs.Turn.{turn, cross}
 use Rattle.plane.specs.Shape.{next, IsShape}
@@ -23,13 +23,13 @@ use Rattle.plane.specs.Measure.{squared}
 use Rattle.plane.specs.Separation.{apart}
 use Rattle.plane.specs.Mean.{times, weight, gap, share}
 use Rattle.plane.specs.Clearance.{Candidate, corners, onSecond, onFirst, turnOn, top, bottom, nearest}
+use Rattle.plane.specs.Cut.{outward}
 use Rattle.plane.specs.theory.lists.Members.{member-some, position-member, member-position}
-use Rattle.plane.specs.theory.forms.Vector.{outward, value-origin, value-turned}
+use Rattle.plane.specs.theory.forms.Vector.{value-origin, value-turned, value-⊖}
 use Rattle.plane.specs.theory.support.Support.{value-le-support, support-unique}
 use Rattle.separation.specs.theory.Apart.{direction→apart, apart-sym}
-use Rattle.separation.specs.theory.Sector.{zero-factor}
 use Rattle.clearance.specs.Facing.{Foot, Reached, Facing}
-use Rattle.clearance.specs.theory.Bound.{lagrange, value-⊖, falls-inside}
+use Rattle.clearance.specs.theory.Bound.{lagrange, foot-positive}
 use Rattle.clearance.specs.theory.Means.{gap-value}
 use Rattle.clearance.specs.theory.First.{Held, facing-held, held-square, nearest-at, nearest-reached}
 use Rattle.clearance.specs.theory.Stop.{facing-exists}
@@ -191,9 +191,7 @@ foot-along m qs ps {c} {e} r above = record {
         (search linear depth 40) (omega arith)
 
     some : pos 0 <ℤ squared p q
-    some =
-        let i = falls-inside p q z (r .inside) in
-        lia (value (q ⊖ p) (z ⊖ p) ∷ squared p q ∷ []) (i .0 & i .1) (search linear depth 40) (omega arith)
+    some = foot-positive p q z (r .inside)
 
 cross-back : (m n : Point) (k : ℤ) → cross (opposite m) (times (negℤ k) n) ≡ cross m (times k n)
 unfolding cross

@@ -18,15 +18,14 @@ use Rattle.plane.specs.Turn.{turn, cross}
 use Rattle.plane.specs.Shape.{next, IsShape}
 use Rattle.plane.specs.Direction.{value}
 use Rattle.plane.specs.Measure.{squared, edgeTurn, height, edgeSquared, widthEdge}
+use Rattle.plane.specs.Cut.{outward}
 use Rattle.plane.specs.theory.lists.Members.{position-member, member-position}
-use Rattle.plane.specs.theory.forms.Vector.{outward}
+use Rattle.plane.specs.theory.forms.Vector.{value-nonneg, value-⊖, positive-non-zero}
 use Rattle.plane.specs.theory.support.Support.{support-unique}
 use Rattle.plane.specs.theory.face.Tied.{Tied, after, behind, tied}
 use Rattle.separation.specs.theory.Sector.{value-outward, edge-outermost}
-use Rattle.measure.specs.theory.Height.{height-above, height-had, edgeSquared-positive, value-nonneg}
+use Rattle.measure.specs.theory.Height.{height-above, height-had, edgeSquared-positive}
 use Rattle.measure.specs.theory.Narrowest.{width-narrowest, noWider-le}
-use Rattle.clearance.specs.theory.Bound.{value-⊖}
-use Rattle.clearance.specs.theory.Lowest.{positive-some}
 use Rattle.strips.specs.Strip.{spread}
 use Rattle.strips.specs.OwnDirection.{outOf}
 use Rattle.strips.specs.theory.Spread.{spread-above, spread-attained}
@@ -157,7 +156,7 @@ module _ (ps : List Point) (s : IsShape ps) (three : 2 < length ps) (n : Point) 
           (search linear depth 40) (omega arith))) f
 
       go : (i : ℕ) × (i < length ps) × (corner ps i ≡ a) → (j : ℕ) × (j < length ps) × (corner ps j ≡ b) → NoNarrower ps n
-      go (i, h, e) (j, k, f) = pick (tied ps s n i j (positive-some n some) h k (λ r. other (sym e ∙ ap (corner ps) (sym r) ∙ f))
+      go (i, h, e) (j, k, f) = pick (tied ps s n i j (positive-non-zero n n some) h k (λ r. other (sym e ∙ ap (corner ps) (sym r) ∙ f))
           (sym (support-unique n (position-member ps i h) first)) (sym (support-unique n (position-member ps j k) second)))
         where
           first : (p : Point) → p ∈ ps → value n p ≤ℤ value n (corner ps i)

@@ -8,11 +8,10 @@ use lib.IntN.{ℤ, pos, _*ℤ_}
 use lib.Signed.{_<ℤ_}
 use Rattle.integer.specs.Ring.{difference-zero}
 use Rattle.integer.specs.Linear.{linear, lia, _&_}
-use Rattle.integer.specs.Order.{_≡×_}
+use Rattle.integer.specs.Order.{_≡×_, zero-factor}
 use Rattle.plane.specs.Point.{Point}
 use Rattle.plane.specs.Turn.{cross}
 use Rattle.plane.specs.Direction.{value}
-use Rattle.separation.specs.theory.Sector.{zero-factor}
 use Rattle.clearance.specs.theory.Bound.{lagrange}
 use Rattle.clearance.specs.theory.Along.{by-edge}
 

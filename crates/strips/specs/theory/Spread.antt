@@ -14,9 +14,8 @@ use Rattle.integer.specs.Ring.{ring, reify}
 use Rattle.integer.specs.Linear.{linear, lia, _&_}
 use Rattle.plane.specs.Point.{Point, opposite, _∈_}
 use Rattle.plane.specs.Direction.{value, support}
-use Rattle.plane.specs.theory.forms.Vector.{value-turned}
+use Rattle.plane.specs.theory.forms.Vector.{value-turned, opposite-opposite}
 use Rattle.plane.specs.theory.support.Support.{value-le-support, support-attained}
-use Rattle.clearance.specs.theory.Ends.{opposite-twice}
 use Rattle.strips.specs.Strip.{least, spread}
 
 module _ (d : Point) (ps : List Point) where
@@ -60,4 +59,4 @@ module _ (d : Point) (ps : List Point) where
 
   pub spread-turned : spread (opposite d) ps ≡ spread d ps
   unfolding spread least
-  spread-turned = rw (opposite-twice d) (ring (support d ps ∷ support (opposite d) ps ∷ []) (search reify depth 40) tt)
+  spread-turned = rw (opposite-opposite d) (ring (support d ps ∷ support (opposite d) ps ∷ []) (search reify depth 40) tt)

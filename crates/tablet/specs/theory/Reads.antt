@@ -3,8 +3,8 @@
 --     short-far             what passes 31 bits is out of range
 --     small-not-whole       0 < |v| < 1 in eighths
 --     scaled-same           scaled by 0.125 it is the same reading in millimetres, unless it is small
-use mathlib.Core.Path.{_≡_, refl, sym, ap, ap₂, _∙_, subst}
-use mathlib.Core.Bool.{Bool, true, false, not, cond, Bool·beq, _&&_}
+use mathlib.Core.Path.{_≡_, refl, sym, ap, ap₂, _∙_}
+use mathlib.Core.Bool.{Bool, true, false, not, cond, Bool·beq, _&&_, and-eq-true-iff}
 use Prim.Native.Nat.{ℕ, zero, suc, _*_, _/_, _%_, _^_, _≤_, _<_}
 use native.Mathlib.Nat.{mul-one, mul-pos, mod-eq-of-lt, lt-of-lt-of-le, lt-of-le-of-lt, le-div-iff-mul-le}
 use native.Mathlib.Omega.{arith}
@@ -108,10 +108,6 @@ short-far v h =
 
 -- ---- eighths
 
-and-parts : (a b : Bool) → (a && b) ≡ true → (a ≡ true) × (b ≡ true)
-and-parts true b h = (refl, h)
-and-parts false b h = absurd (subst T (sym h) tt)
-
 has-value : (v : Float) → 0 < over v → finite v ≡ true
 unfolding over finite
 has-value nan h = absurd (let k : ⊥ = omega arith in k)
@@ -121,7 +117,7 @@ has-value (fin s m e) h = refl
 pub small-not-whole : (v : Float) → small v ≡ true → NotWhole ≡ readAs (Eighths v)
 unfolding small notFinite notWhole
 small-not-whole v h =
-    let p = and-parts (ltb 0 (over v)) (ltb (over v) (under v)) h in
+    let p = and-eq-true-iff (ltb 0 (over v)) (ltb (over v) (under v)) .0 h in
     let some : 0 < over v = ltb-true 0 (over v) (p .0) in
     let less : over v < under v * 8 = let k : over v < under v = ltb-true (over v) (under v) (p .1) in omega arith in
     reads-not-whole (Eighths v) (ap not (has-value v some))

@@ -14,12 +14,13 @@ use Rattle.plane.specs.Limits.{maxCoordinate}
 use Rattle.plane.specs.Reply.{Reply, answered, refused, firstRow}
 use Rattle.plane.specs.theory.lists.Sought.{true-not-false}
 use Rattle.plane.specs.theory.refusals.Rows.{firstRow-append, firstRow-given, firstRow-none}
+use Rattle.plane.specs.theory.refusals.Accept.{near→within, within→near}
 use Rattle.tablet.specs.Double.{finite}
 use Rattle.tablet.specs.Reading.{double, notFinite, notWhole, far, wholeNumber, readAs, readingRows, tabletReply}
 use Rattle.tablet.specs.Reason.{Equals, Accepted, Reason, not-finite, not-whole, out-of-range, Blamed, first, second}
 use Rattle.tablet.specs.theory.Reads.{reads-not-finite, reads-not-whole, reads-far, reads-near}
 use Rattle.tablet.specs.theory.Rows.{not-finite-row, not-whole-row, far-row, whole-passed}
-use Rattle.tablet.specs.theory.Value.{number-value, value-row, value-number, near-within, within-near, whole-value, value-whole}
+use Rattle.tablet.specs.theory.Value.{number-value, value-row, value-number, whole-value, value-whole}
 use Rattle.tablet.specs.declared.reading.Reading.{Reading}
 use Rattle.tablet.specs.declared.reading.Read.{Read}
 use Rattle.tablet.specs.declared.reading.Read.the-variants.{Whole, NotFinite, NotWhole, Far}
@@ -42,8 +43,8 @@ module _ (r : Reading) where
       go false true c p q s =
           subst (Comes r) (reads-not-whole r p q) (not-false _ p, λ z e. true-not-false q (value-row r z e))
       go false false true p q s = subst (Comes r) (reads-far r p q s)
-          (not-false _ p, wholeNumber r, number-value r q, λ w. true-not-false s (within-near _ w))
-      go false false false p q s = subst (Comes r) (reads-near r p q s) (not-false _ p, number-value r q, near-within _ s)
+          (not-false _ p, wholeNumber r, number-value r q, λ w. true-not-false s (within→near _ w))
+      go false false false p q s = subst (Comes r) (reads-near r p q s) (not-false _ p, number-value r q, near→within _ s)
 
   pub not-finite-comes : finite (double r) ≡ false → readAs r ≡ NotFinite
   unfolding notFinite
@@ -63,7 +64,7 @@ module _ (r : Reading) where
     where
       go : (b : Bool) → far r ≡ b → readAs r ≡ Far
       go true s = sym (reads-far r (ap not f) (value-row r z e) s)
-      go false s = absurd (out (subst (Within maxCoordinate) (value-number r z e) (near-within _ s)))
+      go false s = absurd (out (subst (Within maxCoordinate) (value-number r z e) (near→within _ s)))
 
 -- a reading is accepted or refused for one of the reasons
 data Verdict (r : Reading) : Type 0 where

@@ -7,7 +7,7 @@
 --     large-high, large-low               from 2^53 upward every double is whole
 --     castable, cast-is                   what the cast to 32 bits asks and gives
 use mathlib.Core.Path.{_≡_, refl, sym, ap, ap₂, _∙_, subst}
-use mathlib.Core.Bool.{Bool, true, false, not, cond, Bool·beq, _&&_, _||_}
+use mathlib.Core.Bool.{Bool, true, false, not, cond, Bool·beq, _&&_, _||_, and-true, and-false, or-true}
 use mathlib.Core.Logic.{_⊎_, inl, inr}
 use Prim.Native.Nat.{ℕ, zero, suc, _+_, _-_, _*_, _/_, _%_, _^_, _≤_, _<_, min}
 use native.Mathlib.Nat.{mul-one, one-mul, mul-pos, zero-mul, zero-div, div-lt-iff-lt-mul, le-trans, le-of-lt}
@@ -96,14 +96,6 @@ not-zero (suc a) =
     ap not (ne-eqb (suc a) 0 (λ e. let k : ⊥ = omega arith in k))
     ∙ sym (lt-ltb 0 (suc a) (let k : 0 < suc a = omega arith in k))
 
-and-true : (b : Bool) → b ≡ (b && true)
-and-true true = refl
-and-true false = refl
-
-and-false : (b : Bool) → false ≡ (b && false)
-and-false true = refl
-and-false false = refl
-
 pub small-tested : (v : Float) → lt (fin true 1 (pos 0)) v ≡ true
     → lt v (fin false 1 (pos 0)) ≡ true → ne v (fin false 0 (pos 0)) ≡ small v
 unfolding lt ne finite small over under
@@ -112,7 +104,7 @@ small-tested (inf false) h k = absurd (clash k)
 small-tested nan h k = absurd (clash h)
 small-tested (fin s m e) h k =
     let low : ltb (m * up e) (1 * down e) ≡ true = sym (against s m e 1 (lit< tt) h) ∙ k in
-    ap not (zero-tested (fin s m e) refl) ∙ not-zero (m * up e) ∙ and-true (ltb 0 (m * up e))
+    ap not (zero-tested (fin s m e) refl) ∙ not-zero (m * up e) ∙ sym (and-true (ltb 0 (m * up e)))
     ∙ ap (λ (b : Bool). ltb 0 (m * up e) && b) (sym low ∙ ap (λ (z : ℕ). ltb (m * up e) z) (one-mul (down e)))
 
 pub small-high : (v : Float) → lt (fin true 1 (pos 0)) v ≡ true → lt v (fin false 1 (pos 0)) ≡ false → false ≡ small v
@@ -120,7 +112,7 @@ unfolding lt small over under
 small-high nan h k = refl
 small-high (inf s) h k = refl
 small-high (fin s m e) h k =
-    and-false (ltb 0 (m * up e))
+    sym (and-false (ltb 0 (m * up e)))
     ∙ ap (λ (b : Bool). ltb 0 (m * up e) && b)
     (sym k ∙ against s m e 1 (lit< tt) h ∙ ap (λ (z : ℕ). ltb (m * up e) z) (one-mul (down e)))
 
@@ -129,7 +121,7 @@ unfolding lt small over under
 small-low nan h = refl
 small-low (inf s) h = refl
 small-low (fin s m e) h =
-    and-false (ltb 0 (m * up e))
+    sym (and-false (ltb 0 (m * up e)))
     ∙ ap (λ (b : Bool). ltb 0 (m * up e) && b)
     (against-not s m e 1 (lit< tt) h ∙ ap (λ (z : ℕ). ltb (m * up e) z) (one-mul (down e)))
 
@@ -137,10 +129,6 @@ small-low (fin s m e) h =
 
 is : {b : Bool} → b ≡ true → T b
 is {b} h = subst T (sym h) tt
-
-or-true : (b : Bool) → (b || true) ≡ true
-or-true true = refl
-or-true false = refl
 
 -- a double and the double of its whole part q
 part-equal : (x : Float) (t s : Bool) (m : ℕ) (e : ℤ) (q : ℕ) → q ≡ m * up e / down e → (t ≡ s) ⊎ (q ≡ 0) → HasValue x t q 1

@@ -2,7 +2,6 @@
 --     whole-value       a reading that comes to n has the value n, in range
 --     value-whole       a reading that is finite, has the value n and is in range comes to n
 --     number-value, value-row, value-number     row 18 passes a reading exactly if its value is a whole number, which is `wholeNumber`
---     near-within, within-near                  what is in range
 --     held-value        the double that is sent back for n has the value n
 --     scaled-value      a double scaled by 0.125 has, as millimetres, the value that it had as eighths
 use mathlib.Core.Path.{_≡_, refl, sym, ap, ap₂, _∙_, subst}
@@ -10,7 +9,7 @@ use mathlib.Core.Bool.{Bool, true, false, not}
 use Prim.Native.Nat.{ℕ, zero, suc, _+_, _*_, _/_, _%_, _^_, _≤_, _<_}
 use native.Mathlib.Nat.{mul-one, zero-mul, mul-pos, mul-mod-left, mul-div-cancel, div-add-mod', add-zero, le-trans}
 use native.Mathlib.Omega.{arith}
-use borrow.Author.Tests.{ltb-false, le-ltb, eqb-true, eq-eqb, not-false}
+use borrow.Author.Tests.{eqb-true, eq-eqb, not-false}
 use lib.Dec.{T, eqb, lit<, lit≤}
 use lib.IntN.{ℤ, pos, negsuc, negℤ, natAbs, _*ℤ_}
 use lib.Ieee.{Float, nan, inf, fin, binary64, up, down, mul, fits, ofInt}
@@ -21,6 +20,7 @@ use Rattle.integer.specs.Ring.{ring, reify}
 use mathlib.Core.List.{[], _∷_}
 use Rattle.plane.specs.Limits.{maxCoordinate, coordinate-small}
 use Rattle.plane.specs.Refusal.{outside}
+use Rattle.plane.specs.theory.refusals.Accept.{near→within, within→near}
 use Rattle.tablet.specs.Double.{finite, negative, over, under, signed, holding}
 use Rattle.tablet.specs.Reading.{double, top, bottom, notFinite, notWhole, far, wholeNumber, readAs}
 use Rattle.tablet.specs.theory.Exact.{eighth-exact}
@@ -59,14 +59,6 @@ sign-is false o b (negsuc k) B h =
 
 -- ---- a reading's value
 
-pub near-within : (z : ℤ) → outside z ≡ false → Within maxCoordinate z
-unfolding outside
-near-within z h = record { size = ltb-false maxCoordinate (natAbs z) h }
-
-pub within-near : (z : ℤ) → Within maxCoordinate z → outside z ≡ false
-unfolding outside
-within-near z w = le-ltb maxCoordinate (natAbs z) (w .size)
-
 pub bottom-pos : (r : Reading) → 0 < bottom r
 bottom-pos (Millimetres v) = mul-pos (under-pos v) (lit< tt)
 bottom-pos (Eighths v) = mul-pos (under-pos v) (lit< tt)
@@ -88,7 +80,7 @@ whole-value r n h =
     let e : wholeNumber r ≡ n = sym (whole-is 1 r n h) in (
       not-false _ (rows .0),
       number-value r (rows .1 .0) ∙ ap (λ z. z *ℤ pos (bottom r)) e,
-      subst (Within maxCoordinate) e (near-within _ (rows .1 .1 .0)),
+      subst (Within maxCoordinate) e (near→within _ (rows .1 .1 .0)),
     )
 
 -- a whole number that is the value is what the value is cut to
@@ -113,7 +105,7 @@ pub value-whole : (r : Reading) (n : ℤ) → finite (double r) ≡ true
 unfolding notFinite far
 value-whole r n f h w =
     let is = value-number r n h in
-    sym (reads-near r (ap not f) (value-row r n h) (ap outside is ∙ within-near n w)) ∙ ap Whole is
+    sym (reads-near r (ap not f) (value-row r n h) (ap outside is ∙ within→near n w)) ∙ ap Whole is
 
 -- ---- doubles
 

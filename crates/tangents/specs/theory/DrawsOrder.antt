@@ -8,16 +8,15 @@ use mathlib.Core.Bool.{Bool, true, false, not}
 use mathlib.Core.List.{[], _∷_}
 use native.Mathlib.Omega.{arith}
 use lib.IntN.{ℤ, pos, negℤ, _+ℤ_, _-ℤ_, _*ℤ_}
-use Rattle.integer.specs.Ring.{ring, reify}
+use Rattle.integer.specs.Ring.{ring, reify, difference-zero}
 use Rattle.integer.specs.Linear.{linear, lia, _&_}
-use Rattle.integer.specs.Order.{_<×<_, _<×≤_, _≡×_, contra<, le-antisym}
+use Rattle.integer.specs.Order.{_<×<_, _<×≤_, _≡×_, contra<, le-antisym, zero-factor}
 use Rattle.plane.specs.Point.{Point, _⊖_}
 use Rattle.plane.specs.Turn.{turn}
 use Rattle.plane.specs.Direction.{value}
 use Rattle.plane.specs.Tangent.{signOf, onSide}
 use Rattle.plane.specs.theory.lists.Members.{point-path}
 use Rattle.plane.specs.theory.forms.Vector.{turn-back}
-use Rattle.separation.specs.theory.Sector.{zero-factor}
 use Rattle.tangents.specs.Draws.{draws}
 use Rattle.tangents.specs.theory.Sides.{sign-zero}
 use Rattle.tangents.specs.theory.DrawsTest.{Rises, rise-gap, Stays, Drawn, across, ahead, draws→drawn, drawn→draws}
@@ -80,11 +79,10 @@ across-line d p q x = (
 
 module _ {d p q : Point} (x : Point) (rise : Rises d p q) where
   pub on-line-same : turn p q x ≡ pos 0 → value d x ≡ value d p → x ≡ p
-  on-line-same e f = point-path (level (zero-factor (rise-gap rise) part-x)) (level (zero-factor (rise-gap rise) part-y))
+  on-line-same e f = point-path
+      (difference-zero (x .x) (p .x) (zero-factor (rise-gap rise) part-x))
+      (difference-zero (x .y) (p .y) (zero-factor (rise-gap rise) part-y))
     where
-      level : {a b : ℤ} → a -ℤ b ≡ pos 0 → a ≡ b
-      level {a} {b} h = lia (a ∷ b ∷ []) h (search linear depth 40) (omega arith)
-
       part-x : (value d q -ℤ value d p) *ℤ (x .x -ℤ p .x) ≡ pos 0
       part-x = lia (value d p ∷ value d q ∷ value d x ∷ turn p q x ∷ d .y ∷ p .x ∷ q .x ∷ x .x ∷ [])
           (across-line d p q x .0 & e ≡× d .y & f ≡× (q .x -ℤ p .x)) (search linear depth 40) (omega arith)

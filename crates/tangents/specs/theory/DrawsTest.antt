@@ -6,12 +6,12 @@
 --     Drawn s d p q x               x draws it away
 --     draws→stays, draws→drawn      what the test says; `stays→draws`, `drawn→draws` the other way
 -- The order that the test makes of points is in `DrawsOrder.antt`.
-use mathlib.Core.Path.{_≡_, refl, ap}
+use mathlib.Core.Path.{_≡_, refl, subst}
 use mathlib.Core.Bool.{Bool, true, false, not, _&&_, _||_, true≢false, false≢true}
 use mathlib.Core.List.{[], _∷_}
 use native.Mathlib.Omega.{arith}
 use lib.IntN.{pos, _+ℤ_, _-ℤ_, _*ℤ_}
-use lib.Signed.{_≤ℤ_, _<ℤ_, ltZ}
+use lib.Signed.{_≤ℤ_, _<ℤ_, ltZ, <ℤ-irrefl}
 use Rattle.integer.specs.Ring.{ring, reify}
 use Rattle.integer.specs.Linear.{linear, lia, _&_}
 use Rattle.integer.specs.Order.{_<×<_, _<×≤_, _≡×_, contra<, contra≤, ltZ-true, ltZ-false, leZ-true, leZ-false}
@@ -19,8 +19,7 @@ use Rattle.plane.specs.Point.{Point, opposite, _⊖_}
 use Rattle.plane.specs.Turn.{turn, cross}
 use Rattle.plane.specs.Direction.{value}
 use Rattle.plane.specs.Tangent.{signOf, onSide}
-use Rattle.plane.specs.theory.forms.Vector.{⊖-zero, value-turned}
-use Rattle.separation.specs.theory.Sector.{square-positive}
+use Rattle.plane.specs.theory.forms.Vector.{⊖-zero, square-positive, turned-lt}
 use Rattle.tangents.specs.Draws.{draws}
 use Rattle.tangents.specs.theory.Sides.{sign-not, sign-zero}
 
@@ -49,10 +48,7 @@ rise-gap {d} {p} {q} h = lia (value d p ∷ value d q ∷ []) (h .up) (search li
 
 -- the line, turned round, rises in the opposite direction
 pub rise-back : {d p q : Point} → Rises d p q → Rises (opposite d) q p
-rise-back {d} {p} {q} h = record {
-  up = lia (value d p ∷ value d q ∷ value (opposite d) p ∷ value (opposite d) q ∷ [])
-      (h .up & value-turned d p & value-turned d q) (search linear depth 40) (omega arith);
-}
+rise-back {d} {p} {q} h = record { up = turned-lt d p q (h .up) }
 
 pub value-back : (d p q : Point) → value (opposite d) (q ⊖ p) ≡ value d p -ℤ value d q
 unfolding value
@@ -82,10 +78,8 @@ along-line d p q x =
     ring (d .x ∷ d .y ∷ p .x ∷ p .y ∷ q .x ∷ q .y ∷ x .x ∷ x .y ∷ []) (search reify depth 40) tt
 
 pub rise-positive : {d p q : Point} → Rises d p q → pos 0 <ℤ value (q ⊖ p) (q ⊖ p)
-rise-positive {d} {p} {q} h = square-positive (q ⊖ p) (record { non-zero = λ e. flat (⊖-zero p q e) })
-  where
-    flat : p ≡ q → ⊥
-    flat e = lia (value d p ∷ value d q ∷ []) (h .up & ap (value d) e) (search linear depth 40) (omega arith)
+rise-positive {d} {p} {q} h = square-positive (q ⊖ p)
+    (record { non-zero = λ e. <ℤ-irrefl (subst (λ z. value d z <ℤ value d q) (⊖-zero p q e) (h .up)) })
 
 module _ (s : Bool) {d p q : Point} (x : Point) (rise : Rises d p q) where
   -- on the line, what is ahead of p is further in d

@@ -10,7 +10,7 @@ use lib.IntN.{pos, _+ℤ_, _-ℤ_, _*ℤ_}
 use lib.Signed.{_≤ℤ_, _<ℤ_}
 use Rattle.integer.specs.Ring.{ring, reify}
 use Rattle.integer.specs.Linear.{linear, lia, _&_}
-use Rattle.integer.specs.Order.{_<×<_, _<×≤_, _≤×≤_, _≡×_, contra≤, square-nonneg}
+use Rattle.integer.specs.Order.{_<×<_, _<×≤_, _≤×≤_, _≡×_, contra≤, square-nonneg, square-zero}
 use Rattle.plane.specs.Point.{Point, origin, opposite, _⊖_}
 use Rattle.plane.specs.Turn.{turn, turn-swap}
 use Rattle.plane.specs.Direction.{value}
@@ -18,7 +18,7 @@ use Rattle.plane.specs.Tangent.{signOf}
 use Rattle.plane.specs.theory.forms.Vector.{value-turned}
 use Rattle.tangents.specs.theory.Sides.{same-side}
 use Rattle.tangents.specs.theory.DrawsTest.{Rises, value-back, Stays, Drawn, across, ahead}
-use Rattle.tangents.specs.theory.OneLine.{level-turns, square-zero}
+use Rattle.tangents.specs.theory.OneLine.{level-turns}
 
 -- the turn of one direction against the other
 sum-turns : (p q p′ y : Point) → turn (q ⊖ p) origin (y ⊖ p′) ≡ turn q p y +ℤ turn p q p′
@@ -57,13 +57,13 @@ module _ {s u : Bool} {d p q p′ y : Point} (pq : Rises d p q) (py : Rises d p 
       on-line = lia (turn p q y ∷ turn q p y ∷ []) (turn-swap p q y & e) (search linear depth 40) (omega arith)
 
       flat : turn p q p′ ≡ pos 0
-      flat = square-zero (turn p q p′) (contra≤ (λ g. lia
+      flat = square-zero (contra≤ (λ g. lia
           (turn p q p′ ∷ turn p′ y p ∷ turn p q y ∷ value d p ∷ value d q ∷ value d p′ ∷ value d y ∷ [])
           (level-turns d p q p′ y ≡× turn p q p′ & on-line ≡× (turn p q p′ *ℤ (value d p′ -ℤ value d p))
           & py .up <×< g & pq .up <×≤ starts) (search linear depth 40) (omega arith)))
 
       flat′ : turn p′ y p ≡ pos 0
-      flat′ = square-zero (turn p′ y p) (contra≤ (λ g. lia
+      flat′ = square-zero (contra≤ (λ g. lia
           (turn p q p′ ∷ turn p′ y p ∷ turn p q y ∷ value d p ∷ value d q ∷ value d p′ ∷ value d y ∷ [])
           (level-turns d p q p′ y ≡× turn p′ y p & on-line ≡× (turn p′ y p *ℤ (value d p′ -ℤ value d p))
           & py .up <×≤ starts & pq .up <×< g) (search linear depth 40) (omega arith)))

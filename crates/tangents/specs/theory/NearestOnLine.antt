@@ -6,7 +6,6 @@ use mathlib.Core.List.{[], _∷_}
 use native.Mathlib.Omega.{arith}
 use lib.IntN.{ℤ, pos, _+ℤ_, _-ℤ_, _*ℤ_}
 use lib.Signed.{_≤ℤ_, _<ℤ_}
-use Rattle.integer.specs.Ring.{ring, reify}
 use Rattle.integer.specs.Linear.{linear, lia, _&_}
 use Rattle.integer.specs.Order.{_<×<_, _≤×≤_, _≡×_, contra≤, le-antisym, square-nonneg}
 use Rattle.plane.specs.Point.{Point, opposite, _⊖_}
@@ -14,21 +13,14 @@ use Rattle.plane.specs.Turn.{turn, turn-swap}
 use Rattle.plane.specs.Direction.{value}
 use Rattle.plane.specs.Measure.{squared}
 use Rattle.plane.specs.theory.forms.Vector.{value-turned}
+use Rattle.plane.specs.theory.forms.Squared.{squared-value}
 use Rattle.tangents.specs.theory.DrawsTest.{Rises, rise-gap, rise-positive, rise-back}
 use Rattle.tangents.specs.theory.DrawsOrder.{across-line, on-line-same}
 
-squares : (k k′ x x′ y y′ : ℤ) → k *ℤ x′ ≡ k′ *ℤ x → k *ℤ y′ ≡ k′ *ℤ y
-    → k *ℤ k *ℤ (x′ *ℤ x′ +ℤ y′ *ℤ y′) ≡ k′ *ℤ k′ *ℤ (x *ℤ x +ℤ y *ℤ y)
-squares k k′ x x′ y y′ e f = lia (k ∷ k′ ∷ x ∷ x′ ∷ y ∷ y′ ∷ [])
-    (ap (λ z. z *ℤ z) e & ap (λ z. z *ℤ z) f) (search linear depth 40) (omega arith)
-
-squared-step : (p q : Point) → squared p q ≡ (q .x -ℤ p .x) *ℤ (q .x -ℤ p .x) +ℤ (q .y -ℤ p .y) *ℤ (q .y -ℤ p .y)
-unfolding squared
-squared-step p q = ring (p .x ∷ p .y ∷ q .x ∷ q .y ∷ []) (search reify depth 40) tt
-
-squared-value : (p q : Point) → squared p q ≡ value (q ⊖ p) (q ⊖ p)
+squares : (k k′ : ℤ) (u v : Point) → k *ℤ v .x ≡ k′ *ℤ u .x → k *ℤ v .y ≡ k′ *ℤ u .y → k *ℤ k *ℤ value v v ≡ k′ *ℤ k′ *ℤ value u u
 unfolding value
-squared-value p q = squared-step p q
+squares k k′ u v e f = lia (k ∷ k′ ∷ u .x ∷ u .y ∷ v .x ∷ v .y ∷ [])
+    (ap (λ z. z *ℤ z) e & ap (λ z. z *ℤ z) f) (search linear depth 40) (omega arith)
 
 -- of two lengths in line, what rises no less is no shorter
 no-longer : (k k′ : ℤ) {m n : ℤ} → pos 0 <ℤ k → pos 0 <ℤ k′ → pos 0 <ℤ m → n ≤ℤ m → k *ℤ k *ℤ n ≡ k′ *ℤ k′ *ℤ m → k′ ≤ℤ k
@@ -39,9 +31,8 @@ no-longer k k′ {m} {n} a b c h e = contra≤ (λ g.
 module _ {d p q p′ q′ : Point} (pq : Rises d p q) (p′q′ : Rises d p′ q′) (e : turn p q p′ ≡ pos 0) (f : turn p q q′ ≡ pos 0) where
   scaled : (value d q -ℤ value d p) *ℤ (value d q -ℤ value d p) *ℤ squared p′ q′
       ≡ (value d q′ -ℤ value d p′) *ℤ (value d q′ -ℤ value d p′) *ℤ squared p q
-  scaled = rw (squared-step p q, squared-step p′ q′)
-      (squares (value d q -ℤ value d p) (value d q′ -ℤ value d p′) (q .x -ℤ p .x) (q′ .x -ℤ p′ .x)
-      (q .y -ℤ p .y) (q′ .y -ℤ p′ .y) part-x part-y)
+  scaled = rw (squared-value p q, squared-value p′ q′)
+      (squares (value d q -ℤ value d p) (value d q′ -ℤ value d p′) (q ⊖ p) (q′ ⊖ p′) part-x part-y)
     where
       part-x : (value d q -ℤ value d p) *ℤ (q′ .x -ℤ p′ .x) ≡ (value d q′ -ℤ value d p′) *ℤ (q .x -ℤ p .x)
       part-x = lia (value d p ∷ value d q ∷ value d p′ ∷ value d q′ ∷ turn p q p′ ∷ turn p q q′ ∷ d .y ∷ p .x ∷ q .x ∷ p′ .x ∷ q′ .x ∷ [])

@@ -8,7 +8,6 @@ use mathlib.Core.Bool.{Bool, true, false}
 use mathlib.Core.List.{List, [], _∷_}
 use mathlib.Core.Logic.{_⊎_, inl, inr}
 use Prim.Native.Nat.{ℕ, _≤_, _<_}
-use native.Mathlib.Decide.{ℕ-discrete}
 use native.Mathlib.Omega.{arith}
 use borrow.Author.Tests.{ltb-true, ltb-false}
 use lib.Dec.{ltb}
@@ -24,9 +23,9 @@ use Rattle.plane.specs.Shape.{next, IsShape}
 use Rattle.plane.specs.Direction.{value}
 use Rattle.plane.specs.Tangent.{signOf}
 use Rattle.plane.specs.theory.lists.Sought.{true-not-false}
-use Rattle.plane.specs.theory.lists.Next.{Following, onward, closing, following, next-below}
-use Rattle.plane.specs.theory.sum.Positions.{edge-turn}
-use Rattle.separation.specs.theory.Sector.{next-left, sector}
+use Rattle.plane.specs.theory.lists.Next.{next-below, one-or-next}
+use Rattle.plane.specs.theory.sum.Positions.{edge-turn, next-left}
+use Rattle.separation.specs.theory.Sector.{sector}
 use Rattle.tangents.specs.Draws.{draws, Facing, Rests, Better}
 use Rattle.tangents.specs.theory.Sides.{sign-zero}
 use Rattle.tangents.specs.theory.DrawsTest.{Rises, Stays, draws→stays, stays→draws}
@@ -94,15 +93,6 @@ module _ {s : Bool} {d a p c q : Point} (x : Point) (bend : Left a p c) (left : 
 
 -- ---- corners of a shape
 
--- of two corners or less, any is the one itself or the one after
-few : (n i k : ℕ) → n ≤ 2 → i < n → k < n → (k ≡ i) ⊎ (k ≡ next n i)
-few n i k h l m = go (ℕ-discrete k i) (following n i l)
-  where
-    go : Dec (k ≡ i) → Following n i → (k ≡ i) ⊎ (k ≡ next n i)
-    go (yes e) f = inl e
-    go (no e) (onward o q) = inr (omega arith)
-    go (no e) (closing o q) = inr (omega arith)
-
 module _ (s : Bool) (ps : List Point) (shape : IsShape ps) (q : Point) (facing : Facing ps q) (b : ℕ) (h : b < length ps) where
   -- the corner, and the one after it
   abbrev i : ℕ
@@ -117,7 +107,7 @@ module _ (s : Bool) (ps : List Point) (shape : IsShape ps) (q : Point) (facing :
   module _ (before : draws s (corner ps i) q (corner ps b) ≡ false)
       (after : draws s (corner ps i) q (corner ps (next (length ps) i)) ≡ false) where
     neighbours-few : length ps ≤ 2 → (k : ℕ) → k < length ps → draws s (corner ps i) q (corner ps k) ≡ false
-    neighbours-few l k m = go (few (length ps) i k l within m)
+    neighbours-few l k m = go (one-or-next (length ps) i k l within m)
       where
         go : (k ≡ i) ⊎ (k ≡ next (length ps) i) → draws s (corner ps i) q (corner ps k) ≡ false
         go (inl e) = ap (λ j. draws s (corner ps i) q (corner ps j)) e ∙ draws-self s (corner ps i) q

@@ -1,6 +1,5 @@
 -- Two lines, from p to q and from p′ to q′, in a direction d in which p and p′ are below q and q′.
 --     level-turns    the height of one line over the other is affine: the turns of both starts give the turn of an end
---     square-zero    a number whose square is not above 0
 --     one-line       if the turns of both starts have one sign, each against the other line, and those of both ends too, the lines are one
 -- The idea: if turn p q p′ and turn p′ q′ p have one sign, the height of the second line over the first changes its sign from p to p′, or
 -- is 0 there. It does so again from q to q′, which are further in d. It is affine, so it is 0. No side is asked for: one argument for all
@@ -12,7 +11,7 @@ use lib.IntN.{ℤ, pos, _+ℤ_, _-ℤ_, _*ℤ_}
 use lib.Signed.{_≤ℤ_, _<ℤ_}
 use Rattle.integer.specs.Ring.{ring, reify}
 use Rattle.integer.specs.Linear.{linear, lia, _&_}
-use Rattle.integer.specs.Order.{_<×<_, _<×≤_, _≤×≤_, _≡×_, contra≤, le-antisym, square-nonneg}
+use Rattle.integer.specs.Order.{_<×<_, _<×≤_, _≤×≤_, _≡×_, contra≤, square-nonneg, square-zero}
 use Rattle.plane.specs.Point.{Point}
 use Rattle.plane.specs.Turn.{turn}
 use Rattle.plane.specs.Direction.{value}
@@ -30,19 +29,10 @@ unfolding turn value
 level-turns d p q p′ q′ =
     ring (d .x ∷ d .y ∷ p .x ∷ p .y ∷ q .x ∷ q .y ∷ p′ .x ∷ p′ .y ∷ q′ .x ∷ q′ .y ∷ []) (search reify depth 40) tt
 
-pub square-zero : (x : ℤ) → (x *ℤ x) ≤ℤ pos 0 → x ≡ pos 0
-square-zero x h = le-antisym (contra≤ above) (contra≤ below)
-  where
-    above : pos 0 <ℤ x → ⊥
-    above g = lia (x ∷ []) (h & g <×< g) (search linear depth 40) (omega arith)
-
-    below : x <ℤ pos 0 → ⊥
-    below g = lia (x ∷ []) (h & g <×< g) (search linear depth 40) (omega arith)
-
 squares-zero : {m n : ℤ} (x y : ℤ) → pos 0 <ℤ m → pos 0 <ℤ n → (m *ℤ (x *ℤ x) +ℤ n *ℤ (y *ℤ y)) ≤ℤ pos 0 → (x ≡ pos 0) × (y ≡ pos 0)
 squares-zero {m} {n} x y a b h = (
-  square-zero x (contra≤ (λ g. lia (m ∷ n ∷ x ∷ y ∷ []) (h & a <×< g & b <×≤ square-nonneg y) (search linear depth 40) (omega arith))),
-  square-zero y (contra≤ (λ g. lia (m ∷ n ∷ x ∷ y ∷ []) (h & a <×≤ square-nonneg x & b <×< g) (search linear depth 40) (omega arith))),
+  square-zero (contra≤ (λ g. lia (m ∷ n ∷ x ∷ y ∷ []) (h & a <×< g & b <×≤ square-nonneg y) (search linear depth 40) (omega arith))),
+  square-zero (contra≤ (λ g. lia (m ∷ n ∷ x ∷ y ∷ []) (h & a <×≤ square-nonneg x & b <×< g) (search linear depth 40) (omega arith))),
 )
 
 -- a and c are the turns of the starts, b and f those of the ends. In the product of the two equations no term is of the wrong sign
@@ -59,7 +49,7 @@ module _ {d p q p′ q′ : Point} (pq : Rises d p q) (pq′ : Rises d p q′) (
   pub one-line : (turn p q p′ ≡ pos 0) × (turn p q q′ ≡ pos 0)
   one-line = (
     flat .0,
-    square-zero (turn p q q′) (lia (turn p q p′ ∷ turn p′ q′ p ∷ turn p q q′ ∷ turn p′ q′ q ∷ [])
+    square-zero (lia (turn p q p′ ∷ turn p′ q′ p ∷ turn p q q′ ∷ turn p′ q′ q ∷ [])
         (ends & four-turns p q p′ q′ ≡× turn p q q′ & flat .0 ≡× turn p q q′ & flat .1 ≡× turn p q q′)
         (search linear depth 40) (omega arith)),
   )

@@ -26,7 +26,7 @@ use Rattle.plane.specs.Direction.{value}
 use Rattle.plane.specs.Measure.{squared}
 use Rattle.plane.specs.Tangent.{signOf, touches, nearer, tangent, tangentFrom, tangentTo}
 use Rattle.plane.specs.theory.lists.Sought.{true-not-false, some-here, some-none, none-some, first-unique}
-use Rattle.plane.specs.theory.forms.Vector.{value-turned}
+use Rattle.plane.specs.theory.forms.Vector.{turned-back}
 use Rattle.plane.specs.theory.sum.Positions.{corner-injective}
 use Rattle.plane.specs.Separation.{apart}
 use Rattle.separation.specs.theory.Apart.{Separated, apart→direction, apart-sym}
@@ -78,8 +78,7 @@ module _ {s t : Bool} {A B : List Point} (sep : Separated A B) {i j : ℕ} (w : 
         end =
             let back : turn q p (corner B l) ≡ pos 0 = lia (turn p q (corner B l) ∷ turn q p (corner B l) ∷ [])
             (turn-swap p q (corner B l) & f) (search linear depth 40) (omega arith) in
-            lia (value d q ∷ value d (corner B l) ∷ value (opposite d) q ∷ value (opposite d) (corner B l) ∷ [])
-            (stays-to l m .near back & value-turned d q & value-turned d (corner B l)) (search linear depth 40) (omega arith)
+            turned-back d q (corner B l) (stays-to l m .near back)
 
     pub settled-nearest : turn p q (corner A k) ≡ pos 0 → turn p q (corner B l) ≡ pos 0 → squared p q ≤ℤ squared (corner A k) (corner B l)
     settled-nearest e f = contra≤ (λ g.

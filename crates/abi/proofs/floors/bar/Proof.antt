@@ -4,7 +4,7 @@ use Prim.Native.Nat.{ℕ}
 use Rattle.admission.specs.declared.answer.Answer.{Answer}
 use Rattle.questions.specs.Answer.{ofAnswer}
 use Rattle.abi.specs.Passing.{barred}
-use Rattle.abi.specs.theory.Alike.{barred-above, barred-within}
+use Rattle.abi.specs.theory.Floors.{barred-above, barred-within}
 use Rattle.abi.proofs.Refused.{refusal-kept}
 use borrow.Author.Needs.{needs}
 use Rattle.abi.proofs.floors.bar.Statement.{statement}

@@ -5,7 +5,7 @@ use native.Mathlib.Omega.{arith}
 use borrow.Author.Tests.{ltb-false}
 use lib.Dec.{ltb}
 use Rattle.plane.specs.Limits.{maxFloor, floor-small}
-use Rattle.abi.specs.theory.Alike.{passed-first, passed-second, passed-both}
+use Rattle.abi.specs.theory.Floors.{passed-first, passed-second, passed-both}
 use borrow.Author.Needs.{needs}
 use Rattle.abi.proofs.floors.pass.Statement.{statement}
 use Rattle.abi.proofs.floors.pass.Tie as tie
@@ -33,7 +33,7 @@ cast-t5 : tie.Need-cast-t5
 cast-t5 c = record { fits = omega (arith, ltb-false maxFloor _ (first-low c), floor-small) }
 
 cast-t6 : tie.Need-cast-t6
-cast-t6 c = record { fits = omega (arith, ltb-false maxFloor _ (second-low c), floor-small) }
+cast-t6 c = record { fits = omega (arith, ltb-false maxFloor _ (first-low c), ltb-false maxFloor _ (second-low c), floor-small) }
 
 returns-3 : tie.Need-returns-3
 returns-3 c = passed-both _ _ (first-low c) (second-low c)

@@ -17,7 +17,7 @@ cast-fields c = search needs
 fields-requires : tie.Need-fields-requires
 fields-requires c κs =
     let f = subst (λ (x : Answer). Fits (ofAnswer x)) (c .before .answer .given .1) (c .before .before .before .pre) in
-    (omega arith, omega arith, f .first-fits, f .second-fits)
+    (omega arith, omega arith, omega (arith, f .first-fits, f .second-fits), omega (arith, f .first-fits, f .second-fits))
 
 enum-known-answer-2 : tie.Need-enum-known-answer-2
 enum-known-answer-2 c = search needs

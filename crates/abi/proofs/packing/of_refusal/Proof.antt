@@ -1,6 +1,7 @@
 -- `of_refusal` meets its contract: each row by its number and what it carries.
 use mathlib.Core.Path.{_≡_, _∙_, ap, sym, subst}
 use Prim.Native.Nat.{_<_}
+use native.Mathlib.Omega.{arith}
 use Rattle.admission.specs.declared.answer.Refusal.{Refusal}
 use Rattle.questions.specs.Answer.{ofRefusal}
 use Rattle.abi.specs.Packing.{refusalField, shapeField, firstField, secondField, packed, Fits}
@@ -38,7 +39,9 @@ enum-known-refusal-4 : tie.Need-enum-known-refusal-4
 enum-known-refusal-4 c = search needs
 
 fields-requires-4 : tie.Need-fields-requires-4
-fields-requires-4 c κs = given-fits (c .before .before .before .pre) (c .before .refusal4 .given .1)
+fields-requires-4 c κs =
+    let f = given-fits (c .before .before .before .pre) (c .before .refusal4 .given .1) in
+    (f .0, f .1, omega (arith, f .2, f .3), omega (arith, f .2, f .3))
 
 enum-known-refusal-5 : tie.Need-enum-known-refusal-5
 enum-known-refusal-5 c = search needs

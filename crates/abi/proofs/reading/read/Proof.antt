@@ -3,8 +3,9 @@ use mathlib.Core.Path.{sym, _∙_, subst}
 use mathlib.Core.List.{List}
 use native.Mathlib.Omega.{arith}
 use lib.IntN.{ℤ}
-use Rattle.journal.specs.Bytes.{wordsAt}
-use Rattle.journal.specs.theory.Decode.{wordsAt-length, front-is, front-length}
+use Rattle.endian.specs.Bytes.{wordsAt}
+use Rattle.endian.specs.theory.Bytes.{wordsAt-length}
+use Rattle.endian.specs.theory.Coded.{front-is, front-length}
 use Rattle.abi.specs.Lists.{listOf}
 use Rattle.abi.specs.Passing.{Alike}
 use Rattle.abi.specs.theory.Alike.{none-alike, cut-alike}

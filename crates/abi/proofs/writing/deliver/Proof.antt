@@ -7,8 +7,7 @@ use Rattle.admission.specs.declared.answer.Answer.{Answer}
 use Rattle.admission.specs.declared.answer.Answer.the-variants as Answer
 use Rattle.questions.specs.Answer.{ofAnswer}
 use Rattle.abi.specs.Packing.{packed, firstField, Fits}
-use Rattle.abi.specs.Calls.{stored}
-use Rattle.abi.specs.Passing.{Deliverable}
+use Rattle.abi.specs.Passing.{Deliverable, stored}
 use Rattle.abi.proofs.Refused.{refusal-stored}
 use borrow.Author.Needs.{needs}
 use Rattle.abi.proofs.writing.deliver.Statement.{statement}
@@ -32,7 +31,7 @@ mul-encode : tie.Need-mul-encode
 mul-encode c = omega (arith, fitting c .first-fits)
 
 encode-requires : tie.Need-encode-requires
-encode-requires c κs = let d = delivered (c .before) in (d .0, omega (arith, d .1))
+encode-requires c κs = let d = delivered (c .before) in (omega (arith, d .0), omega (arith, d .1))
 
 of-answer-requires : tie.Need-of-answer-requires
 of-answer-requires c κs = fitting (c .before .before .before .before)

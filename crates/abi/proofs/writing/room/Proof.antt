@@ -6,19 +6,11 @@ use Rattle.abi.proofs.writing.room.Tie as tie
 
 returns : tie.Need-returns
 unfolding maxCorners
-returns c = record {
-  small = omega arith;
-  holds = λ n h. omega (arith, h, c .if1 .taken);
-  enough = λ n h k. omega (arith, h);
-}
+returns c = (omega arith, record { holds = λ n h. omega (arith, h, c .if1 .taken); enough = λ n h k. omega (arith, h) })
 
 returns-2 : tie.Need-returns-2
 unfolding maxCorners
-returns-2 c = record {
-  small = omega (arith, c .if1 .left);
-  holds = λ n h. omega (arith, h);
-  enough = λ n h k. omega (arith, k);
-}
+returns-2 c = (omega (arith, c .if1 .left), record { holds = λ n h. omega (arith, h); enough = λ n h k. omega (arith, k) })
 
 pub room-spec : {M : Type 1} → statement M
 room-spec = tie.close (tie.spec returns returns-2)

@@ -19,10 +19,10 @@ use Rattle.calipers.specs.Side.{Carried, walkOf}
 use Rattle.calipers.specs.Places as Places
 use Rattle.calipers.specs.Walk.{Walk, here, begun, finished, advanced, passed, At}
 use Rattle.calipers.specs.theory.Carry.{all-passed, some-left, sides-walk, sides-here, sides-advanced, sides-at}
-use Rattle.calipers.specs.theory.Carry.{first-next, second-next, corners-fit, edges-fit}
+use Rattle.calipers.specs.theory.Carry.{here-near, first-next, second-next, corners-fit, edges-fit}
+use Rattle.calipers.specs.theory.Standing.{passed-ended, edges-less}
 use Rattle.separation.specs.theory.Stops.{on-below, corner-here}
 use Rattle.clearance.specs.Stop.{rests, crosses, Stopped}
-use Rattle.clearance.proofs.Near.{here-near, edges-less}
 use Rattle.clearance.proofs.Looking.{Looking, looking-start, looking-at, looking-corner, looking-edge, looking-more, looking-end}
 use Rattle.clearance.proofs.facing.facing.Statement.{statement}
 use Rattle.clearance.proofs.facing.facing.Tie as tie
@@ -32,7 +32,7 @@ Inv-loop a b s₀ t₀ all first back₀ s t back =
     Looking a b (walkOf s t false) (at back) × Carried a s × Carried b t × Small 4194304 (at back)
 
 abbrev μ-loop : tie.MeasureT-loop
-μ-loop a b s₀ t₀ all first back₀ s t back = length (edges (points a)) + length (edges (points b)) - (s .at + t .at)
+μ-loop a b s₀ t₀ all first back₀ s t back = length (edges (points a)) - s .at + (length (edges (points b)) - t .at)
 
 side-at-requires : tie.Need-side-at-requires Inv-loop μ-loop
 side-at-requires c κs = (omega arith, c .pre .0 .first-near, c .pre .0 .first-shape .some)
@@ -244,9 +244,16 @@ loop-less c =
     let at-loop = at-next .before .before .before in
     let inv = at-loop .loop .inv in
     let args = at-loop .before .before .before .before .before .before .args in
-    edges-less (edges (points (args .a .now))) (edges (points (args .b .now))) _ _ _ _ (inv .1 .at-in) (inv .2 .at-in) (first-step at-next)
-    (second-step at-next)
-    (λ e. c .if3 .left (e ∙ sym (all (at-loop .before .before))))
+    let E = edges (points (args .a .now)) in
+    let F = edges (points (args .b .now)) in
+    edges-less E F _ _ (first-step at-next) (second-step at-next) (λ h k. c .if3 .left (omega (
+      arith,
+      all (at-loop .before .before),
+      first-step at-next ∙ passed-ended E _ F _ h,
+      second-step at-next ∙ passed-ended F _ E _ k,
+      inv .1 .at-in,
+      inv .2 .at-in,
+    )))
 
 loop-again : tie.Need-loop-again Inv-loop μ-loop
 loop-again c =

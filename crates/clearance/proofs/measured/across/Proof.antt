@@ -1,6 +1,6 @@
 -- `across` meets its contract: the turn by the cross product of two steps, the edge's squared length, and the root of their fraction.
 use mathlib.Core.Path.{_≡_, sym, _∙_, ap, ap₂}
-use Prim.Native.Nat.{ℕ, _<_}
+use Prim.Native.Nat.{ℕ, _*_, _<_}
 use native.Mathlib.Omega.{arith}
 use borrow.Author.Needs.{needs}
 use borrow.Author.Tests.{ltb-true}
@@ -15,7 +15,7 @@ use Rattle.integer.specs.Order.{lt-ltZ}
 use Rattle.plane.specs.Point.{Point, points, corner, _⊖_}
 use Rattle.plane.specs.Turn.{cross, turn-cross}
 use Rattle.plane.specs.Shape.{next}
-use Rattle.plane.specs.Measure.{squared, edgeSquared, widthRounded}
+use Rattle.plane.specs.Measure.{squared, edgeSquared, rootBelow}
 use Rattle.plane.specs.Clearance.{turnOn}
 use Rattle.plane.specs.theory.forms.Squared.{squared-nonneg}
 use Rattle.polygon.specs.Point.{at, Small}
@@ -128,13 +128,14 @@ returns c =
     let at-length = c .before in
     let at-size = at-length .before .before in
     let turns = at-size .size .ensures ∙ ap natAbs (turn-is (at-size .before)) in
+    let t = at-size .size .result in
     let q = at-length .magnitude .result in
-    let root = rounded-unique (at-size .size .result) q (positive at-length) (c .root-of-fraction .result)
+    let root = rounded-unique (t * t) q (positive at-length) (c .root-of-fraction .result)
     (c .root-of-fraction .ensures .reached) (c .root-of-fraction .ensures .next-above) in
     record {
       turn-is = turns;
       squared-is = sym (length-is at-length);
-      rounded-is = sym root ∙ ap₂ widthRounded turns (ap natAbs (sym (length-is at-length)));
+      rounded-is = sym root ∙ ap₂ (λ (t q : ℕ). rootBelow (t * t) q) turns (ap natAbs (sym (length-is at-length)));
     }
 
 pub across-spec : {M : Type 1} → statement M

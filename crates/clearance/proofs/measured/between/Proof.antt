@@ -1,7 +1,7 @@
 -- `between` meets its contract: the squared distance, and its root by the fraction d·d/d.
 use mathlib.Core.Path.{_≡_, sym, _∙_, ap, ap₂}
 use mathlib.Core.List.{[], _∷_}
-use Prim.Native.Nat.{_<_}
+use Prim.Native.Nat.{_*_, _<_}
 use borrow.Author.Needs.{needs}
 use borrow.Author.Tests.{ltb-true}
 use lib.IntN.{ℤ, pos, natAbs}
@@ -10,10 +10,10 @@ use mir.Val.{toZ, ofZ}
 use Rattle.integer.specs.Machine.{result-is}
 use Rattle.integer.specs.Order.{lt-ltZ}
 use Rattle.plane.specs.Point.{points, corner}
-use Rattle.plane.specs.Measure.{squared, widthRounded}
+use Rattle.plane.specs.Measure.{squared, rootBelow}
 use Rattle.plane.specs.theory.forms.Squared.{squared-nonneg}
 use Rattle.polygon.specs.theory.Small.{small-corner}
-use Rattle.measure.specs.theory.Rounded.{rounded-unique}
+use Rattle.measure.specs.theory.Rounded.{rounded-unique, root-square-over}
 use Rattle.clearance.proofs.measured.between.Statement.{statement}
 use Rattle.clearance.proofs.measured.between.Tie as tie
 
@@ -51,11 +51,11 @@ returns : tie.Need-returns
 returns c =
     let at-size = c .before in
     let d = at-size .magnitude .result in
-    let root = rounded-unique d d (positive at-size) (c .root-of-fraction .result) (c .root-of-fraction .ensures .reached)
-    (c .root-of-fraction .ensures .next-above) in
+    let root = sym (root-square-over d (positive at-size)) ∙ rounded-unique (d * d) d (positive at-size) (c .root-of-fraction .result)
+    (c .root-of-fraction .ensures .reached) (c .root-of-fraction .ensures .next-above) in
     let args = at-size .before .before .before .before .args in
     ap₂ (λ (z w : ℤ). pos 1 ∷ pos (args .i) ∷ pos (args .j) ∷ z ∷ w ∷ []) (sym (size-is at-size))
-    (ap pos (sym root) ∙ ap (λ (z : ℤ). pos (widthRounded (natAbs z) (natAbs z))) (sym (size-is at-size)))
+    (ap pos (sym root) ∙ ap (λ (z : ℤ). pos (rootBelow (natAbs z) 1)) (sym (size-is at-size)))
 
 pub between-spec : {M : Type 1} → statement M
 between-spec =

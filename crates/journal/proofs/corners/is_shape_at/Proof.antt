@@ -11,9 +11,11 @@ use Rattle.plane.specs.Limits.{maxCorners}
 use Rattle.plane.specs.Point.{points}
 use Rattle.plane.specs.Refusal.{tooMany}
 use Rattle.plane.specs.theory.lists.Flat.{points-length}
-use Rattle.journal.specs.Bytes.{wordsAt}
+use Rattle.endian.specs.Bytes.{wordsAt}
+use Rattle.endian.specs.theory.Bytes.{wordsAt-length}
+use Rattle.endian.specs.theory.Coded.{front-is, front-length}
 use Rattle.journal.specs.Format.{judged, isAnswer}
-use Rattle.journal.specs.theory.Decode.{wordsAt-length, front-is, front-length, many-refused, passed-answers}
+use Rattle.journal.specs.theory.Judging.{many-refused, passed-answers}
 use Rattle.journal.proofs.corners.is_shape_at.Statement.{statement}
 use Rattle.journal.proofs.corners.is_shape_at.Tie as tie
 

@@ -5,9 +5,9 @@ use Prim.Native.Nat.{ℕ, _+_, _-_, _/_, _%_, _≤_}
 use native.Mathlib.Omega.{arith}
 use borrow.Author.Needs.{needs}
 use lib.ListN.{length, drop}
-use Rattle.journal.specs.Bytes.{wordsAt}
+use Rattle.endian.specs.Bytes.{wordsAt}
+use Rattle.endian.specs.theory.Bytes.{wordsAt-drop}
 use Rattle.journal.specs.Format.{fixedBytes, size, kind, judged, isAnswer, otherKind}
-use Rattle.journal.specs.theory.Bytes.{wordsAt-drop}
 use Rattle.journal.specs.theory.Records.{whole→facts}
 use Rattle.journal.specs.theory.Survey.{size-at, kind-at, next-inside, eighth, bad-short, bad-kind, bad-small, bad-length, bad-shape}
 use Rattle.journal.proofs.records.bad_at.Statement.{statement}

@@ -4,9 +4,9 @@ use mathlib.Core.Bool.{Bool, cond}
 use native.Mathlib.Omega.{arith}
 use borrow.Author.Needs.{needs}
 use lib.ListN.{drop}
-use Rattle.journal.specs.Bytes.{pairAt}
+use Rattle.endian.specs.Bytes.{pairAt}
+use Rattle.endian.specs.theory.Bytes.{pairAt-drop}
 use Rattle.journal.specs.Format.{kind, floor}
-use Rattle.journal.specs.theory.Bytes.{pairAt-drop}
 use Rattle.journal.specs.theory.Kind.{floored-if, plain-if}
 use Rattle.journal.proofs.records.floor_at.Statement.{statement}
 use Rattle.journal.proofs.records.floor_at.Tie as tie

@@ -8,7 +8,7 @@ use lib.IntN.{ℤ}
 use lib.ListN.{length, take}
 use lib.Seq.{take-length}
 use mir.Facts.{toZ-ofZ}
-use Rattle.journal.specs.Bytes.{words}
+use Rattle.endian.specs.Bytes.{words}
 use Rattle.journal.specs.Adding.{writes}
 use Rattle.journal.specs.Allowance.{Ran}
 use Rattle.journal.specs.theory.Storing.{ran-length, ran-start, ran-more}

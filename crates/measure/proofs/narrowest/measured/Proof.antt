@@ -8,9 +8,9 @@ use Rattle.integer.specs.Machine.{result-is}
 use Rattle.plane.specs.Point.{_⊖_}
 use Rattle.plane.specs.Turn.{cross}
 use Rattle.plane.specs.Direction.{value}
+use Rattle.plane.specs.theory.forms.Vector.{value-nonneg}
 use Rattle.calipers.specs.Side.{cornerOf, nextOf}
 use Rattle.measure.specs.Scan.{measuredAt}
-use Rattle.measure.specs.theory.Height.{value-nonneg}
 use Rattle.measure.proofs.narrowest.measured.Statement.{statement}
 use Rattle.measure.proofs.narrowest.measured.Tie as tie
 

@@ -7,34 +7,28 @@ use borrow.Author.Needs.{needs}
 use borrow.Author.Tests.{ltb-true, le-ltb}
 use Rattle.plane.specs.theory.lists.Sought.{true-not-false}
 use Rattle.measure.specs.declared.narrowest.Across.{Across}
-use Rattle.measure.specs.Scan.{isNarrower, stays, gives-way}
+use Rattle.measure.specs.Scan.{isNarrower, NoNarrower, stays, gives-way}
 use Rattle.measure.proofs.narrowest.narrower.Statement.{statement}
 use Rattle.measure.proofs.narrowest.narrower.Tie as tie
 
-reversed : (a b : Across) → isNarrower a b ≡ true → isNarrower b a ≡ false
-reversed a b e = let less = ltb-true (a .turn * a .turn * b .squared) (b .turn * b .turn * a .squared) e in
-    le-ltb (b .turn * b .turn * a .squared) (a .turn * a .turn * b .squared) (omega arith)
+-- a narrower edge is better, wherever it is
+narrower-better : (a b : Across) → isNarrower a b ≡ true → NoNarrower b a
+narrower-better a b e = let less = ltb-true (a .turn * a .turn * b .squared) (b .turn * b .turn * a .squared) e in record {
+  no-narrower = le-ltb (b .turn * b .turn * a .squared) (a .turn * a .turn * b .squared) (omega arith);
+  no-earlier = λ f. true-not-false e f;
+}
 
 fraction-less-requires : tie.Need-fraction-less-requires
 fraction-less-requires c κs = search needs
 
 returns : tie.Need-returns
-returns c =
-    let args = c .before .before .args in
-    let test = sym (c .before .fraction-less .ensures) ∙ c .if1 .taken in
-    stays refl (record { no-narrower = reversed (args .best) (args .found) test; no-earlier = λ f. true-not-false test f })
+returns c = stays refl (narrower-better _ _ (sym (c .before .fraction-less .ensures) ∙ c .if1 .taken))
 
 fraction-less-requires-2 : tie.Need-fraction-less-requires-2
 fraction-less-requires-2 c κs = search needs
 
 returns-2 : tie.Need-returns-2
-returns-2 c =
-    let at-else = c .before .before in
-    let test = sym (c .before .fraction-less2 .ensures) ∙ c .if2 .taken in
-    gives-way refl (record {
-      no-narrower = sym (at-else .before .fraction-less .ensures) ∙ at-else .if1 .left;
-      no-earlier = λ f. true-not-false test f;
-    })
+returns-2 c = gives-way refl (narrower-better _ _ (sym (c .before .fraction-less2 .ensures) ∙ c .if2 .taken))
 
 returns-3 : tie.Need-returns-3
 returns-3 c =

@@ -5,18 +5,18 @@
 --     primitive-unique         two directions of divisor 1 that point the same way are equal
 --     primitive-only           so that no other name passes
 use mathlib.Core.Path.{_≡_, refl, sym, _∙_, ap, ap₂}
-use mathlib.Core.Bool.{false, false≢true}
+use mathlib.Core.Bool.{false}
 use mathlib.Core.List.{List, [], _∷_}
 use Prim.Native.Nat.{ℕ, suc, _*_, _/_, _<_, _∣_}
 use native.Mathlib.Nat.{le-refl, mul-one, mul-le-mul, mul-div-cancel', eq-of-mul-eq-mul-left}
 use native.Mathlib.Omega.{arith}
-use borrow.Author.Tests.{ltb-true, lt-ltb}
+use borrow.Author.Tests.{lt-ltb}
 use lib.IntN.{ℤ, pos, negsuc, negℤ, natAbs, _*ℤ_}
 use lib.Signed.{quotZ, _<ℤ_}
 use Rattle.integer.specs.Ring.{ring, reify}
-use Rattle.integer.specs.Linear.{linear, lia, _&_}
-use Rattle.integer.specs.Order.{_<×<_, contra≤, le-antisym, ltZ-true, lt-ltZ}
-use Rattle.integer.specs.Bound.{Within, natAbs-*}
+use Rattle.integer.specs.Order.{ltZ-true, weaken, cancel}
+use Rattle.integer.specs.Bound.{Within, natAbs-*, positive-size, size-is}
+use Rattle.integer.specs.Laws.{one-*ℤ}
 use Rattle.divisor.specs.Divisor.{gcd}
 use Rattle.divisor.specs.Euclid.{gcd-is, gcd-scale}
 use Rattle.plane.specs.Limits.{maxPart}
@@ -31,9 +31,6 @@ use Rattle.plane.specs.theory.direction.Rows.{direction-near, direction-
 use Rattle.plane.specs.theory.direction.Scaled.{same-support}
 
 -- ---- the direction is a multiple of its name
-
-one-times : (x : ℤ) → pos 1 *ℤ x ≡ x
-one-times x = ring (x ∷ []) (search reify depth 40) tt
 
 times-neg : (x y : ℤ) → x *ℤ negℤ y ≡ negℤ (x *ℤ y)
 times-neg x y = ring (x ∷ y ∷ []) (search reify depth 40) tt
@@ -58,23 +55,18 @@ module _ (d : Point) (some : NonZero d) where
     n = pos 1;
     m-above = divisor-above;
     n-above = ltZ-true refl;
-    along-x = primitive-multiple d .0 ∙ sym (one-times (d .x));
-    along-y = primitive-multiple d .1 ∙ sym (one-times (d .y));
+    along-x = primitive-multiple d .0 ∙ sym (one-*ℤ (d .x));
+    along-y = primitive-multiple d .1 ∙ sym (one-*ℤ (d .y));
   }
 
   pub primitive-support : (ps : List Point) → pos (partsDivisor d) *ℤ support (primitive d) ps ≡ support d ps
   unfolding primitive-same
-  primitive-support ps = same-support primitive-same ps ∙ one-times (support d ps)
+  primitive-support ps = same-support primitive-same ps ∙ one-*ℤ (support d ps)
 
 -- ---- the divisor of a multiple
 
--- a number above 0 and its size
-above-size : (m : ℤ) → pos 0 <ℤ m → (0 < natAbs m) × (pos (natAbs m) ≡ m)
-above-size (pos n) h = (ltb-true 0 n (lt-ltZ h), refl)
-above-size (negsuc n) h = absurd (false≢true (lt-ltZ h))
-
 scaled-divisor : (m : ℤ) → pos 0 <ℤ m → (e : Point) → gcd (natAbs (m *ℤ e .x)) (natAbs (m *ℤ e .y)) ≡ natAbs m * partsDivisor e
-scaled-divisor m h e = ap₂ gcd (natAbs-* m (e .x)) (natAbs-* m (e .y)) ∙ gcd-scale _ _ _ (above-size m h .0)
+scaled-divisor m h e = ap₂ gcd (natAbs-* m (e .x)) (natAbs-* m (e .y)) ∙ gcd-scale _ _ _ (positive-size h)
 
 -- ---- 11 and 12 let the name pass
 
@@ -104,15 +96,10 @@ primitive-bad d good =
 
 -- ---- and no other
 
-cancelled : (m a b : ℤ) → pos 0 <ℤ m → m *ℤ a ≡ m *ℤ b → a ≡ b
-cancelled m a b h e = le-antisym
-    (contra≤ (λ g. lia (m ∷ a ∷ b ∷ []) (e & h <×< g) (search linear depth 40) (omega arith)))
-    (contra≤ (λ g. lia (m ∷ a ∷ b ∷ []) (e & h <×< g) (search linear depth 40) (omega arith)))
-
 -- m·e and n·f are equal, and so are their divisors: m times that of e, which is 1, and n times that of f
 pub primitive-unique : {e f : Point} → partsDivisor e ≡ 1 → partsDivisor f ≡ 1 → SameWay e f → e ≡ f
-primitive-unique {e} {f} p q s = point-path (cancelled (s .m) _ _ (s .m-above) (s .along-x ∙ ap (λ (k : ℤ). k *ℤ f .x) (sym same)))
-    (cancelled (s .m) _ _ (s .m-above) (s .along-y ∙ ap (λ (k : ℤ). k *ℤ f .y) (sym same)))
+primitive-unique {e} {f} p q s = point-path (cancel {k = s .m} (s .m-above) (s .along-x ∙ ap (λ (k : ℤ). k *ℤ f .x) (sym same)))
+    (cancel {k = s .m} (s .m-above) (s .along-y ∙ ap (λ (k : ℤ). k *ℤ f .y) (sym same)))
   where
     sizes : natAbs (s .m) ≡ natAbs (s .n)
     sizes = sym (scaled-divisor (s .m) (s .m-above) e ∙ ap (λ (k : ℕ). natAbs (s .m) * k) p ∙ mul-one _)
@@ -120,7 +107,7 @@ primitive-unique {e} {f} p q s = point-path (cancelled (s .m) _ _ (s .m-above) (
         ∙ (scaled-divisor (s .n) (s .n-above) f ∙ ap (λ (k : ℕ). natAbs (s .n) * k) q ∙ mul-one _)
 
     same : s .m ≡ s .n
-    same = sym (above-size (s .m) (s .m-above) .1) ∙ ap pos sizes ∙ above-size (s .n) (s .n-above) .1
+    same = sym (size-is (weaken (s .m-above))) ∙ ap pos sizes ∙ size-is (weaken (s .n-above))
 
 pub primitive-only : (d e : Point) → NonZero d → commonDivisor e ≡ false → SameWay e d → e ≡ primitive d
 primitive-only d e some passes s = primitive-unique

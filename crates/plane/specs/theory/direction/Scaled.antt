@@ -13,10 +13,10 @@ use Rattle.integer.specs.Linear.{linear, lia, _&_}
 use Rattle.integer.specs.Order.{_<×<_, _<×≤_, _≡×_, weaken, contra≤, leZ-true, le-leZ}
 use Rattle.plane.specs.Point.{Point, corner}
 use Rattle.plane.specs.Shape.{next}
-use Rattle.plane.specs.Direction.{value, max, support, furthest, SameWay}
+use Rattle.plane.specs.Direction.{value, greater, support, furthest, SameWay}
 use Rattle.plane.specs.Face.{isFurthest, isFlat, flatEdge, faceFirst, faceLast}
 use Rattle.plane.specs.theory.lists.Sought.{first-agree, tests-agree}
-use Rattle.plane.specs.theory.lists.Max.{times-max}
+use Rattle.plane.specs.theory.lists.Greater.{times-greater}
 use Rattle.plane.specs.theory.forms.SameWay.{same-sym}
 
 module _ {d e : Point} (s : SameWay d e) where
@@ -30,9 +30,9 @@ module _ {d e : Point} (s : SameWay d e) where
   same-support [] = ring (s .m ∷ s .n ∷ []) (search reify depth 40) tt
   same-support (p ∷ []) = same-value p
   same-support (p ∷ (q ∷ ps)) =
-      times-max (weaken (s .m-above)) (value d p) (support d (q ∷ ps))
-      ∙ ap₂ max (same-value p) (same-support (q ∷ ps))
-      ∙ sym (times-max (weaken (s .n-above)) (value e p) (support e (q ∷ ps)))
+      times-greater (weaken (s .m-above)) (value d p) (support d (q ∷ ps))
+      ∙ ap₂ greater (same-value p) (same-support (q ∷ ps))
+      ∙ sym (times-greater (weaken (s .n-above)) (value e p) (support e (q ∷ ps)))
 
 -- what is no greater stays so
 module _ {d e : Point} (s : SameWay d e) {a b a′ b′ : ℤ} (p : s .m *ℤ a ≡ s .n *ℤ a′) (q : s .m *ℤ b ≡ s .n *ℤ b′) where

@@ -1,5 +1,4 @@
 -- When two corners of a shape are furthest in one direction: they are the ends of an edge that points across it.
---     opposite-non-zero, quarter-non-zero     a vector that is not zero, turned round or left by a quarter
 --     Tied ps d r k       corner k ends the edge from r, or r the edge from k, and the edge points the way of `quarter d`
 --     tied                so stand two furthest corners
 --     tied-alone          and no third corner is furthest
@@ -24,7 +23,7 @@ use Rattle.plane.specs.Shape.{next, IsShape}
 use Rattle.plane.specs.Direction.{value, support, SameWay}
 use Rattle.plane.specs.Forms.{up, NonZero}
 use Rattle.plane.specs.theory.lists.Members.{point-path, position-member}
-use Rattle.plane.specs.theory.forms.Vector.{cross-swap, cross-opposite, cross-nonzero, ⊖-zero}
+use Rattle.plane.specs.theory.forms.Vector.{cross-swap, cross-opposite, cross-nonzero, ⊖-zero, opposite-non-zero, quarter-non-zero}
 use Rattle.plane.specs.theory.forms.HalfPlane.{up-opposite}
 use Rattle.plane.specs.theory.forms.Angle.{before-alike}
 use Rattle.plane.specs.theory.forms.SameWay.{neither-same}
@@ -37,19 +36,6 @@ alike-same : (v t : Point) → up v ≡ up t → NonZero v → NonZero t → cro
 alike-same v t e nv nt h =
     let back : cross t v ≤ℤ pos 0 = lia (cross v t ∷ cross t v ∷ []) (h & cross-swap v t) (search linear depth 40) (omega arith) in
     neither-same v t (before-alike v t e ∙ le-ltZ (le-of-eq h)) (before-alike t v (sym e) ∙ le-ltZ back) nv nt
-
-pub opposite-non-zero : {v : Point} → NonZero v → NonZero (opposite v)
-opposite-non-zero {v} n = record {
-  non-zero = λ e. n .non-zero (point-path
-      (lia (v .x ∷ []) (ap (λ (p : Point). p .x) e) (search linear depth 40) (omega arith))
-      (lia (v .y ∷ []) (ap (λ (p : Point). p .y) e) (search linear depth 40) (omega arith)));
-}
-
-pub quarter-non-zero : {v : Point} → NonZero v → NonZero (quarter v)
-quarter-non-zero {v} n = record {
-  non-zero = λ e. n .non-zero (point-path (ap (λ (p : Point). p .y) e)
-      (lia (v .y ∷ []) (ap (λ (p : Point). p .x) e) (search linear depth 40) (omega arith)));
-}
 
 opposite-flat : (v t : Point) → cross v t ≡ pos 0 → cross (opposite v) t ≡ pos 0
 unfolding cross

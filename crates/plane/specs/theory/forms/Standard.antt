@@ -7,7 +7,7 @@ use mathlib.Core.List.{List, [], _∷_}
 use Prim.Native.Nat.{ℕ, zero, suc, _+_, _<_}
 use native.Mathlib.Numerals.{add-one}
 use native.Mathlib.Omega.{arith}
-use borrow.Author.Tests.{ltb-true, ltb-false, eqb-true, eqb-false, ne-eqb}
+use borrow.Author.Tests.{ltb-true, ltb-false, eqb-true, eqb-false}
 use lib.Dec.{ltb, eqb}
 use lib.IntN.{pos}
 use lib.ListN.{length}
@@ -21,6 +21,7 @@ use Rattle.plane.specs.theory.forms.Precedes.{precedes-irrefl, precedes-
 use Rattle.plane.specs.theory.forms.Fan.{Fan, Bends, Local, local→ordered}
 use Rattle.plane.specs.theory.forms.Vector.{turn-stay, turn-back}
 use Rattle.plane.specs.theory.forms.Round.{local→sorted, sorted→local}
+use Rattle.plane.specs.theory.lists.Next.{next-on}
 
 -- ---- from lists to positions
 
@@ -65,15 +66,10 @@ bends-of a q (r ∷ ps) g = (g 0 (omega arith), bends-of q r ps (λ i h. g (suc 
 -- ---- the left rule, edge by edge
 
 -- the edges up to the last corner
-next-inner : (n e : ℕ) → suc e < n → next n e ≡ suc e
-next-inner n e h =
-    let other : eqb (e + 1) n ≡ false = ne-eqb (e + 1) n (λ q. omega arith) in
-    rw (other, add-one)
-
 shape-left : (ps : List Point) → IsShape ps → (e c : ℕ) → suc e < length ps → c < length ps → (c ≡ e → ⊥) → (c ≡ suc e → ⊥)
     → Left (corner ps e) (corner ps (suc e)) (corner ps c)
 shape-left ps s e c he hc a b =
-    let at-next = next-inner (length ps) e he in
+    let at-next : next (length ps) e ≡ suc e = next-on (length ps) e (λ q. omega arith) ∙ add-one e in
     rw at-next at (s .left e c (omega arith) hc a (λ q. b (q ∙ at-next)))
 
 -- ---- the left rule and the start give sorted edges

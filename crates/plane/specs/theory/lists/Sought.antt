@@ -10,12 +10,12 @@
 --     some-found                             then `first p n` is one of them
 --     all-every, every-all, not-every        `every p n`, exactly if it passes at all of them
 --     true-not-false, tests-agree            a test is not both; two tests that pass together are equal
+--     either-false                           where not one of two tests passes, neither does
 use mathlib.Core.Path.{_≡_, refl, sym, _∙_, ap}
-use mathlib.Core.Bool.{Bool, true, false, _&&_, _||_, true≢false, false≢true}
+use mathlib.Core.Bool.{Bool, true, false, _||_, and-eq-true-iff, true≢false, false≢true}
 use Prim.Native.Nat.{ℕ, zero, suc, _+_, _≤_, _<_, zero-le}
 use native.Mathlib.Omega.{arith}
 use native.Mathlib.Nat.{le-of-suc-le-suc}
-use native.Mathlib.Decide.{ℕ-discrete}
 use borrow.Author.Count.{below-more}
 use borrow.Author.Tests.{ltb-true, ltb-false}
 use lib.Dec.{ltb}
@@ -30,6 +30,10 @@ pub tests-agree : (s t : Bool) → (s ≡ true → t ≡ true) → (t ≡ true �
 tests-agree true t f g = sym (f refl)
 tests-agree false true f g = g refl
 tests-agree false false f g = refl
+
+pub either-false : (a b : Bool) → (a || b) ≡ false → (a ≡ false) × (b ≡ false)
+either-false true b h = absurd (true≢false h)
+either-false false b h = (refl, h)
 
 -- the first step of a search: found at 0, or one further than the search from 1 on
 first-suc : (p : ℕ → Bool) (n : ℕ) (P : ℕ → Type 0) → (p 0 ≡ true → P 0)
@@ -90,14 +94,8 @@ some-witness p (suc n) h = go (some p n) refl h (some-witness p n)
 
 pub some-none : (p : ℕ → Bool) (n : ℕ) → some p n ≡ false → (i : ℕ) → i < n → p i ≡ false
 some-none p zero h i l = absurd (omega arith)
-some-none p (suc n) h i l = go (some p n) refl (p n) refl h (some-none p n) (ℕ-discrete i n)
-  where
-    go : (t : Bool) → some p n ≡ t → (u : Bool) → p n ≡ u → (t || u) ≡ false → (some p n ≡ false → (i : ℕ) → i < n → p i ≡ false)
-        → Dec (i ≡ n) → p i ≡ false
-    go true e u f k earlier d = absurd (true≢false k)
-    go false e true f k earlier d = absurd (true≢false k)
-    go false e false f k earlier (yes q) = rw q f
-    go false e false f k earlier (no q) = earlier e i (omega arith)
+some-none p (suc n) h i l =
+    let tests = either-false (some p n) (p n) h in below-more (λ k. p k ≡ false) n (some-none p n (tests .0)) (tests .1) i (omega arith)
 
 pub none-some : (p : ℕ → Bool) (n : ℕ) → ((i : ℕ) → i < n → p i ≡ false) → some p n ≡ false
 none-some p zero f = refl
@@ -118,14 +116,9 @@ some-found p n h = let r = some-witness p n h in omega (arith, first-at-most p n
 
 pub every-all : (p : ℕ → Bool) (n : ℕ) → every p n ≡ true → (i : ℕ) → i < n → p i ≡ true
 every-all p zero h i l = absurd (omega arith)
-every-all p (suc n) h i l = go (every p n) refl (p n) refl h (every-all p n) (ℕ-discrete i n)
-  where
-    go : (t : Bool) → every p n ≡ t → (u : Bool) → p n ≡ u → (t && u) ≡ true → (every p n ≡ true → (i : ℕ) → i < n → p i ≡ true)
-        → Dec (i ≡ n) → p i ≡ true
-    go false e u f k earlier d = absurd (false≢true k)
-    go true e false f k earlier d = absurd (false≢true k)
-    go true e true f k earlier (yes q) = rw q f
-    go true e true f k earlier (no q) = earlier e i (omega arith)
+every-all p (suc n) h i l =
+    let tests = and-eq-true-iff (every p n) (p n) .0 h in
+    below-more (λ k. p k ≡ true) n (every-all p n (tests .0)) (tests .1) i (omega arith)
 
 pub all-every : (p : ℕ → Bool) (n : ℕ) → ((i : ℕ) → i < n → p i ≡ true) → every p n ≡ true
 all-every p zero f = refl

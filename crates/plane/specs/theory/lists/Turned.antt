@@ -8,10 +8,11 @@ use mathlib.Core.Bool.{Bool, true, false, cond}
 use Prim.Native.Nat.{ℕ, _+_, _-_, _≤_, _<_}
 use native.Mathlib.Decide.{ℕ-discrete}
 use native.Mathlib.Omega.{arith}
-use borrow.Author.Tests.{ltb-true, ltb-false, eq-eqb, ne-eqb}
+use borrow.Author.Tests.{ltb-true, ltb-false}
 use lib.Dec.{ltb}
 use Rattle.plane.specs.Shape.{next}
 use Rattle.plane.specs.Cycle.{turned}
+use Rattle.plane.specs.theory.lists.Next.{next-end, next-on}
 
 -- t + k, less n where it passes the end
 pub data Turned (n t k : ℕ) : Type 0 where
@@ -24,13 +25,6 @@ turned-cases n t k = go (ltb (t + k) n) refl
     go : (b : Bool) → ltb (t + k) n ≡ b → Turned n t k
     go true e = ahead (ltb-true _ _ e) (ap (λ c. cond c (t + k) (t + k - n)) e)
     go false e = round (ltb-false _ _ e) (ap (λ c. cond c (t + k) (t + k - n)) e)
-
-module _ (n : ℕ) where
-  next-end : (e : ℕ) → e + 1 ≡ n → next n e ≡ 0
-  next-end e h = ap (λ b. cond b 0 (e + 1)) (eq-eqb (e + 1) n h)
-
-  next-on : (e : ℕ) → (e + 1 ≡ n → ⊥) → next n e ≡ e + 1
-  next-on e h = ap (λ b. cond b 0 (e + 1)) (ne-eqb (e + 1) n h)
 
 module _ (n t : ℕ) (h : t < n) where
   pub turned-below : (k : ℕ) → k < n → turned n t k < n

@@ -13,7 +13,6 @@ use Prim.Native.Nat.{ℕ, zero, suc, _+_, _*_, _-_, _<_}
 use native.Mathlib.Numerals.{add-one}
 use native.Mathlib.Omega.{arith}
 use borrow.Author.Count.{below-more}
-use lib.IntN.{negℤ-negℤ}
 use lib.ListN.{length, take, drop, length-append, length-drop, length-map, take-append-drop, List·getD-append, List·getD-map}
 use lib.Seq.{getD-append-add, getD-drop, getD-take, length-take-le}
 use Rattle.integer.specs.Ring.{ring, reify}
@@ -23,7 +22,7 @@ use Rattle.plane.specs.Shape.{next, precedes, IsShape}
 use Rattle.plane.specs.Direction.{support}
 use Rattle.plane.specs.Corner.{shapeOf, mirrored}
 use Rattle.plane.specs.Forms.{Precedes}
-use Rattle.plane.specs.theory.lists.Members.{point-path, mirrored-member, member-mirrored, mirrored-some}
+use Rattle.plane.specs.theory.lists.Members.{mirrored-member, member-mirrored, mirrored-some}
 use Rattle.plane.specs.theory.forms.Precedes.{precedes-irrefl, precedes-trans, precedes-opposite, not-precedes}
 use Rattle.plane.specs.theory.lists.Flat.{numbers-length}
 use Rattle.plane.specs.Cycle.{turned}
@@ -32,6 +31,7 @@ use Rattle.plane.specs.theory.lists.Turned.{turned-next}
 use Rattle.plane.specs.theory.lists.Next.{next-below}
 use Rattle.plane.specs.theory.support.Support.{support-same}
 use Rattle.plane.specs.theory.hull.ShapeOf.{shape-known}
+use Rattle.plane.specs.theory.forms.Vector.{opposite-opposite}
 
 -- ---- the last corner by y, then by x
 
@@ -132,9 +132,6 @@ module _ (ps : List Point) (t : ℕ) (h : t < length ps) where
 turn-opposite : (a b c : Point) → turn (opposite a) (opposite b) (opposite c) ≡ turn a b c
 unfolding turn
 turn-opposite a b c = ring (a .x ∷ a .y ∷ b .x ∷ b .y ∷ c .x ∷ c .y ∷ []) (search reify depth 40) tt
-
-opposite-opposite : (p : Point) → opposite (opposite p) ≡ p
-opposite-opposite p = point-path (negℤ-negℤ (p .x)) (negℤ-negℤ (p .y))
 
 -- a list of opposites, taken from place t of a shape on
 module _ (ps : List Point) (s : IsShape ps) (t : ℕ) (top : Top ps (length ps) t) (M : List Point) (same : length M ≡ length ps)

@@ -1,11 +1,12 @@
 -- The rows of refusals 1 to 5 against "What makes a shape".
+--     near→within, within→near        a coordinate is not outside exactly if it is in range
 --     near→inRange, inRange→near      row 3 does not apply exactly if every coordinate is in range
 --     few-corners, corners-few            row 2 does not apply exactly if there are few enough corners
 --     counted, count-good     row 1 does not apply exactly if there is a corner, and an even count of numbers
 --     accepted→valid          no row applies: the list is valid; `shape→valid`: rows 1 to 3 do not, and the corners are a shape
 --     valid→accepted          a valid list: no row applies
-use mathlib.Core.Path.{_≡_, refl, sym, _∙_, ap, ap₂}
-use mathlib.Core.Bool.{Bool, true, false, not, _||_, true≢false}
+use mathlib.Core.Path.{_≡_, sym, _∙_, ap, ap₂}
+use mathlib.Core.Bool.{false, not, _||_, true≢false}
 use mathlib.Core.List.{List}
 use Prim.Native.Nat.{ℕ, _%_, _≤_, _<_}
 use native.Mathlib.Omega.{arith}
@@ -24,17 +25,17 @@ use Rattle.plane.specs.Refusal.{InRange, Valid}
 use Rattle.plane.specs.theory.lists.Flat.{points-length}
 use Rattle.plane.specs.theory.lists.Members.{samePoint-self, samePoint-other}
 use Rattle.plane.specs.Reply.{NoneApply}
-use Rattle.plane.specs.theory.lists.Sought.{some-none, none-some}
+use Rattle.plane.specs.theory.lists.Sought.{some-none, none-some, either-false}
 use Rattle.plane.specs.theory.refusals.Tests.{breaks-own, breaks-end, breaks-other, equalPair-other, equalPair-two, outside-none}
 use Rattle.plane.specs.theory.refusals.Tests.{none-outside}
 
 -- ---- row 3
 
-near→within : (z : ℤ) → outside z ≡ false → Within maxCoordinate z
+pub near→within : (z : ℤ) → outside z ≡ false → Within maxCoordinate z
 unfolding outside
 near→within z h = record { size = ltb-false maxCoordinate (natAbs z) h }
 
-within→near : (z : ℤ) → Within maxCoordinate z → outside z ≡ false
+pub within→near : (z : ℤ) → Within maxCoordinate z → outside z ≡ false
 unfolding outside
 within→near z w = le-ltb maxCoordinate (natAbs z) (w .size)
 
@@ -45,10 +46,6 @@ pub inRange→near : (l : List ℤ) → InRange l → someOutside l ≡ false
 inRange→near l r = outside-none l (λ i b. within→near (getD l i (pos 0)) (r .near i b))
 
 -- ---- rows 1 and 2
-
-either-false : (a b : Bool) → (a || b) ≡ false → (a ≡ false) × (b ≡ false)
-either-false true b h = absurd (true≢false h)
-either-false false b h = (refl, h)
 
 pub counted : (l : List ℤ) → badCount l ≡ false → (0 < length (points l)) × (length l % 2 ≡ 0)
 unfolding badCount

@@ -6,7 +6,7 @@
 --     outside-found, outside-none, none-outside               a list with a number outside its range; a list with none, by position
 --     outside-some                              the test of all numbers, one after the other
 use mathlib.Core.Path.{_≡_, refl, sym, _∙_}
-use mathlib.Core.Bool.{Bool, true, false, not, _&&_, _||_}
+use mathlib.Core.Bool.{Bool, true, false, not, _&&_, and-false, or-true}
 use mathlib.Core.List.{List, [], _∷_}
 use Prim.Native.Nat.{ℕ, zero, suc, _<_, suc-le-suc}
 use native.Mathlib.Nat.{le-of-suc-le-suc, not-suc-le-zero}
@@ -25,14 +25,6 @@ use Rattle.plane.specs.Refusal.{outside, someOutside, equalPair, leftBro
 use Rattle.plane.specs.theory.lists.Sought.{true-not-false, first-true, first-least, some-witness, some-none, some-found}
 use Rattle.plane.specs.theory.lists.Members.{samePoint-equal}
 use Rattle.plane.specs.theory.forms.Precedes.{samePoint-neither}
-
-and-false : (b : Bool) → (b && false) ≡ false
-and-false true = refl
-and-false false = refl
-
-or-true : (b : Bool) → (b || true) ≡ true
-or-true true = refl
-or-true false = refl
 
 module _ (ps : List Point) (e c : ℕ) where
   pub breaks-own : c ≡ e → breaks ps e c ≡ false

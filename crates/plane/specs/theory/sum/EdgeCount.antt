@@ -22,14 +22,13 @@ shared-unmet e E F h = rw (h, shared)
 
 -- ---- an edge before all others meets none of them
 
-all-trans : (e f : Point) → Before e f → (E : List Point) → All (Before f) E → All (Before e) E
-all-trans e f b [] h = tt
-all-trans e f b (g ∷ E) h =
-    (before-trans b (h .0), all-trans e f b E (h .1))
+all-later : {e f : Point} → Before e f → (E : List Point) → All (Before f) E → All (Before e) E
+all-later b [] h = tt
+all-later b (g ∷ E) h = (before-trans b (h .0), all-later b E (h .1))
 
 pub from-all : (e : Point) (E : List Point) → From e E → All (Before e) E
 from-all e [] r = tt
-from-all e (f ∷ E) r = (r .0, all-trans e f (r .0) E (from-all f E (r .2)))
+from-all e (f ∷ E) r = (r .0, all-later (r .0) E (from-all f E (r .2)))
 
 meets-none : (e : Point) (F : List Point) → All (Before e) F → meets e F ≡ false
 meets-none e [] h = refl

@@ -8,7 +8,7 @@
 --     round-within, round-inner       its position is one of the list; short of the end it is i itself
 --     in-order-at, in-order-non-zero  edges in order, at their positions; `shape-in-order`: those of a shape are
 --     corner-injective                a shape's corners are pairwise different
---     edge-turn                       no corner is right of an edge
+--     edge-turn                       no corner is right of an edge; `next-left`: of three or more the one after it is left of it
 use mathlib.Core.Path.{_≡_, refl, sym, _∙_, ap}
 use mathlib.Core.Bool.{Bool, true, false, cond}
 use mathlib.Core.List.{List, [], _∷_}
@@ -28,13 +28,13 @@ use Rattle.plane.specs.Point.{Point, corner, origin, _⊕_, _⊖_}
 use Rattle.plane.specs.Turn.{turn, Left}
 use Rattle.plane.specs.Shape.{next, IsShape}
 use Rattle.plane.specs.theory.sum.EdgeCount.{from-all}
-use Rattle.plane.specs.Forms.{Pairs, All, Ordered, Precedes, Before, NonZero, InOrder, edgesTo, edges}
+use Rattle.plane.specs.Forms.{Pairs, Ordered, Precedes, Before, NonZero, InOrder, edgesTo, edges}
 use Rattle.plane.specs.theory.forms.Precedes.{precedes-different}
 use Rattle.plane.specs.theory.forms.Vector.{total, turn-back, turn-level, step-to, ⊕-assoc, ⊕-comm, ⊕-zero}
-use Rattle.plane.specs.theory.forms.Angle.{before-trans}
 use Rattle.plane.specs.theory.forms.Standard.{all-at, pairs-at, shape→ordered, shape→sorted}
 use Rattle.plane.specs.theory.sum.Path.{next-in-order}
 use Rattle.plane.specs.Cycle.{round, cornerRound}
+use Rattle.plane.specs.theory.lists.Next.{next-below, two-steps}
 
 -- from corner e to the next, the last to the first
 abbrev pub edgeOf : List Point → ℕ → Point
@@ -124,10 +124,6 @@ round-total ps (suc i) some h =
 
 -- ---- edges in order
 
-all-later : {e f : Point} → Before e f → (E : List Point) → All (Before f) E → All (Before e) E
-all-later b [] h = tt
-all-later b (g ∷ E) h = (before-trans b (h .0), all-later b E (h .1))
-
 in-order-pairs : (E : List Point) → InOrder E → Pairs Before E
 in-order-pairs [] o = tt
 in-order-pairs (e ∷ E) o = (from-all e E (o .1), in-order-pairs E (next-in-order e E (o .1)))
@@ -181,3 +177,10 @@ edge-turn ps s e c h k = go (ℕ-discrete c e) (ℕ-discrete c (next (length ps)
     go (yes q) r = rw q (le-of-eq (sym (turn-back a b)))
     go (no q) (yes r) = rw r (le-of-eq (sym (turn-level a b)))
     go (no q) (no r) = weaken (s .left e c h k q r)
+
+pub next-left : (ps : List Point) → IsShape ps → 2 < length ps → (e : ℕ) → e < length ps
+    → Left (corner ps e) (corner ps (next (length ps) e)) (corner ps (next (length ps) (next (length ps) e)))
+next-left ps s three e h =
+    let below = next-below (length ps) e h in
+    let far = two-steps (length ps) e three h in
+    s .left e (next (length ps) (next (length ps) e)) h (next-below (length ps) (next (length ps) e) below) (far .0) (far .1)

@@ -21,8 +21,9 @@ use Rattle.plane.specs.Turn.{turn, Left, turn-cycle}
 use Rattle.plane.specs.Direction.{value, support}
 use Rattle.plane.specs.Corner.{Corner}
 use Rattle.plane.specs.Forms.{Pairs, Triples, Ordered, Precedes}
+use Rattle.plane.specs.Cut.{outward}
 use Rattle.plane.specs.theory.lists.Members.{point-path, point-discrete, all-member, member-all, pairs-append-last}
-use Rattle.plane.specs.theory.forms.Vector.{outward, turn-level}
+use Rattle.plane.specs.theory.forms.Vector.{turn-level}
 use Rattle.plane.specs.theory.support.Support.{value-le-support, support-attained, support-unique}
 use Rattle.plane.specs.theory.forms.Precedes.{Lower, lower, level, precedes-lower}
 

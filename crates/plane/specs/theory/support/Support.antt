@@ -1,11 +1,12 @@
 -- The support value of a list of points, and the facts by which everything else uses it. A list with a point is one with 0 < length.
+--     support-one          that of one point is its value
 --     value-le-support     no point is above it
 --     support-attained     some point has it (`Attained`)
 --     support-unique       the value of a point that none is above is the support value
 --     support-le           a number that no point is above is at least the support value
 --     support-subset       more points, no smaller support; support-same: the same points, the same support
 --     support-append, support-sums, support-mirrored     the support of a union, of all sums, of the mirror image
--- The laws of the greater of two numbers are in `Max.antt`, how a value goes through points and directions in `Vector.antt`.
+-- The laws of the greater of two numbers are in `Greater.antt`, how a value goes through points and directions in `Vector.antt`.
 use mathlib.Core.Path.{_≡_, refl, sym, _∙_, ap, ap₂}
 use mathlib.Core.Logic.{_⊎_, inl, inr}
 use mathlib.Core.List.{List, [], _∷_, _++_, List·Memᴰ·head, List·Memᴰ·tail, List·Memᴰ·not-nil}
@@ -19,19 +20,19 @@ use lib.Signed.{_≤ℤ_}
 use Rattle.integer.specs.Linear.{lia, linear, _&_}
 use Rattle.integer.specs.Order.{le-of-eq, le-trans, le-antisym}
 use Rattle.plane.specs.Point.{Point, opposite, _∈_, _⊆_}
-use Rattle.plane.specs.Direction.{value, support, max}
+use Rattle.plane.specs.Direction.{value, support, greater}
 use Rattle.plane.specs.Corner.{sums, mirrored}
 use Rattle.plane.specs.theory.lists.Members.{sums-member, member-sums, SumOf, member-some}
-use Rattle.plane.specs.theory.lists.Max.{left-le-max, right-le-max, max-either, max-least}
+use Rattle.plane.specs.theory.lists.Greater.{left-le-greater, right-le-greater, greater-either, greater-least}
 use Rattle.plane.specs.theory.forms.Vector.{value-⊕, value-opposite, value-turned}
 
 -- ---- how it computes
 
-support-cons : (d p q : Point) (ps : List Point) → support d (p ∷ q ∷ ps) ≡ max (value d p) (support d (q ∷ ps))
+support-cons : (d p q : Point) (ps : List Point) → support d (p ∷ q ∷ ps) ≡ greater (value d p) (support d (q ∷ ps))
 unfolding support
 support-cons d p q ps = refl
 
-support-one : (d p : Point) → support d (p ∷ []) ≡ value d p
+pub support-one : (d p : Point) → support d (p ∷ []) ≡ value d p
 unfolding support
 support-one d p = refl
 
@@ -39,10 +40,10 @@ support-one d p = refl
 
 pub value-le-support : (d : Point) {p : Point} {ps : List Point} → p ∈ ps → value d p ≤ℤ support d ps
 value-le-support d (List·Memᴰ·head {xs = []} e) = le-of-eq (ap (value d) e ∙ sym (support-one d _))
-value-le-support d (List·Memᴰ·head {x = a} {xs = b ∷ ps} e) = rw (support-cons, e) (left-le-max (value d a) (support d (b ∷ ps)))
+value-le-support d (List·Memᴰ·head {x = a} {xs = b ∷ ps} e) = rw (support-cons, e) (left-le-greater (value d a) (support d (b ∷ ps)))
 value-le-support d (List·Memᴰ·tail {xs = []} m) = absurd (List·Memᴰ·not-nil m)
 value-le-support d (List·Memᴰ·tail {x = a} {xs = b ∷ ps} m) =
-    rw support-cons (le-trans (value-le-support d m) (right-le-max (value d a) (support d (b ∷ ps))))
+    rw support-cons (le-trans (value-le-support d m) (right-le-greater (value d a) (support d (b ∷ ps))))
 
 -- the point that has the support value
 pub record Attained (d : Point) (ps : List Point) : Type 0 where
@@ -53,10 +54,10 @@ pub record Attained (d : Point) (ps : List Point) : Type 0 where
 pub support-attained : (d : Point) (ps : List Point) → 0 < length ps → Attained d ps
 support-attained d [] h = absurd (not-suc-le-zero h)
 support-attained d (p ∷ []) h = record { at = p; at-in = List·Memᴰ·head refl; at-value = sym (support-one d p) }
-support-attained d (p ∷ (q ∷ ps)) h = go (support-attained d (q ∷ ps) (omega arith)) (max-either (value d p) (support d (q ∷ ps)))
+support-attained d (p ∷ (q ∷ ps)) h = go (support-attained d (q ∷ ps) (omega arith)) (greater-either (value d p) (support d (q ∷ ps)))
   where
     M : ℤ
-    M = max (value d p) (support d (q ∷ ps))
+    M = greater (value d p) (support d (q ∷ ps))
 
     go : Attained d (q ∷ ps) → (M ≡ value d p) ⊎ (M ≡ support d (q ∷ ps)) → Attained d (p ∷ q ∷ ps)
     go r (inl e) = record { at = p; at-in = List·Memᴰ·head refl; at-value = sym e ∙ sym (support-cons d p q ps) }
@@ -80,14 +81,14 @@ support-same d (a ∷ A) (b ∷ B) f g = le-antisym (support-subset d (omega ari
 
 -- ---- union, sums, mirror image
 
-pub support-append : (d : Point) (A B : List Point) → 0 < length A → 0 < length B → support d (A ++ B) ≡ max (support d A) (support d B)
+pub support-append : (d : Point) (A B : List Point) → 0 < length A → 0 < length B → support d (A ++ B) ≡ greater (support d A) (support d B)
 support-append d A B h k = le-antisym
     (support-le d (A ++ B) (omega (arith, length-append A B)) (λ q m. below q (List·Memᴰ·append-cases A m)))
-    (max-least (support-subset d h (λ p. Memᴰ·append-left B)) (support-subset d k (λ p. Memᴰ·append-right A)))
+    (greater-least (support-subset d h (λ p. Memᴰ·append-left B)) (support-subset d k (λ p. Memᴰ·append-right A)))
   where
-    below : (q : Point) → (q ∈ A) ⊎ (q ∈ B) → value d q ≤ℤ max (support d A) (support d B)
-    below q (inl m) = le-trans (value-le-support d m) (left-le-max (support d A) (support d B))
-    below q (inr m) = le-trans (value-le-support d m) (right-le-max (support d A) (support d B))
+    below : (q : Point) → (q ∈ A) ⊎ (q ∈ B) → value d q ≤ℤ greater (support d A) (support d B)
+    below q (inl m) = le-trans (value-le-support d m) (left-le-greater (support d A) (support d B))
+    below q (inr m) = le-trans (value-le-support d m) (right-le-greater (support d A) (support d B))
 
 pub support-sums : (d : Point) (A B : List Point) → 0 < length A → 0 < length B → support d (sums A B) ≡ support d A +ℤ support d B
 support-sums d A B h k =
@@ -105,4 +106,4 @@ pub support-mirrored : (d : Point) (A : List Point) → support d (mirrored A) �
 unfolding support
 support-mirrored d [] = refl
 support-mirrored d (p ∷ []) = value-opposite d p ∙ sym (value-turned d p)
-support-mirrored d (p ∷ (q ∷ A)) = ap₂ max (value-opposite d p ∙ sym (value-turned d p)) (support-mirrored d (q ∷ A))
+support-mirrored d (p ∷ (q ∷ A)) = ap₂ greater (value-opposite d p ∙ sym (value-turned d p)) (support-mirrored d (q ∷ A))

@@ -8,7 +8,7 @@ use lib.ListN.{length}
 use Rattle.plane.specs.Point.{points}
 use Rattle.plane.specs.VectorSum.{vectorSum}
 use Rattle.plane.specs.Search.{some}
-use Rattle.separation.specs.Around.{rightOf, placed}
+use Rattle.separation.specs.Around.{rightOf, originIn}
 use Rattle.separation.proofs.around.around.Statement.{statement}
 use Rattle.separation.proofs.around.around.Tie as tie
 
@@ -38,18 +38,18 @@ pass-requires : tie.Need-pass-requires
 pass-requires c κs = c .pre
 
 returns : tie.Need-returns
-unfolding placed
+unfolding originIn
 returns c = rw (sym (c .before .pass .ensures .outside-is) ∙ c .if1 .taken)
 
 around-few-requires : tie.Need-around-few-requires
 around-few-requires c κs = c .before .before .before .before .pre
 
 returns-2 : tie.Need-returns-2
-unfolding placed
+unfolding originIn
 returns-2 c = rw (inner (c .before .before .before), few (c .before)) (c .around-few .ensures)
 
 returns-3 : tie.Need-returns-3
-unfolding placed
+unfolding originIn
 returns-3 c =
     let at-else = c .before in
     rw (
@@ -59,7 +59,7 @@ returns-3 c =
     )
 
 returns-4 : tie.Need-returns-4
-unfolding placed
+unfolding originIn
 returns-4 c =
     let at-else = c .before in
     rw (

@@ -16,7 +16,7 @@ use Rattle.polygon.specs.theory.Small.{small-plus}
 use Rattle.calipers.specs.Side.{walkOf}
 use Rattle.calipers.specs.Walk.{begun, At}
 use Rattle.calipers.specs.theory.Carry.{sides-walk, sides-here, sides-advanced, sides-at, first-next, second-next, corners-fit, edges-fit}
-use Rattle.separation.specs.Around.{placedFew}
+use Rattle.separation.specs.Around.{originInFew}
 use Rattle.separation.proofs.Passing.{passing-start, passing-corners}
 use Rattle.separation.proofs.around.around_few.Statement.{statement}
 use Rattle.separation.proofs.around.around_few.Tie as tie
@@ -93,12 +93,12 @@ tested c =
     ∙ passing-corners (passing-start (at-sides .before .before .pre) (begins at-sides)) refl on value)
 
 returns : tie.Need-returns
-unfolding placedFew
+unfolding originInFew
 returns c = ap (λ (t : Bool). cond t (pos 1) (pos 0)) (sym (c .if1 .taken))
     ∙ ap (λ (z : ℤ). cond (leZ z (pos 0)) (pos 1) (pos 0)) (tested (c .before))
 
 returns-2 : tie.Need-returns-2
-unfolding placedFew
+unfolding originInFew
 returns-2 c = ap (λ (t : Bool). cond t (pos 1) (pos 0)) (sym (c .if1 .left))
     ∙ ap (λ (z : ℤ). cond (leZ z (pos 0)) (pos 1) (pos 0)) (tested (c .before))
 

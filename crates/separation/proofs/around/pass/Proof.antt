@@ -14,10 +14,11 @@ use Rattle.plane.specs.theory.lists.Flat.{points-length}
 use Rattle.plane.specs.theory.sum.Positions.{edges-at-most}
 use Rattle.plane.specs.VectorSum.{vectorSum}
 use Rattle.polygon.specs.Point.{at}
+use Rattle.polygon.specs.theory.Small.{small-wide}
 use Rattle.calipers.specs.Side.{Carried, walkOf}
 use Rattle.calipers.specs.Walk.{here, begun, finished, advanced, At}
 use Rattle.calipers.specs.theory.Carry.{all-passed, some-left, sides-walk, sides-here, sides-advanced, sides-at}
-use Rattle.calipers.specs.theory.Carry.{here-small, first-next, second-next, corners-fit, edges-fit}
+use Rattle.calipers.specs.theory.Carry.{here-near, first-next, second-next, corners-fit, edges-fit}
 use Rattle.separation.proofs.Passing.{
   Passing,
   passing-start,
@@ -123,7 +124,7 @@ arrives c end = let at-next = c .before .before in
 cross-requires : tie.Need-cross-requires Inv-loop μ-loop
 cross-requires c κs =
     let inv = c .before .before .before .before .before .loop .inv in
-    (here-small (passing-at (inv .0)) (leaves c), here-small (steps (c .before .before) false) (arrives c false))
+    (small-wide (here-near (passing-at (inv .0)) (leaves c)), small-wide (here-near (steps (c .before .before) false) (arrives c false)))
 
 returns : tie.Need-returns Inv-loop μ-loop
 returns c =

@@ -1,18 +1,11 @@
 -- `previous` meets its contract: before the first comes the last.
-use mathlib.Core.Path.{_≡_, sym, _∙_}
-use Prim.Native.Nat.{ℕ, _+_, _-_}
+use mathlib.Core.Path.{sym, _∙_}
+use Prim.Native.Nat.{_-_}
 use native.Mathlib.Omega.{arith}
 use borrow.Author.Needs.{needs}
-use borrow.Author.Tests.{eq-eqb, ne-eqb}
-use Rattle.plane.specs.Shape.{next}
+use Rattle.plane.specs.theory.lists.Next.{next-end, next-on}
 use Rattle.tangents.proofs.rest.previous.Statement.{statement}
 use Rattle.tangents.proofs.rest.previous.Tie as tie
-
-next-of-last : (n e : ℕ) → e + 1 ≡ n → next n e ≡ 0
-next-of-last n e h = rw (eq-eqb (e + 1) n h)
-
-next-of-other : (n e : ℕ) → (e + 1 ≡ n → ⊥) → next n e ≡ e + 1
-next-of-other n e h = rw (ne-eqb (e + 1) n h)
 
 sub-result : tie.Need-sub-result
 sub-result c = search needs
@@ -23,14 +16,14 @@ sub-result-2 c = search needs
 returns : tie.Need-returns
 returns c =
     let n = c .before .args .n in
-    (omega arith, next-of-last n (n - 1) (omega arith) ∙ sym (c .if1 .taken))
+    (omega arith, next-end n (n - 1) (omega arith) ∙ sym (c .if1 .taken))
 
 returns-2 : tie.Need-returns-2
 returns-2 c =
     let start = c .before in
     let i = start .args .i in
     let other = c .if1 .left in
-    (omega (arith, other), next-of-other (start .args .n) (i - 1) (λ e. omega (arith, other)) ∙ omega (arith, other))
+    (omega (arith, other), next-on (start .args .n) (i - 1) (λ e. omega (arith, other)) ∙ omega (arith, other))
 
 pub previous-spec : {M : Type 1} → statement M
 previous-spec = tie.close (tie.spec sub-result sub-result-2 returns returns-2)

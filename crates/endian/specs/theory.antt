@@ -1,0 +1,3 @@
+-- How numbers as bytes read back, and what the code's loops stand on.
+pub mod Bytes
+pub mod Coded

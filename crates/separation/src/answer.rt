@@ -1,0 +1,6 @@
+// How two shapes stand to each other.
+pub enum Relation {
+    Apart,
+    Touching,
+    Overlapping,
+}

@@ -1,6 +1,0 @@
-// How two shapes stand to each other.
-pub enum Place {
-    Apart,
-    Touching,
-    Overlapping,
-}

@@ -1,5 +1,0 @@
--- What the search for a direction answers, and what it finds on the way; then what an accepted direction means, and the theory.
-pub mod Found
-pub mod Away
-pub mod Meaning
-pub mod theory
