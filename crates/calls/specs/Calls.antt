@@ -1,8 +1,8 @@
 -- What the calls answer that is more than a question's reply.
 --     SeparatorTold a b ns     ns are the numbers of what the search for a direction may answer; which one is left open
 --     reading eighths v        a reading of the tablet, in eighths of a millimetre or in millimetres
---     addedLow b n f l k       an addition to a log on any floor: 1 to 5, then 13 for a floor above its limit, then 15 and 16. That 13 comes
---                              before 15 is our own: document 02 has no floor above its limit in a log
+--     addedLow b n f l k       an addition to a log on any floor: 1 to 5, then 13 for a floor above its limit, then 15 and 16. That 13
+--                              comes before 15 is our own: document 02 has no floor above its limit in a log
 use mathlib.Core.Path.{_≡_}
 use mathlib.Core.Bool.{Bool, cond}
 use mathlib.Core.List.{List}

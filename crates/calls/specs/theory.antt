@@ -3,3 +3,4 @@ pub mod Low
 pub mod High
 pub mod Found
 pub mod Logs
+pub mod Thirteen

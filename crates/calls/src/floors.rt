@@ -15,6 +15,7 @@ use reply::Reply;
 use reply::refusals;
 
 // Whether one of two floors is above its limit.
+// Ruled out: second floor not looked at.
 pub fn exceeds(f: u32, g: u32) -> bool
     ensures { λ r. ⌜ r ≡ (ltb maxFloor f || ltb maxFloor g) ⌝ }
 {
@@ -32,6 +33,7 @@ pub fn barred(list: &[i32]) -> Reply
 }
 
 // Returns the first list's refusal, else the second's, else 13.
+// Ruled out: thirteen before the first list; thirteen for a bad second list.
 pub fn barred_pair(a: &[i32], b: &[i32]) -> Reply
     ensures { λ r. ⌜
         numbers r ≡ crossed (LowFloor·barred (shapeRows 1 (now (a .entry)) ++ shapeRows 2 (now (b .entry)))) ⌝ }

@@ -1,5 +1,5 @@
-// Calls on two lists. Checks run in this order: the first list, the second list, their floors, and then what the question
-// itself refuses.
+// Calls on two lists. Checks run in this order: the first list, the second list, their floors, and then what the
+// question itself refuses.
 ghost use mathlib.Core.Path.{_≡_};
 ghost use Rattle.plane.specs.Point.{point};
 ghost use Rattle.plane.specs.Floor.{on};
@@ -41,6 +41,7 @@ pub extern "C" fn cocklesway_merge(a: &[i32], f: u32, b: &[i32], g: u32, out: &m
 }
 
 // Writes the obstacle grown by the cart's outline, and answers how many corners it has.
+// Ruled out: cart grown by the obstacle.
 #[no_mangle]
 pub extern "C" fn cocklesway_grow(
     obstacle: &[i32],
@@ -87,8 +88,8 @@ pub extern "C" fn cocklesway_inside(a: &[i32], f: u32, b: &[i32], g: u32) -> Rep
 // Answers 1 if the direction (u, v) is accepted as the reason that the shapes are apart, else 0.
 #[no_mangle]
 pub extern "C" fn cocklesway_offer(a: &[i32], f: u32, b: &[i32], g: u32, u: i32, v: i32) -> Reply
-    ensures { λ r. ⌜
-        numbers r ≡ crossed (reply (lowFloor (askOffer (on (now (a .entry)) f) (on (now (b .entry)) g) (point u v)))) ⌝ }
+    ensures { λ r. ⌜ numbers r ≡ crossed (reply (lowFloor
+        (askOffer (on (now (a .entry)) f) (on (now (b .entry)) g) (point u v)))) ⌝ }
 {
     if floors::exceeds(f, g) {
         return floors::barred_pair(a, b);
@@ -97,6 +98,7 @@ pub extern "C" fn cocklesway_offer(a: &[i32], f: u32, b: &[i32], g: u32, u: i32,
 }
 
 // Answers 1 and a direction that is accepted, or 0 if there is none.
+// Ruled out: direction the other way round.
 #[no_mangle]
 pub extern "C" fn cocklesway_find(a: &[i32], f: u32, b: &[i32], g: u32) -> Reply
     ensures { λ r. ⌜ SeparatorTold (on (now (a .entry)) f) (on (now (b .entry)) g) (numbers r) ⌝ }

@@ -8,6 +8,7 @@ use reply::Reply;
 
 // Answers the whole numbers of millimetres of a corner, x and y. A reading is in eighths of a millimetre or in
 // millimetres.
+// Ruled out: eighths read as millimetres; x and y exchanged.
 #[no_mangle]
 pub extern "C" fn cocklesway_tablet(x_eighths: bool, x: f64, y_eighths: bool, y: f64) -> Reply
     ensures { λ r. ⌜ numbers r ≡ crossed (tabletReply (Calls·reading «x_eighths» x) (Calls·reading «y_eighths» y)) ⌝ }

@@ -10,7 +10,6 @@ use polygon::limits;
 use reply::Reply;
 
 // Answers how many corners the list has.
-// Ruled out: floor above the limit answered; thirteen before the list is judged.
 #[no_mangle]
 pub extern "C" fn cocklesway_judge(list: &[i32], floor: u32) -> Reply
     ensures { λ r. ⌜ numbers r ≡ crossed (reply (lowFloor (askJudge (on (now (list .entry)) floor)))) ⌝ }

@@ -23,8 +23,9 @@ pub extern "C" fn cocklesway_begin(a: &[i32], f: u32, b: &[i32], g: u32) -> Repl
     reply::of_begun(walk::begin(a, f as u16, b, g as u16))
 }
 
-// Writes the part of a sum after the walk with these edges passed, over or not: at most k corners. Answers how many, and
-// the walk handed back.
+// Writes the part of a sum after the walk with these edges passed, over or not: at most k corners. Answers how many,
+// and the walk handed back.
+// Ruled out: edges passed exchanged.
 #[no_mangle]
 pub extern "C" fn cocklesway_part(
     a: &[i32],

@@ -1,11 +1,11 @@
 -- On a floor above its limit the rows of the shapes are judged, and then 13 is due, whatever the question.
---     barred-refused                    what judging says
+--     barred-refused                                 what judging says
 --     barred-shape, barred-points, barred-shapes     13 after lists that pass
---     barred-kept                       the output of a question that is answered so stays as it was
---     above                             numbers and output of `lowFloor`, of one shape or many points
---     pair-reply, above-pair                        the same of two shapes, one of which is on a floor above its limit
+--     barred-kept                                    the output of a question that is answered so stays as it was
+--     high-reply, above                              reply, then numbers and output of `lowFloor`, of one shape or many points
+--     pair-reply, above-pair                         the same of two shapes, one of which is on a floor above its limit
 use mathlib.Core.Path.{_≡_, refl, sym, _∙_, ap}
-use mathlib.Core.Bool.{Bool, true, false, cond, not, _||_}
+use mathlib.Core.Bool.{Bool, true, false, cond, _||_}
 use mathlib.Core.List.{List, [], _∷_, _++_}
 use Prim.Native.Nat.{ℕ}
 use borrow.Author.Tests.{eqb-true}
@@ -15,7 +15,7 @@ use Rattle.plane.specs.Limits.{maxFloor}
 use Rattle.plane.specs.Reply.{Reply, answered, refused, Row, row, firstRow, NoneApply}
 use Rattle.plane.specs.Refusal.{shapeRows, Valid}
 use Rattle.plane.specs.Sweep.{pointRows, ValidPoints}
-use Rattle.plane.specs.Floor.{Floored, Shapes, twoShapes, floorRow, pairRows, rowsOf, floorOf}
+use Rattle.plane.specs.Floor.{Floored, Shapes, twoShapes, floorRow, rowsOf, floorOf}
 use Rattle.plane.specs.Question.{Question, values, reply, output}
 use Rattle.plane.specs.theory.refusals.Rows.{firstRow-append, firstRow-given, firstRow-none, none-join, Outcome, given, passed, outcome}
 use Rattle.plane.specs.theory.refusals.Accept.{valid→accepted}
@@ -51,7 +51,7 @@ barred-kept q rows e = go (outcome rows)
 
 -- ---- one shape, or many points
 
-high-reply : (q : Question) → ltb maxFloor (floorOf (q .shapes)) ≡ true → barred (rowsOf (q .shapes)) ≡ reply (lowFloor q)
+pub high-reply : (q : Question) → ltb maxFloor (floorOf (q .shapes)) ≡ true → barred (rowsOf (q .shapes)) ≡ reply (lowFloor q)
 unfolding reply lowFloor
 high-reply q high =
     let later = firstRow (q .rest) (answered (values q)) in

@@ -1,7 +1,7 @@
 -- An addition to a log, with a floor that is any number.
 --     added-above, added-within     13 after the list, with nothing stored; else what the addition answers and stores
-use mathlib.Core.Path.{_≡_, refl, sym, _∙_, ap}
-use mathlib.Core.Bool.{Bool, true, false, cond}
+use mathlib.Core.Path.{_≡_, refl, _∙_, ap}
+use mathlib.Core.Bool.{true, false}
 use mathlib.Core.List.{List}
 use Prim.Native.Nat.{ℕ}
 use lib.Dec.{ltb}
@@ -9,7 +9,7 @@ use lib.IntN.{ℤ}
 use Rattle.plane.specs.Limits.{maxFloor}
 use Rattle.plane.specs.Reply.{Reply}
 use Rattle.plane.specs.Refusal.{shapeRows}
-use Rattle.journal.specs.Adding.{Added, added}
+use Rattle.journal.specs.Adding.{added}
 use Rattle.reply.specs.Told.{crossed}
 use Rattle.calls.specs.LowFloor.{barred}
 use Rattle.calls.specs.Calls.{addedLow}

@@ -22,7 +22,8 @@ of-tablet-requires c κs = search needs
 returns : tie.Need-returns
 returns c =
     c .of-tablet .ensures ∙ ap (λ (s : Sent). crossed (s .reply)) (c .before .tablet .ensures)
-    ∙ ap₂ (λ (x y : Reading). crossed (tabletReply x y)) (c .before .before .before .reading .ensures) (c .before .before .reading2 .ensures)
+    ∙ ap₂ (λ (x y : Reading). crossed (tabletReply x y)) (c .before .before .before .reading .ensures)
+    (c .before .before .reading2 .ensures)
 
 pub cocklesway-tablet-spec : {M : Type 1} → statement M
 cocklesway-tablet-spec = tie.close (tie.spec reading-requires reading-requires-2 tablet-requires of-tablet-requires returns)
