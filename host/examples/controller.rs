@@ -1,5 +1,5 @@
 //! A controller in Rust: sums two shapes on floor 3, and asks how they stand.
-use cocklesway::{bytes_of, corners_in, relation, sum, Refusal, Relation};
+use cocklesway::{Refusal, Relation, bytes_of, corners_in, relation, sum};
 
 fn main() -> Result<(), Refusal> {
     let square = bytes_of(&[[0, 0], [2, 0], [2, 2], [0, 2]]);

@@ -38,7 +38,7 @@ mod corners;
 pub mod packed;
 
 pub use answer::{Corners, Refusal, Relation, Shape, Standing};
-pub use corners::{bytes_of, corners_in, Corner, CORNER_BYTES, MOST_BYTES};
+pub use corners::{CORNER_BYTES, Corner, MOST_BYTES, bytes_of, corners_in};
 
 /// Whether the bytes hold a shape, and how many corners it has.
 ///

@@ -18,7 +18,7 @@ mod archive {
     type List = *const u8;
     type Output = *mut u8;
 
-    extern "C" {
+    unsafe extern "C" {
         pub fn cocklesway_judge_bytes(list: List, n: usize, floor: u32) -> u64;
         pub fn cocklesway_sum_bytes(
             a: List,

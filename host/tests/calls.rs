@@ -3,7 +3,7 @@ use cocklesway::packed;
 use second::host;
 use second::make::dice::Dice;
 use second::make::{long, pairs};
-use second::plane::{point, Shape};
+use second::plane::{Shape, point};
 
 /// A list, as bytes, and its floor.
 type Lent<'a> = (&'a [u8], u32);
@@ -104,11 +104,7 @@ fn any_floors(dice: &mut Dice) -> [u32; 2] {
         _ => dice.below(3) as u32,
     };
     let (f, g) = (any(), any());
-    if dice.one_in(4) {
-        [f, g]
-    } else {
-        [f, f]
-    }
+    if dice.one_in(4) { [f, g] } else { [f, f] }
 }
 
 /// Mostly one change: bytes less or more, another byte, or numbers exchanged.

@@ -1,5 +1,5 @@
 //! Numbers taken apart, and the words of refusals.
-use cocklesway::{judge, merge, relation, sum, Corners, Refusal, Relation, Shape, Standing};
+use cocklesway::{Corners, Refusal, Relation, Shape, Standing, judge, merge, relation, sum};
 use std::error::Error;
 
 #[test]
