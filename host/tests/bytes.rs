@@ -1,5 +1,5 @@
 //! The calls against brute force: the same number, and the same output to its last byte.
-use cocklesway::packed;
+use cocklesway::{bytes, limits};
 use second::host;
 use second::make::dice::Dice;
 use second::make::{long, pairs};
@@ -9,7 +9,9 @@ use second::plane::{Shape, point};
 type Lent<'a> = (&'a [u8], u32);
 
 /// Bytes of an output that hold any answer.
-const ALL: usize = cocklesway::MOST_BYTES;
+fn all() -> usize {
+    8 * limits().corners
+}
 
 #[derive(Clone, Copy, Debug)]
 enum Writes {
@@ -20,8 +22,8 @@ enum Writes {
 impl Writes {
     fn proved(self, (a, f): Lent, (b, g): Lent, out: &mut [u8]) -> u64 {
         match self {
-            Writes::Sum => packed::sum(a, f, b, g, out),
-            Writes::Merge => packed::merge(a, f, b, g, out),
+            Writes::Sum => bytes::sum(a, f, b, g, out).number(),
+            Writes::Merge => bytes::merge(a, f, b, g, out).number(),
         }
     }
 
@@ -38,12 +40,12 @@ fn agree(a: Lent, b: Lent) {
     agree_on_one(a);
     agree_on_one(b);
     assert_eq!(
-        packed::relation(a.0, a.1, b.0, b.1),
+        bytes::relation(a.0, a.1, b.0, b.1).number(),
         host::relation(a.0, a.1, b.0, b.1),
         "relation of {a:?} and {b:?}"
     );
     for call in [Writes::Sum, Writes::Merge] {
-        let told = call.brute(a, b, &mut [0; ALL]);
+        let told = call.brute(a, b, &mut vec![0; all()]);
         let need = 8 * (told >> 16 & 0xFFFF) as usize;
         if told & 0xFF == 0 {
             agree_written(call, a, b, need);
@@ -51,18 +53,18 @@ fn agree(a: Lent, b: Lent) {
             agree_written(call, a, b, need + 1);
         }
         agree_written(call, a, b, 0);
-        agree_written(call, a, b, ALL);
+        agree_written(call, a, b, all());
     }
 }
 
 fn agree_on_one((list, floor): Lent) {
-    let (one, other) = (packed::judge(list, floor), host::judge(list, floor));
+    let (one, other) = (bytes::judge(list, floor).number(), host::judge(list, floor));
     assert_eq!(one, other, "judge of {list:?} on {floor}");
 }
 
-/// The outputs hold the same before, and so they must afterwards.
+/// The outputs hold the same before, and so they must afterwards. They have exactly the room.
 fn agree_written(call: Writes, a: Lent, b: Lent, room: usize) {
-    let mut out: Vec<u8> = (0..room).map(|k| (k % 251) as u8).collect();
+    let mut out: Box<[u8]> = (0..room).map(|k| (k % 251) as u8).collect();
     let before = out.clone();
     let mut other = out.clone();
     let (one, two) = (call.proved(a, b, &mut out), call.brute(a, b, &mut other));
@@ -226,11 +228,14 @@ fn slices_may_stand_anywhere() {
         let mut memory = [7; 64];
         memory[at..at + 32].copy_from_slice(&list);
         let lent = &memory[at..at + 32];
-        assert_eq!(packed::judge(lent, 5), 0x0005_0004_0000);
-        assert_eq!(packed::relation(lent, 5, lent, 5), 0x0005_0002_0000);
+        assert_eq!(bytes::judge(lent, 5).number(), 0x0005_0004_0000);
+        assert_eq!(bytes::relation(lent, 5, lent, 5).number(), 0x0005_0002_0000);
         for to in 0..16 {
             let mut out = [9; 64];
-            assert_eq!(packed::sum(lent, 5, lent, 5, &mut out[to..to + 32]), told);
+            assert_eq!(
+                bytes::sum(lent, 5, lent, 5, &mut out[to..to + 32]).number(),
+                told
+            );
             assert_eq!(out[to..to + 32], expected);
             let others = out[..to].iter().chain(&out[to + 32..]);
             assert!(others.into_iter().all(|&byte| byte == 9));
