@@ -42,12 +42,60 @@ fn a_relative_folder_counts_from_where_cargo_is_called() {
     assert!(said.contains(&stated), "{said}");
 }
 
-/// Has cargo check the package, called from a place of its own, or returns what it says.
+/// The archive with the symbol of another version, if there is a tool to make it.
+#[test]
+fn an_archive_of_another_version_does_not_link() {
+    let older = place("older");
+    let renamed = Command::new("objcopy")
+        .arg("--redefine-sym=cocklesway_version_2=cocklesway_version_1")
+        .arg(Path::new(FOLDER).join("libcocklesway.a"))
+        .arg(older.join("libcocklesway.a"))
+        .status();
+    if !renamed.is_ok_and(|status| status.success()) {
+        eprintln!("passed over: there is no objcopy");
+        return;
+    }
+    let controller = controller(&older);
+    assert_eq!(cargo("build", "older", FOLDER, &controller, &[]), Ok(()));
+    let older = older.to_str().expect("the path is text");
+    let said = cargo("build", "older", older, &controller, &[]).expect_err("a symbol is missing");
+    assert!(said.contains("cocklesway_version_2"), "{said}");
+}
+
+/// Makes a package that depends on this one, and returns its manifest.
+fn controller(place: &Path) -> PathBuf {
+    let here = env!("CARGO_MANIFEST_DIR");
+    let manifest = format!(
+        "[package]\nname = \"controller\"\nedition = \"2024\"\n\n[workspace]\n\n\
+         [dependencies]\ncocklesway = {{ path = {here:?} }}\n"
+    );
+    let program =
+        "fn main() {\n    assert!(cocklesway::bytes::judge(&[], 0).corners().is_err());\n}\n";
+    fs::create_dir_all(place.join("src")).expect("the folder can be made");
+    fs::write(place.join("src/main.rs"), program).expect("the folder can be written to");
+    fs::write(place.join("Cargo.toml"), manifest).expect("the folder can be written to");
+    place.join("Cargo.toml")
+}
+
+/// Has cargo check this library, or returns what it says.
 fn checked(name: &str, folder: &str, options: &[&str]) -> Result<(), String> {
+    let manifest = Path::new(env!("CARGO_MANIFEST_DIR")).join("Cargo.toml");
+    let options = [options, &["--lib"]].concat();
+    cargo("check", name, folder, &manifest, &options)
+}
+
+/// Calls cargo from a place of its own, or returns what it says.
+fn cargo(
+    command: &str,
+    name: &str,
+    folder: &str,
+    manifest: &Path,
+    options: &[&str],
+) -> Result<(), String> {
     let place = place(name);
     let cargo = Command::new(env!("CARGO"))
-        .args(["check", "--lib", "--offline", "--manifest-path"])
-        .arg(concat!(env!("CARGO_MANIFEST_DIR"), "/Cargo.toml"))
+        .args([command, "--offline", "--manifest-path"])
+        .arg(manifest)
         .arg("--target-dir")
         .arg(place.join("target"))
         .args(options)
