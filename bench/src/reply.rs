@@ -88,7 +88,7 @@ impl From<Corners> for Numbers {
 
 impl From<Shape<'_>> for Numbers {
     fn from(r: Shape<'_>) -> Numbers {
-        Numbers::one(r.corners().len() as u64, r.floor())
+        Numbers::one(r.corners.len() as u64, r.floor)
     }
 }
 

@@ -58,7 +58,7 @@ macro_rules! on_bytes {
 
 /// How many corners were written.
 fn count(written: Result<Shape, Refusal>) -> Result<usize, Refusal> {
-    written.map(|shape| shape.corners().len())
+    written.map(|shape| shape.corners.len())
 }
 
 /// A list as the package takes it.

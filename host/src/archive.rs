@@ -228,11 +228,11 @@ struct Lent {
 
 #[inline]
 fn lent(shape: Shape<'_>) -> Lent {
-    let numbers = shape.numbers();
+    let numbers = shape.corners.as_flattened();
     Lent {
         list: numbers.as_ptr(),
         n: numbers.len(),
-        floor: shape.floor(),
+        floor: shape.floor,
     }
 }
 

@@ -115,7 +115,7 @@ pub fn sum<'o>(a: Shape<'_>, b: Shape<'_>, out: &'o mut [[i32; 2]]) -> Result<Sh
 /// let square = Shape::new(&[[0, 0], [2, 0], [2, 2], [0, 2]], 1);
 /// let mut out = [[0; 2]; 5];
 /// let answer = merge(square, Shape::new(&[[5, 1]], 1), &mut out)?;
-/// assert_eq!(answer.corners(), [[0, 0], [2, 0], [5, 1], [2, 2], [0, 2]]);
+/// assert_eq!(answer.corners, [[0, 0], [2, 0], [5, 1], [2, 2], [0, 2]]);
 /// # Ok::<(), cocklesway::Refusal>(())
 /// ```
 #[inline]
@@ -164,7 +164,7 @@ pub fn grow<'o>(
 ///
 /// let points = Shape::new(&[[2, 2], [1, 0], [0, 2], [1, 1], [2, 2], [2, 0], [0, 0]], 1);
 /// let mut out = [[0; 2]; 8];
-/// assert_eq!(sweep(points, &mut out)?.corners(), [[0, 0], [2, 0], [2, 2], [0, 2]]);
+/// assert_eq!(sweep(points, &mut out)?.corners, [[0, 0], [2, 0], [2, 2], [0, 2]]);
 /// # Ok::<(), cocklesway::Refusal>(())
 /// ```
 #[inline]

@@ -12,29 +12,36 @@
 ///
 /// const SQUARE: Shape = Shape::new(&[[0, 0], [2, 0], [2, 2], [0, 2]], 3);
 /// assert_eq!(judge(SQUARE)?.count, 4);
+///
+/// let [x, y] = [4, 1];
+/// let point = Shape { corners: &[[x, y]], floor: 3 };
+/// assert_eq!(judge(point)?.count, 1);
 /// # Ok::<(), cocklesway::Refusal>(())
 /// ```
 #[derive(Clone, Copy, Debug, PartialEq, Eq, Hash)]
 pub struct Shape<'a> {
-    numbers: &'a [i32],
-    floor: u32,
+    /// x and y of each corner, in millimetres.
+    pub corners: &'a [[i32; 2]],
+    /// The floor. One above 65,535 is refused 13.
+    pub floor: u32,
 }
 
 impl<'a> Shape<'a> {
-    /// Lends corners, x and y of each in millimetres, on a floor. A floor above 65,535 is refused 13.
+    /// Lends corners, x and y of each in millimetres, on a floor.
     ///
     /// ```
     /// use cocklesway::Shape;
     ///
     /// let segment = Shape::new(&[[0, 0], [4, 0]], 7);
-    /// assert_eq!(segment.corners(), [[0, 0], [4, 0]]);
+    /// assert_eq!(segment.corners, [[0, 0], [4, 0]]);
     /// ```
+    #[inline]
     #[must_use]
     pub const fn new(corners: &'a [[i32; 2]], floor: u32) -> Shape<'a> {
-        Shape::of_numbers(corners.as_flattened(), floor)
+        Shape { corners, floor }
     }
 
-    /// Lends numbers, x and y by turns. An odd count of them is refused 1.
+    /// Lends numbers, x and y by turns. For an odd count of them the list is empty: both are refused 1.
     ///
     /// ```
     /// use cocklesway::{Refusal, Shape, Which, judge};
@@ -44,47 +51,12 @@ impl<'a> Shape<'a> {
     /// let odd = Shape::of_numbers(&[0, 0, 4], 7);
     /// assert_eq!(judge(odd), Err(Refusal::Count { shape: Which::First }));
     /// ```
+    #[inline]
     #[must_use]
     pub const fn of_numbers(numbers: &'a [i32], floor: u32) -> Shape<'a> {
-        Shape { numbers, floor }
-    }
-
-    /// Returns the corners. An odd last number is left out.
-    ///
-    /// ```
-    /// use cocklesway::{Shape, mirror};
-    ///
-    /// let mut out = [[0; 2]; 3];
-    /// let mirrored = mirror(Shape::new(&[[0, 0], [1, 0], [0, 1]], 0), &mut out)?;
-    /// assert_eq!(mirrored.corners(), [[0, -1], [0, 0], [-1, 0]]);
-    /// # Ok::<(), cocklesway::Refusal>(())
-    /// ```
-    #[must_use]
-    pub const fn corners(self) -> &'a [[i32; 2]] {
-        self.numbers.as_chunks().0
-    }
-
-    /// Returns the numbers, x and y by turns.
-    ///
-    /// ```
-    /// use cocklesway::Shape;
-    ///
-    /// assert_eq!(Shape::new(&[[0, 0], [4, 1]], 7).numbers(), [0, 0, 4, 1]);
-    /// ```
-    #[must_use]
-    pub const fn numbers(self) -> &'a [i32] {
-        self.numbers
-    }
-
-    /// Returns the floor.
-    ///
-    /// ```
-    /// use cocklesway::Shape;
-    ///
-    /// assert_eq!(Shape::new(&[[0, 0]], 7).floor(), 7);
-    /// ```
-    #[must_use]
-    pub const fn floor(self) -> u32 {
-        self.floor
+        match numbers.as_chunks() {
+            (corners, []) => Shape::new(corners, floor),
+            _ => Shape::new(&[], floor),
+        }
     }
 }

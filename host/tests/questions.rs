@@ -9,7 +9,7 @@ const SQUARE: Shape = on(2, &[[0, 0], [2, 0], [2, 2], [0, 2]]);
 const TRIANGLE: Shape = on(2, &[[0, 0], [1, 0], [0, 1]]);
 const RIGHT: Shape = on(2, &[[0, 0], [4, 0], [0, 3]]);
 const STAR: Shape = on(2, &[[0, 0], [5, 4], [-1, 4], [4, 0], [2, 6]]);
-const UPSTAIRS: Shape = on(3, SQUARE.corners());
+const UPSTAIRS: Shape = on(3, SQUARE.corners);
 
 const fn on(floor: u32, corners: &[[i32; 2]]) -> Shape<'_> {
     Shape::new(corners, floor)
@@ -58,10 +58,10 @@ fn shapes_are_written_to_the_front() {
     assert_eq!(grown, Ok(on(2, &corners)));
     let points = [[2, 2], [1, 0], [0, 2], [1, 1], [2, 2], [2, 0], [0, 0]];
     let swept = sweep(on(65_535, &points), &mut out);
-    assert_eq!(swept, Ok(on(65_535, SQUARE.corners())));
+    assert_eq!(swept, Ok(on(65_535, SQUARE.corners)));
     assert_eq!(out[4..], [[-1, 0], [7, 7]]);
     assert_eq!(sum(SQUARE, TRIANGLE, &mut out[..4]), Err(Refusal::Room));
-    assert_eq!(out[..4], *SQUARE.corners());
+    assert_eq!(out[..4], *SQUARE.corners);
 }
 
 #[test]

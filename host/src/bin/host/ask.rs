@@ -74,7 +74,7 @@ fn parts(mut fields: Fields) -> Answer {
     let (a, b) = (fields.list(), fields.list());
     let (a, b) = (a.shape(), b.shape());
     let mut walk = Walk::begin(a, b)?;
-    let mut line = format!("ok @{}", a.floor());
+    let mut line = format!("ok @{}", a.floor);
     for Call { k, room } in fields.calls() {
         line += " | ";
         match walk.part(a, b, k, &mut output(Some(room))) {
@@ -250,8 +250,8 @@ fn output(room: Option<usize>) -> Vec<[i32; 2]> {
 }
 
 fn written(shape: Shape<'_>) -> String {
-    let (count, floor) = (shape.corners().len(), shape.floor());
-    format!("ok {count} @{floor} |{}", numbers(shape.corners()))
+    let (count, floor) = (shape.corners.len(), shape.floor);
+    format!("ok {count} @{floor} |{}", numbers(shape.corners))
 }
 
 /// The numbers of corners, with a space before each.
