@@ -1,7 +1,5 @@
 //! Links the archive of the proved calls.
 use std::env;
-use std::fs;
-use std::os::unix::process::parent_id;
 use std::path::{Path, PathBuf};
 use std::process::ExitCode;
 
@@ -58,11 +56,21 @@ fn folder() -> PathBuf {
     }
 }
 
-/// Returns the folder that cargo was called from. Cargo, which is the parent process, runs build scripts in the
-/// folder of their package.
+/// Returns the folder that cargo was called from. Cargo runs build scripts in the folder of their package.
 fn called_from() -> PathBuf {
     println!("cargo::rerun-if-env-changed=PWD");
-    let parent = fs::read_link(format!("/proc/{}/cwd", parent_id())).ok();
     let shell = || env::var_os("PWD").map(PathBuf::from);
-    parent.or_else(shell).unwrap_or_default()
+    of_cargo().or_else(shell).unwrap_or_default()
+}
+
+/// Returns the folder of the parent process, which is cargo.
+#[cfg(unix)]
+fn of_cargo() -> Option<PathBuf> {
+    let parent = std::os::unix::process::parent_id();
+    std::fs::read_link(format!("/proc/{parent}/cwd")).ok()
+}
+
+#[cfg(not(unix))]
+fn of_cargo() -> Option<PathBuf> {
+    None
 }

@@ -55,22 +55,37 @@ fn an_archive_of_another_version_does_not_link() {
         eprintln!("passed over: there is no objcopy");
         return;
     }
-    let controller = controller(&older);
+    let program =
+        "fn main() {\n    assert!(cocklesway::bytes::judge(&[], 0).corners().is_err());\n}\n";
+    let controller = controller(&older, program);
     assert_eq!(cargo("build", "older", FOLDER, &controller, &[]), Ok(()));
     let older = older.to_str().expect("the path is text");
     let said = cargo("build", "older", older, &controller, &[]).expect_err("a symbol is missing");
     assert!(said.contains("cocklesway_version_2"), "{said}");
 }
 
+/// All questions, in a program that does not link if one of them can panic.
+#[test]
+fn no_question_needs_std_or_can_panic() {
+    let manifest = controller(
+        &place("without_std"),
+        include_str!("without_std/controller.rs"),
+    );
+    let built = cargo("build", "without_std", FOLDER, &manifest, &["--release"]);
+    assert_eq!(built, Ok(()));
+    let program = place("without_std").join("target/release/controller");
+    let status = Command::new(program).status().expect("the program runs");
+    assert_eq!(status.code(), Some(4));
+}
+
 /// Makes a package that depends on this one, and returns its manifest.
-fn controller(place: &Path) -> PathBuf {
+fn controller(place: &Path, program: &str) -> PathBuf {
     let here = env!("CARGO_MANIFEST_DIR");
     let manifest = format!(
         "[package]\nname = \"controller\"\nedition = \"2024\"\n\n[workspace]\n\n\
-         [dependencies]\ncocklesway = {{ path = {here:?} }}\n"
+         [dependencies]\ncocklesway = {{ path = {here:?} }}\n\n\
+         [profile.release]\nlto = true\npanic = \"abort\"\n"
     );
-    let program =
-        "fn main() {\n    assert!(cocklesway::bytes::judge(&[], 0).corners().is_err());\n}\n";
     fs::create_dir_all(place.join("src")).expect("the folder can be made");
     fs::write(place.join("src/main.rs"), program).expect("the folder can be written to");
     fs::write(place.join("Cargo.toml"), manifest).expect("the folder can be written to");
