@@ -4,7 +4,7 @@ use crate::logs;
 use crate::names;
 use crate::parts;
 use crate::readings;
-use crate::separating;
+use crate::separators;
 use crate::table::Measure;
 use crate::table::Question;
 use crate::table::Written;
