@@ -1,11 +1,13 @@
 //! Compares the answers of plain and proved questions, and the whole outputs that they leave.
 use crate::agree_bytes::{self, Compared};
 use crate::lists::{beside, floors, points, shape, spoilt};
+use crate::plain;
 use crate::plain::MOST;
 use crate::random::Random;
 use crate::reply::Numbers;
 use crate::shapes::List;
-use crate::{plain, proved};
+use cocklesway::{Shape, find, furthest, grow, inside, judge, length, merge};
+use cocklesway::{offer, relation, sum, sweep, width};
 use std::cmp::Ordering;
 use std::collections::BTreeSet;
 
@@ -62,6 +64,11 @@ const KINDS: [(&str, &str); 46] = [
 /// A list and its floor.
 type Lent<'a> = (&'a [i32], u16);
 
+/// The same as the package takes it.
+fn on((list, floor): Lent) -> Shape {
+    Shape::of_numbers(list, floor.into())
+}
+
 /// The answers that were compared: how many, and of which kinds.
 #[derive(Default)]
 struct Tally {
@@ -100,16 +107,22 @@ pub fn agree(seed: u64, answers: u64) -> Result<u64, String> {
 }
 
 /// The questions of one shape.
-fn ask_one(tally: &mut Tally, (a, f): Lent) -> Result<(), String> {
-    let of: [Lent; 2] = [(a, f), (&[], f)];
-    tally.add("judge", of, plain::judge(a, f), proved::judge(a, f))?;
+fn ask_one(tally: &mut Tally, lent: Lent) -> Result<(), String> {
+    let ((a, f), shape) = (lent, on(lent));
+    let of: [Lent; 2] = [lent, (&[], f)];
+    tally.add("judge", of, plain::judge(a, f), Numbers::of(judge(shape)))?;
     for d in directions(a).into_iter().flat_map(|d| [d, shortest(d)]) {
-        let by_hand = plain::furthest(a, f, d[0], d[1]).numbers();
-        let by_proof = proved::furthest(a, f, d[0], d[1]).numbers();
-        tally.add("furthest", [(a, f), (&d, f)], by_hand, by_proof)?;
+        let by_hand = plain::furthest(a, f, d[0], d[1]);
+        let by_proof = Numbers::of(furthest(shape, d));
+        tally.add("furthest", [lent, (&d, f)], by_hand, by_proof)?;
     }
-    tally.add("length", of, plain::length(a, f), proved::length(a, f))?;
-    tally.add("width", of, plain::width(a, f), proved::width(a, f))
+    tally.add(
+        "length",
+        of,
+        plain::length(a, f),
+        Numbers::of(length(shape)),
+    )?;
+    tally.add("width", of, plain::width(a, f), Numbers::of(width(shape)))
 }
 
 /// Out of the first edge and the last, back into the first, along it, and nowhere.
@@ -143,39 +156,42 @@ fn shortest(d: [i32; 2]) -> [i32; 2] {
 }
 
 /// The questions of two shapes that write nothing.
-fn ask_two(tally: &mut Tally, (a, f): Lent, (b, g): Lent) -> Result<(), String> {
-    tally.add(
-        "relation",
-        [(a, f), (b, g)],
-        plain::relation(a, f, b, g),
-        proved::relation(a, f, b, g),
-    )?;
-    tally.add(
-        "inside",
-        [(a, f), (b, g)],
-        plain::inside(a, f, b, g),
-        proved::inside(a, f, b, g),
-    )?;
-    ask_directions(tally, (a, f), (b, g))
+fn ask_two(tally: &mut Tally, a: Lent, b: Lent) -> Result<(), String> {
+    let by_hand = plain::relation(a.0, a.1, b.0, b.1);
+    let by_proof = Numbers::of(relation(on(a), on(b)));
+    tally.add("relation", [a, b], by_hand, by_proof)?;
+    let by_hand = plain::inside(a.0, a.1, b.0, b.1);
+    let by_proof = Numbers::of(inside(on(a), on(b)));
+    tally.add("inside", [a, b], by_hand, by_proof)?;
+    ask_directions(tally, a, b)
 }
 
 /// Directions of two shapes: which is found is left open, so each is offered.
-fn ask_directions(tally: &mut Tally, (a, f): Lent, (b, g): Lent) -> Result<(), String> {
-    let found = [plain::find(a, f, b, g), proved::find(a, f, b, g)];
-    let [by_hand, by_proof] = found.map(|found| found.numbers());
-    tally.add("find", [(a, f), (b, g)], by_hand, by_proof)?;
-    let [x, y] = found.map(|found| found.parts);
-    let any = directions(a);
-    for d in [x, y, any[0], shortest(any[0]), shortest(any[1])] {
-        let by_hand = plain::offer(a, f, b, g, d[0], d[1]);
-        let by_proof = proved::offer(a, f, b, g, d[0], d[1]);
-        tally.add("offer", [(a, f), (b, g)], by_hand, by_proof)?;
+fn ask_directions(tally: &mut Tally, a: Lent, b: Lent) -> Result<(), String> {
+    let by_hand = plain::find(a.0, a.1, b.0, b.1);
+    let by_proof = Numbers::of(find(on(a), on(b)));
+    let found = [by_hand.direction(), by_proof.direction()];
+    tally.add("find", [a, b], undirected(by_hand), undirected(by_proof))?;
+    let any = directions(a.0);
+    let others = [any[0], shortest(any[0]), shortest(any[1])];
+    for d in found.into_iter().flatten().chain(others) {
+        let by_hand = plain::offer(a.0, a.1, b.0, b.1, d[0], d[1]);
+        let by_proof = Numbers::of(offer(on(a), on(b), d));
+        tally.add("offer", [a, b], by_hand, by_proof)?;
         let accepted = by_hand.refusal == 0 && by_hand.values[0] == 1;
-        if found[0].values[0] == 1 && found[0].refusal == 0 && (d == x || d == y) && !accepted {
+        if found.contains(&Some(d)) && !accepted {
             return Err(format!("find of {a:?} and {b:?}: {d:?} is not accepted"));
         }
     }
     Ok(())
+}
+
+/// What is found, but for the direction.
+fn undirected(mut found: Numbers) -> Numbers {
+    if found.direction().is_some() {
+        found.values[1..3].fill(0);
+    }
+    found
 }
 
 /// A question that writes.
@@ -188,25 +204,30 @@ const PAIRED: [Written; 3] = [
     (
         "sum",
         |(a, f), (b, g), out| plain::sum(a, f, b, g, out),
-        |(a, f), (b, g), out| proved::sum(a, f, b, g, out),
+        |a, b, out| Numbers::of(sum(on(a), on(b), corners(out))),
     ),
     (
         "merge",
         |(a, f), (b, g), out| plain::merge(a, f, b, g, out),
-        |(a, f), (b, g), out| proved::merge(a, f, b, g, out),
+        |a, b, out| Numbers::of(merge(on(a), on(b), corners(out))),
     ),
     (
         "grow",
         |(a, f), (b, g), out| plain::grow(a, f, b, g, out),
-        |(a, f), (b, g), out| proved::grow(a, f, b, g, out),
+        |a, b, out| Numbers::of(grow(on(a), on(b), corners(out))),
     ),
 ];
+
+/// An output as the package takes it: a number that is left over holds no corner.
+fn corners(out: &mut [i32]) -> &mut [[i32; 2]] {
+    out.as_chunks_mut().0
+}
 
 /// A sweep has one list: the second is not read.
 const SWEPT: Written = (
     "sweep",
     |(points, f), _, out| plain::sweep(points, f, out),
-    |(points, f), _, out| proved::sweep(points, f, out),
+    |points, _, out| Numbers::of(sweep(on(points), corners(out))),
 );
 
 /// A question that writes, into an output of any room; then others of what was written, since its

@@ -1,7 +1,8 @@
 //! Compares the plain and the proved calls of a host: their numbers, and the whole outputs.
 use crate::random::Random;
 use crate::shapes::bytes_of;
-use crate::{plain, plain::MOST, proved};
+use crate::{plain, plain::MOST};
+use cocklesway::bytes;
 
 /// What must have been compared at least once: a call, and a refusal or a relation.
 pub const KINDS: [(&str, &str); 20] = [
@@ -40,12 +41,12 @@ const WRITTEN: [(&str, Writes, Writes); 2] = [
     (
         "sum_bytes",
         |(a, f), (b, g), out| plain::sum_bytes(a, f, b, g, out),
-        |(a, f), (b, g), out| proved::sum_bytes(a, f, b, g, out),
+        |(a, f), (b, g), out| bytes::sum(a, f, b, g, out).number(),
     ),
     (
         "merge_bytes",
         |(a, f), (b, g), out| plain::merge_bytes(a, f, b, g, out),
-        |(a, f), (b, g), out| proved::merge_bytes(a, f, b, g, out),
+        |(a, f), (b, g), out| bytes::merge(a, f, b, g, out).number(),
     ),
 ];
 
@@ -66,7 +67,7 @@ pub fn ask(
             "judge_bytes",
             [a, b],
             told,
-            proved::judge_bytes(list, floor),
+            bytes::judge(list, floor).number(),
         )?;
         compared.push(("judge_bytes", kind(told, false)));
     }
@@ -75,7 +76,7 @@ pub fn ask(
         "relation_bytes",
         [a, b],
         told,
-        proved::relation_bytes(a.0, f, b.0, g),
+        bytes::relation(a.0, f, b.0, g).number(),
     )?;
     compared.push(("relation_bytes", kind(told, true)));
     for (word, by_hand, by_proof) in WRITTEN {

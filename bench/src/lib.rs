@@ -1,11 +1,10 @@
-//! The proved questions beside plain ones: written by hand for speed, with the same checks and the
-//! same answers. `agree` compares what they answer, `table` how long they take.
+//! The proved questions, as the package `cocklesway` has them, beside plain ones: written by hand for speed, with the
+//! same checks and the same answers. `agree` compares what they answer, `table` how long they take.
 pub mod agree;
 mod agree_bytes;
 mod lists;
 mod pairs;
 pub mod plain;
-pub mod proved;
 mod random;
 pub mod reply;
 mod rows;

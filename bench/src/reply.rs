@@ -1,8 +1,10 @@
-//! Replies as numbers, as the archive gives them (`crates/exports/src/reply.rt`).
+//! Answers as numbers: those of the plain questions, and those of the package beside them.
+use cocklesway::{
+    Corners, Furthest, Inside, Length, Offer, Refusal, Separator, Shape, Standing, Width,
+};
 
-/// A refusal: its number, the shape that 1 to 5 blame or 15's place, and 4's edge and corner as the two
-/// first values. An answer: 0, 0 and its values, behind them the floor. What is not needed is 0.
-#[repr(C)]
+/// A refusal: its number, the shape that 1 to 5 blame, and 4's edge and corner as the two first values. An answer: 0,
+/// 0 and its values, after them the floor. What is not needed is 0; a value below 0 is its two's complement.
 #[derive(Clone, Copy, Debug, PartialEq, Eq)]
 pub struct Numbers {
     pub refusal: u64,
@@ -13,8 +15,8 @@ pub struct Numbers {
 impl Numbers {
     /// An answer of one value, on a floor.
     #[inline]
-    pub fn one(value: u64, floor: u16) -> Numbers {
-        Numbers::all([value, floor as u64, 0, 0, 0, 0])
+    pub fn one(value: u64, floor: impl Into<u64>) -> Numbers {
+        Numbers::all([value, floor.into(), 0, 0, 0, 0])
     }
 
     /// An answer, its floor among the values.
@@ -24,6 +26,15 @@ impl Numbers {
             refusal: 0,
             shape: 0,
             values,
+        }
+    }
+
+    /// A direction on a floor, or none.
+    #[inline]
+    pub fn found(direction: Option<[i32; 2]>, floor: impl Into<u64>) -> Numbers {
+        match direction {
+            Some([u, v]) => Numbers::all([1, u as u64, v as u64, floor.into(), 0, 0]),
+            None => Numbers::one(0, floor),
         }
     }
 
@@ -42,105 +53,85 @@ impl Numbers {
             values: [0; 6],
         }
     }
-}
 
-/// The same with a third value that may be below 0.
-#[repr(C)]
-#[derive(Clone, Copy, Debug, PartialEq, Eq)]
-pub struct Signed {
-    pub refusal: u64,
-    pub shape: u64,
-    pub values: [u64; 2],
-    pub value: i64,
-    pub floor: u16,
-}
-
-impl Signed {
-    /// A refusal that blames no shape.
-    #[inline]
-    pub fn refused(refusal: u64) -> Signed {
-        Signed {
-            refusal,
-            shape: 0,
-            values: [0; 2],
-            value: 0,
-            floor: 0,
+    /// The direction that was found.
+    pub fn direction(&self) -> Option<[i32; 2]> {
+        match (self.refusal, self.values) {
+            (0, [1, u, v, ..]) => Some([u as i32, v as i32]),
+            _ => None,
         }
     }
 
-    /// The same numbers, the third by its bits.
-    pub fn numbers(self) -> Numbers {
-        let [first, last] = self.values;
-        Numbers {
-            refusal: self.refusal,
-            shape: self.shape,
-            values: [first, last, self.value as u64, self.floor as u64, 0, 0],
-        }
+    /// An answer of the package.
+    pub fn of<T: Into<Numbers>>(answer: Result<T, Refusal>) -> Numbers {
+        answer.map_or_else(Numbers::from, T::into)
     }
 }
 
-/// The same for a direction: 1 if there is one, and its parts.
-#[repr(C)]
-#[derive(Clone, Copy, Debug, PartialEq, Eq)]
-pub struct Direction {
-    pub refusal: u64,
-    pub shape: u64,
-    pub values: [u64; 2],
-    pub parts: [i32; 2],
-    pub floor: u16,
-}
-
-impl Direction {
-    /// A direction on a floor, or none.
-    #[inline]
-    pub fn found(parts: Option<[i32; 2]>, floor: u16) -> Direction {
-        Direction {
-            refusal: 0,
-            shape: 0,
-            values: [parts.is_some() as u64, 0],
-            parts: parts.unwrap_or([0; 2]),
-            floor,
+impl From<Refusal> for Numbers {
+    fn from(refusal: Refusal) -> Numbers {
+        let shape = refusal.shape().map_or(0, |shape| 1 + shape as u64);
+        let mut numbers = Numbers::blamed(refusal.number(), shape);
+        if let Refusal::Side { edge, corner, .. } = refusal {
+            numbers.values[0] = edge as u64;
+            numbers.values[1] = corner as u64;
         }
-    }
-
-    /// A refusal.
-    #[inline]
-    pub fn refused(refusal: Numbers) -> Direction {
-        Direction {
-            refusal: refusal.refusal,
-            shape: refusal.shape,
-            values: [refusal.values[0], refusal.values[1]],
-            parts: [0; 2],
-            floor: 0,
-        }
-    }
-
-    /// All but the parts.
-    pub fn numbers(self) -> Numbers {
-        let [first, second] = self.values;
-        Numbers {
-            refusal: self.refusal,
-            shape: self.shape,
-            values: [first, second, self.floor as u64, 0, 0, 0],
-        }
+        numbers
     }
 }
 
-/// The same for a clearance: its kind, two positions, at most three numbers, and the floor.
-#[repr(C)]
-#[derive(Clone, Copy, Debug, PartialEq, Eq)]
-pub struct Nearest {
-    pub refusal: u64,
-    pub shape: u64,
-    pub values: [u64; 7],
+impl From<Corners> for Numbers {
+    fn from(r: Corners) -> Numbers {
+        Numbers::one(r.count as u64, r.floor)
+    }
 }
 
-/// The same for four lines.
-#[repr(C)]
-#[derive(Clone, Copy, Debug, PartialEq, Eq)]
-pub struct Lines {
-    pub refusal: u64,
-    pub shape: u64,
-    pub positions: [u64; 8],
-    pub floor: u16,
+impl From<Shape<'_>> for Numbers {
+    fn from(r: Shape<'_>) -> Numbers {
+        Numbers::one(r.corners.len() as u64, r.floor)
+    }
+}
+
+impl From<Furthest> for Numbers {
+    fn from(r: Furthest) -> Numbers {
+        let (first, last) = (r.first as u64, r.last as u64);
+        Numbers::all([first, last, r.value as u64, r.floor.into(), 0, 0])
+    }
+}
+
+impl From<Length> for Numbers {
+    fn from(r: Length) -> Numbers {
+        Numbers::all([r.squared, r.from as u64, r.to as u64, r.floor.into(), 0, 0])
+    }
+}
+
+impl From<Width> for Numbers {
+    fn from(r: Width) -> Numbers {
+        let (edge, corner) = (r.edge as u64, r.corner as u64);
+        Numbers::all([edge, corner, r.turn, r.squared, r.rounded, r.floor.into()])
+    }
+}
+
+impl From<Standing> for Numbers {
+    fn from(r: Standing) -> Numbers {
+        Numbers::one(r.relation as u64, r.floor)
+    }
+}
+
+impl From<Inside> for Numbers {
+    fn from(r: Inside) -> Numbers {
+        Numbers::one(r.within as u64, r.floor)
+    }
+}
+
+impl From<Offer> for Numbers {
+    fn from(r: Offer) -> Numbers {
+        Numbers::one(r.accepted as u64, r.floor)
+    }
+}
+
+impl From<Separator> for Numbers {
+    fn from(r: Separator) -> Numbers {
+        Numbers::found(r.direction, r.floor)
+    }
 }

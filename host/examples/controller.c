@@ -1,54 +1,58 @@
-/* A controller in C: sums two shapes on floor 3, shows the corners, and asks what a refusal says.
+/* A controller in C: where may a cart stand beside a bed, how near may it come, and what does a refusal say?
  *
- *     cc -O2 -Iinclude examples/controller.c ../target/staticlib/libabi.a -o controller
+ *     cc -std=c11 -Wall -Wextra examples/controller.c $(PKG_CONFIG_PATH=. pkg-config --cflags --libs cocklesway)
  */
 #include "cocklesway.h"
+#include <inttypes.h>
 #include <stdio.h>
 
-static const uint8_t square[] = {
-    0, 0, 0, 0, 0, 0, 0, 0, /* 0 0 */
-    2, 0, 0, 0, 0, 0, 0, 0, /* 2 0 */
-    2, 0, 0, 0, 2, 0, 0, 0, /* 2 2 */
-    0, 0, 0, 0, 2, 0, 0, 0, /* 0 2 */
-};
+#define FLOOR 3
+#define COUNT(list) (sizeof(list) / sizeof *(list))
 
-static const uint8_t segment[] = {
-    0, 0, 0, 0, 255, 255, 255, 255, /* 0 -1 */
-    1, 0, 0, 0, 0,   0,   0,   0,   /* 1 0 */
-};
+static const int32_t bed[] = {-1000, -450, 1000, -450, 1000, 450, -1000, 450};
+static const int32_t cart[] = {-200, -250, 300, -250, 500, 0, 300, 250, -200, 250};
+static const int32_t place[] = {-1550, 0};
+static const int32_t clockwise[] = {0, 2, 2, 2, 2, 0, 0, 0};
 
-static int32_t number_at(const uint8_t *p) {
-    return (int32_t)(p[0] | (uint32_t)p[1] << 8 | (uint32_t)p[2] << 16 | (uint32_t)p[3] << 24);
+static int refused(const char *question, cocklesway_reply reply) {
+    if (reply.number == 0) {
+        return 0;
+    }
+    printf("%s: refused %" PRIu64 ", %s\n", question, reply.number, cocklesway_refusal_text(reply.number));
+    return 1;
 }
 
 int main(void) {
-    uint8_t out[COCKLESWAY_MOST_BYTES];
-    uint64_t sum = cocklesway_sum_bytes(square, sizeof square, 3, segment, sizeof segment, 3, out, sizeof out);
-    if (cocklesway_refusal(sum) != 0) {
-        printf("refused %u\n", cocklesway_refusal(sum));
+    int32_t grown[COCKLESWAY_MOST_NUMBERS];
+    cocklesway_reply grow =
+        cocklesway_grow(bed, COUNT(bed), FLOOR, cart, COUNT(cart), FLOOR, grown, COUNT(grown));
+    if (refused("grow", grow)) {
         return 1;
     }
-    printf("%u corners on floor %u:", cocklesway_count(sum), cocklesway_floor(sum));
-    for (unsigned i = 0; i < cocklesway_count(sum); i++) {
-        printf(" %d %d", (int)number_at(out + 8 * i), (int)number_at(out + 8 * i + 4));
+    size_t numbers = 2 * (size_t)grow.values[0];
+    printf("grown bed on floor %" PRIu64 ":", grow.values[1]);
+    for (size_t i = 0; i < numbers; i++) {
+        printf(" %" PRId32, grown[i]);
     }
     printf("\n");
 
-    uint64_t merged = cocklesway_merge_bytes(square, sizeof square, 3, segment, sizeof segment, 4, out, sizeof out);
-    printf("merge on two floors: refused %u\n", cocklesway_refusal(merged));
-
-    uint64_t stands = cocklesway_relation_bytes(square, sizeof square, 3, segment, sizeof segment, 3);
-    printf("relation: %s\n", cocklesway_count(stands) == COCKLESWAY_TOUCHING ? "touching" : "otherwise");
-
-    uint64_t twice = cocklesway_judge_bytes(square, 3 * 8 + 1, 0);
-    printf("judge of 25 bytes: refused %u, shape %u\n", cocklesway_refusal(twice), cocklesway_shape(twice));
-
-    uint8_t turned[sizeof square];
-    for (unsigned i = 0; i < sizeof square; i++) {
-        turned[i] = square[(4 - 1 - i / 8) * 8 + i % 8];
+    cocklesway_reply relation = cocklesway_relation(place, COUNT(place), FLOOR, grown, numbers, FLOOR);
+    if (refused("relation", relation)) {
+        return 1;
     }
-    uint64_t judged = cocklesway_judge_bytes(turned, sizeof turned, 0);
-    printf("judge of a clockwise list: refused %u, edge %u, corner %u\n", cocklesway_refusal(judged),
-           cocklesway_edge(judged), cocklesway_corner(judged));
+    printf("the cart may stand there: %s\n", relation.values[0] == COCKLESWAY_APART ? "yes" : "no");
+
+    cocklesway_reply clearance = cocklesway_clearance(place, COUNT(place), FLOOR, grown, numbers, FLOOR);
+    if (!refused("clearance", clearance) && clearance.values[0] == COCKLESWAY_CORNER_EDGE) {
+        printf("%" PRIu64 " mm from edge %" PRIu64 "\n", clearance.values[5], clearance.values[2]);
+    }
+
+    cocklesway_reply furthest = cocklesway_furthest(place, COUNT(place), FLOOR, 1, 0);
+    printf("furthest to the right: %" PRId64 "\n", cocklesway_signed(furthest.values[2]));
+
+    refused("merge", cocklesway_merge(bed, COUNT(bed), FLOOR, cart, COUNT(cart), 4, grown, COUNT(grown)));
+    cocklesway_reply judge = cocklesway_judge(clockwise, COUNT(clockwise), FLOOR);
+    refused("judge", judge);
+    printf("edge %" PRIu64 ", corner %" PRIu64 "\n", judge.carried[1], judge.carried[2]);
     return 0;
 }

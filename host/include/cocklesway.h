@@ -1,34 +1,20 @@
-/* Exact convex shapes on whole numbers: judge, sum, merge and relation over plain bytes.
+/* Exact geometry of convex shapes for delivery carts, in whole millimetres on flat floors.
  *
- * A list of corners is lent as bytes and their count: x and y of each corner, four bytes to a number,
- * two's complement, the lowest byte first, at any alignment. It is a shape if it has 1 to 1,024 corners, all
- * within 1,000,000 of 0 along both axes, counterclockwise, each strictly to the left of every edge that
- * it is no end of, the lowest corner first and of several lowest the leftmost.
+ * A list of corners is lent as a pointer and a count of numbers, x and y by turns, with the floor that it is on. It is
+ * a shape if it has 1 to 1,024 corners, all within 1,000,000 of 0 along both axes, counterclockwise, each strictly to
+ * the left of every edge that it is no end of, the lowest corner first and of several lowest the leftmost. One corner
+ * is a point, and two different ones are a segment. Any list may be lent: each call judges its lists first.
  *
- * Each call answers one number, from its low end:
- *     a byte      the refusal, or 0
- *     a byte      the shape that refusals 1 to 5 blame, 1 or 2, or 0
- *     two bytes   4's edge; when answered the count of corners, or a relation
- *     two bytes   4's corner; when answered the floor
- *     the rest    0
+ * A call that writes does so at the front of its output; the rest of the output is kept. On refusal nothing is
+ * written. The output overlaps no list. A list may be lent twice. A pointer is not followed if its count is 0.
+ * No call allocates or keeps anything, so several may run at a time.
  *
- * Refusals, in the order in which they are given: 1 to 5 of the first list, then of the second, 13, 6, 7, 8.
- *      1   no bytes, or a count that is no multiple of eight
- *      2   more than 1,024 corners
- *      3   a coordinate out of range
- *      4   a corner that is not strictly left of an edge: the first such edge and its first such corner
- *      5   the first corner is not the lowest, or not the leftmost of those
- *     13   the floors differ, or one is above 65,535
- *      6   the answer would have more than 1,024 corners
- *      7   the answer would be out of range
- *      8   the output has fewer than eight bytes to a corner of the answer
- *
- * Link target/staticlib/libabi.a, which `rt staticlib abi` writes. No call allocates or keeps anything, so
- * several may run at a time. A list may be lent twice; a pointer is not followed if its count is 0.
+ * Link libcocklesway.a, which .ci/archive makes: pkg-config --cflags --libs cocklesway. It is for x86-64 Linux.
  */
 #ifndef COCKLESWAY_H
 #define COCKLESWAY_H
 
+#include <stdbool.h>
 #include <stddef.h>
 #include <stdint.h>
 
@@ -36,45 +22,189 @@
 extern "C" {
 #endif
 
-/* So many bytes hold any answer. */
+/* The version of the calls. The name of cocklesway_version_2 carries it: a program that includes this header does not
+ * link with an archive of another version. */
+#define COCKLESWAY_VERSION 2
+uint64_t cocklesway_version_2(void);
+#if defined(__GNUC__)
+__attribute__((used)) static uint64_t (*const cocklesway_linked_version)(void) = cocklesway_version_2;
+#endif
+
+/* The limits of the library. */
+typedef struct {
+    uint64_t corners;    /* corners of a shape */
+    uint64_t points;     /* points of a sweep */
+    uint64_t coordinate; /* size of a coordinate, in millimetres */
+    uint64_t part;       /* size of a part of a direction */
+    uint64_t floor;      /* the highest floor */
+} cocklesway_limit;
+cocklesway_limit cocklesway_limits(void);
+
+/* An output of so many numbers, or bytes, holds every answer: two numbers for each of cocklesway_limits().corners. */
+#define COCKLESWAY_MOST_NUMBERS 2048
 #define COCKLESWAY_MOST_BYTES 8192
 
-/* Answers of a relation. */
+/* What a call answers.
+ *     number    0 if answered, else the refusal's number
+ *     carried   what a refusal carries: 1 to 5 the list that is blamed, 1 or 2; 4 also an edge and a corner; 15 the
+ *               byte that a record begins at; 17, 18 and 3 of cocklesway_tablet 1 for x or 2 for y
+ *     count     how many of values are meant, or, if refused, of carried; the others are 0
+ *     values    the answer's values, the floor last; one below 0 by its two's complement (cocklesway_signed)
+ * Positions count from 0. */
+typedef struct {
+    uint64_t number;
+    uint64_t carried[3];
+    uint64_t count;
+    uint64_t values[9];
+} cocklesway_reply;
+
+/* A value that may be below 0. */
+static inline int64_t cocklesway_signed(uint64_t value) {
+    return value <= INT64_MAX ? (int64_t)value : -(int64_t)(UINT64_MAX - value) - 1;
+}
+
+/* The refusals in words. They are given in this order: 1 to 5 of the first list, then of the second, 13, then 9 to 12
+ * and 14, then 6, 7, 8. */
+static inline const char *cocklesway_refusal_text(uint64_t number) {
+    switch (number) {
+    case 0: return "answered";
+    case 1: return "a list is empty, or its last corner is not whole";
+    case 2: return "a list has too many corners or points";
+    case 3: return "a coordinate is out of range";
+    case 4: return "a list has two equal corners, or a corner that is not strictly left of an edge";
+    case 5: return "a list does not begin at the leftmost of its lowest corners";
+    case 6: return "the answer would have too many corners";
+    case 7: return "the answer would have a coordinate out of range";
+    case 8: return "the output is too small for the answer";
+    case 9: return "the shapes are not apart, so no lines just touch both";
+    case 10: return "a point or a segment has no width";
+    case 11: return "the direction is 0 0, or a part of it is out of range";
+    case 12: return "the parts of the direction have a common divisor above 1";
+    case 13: return "the floors differ, or one is above the highest";
+    case 14: return "the walk is at no place of the sum of these shapes";
+    case 15: return "a record is of an unknown kind or a wrong length, or its corners are no shape";
+    case 16: return "there is too little room after the last whole record of the log";
+    case 17: return "a reading is not finite";
+    case 18: return "a reading is no whole number of millimetres";
+    case 19: return "no record of the log has the name";
+    default: return "this header does not know the number";
+    }
+}
+
+/* Values: how many corners, floor. Refused 1 to 5, 13. */
+cocklesway_reply cocklesway_judge(const int32_t *list, size_t n, uint32_t floor);
+
+/* The corners that are furthest in the direction u v, the first and the last counterclockwise, which are one or two
+ * neighbours. Values: first, last, u*x + v*y (may be below 0), floor. Refused 1 to 5, 13, 11, 12. */
+cocklesway_reply cocklesway_furthest(const int32_t *list, size_t n, uint32_t floor, int32_t u, int32_t v);
+
+/* Writes the shape of all (-x, -y). Values: how many corners, floor. Refused 1 to 5, 13, 8. */
+cocklesway_reply cocklesway_mirror(const int32_t *list, size_t n, uint32_t floor, int32_t *out, size_t room);
+
+/* Writes the shape of all corner-plus-corner points. Values: how many corners, floor. Refused 1 to 5, 13, 6, 7, 8. */
+cocklesway_reply cocklesway_sum(const int32_t *a, size_t n, uint32_t f, const int32_t *b, size_t m, uint32_t g,
+                                int32_t *out, size_t room);
+
+/* Writes the shape of both corner lists together. Values: how many corners, floor. Refused 1 to 5, 13, 6, 8. */
+cocklesway_reply cocklesway_merge(const int32_t *a, size_t n, uint32_t f, const int32_t *b, size_t m, uint32_t g,
+                                  int32_t *out, size_t room);
+
+/* Writes the shape of all obstacle-corner minus cart-corner points: a cart at a place stands to the obstacle as the
+ * place stands to this shape. Values: how many corners, floor. Refused 1 to 5, 13, 6, 7, 8. */
+cocklesway_reply cocklesway_grow(const int32_t *obstacle, size_t n, uint32_t f, const int32_t *cart, size_t m,
+                                 uint32_t g, int32_t *out, size_t room);
+
+/* Writes the shape of a set of points, which may be in any order, repeated, and in line. Values: how many corners,
+ * floor. Refused 1 to 3, 13, 8. */
+cocklesway_reply cocklesway_sweep(const int32_t *list, size_t n, uint32_t floor, int32_t *out, size_t room);
+
+/* The walk for the first part of a sum. Values: edges passed of the first shape, of the second, 1 if over, floor.
+ * Refused 1 to 5, 13, 6, 7. */
+cocklesway_reply cocklesway_begin(const int32_t *a, size_t n, uint32_t f, const int32_t *b, size_t m, uint32_t g);
+
+/* Writes the next corners of a sum after a walk, k or what remains, whichever is less. Values: how many corners; the
+ * walk for the next part: edges passed of the first shape, of the second, 1 if over; floor. Refused 1 to 5, 13, 14, 6
+ * and 7 of the whole sum, 8 of these corners. */
+cocklesway_reply cocklesway_part(const int32_t *a, size_t n, uint32_t f, const int32_t *b, size_t m, uint32_t g,
+                                 size_t first, size_t second, bool over, size_t k, int32_t *out, size_t room);
+
+/* Values: the greatest squared distance of two corners, their positions, floor. Refused 1 to 5, 13. */
+cocklesway_reply cocklesway_length(const int32_t *list, size_t n, uint32_t floor);
+
+/* Where the shape is narrowest. Values: edge, corner, the turn t of the corner against the edge, the edge's squared
+ * length q, the width t/sqrt(q) rounded down, floor. Refused 1 to 5, 13, 10. */
+cocklesway_reply cocklesway_width(const int32_t *list, size_t n, uint32_t floor);
+
+/* The first value of a relation. */
 #define COCKLESWAY_APART 0
 #define COCKLESWAY_TOUCHING 1
 #define COCKLESWAY_OVERLAPPING 2
 
-/* Whether the list is a shape, and how many corners it has. Refused: 1 to 5, 13. */
-uint64_t cocklesway_judge_bytes(const uint8_t *list, size_t list_len, uint32_t floor);
+/* Values: apart, touching or overlapping; floor. Refused 1 to 5, 13. */
+cocklesway_reply cocklesway_relation(const int32_t *a, size_t n, uint32_t f, const int32_t *b, size_t m, uint32_t g);
 
-/* Writes the shape of all corner-plus-corner points at the front of the output and answers how many corners
- * it has; all bytes behind them stay, and on refusal all. The output overlaps neither list. */
-uint64_t cocklesway_sum_bytes(const uint8_t *a, size_t a_len, uint32_t f,
-                              const uint8_t *b, size_t b_len, uint32_t g,
-                              uint8_t *out, size_t out_len);
+/* Values: 1 if the first shape is inside the second, else 0; floor. Refused 1 to 5, 13. */
+cocklesway_reply cocklesway_inside(const int32_t *a, size_t n, uint32_t f, const int32_t *b, size_t m, uint32_t g);
 
-/* The same for the shape of both corner lists taken together. Never refused 7. */
-uint64_t cocklesway_merge_bytes(const uint8_t *a, size_t a_len, uint32_t f,
-                                const uint8_t *b, size_t b_len, uint32_t g,
-                                uint8_t *out, size_t out_len);
+/* Values: 1 if every corner of the first has a strictly lesser u*x + v*y than every corner of the second, which sets
+ * the shapes apart, else 0; floor. Refused 1 to 5, 13, 11, 12. */
+cocklesway_reply cocklesway_offer(const int32_t *a, size_t n, uint32_t f, const int32_t *b, size_t m, uint32_t g,
+                                  int32_t u, int32_t v);
 
-/* Whether the shapes are apart, touching or overlapping. Refused: 1 to 5 of each, 13. */
-uint64_t cocklesway_relation_bytes(const uint8_t *a, size_t a_len, uint32_t f,
-                                   const uint8_t *b, size_t b_len, uint32_t g);
+/* A direction that is accepted if it is offered. Values: 1, u, v (may be below 0), floor; or 0, floor if the shapes
+ * are not apart. Refused 1 to 5, 13. */
+cocklesway_reply cocklesway_find(const int32_t *a, size_t n, uint32_t f, const int32_t *b, size_t m, uint32_t g);
 
-/* The refusal of a call's number, or 0. */
+/* The first value of a clearance. */
+#define COCKLESWAY_NOT_APART 0
+#define COCKLESWAY_CORNERS 1
+#define COCKLESWAY_CORNER_EDGE 2
+#define COCKLESWAY_EDGE_CORNER 3
+
+/* Where the shapes are nearest, and how near. Values:
+ *     COCKLESWAY_NOT_APART, floor
+ *     COCKLESWAY_CORNERS, corner of the first, of the second, squared distance, distance rounded down, floor
+ *     COCKLESWAY_CORNER_EDGE, corner of the first, edge of the second, t, q, t/sqrt(q) rounded down, floor
+ *     COCKLESWAY_EDGE_CORNER, corner of the second, edge of the first, t, q, t/sqrt(q) rounded down, floor
+ * t is the size of the corner's turn against the edge, q the edge's squared length. Refused 1 to 5, 13. */
+cocklesway_reply cocklesway_clearance(const int32_t *a, size_t n, uint32_t f, const int32_t *b, size_t m, uint32_t g);
+
+/* The four lines that just touch both shapes: both on its left; both on its right; the first left and the second
+ * right; the reverse. Values: of each its corner in the first and in the second; floor. Refused 1 to 5, 13, 9. */
+cocklesway_reply cocklesway_tangents(const int32_t *a, size_t n, uint32_t f, const int32_t *b, size_t m, uint32_t g);
+
+/* The corner of two readings, each in millimetres or in eighths of one. Values: x, y (may be below 0); no floor.
+ * Refused 17, 18 or 3 of x, then of y. */
+cocklesway_reply cocklesway_tablet(bool x_eighths, double x, bool y_eighths, double y);
+
+/* Writes the latest shape of a name in a log. Values: how many corners, floor. Refused 15, 19, 8. */
+cocklesway_reply cocklesway_log_read(const uint8_t *log, size_t count, uint16_t name, int32_t *out, size_t room);
+
+/* Adds a shape to a log with at most so many stores of single bytes. Values: 1 if they sufficed, else 0; no floor.
+ * Refused 1 to 5, 13, 15, 16. */
+cocklesway_reply cocklesway_log_add(uint8_t *log, size_t count, uint16_t name, uint32_t floor, const int32_t *list,
+                                    size_t n, size_t allowed);
+
+/* Four calls on bytes: x and y of each corner, four bytes to a number, two's complement, the lowest byte first, at any
+ * alignment. An output needs eight bytes to a corner. Each answers one number, from its low end:
+ *     a byte      the refusal, or 0
+ *     a byte      the list that refusals 1 to 5 blame, 1 or 2, or 0
+ *     two bytes   4's edge; when answered the count of corners, or a relation
+ *     two bytes   4's corner; when answered the floor
+ *     the rest    0 */
+uint64_t cocklesway_judge_bytes(const uint8_t *list, size_t n, uint32_t floor);
+uint64_t cocklesway_sum_bytes(const uint8_t *a, size_t n, uint32_t f, const uint8_t *b, size_t m, uint32_t g,
+                              uint8_t *out, size_t room);
+uint64_t cocklesway_merge_bytes(const uint8_t *a, size_t n, uint32_t f, const uint8_t *b, size_t m, uint32_t g,
+                                uint8_t *out, size_t room);
+uint64_t cocklesway_relation_bytes(const uint8_t *a, size_t n, uint32_t f, const uint8_t *b, size_t m, uint32_t g);
+
+/* The fields of such a number: the refusal, and the list that it blames; of an answer the count or relation, and the
+ * floor; of refusal 4 the edge and the corner. */
 static inline unsigned cocklesway_refusal(uint64_t answer) { return answer & 0xFF; }
-
-/* The shape that refusals 1 to 5 blame, or 0. */
 static inline unsigned cocklesway_shape(uint64_t answer) { return answer >> 8 & 0xFF; }
-
-/* Of an answer: the count of corners, or the relation. */
 static inline unsigned cocklesway_count(uint64_t answer) { return answer >> 16 & 0xFFFF; }
-
-/* Of an answer: the floor. */
 static inline unsigned cocklesway_floor(uint64_t answer) { return answer >> 32 & 0xFFFF; }
-
-/* Of refusal 4: the positions of the edge and the corner. */
 static inline unsigned cocklesway_edge(uint64_t answer) { return answer >> 16 & 0xFFFF; }
 static inline unsigned cocklesway_corner(uint64_t answer) { return answer >> 32 & 0xFFFF; }
 

@@ -199,7 +199,7 @@ pub fn host_relation(given: &Given) -> String {
 }
 
 /// The number of a call, and behind a bar what it wrote, if it was answered.
-fn with_output(given: &Given, call: fn(&[u8], u32, &[u8], u32, &mut [u8]) -> u64) -> String {
+fn with_output(given: &Given, call: host::Writes) -> String {
     let ([a, b], [f, g]) = (given.bytes(), given.floors());
     let mut out = vec![0; given.output()];
     let told = call(a, f, b, g, &mut out);

@@ -8,6 +8,9 @@ use crate::separation::{self, Relation};
 
 pub const MOST_FLOOR: u32 = 65_535;
 
+/// A call that writes.
+pub type Writes = fn(&[u8], u32, &[u8], u32, &mut [u8]) -> u64;
+
 pub fn judge(list: &[u8], floor: u32) -> u64 {
     packed(shape(list, 1).and_then(|a| Ok((a.len(), one_floor(&[floor])?))))
 }

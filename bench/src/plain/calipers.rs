@@ -21,9 +21,10 @@ pub struct Met {
 #[inline(always)]
 pub fn calipers(corners: &[Corner], mut meet: impl FnMut(Met)) {
     let n = corners.len();
-    // SAFETY: it is asked for positions below n, and the one after such a position is so too.
-    let between =
-        |i: usize, j: usize| unsafe { edge(*corners.get_unchecked(i), *corners.get_unchecked(j)) };
+    let between = |i: usize, j: usize| {
+        // SAFETY: it is asked for positions below n, and the one after such a position is so too.
+        unsafe { edge(*corners.get_unchecked(i), *corners.get_unchecked(j)) }
+    };
     let mut far = 1;
     let mut beyond = between(1, 2);
     for from in 0..n {

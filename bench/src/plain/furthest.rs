@@ -2,30 +2,24 @@
 use super::corner::Corner;
 use super::direction;
 use super::judge::admitted;
-use crate::reply::Signed;
+use crate::reply::Numbers;
 
 /// The first and the last of the furthest corners, counterclockwise, and their value.
 #[inline(never)]
-pub fn furthest(list: &[i32], floor: u16, u: i32, v: i32) -> Signed {
+pub fn furthest(list: &[i32], floor: u16, u: i32, v: i32) -> Numbers {
     match admitted(list, 1) {
         Ok(shape) => match direction::refused(u, v) {
-            Some(number) => Signed::refused(number),
+            Some(number) => Numbers::refused(number),
             None => face(shape.corners, [u, v], floor),
         },
-        Err(refusal) => Signed {
-            refusal: refusal.refusal,
-            shape: refusal.shape,
-            values: [refusal.values[0], refusal.values[1]],
-            value: 0,
-            floor: 0,
-        },
+        Err(refusal) => refusal,
     }
 }
 
 /// The corners with the greatest value are one or two neighbours. A segment across the direction is
 /// 0 and 1.
 #[inline(always)]
-fn face(corners: &[Corner], d: Corner, floor: u16) -> Signed {
+fn face(corners: &[Corner], d: Corner, floor: u16) -> Numbers {
     let value = |c: Corner| d[0] as i64 * c[0] as i64 + d[1] as i64 * c[1] as i64;
     let (mut here, mut greatest) = (0, value(corners[0]));
     for (i, &corner) in corners.iter().enumerate().skip(1) {
@@ -42,11 +36,12 @@ fn face(corners: &[Corner], d: Corner, floor: u16) -> Signed {
     } else {
         (here, here)
     };
-    Signed {
-        refusal: 0,
-        shape: 0,
-        values: [first as u64, last as u64],
-        value: greatest,
-        floor,
-    }
+    Numbers::all([
+        first as u64,
+        last as u64,
+        greatest as u64,
+        floor as u64,
+        0,
+        0,
+    ])
 }

@@ -3,7 +3,7 @@ use super::corner::Corner;
 use super::differences::{Origin, meet};
 use super::direction;
 use super::judge::{Shape, admitted_pair};
-use crate::reply::{Direction, Numbers};
+use crate::reply::Numbers;
 
 /// 1 if every corner of the first is strictly below every corner of the second, else 0.
 #[inline(never)]
@@ -27,10 +27,10 @@ fn below(a: &[Corner], b: &[Corner], d: Corner) -> bool {
 
 /// A direction that is accepted if it is offered, or that there is none.
 #[inline(never)]
-pub fn find(a: &[i32], f: u16, b: &[i32], g: u16) -> Direction {
+pub fn find(a: &[i32], f: u16, b: &[i32], g: u16) -> Numbers {
     match admitted_pair(a, f, b, g) {
-        Ok((a, b)) => Direction::found(away(a, b).map(shortest), f),
-        Err(refusal) => Direction::refused(refusal),
+        Ok((a, b)) => Numbers::found(away(a, b).map(shortest), f),
+        Err(refusal) => refusal,
     }
 }
 

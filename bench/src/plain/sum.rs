@@ -23,8 +23,8 @@ pub fn sum(a: &[i32], f: u16, b: &[i32], g: u16, out: &mut [i32]) -> Numbers {
 #[inline(always)]
 pub fn walk(a: &[Corner], b: &[Corner], answer: &mut Buffer) {
     let (mut a, mut b) = (Edges::of(a, 0), Edges::of(b, 0));
-    // SAFETY of the pushes: one for each edge of either shape at most, or one for two points.
     while a.more() && b.more() {
+        // SAFETY: there is at most one push for each edge of either shape.
         unsafe { answer.push(plus(a.corner, b.corner)) };
         let turn = cross(a.edge, b.edge);
         if turn >= 0 {
@@ -35,14 +35,17 @@ pub fn walk(a: &[Corner], b: &[Corner], answer: &mut Buffer) {
         }
     }
     while a.more() {
+        // SAFETY: as above.
         unsafe { answer.push(plus(a.corner, b.corner)) };
         a.step();
     }
     while b.more() {
+        // SAFETY: as above.
         unsafe { answer.push(plus(a.corner, b.corner)) };
         b.step();
     }
     if answer.len() == 0 {
+        // SAFETY: it is the only one.
         unsafe { answer.push(plus(a.corner, b.corner)) };
     }
 }

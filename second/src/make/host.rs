@@ -4,12 +4,10 @@
 use super::dice::Dice;
 use super::fields::two_lists;
 use super::{List, fields, logs, pairs};
-use crate::host::{self, MOST_FLOOR};
+use crate::host::{self, MOST_FLOOR, Writes};
 use crate::plane::Shape;
 use crate::refusal::MOST_CORNERS;
 use crate::text::fields::MOST_OUTPUT;
-
-type Call = fn(&[u8], u32, &[u8], u32, &mut [u8]) -> u64;
 
 pub fn judge(dice: &mut Dice) -> Vec<String> {
     let lists = fields::one_to_judge(dice);
@@ -29,7 +27,11 @@ pub fn merge(dice: &mut Dice) -> Vec<String> {
     with_output(dice, pairs::for_merge, host::merge)
 }
 
-fn with_output(dice: &mut Dice, pair: fn(&mut Dice) -> (Shape, Shape), call: Call) -> Vec<String> {
+fn with_output(
+    dice: &mut Dice,
+    pair: fn(&mut Dice) -> (Shape, Shape),
+    call: Writes,
+) -> Vec<String> {
     let lists = two_lists(dice, pair);
     let (mut fields, lent) = texts(dice, &lists);
     let mut out = [0; 8 * MOST_CORNERS];

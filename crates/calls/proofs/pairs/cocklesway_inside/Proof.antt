@@ -1,0 +1,44 @@
+-- `cocklesway_inside` meets its contract: 13 for a floor above its limit, else the reply of `inside`, crossed.
+use mathlib.Core.Path.{_≡_, refl, sym, _∙_}
+use mathlib.Core.Bool.{false}
+use lib.Dec.{ltb}
+use Rattle.plane.specs.Limits.{maxFloor}
+use Rattle.calls.specs.theory.Low.{low-fits, both-low, within-told}
+use Rattle.calls.specs.theory.High.{above-pair}
+use borrow.Author.Needs.{needs}
+use Rattle.calls.proofs.pairs.cocklesway_inside.Statement.{statement}
+use Rattle.calls.proofs.pairs.cocklesway_inside.Tie as tie
+
+-- past the test both floors are within their limit
+low : (c : tie.Else1) → (ltb maxFloor (c .before .before .args .f) ≡ false) × (ltb maxFloor (c .before .before .args .g) ≡ false)
+low c = both-low _ _ (sym (c .before .exceeds .ensures) ∙ c .if1 .left)
+
+exceeds-requires : tie.Need-exceeds-requires
+exceeds-requires c κs = search needs
+
+barred-pair-requires : tie.Need-barred-pair-requires
+barred-pair-requires c κs = search needs
+
+returns : tie.Need-returns
+returns c = above-pair _ refl (sym (c .before .before .exceeds .ensures) ∙ c .before .if1 .taken) (c .barred-pair .ensures) .0
+
+cast-inside : tie.Need-cast-inside
+cast-inside c = low-fits _ (low c .0)
+
+cast-inside-2 : tie.Need-cast-inside-2
+cast-inside-2 c = low-fits _ (low c .1)
+
+inside-requires : tie.Need-inside-requires
+inside-requires c κs = search needs
+
+of-inside-requires : tie.Need-of-inside-requires
+of-inside-requires c κs = search needs
+
+returns-2 : tie.Need-returns-2
+returns-2 c = within-told _ (low (c .before .before) .0) (c .of-inside .ensures) (c .before .inside .ensures)
+
+pub cocklesway-inside-spec : {M : Type 1} → statement M
+cocklesway-inside-spec =
+    tie.close
+    (tie.spec exceeds-requires barred-pair-requires returns cast-inside cast-inside-2 inside-requires of-inside-requires
+    returns-2)

@@ -1,0 +1,53 @@
+-- `cocklesway_offer` meets its contract: 13 for a floor above its limit, else the reply of `offer`, crossed.
+use mathlib.Core.Path.{_≡_, refl, sym, _∙_, ap, ap₂}
+use mathlib.Core.Bool.{false}
+use lib.Dec.{ltb}
+use mir.Facts.{toZ-ofZ}
+use Rattle.plane.specs.Limits.{maxFloor}
+use Rattle.plane.specs.Point.{Point, point}
+use Rattle.plane.specs.Floor.{on}
+use Rattle.plane.specs.Question.{reply, askOffer}
+use Rattle.calls.specs.theory.Low.{low-fits, both-low, within-told}
+use Rattle.calls.specs.theory.High.{above-pair}
+use borrow.Author.Needs.{needs}
+use Rattle.calls.proofs.pairs.cocklesway_offer.Statement.{statement}
+use Rattle.calls.proofs.pairs.cocklesway_offer.Tie as tie
+
+-- past the test both floors are within their limit
+low : (c : tie.Else1) → (ltb maxFloor (c .before .before .args .f) ≡ false) × (ltb maxFloor (c .before .before .args .g) ≡ false)
+low c = both-low _ _ (sym (c .before .exceeds .ensures) ∙ c .if1 .left)
+
+exceeds-requires : tie.Need-exceeds-requires
+exceeds-requires c κs = search needs
+
+barred-pair-requires : tie.Need-barred-pair-requires
+barred-pair-requires c κs = search needs
+
+returns : tie.Need-returns
+returns c = above-pair _ refl (sym (c .before .before .exceeds .ensures) ∙ c .before .if1 .taken) (c .barred-pair .ensures) .0
+
+cast-offer : tie.Need-cast-offer
+cast-offer c = low-fits _ (low c .0)
+
+cast-offer-2 : tie.Need-cast-offer-2
+cast-offer-2 c = low-fits _ (low c .1)
+
+offer-requires : tie.Need-offer-requires
+offer-requires c κs = search needs
+
+of-offer-requires : tie.Need-of-offer-requires
+of-offer-requires c κs = search needs
+
+returns-2 : tie.Need-returns-2
+returns-2 c =
+    let start = c .before .before .before .before in
+    let direction = ap₂ point (toZ-ofZ (start .fits .u)) (toZ-ofZ (start .fits .v)) in
+    let one = on (start .args .a .now) (start .args .f) in
+    let other = on (start .args .b .now) (start .args .g) in
+    within-told _ (low (c .before .before) .0) (c .of-offer .ensures)
+    (c .before .offer .ensures ∙ ap (λ (d : Point). reply (askOffer one other d)) direction)
+
+pub cocklesway-offer-spec : {M : Type 1} → statement M
+cocklesway-offer-spec =
+    tie.close
+    (tie.spec exceeds-requires barred-pair-requires returns cast-offer cast-offer-2 offer-requires of-offer-requires returns-2)

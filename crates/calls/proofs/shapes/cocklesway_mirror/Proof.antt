@@ -1,0 +1,44 @@
+-- `cocklesway_mirror` meets its contract: 13 for a floor above its limit, else the reply of `mirror`, crossed, and its output.
+use mathlib.Core.Path.{_≡_, sym, _∙_}
+use mathlib.Core.Bool.{false}
+use lib.Dec.{ltb}
+use Rattle.plane.specs.Limits.{maxFloor}
+use Rattle.calls.specs.theory.Low.{low-fits, within-written}
+use Rattle.calls.specs.theory.High.{above}
+use borrow.Author.Needs.{needs}
+use Rattle.calls.proofs.shapes.cocklesway_mirror.Statement.{statement}
+use Rattle.calls.proofs.shapes.cocklesway_mirror.Tie as tie
+
+-- past the test the floor is within its limit
+low : (c : tie.Else1) → ltb maxFloor (c .before .before .args .floor) ≡ false
+low c = sym (c .before .exceeds-floor .ensures) ∙ c .if1 .left
+
+exceeds-floor-requires : tie.Need-exceeds-floor-requires
+exceeds-floor-requires c κs = search needs
+
+barred-requires : tie.Need-barred-requires
+barred-requires c κs = search needs
+
+returns : tie.Need-returns
+returns c = above _ (sym (c .before .before .exceeds-floor .ensures) ∙ c .before .if1 .taken) (c .barred .ensures)
+
+cast-mirror : tie.Need-cast-mirror
+cast-mirror c = low-fits _ (low c)
+
+mirror-requires : tie.Need-mirror-requires
+mirror-requires c κs = search needs
+
+of-answer-requires : tie.Need-of-answer-requires
+of-answer-requires c κs = search needs
+
+same-length : tie.Need-same-length
+same-length c = search needs
+
+returns-2 : tie.Need-returns-2
+returns-2 c = within-written _ (low (c .before .before .before .before)) (c .of-answer .ensures) (c .before .before .mirror .ensures)
+
+pub cocklesway-mirror-spec : {M : Type 1} → statement M
+cocklesway-mirror-spec =
+    tie.close
+    (tie.spec exceeds-floor-requires barred-requires returns cast-mirror mirror-requires of-answer-requires same-length
+    returns-2)

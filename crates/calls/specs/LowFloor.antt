@@ -1,0 +1,28 @@
+-- A floor that a host gives is any number (document 02, W14: "one above 65,535 being refused 13 with the same place in the order").
+--     lowFloor q       the question, with 13 also for a floor above its limit: after the rows of the shapes and before its own
+--     barred rows      the reply where a floor is above its limit: the refusal of the first of these rows that applies, or 13
+--     Numbered rows    no row has number 0, so that 0 tells an answer
+-- Different floors are 13 by the pair's own row, and equal ones above the limit by this one. What it means: `Meaning.antt`.
+use mathlib.Core.List.{List, [], _∷_}
+use Prim.Native.Nat.{_<_}
+use lib.Dec.{ltb}
+use Rattle.plane.specs.Limits.{maxFloor}
+use Rattle.plane.specs.Reply.{Reply, refused, Row, row, firstRow}
+use Rattle.plane.specs.Floor.{floorOf}
+use Rattle.plane.specs.Question.{Question}
+
+unfoldable pub lowFloor : Question → Question
+lowFloor q = record {
+  shapes = q .shapes;
+  rest = row 13 (ltb maxFloor (floorOf (q .shapes))) [] ∷ q .rest;
+  answer = q .answer;
+  shape = q .shape;
+  lent = q .lent;
+}
+
+abbrev pub barred : List Row → Reply
+barred rows = firstRow rows (refused 13 [])
+
+abbrev pub Numbered : List Row → Type 0
+Numbered [] = Unit {0}
+Numbered (w ∷ ws) = (0 < w .number) × Numbered ws

@@ -1,0 +1,6 @@
+-- The theory of the calls, which only proves: what 13 for a floor above its limit changes, and what it does not.
+pub mod Low
+pub mod High
+pub mod Found
+pub mod Logs
+pub mod Thirteen

@@ -1,0 +1,39 @@
+// Calls on a log, which is lent as bytes.
+ghost use mathlib.Core.Path.{_≡_};
+ghost use Rattle.plane.specs.Question.{reply, output};
+ghost use Rattle.journal.specs.Reading.{askRead};
+ghost use Rattle.reply.specs.Told.{crossed, numbers};
+ghost use Rattle.calls.specs.Calls.{addedLow};
+use crate::floors;
+use polygon::limits;
+use reply::Reply;
+
+// Writes the corners of the latest record of the name, and answers how many, and the record's floor.
+#[no_mangle]
+pub extern "C" fn cocklesway_log_read(log: &[u8], name: u16, out: &mut [i32]) -> Reply
+    ensures { λ r. ⌜ (numbers r ≡ crossed (reply (askRead (now (log .entry)) name (now (out .entry)))))
+        × (now (out .exit) ≡ output (askRead (now (log .entry)) name (now (out .entry)))) ⌝ }
+{
+    reply::of_answer(questions::log_read(log, name, out))
+}
+
+// Adds the shape to the log with at most as many stores as are allowed. Answers 1 if it finished, 0 if it was cut.
+// A floor above its limit is refused 13 after the list and before the log, with nothing stored.
+// Ruled out: floor above the limit stored; name and floor exchanged.
+#[no_mangle]
+pub extern "C" fn cocklesway_log_add(
+    log: &mut [u8],
+    name: u16,
+    floor: u32,
+    list: &[i32],
+    allowed: usize,
+) -> Reply
+    ensures { λ r. ⌜
+        (numbers r ≡ crossed (addedLow (now (log .entry)) name floor (now (list .entry)) allowed .reply))
+        × (now (log .exit) ≡ addedLow (now (log .entry)) name floor (now (list .entry)) allowed .log) ⌝ }
+{
+    if limits::exceeds_floor(floor) {
+        return floors::barred(list);
+    }
+    reply::of_addition(questions::log_add(log, name, floor as u16, list, allowed))
+}

@@ -1,0 +1,124 @@
+-- Every refusal and every answer has room in a reply: nothing is cut when it crosses.
+use lib.Dec.{lit<, lit≤}
+use Rattle.admission.specs.declared.answer.Refusal.{Refusal}
+use Rattle.admission.specs.declared.answer.Refusal.the-variants as Refusal
+use Rattle.questions.specs.declared.answer.Unread.{Unread}
+use Rattle.questions.specs.declared.answer.Unread.the-variants as Unread
+use Rattle.admission.specs.declared.answer.Answer.{Answer}
+use Rattle.admission.specs.declared.answer.Answer.the-variants as Answer
+use Rattle.questions.specs.declared.answer.Begun.{Begun}
+use Rattle.questions.specs.declared.answer.Begun.the-variants as Begun
+use Rattle.questions.specs.declared.answer.Part.{Part}
+use Rattle.questions.specs.declared.answer.Part.the-variants as Part
+use Rattle.questions.specs.declared.answer.Furthest.{Furthest}
+use Rattle.questions.specs.declared.answer.Furthest.the-variants as Furthest
+use Rattle.questions.specs.declared.answer.Length.{Length}
+use Rattle.questions.specs.declared.answer.Length.the-variants as Length
+use Rattle.questions.specs.declared.answer.Width.{Width}
+use Rattle.questions.specs.declared.answer.Width.the-variants as Width
+use Rattle.questions.specs.declared.answer.Relation.{Relation}
+use Rattle.questions.specs.declared.answer.Relation.the-variants as Relation
+use Rattle.questions.specs.declared.answer.Inside.{Inside}
+use Rattle.questions.specs.declared.answer.Inside.the-variants as Inside
+use Rattle.questions.specs.declared.answer.Offer.{Offer}
+use Rattle.questions.specs.declared.answer.Offer.the-variants as Offer
+use Rattle.questions.specs.declared.answer.Separator.{Separator}
+use Rattle.questions.specs.declared.answer.Separator.the-variants as Separator
+use Rattle.questions.specs.declared.answer.Clearance.{Clearance}
+use Rattle.questions.specs.declared.answer.Clearance.the-variants as Clearance
+use Rattle.questions.specs.declared.answer.Tangents.{Tangents}
+use Rattle.questions.specs.declared.answer.Tangents.the-variants as Tangents
+use Rattle.questions.specs.declared.answer.Tablet.{Tablet}
+use Rattle.questions.specs.declared.answer.Tablet.the-variants as Tablet
+use Rattle.questions.specs.declared.answer.Addition.{Addition}
+use Rattle.questions.specs.declared.answer.Addition.the-variants as Addition
+use Rattle.questions.specs.Answer.{ofRefusal, ofUnread, ofAnswer, ofBegun, ofPart, ofFurthest, ofLength, ofWidth, ofRelation}
+use Rattle.questions.specs.Answer.{ofInside, ofOffer, ofSeparator, ofClearance, ofTangents, ofTablet, ofAddition}
+use Rattle.reply.specs.Heard.{Room}
+
+pub refusal-room : (x : Refusal) → Room (ofRefusal x)
+refusal-room (Refusal.Count s) = (lit< tt, lit≤ tt)
+refusal-room (Refusal.Corners s) = (lit< tt, lit≤ tt)
+refusal-room (Refusal.Range s) = (lit< tt, lit≤ tt)
+refusal-room (Refusal.Side s e c) = (lit< tt, lit≤ tt)
+refusal-room (Refusal.Start s) = (lit< tt, lit≤ tt)
+refusal-room Refusal.LargeAnswer = (lit< tt, lit≤ tt)
+refusal-room Refusal.FarAnswer = (lit< tt, lit≤ tt)
+refusal-room Refusal.Room = (lit< tt, lit≤ tt)
+refusal-room Refusal.NotApart = (lit< tt, lit≤ tt)
+refusal-room Refusal.Flat = (lit< tt, lit≤ tt)
+refusal-room Refusal.Direction = (lit< tt, lit≤ tt)
+refusal-room Refusal.NotPrimitive = (lit< tt, lit≤ tt)
+refusal-room Refusal.Floors = (lit< tt, lit≤ tt)
+refusal-room Refusal.NotAPlace = (lit< tt, lit≤ tt)
+refusal-room (Refusal.Damaged p) = (lit< tt, lit≤ tt)
+refusal-room Refusal.Full = (lit< tt, lit≤ tt)
+refusal-room Refusal.NoRecord = (lit< tt, lit≤ tt)
+
+pub unread-room : (x : Unread) → Room (ofUnread x)
+unread-room (Unread.NotFinite p) = (lit< tt, lit≤ tt)
+unread-room (Unread.NotWhole p) = (lit< tt, lit≤ tt)
+unread-room (Unread.Far p) = (lit< tt, lit≤ tt)
+
+pub answer-room : (x : Answer) → Room (ofAnswer x)
+answer-room (Answer.Corners n f) = lit≤ tt
+answer-room (Answer.No r) = refusal-room r
+
+pub begun-room : (x : Begun) → Room (ofBegun x)
+begun-room (Begun.At w f) = lit≤ tt
+begun-room (Begun.No r) = refusal-room r
+
+pub part-room : (x : Part) → Room (ofPart x)
+part-room (Part.Corners n w f) = lit≤ tt
+part-room (Part.No r) = refusal-room r
+
+pub furthest-room : (x : Furthest) → Room (ofFurthest x)
+furthest-room (Furthest.At p q v f) = lit≤ tt
+furthest-room (Furthest.No r) = refusal-room r
+
+pub length-room : (x : Length) → Room (ofLength x)
+length-room (Length.Between q i j f) = lit≤ tt
+length-room (Length.No r) = refusal-room r
+
+pub width-room : (x : Width) → Room (ofWidth x)
+width-room (Width.Across e c t q w f) = lit≤ tt
+width-room (Width.No r) = refusal-room r
+
+pub relation-room : (x : Relation) → Room (ofRelation x)
+relation-room (Relation.Apart f) = lit≤ tt
+relation-room (Relation.Touching f) = lit≤ tt
+relation-room (Relation.Overlapping f) = lit≤ tt
+relation-room (Relation.No r) = refusal-room r
+
+pub inside-room : (x : Inside) → Room (ofInside x)
+inside-room (Inside.Is b f) = lit≤ tt
+inside-room (Inside.No r) = refusal-room r
+
+pub offer-room : (x : Offer) → Room (ofOffer x)
+offer-room (Offer.Is b f) = lit≤ tt
+offer-room (Offer.No r) = refusal-room r
+
+pub separator-room : (x : Separator) → Room (ofSeparator x)
+separator-room (Separator.Direction u v f) = lit≤ tt
+separator-room (Separator.Nothing f) = lit≤ tt
+separator-room (Separator.No r) = refusal-room r
+
+pub clearance-room : (x : Clearance) → Room (ofClearance x)
+clearance-room (Clearance.None f) = lit≤ tt
+clearance-room (Clearance.Corners i j d w f) = lit≤ tt
+clearance-room (Clearance.CornerEdge c e t q w f) = lit≤ tt
+clearance-room (Clearance.EdgeCorner c e t q w f) = lit≤ tt
+clearance-room (Clearance.No r) = refusal-room r
+
+pub tangents-room : (x : Tangents) → Room (ofTangents x)
+tangents-room (Tangents.Lines p q r s f) = lit≤ tt
+tangents-room (Tangents.No r) = refusal-room r
+
+pub tablet-room : (x : Tablet) → Room (ofTablet x .reply)
+tablet-room (Tablet.Corner s x y) = lit≤ tt
+tablet-room (Tablet.No r) = unread-room r
+
+pub addition-room : (x : Addition) → Room (ofAddition x)
+addition-room Addition.Finished = lit≤ tt
+addition-room Addition.Cut = lit≤ tt
+addition-room (Addition.No r) = refusal-room r

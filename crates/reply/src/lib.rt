@@ -1,0 +1,293 @@
+// The one reply of every question, as numbers for a host: an answer enum does not cross to one. No other code turns an
+// answer or a refusal into numbers.
+mod numbers;
+pub mod refusals;
+
+ghost use mathlib.Core.Path.{_≡_};
+ghost use Rattle.questions.specs.Answer.{ofAnswer, ofBegun, ofPart, ofFurthest, ofLength};
+ghost use Rattle.questions.specs.Answer.{ofWidth, ofRelation, ofInside, ofOffer, ofSeparator, ofClearance, ofTangents};
+ghost use Rattle.questions.specs.Answer.{ofTablet, ofAddition};
+ghost use Rattle.reply.specs.Told.{crossed, numbers};
+use questions::answer::Addition;
+use questions::answer::Answer;
+use questions::answer::Begun;
+use questions::answer::Clearance;
+use questions::answer::Furthest;
+use questions::answer::Inside;
+use questions::answer::Length;
+use questions::answer::Offer;
+use questions::answer::Part;
+use questions::answer::Relation;
+use questions::answer::Separator;
+use questions::answer::Tablet;
+use questions::answer::Tangents;
+use questions::answer::Width;
+
+// `number` is 0 for an answer, else the refusal's. `count` says how many of `values` an answer has, or how many of
+// `carried` a refusal has; the rest is 0. The values are in document 01's order, the floor last. A value below 0 is its
+// two's complement in 64 bits.
+#[repr(C)]
+pub struct Reply {
+    pub number: u64,
+    pub carried: [u64; 3],
+    pub count: u64,
+    pub values: [u64; 9],
+}
+
+// Returns how many corners a shape has that was judged or written.
+pub fn of_answer(answer: Answer) -> Reply
+    ensures { λ r. ⌜ numbers r ≡ crossed (ofAnswer answer) ⌝ }
+{
+    match answer {
+        Answer::Corners { count, floor } => numbers::answered2(count as u64, floor as u64),
+        Answer::No(refusal) => refusals::of_refusal(refusal),
+    }
+}
+
+// Returns where a walk begins: the edges passed of either shape, and 1 if it is over.
+pub fn of_begun(answer: Begun) -> Reply
+    ensures { λ r. ⌜ numbers r ≡ crossed (ofBegun answer) ⌝ }
+{
+    match answer {
+        Begun::At { walk, floor } => numbers::answered4(
+            walk.first as u64,
+            walk.second as u64,
+            numbers::flag(walk.over),
+            floor as u64,
+        ),
+        Begun::No(refusal) => refusals::of_refusal(refusal),
+    }
+}
+
+// Returns how many corners were written of a part, and the walk handed back.
+pub fn of_part(answer: Part) -> Reply
+    ensures { λ r. ⌜ numbers r ≡ crossed (ofPart answer) ⌝ }
+{
+    match answer {
+        Part::Corners { count, walk, floor } => numbers::answered5(
+            count as u64,
+            walk.first as u64,
+            walk.second as u64,
+            numbers::flag(walk.over),
+            floor as u64,
+        ),
+        Part::No(refusal) => refusals::of_refusal(refusal),
+    }
+}
+
+// Returns the first and the last of the furthest corners, and their value, which may be below 0.
+// Ruled out: sign of a value lost.
+pub fn of_furthest(answer: Furthest) -> Reply
+    ensures { λ r. ⌜ numbers r ≡ crossed (ofFurthest answer) ⌝ }
+{
+    match answer {
+        Furthest::At {
+            first,
+            last,
+            value,
+            floor,
+        } => numbers::answered4(
+            first as u64,
+            last as u64,
+            numbers::bits(value),
+            floor as u64,
+        ),
+        Furthest::No(refusal) => refusals::of_refusal(refusal),
+    }
+}
+
+// Returns the greatest squared distance, and two positions.
+pub fn of_length(answer: Length) -> Reply
+    ensures { λ r. ⌜ numbers r ≡ crossed (ofLength answer) ⌝ }
+{
+    match answer {
+        Length::Between {
+            squared,
+            from,
+            to,
+            floor,
+        } => numbers::answered4(squared, from as u64, to as u64, floor as u64),
+        Length::No(refusal) => refusals::of_refusal(refusal),
+    }
+}
+
+// Returns edge, corner, turn, squared edge and rounded width.
+pub fn of_width(answer: Width) -> Reply
+    ensures { λ r. ⌜ numbers r ≡ crossed (ofWidth answer) ⌝ }
+{
+    match answer {
+        Width::Across {
+            edge,
+            corner,
+            turn,
+            squared,
+            rounded,
+            floor,
+        } => numbers::answered6(
+            edge as u64,
+            corner as u64,
+            turn,
+            squared,
+            rounded,
+            floor as u64,
+        ),
+        Width::No(refusal) => refusals::of_refusal(refusal),
+    }
+}
+
+// Returns 0 for apart, 1 for touching, 2 for overlapping.
+// Ruled out: touching told as overlapping.
+pub fn of_relation(answer: Relation) -> Reply
+    ensures { λ r. ⌜ numbers r ≡ crossed (ofRelation answer) ⌝ }
+{
+    match answer {
+        Relation::Apart { floor } => numbers::answered2(0, floor as u64),
+        Relation::Touching { floor } => numbers::answered2(1, floor as u64),
+        Relation::Overlapping { floor } => numbers::answered2(2, floor as u64),
+        Relation::No(refusal) => refusals::of_refusal(refusal),
+    }
+}
+
+// Returns 1 for yes, 0 for no.
+pub fn of_inside(answer: Inside) -> Reply
+    ensures { λ r. ⌜ numbers r ≡ crossed (ofInside answer) ⌝ }
+{
+    match answer {
+        Inside::Is { within, floor } => numbers::answered2(numbers::flag(within), floor as u64),
+        Inside::No(refusal) => refusals::of_refusal(refusal),
+    }
+}
+
+// Returns 1 for accepted, 0 for not.
+pub fn of_offer(answer: Offer) -> Reply
+    ensures { λ r. ⌜ numbers r ≡ crossed (ofOffer answer) ⌝ }
+{
+    match answer {
+        Offer::Is { accepted, floor } => numbers::answered2(numbers::flag(accepted), floor as u64),
+        Offer::No(refusal) => refusals::of_refusal(refusal),
+    }
+}
+
+// Returns 1 and a direction, whose parts may be below 0; or 0 if there is none.
+// Ruled out: parts of a direction exchanged.
+pub fn of_separator(answer: Separator) -> Reply
+    ensures { λ r. ⌜ numbers r ≡ crossed (ofSeparator answer) ⌝ }
+{
+    match answer {
+        Separator::Direction { u, v, floor } => numbers::answered4(
+            1,
+            numbers::extended(u),
+            numbers::extended(v),
+            floor as u64,
+        ),
+        Separator::Nothing { floor } => numbers::answered2(0, floor as u64),
+        Separator::No(refusal) => refusals::of_refusal(refusal),
+    }
+}
+
+// Returns 0 for not apart, 1 for two corners, 2 for a corner of the first shape and an edge of the second, 3 for the
+// reverse; the positions; of two corners their squared distance, else turn and squared edge; the rounded distance.
+pub fn of_clearance(answer: Clearance) -> Reply
+    ensures { λ r. ⌜ numbers r ≡ crossed (ofClearance answer) ⌝ }
+{
+    match answer {
+        Clearance::None { floor } => numbers::answered2(0, floor as u64),
+        Clearance::Corners {
+            first,
+            second,
+            squared,
+            rounded,
+            floor,
+        } => numbers::answered6(
+            1,
+            first as u64,
+            second as u64,
+            squared,
+            rounded,
+            floor as u64,
+        ),
+        Clearance::CornerEdge {
+            corner,
+            edge,
+            turn,
+            squared,
+            rounded,
+            floor,
+        } => numbers::answered7(
+            2,
+            corner as u64,
+            edge as u64,
+            turn,
+            squared,
+            rounded,
+            floor as u64,
+        ),
+        Clearance::EdgeCorner {
+            corner,
+            edge,
+            turn,
+            squared,
+            rounded,
+            floor,
+        } => numbers::answered7(
+            3,
+            corner as u64,
+            edge as u64,
+            turn,
+            squared,
+            rounded,
+            floor as u64,
+        ),
+        Clearance::No(refusal) => refusals::of_refusal(refusal),
+    }
+}
+
+// Returns the positions of four lines, of each the one in the first shape before the one in the second.
+pub fn of_tangents(answer: Tangents) -> Reply
+    ensures { λ r. ⌜ numbers r ≡ crossed (ofTangents answer) ⌝ }
+{
+    match answer {
+        Tangents::Lines {
+            left,
+            right,
+            crossing,
+            reverse,
+            floor,
+        } => numbers::answered9(
+            left.from as u64,
+            left.to as u64,
+            right.from as u64,
+            right.to as u64,
+            crossing.from as u64,
+            crossing.to as u64,
+            reverse.from as u64,
+            reverse.to as u64,
+            floor as u64,
+        ),
+        Tangents::No(refusal) => refusals::of_refusal(refusal),
+    }
+}
+
+// Returns the whole numbers of millimetres of a corner, x and y, which may be below 0.
+pub fn of_tablet(answer: Tablet) -> Reply
+    ensures { λ r. ⌜ numbers r ≡ crossed (ofTablet answer .reply) ⌝ }
+{
+    match answer {
+        Tablet::Corner { x, y, .. } => numbers::answered2(
+            numbers::extended(x),
+            numbers::extended(y),
+        ),
+        Tablet::No(refusal) => refusals::of_unread(refusal),
+    }
+}
+
+// Returns 1 for finished, 0 for cut.
+pub fn of_addition(answer: Addition) -> Reply
+    ensures { λ r. ⌜ numbers r ≡ crossed (ofAddition answer) ⌝ }
+{
+    match answer {
+        Addition::Finished => numbers::answered1(1),
+        Addition::Cut => numbers::answered1(0),
+        Addition::No(refusal) => refusals::of_refusal(refusal),
+    }
+}

@@ -1,0 +1,353 @@
+//! What the questions answer. Every answer on shapes carries their floor. Positions count from 0.
+
+/// How many corners a shape has.
+///
+/// ```
+/// use cocklesway::{Shape, judge};
+///
+/// let answer = judge(Shape::new(&[[0, 0], [4, 0]], 7))?;
+/// assert_eq!((answer.count, answer.floor), (2, 7));
+/// # Ok::<(), cocklesway::Refusal>(())
+/// ```
+#[derive(Clone, Copy, Debug, PartialEq, Eq, Hash)]
+#[non_exhaustive]
+#[must_use]
+pub struct Corners {
+    /// How many corners it has.
+    pub count: usize,
+    /// The floor.
+    pub floor: u32,
+}
+
+/// The corners that are furthest in a direction: one, or two neighbours.
+///
+/// ```
+/// use cocklesway::{Shape, furthest};
+///
+/// let answer = furthest(Shape::new(&[[0, 0], [2, 0], [2, 2], [0, 2]], 0), [1, 0])?;
+/// assert_eq!((answer.first, answer.last, answer.value), (1, 2, 2));
+/// # Ok::<(), cocklesway::Refusal>(())
+/// ```
+#[derive(Clone, Copy, Debug, PartialEq, Eq, Hash)]
+#[non_exhaustive]
+#[must_use]
+pub struct Furthest {
+    /// The first of them, counterclockwise.
+    pub first: usize,
+    /// The last of them; the first again if there is one only.
+    pub last: usize,
+    /// Their value u·x + v·y.
+    pub value: i64,
+    /// The floor.
+    pub floor: u32,
+}
+
+/// The two corners that are furthest apart.
+///
+/// ```
+/// use cocklesway::{Shape, length};
+///
+/// let answer = length(Shape::new(&[[0, 0], [4, 0], [0, 3]], 0))?;
+/// assert_eq!((answer.squared, answer.from, answer.to), (25, 1, 2));
+/// # Ok::<(), cocklesway::Refusal>(())
+/// ```
+#[derive(Clone, Copy, Debug, PartialEq, Eq, Hash)]
+#[non_exhaustive]
+#[must_use]
+pub struct Length {
+    /// Their squared distance, in square millimetres.
+    pub squared: u64,
+    /// The position of the one.
+    pub from: usize,
+    /// The position of the other.
+    pub to: usize,
+    /// The floor.
+    pub floor: u32,
+}
+
+/// Where a shape is narrowest: across an edge, to the corner furthest from it. The width is t/√q.
+///
+/// ```
+/// use cocklesway::{Shape, width};
+///
+/// let answer = width(Shape::new(&[[0, 0], [4, 0], [0, 3]], 0))?;
+/// assert_eq!((answer.edge, answer.corner), (1, 0));
+/// assert_eq!((answer.turn, answer.squared, answer.rounded), (12, 25, 2));
+/// # Ok::<(), cocklesway::Refusal>(())
+/// ```
+#[derive(Clone, Copy, Debug, PartialEq, Eq, Hash)]
+#[non_exhaustive]
+#[must_use]
+pub struct Width {
+    /// The position of the edge's first corner.
+    pub edge: usize,
+    /// The position of the corner.
+    pub corner: usize,
+    /// t: the turn of the corner against the edge, in square millimetres.
+    pub turn: u64,
+    /// q: the squared length of the edge, in square millimetres.
+    pub squared: u64,
+    /// The width, rounded down to whole millimetres.
+    pub rounded: u64,
+    /// The floor.
+    pub floor: u32,
+}
+
+/// How two shapes stand to each other.
+///
+/// ```
+/// use cocklesway::{Relation, Shape, relation};
+///
+/// let square = Shape::new(&[[0, 0], [2, 0], [2, 2], [0, 2]], 9);
+/// let answer = relation(square, Shape::new(&[[2, 1]], 9))?;
+/// assert_eq!((answer.relation, answer.floor), (Relation::Touching, 9));
+/// # Ok::<(), cocklesway::Refusal>(())
+/// ```
+#[derive(Clone, Copy, Debug, PartialEq, Eq, Hash)]
+#[non_exhaustive]
+#[must_use]
+pub struct Standing {
+    /// Apart, touching or overlapping.
+    pub relation: Relation,
+    /// The floor.
+    pub floor: u32,
+}
+
+/// Apart, touching or overlapping. There is no fourth case.
+///
+/// ```
+/// use cocklesway::{Relation, Shape, relation};
+///
+/// let may_pass = |cart: Shape<'_>, wall: Shape<'_>| {
+///     Ok::<bool, cocklesway::Refusal>(match relation(cart, wall)?.relation {
+///         Relation::Apart => true,
+///         Relation::Touching | Relation::Overlapping => false,
+///     })
+/// };
+/// // Segments in line that have a point in common touch.
+/// let (one, other) = ([[0, 0], [4, 0]], [[2, 0], [6, 0]]);
+/// assert!(!may_pass(Shape::new(&one, 0), Shape::new(&other, 0))?);
+/// # Ok::<(), cocklesway::Refusal>(())
+/// ```
+#[derive(Clone, Copy, Debug, PartialEq, Eq, Hash)]
+#[must_use]
+pub enum Relation {
+    /// They have no point in common.
+    Apart,
+    /// They have a point in common, and there is a line that has the one on or to the left of it and the other on
+    /// or to the right.
+    Touching,
+    /// They have a point in common, and there is no such line.
+    Overlapping,
+}
+
+impl Relation {
+    /// 0 apart, 1 touching, 2 overlapping.
+    pub(crate) fn of(number: u64) -> Relation {
+        match number {
+            0 => Relation::Apart,
+            1 => Relation::Touching,
+            _ => Relation::Overlapping,
+        }
+    }
+}
+
+/// Whether the first shape is inside the second.
+///
+/// ```
+/// use cocklesway::{Shape, inside};
+///
+/// let square = Shape::new(&[[0, 0], [2, 0], [2, 2], [0, 2]], 0);
+/// assert!(inside(Shape::new(&[[0, 0], [1, 0], [0, 1]], 0), square)?.within);
+/// # Ok::<(), cocklesway::Refusal>(())
+/// ```
+#[derive(Clone, Copy, Debug, PartialEq, Eq, Hash)]
+#[non_exhaustive]
+#[must_use]
+pub struct Inside {
+    /// Whether it is. A point of the rim is inside.
+    pub within: bool,
+    /// The floor.
+    pub floor: u32,
+}
+
+/// Whether a direction is accepted as the reason that two shapes are apart.
+///
+/// ```
+/// use cocklesway::{Shape, offer};
+///
+/// let square = Shape::new(&[[0, 0], [2, 0], [2, 2], [0, 2]], 0);
+/// assert!(offer(square, Shape::new(&[[3, 1]], 0), [1, 0])?.accepted);
+/// # Ok::<(), cocklesway::Refusal>(())
+/// ```
+#[derive(Clone, Copy, Debug, PartialEq, Eq, Hash)]
+#[non_exhaustive]
+#[must_use]
+pub struct Offer {
+    /// Whether it is. The shapes are apart then.
+    pub accepted: bool,
+    /// The floor.
+    pub floor: u32,
+}
+
+/// A direction that is accepted as the reason that two shapes are apart.
+///
+/// ```
+/// use cocklesway::{Shape, find};
+///
+/// let square = Shape::new(&[[0, 0], [2, 0], [2, 2], [0, 2]], 0);
+/// assert_eq!(find(square, Shape::new(&[[2, 1]], 0))?.direction, None);
+/// # Ok::<(), cocklesway::Refusal>(())
+/// ```
+#[derive(Clone, Copy, Debug, PartialEq, Eq, Hash)]
+#[non_exhaustive]
+#[must_use]
+pub struct Separator {
+    /// The direction, or nothing if the shapes are not apart.
+    pub direction: Option<[i32; 2]>,
+    /// The floor.
+    pub floor: u32,
+}
+
+/// How near two shapes are.
+///
+/// ```
+/// use cocklesway::{Shape, clearance};
+///
+/// let answer = clearance(Shape::new(&[[0, 0]], 0), Shape::new(&[[3, 4]], 0))?;
+/// assert_eq!(answer.rounded(), 5);
+/// assert_eq!(clearance(Shape::new(&[[0, 0]], 0), Shape::new(&[[0, 0]], 0))?.nearest, None);
+/// # Ok::<(), cocklesway::Refusal>(())
+/// ```
+#[derive(Clone, Copy, Debug, PartialEq, Eq, Hash)]
+#[non_exhaustive]
+#[must_use]
+pub struct Clearance {
+    /// Where they are nearest, or nothing if they are not apart.
+    pub nearest: Option<Nearest>,
+    /// The floor.
+    pub floor: u32,
+}
+
+impl Clearance {
+    /// Returns the distance rounded down to whole millimetres; 0 if the shapes are not apart.
+    ///
+    /// ```
+    /// use cocklesway::{Shape, clearance};
+    ///
+    /// let wall = Shape::new(&[[-3000, 0], [3000, 0]], 0);
+    /// assert_eq!(clearance(Shape::new(&[[0, 40]], 0), wall)?.rounded(), 40);
+    /// # Ok::<(), cocklesway::Refusal>(())
+    /// ```
+    #[must_use]
+    pub const fn rounded(self) -> u64 {
+        match self.nearest {
+            None => 0,
+            Some(Nearest::Corners { rounded, .. }) => rounded,
+            Some(Nearest::CornerEdge(across) | Nearest::EdgeCorner(across)) => across.rounded,
+        }
+    }
+}
+
+/// Where two shapes are nearest. There is no fourth case.
+///
+/// ```
+/// use cocklesway::{Nearest, Shape, clearance};
+///
+/// let (wall, place) = (Shape::new(&[[-3000, 0], [3000, 0]], 0), Shape::new(&[[0, 40]], 0));
+/// assert!(matches!(clearance(place, wall)?.nearest, Some(Nearest::CornerEdge(_))));
+/// assert!(matches!(clearance(wall, place)?.nearest, Some(Nearest::EdgeCorner(_))));
+/// # Ok::<(), cocklesway::Refusal>(())
+/// ```
+#[derive(Clone, Copy, Debug, PartialEq, Eq, Hash)]
+pub enum Nearest {
+    /// At two corners.
+    Corners {
+        /// The position in the first shape.
+        first: usize,
+        /// The position in the second.
+        second: usize,
+        /// Their squared distance, in square millimetres.
+        squared: u64,
+        /// Their distance, rounded down to whole millimetres.
+        rounded: u64,
+    },
+    /// At a corner of the first shape, and inside an edge of the second.
+    CornerEdge(Across),
+    /// At a corner of the second shape, and inside an edge of the first.
+    EdgeCorner(Across),
+}
+
+/// A corner of one shape and an edge of another. Their distance is t/√q.
+///
+/// ```
+/// use cocklesway::{Nearest, Shape, clearance};
+///
+/// let (wall, place) = (Shape::new(&[[-3000, 0], [3000, 0]], 0), Shape::new(&[[0, 40]], 0));
+/// let Some(Nearest::CornerEdge(across)) = clearance(place, wall)?.nearest else {
+///     unreachable!("the place is beside the wall");
+/// };
+/// assert_eq!((across.corner, across.edge), (0, 0));
+/// assert_eq!((across.turn, across.squared, across.rounded), (240_000, 36_000_000, 40));
+/// # Ok::<(), cocklesway::Refusal>(())
+/// ```
+#[derive(Clone, Copy, Debug, PartialEq, Eq, Hash)]
+#[non_exhaustive]
+pub struct Across {
+    /// The position of the corner.
+    pub corner: usize,
+    /// The position of the edge's first corner.
+    pub edge: usize,
+    /// t: the size of the corner's turn against the edge, in square millimetres.
+    pub turn: u64,
+    /// q: the squared length of the edge, in square millimetres.
+    pub squared: u64,
+    /// The distance, rounded down to whole millimetres.
+    pub rounded: u64,
+}
+
+/// A line from a corner of the first shape to a corner of the second, by their positions.
+///
+/// ```
+/// use cocklesway::{Shape, tangents};
+///
+/// let answer = tangents(Shape::new(&[[0, 0]], 0), Shape::new(&[[3, 0], [3, 1]], 0))?;
+/// assert_eq!((answer.left.from, answer.left.to), (0, 0));
+/// # Ok::<(), cocklesway::Refusal>(())
+/// ```
+#[derive(Clone, Copy, Debug, PartialEq, Eq, Hash)]
+#[non_exhaustive]
+pub struct Line {
+    /// The position in the first shape.
+    pub from: usize,
+    /// The position in the second.
+    pub to: usize,
+}
+
+/// The four lines that just touch two shapes.
+///
+/// ```
+/// use cocklesway::{Shape, tangents};
+///
+/// let near = Shape::new(&[[0, 0], [2, 0], [2, 2], [0, 2]], 0);
+/// let far = Shape::new(&[[5, 0], [7, 0], [7, 2], [5, 2]], 0);
+/// let answer = tangents(near, far)?;
+/// let lines = [answer.left, answer.right, answer.crossing, answer.reverse];
+/// assert_eq!(lines.map(|line| [line.from, line.to]), [[1, 0], [2, 3], [1, 3], [2, 0]]);
+/// # Ok::<(), cocklesway::Refusal>(())
+/// ```
+#[derive(Clone, Copy, Debug, PartialEq, Eq, Hash)]
+#[non_exhaustive]
+#[must_use]
+pub struct Tangents {
+    /// Both shapes are on its left.
+    pub left: Line,
+    /// Both are on its right.
+    pub right: Line,
+    /// The first is on its left and the second on its right.
+    pub crossing: Line,
+    /// The first is on its right and the second on its left.
+    pub reverse: Line,
+    /// The floor.
+    pub floor: u32,
+}

@@ -1,0 +1,139 @@
+//! The log of shapes by name.
+use crate::archive;
+use crate::{Refusal, Shape};
+
+/// A log of shapes by name, over lent bytes. It is new if all bytes are 0. A shape is added after the last whole
+/// record, and the latest record of a name counts.
+///
+/// ```
+/// use cocklesway::{Addition, Book, Refusal, Shape};
+///
+/// let mut bytes = [0; 64];
+/// let mut book = Book::new(&mut bytes);
+/// let bed = Shape::new(&[[0, 0], [2000, 0], [2000, 900], [0, 900]], 3);
+/// assert_eq!(book.add(7, bed, usize::MAX), Ok(Addition::Finished));
+///
+/// let mut out = [[0; 2]; 8];
+/// assert_eq!(book.read(7, &mut out), Ok(bed));
+/// assert_eq!(book.read(8, &mut out), Err(Refusal::NoRecord));
+/// ```
+#[derive(Debug, PartialEq, Eq)]
+pub struct Book<'a> {
+    bytes: &'a mut [u8],
+}
+
+/// Whether an addition made all of its stores. There is no third case.
+///
+/// ```
+/// use cocklesway::{Addition, Book, Shape};
+///
+/// let mut bytes = [0; 18];
+/// let mut book = Book::new(&mut bytes);
+/// let point = Shape::new(&[[1, -1]], 2);
+/// assert_eq!(book.add(7, point, 16), Ok(Addition::Cut));
+/// assert_eq!(book.add(7, point, usize::MAX), Ok(Addition::Finished));
+/// ```
+#[derive(Clone, Copy, Debug, PartialEq, Eq, Hash)]
+#[must_use]
+pub enum Addition {
+    /// The shape is in the log.
+    Finished,
+    /// The allowance ran out. Every name still reads as before.
+    Cut,
+}
+
+impl<'a> Book<'a> {
+    /// Takes any bytes for a log.
+    ///
+    /// ```
+    /// use cocklesway::{Book, Refusal};
+    ///
+    /// let mut bytes = [0; 64];
+    /// assert_eq!(Book::new(&mut bytes).read(7, &mut []), Err(Refusal::NoRecord));
+    /// ```
+    #[must_use]
+    pub const fn new(bytes: &'a mut [u8]) -> Book<'a> {
+        Book { bytes }
+    }
+
+    /// Returns the bytes.
+    ///
+    /// ```
+    /// use cocklesway::{Addition, Book, Shape};
+    ///
+    /// let mut bytes = [0; 18];
+    /// let mut book = Book::new(&mut bytes);
+    /// assert_eq!(book.add(7, Shape::new(&[[1, -1]], 2), usize::MAX), Ok(Addition::Finished));
+    /// assert_eq!(book.bytes()[..8], [15, 0, 2, 0, 7, 0, 2, 0]);
+    /// ```
+    #[must_use]
+    pub const fn bytes(&self) -> &[u8] {
+        self.bytes
+    }
+
+    /// Writes the latest shape of a name at the front of the output and returns it, as [`log_read`] does.
+    ///
+    /// # Errors
+    /// Refused, with the output as it was: 15, 19, 8.
+    ///
+    /// ```
+    /// use cocklesway::{Book, Refusal};
+    ///
+    /// // Two bytes and the last: no record is so short.
+    /// let mut bytes = [3, 0, 1, 0, 0x5A];
+    /// let damaged = Book::new(&mut bytes).read(7, &mut []);
+    /// assert_eq!(damaged, Err(Refusal::Damaged { place: 0 }));
+    /// ```
+    #[inline]
+    pub fn read<'o>(&self, name: u16, out: &'o mut [[i32; 2]]) -> Result<Shape<'o>, Refusal> {
+        log_read(self.bytes, name, out)
+    }
+
+    /// Adds a shape under a name with at most so many stores of single bytes, and returns whether they sufficed.
+    /// With `usize::MAX` they always do. Whenever it is stopped, every name reads as before or as afterwards.
+    ///
+    /// # Errors
+    /// Refused, with the log as it was: 1 to 5, 13, 15, 16.
+    ///
+    /// ```
+    /// use cocklesway::{Addition, Book, Refusal, Shape};
+    ///
+    /// let mut bytes = [0; 18];
+    /// let mut book = Book::new(&mut bytes);
+    /// let point = Shape::new(&[[1, -1]], 2);
+    /// assert_eq!(book.add(7, point, 17), Ok(Addition::Finished));
+    /// assert_eq!(book.add(8, point, 17), Err(Refusal::Full));
+    /// ```
+    #[inline]
+    pub fn add(
+        &mut self,
+        name: u16,
+        shape: Shape<'_>,
+        allowed: usize,
+    ) -> Result<Addition, Refusal> {
+        match archive::log_add(self.bytes, name, shape, allowed).values()? {
+            [1, ..] => Ok(Addition::Finished),
+            _ => Ok(Addition::Cut),
+        }
+    }
+}
+
+/// Writes the latest shape of a name in a log at the front of the output and returns it, on its own floor. The rest
+/// of the output is kept. The log may be read-only memory; one that is also added to is a [`Book`].
+///
+/// # Errors
+/// Refused, with the output as it was: 15, 19, 8.
+///
+/// ```
+/// use cocklesway::{Refusal, Shape, log_read};
+///
+/// // From before there were floors: kind 1, name 7, the point 1 -1.
+/// let log = [13, 0, 1, 0, 7, 0, 1, 0, 0, 0, 255, 255, 255, 255, 0x5A];
+/// let mut out = [[0; 2]; 1];
+/// assert_eq!(log_read(&log, 7, &mut out), Ok(Shape::new(&[[1, -1]], 0)));
+/// assert_eq!(log_read(&log, 7, &mut []), Err(Refusal::Room));
+/// ```
+#[inline]
+pub fn log_read<'o>(log: &[u8], name: u16, out: &'o mut [[i32; 2]]) -> Result<Shape<'o>, Refusal> {
+    archive::log_read(log, name, out.as_flattened_mut()).written(out)
+}

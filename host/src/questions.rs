@@ -1,0 +1,399 @@
+//! One function for each question on shapes.
+use crate::archive;
+use crate::reply::{coordinate, narrow, position};
+use crate::{
+    Across, Clearance, Corners, Furthest, Inside, Length, Line, Nearest, Offer, Refusal, Relation,
+    Separator, Shape, Standing, Tangents, Width,
+};
+
+/// Returns how many corners the shape has.
+///
+/// # Errors
+/// Refused: 1 to 5, 13.
+///
+/// ```
+/// use cocklesway::{Refusal, Shape, Which, judge};
+///
+/// assert_eq!(judge(Shape::new(&[[0, 0], [2, 0], [2, 2], [0, 2]], 3))?.count, 4);
+///
+/// let star = Shape::new(&[[0, 0], [5, 4], [-1, 4], [4, 0], [2, 6]], 3);
+/// let broken = Refusal::Side { shape: Which::First, edge: 0, corner: 3 };
+/// assert_eq!(judge(star), Err(broken));
+///
+/// assert_eq!(judge(Shape::new(&[[0, 0]], 65_536)), Err(Refusal::Floors));
+/// # Ok::<(), Refusal>(())
+/// ```
+#[inline]
+pub fn judge(shape: Shape<'_>) -> Result<Corners, Refusal> {
+    let [count, floor, ..] = archive::judge(shape).values()?;
+    Ok(Corners {
+        count: position(count),
+        floor: narrow(floor),
+    })
+}
+
+/// Returns the corners that are furthest in a direction, the first and the last counterclockwise, and their value.
+/// A single furthest corner is both. Both corners of a segment across the direction are 0 and 1.
+///
+/// Directions must be in lowest terms: `[1, 2]`, not `[2, 4]`.
+///
+/// # Errors
+/// Refused: 1 to 5, 13, 11, 12.
+///
+/// ```
+/// use cocklesway::{Refusal, Shape, furthest};
+///
+/// let square = Shape::new(&[[0, 0], [2, 0], [2, 2], [0, 2]], 0);
+/// let answer = furthest(square, [-1, 0])?;
+/// assert_eq!((answer.first, answer.last, answer.value), (3, 0, 0));
+/// assert_eq!(furthest(square, [0, 5]), Err(Refusal::NotPrimitive));
+/// # Ok::<(), Refusal>(())
+/// ```
+#[inline]
+pub fn furthest(shape: Shape<'_>, direction: [i32; 2]) -> Result<Furthest, Refusal> {
+    let [first, last, value, floor, ..] = archive::furthest(shape, direction).values()?;
+    Ok(Furthest {
+        first: position(first),
+        last: position(last),
+        value: value.cast_signed(),
+        floor: narrow(floor),
+    })
+}
+
+/// Writes the shape of all (-x, -y) at the front of the output and returns it. The rest of the output is kept.
+///
+/// # Errors
+/// Refused, with the output as it was: 1 to 5, 13, 8.
+///
+/// ```
+/// use cocklesway::{Refusal, Shape, mirror};
+///
+/// let triangle = Shape::new(&[[0, 0], [1, 0], [0, 1]], 2);
+/// let mut out = [[7; 2]; 4];
+/// let mirrored = mirror(triangle, &mut out)?;
+/// assert_eq!(mirrored, Shape::new(&[[0, -1], [0, 0], [-1, 0]], 2));
+/// assert_eq!(out[3], [7, 7]);
+/// # Ok::<(), Refusal>(())
+/// ```
+#[inline]
+pub fn mirror<'o>(shape: Shape<'_>, out: &'o mut [[i32; 2]]) -> Result<Shape<'o>, Refusal> {
+    archive::mirror(shape, out.as_flattened_mut()).written(out)
+}
+
+/// Writes the shape of all corner-plus-corner points at the front of the output and returns it. The rest of the
+/// output is kept.
+///
+/// # Errors
+/// Refused, with the output as it was: 1 to 5 of the first list, then of the second, 13, 6, 7, 8.
+///
+/// ```
+/// use cocklesway::{Refusal, Shape, sum};
+///
+/// let square = Shape::new(&[[0, 0], [2, 0], [2, 2], [0, 2]], 3);
+/// let triangle = Shape::new(&[[0, 0], [1, 0], [0, 1]], 3);
+/// let mut out = [[0; 2]; 8];
+/// let answer = sum(square, triangle, &mut out)?;
+/// assert_eq!(answer, Shape::new(&[[0, 0], [3, 0], [3, 2], [2, 3], [0, 3]], 3));
+///
+/// assert_eq!(sum(square, triangle, &mut out[..4]), Err(Refusal::Room));
+/// # Ok::<(), Refusal>(())
+/// ```
+#[inline]
+pub fn sum<'o>(a: Shape<'_>, b: Shape<'_>, out: &'o mut [[i32; 2]]) -> Result<Shape<'o>, Refusal> {
+    archive::sum(a, b, out.as_flattened_mut()).written(out)
+}
+
+/// Writes the shape of both corner lists together at the front of the output and returns it. The rest of the
+/// output is kept.
+///
+/// # Errors
+/// Refused, with the output as it was: 1 to 5 of the first list, then of the second, 13, 6, 8.
+///
+/// ```
+/// use cocklesway::{Shape, merge};
+///
+/// let square = Shape::new(&[[0, 0], [2, 0], [2, 2], [0, 2]], 1);
+/// let mut out = [[0; 2]; 5];
+/// let answer = merge(square, Shape::new(&[[5, 1]], 1), &mut out)?;
+/// assert_eq!(answer.corners, [[0, 0], [2, 0], [5, 1], [2, 2], [0, 2]]);
+/// # Ok::<(), cocklesway::Refusal>(())
+/// ```
+#[inline]
+pub fn merge<'o>(
+    a: Shape<'_>,
+    b: Shape<'_>,
+    out: &'o mut [[i32; 2]],
+) -> Result<Shape<'o>, Refusal> {
+    archive::merge(a, b, out.as_flattened_mut()).written(out)
+}
+
+/// Writes the shape of all obstacle-corner minus cart-corner points at the front of the output and returns it. The
+/// rest of the output is kept. A cart at a place stands to the obstacle as the place stands to this shape.
+///
+/// # Errors
+/// Refused, with the output as it was: 1 to 5 of the obstacle, then of the cart, 13, 6, 7, 8.
+///
+/// ```
+/// use cocklesway::{Relation, Shape, grow, relation};
+///
+/// let bed = Shape::new(&[[-1000, -450], [1000, -450], [1000, 450], [-1000, 450]], 0);
+/// let cart = Shape::new(&[[-200, -250], [300, -250], [500, 0], [300, 250], [-200, 250]], 0);
+/// let mut out = [[0; 2]; 16];
+/// let grown = grow(bed, cart, &mut out)?;
+/// let place = Shape::new(&[[-1550, 0]], 0);
+/// assert_eq!(relation(place, grown)?.relation, Relation::Apart);
+/// # Ok::<(), cocklesway::Refusal>(())
+/// ```
+#[inline]
+pub fn grow<'o>(
+    obstacle: Shape<'_>,
+    cart: Shape<'_>,
+    out: &'o mut [[i32; 2]],
+) -> Result<Shape<'o>, Refusal> {
+    archive::grow(obstacle, cart, out.as_flattened_mut()).written(out)
+}
+
+/// Writes the shape of a set of points at the front of the output and returns it. The rest of the output is kept.
+/// The points may be in any order, repeated, and in line.
+///
+/// # Errors
+/// Refused, with the output as it was: 1 to 3, 13, 8.
+///
+/// ```
+/// use cocklesway::{Shape, sweep};
+///
+/// let points = Shape::new(&[[2, 2], [1, 0], [0, 2], [1, 1], [2, 2], [2, 0], [0, 0]], 1);
+/// let mut out = [[0; 2]; 8];
+/// assert_eq!(sweep(points, &mut out)?.corners, [[0, 0], [2, 0], [2, 2], [0, 2]]);
+/// # Ok::<(), cocklesway::Refusal>(())
+/// ```
+#[inline]
+pub fn sweep<'o>(points: Shape<'_>, out: &'o mut [[i32; 2]]) -> Result<Shape<'o>, Refusal> {
+    archive::sweep(points, out.as_flattened_mut()).written(out)
+}
+
+/// Returns the greatest squared distance of two corners, and their positions.
+///
+/// # Errors
+/// Refused: 1 to 5, 13.
+///
+/// ```
+/// use cocklesway::{Shape, length};
+///
+/// assert_eq!(length(Shape::new(&[[0, 0], [4, 0], [0, 3]], 0))?.squared, 25);
+/// # Ok::<(), cocklesway::Refusal>(())
+/// ```
+#[inline]
+pub fn length(shape: Shape<'_>) -> Result<Length, Refusal> {
+    let [squared, from, to, floor, ..] = archive::length(shape).values()?;
+    Ok(Length {
+        squared,
+        from: position(from),
+        to: position(to),
+        floor: narrow(floor),
+    })
+}
+
+/// Returns where the shape is narrowest, and how wide it is there.
+///
+/// # Errors
+/// Refused: 1 to 5, 13, 10.
+///
+/// ```
+/// use cocklesway::{Refusal, Shape, width};
+///
+/// assert_eq!(width(Shape::new(&[[0, 0], [4, 0], [0, 3]], 0))?.rounded, 2);
+/// assert_eq!(width(Shape::new(&[[0, 0], [4, 0]], 0)), Err(Refusal::Flat));
+/// # Ok::<(), Refusal>(())
+/// ```
+#[inline]
+pub fn width(shape: Shape<'_>) -> Result<Width, Refusal> {
+    let [edge, corner, turn, squared, rounded, floor, ..] = archive::width(shape).values()?;
+    Ok(Width {
+        edge: position(edge),
+        corner: position(corner),
+        turn,
+        squared,
+        rounded,
+        floor: narrow(floor),
+    })
+}
+
+/// Returns whether the shapes are apart, touching or overlapping.
+///
+/// # Errors
+/// Refused: 1 to 5 of the first list, then of the second, 13.
+///
+/// ```
+/// use cocklesway::{Relation, Shape, relation};
+///
+/// let square = Shape::new(&[[0, 0], [2, 0], [2, 2], [0, 2]], 0);
+/// let relation_of = |x, y| relation(square, Shape::new(&[[x, y]], 0)).map(|r| r.relation);
+/// assert_eq!(relation_of(3, 1), Ok(Relation::Apart));
+/// assert_eq!(relation_of(2, 1), Ok(Relation::Touching));
+/// assert_eq!(relation_of(1, 1), Ok(Relation::Overlapping));
+/// ```
+#[inline]
+pub fn relation(a: Shape<'_>, b: Shape<'_>) -> Result<Standing, Refusal> {
+    let [relation, floor, ..] = archive::relation(a, b).values()?;
+    Ok(Standing {
+        relation: Relation::of(relation),
+        floor: narrow(floor),
+    })
+}
+
+/// Returns whether the first shape is inside the second.
+///
+/// # Errors
+/// Refused: 1 to 5 of the first list, then of the second, 13.
+///
+/// ```
+/// use cocklesway::{Shape, inside};
+///
+/// let square = Shape::new(&[[0, 0], [2, 0], [2, 2], [0, 2]], 0);
+/// assert!(inside(square, square)?.within);
+/// assert!(!inside(square, Shape::new(&[[1, 1]], 0))?.within);
+/// # Ok::<(), cocklesway::Refusal>(())
+/// ```
+#[inline]
+pub fn inside(a: Shape<'_>, b: Shape<'_>) -> Result<Inside, Refusal> {
+    let [within, floor, ..] = archive::inside(a, b).values()?;
+    Ok(Inside {
+        within: within == 1,
+        floor: narrow(floor),
+    })
+}
+
+/// Returns whether a direction u v is accepted as the reason that the shapes are apart: whether every corner of the
+/// first has a strictly lesser u·x + v·y than every corner of the second. If it is not, they may be apart all the
+/// same; [`find`] knows.
+///
+/// Directions must be in lowest terms: `[1, 2]`, not `[2, 4]`.
+///
+/// # Errors
+/// Refused: 1 to 5 of the first list, then of the second, 13, 11, 12.
+///
+/// ```
+/// use cocklesway::{Refusal, Shape, offer};
+///
+/// let square = Shape::new(&[[0, 0], [2, 0], [2, 2], [0, 2]], 0);
+/// let beside = Shape::new(&[[3, 1]], 0);
+/// assert!(offer(square, beside, [1, 0])?.accepted);
+/// assert!(!offer(square, beside, [0, 1])?.accepted);
+/// assert_eq!(offer(square, beside, [0, 0]), Err(Refusal::Direction));
+/// # Ok::<(), Refusal>(())
+/// ```
+#[inline]
+pub fn offer(a: Shape<'_>, b: Shape<'_>, direction: [i32; 2]) -> Result<Offer, Refusal> {
+    let [accepted, floor, ..] = archive::offer(a, b, direction).values()?;
+    Ok(Offer {
+        accepted: accepted == 1,
+        floor: narrow(floor),
+    })
+}
+
+/// Returns a direction that is accepted as the reason that the shapes are apart, or nothing if they are not. Which
+/// of several it is, is left open.
+///
+/// # Errors
+/// Refused: 1 to 5 of the first list, then of the second, 13.
+///
+/// ```
+/// use cocklesway::{Shape, find, offer};
+///
+/// let (a, b) = (Shape::new(&[[0, 0]], 0), Shape::new(&[[3, 1]], 0));
+/// let direction = find(a, b)?.direction.expect("they are apart");
+/// assert!(offer(a, b, direction)?.accepted);
+/// # Ok::<(), cocklesway::Refusal>(())
+/// ```
+#[inline]
+pub fn find(a: Shape<'_>, b: Shape<'_>) -> Result<Separator, Refusal> {
+    Ok(match archive::find(a, b).values()? {
+        [1, u, v, floor, ..] => Separator {
+            direction: Some([coordinate(u), coordinate(v)]),
+            floor: narrow(floor),
+        },
+        [_, floor, ..] => Separator {
+            direction: None,
+            floor: narrow(floor),
+        },
+    })
+}
+
+/// Returns where the shapes are nearest, and how near. Of several places that are as near, two corners go first,
+/// then a corner of the first shape, then one of the second, each with the smallest positions.
+///
+/// # Errors
+/// Refused: 1 to 5 of the first list, then of the second, 13.
+///
+/// ```
+/// use cocklesway::{Nearest, Shape, clearance};
+///
+/// let square = Shape::new(&[[0, 0], [2, 0], [2, 2], [0, 2]], 0);
+/// let answer = clearance(square, Shape::new(&[[5, 6]], 0))?;
+/// let corners = Nearest::Corners { first: 2, second: 0, squared: 25, rounded: 5 };
+/// assert_eq!(answer.nearest, Some(corners));
+/// # Ok::<(), cocklesway::Refusal>(())
+/// ```
+#[inline]
+pub fn clearance(a: Shape<'_>, b: Shape<'_>) -> Result<Clearance, Refusal> {
+    let (nearest, floor) = match archive::clearance(a, b).values()? {
+        [0, floor, ..] => (None, floor),
+        [1, first, second, squared, rounded, floor, ..] => {
+            let corners = Nearest::Corners {
+                first: position(first),
+                second: position(second),
+                squared,
+                rounded,
+            };
+            (Some(corners), floor)
+        }
+        [kind, corner, edge, turn, squared, rounded, floor, ..] => {
+            let across = Across {
+                corner: position(corner),
+                edge: position(edge),
+                turn,
+                squared,
+                rounded,
+            };
+            let nearest = match kind {
+                2 => Nearest::CornerEdge(across),
+                _ => Nearest::EdgeCorner(across),
+            };
+            (Some(nearest), floor)
+        }
+    };
+    let floor = narrow(floor);
+    Ok(Clearance { nearest, floor })
+}
+
+/// Returns the four lines that just touch both shapes.
+///
+/// # Errors
+/// Refused: 1 to 5 of the first list, then of the second, 13, 9.
+///
+/// ```
+/// use cocklesway::{Refusal, Shape, tangents};
+///
+/// let near = Shape::new(&[[0, 0], [2, 0], [2, 2], [0, 2]], 0);
+/// let far = Shape::new(&[[5, 0], [7, 0], [7, 2], [5, 2]], 0);
+/// let below = tangents(near, far)?.left;
+/// assert_eq!((below.from, below.to), (1, 0));
+/// assert_eq!(tangents(near, near), Err(Refusal::NotApart));
+/// # Ok::<(), Refusal>(())
+/// ```
+#[inline]
+pub fn tangents(a: Shape<'_>, b: Shape<'_>) -> Result<Tangents, Refusal> {
+    let [a0, b0, a1, b1, a2, b2, a3, b3, floor] = archive::tangents(a, b).values()?;
+    let line = |from, to| Line {
+        from: position(from),
+        to: position(to),
+    };
+    Ok(Tangents {
+        left: line(a0, b0),
+        right: line(a1, b1),
+        crossing: line(a2, b2),
+        reverse: line(a3, b3),
+        floor: narrow(floor),
+    })
+}

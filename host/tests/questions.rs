@@ -1,0 +1,248 @@
+//! The exchange of the README, asked of the package.
+use cocklesway::{
+    Addition, Axis, Book, Nearest, Reading, Refusal, Relation, Shape, Walk, Which, clearance, find,
+    furthest, grow, inside, judge, length, log_read, merge, mirror, offer, relation, sum, sweep,
+    tablet, tangents, width,
+};
+
+const SQUARE: Shape = on(2, &[[0, 0], [2, 0], [2, 2], [0, 2]]);
+const TRIANGLE: Shape = on(2, &[[0, 0], [1, 0], [0, 1]]);
+const RIGHT: Shape = on(2, &[[0, 0], [4, 0], [0, 3]]);
+const STAR: Shape = on(2, &[[0, 0], [5, 4], [-1, 4], [4, 0], [2, 6]]);
+const UPSTAIRS: Shape = on(3, SQUARE.corners);
+
+const fn on(floor: u32, corners: &[[i32; 2]]) -> Shape<'_> {
+    Shape::new(corners, floor)
+}
+
+#[test]
+fn judge_counts_or_blames() {
+    let (shape, edge, corner) = (Which::First, 0, 3);
+    assert_eq!(judge(SQUARE).map(|r| (r.count, r.floor)), Ok((4, 2)));
+    assert_eq!(
+        judge(STAR),
+        Err(Refusal::Side {
+            shape,
+            edge,
+            corner
+        })
+    );
+    assert_eq!(judge(on(2, &[])), Err(Refusal::Count { shape }));
+    let odd = Shape::of_numbers(&[0, 0, 1], 2);
+    assert_eq!(judge(odd), Err(Refusal::Count { shape }));
+}
+
+#[test]
+fn furthest_has_a_signed_value() {
+    let told = |shape, d| furthest(shape, d).map(|r| (r.first, r.last, r.value, r.floor));
+    assert_eq!(told(SQUARE, [1, 1]), Ok((2, 2, 4, 2)));
+    assert_eq!(told(SQUARE, [1, 0]), Ok((1, 2, 2, 2)));
+    assert_eq!(told(SQUARE, [-1, 0]), Ok((3, 0, 0, 2)));
+    assert_eq!(told(on(2, &[[0, 0], [2, 0]]), [0, -1]), Ok((0, 1, 0, 2)));
+    assert_eq!(told(on(2, &[[1, 1]]), [-3, -2]), Ok((0, 0, -5, 2)));
+    assert_eq!(told(SQUARE, [0, 0]), Err(Refusal::Direction));
+    assert_eq!(told(SQUARE, [0, 5]), Err(Refusal::NotPrimitive));
+}
+
+#[test]
+fn shapes_are_written_to_the_front() {
+    let mut out = [[7; 2]; 6];
+    let mirrored = mirror(TRIANGLE, &mut out);
+    assert_eq!(mirrored, Ok(on(2, &[[0, -1], [0, 0], [-1, 0]])));
+    let summed = sum(SQUARE, TRIANGLE, &mut out);
+    assert_eq!(summed, Ok(on(2, &[[0, 0], [3, 0], [3, 2], [2, 3], [0, 3]])));
+    let merged = merge(SQUARE, on(2, &[[5, 1]]), &mut out);
+    assert_eq!(merged, Ok(on(2, &[[0, 0], [2, 0], [5, 1], [2, 2], [0, 2]])));
+    let grown = grow(SQUARE, TRIANGLE, &mut out);
+    let corners = [[0, -1], [2, -1], [2, 2], [-1, 2], [-1, 0]];
+    assert_eq!(grown, Ok(on(2, &corners)));
+    let points = [[2, 2], [1, 0], [0, 2], [1, 1], [2, 2], [2, 0], [0, 0]];
+    let swept = sweep(on(65_535, &points), &mut out);
+    assert_eq!(swept, Ok(on(65_535, SQUARE.corners)));
+    assert_eq!(out[4..], [[-1, 0], [7, 7]]);
+    assert_eq!(sum(SQUARE, TRIANGLE, &mut out[..4]), Err(Refusal::Room));
+    assert_eq!(out[..4], *SQUARE.corners);
+}
+
+#[test]
+fn one_shape_is_measured() {
+    let long = length(RIGHT).map(|r| (r.squared, r.from, r.to, r.floor));
+    assert_eq!(long, Ok((25, 1, 2, 2)));
+    let wide = width(RIGHT).map(|r| (r.edge, r.corner, r.turn, r.squared, r.rounded, r.floor));
+    assert_eq!(wide, Ok((1, 0, 12, 25, 2, 2)));
+    assert_eq!(width(on(2, &[[0, 0]])), Err(Refusal::Flat));
+}
+
+#[test]
+fn two_shapes_are_compared() {
+    let standing = relation(SQUARE, on(2, &[[2, 1]]));
+    assert_eq!(
+        standing.map(|r| (r.relation, r.floor)),
+        Ok((Relation::Touching, 2))
+    );
+    assert_eq!(
+        inside(TRIANGLE, SQUARE).map(|r| (r.within, r.floor)),
+        Ok((true, 2))
+    );
+    assert_eq!(
+        inside(SQUARE, on(2, &[])),
+        Err(Refusal::Count {
+            shape: Which::Second
+        })
+    );
+    let beside = on(2, &[[3, 1]]);
+    assert_eq!(
+        offer(SQUARE, beside, [1, 0]).map(|r| (r.accepted, r.floor)),
+        Ok((true, 2))
+    );
+    let found = find(beside, SQUARE).expect("they are apart");
+    let direction = found.direction.expect("they are apart");
+    assert!(direction[0] < 0 && found.floor == 2);
+    assert_eq!(
+        offer(beside, SQUARE, direction).map(|r| r.accepted),
+        Ok(true)
+    );
+    assert_eq!(
+        find(SQUARE, SQUARE).map(|r| (r.direction, r.floor)),
+        Ok((None, 2))
+    );
+}
+
+#[test]
+fn nearest_places_are_of_three_kinds() {
+    let told = |a, b| clearance(a, b).map(|r| (r.nearest, r.rounded(), r.floor));
+    let (first, second, squared, rounded) = (2, 0, 25, 5);
+    let corners = Nearest::Corners {
+        first,
+        second,
+        squared,
+        rounded,
+    };
+    assert_eq!(told(SQUARE, on(2, &[[5, 6]])), Ok((Some(corners), 5, 2)));
+    assert_eq!(told(SQUARE, on(2, &[[2, 1]])), Ok((None, 0, 2)));
+    let beside = on(2, &[[3, 1]]);
+    for (a, b) in [(SQUARE, beside), (beside, SQUARE)] {
+        let (nearest, rounded, floor) = told(a, b).expect("both are shapes");
+        let across = match nearest {
+            Some(Nearest::EdgeCorner(across)) if a == SQUARE => across,
+            Some(Nearest::CornerEdge(across)) if b == SQUARE => across,
+            other => panic!("{other:?}"),
+        };
+        assert_eq!(
+            (across.corner, across.edge, across.turn, across.squared),
+            (0, 1, 2, 4)
+        );
+        assert_eq!((rounded, across.rounded, floor), (1, 1, 2));
+    }
+}
+
+#[test]
+fn lines_just_touch() {
+    let answer =
+        tangents(SQUARE, on(2, &[[5, 0], [7, 0], [7, 2], [5, 2]])).expect("they are apart");
+    let lines = [answer.left, answer.right, answer.crossing, answer.reverse];
+    assert_eq!(
+        lines.map(|line| [line.from, line.to]),
+        [[1, 0], [2, 3], [1, 3], [2, 0]]
+    );
+    assert_eq!(answer.floor, 2);
+    assert_eq!(tangents(SQUARE, SQUARE), Err(Refusal::NotApart));
+}
+
+#[test]
+fn two_floors_are_refused() {
+    let mut out = [[7; 2]; 6];
+    assert_eq!(relation(SQUARE, UPSTAIRS), Err(Refusal::Floors));
+    assert_eq!(sum(UPSTAIRS, TRIANGLE, &mut out[..0]), Err(Refusal::Floors));
+    let none = on(3, &[]);
+    assert_eq!(
+        merge(SQUARE, none, &mut out),
+        Err(Refusal::Count {
+            shape: Which::Second
+        })
+    );
+    assert_eq!(Walk::begin(SQUARE, UPSTAIRS), Err(Refusal::Floors));
+    let part = Walk::at(0, 0, false).part(SQUARE, UPSTAIRS, 9, &mut out);
+    assert_eq!(part, Err(Refusal::Floors));
+    assert_eq!(out, [[7; 2]; 6]);
+}
+
+#[test]
+fn parts_hand_back_the_walk() {
+    let mut out = [[7; 2]; 3];
+    let begun = Walk::begin(SQUARE, TRIANGLE).expect("both are shapes");
+    assert_eq!(begun, Walk::at(0, 0, false));
+    let part = begun
+        .part(SQUARE, TRIANGLE, 2, &mut out)
+        .expect("there is room");
+    assert_eq!((part.corners, part.floor), (&[[0, 0], [3, 0]][..], 2));
+    assert_eq!(part.walk, Walk::at(2, 1, false));
+    let part = part
+        .walk
+        .part(SQUARE, TRIANGLE, 9, &mut out)
+        .expect("there is room");
+    assert_eq!(part.corners, [[3, 2], [2, 3], [0, 3]]);
+    assert!(part.walk.is_over());
+    let none = part
+        .walk
+        .part(SQUARE, TRIANGLE, 9, &mut [])
+        .expect("nothing is left");
+    assert_eq!((none.corners.len(), none.walk.is_over()), (0, true));
+    let nowhere = Walk::at(9, 0, false).part(SQUARE, TRIANGLE, 1, &mut []);
+    assert_eq!(nowhere, Err(Refusal::NotAPlace));
+}
+
+#[test]
+fn readings_are_exact() {
+    let (x, y) = (Reading::Millimetres(3.0), Reading::Eighths(-16.0));
+    assert_eq!(tablet(x, y), Ok([3, -2]));
+    let axis = Axis::Y;
+    assert_eq!(
+        tablet(x, Reading::Eighths(4.0)),
+        Err(Refusal::NotWhole { axis })
+    );
+    assert_eq!(
+        tablet(x, Reading::Eighths(f64::NAN)),
+        Err(Refusal::NotFinite { axis })
+    );
+    let far = Reading::Eighths(8_000_008.0);
+    assert_eq!(tablet(x, far), Err(Refusal::FarReading { axis }));
+}
+
+/// Point 1 -1 named 7 on floor 258.
+#[rustfmt::skip]
+const RECORD: [u8; 17] = [15, 0, 2, 0, 7, 0, 2, 1, 1, 0, 0, 0, 255, 255, 255, 255, 0x5A];
+
+/// The same from before there were floors.
+const OLD: [u8; 15] = [13, 0, 1, 0, 7, 0, 1, 0, 0, 0, 255, 255, 255, 255, 0x5A];
+
+#[test]
+fn log_is_added_to_and_read() {
+    let (mut log, mut out) = ([0; 18], [[3; 2]; 2]);
+    let point = on(258, &[[1, -1]]);
+    let mut book = Book::new(&mut log);
+    assert_eq!(book.add(7, point, 16), Ok(Addition::Cut));
+    assert_eq!(book.read(7, &mut out), Err(Refusal::NoRecord));
+    assert_eq!(book.add(7, point, 36), Ok(Addition::Finished));
+    assert_eq!(book.bytes(), [&RECORD[..], &[0]].concat());
+    assert_eq!(book.read(7, &mut out), Ok(point));
+    assert_eq!(book.add(7, point, 36), Err(Refusal::Full));
+    assert_eq!(book.read(7, &mut []), Err(Refusal::Room));
+    assert_eq!(out, [[1, -1], [3, 3]]);
+    log[2] = 1;
+    assert_eq!(
+        log_read(&log, 7, &mut out),
+        Err(Refusal::Damaged { place: 0 })
+    );
+}
+
+#[test]
+fn log_has_records_of_both_kinds() {
+    let mut log = [&RECORD[..], &OLD].concat();
+    assert_eq!(log_read(&log, 7, &mut [[0; 2]]), Ok(on(0, &[[1, -1]])));
+    log[17 + 2] = 3;
+    assert_eq!(
+        log_read(&log, 7, &mut [[0; 2]]),
+        Err(Refusal::Damaged { place: 17 })
+    );
+}
