@@ -1,5 +1,8 @@
 -- What is passed to the calls on lists for bytes, and what becomes of their reply. Our own, not of document 02.
 --     Alike l s               s may be asked about in place of l: it is l, or both are refused 1, or both 2
+--     smallBytes              so many bytes hold a small list
+--     Enough b n              n numbers hold what is read of b bytes
+--     Spacious m n s          s numbers hold a shape that has no more numbers than m and n together
 --     Cut n r                 r of n numbers are read: all, or more than a shape may have, even or odd as n is
 --     Room b most r           an output of b bytes has room for a shape exactly if r numbers have; for one of at most `most` numbers
 --     Holds m a b most        so many numbers hold what is made of two valid lists, unless it has too many corners
@@ -30,6 +33,15 @@ pub data Alike (l s : List ℤ) : Type 0 where
   equal : s ≡ l → Alike l s
   odd : badCount l ≡ true → badCount s ≡ true → Alike l s
   many : badCount l ≡ false → badCount s ≡ false → tooMany (points l) ≡ true → tooMany (points s) ≡ true → Alike l s
+
+unfoldable pub smallBytes : ℕ
+smallBytes = 1024
+
+abbrev pub Enough : ℕ → ℕ → Type 0
+Enough b n = (r : ℕ) → 4 * r ≤ b → r ≤ 3 + 2 * maxCorners → r ≤ n
+
+abbrev pub Spacious : ℕ → ℕ → ℕ → Type 0
+Spacious m n s = (c : ℕ) → c ≤ maxCorners → 2 * c ≤ m + n → 2 * c ≤ s
 
 pub record Cut (n r : ℕ) : Type 0 where
   pub within : r ≤ n

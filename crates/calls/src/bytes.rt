@@ -1,18 +1,17 @@
 // The calls on plain bytes (document 02, W14). A list is lent as bytes, four to a number, the lowest first. Each call
 // returns one number, from its low end: a byte for the refusal, or 0; a byte for the shape that 1 to 5 blame, or 0; two
 // bytes for 4's edge, or when answered for the count of corners, of a relation 0 apart, 1 touching, 2 overlapping; two
-// for 4's corner, or when answered for the floor. The lists are decoded into buffers, the call on lists is asked, and
-// its reply is packed.
+// for 4's corner, or when answered for the floor. The lists are decoded into buffers, which are small for small lists,
+// the call on lists is asked, and its reply is packed.
 ghost use mathlib.Core.Path.{_≡_};
+ghost use Prim.Native.Nat.{_≤_};
+ghost use lib.ListN.{length};
 ghost use Rattle.plane.specs.Question.{reply};
 ghost use Rattle.calls.specs.Packing.{packed};
 ghost use Rattle.calls.specs.Bytes.{askJudgeBytes, askRelationBytes, askSumBytes, askMergeBytes, bytesAfter};
-ghost use Rattle.calls.specs.Passing.{askBytes};
+ghost use Rattle.calls.specs.Passing.{askBytes, smallBytes};
 use crate::decoding;
-use crate::packing;
-use crate::pairs;
-use crate::shapes;
-use crate::writing;
+use crate::lent;
 use polygon::limits;
 
 // Judges whether the bytes hold a shape, and returns how many corners it has. Refused: 1 to 5, where a count of bytes
@@ -22,9 +21,12 @@ use polygon::limits;
 pub extern "C" fn cocklesway_judge_bytes(list: &[u8], floor: u32) -> u64
     ensures { λ r. ⌜ r ≡ packed (reply (askJudgeBytes (now (list .entry)) floor)) ⌝ }
 {
+    if decoding::is_small(list.len()) {
+        let mut few = [0i32; decoding::SMALL_NUMBERS];
+        return lent::judge(list, floor, &mut few);
+    }
     let mut numbers = [0i32; decoding::NUMBERS];
-    let n = decoding::read(list, &mut numbers);
-    packing::packed_reply(shapes::cocklesway_judge(&numbers[..n], floor))
+    lent::judge(list, floor, &mut numbers)
 }
 
 // Writes the bytes of the shape of all corner-plus-corner points to the front of the output, keeps all after them, and
@@ -55,19 +57,44 @@ pub extern "C" fn cocklesway_merge_bytes(a: &[u8], f: u32, b: &[u8], g: u32, out
     combine(true, a, f, b, g, out)
 }
 
-// Reads two lists and asks for their merge, or for their sum.
+// Asks for the merge of the shapes, or for their sum.
 fn combine(merged: bool, a: &[u8], f: u32, b: &[u8], g: u32, out: &mut [u8]) -> u64
     ensures { λ r. ⌜
         (r ≡ packed (reply (askBytes merged (now (a .entry)) f (now (b .entry)) g (now (out .entry)))))
         × (now (out .exit)
         ≡ bytesAfter (askBytes merged (now (a .entry)) f (now (b .entry)) g (now (out .entry))) (now (out .entry))) ⌝ }
 {
+    if decoding::are_small(a.len(), b.len()) {
+        return combine_small(merged, a, f, b, g, out);
+    }
+    combine_large(merged, a, f, b, g, out)
+}
+
+// The same of two small lists: what is made of them has no more numbers than both.
+fn combine_small(merged: bool, a: &[u8], f: u32, b: &[u8], g: u32, out: &mut [u8]) -> u64
+    requires { ⌜ (length (now a) ≤ smallBytes) × (length (now b) ≤ smallBytes) ⌝ }
+    ensures { λ r. ⌜
+        (r ≡ packed (reply (askBytes merged (now (a .entry)) f (now (b .entry)) g (now (out .entry)))))
+        × (now (out .exit)
+        ≡ bytesAfter (askBytes merged (now (a .entry)) f (now (b .entry)) g (now (out .entry))) (now (out .entry))) ⌝ }
+{
+    let mut first = [0i32; decoding::SMALL_NUMBERS];
+    let mut second = [0i32; decoding::SMALL_NUMBERS];
+    let mut shape = [0i32; 2 * decoding::SMALL_NUMBERS];
+    lent::combine(merged, a, f, b, g, &mut first, &mut second, &mut shape, out)
+}
+
+// The same of any two lists.
+fn combine_large(merged: bool, a: &[u8], f: u32, b: &[u8], g: u32, out: &mut [u8]) -> u64
+    ensures { λ r. ⌜
+        (r ≡ packed (reply (askBytes merged (now (a .entry)) f (now (b .entry)) g (now (out .entry)))))
+        × (now (out .exit)
+        ≡ bytesAfter (askBytes merged (now (a .entry)) f (now (b .entry)) g (now (out .entry))) (now (out .entry))) ⌝ }
+{
     let mut first = [0i32; decoding::NUMBERS];
-    let m = decoding::read(a, &mut first);
     let mut second = [0i32; decoding::NUMBERS];
-    let n = decoding::read(b, &mut second);
     let mut shape = [0i32; limits::SHAPE_NUMBERS];
-    writing::combine(merged, &first[..m], f, &second[..n], g, &mut shape, out)
+    lent::combine(merged, a, f, b, g, &mut first, &mut second, &mut shape, out)
 }
 
 // Returns whether the shapes are apart, touching or overlapping. Refused: 1 to 5 of the first list, then of the second;
@@ -77,9 +104,12 @@ fn combine(merged: bool, a: &[u8], f: u32, b: &[u8], g: u32, out: &mut [u8]) -> 
 pub extern "C" fn cocklesway_relation_bytes(a: &[u8], f: u32, b: &[u8], g: u32) -> u64
     ensures { λ r. ⌜ r ≡ packed (reply (askRelationBytes (now (a .entry)) f (now (b .entry)) g)) ⌝ }
 {
+    if decoding::are_small(a.len(), b.len()) {
+        let mut few = [0i32; decoding::SMALL_NUMBERS];
+        let mut others = [0i32; decoding::SMALL_NUMBERS];
+        return lent::relation(a, f, b, g, &mut few, &mut others);
+    }
     let mut first = [0i32; decoding::NUMBERS];
-    let m = decoding::read(a, &mut first);
     let mut second = [0i32; decoding::NUMBERS];
-    let n = decoding::read(b, &mut second);
-    packing::packed_reply(pairs::cocklesway_relation(&first[..m], f, &second[..n], g))
+    lent::relation(a, f, b, g, &mut first, &mut second)
 }

@@ -1,20 +1,38 @@
 // Inner functions: the list that bytes hold, read into a buffer.
 ghost use mathlib.Core.Path.{_≡_};
-ghost use Prim.Native.Nat.{_+_, _*_, _≤_};
+ghost use mathlib.Core.Bool.{_&&_};
+ghost use Prim.Native.Nat.{_≤_};
+ghost use lib.Dec.{leb};
 ghost use lib.ListN.{length, take};
-ghost use Rattle.plane.specs.Limits.{maxCorners};
 ghost use Rattle.calls.specs.Bytes.{listOf};
-ghost use Rattle.calls.specs.Passing.{Alike, Cut};
+ghost use Rattle.calls.specs.Passing.{Alike, Cut, Enough, smallBytes};
 use polygon::limits;
 
 // So many numbers are more than a shape may have, whether their count is even or odd.
 pub const NUMBERS: usize = limits::SHAPE_NUMBERS + 3;
 
-// Reads the list that bytes hold to the front of a buffer, and answers how many numbers were read. Of a list too long
-// for the buffer only a front is read, which is refused as the list is.
+// So many numbers hold a small list. A buffer is cleared before it is used, and a small one is sooner clear.
+pub const SMALL_NUMBERS: usize = 256;
+
+// Whether so many bytes hold a small list.
+pub fn is_small(bytes: usize) -> bool
+    ensures { λ r. ⌜ r ≡ leb bytes smallBytes ⌝ }
+{
+    bytes <= 4 * SMALL_NUMBERS
+}
+
+// Whether two lists are small.
+pub fn are_small(m: usize, n: usize) -> bool
+    ensures { λ r. ⌜ r ≡ (leb m smallBytes && leb n smallBytes) ⌝ }
+{
+    is_small(m) && is_small(n)
+}
+
+// Reads the list that bytes hold to the front of a buffer, and returns how many numbers were read. Of a list that has
+// too many numbers for a shape only a front is read, which is refused as the list is.
 pub fn read(bytes: &[u8], numbers: &mut [i32]) -> usize
-    requires { ⌜ length (now numbers) ≡ 3 + 2 * maxCorners ⌝ }
-    ensures { λ r. ⌜ (length (now (numbers .exit)) ≡ 3 + 2 * maxCorners) × (r ≤ 3 + 2 * maxCorners)
+    requires { ⌜ Enough (length (now bytes)) (length (now numbers)) ⌝ }
+    ensures { λ r. ⌜ (r ≤ length (now (numbers .exit)))
         × Alike (listOf (now (bytes .entry))) (take r (now (numbers .exit))) ⌝ }
 {
     if bytes.len() % 4 != 0 {

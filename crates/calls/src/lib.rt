@@ -5,6 +5,7 @@
 mod bytes;
 mod decoding;
 mod floors;
+mod lent;
 mod logs;
 mod packing;
 mod pairs;

@@ -1,91 +1,39 @@
--- `combine` meets its contract: the lists are read, and the question is asked.
-use mathlib.Core.Path.{refl, sym, _∙_, ap}
-use mathlib.Core.List.{List}
-use native.Mathlib.Omega.{arith}
-use lib.IntN.{ℤ}
-use lib.Seq.{length-take-le}
-use Rattle.plane.specs.Limits.{maxCorners}
-use Rattle.plane.specs.Floor.{on}
-use Rattle.plane.specs.Question.{Question}
-use Rattle.calls.specs.LowFloor.{lowFloor}
-use Rattle.calls.specs.Bytes.{wordsIn}
-use Rattle.calls.specs.Packing.{packed}
-use Rattle.calls.specs.Passing.{combined, asked}
-use Rattle.calls.specs.theory.Alike.{pair-reply, pair-bytes}
-use Rattle.calls.specs.theory.Stored.{few-numbers}
+-- `combine` meets its contract, which is that of the one that it calls.
+use mathlib.Core.Path.{sym, _∙_}
+use Rattle.calls.specs.theory.Few.{both-small}
 use borrow.Author.Needs.{needs}
 use Rattle.calls.proofs.bytes.combine.Statement.{statement}
 use Rattle.calls.proofs.bytes.combine.Tie as tie
 
-slice-aggregate-read : tie.Need-slice-aggregate-read
-slice-aggregate-read c = search needs
+are-small-requires : tie.Need-are-small-requires
+are-small-requires c κs = search needs
 
-read-requires : tie.Need-read-requires
-unfolding maxCorners
-read-requires c κs = refl
-
-slice-aggregate-read-2 : tie.Need-slice-aggregate-read-2
-slice-aggregate-read-2 c = search needs
-
-read-requires-2 : tie.Need-read-requires-2
-read-requires-2 c κs = search needs
-
-array-share-prefix-first : tie.Need-array-share-prefix-first
-array-share-prefix-first c = search needs
-
-slice-aggregate-combine : tie.Need-slice-aggregate-combine
-slice-aggregate-combine c =
-    let at-first = c .before .before .before .before .before in
-    sym (length-take-le _ (at-first .read .last .1 .0) (omega (arith, at-first .read .ensures .0, at-first .read .ensures .1)))
-
-array-share-prefix-second : tie.Need-array-share-prefix-second
-array-share-prefix-second c = search needs
-
-slice-aggregate-combine-2 : tie.Need-slice-aggregate-combine-2
-slice-aggregate-combine-2 c =
-    let at-second = c .before .before .before in
-    sym (length-take-le _ (at-second .read2 .last .1 .0) (omega (arith, at-second .read2 .ensures .0, at-second .read2 .ensures .1)))
-
-slice-aggregate-combine-3 : tie.Need-slice-aggregate-combine-3
-slice-aggregate-combine-3 c = search needs
-
-combine-requires : tie.Need-combine-requires
-unfolding maxCorners
-combine-requires c κs = λ v w few. few-numbers _ few
+combine-small-requires : tie.Need-combine-small-requires
+combine-small-requires c κs = both-small _ _ (sym (c .before .before .are-small .ensures) ∙ c .before .if1 .taken)
 
 same-length : tie.Need-same-length
 same-length c = search needs
 
 returns : tie.Need-returns
-unfolding lowFloor
-returns c =
-    let at-combine = c .before .before .before in
-    let at-second = at-combine .before .before .before .before .before .before in
-    let at-first = at-second .before .before .before in
-    let args = at-first .before .before .before .before .before .args in
-    let f = args .f in
-    let g = args .g in
-    let out = wordsIn (args .out .now) in
-    let asks : List ℤ → List ℤ → Question = λ (l m : List ℤ). asked (combined (args .merged)) (on l f) (on m g) out in
-    let u = at-first .read .ensures .2 in
-    let v = at-second .read2 .ensures .2 in (
-      at-combine .combine .ensures .0 ∙ ap packed (pair-reply f g asks (λ l m. refl) u v),
-      at-combine .combine .ensures .1 ∙ pair-bytes f g asks (λ l m. refl) u v (args .out .now),
-    )
+returns c = search needs
+
+combine-large-requires : tie.Need-combine-large-requires
+combine-large-requires c κs = search needs
+
+same-length-2 : tie.Need-same-length-2
+same-length-2 c = search needs
+
+returns-2 : tie.Need-returns-2
+returns-2 c = search needs
 
 pub combine-spec : {M : Type 1} → statement M
 combine-spec =
     tie.close
     (tie.spec
-    slice-aggregate-read
-    read-requires
-    slice-aggregate-read-2
-    read-requires-2
-    array-share-prefix-first
-    slice-aggregate-combine
-    array-share-prefix-second
-    slice-aggregate-combine-2
-    slice-aggregate-combine-3
-    combine-requires
+    are-small-requires
+    combine-small-requires
     same-length
-    returns)
+    returns
+    combine-large-requires
+    same-length-2
+    returns-2)

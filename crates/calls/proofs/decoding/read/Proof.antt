@@ -2,10 +2,12 @@
 use mathlib.Core.Path.{sym, _∙_, subst}
 use mathlib.Core.List.{List}
 use native.Mathlib.Omega.{arith}
+use Prim.Native.Nat.{_≤_}
 use lib.IntN.{ℤ}
+use lib.ListN.{length}
 use Rattle.endian.specs.Bytes.{wordsAt}
 use Rattle.endian.specs.theory.Bytes.{wordsAt-length}
-use Rattle.endian.specs.theory.Coded.{front-is, front-length}
+use Rattle.endian.specs.theory.Coded.{front-is}
 use Rattle.calls.specs.Bytes.{listOf}
 use Rattle.calls.specs.Passing.{Alike}
 use Rattle.calls.specs.theory.Alike.{none-alike, cut-alike}
@@ -13,14 +15,20 @@ use borrow.Author.Needs.{needs}
 use Rattle.calls.proofs.decoding.read.Statement.{statement}
 use Rattle.calls.proofs.decoding.read.Tie as tie
 
+-- what is read has room in the buffer
+holds : (c : tie.After-cut) → c .cut .result ≤ length (c .before .before .before .args .numbers .now)
+holds c =
+    let few = c .cut .ensures in
+    c .before .before .before .pre _ (omega (arith, few .within)) (few .few)
+
 returns : tie.Need-returns
-returns c = (c .before .before .pre, omega arith, none-alike _ (c .if1 .taken))
+returns c = (omega arith, none-alike _ (c .if1 .taken))
 
 cut-requires : tie.Need-cut-requires
 cut-requires c κs = search needs
 
 decode-requires : tie.Need-decode-requires
-decode-requires c κs = search needs
+decode-requires c κs = (omega (arith, c .before .cut .ensures .within), omega (arith, holds (c .before)))
 
 same-length : tie.Need-same-length
 same-length c = search needs
@@ -32,12 +40,9 @@ returns-2 c =
     let bs = start .args .bytes .now in
     let n = at-cut .cut .result in
     let l = wordsAt n bs 0 in
-    let old = start .args .numbers .now in
-    let count = wordsAt-length bs n 0 in
-    let few = at-cut .cut .ensures .few in (
-      front-length l old _ (c .before .decode .ensures) (omega (arith, count, few, start .pre)) ∙ start .pre,
-      few,
-      subst (λ (s : List ℤ). Alike (listOf bs) s) (sym (front-is l old _ (c .before .decode .ensures) n count))
+    let old = start .args .numbers .now in (
+      omega (arith, holds at-cut, c .before .decode .kept .1 .1 .1 .0),
+      subst (λ (s : List ℤ). Alike (listOf bs) s) (sym (front-is l old _ (c .before .decode .ensures) n (wordsAt-length bs n 0)))
           (cut-alike bs n (at-cut .before .if1 .left) (at-cut .cut .ensures)),
     )
 
