@@ -15,6 +15,7 @@ pub const NUMBERS: usize = limits::SHAPE_NUMBERS + 3;
 pub const SMALL_NUMBERS: usize = 256;
 
 // Whether so many bytes hold a small list.
+// Ruled out: long list in a small buffer.
 pub fn is_small(bytes: usize) -> bool
     ensures { λ r. ⌜ r ≡ leb bytes smallBytes ⌝ }
 {

@@ -18,9 +18,6 @@ ghost use mathlib.Core.Path.{_≡_};
 ghost use Rattle.plane.specs.Limits.{maxCorners, maxPoints, maxCoordinate, maxPart, maxFloor};
 use polygon::limits;
 
-// The highest floor: what 16 bits hold, as the questions take floors.
-const MAX_FLOOR: u64 = 65_535;
-
 // Returns 2. The name carries the version: a host that is built for it does not link with an older archive.
 #[no_mangle]
 pub extern "C" fn cocklesway_version_2() -> u64
@@ -52,6 +49,6 @@ pub extern "C" fn cocklesway_limits() -> Limits
         points: limits::MAX_POINTS as u64,
         coordinate: limits::MAX_COORDINATE as u64,
         part: limits::MAX_PART as u64,
-        floor: MAX_FLOOR,
+        floor: limits::MAX_FLOOR as u64,
     }
 }
