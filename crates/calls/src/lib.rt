@@ -1,19 +1,22 @@
 // The calls of a host in Rust or C: every question, with lists of numbers and floors that are any numbers. A list is
 // lent as a pointer and a count. A floor above its limit is refused 13, after the lists and before what the question
-// itself refuses. Each call answers a `Reply`: the numbers of the reply that the question's definition states.
+// itself refuses. Each call answers a `Reply`: the numbers of the reply that the question's definition states. Four
+// questions can be asked on plain bytes too; each of these calls answers one number.
+mod bytes;
+mod decoding;
 mod floors;
+mod lent;
 mod logs;
+mod packing;
 mod pairs;
 mod readings;
 mod shapes;
 mod walks;
+mod writing;
 
 ghost use mathlib.Core.Path.{_≡_};
 ghost use Rattle.plane.specs.Limits.{maxCorners, maxPoints, maxCoordinate, maxPart, maxFloor};
 use polygon::limits;
-
-// The highest floor: what 16 bits hold, as the questions take floors.
-const MAX_FLOOR: u64 = 65_535;
 
 // Returns 2. The name carries the version: a host that is built for it does not link with an older archive.
 #[no_mangle]
@@ -46,6 +49,6 @@ pub extern "C" fn cocklesway_limits() -> Limits
         points: limits::MAX_POINTS as u64,
         coordinate: limits::MAX_COORDINATE as u64,
         part: limits::MAX_PART as u64,
-        floor: MAX_FLOOR,
+        floor: limits::MAX_FLOOR as u64,
     }
 }

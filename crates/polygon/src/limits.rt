@@ -16,7 +16,7 @@ pub const MAX_COORDINATE: i32 = 1_000_000;
 
 pub const MAX_PART: i32 = 2_000_000;
 
-const MAX_FLOOR: u32 = 65_535;
+pub const MAX_FLOOR: u32 = 65_535;
 
 // So many numbers hold the corners of any shape.
 pub const SHAPE_NUMBERS: usize = 2 * MAX_CORNERS;

@@ -11,9 +11,12 @@ cast-t3 c = search needs
 cast-t4 : tie.Need-cast-t4
 cast-t4 c = search needs
 
+cast-t5 : tie.Need-cast-t5
+cast-t5 c = search needs
+
 returns : tie.Need-returns
 unfolding maxCorners maxPoints maxCoordinate maxPart maxFloor
 returns c = (refl, refl, refl, refl, refl)
 
 pub cocklesway-limits-spec : {M : Type 1} → statement M
-cocklesway-limits-spec = tie.close (tie.spec cast-t3 cast-t4 returns)
+cocklesway-limits-spec = tie.close (tie.spec cast-t3 cast-t4 cast-t5 returns)
