@@ -16,7 +16,8 @@ use polygon::extent;
 use polygon::limits;
 
 // Returns the number of corners of a sum that is to be written to an output of so many numbers. Where the corners of
-// both shapes together are few enough, their number is returned instead: no sum has more.
+// both shapes together are few enough, their number is returned instead: no sum has more. The count stops after one
+// corner more than a shape may have: the sum is refused then, however many follow.
 pub fn reckon(a: &[i32], b: &[i32], room: usize) -> usize
     requires { ⌜ Valid (now a) × Valid (now b) ⌝ }
     ensures { λ r. ⌜ Reckoned (length (shapeOf (sums (points (now (a .entry))) (points (now (b .entry)))))) room r ⌝ }
@@ -25,7 +26,7 @@ pub fn reckon(a: &[i32], b: &[i32], room: usize) -> usize
     if suffices(most, room) {
         return most;
     }
-    count_on(a, b, 0, 0, most)
+    count_on(a, b, 0, 0, limits::MAX_CORNERS + 1)
 }
 
 // Returns whether so many corners are not more than a shape may have, nor more than an output of so many numbers holds.

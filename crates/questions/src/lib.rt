@@ -125,7 +125,7 @@ pub fn mirror(list: &[i32], floor: u16, out: &mut [i32]) -> Answer
 // was: 1 to 5 of the first shape, then of the second; different floors; then an answer of too many corners, one out of
 // range, and too small an output. On success all behind the written numbers is kept.
 // Ruled out: parallel corners kept; segment passed once; origin for every sum; second shape judged first; sum written
-// in too small an output; far sum written.
+// in too small an output; far sum written; too large a sum written.
 pub fn sum(a: &[i32], f: u16, b: &[i32], g: u16, out: &mut [i32]) -> Answer
     ensures { λ r. ⌜
         (ofAnswer r ≡ reply (askSum (on (now (a .entry)) f) (on (now (b .entry)) g) (now (out .entry))))

@@ -1,22 +1,23 @@
 -- A shape's size, and its numbers, written to an output.
---     sized-rows, fit-rows     what its size says of rows 6, 7 and 8; `judged-by`: so it is judged by these; `room-there`: there is room
+--     sized-rows, judged-by     what its size says of rows 6 and 7, and that it is judged by these; `fit-judged`: by 8 too
+--     room-there          where no row applies, there is room
 --     numbers-outside     row 7 is asked of the numbers as they are
 --     copied              a copy of the list is the shape's numbers, and all after them is kept
 --     made-delivered      what is delivered of the front of a buffer, where the shape that a question makes is; `front-paired`: its numbers
 --     sweep-delivered     the same of the shape of a sweep
 use mathlib.Core.Path.{_≡_, sym, _∙_, ap, ap₂, subst}
-use mathlib.Core.Bool.{Bool}
+use mathlib.Core.Bool.{Bool, true, true≢false}
 use mathlib.Core.List.{List, [], _∷_, _++_}
-use Prim.Native.Nat.{ℕ, _%_, _*_, _+_, _≤_}
+use Prim.Native.Nat.{ℕ, _%_, _*_, _+_, _≤_, _<_}
 use native.Mathlib.Omega.{arith}
-use borrow.Author.Tests.{ltb-false, le-ltb}
+use borrow.Author.Tests.{ltb-false, lt-ltb, le-ltb}
 use lib.Dec.{ltb}
 use lib.IntN.{ℤ}
 use lib.ListN.{length, take, drop}
 use lib.Seq.{paste, take-length}
 use Rattle.plane.specs.Point.{Point, points, numbers}
 use Rattle.plane.specs.Limits.{maxCorners}
-use Rattle.plane.specs.Reply.{Reply, Row, row, NoneApply}
+use Rattle.plane.specs.Reply.{Reply, answered, Row, row, NoneApply, here}
 use Rattle.plane.specs.Refusal.{tooMany, someOutside}
 use Rattle.plane.specs.Corner.{shapeOf}
 use Rattle.plane.specs.Output.{noRoom, sizeRows, roomRow, answerRows, overwritten}
@@ -24,44 +25,65 @@ use Rattle.plane.specs.Sweep.{ValidPoints}
 use Rattle.plane.specs.Floor.{Floored, corners, Shapes, noShape, manyPoints, rowsOf, floorOf, Admitted}
 use Rattle.plane.specs.Question.{reply, output, makes, askSweep}
 use Rattle.plane.specs.theory.lists.Flat.{numbers-points, numbers-length}
-use Rattle.plane.specs.theory.refusals.Rows.{firstRow-passed, passed-output}
+use Rattle.plane.specs.theory.refusals.Rows.{row-given, firstRow-given, firstRow-passed, passed-output}
 use Rattle.plane.specs.theory.refusals.Asked.{admitted→none}
 use Rattle.plane.specs.theory.sweep.SweepSize.{sweep-size}
 use Rattle.polygon.specs.Front.{Front}
 use Rattle.polygon.specs.theory.Fronts.{front-points, front-length}
-use Rattle.calipers.specs.Size.{Reckoned, exact, enough}
+use Rattle.calipers.specs.Size.{Reckoned, exact, enough, many}
 use Rattle.admission.specs.declared.Admission.{Admission}
-use Rattle.admission.specs.Admission.{Judged}
+use Rattle.admission.specs.Admission.{Refuses, Judged}
 use Rattle.admission.specs.Fit.{sizedRows, fitRows}
 
 -- ---- the size of a shape
+
+-- what is judged by one table is judged by an equal one
+pub judged-by : {vs ws : List Row} → vs ≡ ws → {x : Admission} → Judged (NoneApply vs) vs x → Judged (NoneApply ws) ws x
+judged-by e {x} j = subst (λ (rows : List Row). Judged (NoneApply rows) rows x) e j
 
 module _ (S : List Point) where
   many-is : {n room : ℕ} → Reckoned (length S) room n → ltb maxCorners n ≡ tooMany S
   unfolding tooMany
   many-is (exact e) = ap (ltb maxCorners) e
   many-is (enough h k l) = le-ltb maxCorners _ k ∙ sym (le-ltb maxCorners (length S) (omega arith))
-
-  room-is : (old : List ℤ) {n : ℕ} → Reckoned (length S) (length old) n → ltb (length old) (2 * n) ≡ noRoom S old
-  unfolding noRoom
-  room-is old (exact e) = ap (ltb (length old)) (ap (λ k. 2 * k) e ∙ sym (numbers-length S))
-  room-is old (enough h k l) = le-ltb (length old) _ l ∙ sym (le-ltb (length old) (length (numbers S)) (omega (arith, numbers-length S)))
+  many-is (many h k) = lt-ltb maxCorners _ k ∙ sym (lt-ltb maxCorners (length S) h)
 
   module _ {far : Bool} (f : far ≡ someOutside (numbers S)) where
     pub sized-rows : {n room : ℕ} → Reckoned (length S) room n → sizedRows n far ≡ sizeRows S
     sized-rows r = ap₂ (λ (s t : Bool). row 6 s [] ∷ row 7 t [] ∷ []) (many-is r) f
 
-    pub fit-rows : (old : List ℤ) {n : ℕ} → Reckoned (length S) (length old) n → fitRows n far (length old) ≡ answerRows S old
-    fit-rows old r = ap₂ (λ (v : List Row) (t : Bool). v ++ (row 8 t [] ∷ [])) (sized-rows r) (room-is old r)
+    module _ (old : List ℤ) {n : ℕ} where
+      fit-rows : Reckoned (length S) (length old) n → ltb (length old) (2 * n) ≡ noRoom S old
+          → fitRows n far (length old) ≡ answerRows S old
+      fit-rows r e = ap₂ (λ (v : List Row) (t : Bool). v ++ (row 8 t [] ∷ [])) (sized-rows r) e
+
+      -- more corners than a shape may have: 6, whatever the room
+      large : maxCorners < n → tooMany S ≡ true → {r : Reply} → Refuses (fitRows n far (length old)) r → Refuses (answerRows S old) r
+      large h t {r} g = record {
+        by = row 6 (tooMany S) [];
+        first = here t;
+        is = g .is ∙ sym (firstRow-given (answered []) (g .first))
+            ∙ sym (row-given (row 6 (ltb maxCorners n) []) (row 7 far [] ∷ row 8 (ltb (length old) (2 * n)) [] ∷ []) (answered [])
+            (lt-ltb maxCorners n h));
+      }
+
+      -- the shape is judged by its size
+      pub fit-judged : Reckoned (length S) (length old) n → {x : Admission}
+          → Judged (NoneApply (fitRows n far (length old))) (fitRows n far (length old)) x
+          → Judged (NoneApply (answerRows S old)) (answerRows S old) x
+      unfolding noRoom tooMany
+      fit-judged (exact e) j = judged-by (fit-rows (exact e) (ap (ltb (length old)) (ap (λ k. 2 * k) e ∙ sym (numbers-length S)))) j
+      fit-judged (enough h k l) j = judged-by (fit-rows (enough h k l)
+          (le-ltb (length old) _ l ∙ sym (le-ltb (length old) (length (numbers S)) (omega (arith, numbers-length S))))) j
+      fit-judged (many h k) j = record {
+        valid = λ e. absurd (true≢false (sym (lt-ltb maxCorners n k) ∙ j .valid e .0));
+        no = λ r e. large k (lt-ltb maxCorners (length S) h) (j .no r e);
+      }
 
   -- no row applies: there is room
   pub room-there : (old : List ℤ) → NoneApply (answerRows S old) → 2 * length S ≤ length old
   unfolding noRoom
   room-there old n = omega (arith, ltb-false (length old) (length (numbers S)) (n .1 .1 .0), numbers-length S)
-
--- what is judged by one table is judged by an equal one
-pub judged-by : {vs ws : List Row} → vs ≡ ws → {x : Admission} → Judged (NoneApply vs) vs x → Judged (NoneApply ws) ws x
-judged-by e {x} j = subst (λ (rows : List Row). Judged (NoneApply rows) rows x) e j
 
 -- ---- a list that is a shape
 

@@ -10,7 +10,7 @@ use Rattle.plane.specs.Question.{Question, askSum}
 use Rattle.calipers.specs.PlaceAfter.{wholeSum}
 use Rattle.admission.specs.Admission.{Judged}
 use Rattle.admission.specs.theory.Door.{shapes-refused, rest-refused, all-written}
-use Rattle.admission.specs.theory.Delivery.{fit-rows, judged-by, room-there}
+use Rattle.admission.specs.theory.Delivery.{fit-judged, room-there}
 use Rattle.questions.proofs.sum.Statement.{statement}
 use Rattle.questions.proofs.sum.Tie as tie
 
@@ -34,8 +34,8 @@ judged : (c : tie.After-fits2) → let args = c .before .before .before .before 
     Judged (NoneApply rows) rows (c .fits2 .result)
 judged c =
     let args = c .before .before .before .before .before .before .args in
-    judged-by (fit-rows (wholeSum (args .a .now) (args .b .now)) (c .before .is-far .ensures) (args .out .now)
-    (c .before .before .reckon .ensures)) (c .fits2 .ensures)
+    fit-judged (wholeSum (args .a .now) (args .b .now)) (c .before .is-far .ensures) (args .out .now)
+    (c .before .before .reckon .ensures) (c .fits2 .ensures)
 
 admit-pair-requires : tie.Need-admit-pair-requires
 admit-pair-requires c κs = search needs

@@ -15,7 +15,7 @@ use Rattle.plane.specs.theory.lists.Flat.{points-length}
 use Rattle.calipers.specs.Size.{exact}
 use Rattle.admission.specs.Admission.{Judged}
 use Rattle.admission.specs.theory.Door.{rest-refused, all-written}
-use Rattle.admission.specs.theory.Delivery.{fit-rows, judged-by, room-there, numbers-outside, copied}
+use Rattle.admission.specs.theory.Delivery.{fit-judged, room-there, numbers-outside, copied}
 use Rattle.admission.proofs.deliver.deliver.Statement.{statement}
 use Rattle.admission.proofs.deliver.deliver.Tie as tie
 
@@ -25,8 +25,8 @@ judged : (c : tie.After-fits2) → let args = c .before .before .before .args in
     Judged (NoneApply rows) rows (c .fits2 .result)
 judged c =
     let start = c .before .before .before in
-    judged-by (fit-rows _ (c .before .some-outside .ensures ∙ numbers-outside _ (start .pre)) (start .args .out .now)
-    (exact (c .before .before .count .ensures))) (c .fits2 .ensures)
+    fit-judged _ (c .before .some-outside .ensures ∙ numbers-outside _ (start .pre)) (start .args .out .now)
+    (exact (c .before .before .count .ensures)) (c .fits2 .ensures)
 
 count-requires : tie.Need-count-requires
 count-requires c κs = search needs

@@ -1,15 +1,15 @@
 -- `reckon` meets its contract: the corners of both shapes together bound those of the sum, or these are counted.
-use mathlib.Core.Path.{_∙_, ap}
 use native.Mathlib.Omega.{arith}
 use Prim.Native.Nat.{_+_, _≤_}
 use borrow.Author.Needs.{needs}
 use lib.ListN.{length}
+use Rattle.plane.specs.Limits.{maxCorners}
 use Rattle.plane.specs.Point.{points}
 use Rattle.plane.specs.Corner.{shapeOf, sums}
 use Rattle.plane.specs.theory.lists.Flat.{points-length}
-use Rattle.calipers.specs.Size.{exact, enough}
+use Rattle.calipers.specs.Size.{enough}
 use Rattle.calipers.specs.theory.Steps.{at-begin}
-use Rattle.calipers.specs.theory.Summed.{next-all, sum-few}
+use Rattle.calipers.specs.theory.Summed.{sum-few, reckoned-count}
 use Rattle.calipers.proofs.size.reckon.Statement.{statement}
 use Rattle.calipers.proofs.size.reckon.Tie as tie
 
@@ -39,17 +39,21 @@ returns c =
     let fits = c .before .suffices .ensures (c .if1 .taken) in
     enough (few (c .before .before)) (fits .0) (fits .1)
 
+add-count-on : tie.Need-add-count-on
+add-count-on c = search needs
+
 count-on-requires : tie.Need-count-on-requires
 count-on-requires c κs =
-    let at-count = c .before .before in
-    let pre = at-count .before .before .pre in
-    (at-begin _ _ (pre .0) (pre .1), omega (arith, pre .0 .shape .some, at-count .before .count .ensures))
+    let pre = c .before .before .before .before .pre in (at-begin _ _ (pre .0) (pre .1), omega arith)
 
 returns-2 : tie.Need-returns-2
+unfolding maxCorners
 returns-2 c =
-    let at-count = c .before .before .before in
-    let pre = at-count .before .before .pre in
-    exact (c .count-on .ensures ∙ ap length (next-all _ _ (pre .0) (pre .1) _ (few at-count)))
+    let start = c .before .before .before .before .before in
+    reckoned-count (start .args .a .now) (start .args .b .now) (start .pre .0) (start .pre .1) (maxCorners + 1) (omega arith)
+    (c .count-on .ensures)
 
 pub reckon-spec : {M : Type 1} → statement M
-reckon-spec = tie.close (tie.spec count-requires count-requires-2 add-most suffices-requires returns count-on-requires returns-2)
+reckon-spec =
+    tie.close
+    (tie.spec count-requires count-requires-2 add-most suffices-requires returns add-count-on count-on-requires returns-2)
