@@ -4,6 +4,7 @@ pub mod Walk
 pub mod Side
 pub mod Stretch
 pub mod Advance
+pub mod Size
 pub mod PlaceAfter
 pub mod PlaceTest
 pub mod Part

@@ -43,6 +43,7 @@ use answer::Sent;
 use answer::Tablet;
 use answer::Tangents;
 use answer::Width;
+use calipers::size;
 use clearance::measured::Distance;
 use coordinate::Coordinate;
 use journal::latest::Found;
@@ -123,8 +124,8 @@ pub fn mirror(list: &[i32], floor: u16, out: &mut [i32]) -> Answer
 // Edges of equal direction make one step, so no three corners of the answer are in line. Refused, with the output as it
 // was: 1 to 5 of the first shape, then of the second; different floors; then an answer of too many corners, one out of
 // range, and too small an output. On success all behind the written numbers is kept.
-// Ruled out: parallel corners kept; segment passed once; origin for every sum; second shape judged first; output left
-// alone; floor zero in every answer.
+// Ruled out: parallel corners kept; segment passed once; origin for every sum; second shape judged first; sum written
+// in too small an output; far sum written; too large a sum written.
 pub fn sum(a: &[i32], f: u16, b: &[i32], g: u16, out: &mut [i32]) -> Answer
     ensures { λ r. ⌜
         (ofAnswer r ≡ reply (askSum (on (now (a .entry)) f) (on (now (b .entry)) g) (now (out .entry))))
@@ -133,9 +134,14 @@ pub fn sum(a: &[i32], f: u16, b: &[i32], g: u16, out: &mut [i32]) -> Answer
     if let Admission::No(refusal) = admission::admit_pair(a, f, b, g) {
         return Answer::No(refusal);
     }
-    let mut shape = [0i32; limits::PAIR_NUMBERS];
-    let n = calipers::sum(a, b, &mut shape);
-    deliver::deliver(&shape[..2 * n], f, out)
+    let n = size::reckon(a, b, out.len());
+    if let Admission::No(refusal) = deliver::fits(n, size::is_far(a, b), out.len()) {
+        return Answer::No(refusal);
+    }
+    Answer::Corners {
+        count: calipers::sum(a, b, out),
+        floor: f,
+    }
 }
 
 // Writes the shape of both corner lists taken together at the front of the output, and answers how many corners it has.

@@ -8,7 +8,8 @@ use Rattle.plane.specs.Refusal.{Valid}
 use Rattle.plane.specs.theory.lists.Flat.{points-length}
 use Rattle.plane.specs.theory.mirror.Mirror.{mirror-count}
 use Rattle.polygon.specs.Front.{Front}
-use Rattle.polygon.specs.theory.Fronts.{front-length, front-points}
+use Rattle.polygon.specs.theory.Fronts.{overwritten-front, front-length, front-points}
+use Rattle.calipers.specs.theory.Summed.{sum-few}
 use Rattle.separation.specs.theory.Image.{image, image-front, image-valid, image-summed}
 use Rattle.separation.proofs.differences.Statement.{statement}
 use Rattle.separation.proofs.differences.Tie as tie
@@ -40,9 +41,11 @@ slice-aggregate-sum c = sym (front-length (front (c .before)))
 sum-requires : tie.Need-sum-requires
 sum-requires c κs =
     let at-count = c .before .before in
-    let pre = at-count .before .before .before .before .pre in
+    let start = at-count .before .before .before .before in
+    let pre = start .pre in
     let count = ap length (front-points (front at-count)) ∙ mirror-count _ (pre .1 .shape) in
-    (pre .0, subst Valid (sym (front at-count .front)) (image-valid _ (pre .1)), omega (arith, count, pre .2))
+    let valid = subst Valid (sym (front at-count .front)) (image-valid _ (pre .1)) in
+    (pre .0, valid, omega (arith, count, pre .2, sum-few _ _ (pre .0) valid, points-length (start .args .buf .now)))
 
 same-length : tie.Need-same-length
 same-length c = search needs
@@ -51,7 +54,8 @@ returns : tie.Need-returns
 returns c =
     let at-count = c .before .before .before .before in
     let start = at-count .before .before .before .before in
-    image-summed _ (start .pre .1) _ (start .pre .0) _ (front at-count .front) (c .before .sum .ensures)
+    let sum = c .before .sum .ensures in
+    image-summed _ (start .pre .1) _ (start .pre .0) _ (front at-count .front) (overwritten-front _ _ _ _ (sum .0) (sum .1))
 
 pub differences-spec : {M : Type 1} → statement M
 differences-spec =
