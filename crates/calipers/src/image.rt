@@ -2,30 +2,32 @@
 // shape's, from the peak on.
 ghost use mathlib.Core.Bool.{cond};
 ghost use mathlib.Core.Path.{_≡_};
-ghost use Prim.Native.Nat.{_^_, _<_, _≤_};
+ghost use Prim.Native.Nat.{_<_, _≤_};
 ghost use lib.ListN.{length};
-ghost use Rattle.plane.specs.Point.{points, _⊕_, _⊖_};
+ghost use Rattle.plane.specs.Point.{points};
 ghost use Rattle.plane.specs.Refusal.{Valid};
 ghost use Rattle.plane.specs.Forms.{edges as Forms·edges};
 ghost use Rattle.plane.specs.Cycle.{turned, cornerRound};
 ghost use Rattle.polygon.specs.Peak.{Peak};
-ghost use Rattle.polygon.specs.Point.{at, Small};
-ghost use Rattle.calipers.specs.Side.{cornerOf, nextOf, onward, Carried};
+ghost use Rattle.polygon.specs.Point.{at};
+ghost use Rattle.calipers.specs.Side.{onward, Stands, Carried};
 ghost use Rattle.calipers.specs.Image.{image};
 use crate::edges;
+use crate::side;
 use crate::side::Side;
 use polygon::corners;
 use polygon::point;
 use polygon::point::Point;
 
 // The side of the image with i edges passed. The peak of the shape is at position top.
-// Ruled out: image begun at the first corner; edges of the image reversed.
+// Ruled out: image begun at the first corner; image stuck at the first corner.
 pub fn side_at(list: &[i32], top: usize, i: usize) -> Side
     requires { ⌜ Valid (now list) × Peak (points (now list)) top
         × (i ≤ length (Forms·edges (points (image (now list))))) ⌝ }
     ensures { λ r. ⌜ (r .at ≡ i) × Carried (image (now (list .entry))) r ⌝ }
 {
-    onto(list, top, i, corner_at(list, top, i))
+    let corner = corner_at(list, top, i);
+    onto(list, top, side::standing(i, edges::sides(list), corner))
 }
 
 // One edge on, unless the side waits or has none left. The corner there is reached along the edge, and not read.
@@ -40,47 +42,18 @@ pub fn next(list: &[i32], top: usize, s: Side, waits: bool) -> Side
     if s.at == s.end {
         return s;
     }
-    onto(list, top, s.at + 1, arrived(s))
+    onto(list, top, side::arrived(s))
 }
 
-// The side with i edges passed, where its corner is known.
-fn onto(list: &[i32], top: usize, i: usize, from: Point) -> Side
-    requires { ⌜ Valid (now list) × Peak (points (now list)) top
-        × (i ≤ length (Forms·edges (points (image (now list)))))
-        × (at from ≡ cornerRound (points (image (now list))) i) ⌝ }
-    ensures { λ r. ⌜ (r .at ≡ i) × Carried (image (now (list .entry))) r ⌝ }
+// A side that stands at a corner and knows no edge yet, with its next edge.
+fn onto(list: &[i32], top: usize, s: Side) -> Side
+    requires { ⌜ Valid (now list) × Peak (points (now list)) top × Stands (image (now list)) s ⌝ }
+    ensures { λ r. ⌜ (r .at ≡ s .at) × Carried (image (now (list .entry))) r ⌝ }
 {
-    let end = edges::sides(list);
-    if i == end {
-        return leaving(i, end, from, from);
+    if s.at == s.end {
+        return s;
     }
-    leaving(i, end, from, corner_at(list, top, i + 1))
-}
-
-// The corner at the end of the next edge.
-fn arrived(s: Side) -> Point
-    requires { ⌜ Small (2 ^ 21) (cornerOf s) × Small (2 ^ 21) (nextOf s) ⌝ }
-    ensures { λ r. ⌜ at r ≡ cornerOf s ⊕ nextOf s ⌝ }
-{
-    Point {
-        x: (s.x + s.run) as i32,
-        y: (s.y + s.rise) as i32,
-    }
-}
-
-// At a corner, with i edges passed, and with the edge to another corner.
-fn leaving(i: usize, end: usize, from: Point, to: Point) -> Side
-    requires { ⌜ Small (2 ^ 21) (at from) × Small (2 ^ 21) (at to) ⌝ }
-    ensures { λ r. ⌜ (r .at ≡ i) × (r .end ≡ end) × (cornerOf r ≡ at from) × (nextOf r ≡ at to ⊖ at from) ⌝ }
-{
-    Side {
-        at: i,
-        end,
-        x: from.x as i64,
-        y: from.y as i64,
-        run: (to.x - from.x) as i64,
-        rise: (to.y - from.y) as i64,
-    }
+    side::facing(s, corner_at(list, top, s.at + 1))
 }
 
 // Corner i on the way round the image: the opposite of the corner i places after the peak.

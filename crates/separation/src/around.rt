@@ -82,10 +82,11 @@ pub fn pass(a: &[i32], b: &[i32], top: usize) -> Sides
     let mut count = 0;
     let mut rim = false;
     loop {
+        let from = side::here(s, t);
         let c = side::order(s, t);
         let m = side::next(a, s, c < 0);
         let n = image::next(b, top, t, 0 < c);
-        let turn = point::cross(side::here(s, t), side::here(m, n));
+        let turn = point::cross(from, side::here(m, n));
         if turn < 0 {
             return Sides {
                 count,

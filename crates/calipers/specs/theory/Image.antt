@@ -4,8 +4,8 @@
 --     image-edges        it has as many edges as the shape
 --     image-corner       corner i on the way round is the opposite of the shape's corner i places after the peak
 --     image-small        and may be added
---     image-inner        a side made of two corners on the way round; `image-last`: after the last edge
-use mathlib.Core.Path.{_≡_, refl, sym, _∙_, ap, ap₂}
+--     image-edge         the edge that leaves a corner ends at the next on the way round
+use mathlib.Core.Path.{_≡_, refl, sym, _∙_, ap}
 use mathlib.Core.Bool.{Bool, true, false}
 use mathlib.Core.List.{List}
 use Prim.Native.Nat.{ℕ, _+_, _-_, _^_, _≤_, _<_}
@@ -20,7 +20,7 @@ use Rattle.plane.specs.Refusal.{Valid}
 use Rattle.plane.specs.Corner.{shapeOf, mirrored}
 use Rattle.plane.specs.Forms.{edges}
 use Rattle.plane.specs.Cycle.{round, cornerRound, turned}
-use Rattle.plane.specs.theory.forms.Vector.{step-back, ⊖-self}
+use Rattle.plane.specs.theory.forms.Vector.{step-back}
 use Rattle.plane.specs.theory.hull.ShapeOf.{shapeOf-shape}
 use Rattle.plane.specs.theory.lists.Flat.{points-numbers, numbers-length}
 use Rattle.plane.specs.theory.lists.Members.{mirrored-some}
@@ -33,10 +33,7 @@ use Rattle.polygon.specs.Peak.{Peak}
 use Rattle.polygon.specs.Point.{Small}
 use Rattle.polygon.specs.theory.Peak.{peak-last}
 use Rattle.polygon.specs.theory.Small.{small-corner}
-use Rattle.calipers.specs.declared.side.Side.{Side}
-use Rattle.calipers.specs.Side.{cornerOf, nextOf, Carried}
 use Rattle.calipers.specs.Image.{image}
-use Rattle.calipers.specs.theory.Sides.{edge-none}
 
 -- lists of one length have the same number of edges
 edges-alike : (A B : List Point) → length A ≡ length B → length (edges A) ≡ length (edges B)
@@ -96,24 +93,9 @@ module _ (l : List ℤ) (v : Valid l) where
         go (no other) = at-position i (omega (arith, other))
             ∙ ap (corner (points (image l))) (sym (round-inner (length (points (image l))) i (omega (arith, other, image-count))))
 
--- ---- a side of the image
+-- ---- the edge that leaves a corner
 
--- made of the corner at hand and the end of its edge
-module _ (l : List ℤ) (v : Valid l) (i : ℕ) {end : ℕ} (all : end ≡ length (edges (points l))) (from to : Point) {r : Side}
-    (made : (r .at ≡ i) × (r .end ≡ end) × (cornerOf r ≡ from) × (nextOf r ≡ to ⊖ from))
-    (here : from ≡ cornerRound (points (image l)) i) where
-  carried : i ≤ end → to ⊖ from ≡ corner (edges (points (image l))) i → Carried (image l) r
-  carried h e = record {
-    at-in = omega (arith, made .0, all, image-edges l v);
-    end-is = made .1 ∙ all ∙ sym (image-edges l v);
-    corner-is = made .2 ∙ here ∙ ap (cornerRound (points (image l))) (sym (made .0));
-    edge-is = made .3 ∙ e ∙ ap (corner (edges (points (image l)))) (sym (made .0));
-  }
-
-  pub image-inner : i < end → to ≡ cornerRound (points (image l)) (i + 1) → Carried (image l) r
-  image-inner h there = carried (omega arith) (ap₂ _⊖_ (there ∙ round-step (points (image l)) i (omega (arith, all, image-edges l v))) here
-      ∙ step-back (cornerRound (points (image l)) i) (corner (edges (points (image l))) i))
-
-  pub image-last : i ≡ end → to ≡ from → Carried (image l) r
-  image-last h same = carried (omega arith) (ap (λ (q : Point). q ⊖ from) same ∙ ⊖-self from
-      ∙ sym (edge-none (points (image l)) end i (all ∙ sym (image-edges l v)) h))
+-- from the corner at hand to the next on the way round
+pub image-edge : (A : List Point) (i : ℕ) → i < length (edges A) → {p : Point} → p ≡ cornerRound A (i + 1)
+    → p ⊖ cornerRound A i ≡ corner (edges A) i
+image-edge A i h e = ap (λ (q : Point). q ⊖ cornerRound A i) (e ∙ round-step A i h) ∙ step-back (cornerRound A i) (corner (edges A) i)

@@ -1,11 +1,12 @@
 -- `next` meets its contract.
-use mathlib.Core.Path.{sym, _∙_}
+use mathlib.Core.Path.{sym, _∙_, ap}
 use Prim.Native.Nat.{_<_}
 use borrow.Author.Needs.{needs}
 use native.Mathlib.Omega.{arith}
 use lib.ListN.{length}
 use Rattle.plane.specs.Point.{points}
 use Rattle.plane.specs.Forms.{edges}
+use Rattle.plane.specs.Cycle.{cornerRound}
 use Rattle.plane.specs.theory.lists.Flat.{points-length}
 use Rattle.plane.specs.theory.sum.Positions.{edges-at-most}
 use Rattle.calipers.specs.Image.{image}
@@ -33,31 +34,39 @@ left c = let side = c .before .before .before .pre .2 in omega (arith, c .if2 .l
 
 arrived-requires : tie.Need-arrived-requires
 arrived-requires c κs =
-    let start = c .before .before .before .before in
-    let v = image-valid (start .args .list .now) (start .pre .0) in
-    (corner-fits (v .inRange) (v .shape .some) (start .pre .2), edge-adds (v .inRange) (v .shape .some) (start .pre .2))
-
-add-onto : tie.Need-add-onto
-add-onto c =
-    let start = c .before .before .before .before in
+    let start = c .before .before .before in
     let l = start .args .list .now in
-    let few = edges-at-most (points l) in
-    omega (arith, left (c .before), image-edges l (start .pre .0), points-length l)
+    let v = image-valid l (start .pre .0) in
+    let few = edges-at-most (points l) in (
+      omega (arith, left c, image-edges l (start .pre .0), points-length l),
+      corner-fits (v .inRange) (v .shape .some) (start .pre .2),
+      edge-adds (v .inRange) (v .shape .some) (start .pre .2),
+    )
 
 onto-requires : tie.Need-onto-requires
 onto-requires c κs =
-    let start = c .before .before .before .before .before in
-    let on = left (c .before .before) in
-    (start .pre .0, start .pre .1, omega (arith, on), c .arrived .ensures ∙ along-edge (start .pre .2) on)
+    let at-else = c .before in
+    let start = at-else .before .before .before in
+    let made = c .arrived .ensures in (
+      start .pre .0,
+      start .pre .1,
+      record {
+        at-in = omega (arith, made .0, left at-else);
+        end-is = made .1 ∙ start .pre .2 .end-is;
+        corner-is = made .2 ∙ along-edge (start .pre .2) (left at-else)
+            ∙ ap (cornerRound (points (image (start .args .list .now)))) (sym (made .0));
+        no-edge = made .3;
+      },
+    )
 
 returns-3 : tie.Need-returns-3
 returns-3 c =
-    let at-else = c .before .before .before in
+    let at-else = c .before .before in
     let start = at-else .before .before .before in (
-      rw (at-else .before .before .if1 .left) (c .onto .ensures .0
+      rw (at-else .before .before .if1 .left) (c .onto .ensures .0 ∙ c .before .arrived .ensures .0
           ∙ sym (onward-inner (points (image (start .args .list .now))) (start .args .s .at) (left at-else))),
       c .onto .ensures .1,
     )
 
 pub next-spec : {M : Type 1} → statement M
-next-spec = tie.close (tie.spec returns returns-2 add-onto arrived-requires onto-requires returns-3)
+next-spec = tie.close (tie.spec returns returns-2 arrived-requires onto-requires returns-3)

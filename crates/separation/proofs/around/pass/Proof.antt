@@ -77,31 +77,31 @@ loop-holds c =
     )
 
 order-requires : tie.Need-order-requires Inv-loop μ-loop
-order-requires c κs = let inv = c .loop .inv in edges-fit (passing-at (inv .0)) (inv .1) (inv .2)
+order-requires c κs = let inv = c .before .loop .inv in edges-fit (passing-at (inv .0)) (inv .1) (inv .2)
 
 next-requires : tie.Need-next-requires Inv-loop μ-loop
-next-requires c κs = let inv = c .before .loop .inv in first-next (passing-at (inv .0)) (inv .1) (inv .2)
+next-requires c κs = let inv = c .before .before .loop .inv in first-next (passing-at (inv .0)) (inv .1) (inv .2)
 
 next-requires-2 : tie.Need-next-requires-2 Inv-loop μ-loop
 next-requires-2 c κs =
-    let at-loop = c .before .before in
+    let at-loop = c .before .before .before in
     let pre = at-loop .before .before .before .before .before .pre in
     (pre .1, pre .2, at-loop .loop .inv .2)
 
 here-requires : tie.Need-here-requires Inv-loop μ-loop
-here-requires c κs = let inv = c .before .before .before .loop .inv in corners-fit (passing-at (inv .0)) (inv .1) (inv .2)
+here-requires c κs = let inv = c .loop .inv in corners-fit (passing-at (inv .0)) (inv .1) (inv .2)
 
 -- the walk after the step
-steps : (c : tie.After-next2 Inv-loop μ-loop) (end : Bool) → let at-loop = c .before .before .before in
+steps : (c : tie.After-next2 Inv-loop μ-loop) (end : Bool) → let at-loop = c .before .before .before .before in
     let args = at-loop .before .before .before .before .before .args in
     At (args .a .now) (image (args .b .now)) (walkOf (c .before .next .result) (c .next2 .result) end)
 steps c end =
     let at-order = c .before .before in
-    let inv = at-order .before .loop .inv in
+    let inv = at-order .before .before .loop .inv in
     sides-at (passing-at (inv .0)) (inv .1) (inv .2) (result-is w64 (at-order .order .ok) (at-order .order .ensures))
     (c .before .next .result) (c .next2 .result) (c .before .next .ensures .0) (c .next2 .ensures .0)
 
-advances : (c : tie.After-next2 Inv-loop μ-loop) → let at-loop = c .before .before .before in
+advances : (c : tie.After-next2 Inv-loop μ-loop) → let at-loop = c .before .before .before .before in
     let args = at-loop .before .before .before .before .before .args in
     let m = c .before .next .result in
     let n = c .next2 .result in
@@ -109,38 +109,38 @@ advances : (c : tie.After-next2 Inv-loop μ-loop) → let at-loop = c .before .b
     ≡ advanced (points (args .a .now)) (points (image (args .b .now))) (walkOf (at-loop .loop .s) (at-loop .loop .t) false)
 advances c =
     let at-order = c .before .before in
-    let inv = at-order .before .loop .inv in
+    let inv = at-order .before .before .loop .inv in
     sides-advanced (passing-at (inv .0)) (inv .1) (inv .2) (result-is w64 (at-order .order .ok) (at-order .order .ensures))
     (c .before .next .result) (c .next2 .result) (c .before .next .ensures .0) (c .next2 .ensures .0) refl
 
 here-requires-2 : tie.Need-here-requires-2 Inv-loop μ-loop
 here-requires-2 c κs =
-    let at-next = c .before in corners-fit (steps at-next false) (at-next .before .next .ensures .1) (at-next .next2 .ensures .1)
+    corners-fit (steps c false) (c .before .next .ensures .1) (c .next2 .ensures .1)
 
 -- where it stands before and after the step
 leaves : (c : tie.After-here2 Inv-loop μ-loop) → let at-loop = c .before .before .before .before .before in
     let args = at-loop .before .before .before .before .before .args in
-    at (c .before .here .result)
+    at (c .before .before .before .before .here .result)
     ≡ here (points (args .a .now)) (points (image (args .b .now))) (walkOf (at-loop .loop .s) (at-loop .loop .t) false)
 leaves c = let inv = c .before .before .before .before .before .loop .inv in
-    c .before .here .ensures ∙ sides-here (passing-at (inv .0)) (inv .1) (inv .2)
+    c .before .before .before .before .here .ensures ∙ sides-here (passing-at (inv .0)) (inv .1) (inv .2)
 
-arrives : (c : tie.After-here2 Inv-loop μ-loop) (end : Bool) → let at-next = c .before .before in
-    let args = at-next .before .before .before .before .before .before .before .before .args in
+arrives : (c : tie.After-here2 Inv-loop μ-loop) (end : Bool) → let at-next = c .before in
+    let args = at-next .before .before .before .before .before .before .before .before .before .args in
     at (c .here2 .result)
     ≡ here (points (args .a .now)) (points (image (args .b .now))) (walkOf (at-next .before .next .result) (at-next .next2 .result) end)
-arrives c end = let at-next = c .before .before in
+arrives c end = let at-next = c .before in
     c .here2 .ensures ∙ sides-here (steps at-next end) (at-next .before .next .ensures .1) (at-next .next2 .ensures .1)
 
 cross-requires : tie.Need-cross-requires Inv-loop μ-loop
 cross-requires c κs =
     let inv = c .before .before .before .before .before .loop .inv in
-    (small-wide (here-near (passing-at (inv .0)) (leaves c)), small-wide (here-near (steps (c .before .before) false) (arrives c false)))
+    (small-wide (here-near (passing-at (inv .0)) (leaves c)), small-wide (here-near (steps (c .before) false) (arrives c false)))
 
 passed-normal-requires : tie.Need-passed-normal-requires Inv-loop μ-loop
 passed-normal-requires c κs =
-    let at-next = c .before .before .before .before in
-    let inv = at-next .before .before .before .loop .inv in
+    let at-next = c .before .before .before in
+    let inv = at-next .before .before .before .before .loop .inv in
     let first = corners-fit (passing-at (inv .0)) (inv .1) (inv .2) in
     let second = corners-fit (steps at-next false) (at-next .before .next .ensures .1) (at-next .next2 .ensures .1) in
     (first .0, first .1, second .0, second .1)
@@ -149,12 +149,12 @@ returns : tie.Need-returns Inv-loop μ-loop
 returns c =
     let at-cross = c .before .before in
     let at-here = at-cross .before in
-    let at-next = at-here .before .before in
-    let inv = at-next .before .before .before .loop .inv in
+    let at-next = at-here .before in
+    let inv = at-next .before .before .before .before .loop .inv in
     passing-out (inv .0) refl (advances at-next)
     (result-is w64 (at-cross .cross .ok) (at-cross .cross .ensures ∙ ap₂ cross (leaves at-here) (arrives at-here _)))
     (c .before .if1 .taken) (c .passed-normal .result)
-    (c .passed-normal .ensures ∙ ap₂ (cond (ltb (at-next .before .before .before .loop .s .at) (at-next .before .next .result .at)))
+    (c .passed-normal .ensures ∙ ap₂ (cond (ltb (at-next .before .before .before .before .loop .s .at) (at-next .before .next .result .at)))
     (ap₂ outward (inv .1 .corner-is) (at-next .before .next .ensures .1 .corner-is))
     (ap₂ outward (inv .2 .corner-is) (at-next .next2 .ensures .1 .corner-is)))
 
@@ -162,8 +162,8 @@ either-requires : tie.Need-either-requires Inv-loop μ-loop
 either-requires c κs = tt
 
 -- one edge more is passed
-more : (c : tie.After-either Inv-loop μ-loop) → let at-next = c .before .before .before .before .before in
-    let at-loop = at-next .before .before .before in
+more : (c : tie.After-either Inv-loop μ-loop) → let at-next = c .before .before .before .before in
+    let at-loop = at-next .before .before .before .before in
     let args = at-loop .before .before .before .before .before .args in
     let m = at-next .before .next .result in
     let n = at-next .next2 .result in
@@ -173,8 +173,8 @@ more : (c : tie.After-either Inv-loop μ-loop) → let at-next = c .before .befo
 more c =
     let at-cross = c .before .before in
     let at-here = at-cross .before in
-    let at-next = at-here .before .before in
-    let inv = at-next .before .before .before .loop .inv in
+    let at-next = at-here .before in
+    let inv = at-next .before .before .before .before .loop .inv in
     passing-more (inv .0) refl (advances at-next)
     (result-is w64 (at-cross .cross .ok) (at-cross .cross .ensures ∙ ap₂ cross (leaves at-here) (arrives at-here _)))
     (c .before .if1 .left) (c .either .ensures)
@@ -189,8 +189,8 @@ add-count c =
 
 add-if2 : tie.Need-add-if2 Inv-loop μ-loop
 add-if2 c =
-    let at-next = c .before .before .before .before .before .before .before in
-    let start = at-next .before .before .before .before .before .before .before .before in
+    let at-next = c .before .before .before .before .before .before in
+    let start = at-next .before .before .before .before .before .before .before .before .before in
     let first = at-next .before .next .ensures .1 .at-in in
     let second = at-next .next2 .ensures .1 .at-in in
     let few = edges-at-most (points (start .args .a .now)) in
@@ -201,8 +201,8 @@ add-if2 c =
 returns-2 : tie.Need-returns-2 Inv-loop μ-loop
 returns-2 c =
     let at-either = c .before .before .before in
-    let at-next = at-either .before .before .before .before .before in
-    let at-loop = at-next .before .before .before in
+    let at-next = at-either .before .before .before .before in
+    let at-loop = at-next .before .before .before .before in
     passing-end (more at-either) (all-passed _ _ _ _ (at-next .before .next .ensures .1 .at-in) (at-next .next2 .ensures .1 .at-in)
     (c .if2 .taken ∙ all (at-loop .before))) _
 
@@ -214,8 +214,8 @@ loop-less c =
 loop-again : tie.Need-loop-again Inv-loop μ-loop
 loop-again c =
     let at-either = c .before .before .before in
-    let at-next = at-either .before .before .before .before .before in
-    let at-loop = at-next .before .before .before in
+    let at-next = at-either .before .before .before .before in
+    let at-loop = at-next .before .before .before .before in
     let args = at-loop .before .before .before .before .before .args in
     let on = some-left _ _ (at-next .before .next .result .at) (at-next .next2 .result .at)
     (λ e. c .if2 .left (e ∙ sym (all (at-loop .before)))) in (
@@ -228,6 +228,6 @@ loop-again c =
 pub pass-spec : {M : Type 1} → statement M
 pass-spec =
     tie.close
-    (tie.spec Inv-loop μ-loop side-at-requires side-at-requires-2 add-all loop-holds order-requires next-requires next-requires-2
-    here-requires here-requires-2 cross-requires passed-normal-requires returns either-requires add-count add-if2 returns-2 loop-less
+    (tie.spec Inv-loop μ-loop side-at-requires side-at-requires-2 add-all loop-holds here-requires order-requires next-requires
+    next-requires-2 here-requires-2 cross-requires passed-normal-requires returns either-requires add-count add-if2 returns-2 loop-less
     loop-again)
