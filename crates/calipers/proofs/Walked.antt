@@ -1,6 +1,5 @@
--- A walk under way from a place, with carried sides: the invariant of every loop that goes round two shapes, and its moves.
---     Walked a b w k count s t     from w it went on by so many corners, stands at these sides, is not over, and may go on to k
---     walked-start, -more          its moves: nothing yet, one corner more
+-- A walk under way from a place (`Walked`), with carried sides: the invariant of every loop that goes round two shapes, and its moves.
+--     walked-start, -more          its moves: nothing yet, one corner more; `walked-inside`: one more where edges are left
 --     walked-over, -spent          its ends: no edge is left, or k corners are passed; `Ended`: these are all the next corners
 --     walked-at, -below, -here     the walk stands at a place; a corner is to come, and the two sides stand at it
 use mathlib.Core.Path.{_≡_, refl, sym, _∙_, ap, subst}
@@ -9,6 +8,8 @@ use mathlib.Core.List.{List}
 use Prim.Native.Nat.{ℕ, _+_, _≤_, _<_, zero-le}
 use native.Mathlib.Numerals.{add-one}
 use native.Mathlib.Omega.{arith}
+use borrow.Author.Tests.{ltb-true, ltb-false}
+use lib.Dec.{ltb}
 use lib.IntN.{ℤ, pos}
 use lib.ListN.{length, take, length-take, length-drop}
 use lib.Seq.{length-take-le, take-all, getD-take}
@@ -18,23 +19,25 @@ use Rattle.plane.specs.Turn.{cross}
 use Rattle.plane.specs.Forms.{edges}
 use Rattle.calipers.specs.declared.side.Side.{Side}
 use Rattle.calipers.specs.Side.{cornerOf, nextOf, onward, Carried, walkOf}
-use Rattle.calipers.specs.Advance.{state, nextCorners}
+use Rattle.calipers.specs.Advance.{state, nextCorners, Walked}
 use Rattle.calipers.specs.Walk.{Walk, here, finished, advanced, stepped, remaining, At}
+use Rattle.calipers.specs.theory.Sides.{onward-end, onward-inner}
 use Rattle.calipers.specs.theory.Carry.{all-passed, some-left, sides-walk, sides-here, sides-advanced}
 use Rattle.calipers.specs.theory.Steps.{remaining-here, remaining-over, at-stepped, remaining-stepped, here-stepped}
-
-pub record Walked (a b : List ℤ) (w : Walk) (k count : ℕ) (s t : Side) : Type 0 where
-  pub start : At a b w
-  pub within : count ≤ length (remaining (points a) (points b) w)
-  pub few : count < k
-  pub moved : walkOf s t false ≡ stepped (points a) (points b) count w
-  pub first-side : Carried a s
-  pub second-side : Carried b t
 
 -- so many corners are all that are next, and the walk is after them
 pub record Ended (a b : List ℤ) (w : Walk) (k count : ℕ) (s t : Side) (over : Bool) : Type 0 where
   pub counted : count ≡ length (nextCorners a b w k)
   pub reaches : walkOf s t over ≡ stepped (points a) (points b) count w
+
+-- no more than one edge is passed in a step
+passed-one : (A : List Point) (waits : Bool) (i m : ℕ) → m ≡ cond waits i (onward A i) → m ≤ i + 1
+passed-one A true i m e = omega (arith, e)
+passed-one A false i m e = go (ltb i (length (edges A))) refl
+  where
+    go : (t : Bool) → ltb i (length (edges A)) ≡ t → m ≤ i + 1
+    go true q = omega (arith, e ∙ onward-inner A i (ltb-true i (length (edges A)) q))
+    go false q = omega (arith, e ∙ onward-end A i (ltb-false i (length (edges A)) q))
 
 -- how many of the corners to come are next
 taken-below : (k n : ℕ) (ps : List Point) → n < k → n < length ps → n < length (take k ps)
@@ -101,6 +104,19 @@ module _ {a b : List ℤ} {k : ℕ} where
         pub walked-spent : count + 1 ≡ k → Ended a b w k (count + 1) m n false
         walked-spent all = ended (some-left (points a) (points b) (m .at) (n .at) more)
             (all ∙ sym (length-take-le k coming (omega (arith, more-coming))))
+
+      -- both shapes have three edges left before the step: some are left after it
+      pub walked-inside : s .at + 2 < s .end → t .at + 2 < t .end → count + 1 < k → Walked a b w k (count + 1) m n
+      walked-inside h l q = walked-more (λ e. omega (
+        arith,
+        e,
+        h,
+        l,
+        passed-one (points a) (ltZ c (pos 0)) (s .at) (m .at) i,
+        passed-one (points b) (ltZ (pos 0) c) (t .at) (n .at) j,
+        p .first-side .end-is,
+        p .second-side .end-is,
+      )) (λ e. omega (arith, e, q))
 
       pub walked-over : m .at + n .at ≡ length (edges (points a)) + length (edges (points b)) → Ended a b w k (count + 1) m n true
       walked-over all =

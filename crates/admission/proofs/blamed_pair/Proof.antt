@@ -1,5 +1,4 @@
 -- `blamed_pair` meets its contract: the first list's refusal is given before the second's, and that before 13.
-use mathlib.Core.Path.{_≡_}
 use mathlib.Core.List.{[], _∷_, _++_}
 use borrow.Author.Needs.{needs}
 use Rattle.plane.specs.Reply.{NoneApply}

@@ -1,9 +1,8 @@
 -- `sum` meets its contract: a list is refused, or the size of the sum, or it is written.
-use mathlib.Core.Path.{_≡_, ap}
-use mathlib.Core.List.{List, [], _∷_}
+use mathlib.Core.Path.{ap}
+use mathlib.Core.List.{[], _∷_}
 use borrow.Author.Needs.{needs}
 use lib.IntN.{pos}
-use Rattle.plane.specs.Point.{Point}
 use Rattle.plane.specs.Reply.{NoneApply}
 use Rattle.plane.specs.Output.{answerRows}
 use Rattle.plane.specs.Floor.{Floored, on, Same}

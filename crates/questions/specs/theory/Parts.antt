@@ -1,7 +1,7 @@
 -- A sum in parts: what is answered of the walk that went on.
 --     part-off-place, part-surveyed       the walk is at no place; the sum is refused
 --     part-little-room, part-done         no room for its corners; they are written; `part-idle`: there are none
-use mathlib.Core.Path.{_≡_, sym, _∙_, ap, ap₂}
+use mathlib.Core.Path.{_≡_, sym, ap, ap₂}
 use mathlib.Core.Bool.{true, false, not}
 use mathlib.Core.List.{List, [], _∷_, _++_}
 use mathlib.Core.Logic.{_⊎_}
@@ -11,7 +11,7 @@ use borrow.Author.Tests.{lt-ltb, le-ltb}
 use lib.IntN.{ℤ, pos}
 use lib.ListN.{length}
 use Rattle.plane.specs.Point.{Point, numbers}
-use Rattle.plane.specs.Reply.{Reply, answered, refused, Row, row, NoneApply, here, later}
+use Rattle.plane.specs.Reply.{Reply, answered, refused, Row, row, NoneApply, here}
 use Rattle.plane.specs.Floor.{Floored, Same}
 use Rattle.plane.specs.Output.{noRoom, sizeRows, roomRow, overwritten}
 use Rattle.plane.specs.Question.{Question, reply, output}

@@ -2,7 +2,7 @@
 -- measure is what is left to count.
 use mathlib.Core.Path.{_≡_, sym, _∙_}
 use mathlib.Core.Bool.{false}
-use Prim.Native.Nat.{_+_, _-_, _≤_}
+use Prim.Native.Nat.{_+_, _-_}
 use native.Mathlib.Omega.{arith}
 use lib.ListN.{length}
 use mir.Syntax.{w64}
@@ -11,10 +11,10 @@ use Rattle.plane.specs.Point.{points}
 use Rattle.plane.specs.Forms.{edges}
 use Rattle.plane.specs.theory.lists.Flat.{points-length}
 use Rattle.plane.specs.theory.sum.Positions.{edges-at-most}
-use Rattle.calipers.specs.Advance.{state, nextCorners}
+use Rattle.calipers.specs.Advance.{state, nextCorners, Walked}
 use Rattle.calipers.specs.theory.Carry.{first-next, second-next, edges-fit}
 use Rattle.calipers.specs.theory.Summed.{next-few}
-use Rattle.calipers.proofs.Walked.{Walked, walked-start, walked-at, walked-below, walked-more, walked-spent, walked-over}
+use Rattle.calipers.proofs.Walked.{walked-start, walked-at, walked-below, walked-more, walked-spent, walked-over}
 use Rattle.calipers.proofs.size.count_on.Statement.{statement}
 use Rattle.calipers.proofs.size.count_on.Tie as tie
 

@@ -1,6 +1,5 @@
 -- `is_far` meets its contract: supports add.
 use mathlib.Core.Path.{_∙_}
-use borrow.Author.Needs.{needs}
 use Rattle.polygon.specs.theory.Extents.{extends-small, far-sum}
 use Rattle.calipers.proofs.size.is_far.Statement.{statement}
 use Rattle.calipers.proofs.size.is_far.Tie as tie

@@ -1,5 +1,5 @@
 -- `reckon` meets its contract: the corners of both shapes together bound those of the sum, or these are counted.
-use mathlib.Core.Path.{_≡_, sym, _∙_, ap}
+use mathlib.Core.Path.{_∙_, ap}
 use native.Mathlib.Omega.{arith}
 use Prim.Native.Nat.{_+_, _≤_}
 use borrow.Author.Needs.{needs}
