@@ -90,8 +90,9 @@ write-requires : tie.Need-write-requires
 write-requires c κs =
     let at-passed = c .before in
     let at-top = at-passed .before .before .before .before .before in
-    let both = shapes (at-top .before) in
-    (both .first-valid, both .second-valid, at-top .top .ensures, room-there _ _ (passed at-passed))
+    let u = shapes (at-top .before) .first-valid in
+    let v = shapes (at-top .before) .second-valid in
+    (search needs, search needs, at-top .top .ensures, room-there _ _ (passed at-passed))
 
 same-length : tie.Need-same-length
 same-length c = search needs
