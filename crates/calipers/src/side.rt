@@ -104,7 +104,7 @@ fn closing(list: &[i32], s: Side) -> Side
 }
 
 // At a corner, with no edge.
-fn standing(i: usize, end: usize, p: Point) -> Side
+pub fn standing(i: usize, end: usize, p: Point) -> Side
     requires { ⌜ Small (2 ^ 21) (at p) ⌝ }
     ensures { λ r. ⌜ (r .at ≡ i) × (r .end ≡ end) × (cornerOf r ≡ at p) × (nextOf r ≡ origin) ⌝ }
 {
@@ -119,7 +119,7 @@ fn standing(i: usize, end: usize, p: Point) -> Side
 }
 
 // At the end of its edge, with no edge.
-fn arrived(s: Side) -> Side
+pub fn arrived(s: Side) -> Side
     requires { ⌜ (s .at < 2 ^ 63) × Small (2 ^ 21) (cornerOf s) × Small (2 ^ 21) (nextOf s) ⌝ }
     ensures { λ r. ⌜ (r .at ≡ s .at + 1) × (r .end ≡ s .end) × (cornerOf r ≡ cornerOf s ⊕ nextOf s)
         × (nextOf r ≡ origin) ⌝ }
@@ -135,7 +135,7 @@ fn arrived(s: Side) -> Side
 }
 
 // With the edge to a corner.
-fn facing(s: Side, to: Point) -> Side
+pub fn facing(s: Side, to: Point) -> Side
     requires { ⌜ Small (2 ^ 21) (cornerOf s) × Small (2 ^ 21) (at to) ⌝ }
     ensures { λ r. ⌜ (r .at ≡ s .at) × (r .end ≡ s .end) × (cornerOf r ≡ cornerOf s)
         × (nextOf r ≡ at to ⊖ cornerOf s) ⌝ }

@@ -54,7 +54,9 @@ use polygon::direction;
 use polygon::limits;
 pub use polygon::limits::SHAPE_NUMBERS;
 use polygon::opposite;
+use polygon::peak;
 use polygon::point::Point;
+use separation::differences;
 pub use tablet::reading::Reading;
 
 // Whether the list is a shape, and how many corners it has. A point and a segment are shapes. Refused: an empty or odd
@@ -178,9 +180,19 @@ pub fn grow(obstacle: &[i32], f: u16, cart: &[i32], g: u16, out: &mut [i32]) -> 
     if let Admission::No(refusal) = admission::admit_pair(obstacle, f, cart, g) {
         return Answer::No(refusal);
     }
-    let mut shape = [0i32; limits::PAIR_NUMBERS];
-    let n = separation::differences(obstacle, cart, &mut shape);
-    deliver::deliver(&shape[..2 * n], f, out)
+    let top = peak::top(cart);
+    let n = differences::reckon(obstacle, cart, top, out.len());
+    if let Admission::No(refusal) = deliver::fits(
+        n,
+        differences::is_far(obstacle, cart),
+        out.len(),
+    ) {
+        return Answer::No(refusal);
+    }
+    Answer::Corners {
+        count: differences::write(obstacle, cart, top, out),
+        floor: f,
+    }
 }
 
 // Writes the shape of up to as many points as a sweep may have, in any order, at the front of the output, and answers
