@@ -2,5 +2,6 @@
 pub mod Order
 pub mod Buffer
 pub mod Chain
+pub mod Interior
 pub mod Meaning
 pub mod theory

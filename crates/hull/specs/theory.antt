@@ -18,3 +18,4 @@ pub mod OnePoint
 pub mod Written
 pub mod Halves
 pub mod Route
+pub mod Interior

@@ -2,6 +2,7 @@
 // many points (document 02, W10). Callers ask the crate `questions`.
 mod buffer;
 mod chains;
+mod interior;
 mod order;
 mod outline;
 mod rows;
@@ -50,14 +51,17 @@ pub fn merge(a: &[i32], b: &[i32], buf: &mut [i32]) -> usize
 
 // Writes the shape of many points at the front of the buffer, and says how many corners it has. The points stand in any
 // order; one that is repeated counts once, and one in line between two others is dropped. Points that are all equal
-// make a point, and points in one line a segment. The buffer has room for both chains, and is lent to the sort before.
+// make a point, and points in one line a segment. Most points that cannot be corners are dropped before the sort. The
+// buffer has room for both chains, and is lent to the sort before.
 // Ruled out: points in line kept; repeats kept.
 pub fn sweep(list: &[i32], buf: &mut [i32]) -> usize
     requires { ⌜ ValidPoints (now list) × (2 * length (points (now list)) ≤ length (points (now buf))) ⌝ }
     ensures { λ r. ⌜ Front (shapeOf (points (now (list .entry)))) r (now (buf .exit)) ⌝ }
 {
+    let mut reduced = [0i32; limits::POINTS_NUMBERS];
     let mut sorted = [0i32; limits::POINTS_NUMBERS];
-    let n = sort::sort(list, 0, corners::count(list), &mut sorted, buf);
+    let m = interior::reduce(list, &mut reduced);
+    let n = sort::sort(&reduced, 0, m, &mut sorted, buf);
     outline::outline(&sorted, n, buf)
 }
 
