@@ -4,6 +4,7 @@
 // 13 behind 1 to 5 of the first and of the second.
 pub mod answer;
 mod coordinate;
+mod merging;
 pub mod separators;
 pub mod walk;
 
@@ -151,9 +152,7 @@ pub fn merge(a: &[i32], f: u16, b: &[i32], g: u16, out: &mut [i32]) -> Answer
     if let Admission::No(refusal) = admission::admit_pair(a, f, b, g) {
         return Answer::No(refusal);
     }
-    let mut shape = [0i32; limits::PAIR_NUMBERS];
-    let n = hull::merge(a, b, &mut shape);
-    deliver::deliver(&shape[..2 * n], f, out)
+    merging::merge(a, b, f, out)
 }
 
 // Writes the obstacle grown by the cart's outline at the front of the output, and answers how many corners it has: the
