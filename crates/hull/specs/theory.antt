@@ -19,3 +19,4 @@ pub mod Written
 pub mod Halves
 pub mod Route
 pub mod Interior
+pub mod Insertion

@@ -6,6 +6,7 @@ pub mod answer;
 mod coordinate;
 mod merging;
 pub mod separators;
+mod sweeping;
 pub mod walk;
 
 ghost use mathlib.Core.Path.{_≡_};
@@ -188,9 +189,7 @@ pub fn sweep(list: &[i32], floor: u16, out: &mut [i32]) -> Answer
     if let Admission::No(refusal) = admission::admit_points(list) {
         return Answer::No(refusal);
     }
-    let mut shape = [0i32; limits::CHAINS_NUMBERS];
-    let n = hull::sweep(list, &mut shape);
-    deliver::deliver(&shape[..2 * n], floor, out)
+    sweeping::sweep(list, floor, out)
 }
 
 // The greatest squared distance between two corners, and the positions of two corners that are so far apart. Of several

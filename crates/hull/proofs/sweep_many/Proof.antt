@@ -1,4 +1,4 @@
--- `sweep` meets its contract: the points that stay are sorted in a buffer, and their outline is the shape.
+-- `sweep_many` meets its contract: the points that stay are sorted in a buffer, and their outline is the shape.
 use mathlib.Core.Path.{_∙_, ap, subst}
 use mathlib.Core.List.{List}
 use native.Mathlib.Omega.{arith}
@@ -13,8 +13,8 @@ use Rattle.polygon.specs.Front.{Front}
 use Rattle.hull.specs.Buffer.{Holds, SmallTo}
 use Rattle.hull.specs.theory.Least.{ascending-length}
 use Rattle.hull.specs.theory.Halves.{held-count, held-some, held-front, held-part, part-small, small-front}
-use Rattle.hull.proofs.sweep.Statement.{statement}
-use Rattle.hull.proofs.sweep.Tie as tie
+use Rattle.hull.proofs.sweep_many.Statement.{statement}
+use Rattle.hull.proofs.sweep_many.Tie as tie
 
 slice-aggregate-reduce : tie.Need-slice-aggregate-reduce
 slice-aggregate-reduce c = search needs
@@ -96,8 +96,8 @@ returns c =
     subst (λ (ps : List Point). Front ps (c .before .outline .result) (c .before .outline .last .1 .1 .0))
     (ap outline (sorted at-sort .front) ∙ at-reduce .reduce .ensures .shape) (c .before .outline .ensures)
 
-pub sweep-spec : {M : Type 1} → statement M
-sweep-spec =
+pub sweep-many-spec : {M : Type 1} → statement M
+sweep-many-spec =
     tie.close
     (tie.spec slice-aggregate-reduce reduce-requires slice-aggregate-sort slice-aggregate-sort-2 sort-requires slice-aggregate-outline
     outline-requires same-length returns)
