@@ -3,5 +3,6 @@ pub mod Order
 pub mod Buffer
 pub mod Chain
 pub mod Interior
+pub mod Digits
 pub mod Meaning
 pub mod theory

@@ -2,13 +2,13 @@
 // many points (document 02, W10). Callers ask the crate `questions`.
 mod buffer;
 mod chains;
+mod digits;
 mod insertion;
 mod interior;
 mod order;
 mod outline;
 mod rows;
 mod scan;
-mod sort;
 
 ghost use mathlib.Core.Bool.{false, true};
 ghost use Prim.Native.Nat.{suc, _+_, _*_, _≤_};
@@ -80,15 +80,15 @@ fn sweep_few(list: &[i32], buf: &mut [i32]) -> usize
     outline::outline(&sorted, n, buf)
 }
 
-// The same for any number of points.
+// The same for any number of points: these are brought near their order first.
 fn sweep_many(list: &[i32], buf: &mut [i32]) -> usize
     requires { ⌜ ValidPoints (now list) × (2 * length (points (now list)) ≤ length (points (now buf))) ⌝ }
     ensures { λ r. ⌜ Front (shapeOf (points (now (list .entry)))) r (now (buf .exit)) ⌝ }
 {
-    let mut reduced = [0i32; limits::POINTS_NUMBERS];
     let mut sorted = [0i32; limits::POINTS_NUMBERS];
-    let m = interior::reduce(list, &mut reduced);
-    let n = sort::sort(&reduced, 0, m, &mut sorted, buf);
+    let m = interior::reduce(list, buf);
+    digits::presort(buf, m, &mut sorted);
+    let n = insertion::insert_all(buf, m, &mut sorted);
     outline::outline(&sorted, n, buf)
 }
 

@@ -33,7 +33,7 @@ use Rattle.hull.specs.Buffer.{Holds}
 use Rattle.hull.specs.Interior.{isInside, outer, Some, Reached, Reduced}
 use Rattle.hull.specs.theory.Run.{run-more, run-take}
 use Rattle.hull.specs.theory.CornersWritten.{Pouring, pour-start, pour-one, pour-over, pour-end}
-use Rattle.hull.specs.theory.Halves.{held-count}
+use Rattle.hull.specs.theory.Held.{held-count}
 
 -- ---- the points that stay
 
