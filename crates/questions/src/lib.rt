@@ -4,7 +4,9 @@
 // 13 behind 1 to 5 of the first and of the second.
 pub mod answer;
 mod coordinate;
+mod merging;
 pub mod separators;
+mod sweeping;
 pub mod walk;
 
 ghost use mathlib.Core.Path.{_≡_};
@@ -159,9 +161,7 @@ pub fn merge(a: &[i32], f: u16, b: &[i32], g: u16, out: &mut [i32]) -> Answer
     if let Admission::No(refusal) = admission::admit_pair(a, f, b, g) {
         return Answer::No(refusal);
     }
-    let mut shape = [0i32; limits::PAIR_NUMBERS];
-    let n = hull::merge(a, b, &mut shape);
-    deliver::deliver(&shape[..2 * n], f, out)
+    merging::merge(a, b, f, out)
 }
 
 // Writes the obstacle grown by the cart's outline at the front of the output, and answers how many corners it has: the
@@ -207,9 +207,7 @@ pub fn sweep(list: &[i32], floor: u16, out: &mut [i32]) -> Answer
     if let Admission::No(refusal) = admission::admit_points(list) {
         return Answer::No(refusal);
     }
-    let mut shape = [0i32; limits::CHAINS_NUMBERS];
-    let n = hull::sweep(list, &mut shape);
-    deliver::deliver(&shape[..2 * n], floor, out)
+    sweeping::sweep(list, floor, out)
 }
 
 // The greatest squared distance between two corners, and the positions of two corners that are so far apart. Of several
