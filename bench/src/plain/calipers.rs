@@ -1,11 +1,6 @@
 //! The calipers: each edge with the corner that is furthest from it.
 use super::corner::{Corner, cross, edge};
-
-/// The position after it, on the way round n corners.
-#[inline(always)]
-pub fn after(i: usize, n: usize) -> usize {
-    if i + 1 < n { i + 1 } else { 0 }
-}
+use super::edges::after;
 
 /// An edge and the first corner that is furthest from it, by their positions, and the vector from
 /// the corner that the edge leaves to the furthest.

@@ -1,9 +1,10 @@
 //! The edges of a shape in their order, the next one carried with the corner that it leaves.
-use super::corner::{Corner, edge};
+use super::corner::{Corner, Stored, edge};
 
 /// A shape on a walk round it.
-pub struct Edges<'a> {
-    corners: &'a [Corner],
+#[derive(Clone, Copy)]
+pub struct Edges<'a, C> {
+    corners: &'a [C],
     /// the position that the next edge leads to
     to: usize,
     /// how many edges are left
@@ -12,21 +13,54 @@ pub struct Edges<'a> {
     pub edge: Corner,
 }
 
-impl<'a> Edges<'a> {
-    /// All edges from that corner on. A point has none.
+/// How many edges a shape of n corners has. A point has none.
+#[inline(always)]
+pub fn edges(n: usize) -> usize {
+    if n > 1 { n } else { 0 }
+}
+
+/// The position after it, on the way round n corners.
+#[inline(always)]
+pub fn after(i: usize, n: usize) -> usize {
+    if i + 1 < n { i + 1 } else { 0 }
+}
+
+/// The position before it.
+#[inline(always)]
+pub fn before(i: usize, n: usize) -> usize {
+    if i > 0 { i - 1 } else { n - 1 }
+}
+
+impl<'a, C: Stored> Edges<'a, C> {
+    /// All edges from that corner on.
     #[inline(always)]
-    pub fn of(corners: &'a [Corner], start: usize) -> Edges<'a> {
-        let n = corners.len();
-        let to = if start + 1 < n { start + 1 } else { 0 };
-        let corner = corners[start];
-        let left = if n > 1 { n } else { 0 };
+    pub fn of(corners: &'a [C], start: usize) -> Edges<'a, C> {
+        let to = after(start, corners.len());
+        let corner = corners[start].read();
         Edges {
             corners,
             to,
-            left,
+            left: edges(corners.len()),
             corner,
-            edge: edge(corner, corners[to]),
+            edge: edge(corner, corners[to].read()),
         }
+    }
+
+    /// The edges from corner 0 on, but for so many that are passed.
+    #[inline(always)]
+    pub fn past(corners: &'a [C], passed: usize) -> Edges<'a, C> {
+        let start = if passed < corners.len() { passed } else { 0 };
+        let all = Edges::of(corners, start);
+        Edges {
+            left: all.left - passed,
+            ..all
+        }
+    }
+
+    /// How many edges are left.
+    #[inline(always)]
+    pub fn left(&self) -> usize {
+        self.left
     }
 
     /// Whether an edge is left.
@@ -35,18 +69,20 @@ impl<'a> Edges<'a> {
         self.left > 0
     }
 
+    /// The position of the corner that the next edge leaves.
+    #[inline(always)]
+    pub fn at(&self) -> usize {
+        before(self.to, self.corners.len())
+    }
+
     /// On to the next corner.
     #[inline(always)]
     pub fn step(&mut self) {
         // SAFETY: `to` starts below the length, and is set back to 0 where it reaches it.
         unsafe {
-            self.corner = *self.corners.get_unchecked(self.to);
-            self.to = if self.to + 1 < self.corners.len() {
-                self.to + 1
-            } else {
-                0
-            };
-            self.edge = edge(self.corner, *self.corners.get_unchecked(self.to));
+            self.corner = self.corners.get_unchecked(self.to).read();
+            self.to = after(self.to, self.corners.len());
+            self.edge = edge(self.corner, self.corners.get_unchecked(self.to).read());
         }
         self.left -= 1;
     }

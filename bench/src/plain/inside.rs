@@ -6,7 +6,7 @@ use crate::reply::Numbers;
 
 /// 1 if the first shape is inside the second, else 0.
 #[inline(never)]
-pub fn inside(a: &[i32], f: u16, b: &[i32], g: u16) -> Numbers {
+pub fn inside(a: &[i32], f: u32, b: &[i32], g: u32) -> Numbers {
     match admitted_pair(a, f, b, g) {
         Ok((a, b)) => Numbers::one(is_inside(a.corners, b.corners) as u64, f),
         Err(refusal) => refusal,

@@ -6,8 +6,8 @@ use crate::reply::Numbers;
 
 /// The greatest squared distance of two corners, and their positions.
 #[inline(never)]
-pub fn length(list: &[i32], floor: u16) -> Numbers {
-    match admitted(list, 1) {
+pub fn length(list: &[i32], floor: u32) -> Numbers {
+    match admitted(list, floor) {
         Ok(shape) => longest(shape.corners, floor),
         Err(refusal) => refusal,
     }
@@ -16,7 +16,7 @@ pub fn length(list: &[i32], floor: u16) -> Numbers {
 /// Every pair that two parallel lines can hold is the corner that some edge leaves and the first
 /// corner that is furthest from this edge.
 #[inline(always)]
-fn longest(corners: &[Corner], floor: u16) -> Numbers {
+fn longest(corners: &[Corner], floor: u32) -> Numbers {
     let last = corners.len() - 1;
     let mut best = Pair {
         squared: squared(edge(corners[0], corners[last])),
@@ -29,7 +29,7 @@ fn longest(corners: &[Corner], floor: u16) -> Numbers {
         });
     }
     let positions = [best.from, best.to].map(|i| i as u64);
-    Numbers::all([best.squared, positions[0], positions[1], floor as u64, 0, 0])
+    Numbers::all([best.squared, positions[0], positions[1], floor as u64])
 }
 
 /// The best pair so far.

@@ -1,7 +1,9 @@
 //! Width: the calipers, edges compared as exact fractions.
-use super::calipers::{after, calipers};
+use super::calipers::calipers;
 use super::corner::{Corner, cross, edge, squared};
+use super::edges::after;
 use super::judge::admitted;
+use super::root::rounded;
 use crate::reply::Numbers;
 
 /// More than any turn, 4·10^12 at most; all edges are narrower than one that has it at length 1.
@@ -9,8 +11,8 @@ const ABOVE: u64 = 1 << 42;
 
 /// The edge across which the shape is narrowest, its corner, turn, squared length, and the width.
 #[inline(never)]
-pub fn width(list: &[i32], floor: u16) -> Numbers {
-    match admitted(list, 1) {
+pub fn width(list: &[i32], floor: u32) -> Numbers {
+    match admitted(list, floor) {
         Ok(shape) if shape.corners.len() < 3 => Numbers::refused(10),
         Ok(shape) => narrowest(shape.corners, floor),
         Err(refusal) => refusal,
@@ -19,7 +21,7 @@ pub fn width(list: &[i32], floor: u16) -> Numbers {
 
 /// The first edge of the least turn·turn / squared length.
 #[inline(always)]
-fn narrowest(corners: &[Corner], floor: u16) -> Numbers {
+fn narrowest(corners: &[Corner], floor: u32) -> Numbers {
     let mut best = Across {
         edge: 0,
         corner: 0,
@@ -41,7 +43,7 @@ fn narrowest(corners: &[Corner], floor: u16) -> Numbers {
         corner as u64,
         best.turn,
         best.squared,
-        best.rounded(),
+        rounded(best.turn, best.squared),
         floor as u64,
     ])
 }
@@ -74,20 +76,5 @@ impl Across {
         if theirs * (self.squared as u128) < ours * other.squared as u128 {
             *self = other;
         }
-    }
-
-    /// turn / √squared rounded down: guessed in floating point, then set right.
-    #[inline(always)]
-    fn rounded(&self) -> u64 {
-        let top = self.turn as u128 * self.turn as u128;
-        let fits = |w: u64| w as u128 * w as u128 * self.squared as u128 <= top;
-        let mut w = (self.turn as f64 / (self.squared as f64).sqrt()) as u64;
-        while !fits(w) {
-            w -= 1;
-        }
-        while fits(w + 1) {
-            w += 1;
-        }
-        w
     }
 }
