@@ -2,7 +2,6 @@
 use crate::logs::record;
 use crate::plain::{self, MOST};
 use crate::random::Random;
-use crate::runs::NAME;
 use crate::shapes::{Case, List, Outline, moved, polygon};
 
 /// One shape.
@@ -162,6 +161,7 @@ fn with_room(mut log: Vec<u8>, shape: &[i32]) -> Vec<u8> {
 #[cfg(test)]
 mod tests {
     use super::*;
+    use crate::runs::NAME;
     use crate::shapes::regular;
 
     const SIZES: [usize; 4] = [32, 100, 500, MOST];

@@ -1,5 +1,5 @@
 //! The calipers: each edge with the corner that is furthest from it.
-use super::corner::{Corner, cross, edge};
+use super::corner::{Corner, Edge, cross, edge};
 use super::edges::after;
 
 /// An edge and the first corner that is furthest from it, by their positions, and the vector from
@@ -7,8 +7,8 @@ use super::edges::after;
 pub struct Met {
     pub from: usize,
     pub far: usize,
-    pub edge: Corner,
-    pub across: Corner,
+    pub edge: Edge,
+    pub across: Edge,
 }
 
 /// Meets each edge of a shape of three or more. The furthest corner moves on as long as the turn

@@ -35,7 +35,7 @@ fn place(a: Shape, b: Shape) -> Option<Place> {
     let mut nearer = false;
     let mut walk = Walk::<Corner, true>::of(a, b);
     let walked = walk.pass(|walk, next| {
-        let (corner, e) = (walk.corner(), walk.edge(next));
+        let (corner, e) = (walk.corner, walk.edge(next));
         let way = dot(corner, e);
         if way >= 0 {
             if nearer && corner != [0, 0] {

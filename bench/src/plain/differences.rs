@@ -1,8 +1,8 @@
 //! The origin against the edges of the differences of two shapes, whose corners are a corner of the first minus one of
 //! the second.
-use super::corner::{Corner, Stored, cross, edge, opposite};
+use super::corner::{Edge, Stored, cross};
 use super::judge::Shape;
-use super::walk::{Next, Walk};
+use super::walk::Walk;
 use std::ops::ControlFlow::{Break, Continue};
 
 /// How the origin lies to the differences.
@@ -20,7 +20,7 @@ pub enum Origin {
 /// An edge of the differences that has the origin outside, and the positions of the corners whose difference it leaves.
 /// Along the edge all of the first shape is left of its corner, and all of the second right of its own.
 pub struct Facing {
-    pub edge: Corner,
+    pub edge: Edge,
     pub first: usize,
     pub second: usize,
 }
@@ -31,26 +31,14 @@ pub fn origin<C: Stored>(a: Shape<C>, b: Shape<C>) -> Origin {
     let (mut on_some, mut on_all) = (false, true);
     let mut walk = Walk::<C, true>::of(a, b);
     let walked = walk.pass(|walk, next| {
-        let turn = match next {
-            Next::First | Next::Both => {
-                cross(walk.first.edge, edge(walk.first.corner, walk.second.corner))
-            }
-            Next::Second => cross(
-                walk.second.edge,
-                edge(walk.second.corner, walk.first.corner),
-            ),
-        };
+        let turn = cross(walk.corner, walk.edge(next));
         on_some |= turn == 0;
         on_all &= turn == 0;
         if turn < 0 { Break(next) } else { Continue(()) }
     });
     match walked {
         Break(next) => Origin::Outside(Facing {
-            edge: if next == Next::Second {
-                opposite(walk.second.edge)
-            } else {
-                walk.first.edge
-            },
+            edge: walk.edge(next),
             first: walk.first.at(),
             second: walk.second.at(),
         }),

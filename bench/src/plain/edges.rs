@@ -1,16 +1,17 @@
-//! The edges of a shape in their order, the next one carried with the corner that it leaves.
-use super::corner::{Corner, Stored, edge};
+//! The edges of a shape in their order, the next one carried.
+use super::corner::{Corner, Edge, Stored, edge};
 
-/// A shape on a walk round it.
+/// A shape on a walk round it, from one of its corners on: to the last corner of the list, then from the first one.
 #[derive(Clone, Copy)]
 pub struct Edges<'a, C> {
-    corners: &'a [C],
-    /// the position that the next edge leads to
-    to: usize,
-    /// how many edges are left
-    left: usize,
-    pub corner: Corner,
-    pub edge: Corner,
+    /// the corners from the one that the next edge leaves to the end of the list, or of the way
+    run: &'a [C],
+    /// the corners from the first one on, if they come after those
+    rest: &'a [C],
+    /// the position after the last corner of the run
+    end: usize,
+    /// the next edge; none is left if it is (0, 0)
+    pub edge: Edge,
 }
 
 /// How many edges a shape of n corners has. A point has none.
@@ -35,55 +36,71 @@ impl<'a, C: Stored> Edges<'a, C> {
     /// All edges from that corner on.
     #[inline(always)]
     pub fn of(corners: &'a [C], start: usize) -> Edges<'a, C> {
-        let to = after(start, corners.len());
-        let corner = corners[start].read();
-        Edges {
-            corners,
-            to,
-            left: edges(corners.len()),
-            corner,
-            edge: edge(corner, corners[to].read()),
-        }
+        let rest = if corners.len() > 1 { start + 1 } else { 0 };
+        Edges::new(&corners[start..], &corners[..rest], corners.len())
     }
 
     /// The edges from corner 0 on, but for so many that are passed.
     #[inline(always)]
     pub fn past(corners: &'a [C], passed: usize) -> Edges<'a, C> {
-        let start = if passed < corners.len() { passed } else { 0 };
-        let all = Edges::of(corners, start);
+        if passed < edges(corners.len()) {
+            Edges::new(&corners[passed..], &corners[..1], corners.len())
+        } else {
+            Edges::new(&corners[..1], &[], 1)
+        }
+    }
+
+    #[inline(always)]
+    fn new(run: &'a [C], rest: &'a [C], end: usize) -> Edges<'a, C> {
+        let edge = match (run, rest) {
+            ([from, to, ..], _) | ([from], [to, ..]) => edge(from.read(), to.read()),
+            _ => [0, 0],
+        };
         Edges {
-            left: all.left - passed,
-            ..all
+            run,
+            rest,
+            end,
+            edge,
         }
     }
 
     /// How many edges are left.
     #[inline(always)]
     pub fn left(&self) -> usize {
-        self.left
+        self.run.len() + self.rest.len() - 1
     }
 
-    /// Whether an edge is left.
+    /// The corner that the next edge leaves.
     #[inline(always)]
-    pub fn more(&self) -> bool {
-        self.left > 0
+    pub fn corner(&self) -> Corner {
+        self.run[0].read()
     }
 
-    /// The position of the corner that the next edge leaves.
+    /// Its position.
     #[inline(always)]
     pub fn at(&self) -> usize {
-        before(self.to, self.corners.len())
+        self.end - self.run.len()
     }
 
-    /// On to the next corner.
+    /// On to the next corner. Whether an edge leaves it.
     #[inline(always)]
-    pub fn step(&mut self) {
-        // SAFETY: `to` starts below the length, and is set back to 0 where it reaches it.
-        unsafe {
-            self.corner = self.corners.get_unchecked(self.to).read();
-            self.to = after(self.to, self.corners.len());
-            self.edge = edge(self.corner, self.corners.get_unchecked(self.to).read());
+    pub fn step(&mut self) -> bool {
+        if let [_, from, to, ..] = self.run {
+            self.run = &self.run[1..];
+            self.edge = edge(from.read(), to.read());
+            return true;
         }
-        self.left -= 1;
+        *self = self.turned();
+        self.left() > 0
+    }
+
+    /// The same where the run or the list ends.
+    #[cold]
+    #[inline(never)]
+    fn turned(self) -> Edges<'a, C> {
+        match self.run {
+            [_, run @ ..] if !run.is_empty() => Edges::new(run, self.rest, self.end),
+            _ => Edges::new(self.rest, &[], self.rest.len()),
+        }
     }
 }

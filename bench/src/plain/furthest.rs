@@ -1,5 +1,5 @@
 //! Furthest corner: one pass over the corners, then the two beside the first that is furthest.
-use super::corner::{Corner, dot};
+use super::corner::{Corner, value};
 use super::direction;
 use super::judge::admitted;
 use crate::reply::Numbers;
@@ -20,7 +20,7 @@ pub fn furthest(list: &[i32], floor: u32, u: i32, v: i32) -> Numbers {
 /// 0 and 1.
 #[inline(always)]
 fn face(corners: &[Corner], d: Corner, floor: u32) -> Numbers {
-    let value = |c: Corner| dot(d, c);
+    let value = |c: Corner| value(d, c);
     let (mut here, mut greatest) = (0, value(corners[0]));
     for (i, &corner) in corners.iter().enumerate().skip(1) {
         let next = value(corner);

@@ -34,13 +34,16 @@ fn on_segment(p: Corner, from: Corner, to: Corner) -> bool {
 #[inline(always)]
 fn around(a: &[Corner], b: &[Corner]) -> bool {
     let mut inner = Edges::of(a, 0);
+    let mut more = a.len() > 1;
+    let mut corner = a[0];
     let mut from = b[0];
     for &to in b[1..].iter().chain(&b[..1]) {
         let rim = edge(from, to);
-        while inner.more() && cross(inner.edge, rim) > 0 {
-            inner.step();
+        while more && cross(inner.edge, rim) > 0 {
+            more = inner.step();
+            corner = inner.corner();
         }
-        if cross(rim, edge(from, inner.corner)) < 0 {
+        if cross(rim, edge(from, corner)) < 0 {
             return false;
         }
         from = to;

@@ -1,5 +1,5 @@
 //! A sum in parts: a walk is begun, and each part hands back where the next goes on.
-use super::corner::{Corner, cross, edge, is_up, room_of};
+use super::corner::{Corner, Edge, cross, edge, is_up, room_of};
 use super::edges::{Edges, after, edges};
 use super::judge::admitted_pair;
 use super::sum::survey;
@@ -79,10 +79,8 @@ impl Place {
         if self.over || k == 0 {
             return Ok((0, self));
         }
-        let mut walk = Walk::<_, false> {
-            first: Edges::past(a, self.first),
-            second: Edges::past(b, self.second),
-        };
+        let mut walk =
+            Walk::<_, false>::at(Edges::past(a, self.first), Edges::past(b, self.second));
         let room = out.len().min(k);
         if room < k && walk.exceeds(room) {
             return Err(8);
@@ -122,13 +120,13 @@ fn follows(a: &[Corner], i: usize, b: &[Corner], j: usize) -> bool {
 
 /// The edge that leaves a corner.
 #[inline(always)]
-fn edge_at(list: &[Corner], i: usize) -> Corner {
+fn edge_at(list: &[Corner], i: usize) -> Edge {
     edge(list[i], list[after(i, list.len())])
 }
 
 /// Whether an edge comes before another by direction, from level to the right all the way round.
 #[inline(always)]
-fn is_before(e: Corner, f: Corner) -> bool {
+fn is_before(e: Edge, f: Edge) -> bool {
     if is_up(e) == is_up(f) {
         cross(e, f) > 0
     } else {

@@ -1,5 +1,5 @@
 //! Directions in which one shape is below another: one offered, and one found.
-use super::corner::{Corner, dot, edge};
+use super::corner::{Corner, minus, value};
 use super::differences::{Origin, meet, origin};
 use super::direction;
 use super::judge::{Shape, admitted_pair};
@@ -21,7 +21,7 @@ pub fn offer(a: &[i32], f: u32, b: &[i32], g: u32, u: i32, v: i32) -> Numbers {
 /// The greatest value of the one against the least of the other.
 #[inline(always)]
 fn below(a: &[Corner], b: &[Corner], d: Corner) -> bool {
-    let value = |&c: &Corner| dot(d, c);
+    let value = |&c: &Corner| value(d, c);
     a.iter().map(value).max() < b.iter().map(value).min()
 }
 
@@ -39,8 +39,11 @@ pub fn find(a: &[i32], f: u32, b: &[i32], g: u32) -> Numbers {
 #[inline(always)]
 fn away(a: Shape, b: Shape) -> Option<Corner> {
     match origin(a, b) {
-        Origin::Outside(facing) => Some([facing.edge[1], -facing.edge[0]]),
-        Origin::InLine if !meet(a.corners, b.corners) => Some(edge(a.corners[0], b.corners[0])),
+        Origin::Outside(facing) => {
+            let [run, rise] = facing.edge.map(|part| part as i32);
+            Some([rise, -run])
+        }
+        Origin::InLine if !meet(a.corners, b.corners) => Some(minus(b.corners[0], a.corners[0])),
         _ => None,
     }
 }

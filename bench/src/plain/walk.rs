@@ -1,7 +1,7 @@
 //! The walk round the sum of two shapes, or of one and the other's mirror image: the edges of both in one order, two
 //! that point the same way as one. No image is written: the second shape is read from its top, with its edges turned
 //! round.
-use super::corner::{Corner, Stored, cross, edge, opposite, plus};
+use super::corner::{Edge, Stored, back, cross, minus, plus};
 use super::edges::Edges;
 use super::judge::Shape;
 use std::ops::ControlFlow::{self, Break, Continue};
@@ -14,48 +14,49 @@ pub enum Next {
     Both,
 }
 
-/// Two shapes on the walk, the second mirrored if that is said.
+/// Two shapes on the walk, the second mirrored if that is said, and the corner that the walk is at.
 #[derive(Clone, Copy)]
 pub struct Walk<'a, C, const MIRRORED: bool> {
     pub first: Edges<'a, C>,
     pub second: Edges<'a, C>,
+    pub corner: Edge,
 }
 
 impl<'a, C: Stored, const MIRRORED: bool> Walk<'a, C, MIRRORED> {
     /// At the lowest corner.
     #[inline(always)]
     pub fn of(a: Shape<'a, C>, b: Shape<'a, C>) -> Walk<'a, C, MIRRORED> {
-        Walk {
-            first: Edges::of(a.corners, 0),
-            second: Edges::of(b.corners, if MIRRORED { b.top } else { 0 }),
-        }
+        let start = if MIRRORED { b.top } else { 0 };
+        Walk::at(Edges::of(a.corners, 0), Edges::of(b.corners, start))
     }
 
-    /// The corner that the walk is at.
+    /// At the corners that two shapes are at.
     #[inline(always)]
-    pub fn corner(&self) -> Corner {
-        if MIRRORED {
-            edge(self.second.corner, self.first.corner)
-        } else {
-            plus(self.first.corner, self.second.corner)
+    pub fn at(first: Edges<'a, C>, second: Edges<'a, C>) -> Walk<'a, C, MIRRORED> {
+        let (p, q) = (first.corner(), second.corner());
+        let corner = if MIRRORED { minus(p, q) } else { plus(p, q) };
+        Walk {
+            first,
+            second,
+            corner: corner.map(i64::from),
         }
     }
 
     /// The next edge of the walk.
     #[inline(always)]
-    pub fn edge(&self, next: Next) -> Corner {
+    pub fn edge(&self, next: Next) -> Edge {
         match next {
             Next::First => self.first.edge,
             Next::Second => self.second_edge(),
-            Next::Both => plus(self.first.edge, self.second_edge()),
+            Next::Both => along(self.first.edge, self.second_edge()),
         }
     }
 
     /// The next edge of the second shape.
     #[inline(always)]
-    fn second_edge(&self) -> Corner {
+    fn second_edge(&self) -> Edge {
         if MIRRORED {
-            opposite(self.second.edge)
+            back(self.second.edge)
         } else {
             self.second.edge
         }
@@ -67,36 +68,50 @@ impl<'a, C: Stored, const MIRRORED: bool> Walk<'a, C, MIRRORED> {
         self.first.left() + self.second.left()
     }
 
-    /// Passes all edges, and shows each while the walk is at the corner that it leaves. The next edges of both shapes
-    /// are never half a turn apart, so the cross product alone tells which comes first.
+    /// Passes all edges, and shows each while the walk is at the corner that it leaves. The next edges of both shapes are
+    /// never half a turn apart, so the cross product alone tells which comes first.
     #[inline(always)]
     pub fn pass<B>(
         &mut self,
         mut show: impl FnMut(&Self, Next) -> ControlFlow<B>,
     ) -> ControlFlow<B> {
-        while self.first.more() && self.second.more() {
+        let mut both = self.first.left() > 0 && self.second.left() > 0;
+        while both {
             let turn = cross(self.first.edge, self.second_edge());
             if turn > 0 {
                 show(self, Next::First)?;
-                self.first.step();
+                both = self.step_first();
             } else if turn < 0 {
                 show(self, Next::Second)?;
-                self.second.step();
+                both = self.step_second();
             } else {
                 show(self, Next::Both)?;
-                self.first.step();
-                self.second.step();
+                both = self.step_first() & self.step_second();
             }
         }
-        while self.first.more() {
+        while self.first.left() > 0 {
             show(self, Next::First)?;
-            self.first.step();
+            self.step_first();
         }
-        while self.second.more() {
+        while self.second.left() > 0 {
             show(self, Next::Second)?;
-            self.second.step();
+            self.step_second();
         }
         Continue(())
+    }
+
+    /// Passes the next edge of the first shape. Whether one is left.
+    #[inline(always)]
+    fn step_first(&mut self) -> bool {
+        self.corner = along(self.corner, self.first.edge);
+        self.first.step()
+    }
+
+    /// Passes the next edge of the second shape. Whether one is left.
+    #[inline(always)]
+    fn step_second(&mut self) -> bool {
+        self.corner = along(self.corner, self.second_edge());
+        self.second.step()
     }
 
     /// Whether more corners are left than so many. There is at most one for each edge, so that most often no corner is
@@ -124,13 +139,13 @@ impl<'a, C: Stored, const MIRRORED: bool> Walk<'a, C, MIRRORED> {
     #[inline(always)]
     pub fn write(&mut self, out: &mut [C]) -> usize {
         if let ([slot, ..], 0) = (&mut *out, self.left()) {
-            *slot = C::of(self.corner());
+            *slot = C::of(self.corner.map(|z| z as i32));
             return 1;
         }
         let mut room = out.iter_mut();
         let _ = self.pass(|walk, _| match room.next() {
             Some(slot) => {
-                *slot = C::of(walk.corner());
+                *slot = C::of(walk.corner.map(|z| z as i32));
                 Continue(())
             }
             None => Break(()),
@@ -138,4 +153,10 @@ impl<'a, C: Stored, const MIRRORED: bool> Walk<'a, C, MIRRORED> {
         let rest = room.len();
         out.len() - rest
     }
+}
+
+/// Where an edge leads to from a corner; or two edges made one.
+#[inline(always)]
+fn along(p: Edge, e: Edge) -> Edge {
+    [p[0] + e[0], p[1] + e[1]]
 }
