@@ -1,5 +1,6 @@
 //! The edges of a shape in their order, the next one carried.
 use super::corner::{Corner, Edge, Stored, edge};
+use super::judge::Shape;
 
 /// A shape on a walk round it, from one of its corners on: to the last corner of the list, then from the first one.
 #[derive(Clone, Copy)]
@@ -48,6 +49,18 @@ impl<'a, C: Stored> Edges<'a, C> {
         } else {
             Edges::new(&corners[..1], &[], 1)
         }
+    }
+
+    /// The edges that go up, from the first corner to the top.
+    #[inline(always)]
+    pub fn up(shape: Shape<'a, C>) -> Edges<'a, C> {
+        Edges::new(&shape.corners[..=shape.top], &[], shape.top + 1)
+    }
+
+    /// The edges that go down, from the top to the first corner.
+    #[inline(always)]
+    pub fn down(shape: Shape<'a, C>) -> Edges<'a, C> {
+        Edges::past(shape.corners, shape.top)
     }
 
     #[inline(always)]

@@ -2,6 +2,7 @@
 use super::corner::{Corner, Stored};
 use super::edges::after;
 use super::judge::Shape;
+use std::hint::select_unpredictable;
 
 /// The least x and y of a shape, and the greatest. Edges go right and then left on the way up, and left and then right
 /// on the way down.
@@ -25,12 +26,9 @@ fn first(mut from: usize, to: usize, goes_on: impl Fn(usize) -> bool) -> usize {
     let mut count = to - from;
     while count > 0 {
         let half = count / 2;
-        if goes_on(from + half) {
-            from += half + 1;
-            count -= half + 1;
-        } else {
-            count = half;
-        }
+        let on = goes_on(from + half);
+        from = select_unpredictable(on, from + half + 1, from);
+        count = select_unpredictable(on, count - half - 1, half);
     }
     from
 }

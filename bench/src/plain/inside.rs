@@ -29,24 +29,21 @@ fn on_segment(p: Corner, from: Corner, to: Corner) -> bool {
     cross(edge(from, to), edge(from, p)) == 0 && between(0) && between(1)
 }
 
-/// Walks the edges of both in one order: the edges of the first that come before an edge of the
-/// second lead to the corner that is least to its left.
+/// Walks the edges of both in one order: the edges of the first that come before an edge of the second lead to the corner
+/// that is least to its left.
 #[inline(always)]
 fn around(a: &[Corner], b: &[Corner]) -> bool {
-    let mut inner = Edges::of(a, 0);
+    let (mut inner, mut rim) = (Edges::of(a, 0), Edges::of(b, 0));
     let mut more = a.len() > 1;
-    let mut corner = a[0];
-    let mut from = b[0];
-    for &to in b[1..].iter().chain(&b[..1]) {
-        let rim = edge(from, to);
-        while more && cross(inner.edge, rim) > 0 {
+    loop {
+        while more && cross(inner.edge, rim.edge) > 0 {
             more = inner.step();
-            corner = inner.corner();
         }
-        if cross(rim, edge(from, corner)) < 0 {
+        if cross(rim.edge, edge(rim.corner(), inner.corner())) < 0 {
             return false;
         }
-        from = to;
+        if !rim.step() {
+            return true;
+        }
     }
-    true
 }
