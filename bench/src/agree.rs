@@ -6,6 +6,7 @@ mod logs;
 mod parts;
 mod questions;
 mod room;
+mod tablet;
 mod tally;
 mod written;
 
@@ -34,7 +35,7 @@ pub fn agree(seed: u64, answers: u64) -> Result<u64, String> {
     tally.missing().map_or(Ok(tally.answers()), Err)
 }
 
-/// Every question, of two lists, of points and of a log.
+/// Every question, of two lists, of points, of a log and of readings.
 fn ask(tally: &mut Tally, random: &mut Random) -> Result<(), String> {
     let mut a = shape(random);
     let mut b = beside(random, &a);
@@ -56,5 +57,6 @@ fn ask(tally: &mut Tally, random: &mut Random) -> Result<(), String> {
     }
     written::ask(tally, random, written::SWEEP, (&swept, f), b)?;
     let log = log(random);
-    logs::ask(tally, random, &log, a)
+    logs::ask(tally, random, &log, a)?;
+    tablet::ask(tally, random)
 }

@@ -7,7 +7,7 @@ use cocklesway::{
 /// The most values of an answer, floor included: those of the four lines that just touch two shapes.
 const MOST_VALUES: usize = 9;
 
-/// A refusal: its number, the shape that 1 to 5 blame, and 4's edge and corner or 15's place as the first values. An
+/// A refusal: its number, the shape that 1 to 5 blame or the part of a reading, and 4's edge and corner or 15's place as the first values. An
 /// answer: 0, 0 and its values, after them the floor. What is not needed is 0; a value below 0 is its two's complement.
 #[derive(Clone, Copy, Debug, PartialEq, Eq)]
 pub struct Numbers {
@@ -105,10 +105,19 @@ impl From<Refusal> for Numbers {
     fn from(refusal: Refusal) -> Numbers {
         let shape = refusal.shape().map_or(0, |shape| 1 + shape as u64);
         match refusal {
+            Refusal::NotFinite { axis }
+            | Refusal::NotWhole { axis }
+            | Refusal::FarReading { axis } => Numbers::blamed(refusal.number(), 1 + axis as u64),
             Refusal::Side { edge, corner, .. } => Numbers::broken(shape, edge, corner),
             Refusal::Damaged { place } => Numbers::damaged(place),
             _ => Numbers::blamed(refusal.number(), shape),
         }
+    }
+}
+
+impl From<[i32; 2]> for Numbers {
+    fn from(corner: [i32; 2]) -> Numbers {
+        Numbers::all(corner.map(|z| z as u64))
     }
 }
 

@@ -52,7 +52,7 @@ have the column's corner count, at most 512; of those refused 6 the second has 1
     },
 ];
 
-const QUESTIONS: [Row; 34] = [
+const QUESTIONS: [Row; 35] = [
     ("judge", JUDGE, |r, n| single(r, n, polygon)),
     ("furthest", FURTHEST, |r, n| single(r, n, polygon)),
     ("mirror", MIRROR, |r, n| single(r, n, polygon)),
@@ -84,6 +84,9 @@ const QUESTIONS: [Row; 34] = [
     ("tangents", TANGENTS, |r, n| apart(r, n, polygon)),
     ("tangents, refused 9", TANGENTS, |r, n| {
         crossing(r, n, polygon)
+    }),
+    ("tablet, a corner each", TABLET, |r, n| {
+        single(r, n, polygon)
     }),
     ("log_read", LOG_READ, kept),
     ("log_add", LOG_ADD, kept),

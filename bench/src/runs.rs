@@ -2,7 +2,7 @@
 use crate::plain::{self, MOST, Place};
 use crate::shapes::Case;
 use crate::timing::{Run, block, block_bytes, block_logs};
-use cocklesway::{Book, Refusal, Shape, Walk, bytes};
+use cocklesway::{Book, Reading, Refusal, Shape, Walk, bytes};
 
 /// The floor that all shapes are on.
 const FLOOR: u32 = 3;
@@ -112,6 +112,12 @@ pub const LOG_ADD: [Run; 2] = [
     },
 ];
 
+/// A corner of readings, for each corner of the list.
+pub const TABLET: [Run; 2] = [
+    |cases| readings(cases, |x, y| cocklesway::tablet(x, y).is_ok()),
+    |cases| readings(cases, |x, y| plain::tablet(x, y).refusal == 0),
+];
+
 pub const JUDGE_BYTES: [Run; 2] = on_bytes!(judge, judge_bytes(0));
 pub const SUM_BYTES: [Run; 2] = on_bytes!(sum, sum_bytes(0, 1; 8 * MOST));
 pub const SUM_BYTES_SHORT: [Run; 2] = on_bytes!(sum, sum_bytes(0, 1; 8));
@@ -123,6 +129,19 @@ fn part(cases: &[Case], k: usize) -> u64 {
     block(cases, |c, out| {
         let part = Walk::at(0, 0, false).part(on(&c.a), on(&c.b), k, corners(out));
         part.map(|part| (part.corners.len(), part.walk))
+    })
+}
+
+/// Reads every corner of a list, x in millimetres and y in eighths.
+#[inline(always)]
+fn readings(cases: &[Case], is_read: fn(Reading, Reading) -> bool) -> u64 {
+    block(cases, |c, _| {
+        let corners = c.a.as_chunks::<2>().0.iter();
+        let read = corners.filter(|p| {
+            let (x, y) = (p[0].into(), 8.0 * f64::from(p[1]));
+            is_read(Reading::Millimetres(x), Reading::Eighths(y))
+        });
+        read.count()
     })
 }
 

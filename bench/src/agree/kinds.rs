@@ -3,7 +3,7 @@ use crate::reply::Numbers;
 use std::cmp::Ordering;
 
 /// What must have been compared at least once: of each question its refusals, and answers by their first values.
-pub const KINDS: [(&str, &[&str]); 23] = [
+pub const KINDS: [(&str, &[&str]); 24] = [
     (
         "judge",
         &["ok", "no 1", "no 2", "no 3", "no 4", "no 5", "no 13"],
@@ -45,6 +45,7 @@ pub const KINDS: [(&str, &[&str]); 23] = [
         &["ok 0", "ok 1", "no 4", "no 11", "no 12", "no 13"],
     ),
     ("find", &["ok 0", "ok 1", "no 4", "no 13"]),
+    ("tablet", &["ok", "no 3", "no 17", "no 18"]),
     ("log_read", &["ok", "no 8", "no 15", "no 19"]),
     (
         "log_add",
