@@ -2,7 +2,10 @@
 use crate::logs::record;
 use crate::plain::{self, MOST};
 use crate::random::Random;
-use crate::shapes::{Case, List, Outline, moved, polygon};
+use crate::shapes::{Case, List, Outline, moved};
+
+/// Makes a case of about n corners, of an outline if that matters.
+pub type Make = fn(&mut Random, usize, Outline) -> Case;
 
 /// One shape.
 pub fn single(random: &mut Random, n: usize, outline: Outline) -> Case {
@@ -11,7 +14,7 @@ pub fn single(random: &mut Random, n: usize, outline: Outline) -> Case {
 }
 
 /// Points anywhere in range.
-pub fn scattered(random: &mut Random, n: usize) -> Case {
+pub fn scattered(random: &mut Random, n: usize, _: Outline) -> Case {
     let numbers = (0..2 * n).map(|_| random.between(-1_000_000, 1_000_000));
     Case::new(numbers.collect(), List::new())
 }
@@ -42,20 +45,20 @@ pub fn summed(random: &mut Random, n: usize, outline: Outline) -> Case {
 }
 
 /// Two shapes whose sum has too many corners, at any n: the second has as many as a shape may have.
-pub fn large(random: &mut Random, n: usize) -> Case {
-    overlapping(random, [n, MOST], 25_000, polygon)
+pub fn large(random: &mut Random, n: usize, outline: Outline) -> Case {
+    overlapping(random, [n, MOST], 25_000, outline)
 }
 
 /// Two shapes of n corners each whose sum is answered; at most 512, so that it has no more than `MOST`.
-pub fn alike(random: &mut Random, n: usize) -> Case {
+pub fn alike(random: &mut Random, n: usize, outline: Outline) -> Case {
     let n = n.min(MOST / 2);
-    overlapping(random, [n, n], 25_000, polygon)
+    overlapping(random, [n, n], 25_000, outline)
 }
 
 /// The same, but the sum is out of range.
-pub fn far(random: &mut Random, n: usize) -> Case {
+pub fn far(random: &mut Random, n: usize, outline: Outline) -> Case {
     let n = n.min(MOST / 2);
-    let [a, b] = [0; 2].map(|_: i32| polygon(random, n, 500_000, 600_000, 0));
+    let [a, b] = [0; 2].map(|_: i32| outline(random, n, 500_000, 600_000, 0));
     Case::new(a, b)
 }
 
@@ -100,33 +103,33 @@ pub fn nested(random: &mut Random, n: usize, outline: Outline) -> Case {
 }
 
 /// An obstacle of n corners and a cart of 8 that is over it.
-pub fn under_cart(random: &mut Random, n: usize) -> Case {
+pub fn under_cart(random: &mut Random, n: usize, outline: Outline) -> Case {
     let [x, y] = [0; 2].map(|_: i32| random.between(-100_000, 100_000));
-    with_cart(random, n, x, y)
+    with_cart(random, n, [x, y], outline)
 }
 
 /// An obstacle of n corners and a cart of 8 beside it.
-pub fn beside_cart(random: &mut Random, n: usize) -> Case {
+pub fn beside_cart(random: &mut Random, n: usize, outline: Outline) -> Case {
     let (x, y) = off(random, 450_000);
-    with_cart(random, n, x, y)
+    with_cart(random, n, [x, y], outline)
 }
 
 /// An obstacle of n corners about the origin, and a cart of 8.
-fn with_cart(random: &mut Random, n: usize, x: i32, y: i32) -> Case {
-    let obstacle = polygon(random, n, 800_000, 0, 0);
-    Case::new(obstacle, polygon(random, 8, 1200, x, y))
+fn with_cart(random: &mut Random, n: usize, [x, y]: [i32; 2], outline: Outline) -> Case {
+    let obstacle = outline(random, n, 800_000, 0, 0);
+    Case::new(obstacle, outline(random, 8, 1200, x, y))
 }
 
 /// A shape, and the same again: each overlaps the other and is inside it.
-pub fn twice(random: &mut Random, n: usize) -> Case {
-    let case = moved_away(random, n);
+pub fn twice(random: &mut Random, n: usize, outline: Outline) -> Case {
+    let case = moved_away(random, n, outline);
     Case::new(case.a.clone(), case.a)
 }
 
 /// A shape and the same one to the right of it: sum and merge are answered at any size, since their edges are parallel,
 /// and clearance and tangents do all their work. The log has n records of a point, each under a name of its own.
-pub fn moved_away(random: &mut Random, n: usize) -> Case {
-    let a = polygon(random, n, 400_000, -250_000, 0);
+pub fn moved_away(random: &mut Random, n: usize, outline: Outline) -> Case {
+    let a = outline(random, n, 400_000, -250_000, 0);
     let b = moved(&a, 500_000, 1000);
     let point = |random: &mut Random| [0; 2].map(|_: i32| random.between(-1000, 1000));
     let records = (0..n as u16).flat_map(|name| record(name, Some(3), &point(random)));
@@ -138,10 +141,10 @@ pub fn moved_away(random: &mut Random, n: usize) -> Case {
 }
 
 /// A shape of n corners, and a log of four records of a quarter as many, named 0 to 3.
-pub fn kept(random: &mut Random, n: usize) -> Case {
-    let a = polygon(random, n, 800_000, 0, 0);
+pub fn kept(random: &mut Random, n: usize, outline: Outline) -> Case {
+    let a = outline(random, n, 800_000, 0, 0);
     let records = (0..4).flat_map(|k| {
-        let list = polygon(random, n / 4, 800_000, 0, 0);
+        let list = outline(random, n / 4, 800_000, 0, 0);
         record(k, Some(3), &list)
     });
     let log = with_room(records.collect(), &a);
@@ -162,31 +165,31 @@ fn with_room(mut log: Vec<u8>, shape: &[i32]) -> Vec<u8> {
 mod tests {
     use super::*;
     use crate::runs::NAME;
-    use crate::shapes::regular;
+    use crate::shapes::{polygon, regular};
 
     const SIZES: [usize; 4] = [32, 100, 500, MOST];
 
     /// What the sum is refused, or 0.
-    fn refused(make: fn(&mut Random, usize) -> Case, n: usize) -> u64 {
-        let case = make(&mut Random::new(7), n);
+    fn refused(make: Make, n: usize, outline: Outline) -> u64 {
+        let case = make(&mut Random::new(7), n, outline);
         plain::sum(&case.a, 0, &case.b, 0, &mut [0; 2 * MOST]).refusal
     }
 
     #[test]
     fn sums_are_refused_as_their_rows_say() {
         for n in SIZES {
-            assert_eq!(refused(|r, n| summed(r, n, polygon), n), 0);
-            assert_eq!(refused(|r, n| summed(r, n, regular), n), 0);
-            assert_eq!(refused(alike, n), 0);
-            assert_eq!(refused(large, n), 6);
-            assert_eq!(refused(far, n), 7);
+            assert_eq!(refused(summed, n, polygon), 0);
+            assert_eq!(refused(summed, n, regular), 0);
+            assert_eq!(refused(alike, n, polygon), 0);
+            assert_eq!(refused(large, n, polygon), 6);
+            assert_eq!(refused(far, n, polygon), 7);
         }
-        assert_eq!(refused(under_cart, MOST - 8), 0);
+        assert_eq!(refused(under_cart, MOST - 8, polygon), 0);
     }
 
     /// How two shapes stand.
-    fn relation(make: fn(&mut Random, usize) -> Case, n: usize) -> u64 {
-        let case = make(&mut Random::new(7), n);
+    fn relation(make: Make, n: usize, outline: Outline) -> u64 {
+        let case = make(&mut Random::new(7), n, outline);
         let answer = plain::relation(&case.a, 0, &case.b, 0);
         assert_eq!(answer.refusal, 0);
         answer.values[0]
@@ -195,19 +198,19 @@ mod tests {
     #[test]
     fn shapes_stand_as_their_rows_say() {
         for n in SIZES {
-            assert_eq!(relation(|r, n| apart(r, n, polygon), n), 0);
-            assert_eq!(relation(|r, n| apart(r, n, regular), n), 0);
-            assert_eq!(relation(|r, n| crossing(r, n, polygon), n), 2);
-            assert_eq!(relation(|r, n| crossing(r, n, regular), n), 2);
-            assert_eq!(relation(beside_cart, n - 8), 0);
-            assert_eq!(relation(under_cart, n - 8), 2);
+            for outline in [polygon as Outline, regular] {
+                assert_eq!(relation(apart, n, outline), 0);
+                assert_eq!(relation(crossing, n, outline), 2);
+            }
+            assert_eq!(relation(beside_cart, n - 8, polygon), 0);
+            assert_eq!(relation(under_cart, n - 8, polygon), 2);
         }
     }
 
     #[test]
     fn logs_are_read_and_added_to() {
         for n in SIZES {
-            let mut case = kept(&mut Random::new(7), n);
+            let mut case = kept(&mut Random::new(7), n, polygon);
             let read = |log: &[u8]| plain::log_read(log, NAME, &mut [0; 2 * MOST]);
             assert_eq!(read(&case.log).values[0], n as u64 / 4);
             let added = plain::log_add(&mut case.log, NAME, &case.a, 3, usize::MAX);

@@ -1,16 +1,12 @@
 //! The rows of the tables: a question, and cases for which it does its work.
 use crate::pairs::{
-    alike, apart, beside_cart, crossing, far, kept, large, merged, moved_away, nested, scattered,
-    shuffled, single, summed, twice, under_cart,
+    Make, alike, apart, beside_cart, crossing, far, kept, large, merged, moved_away, nested,
+    scattered, shuffled, single, summed, twice, under_cart,
 };
 use crate::plain::MOST;
-use crate::random::Random;
 use crate::runs::*;
-use crate::shapes::{Case, polygon, regular};
+use crate::shapes::{Case, Outline, polygon, regular};
 use crate::timing::Run;
-
-/// Makes a case of about n corners.
-pub type Make = fn(&mut Random, usize) -> Case;
 
 /// A question in both ways, proved first.
 pub type Row = (&'static str, [Run; 2], Make);
@@ -19,6 +15,9 @@ pub type Row = (&'static str, [Run; 2], Make);
 pub struct Table {
     pub legend: &'static str,
     pub sizes: &'static [usize],
+    pub outline: Outline,
+    /// how the cases are lent
+    pub form: fn(Case) -> Case,
     pub rows: &'static [Row],
 }
 
@@ -28,109 +27,101 @@ const SIZES: &[usize] = &[32, 100, 500, MOST];
 /// Corners of the obstacles that a cart of 8 is asked against. With the last they are as many as a shape may have.
 const OBSTACLES: &[usize] = &[100, 500, MOST - 8];
 
-/// Every question on shapes in general position, regular shapes, and carts.
-pub const TABLES: [Table; 3] = [
+/// Every question on shapes in general position, calls on bytes, regular shapes, and carts.
+pub const TABLES: [Table; 4] = [
     Table {
         legend: "\
 microseconds a call, proved and plain, and their ratio; of two shapes one has 4 corners less, and at 1,024 those of
 `sum`, `grow`, `begin` and `part` have 512 and 506; a sweep has the column's count of points; a log has 4 records of
-a quarter of the corners each, and the added shape has all. `bytes` are the calls of a host: both shapes of their sums
-have the column's corner count, at most 512; of those refused 6 the second has 1,024
+a quarter of the corners each, and the added shape has all
 ",
         sizes: SIZES,
+        outline: polygon,
+        form: Case::in_numbers,
         rows: &QUESTIONS,
     },
     Table {
-        legend: "the same, of regular polygons\n",
+        legend: "\
+the calls of a host, on bytes: both shapes of their sums have the column's corner count, at most 512; of those refused
+6 the second has 1,024
+",
         sizes: SIZES,
+        outline: polygon,
+        form: Case::in_bytes,
+        rows: &BYTES,
+    },
+    Table {
+        legend: "regular polygons\n",
+        sizes: SIZES,
+        outline: regular,
+        form: Case::in_numbers,
         rows: &REGULAR,
     },
     Table {
-        legend: "the same, of an obstacle with the column's corner count and a cart of 8 corners\n",
+        legend: "an obstacle of the column's corner count and a cart of 8 corners\n",
         sizes: OBSTACLES,
+        outline: polygon,
+        form: Case::in_numbers,
         rows: &CARTS,
     },
 ];
 
-const QUESTIONS: [Row; 35] = [
-    ("judge", JUDGE, |r, n| single(r, n, polygon)),
-    ("furthest", FURTHEST, |r, n| single(r, n, polygon)),
-    ("mirror", MIRROR, |r, n| single(r, n, polygon)),
-    ("length", LENGTH, |r, n| single(r, n, polygon)),
-    ("width", WIDTH, |r, n| single(r, n, polygon)),
-    ("sum", SUM, |r, n| summed(r, n, polygon)),
-    ("sum, refused 6 at 1,024", SUM, |r, n| {
-        crossing(r, n, polygon)
-    }),
-    ("begin", BEGIN, |r, n| summed(r, n, polygon)),
-    ("part of 16 corners", FIRST_PART, |r, n| {
-        summed(r, n, polygon)
-    }),
-    ("merge", MERGE, |r, n| merged(r, n, polygon)),
-    ("grow", GROW, |r, n| summed(r, n, polygon)),
+const QUESTIONS: [Row; 27] = [
+    ("judge", JUDGE, single),
+    ("furthest", FURTHEST, single),
+    ("mirror", MIRROR, single),
+    ("length", LENGTH, single),
+    ("width", WIDTH, single),
+    ("sum", SUM, summed),
+    ("sum, refused 6 at 1,024", SUM, crossing),
+    ("begin", BEGIN, summed),
+    ("part of 16 corners", FIRST_PART, summed),
+    ("merge", MERGE, merged),
+    ("grow", GROW, summed),
     ("sweep, points anywhere", SWEEP, scattered),
-    ("sweep, all corners", SWEEP, |r, n| shuffled(r, n, polygon)),
-    ("relation, apart", RELATION, |r, n| apart(r, n, polygon)),
-    ("relation, overlapping", RELATION, |r, n| {
-        crossing(r, n, polygon)
-    }),
-    ("inside, yes", INSIDE, |r, n| nested(r, n, polygon)),
-    ("inside, no", INSIDE, |r, n| crossing(r, n, polygon)),
-    ("offer", OFFER, |r, n| apart(r, n, polygon)),
-    ("find, apart", FIND, |r, n| apart(r, n, polygon)),
-    ("find, none", FIND, |r, n| crossing(r, n, polygon)),
-    ("clearance, apart", CLEARANCE, |r, n| apart(r, n, polygon)),
-    ("clearance, none", CLEARANCE, |r, n| crossing(r, n, polygon)),
-    ("tangents", TANGENTS, |r, n| apart(r, n, polygon)),
-    ("tangents, refused 9", TANGENTS, |r, n| {
-        crossing(r, n, polygon)
-    }),
-    ("tablet, a corner each", TABLET, |r, n| {
-        single(r, n, polygon)
-    }),
+    ("sweep, all corners", SWEEP, shuffled),
+    ("relation, apart", RELATION, apart),
+    ("relation, overlapping", RELATION, crossing),
+    ("inside, yes", INSIDE, nested),
+    ("inside, no", INSIDE, crossing),
+    ("offer", OFFER, apart),
+    ("find, apart", FIND, apart),
+    ("find, none", FIND, crossing),
+    ("clearance, apart", CLEARANCE, apart),
+    ("clearance, none", CLEARANCE, crossing),
+    ("tangents", TANGENTS, apart),
+    ("tangents, refused 9", TANGENTS, crossing),
+    ("tablet, a corner each", TABLET, single),
     ("log_read", LOG_READ, kept),
     ("log_add", LOG_ADD, kept),
-    ("bytes: judge", JUDGE_BYTES, |r, n| {
-        single(r, n, polygon).in_bytes()
-    }),
-    ("bytes: sum", SUM_BYTES, |r, n| alike(r, n).in_bytes()),
-    ("bytes: sum, refused 6", SUM_BYTES, |r, n| {
-        large(r, n).in_bytes()
-    }),
-    ("bytes: sum, refused 7", SUM_BYTES, |r, n| {
-        far(r, n).in_bytes()
-    }),
-    ("bytes: sum, refused 8", SUM_BYTES_SHORT, |r, n| {
-        alike(r, n).in_bytes()
-    }),
-    ("bytes: merge", MERGE_BYTES, |r, n| {
-        merged(r, n, polygon).in_bytes()
-    }),
-    ("bytes: apart", RELATION_BYTES, |r, n| {
-        apart(r, n, polygon).in_bytes()
-    }),
-    ("bytes: overlapping", RELATION_BYTES, |r, n| {
-        crossing(r, n, polygon).in_bytes()
-    }),
+];
+
+const BYTES: [Row; 8] = [
+    ("bytes: judge", JUDGE_BYTES, single),
+    ("bytes: sum", SUM_BYTES, alike),
+    ("bytes: sum, refused 6", SUM_BYTES, large),
+    ("bytes: sum, refused 7", SUM_BYTES, far),
+    ("bytes: sum, refused 8", SUM_BYTES_SHORT, alike),
+    ("bytes: merge", MERGE_BYTES, merged),
+    ("bytes: apart", RELATION_BYTES, apart),
+    ("bytes: overlapping", RELATION_BYTES, crossing),
 ];
 
 const REGULAR: [Row; 14] = [
-    ("judge", JUDGE, |r, n| single(r, n, regular)),
-    ("furthest", FURTHEST, |r, n| single(r, n, regular)),
-    ("length", LENGTH, |r, n| single(r, n, regular)),
-    ("width", WIDTH, |r, n| single(r, n, regular)),
-    ("sum", SUM, |r, n| summed(r, n, regular)),
-    ("merge", MERGE, |r, n| merged(r, n, regular)),
-    ("grow", GROW, |r, n| summed(r, n, regular)),
-    ("sweep, all corners", SWEEP, |r, n| shuffled(r, n, regular)),
-    ("relation, apart", RELATION, |r, n| apart(r, n, regular)),
-    ("relation, overlapping", RELATION, |r, n| {
-        crossing(r, n, regular)
-    }),
-    ("inside, yes", INSIDE, |r, n| nested(r, n, regular)),
-    ("find, none", FIND, |r, n| crossing(r, n, regular)),
-    ("clearance, apart", CLEARANCE, |r, n| apart(r, n, regular)),
-    ("tangents", TANGENTS, |r, n| apart(r, n, regular)),
+    ("judge", JUDGE, single),
+    ("furthest", FURTHEST, single),
+    ("length", LENGTH, single),
+    ("width", WIDTH, single),
+    ("sum", SUM, summed),
+    ("merge", MERGE, merged),
+    ("grow", GROW, summed),
+    ("sweep, all corners", SWEEP, shuffled),
+    ("relation, apart", RELATION, apart),
+    ("relation, overlapping", RELATION, crossing),
+    ("inside, yes", INSIDE, nested),
+    ("find, none", FIND, crossing),
+    ("clearance, apart", CLEARANCE, apart),
+    ("tangents", TANGENTS, apart),
 ];
 
 const CARTS: [Row; 6] = [

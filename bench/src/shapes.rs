@@ -25,6 +25,11 @@ impl Case {
         }
     }
 
+    /// The same lists, as they are.
+    pub fn in_numbers(self) -> Case {
+        self
+    }
+
     /// The same lists as bytes alone.
     pub fn in_bytes(self) -> Case {
         Case {

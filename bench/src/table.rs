@@ -1,6 +1,8 @@
 //! Measures the rows of a table by turns, and prints it.
+use crate::pairs::Make;
 use crate::random::Random;
-use crate::rows::{GROWTH, Make, TABLES, Table};
+use crate::rows::{GROWTH, Row, TABLES, Table};
+use crate::shapes::{Case, polygon};
 use crate::timing::{Meter, Run};
 
 /// Corners of the table of how the proved questions grow.
@@ -26,15 +28,21 @@ pub fn compare(chosen: &Chosen, rounds: usize) {
     }
 }
 
+/// The rows of one table that are chosen.
 fn print(table: &Table, chosen: &Chosen, rounds: usize) {
     let rows: Vec<_> = table.rows.iter().filter(|row| chosen.has(row.0)).collect();
     if rows.is_empty() {
         return;
     }
-    let meters = |(_, runs, make): &(_, [Run; 2], Make)| {
-        table.sizes.iter().map(|&n| meter(n, runs, *make)).collect()
+    let meter_of = |&(_, runs, make): &Row, n| {
+        meter(n, &runs, |random| {
+            (table.form)(make(random, n, table.outline))
+        })
     };
-    let times = measured(rows.iter().map(|row| meters(row)).collect(), rounds);
+    let meters = rows
+        .iter()
+        .map(|row| table.sizes.iter().map(|&n| meter_of(row, n)).collect());
+    let times = measured(meters.collect(), rounds);
     let heads = table.sizes.iter().map(|n| format!("{n:>19} corners"));
     println!("{}", table.legend);
     println!("{:24}{}", "", heads.collect::<String>());
@@ -53,9 +61,10 @@ pub fn grow(chosen: &Chosen, rounds: usize) {
     if rows.is_empty() {
         return;
     }
+    let meter_of = |run, make: Make, n| meter(n, &[run], |random| make(random, n, polygon));
     let meters = rows
         .iter()
-        .map(|&&(_, run, make)| STEPS.map(|n| meter(n, &[run], make)).into());
+        .map(|&&(_, run, make)| STEPS.map(|n| meter_of(run, make, n)).into());
     let times = measured(meters.collect(), rounds);
     println!("microseconds a call, proved; a ratio of 4 is linear, one of 16 quadratic\n");
     println!(
@@ -69,9 +78,9 @@ pub fn grow(chosen: &Chosen, rounds: usize) {
 }
 
 /// A meter of n corners.
-fn meter(n: usize, runs: &[Run], make: Make) -> Meter {
+fn meter(n: usize, runs: &[Run], make: impl Fn(&mut Random) -> Case) -> Meter {
     let mut random = Random::new(SEED);
-    Meter::new(n, runs, || make(&mut random, n))
+    Meter::new(n, runs, || make(&mut random))
 }
 
 /// The times of all meters, row by row, after so many rounds, in which all take turns.

@@ -38,7 +38,7 @@ impl Tally {
     pub fn missing(&self) -> Option<String> {
         let all = KINDS
             .iter()
-            .flat_map(|&(word, kinds)| kinds.iter().map(move |&kind| (word, kind)));
+            .flat_map(|&(word, kinds)| kinds.split("; ").map(move |kind| (word, kind)));
         let came = |(word, kind): (_, &str)| self.kinds.contains(&(word, kind.to_string()));
         let (word, kind) = all.into_iter().find(|&one| !came(one))?;
         Some(format!(

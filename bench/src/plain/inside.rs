@@ -29,8 +29,8 @@ fn on_segment(p: Corner, from: Corner, to: Corner) -> bool {
     cross(edge(from, to), edge(from, p)) == 0 && between(0) && between(1)
 }
 
-/// Walks the edges of both in one order: the edges of the first that come before an edge of the second lead to the corner
-/// that is least to its left.
+/// Walks the edges of both in one order: the edges of the first that come before an edge of the second lead to the
+/// corner that is least to its left.
 #[inline(always)]
 fn around(a: &[Corner], b: &[Corner]) -> bool {
     let (mut inner, mut rim) = (Edges::of(a, 0), Edges::of(b, 0));

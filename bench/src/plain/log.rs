@@ -117,8 +117,8 @@ fn add(rest: &mut [u8], name: u16, list: &[i32], floor: u32, allowed: usize) -> 
     store.bytes([LAST])
 }
 
-/// Clears all bytes that are not 0, from the far end down, and returns how many stores are left. Most often there are none,
-/// which a fold without an exit tells soonest.
+/// Clears all bytes that are not 0, from the far end down, and returns how many stores are left. Most often there are
+/// none, which a fold without an exit tells soonest.
 #[inline(always)]
 fn clear(rest: &mut [u8], mut allowed: usize) -> usize {
     if rest.iter().fold(0, |all, byte| all | byte) != 0 {

@@ -68,8 +68,8 @@ impl<'a, C: Stored, const MIRRORED: bool> Walk<'a, C, MIRRORED> {
         self.first.left() + self.second.left()
     }
 
-    /// Passes all edges, and shows each while the walk is at the corner that it leaves. The next edges of both shapes are
-    /// never half a turn apart, so the cross product alone tells which comes first.
+    /// Passes all edges, and shows each while the walk is at the corner that it leaves. The next edges of both shapes
+    /// are never half a turn apart, so the cross product alone tells which comes first.
     #[inline(always)]
     pub fn pass<B>(
         &mut self,

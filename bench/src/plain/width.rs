@@ -63,8 +63,8 @@ impl Across {
         }
     }
 
-    /// Takes an edge that is narrower, or as narrow and earlier. No squared length passes 2^43, so the products have 127
-    /// bits.
+    /// Takes an edge that is narrower, or as narrow and earlier. No squared length passes 2^43, so the products have
+    /// 127 bits.
     #[inline(always)]
     fn meet(&mut self, other: Across) {
         let square = |turn: u64| turn as u128 * turn as u128;
