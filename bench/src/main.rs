@@ -11,7 +11,7 @@ fn main() -> ExitCode {
     match words[..] {
         ["agree", count] => count.parse().map_or_else(|_| usage(), agreed),
         [rounds, ref words @ ..] => {
-            let measured = |rounds| measured(rounds, &Chosen(words));
+            let measured = |rounds| measured(rounds, words);
             rounds.parse().map_or_else(|_| usage(), measured)
         }
         _ => usage(),
@@ -38,8 +38,16 @@ fn agreed(count: u64) -> ExitCode {
     }
 }
 
-fn measured(rounds: usize, chosen: &Chosen) -> ExitCode {
-    table::compare(chosen, rounds);
-    table::grow(chosen, rounds);
-    ExitCode::SUCCESS
+fn measured(rounds: usize, words: &[&str]) -> ExitCode {
+    match Chosen::of(words) {
+        Ok(chosen) => {
+            table::compare(&chosen, rounds);
+            table::grow(&chosen, rounds);
+            ExitCode::SUCCESS
+        }
+        Err(word) => {
+            eprintln!("no row has the word {word}");
+            ExitCode::FAILURE
+        }
+    }
 }

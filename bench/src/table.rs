@@ -12,13 +12,28 @@ const STEPS: [usize; 2] = [100, 400];
 const SEED: u64 = 2026;
 
 /// Which rows are measured: those that have one of these words in their names, or all if there are no words.
-pub struct Chosen<'a>(pub &'a [&'a str]);
+pub struct Chosen<'a>(&'a [&'a str]);
 
-impl Chosen<'_> {
-    fn has(&self, name: &str) -> bool {
-        let mut words = name.split(|c: char| !c.is_alphanumeric() && c != '_');
-        self.0.is_empty() || words.any(|word| self.0.contains(&word))
+impl<'a> Chosen<'a> {
+    /// The rows that have one of these words, or the first word that no row has.
+    pub fn of(words: &'a [&'a str]) -> Result<Chosen<'a>, &'a str> {
+        let compared = TABLES.iter().flat_map(|table| table.rows).map(|row| row.0);
+        let names: Vec<&str> = compared.chain(GROWTH.iter().map(|row| row.0)).collect();
+        let missing = |word: &&&str| !names.iter().any(|name| words_of(name).any(|w| w == **word));
+        words
+            .iter()
+            .find(missing)
+            .map_or(Ok(Chosen(words)), |word| Err(word))
     }
+
+    fn has(&self, name: &str) -> bool {
+        self.0.is_empty() || words_of(name).any(|word| self.0.contains(&word))
+    }
+}
+
+/// The words of a row's name.
+fn words_of(name: &str) -> impl Iterator<Item = &str> {
+    name.split(|c: char| !c.is_alphanumeric() && c != '_')
 }
 
 /// For each question and size: proved and plain in microseconds, and their ratio.
