@@ -76,13 +76,8 @@ pub const BEGIN: [Run; 2] = [
 pub const FIRST_PART: [Run; 2] = [
     |cases| part(cases, PART),
     |cases| {
-        let begun = Place {
-            first: 0,
-            second: 0,
-            over: false,
-        };
         block(cases, |c, out| {
-            plain::part(&c.a, FLOOR, &c.b, FLOOR, begun, PART, out)
+            plain::part(&c.a, FLOOR, &c.b, FLOOR, Place::BEGUN, PART, out)
         })
     },
 ];

@@ -13,11 +13,7 @@ const PARTS: usize = 4;
 
 /// Parts of a sum from its beginning on, each with one from a place nearby.
 pub fn ask(tally: &mut Tally, random: &mut Random, a: Lent, b: Lent) -> Result<(), String> {
-    let mut place = Place {
-        first: 0,
-        second: 0,
-        over: false,
-    };
+    let mut place = Place::BEGUN;
     for _ in 0..PARTS {
         let beside = near(random, place);
         ask_part(tally, random, a, b, beside)?;

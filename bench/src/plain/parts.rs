@@ -54,6 +54,13 @@ pub fn part(
 }
 
 impl Place {
+    /// Before the first corner.
+    pub const BEGUN: Place = Place {
+        first: 0,
+        second: 0,
+        over: false,
+    };
+
     /// Whether it is a place of the sum: the last edge passed of either shape is before the next of the other.
     #[inline(always)]
     fn is_of(self, a: &[Corner], b: &[Corner]) -> bool {
