@@ -12,7 +12,7 @@ use Rattle.plane.specs.Floor.{Floored, on, Same}
 use Rattle.plane.specs.Question.{Question, askGrow}
 use Rattle.admission.specs.Admission.{Judged}
 use Rattle.admission.specs.theory.Door.{shapes-refused, rest-refused, all-written}
-use Rattle.admission.specs.theory.Delivery.{fit-rows, judged-by, room-there}
+use Rattle.admission.specs.theory.Delivery.{fit-judged, room-there}
 use Rattle.questions.proofs.grow.Statement.{statement}
 use Rattle.questions.proofs.grow.Tie as tie
 
@@ -40,8 +40,8 @@ judged : (c : tie.After-fits2) → let args = c .before .before .before .before 
     Judged (NoneApply rows) rows (c .fits2 .result)
 judged c =
     let args = c .before .before .before .before .before .before .before .args in
-    judged-by (fit-rows (grown (args .obstacle .now) (args .cart .now)) (c .before .is-far .ensures) (args .out .now)
-    (c .before .before .reckon .ensures)) (c .fits2 .ensures)
+    fit-judged (grown (args .obstacle .now) (args .cart .now)) (c .before .is-far .ensures) (args .out .now)
+    (c .before .before .reckon .ensures) (c .fits2 .ensures)
 
 admit-pair-requires : tie.Need-admit-pair-requires
 admit-pair-requires c κs = search needs
