@@ -2,8 +2,10 @@
 pub mod Places
 pub mod Walk
 pub mod Side
+pub mod Image
 pub mod Stretch
 pub mod Advance
+pub mod Size
 pub mod PlaceAfter
 pub mod PlaceTest
 pub mod Part

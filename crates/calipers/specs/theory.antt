@@ -6,10 +6,12 @@ pub mod Places
 pub mod PlaceCorners
 pub mod Visited
 pub mod Sides
+pub mod Image
 pub mod Steps
 pub mod Carry
 pub mod Directions
 pub mod Visits
+pub mod Summed
 pub mod Reached
 pub mod PlaceTest
 pub mod Parts

@@ -18,13 +18,13 @@ use polygon::corners;
 use polygon::point::Point;
 
 // How many edges of a shape are passed, of how many, the corner (x, y) there, and the next edge (run, rise), which is
-// (0, 0) where none is left. The parts have the width of their products, and are no points: each has a register of its
-// own in a loop.
+// (0, 0) where none is left. Run and rise are differences of 32 bits, widened once to the width of their products. The
+// parts are no points: each has a register of its own in a loop.
 pub struct Side {
     pub at: usize,
     pub end: usize,
-    pub x: i64,
-    pub y: i64,
+    pub x: i32,
+    pub y: i32,
     pub run: i64,
     pub rise: i64,
 }
@@ -68,6 +68,19 @@ pub fn next(list: &[i32], s: Side, waits: bool) -> Side
     onto(list, arrived(s))
 }
 
+// The same where at least three edges are left: no test of the end is needed.
+// Ruled out: same edge passed twice.
+pub fn ahead(list: &[i32], s: Side, waits: bool) -> Side
+    requires { ⌜ Carried (now list) s × InRange (now list) × (0 < length (points (now list))) × (s .at + 2 < s .end) ⌝ }
+    ensures { λ r. ⌜ (r .at ≡ cond waits (s .at) (onward (points (now (list .entry))) (s .at)))
+        × Carried (now (list .entry)) r ⌝ }
+{
+    if waits {
+        return s;
+    }
+    facing(arrived(s), corners::corner_at(list, s.at + 2))
+}
+
 // A side that stands at a corner and knows no edge yet, with its next edge.
 fn onto(list: &[i32], s: Side) -> Side
     requires { ⌜ Stands (now list) s × InRange (now list) × (0 < length (points (now list))) ⌝ }
@@ -91,22 +104,22 @@ fn closing(list: &[i32], s: Side) -> Side
 }
 
 // At a corner, with no edge.
-fn standing(i: usize, end: usize, p: Point) -> Side
+pub fn standing(i: usize, end: usize, p: Point) -> Side
     requires { ⌜ Small (2 ^ 21) (at p) ⌝ }
     ensures { λ r. ⌜ (r .at ≡ i) × (r .end ≡ end) × (cornerOf r ≡ at p) × (nextOf r ≡ origin) ⌝ }
 {
     Side {
         at: i,
         end,
-        x: p.x as i64,
-        y: p.y as i64,
+        x: p.x,
+        y: p.y,
         run: 0,
         rise: 0,
     }
 }
 
 // At the end of its edge, with no edge.
-fn arrived(s: Side) -> Side
+pub fn arrived(s: Side) -> Side
     requires { ⌜ (s .at < 2 ^ 63) × Small (2 ^ 21) (cornerOf s) × Small (2 ^ 21) (nextOf s) ⌝ }
     ensures { λ r. ⌜ (r .at ≡ s .at + 1) × (r .end ≡ s .end) × (cornerOf r ≡ cornerOf s ⊕ nextOf s)
         × (nextOf r ≡ origin) ⌝ }
@@ -114,15 +127,15 @@ fn arrived(s: Side) -> Side
     Side {
         at: s.at + 1,
         end: s.end,
-        x: s.x + s.run,
-        y: s.y + s.rise,
+        x: s.x + s.run as i32,
+        y: s.y + s.rise as i32,
         run: 0,
         rise: 0,
     }
 }
 
 // With the edge to a corner.
-fn facing(s: Side, to: Point) -> Side
+pub fn facing(s: Side, to: Point) -> Side
     requires { ⌜ Small (2 ^ 21) (cornerOf s) × Small (2 ^ 21) (at to) ⌝ }
     ensures { λ r. ⌜ (r .at ≡ s .at) × (r .end ≡ s .end) × (cornerOf r ≡ cornerOf s)
         × (nextOf r ≡ at to ⊖ cornerOf s) ⌝ }
@@ -132,8 +145,8 @@ fn facing(s: Side, to: Point) -> Side
         end: s.end,
         x: s.x,
         y: s.y,
-        run: to.x as i64 - s.x,
-        rise: to.y as i64 - s.y,
+        run: (to.x - s.x) as i64,
+        rise: (to.y - s.y) as i64,
     }
 }
 
@@ -165,8 +178,8 @@ pub fn here(s: Side, t: Side) -> Point
     ensures { λ r. ⌜ at r ≡ cornerOf s ⊕ cornerOf t ⌝ }
 {
     Point {
-        x: (s.x + t.x) as i32,
-        y: (s.y + t.y) as i32,
+        x: s.x + t.x,
+        y: s.y + t.y,
     }
 }
 
@@ -183,7 +196,7 @@ fn beyond(s: Side, t: Side) -> i64
     requires { ⌜ Small (2 ^ 21) (cornerOf s) × Small (2 ^ 21) (cornerOf t) ⌝ }
     ensures { λ r. ⌜ r ≡ t .x -ℤ s .x ⌝ }
 {
-    t.x - s.x
+    (t.x - s.x) as i64
 }
 
 // By how much it is above it.
@@ -191,7 +204,7 @@ fn above(s: Side, t: Side) -> i64
     requires { ⌜ Small (2 ^ 21) (cornerOf s) × Small (2 ^ 21) (cornerOf t) ⌝ }
     ensures { λ r. ⌜ r ≡ t .y -ℤ s .y ⌝ }
 {
-    t.y - s.y
+    (t.y - s.y) as i64
 }
 
 // The squared distance of the two corners.

@@ -1,13 +1,14 @@
 // Inner functions: the caliper walk from any of its places on, and which states are its places.
-ghost use mathlib.Core.Bool.{false};
+ghost use mathlib.Core.Bool.{true, false};
 ghost use mathlib.Core.Path.{_≡_};
-ghost use Prim.Native.Nat.{_+_, _<_, _≤_};
-ghost use lib.ListN.{length};
-ghost use Rattle.plane.specs.Point.{points};
+ghost use Prim.Native.Nat.{_+_, _*_, _^_, _<_, _≤_};
+ghost use lib.ListN.{length, take};
+ghost use Rattle.plane.specs.Point.{points, numbers};
 ghost use Rattle.plane.specs.Refusal.{Valid};
+ghost use Rattle.plane.specs.Output.{overwritten};
 ghost use Rattle.plane.specs.Forms.{edges as Forms·edges};
 ghost use Rattle.calipers.specs.Walk.{At};
-ghost use Rattle.calipers.specs.Advance.{state, reached, Advanced};
+ghost use Rattle.calipers.specs.Advance.{state, nextCorners, reached, Walked, Advanced};
 ghost use Rattle.calipers.specs.Side.{walkOf};
 ghost use Rattle.calipers.specs.PlaceAfter.{isPlace};
 ghost use Rattle.calipers.specs.PlaceTest.{ends as PlaceTest·ends, follows as PlaceTest·follows};
@@ -26,20 +27,26 @@ pub struct Advance {
 }
 
 // Goes on from the place at which i edges of the first shape and j of the second are passed, and writes the corners on
-// its way at the front of the buffer: k of them or what remains, whichever is less. Edges of equal direction make one
-// step, so no three corners are in line. A point moves the other shape; a segment's edge is passed twice.
+// its way at the front of the output: k of them or what remains, whichever is less. All after them is kept. Edges of
+// equal direction make one step, so no three corners are in line. A point moves the other shape; a segment's edge is
+// passed twice.
 // Ruled out: parallel corners kept; made up count; one corner too few; everything in the first part.
-pub fn walk_on(a: &[i32], b: &[i32], i: usize, j: usize, k: usize, buf: &mut [i32]) -> Advance
+pub fn walk_on(a: &[i32], b: &[i32], i: usize, j: usize, k: usize, out: &mut [i32]) -> Advance
     requires { ⌜ At (now a) (now b) (state i j false) × (0 < k)
-        × (length (points (now a)) + length (points (now b)) ≤ length (points (now buf))) ⌝ }
-    ensures { λ r. ⌜ Advanced (now (a .entry)) (now (b .entry)) (state i j false) k r (now (buf .exit)) ⌝ }
+        × (2 * length (nextCorners (now a) (now b) (state i j false) k) ≤ length (now out)) ⌝ }
+    ensures { λ r. ⌜ Advanced (now (a .entry)) (now (b .entry)) (state i j false) k r
+        × (now (out .exit) ≡ overwritten (numbers (nextCorners (now (a .entry)) (now (b .entry)) (state i j false) k))
+        (now (out .entry))) ⌝ }
 {
-    let mut s = side::side_at(a, i);
-    let mut t = side::side_at(b, j);
-    let all = s.end + t.end;
-    let mut count = 0;
+    let first = side::side_at(a, i);
+    let second = side::side_at(b, j);
+    let all = first.end + second.end;
+    let far = stride(a, b, k, first, second, out);
+    let mut s = far.first;
+    let mut t = far.second;
+    let mut count = far.count;
     loop {
-        corners::put(buf, count, side::here(s, t));
+        corners::put(out, count, side::here(s, t));
         count += 1;
         let c = side::order(s, t);
         s = side::next(a, s, c < 0);
@@ -51,6 +58,55 @@ pub fn walk_on(a: &[i32], b: &[i32], i: usize, j: usize, k: usize, buf: &mut [i3
             return arrived(count, s, t, false);
         }
     }
+}
+
+// The sides to which a walk came, and the corners that were written.
+struct Partway {
+    count: usize,
+    first: Side,
+    second: Side,
+}
+
+// Goes on as long as both shapes have three edges left and more than one corner may be written, and writes the corners
+// on its way at the front of the output. No step tests for the end of a shape: that is quicker.
+fn stride(a: &[i32], b: &[i32], k: usize, s: Side, t: Side, out: &mut [i32]) -> Partway
+    requires { ⌜ Walked (now a) (now b) (walkOf s t false) k 0 s t
+        × (2 * length (nextCorners (now a) (now b) (walkOf s t false) k) ≤ length (now out)) ⌝ }
+    ensures { λ r. ⌜
+        Walked (now (a .entry)) (now (b .entry)) (walkOf s t false) k (r .count) (r .first) (r .second)
+        × (now (out .exit)
+        ≡ overwritten (numbers (take (r .count) (nextCorners (now (a .entry)) (now (b .entry)) (walkOf s t false) k)))
+        (now (out .entry))) ⌝ }
+{
+    let mut first = s;
+    let mut second = t;
+    let mut count = 0;
+    while inside(first, second, count, k) {
+        corners::put(out, count, side::here(first, second));
+        count += 1;
+        let c = side::order(first, second);
+        first = side::ahead(a, first, c < 0);
+        second = side::ahead(b, second, 0 < c);
+    }
+    Partway {
+        count,
+        first,
+        second,
+    }
+}
+
+// Returns whether both sides have three edges left, and more than one corner may be written.
+fn inside(s: Side, t: Side, count: usize, k: usize) -> bool
+    requires { ⌜ (s .at < 2 ^ 63) × (t .at < 2 ^ 63) × (count < 2 ^ 63) ⌝ }
+    ensures { λ r. ⌜ (r ≡ true → (s .at + 2 < s .end) × (t .at + 2 < t .end) × (count + 1 < k)) ⌝ }
+{
+    if s.end <= s.at + 2 {
+        return false;
+    }
+    if t.end <= t.at + 2 {
+        return false;
+    }
+    count + 1 < k
 }
 
 // A walk at these two sides, with so many corners written.

@@ -2,5 +2,7 @@
 pub mod Order
 pub mod Buffer
 pub mod Chain
+pub mod Interior
+pub mod Digits
 pub mod Meaning
 pub mod theory

@@ -1,5 +1,6 @@
 -- The theory of rows and buffers, which only proves: points in order, what a scan of them leaves in a buffer, and that the two chains of
--- two shapes are the shape of both; that two sorted halves are united, and that both chains of sorted points are their outline.
+-- two shapes are the shape of both; that points in a rectangle may be dropped and the others put in order; that both chains of sorted
+-- points are their outline.
 pub mod Ahead
 pub mod Least
 pub mod Run
@@ -16,5 +17,8 @@ pub mod Counted
 pub mod Spread
 pub mod OnePoint
 pub mod Written
-pub mod Halves
+pub mod Held
 pub mod Route
+pub mod Interior
+pub mod Insertion
+pub mod Digits

@@ -2,11 +2,13 @@
 // many points (document 02, W10). Callers ask the crate `questions`.
 mod buffer;
 mod chains;
+mod digits;
+mod insertion;
+mod interior;
 mod order;
 mod outline;
 mod rows;
 mod scan;
-mod sort;
 
 ghost use mathlib.Core.Bool.{false, true};
 ghost use Prim.Native.Nat.{suc, _+_, _*_, _≤_};
@@ -25,6 +27,9 @@ use polygon::limits;
 use polygon::peak;
 use polygon::point;
 use polygon::point::Point;
+
+// So many numbers hold few points.
+const FEW_NUMBERS: usize = 64;
 
 // Writes the shape of both corner lists taken together at the front of the buffer, and says how many corners it has: at
 // most as many as both shapes together, and each of them is a corner of one of the two. The shapes may overlap, lie one
@@ -50,14 +55,40 @@ pub fn merge(a: &[i32], b: &[i32], buf: &mut [i32]) -> usize
 
 // Writes the shape of many points at the front of the buffer, and says how many corners it has. The points stand in any
 // order; one that is repeated counts once, and one in line between two others is dropped. Points that are all equal
-// make a point, and points in one line a segment. The buffer has room for both chains, and is lent to the sort before.
+// make a point, and points in one line a segment. Most points that cannot be corners are dropped before the sort. The
+// buffer has room for both chains, and is lent to the sort before.
 // Ruled out: points in line kept; repeats kept.
 pub fn sweep(list: &[i32], buf: &mut [i32]) -> usize
     requires { ⌜ ValidPoints (now list) × (2 * length (points (now list)) ≤ length (points (now buf))) ⌝ }
     ensures { λ r. ⌜ Front (shapeOf (points (now (list .entry)))) r (now (buf .exit)) ⌝ }
 {
+    if list.len() <= FEW_NUMBERS {
+        return sweep_few(list, buf);
+    }
+    sweep_many(list, buf)
+}
+
+// The same for few points: these are inserted one by one.
+fn sweep_few(list: &[i32], buf: &mut [i32]) -> usize
+    requires { ⌜ ValidPoints (now list) × (2 * length (points (now list)) ≤ length (points (now buf)))
+        × (length (now list) ≤ 64) ⌝ }
+    ensures { λ r. ⌜ Front (shapeOf (points (now (list .entry)))) r (now (buf .exit)) ⌝ }
+{
+    let mut sorted = [0i32; FEW_NUMBERS];
+    let m = interior::reduce(list, buf);
+    let n = insertion::insert_all(buf, m, &mut sorted);
+    outline::outline(&sorted, n, buf)
+}
+
+// The same for any number of points: these are brought near their order first.
+fn sweep_many(list: &[i32], buf: &mut [i32]) -> usize
+    requires { ⌜ ValidPoints (now list) × (2 * length (points (now list)) ≤ length (points (now buf))) ⌝ }
+    ensures { λ r. ⌜ Front (shapeOf (points (now (list .entry)))) r (now (buf .exit)) ⌝ }
+{
     let mut sorted = [0i32; limits::POINTS_NUMBERS];
-    let n = sort::sort(list, 0, corners::count(list), &mut sorted, buf);
+    let m = interior::reduce(list, buf);
+    digits::presort(buf, m, &mut sorted);
+    let n = insertion::insert_all(buf, m, &mut sorted);
     outline::outline(&sorted, n, buf)
 }
 

@@ -1,13 +1,11 @@
--- `merge` meets its contract: a list is refused, or the shape is made in a buffer and delivered.
-use mathlib.Core.Path.{sym}
-use native.Mathlib.Omega.{arith}
+-- `merge` meets its contract: a list is refused, or the inner function answers, with one floor for both.
+use mathlib.Core.Path.{_≡_, subst}
+use Prim.Native.Nat.{ℕ}
 use borrow.Author.Needs.{needs}
-use Rattle.plane.specs.Limits.{maxCorners}
-use Rattle.plane.specs.Floor.{Floored, on, twoShapes, Same}
-use Rattle.plane.specs.Question.{askMerge}
-use Rattle.polygon.specs.theory.Fronts.{front-length}
+use Rattle.plane.specs.Floor.{Floored, on, Same}
+use Rattle.plane.specs.Question.{reply, output, askMerge}
 use Rattle.admission.specs.theory.Door.{shapes-refused}
-use Rattle.admission.specs.theory.Delivery.{front-paired, made-delivered}
+use Rattle.questions.specs.Answer.{ofAnswer}
 use Rattle.questions.proofs.merge.Statement.{statement}
 use Rattle.questions.proofs.merge.Tie as tie
 
@@ -37,41 +35,21 @@ returns c =
     shapes-refused (askMerge (one start) (other start) (start .args .out .now))
     (c .before .before .before .admit-pair .ensures .no _ (c .before .refusal .given .1))
 
-slice-aggregate-merge : tie.Need-slice-aggregate-merge
-slice-aggregate-merge c = search needs
-
 merge-requires : tie.Need-merge-requires
-unfolding maxCorners
-merge-requires c κs =
-    let u = shapes (c .before) .first-valid in
-    let v = shapes (c .before) .second-valid in
-    (u, v, omega (arith, u .few, v .few))
-
-mul-shape : tie.Need-mul-shape
-mul-shape c = search needs
-
-array-share-prefix-shape : tie.Need-array-share-prefix-shape
-array-share-prefix-shape c = search needs
-
-slice-aggregate-deliver : tie.Need-slice-aggregate-deliver
-slice-aggregate-deliver c = sym (front-length (c .before .before .merge .ensures))
-
-deliver-requires : tie.Need-deliver-requires
-deliver-requires c κs = front-paired (c .before .before .before .merge .ensures)
+merge-requires c κs = let good = shapes (c .before) in (good .first-valid, good .second-valid)
 
 same-length : tie.Need-same-length
 same-length c = search needs
 
 returns-2 : tie.Need-returns-2
 returns-2 c =
-    let at-made = c .before .before .before .before .before in
-    let at-told = at-made .before .before in
-    let start = at-told .before .before .before in
-    made-delivered (at-made .merge .ensures) (twoShapes (one start) (other start)) (shapes at-told) (start .args .out .now)
-    (c .before .deliver .ensures .0) (c .before .deliver .ensures .1)
+    let told = c .before .before .before in
+    let args = told .before .before .before .args in
+    subst (λ (g : ℕ).
+    (ofAnswer (c .before .merge .result) ≡ reply (askMerge (on (args .a .now) (args .f)) (on (args .b .now) g) (args .out .now)))
+    × (c .before .merge .last .1 .1 .1 .0 ≡ output (askMerge (on (args .a .now) (args .f)) (on (args .b .now) g) (args .out .now))))
+    (shapes told .one-floor) (c .before .merge .ensures)
 
 pub merge-spec : {M : Type 1} → statement M
 merge-spec =
-    tie.close
-    (tie.spec admit-pair-requires enum-known-refusal returns enum-told slice-aggregate-merge merge-requires mul-shape
-    array-share-prefix-shape slice-aggregate-deliver deliver-requires same-length returns-2)
+    tie.close (tie.spec admit-pair-requires enum-known-refusal returns enum-told merge-requires same-length returns-2)

@@ -1,4 +1,4 @@
--- `arrived` meets its contract: sums of small parts fit.
+-- `arrived` meets its contract: sums of small parts fit 32 bits.
 use mathlib.Core.Path.{refl, ap₂}
 use borrow.Author.Needs.{needs}
 use Rattle.plane.specs.Point.{point}
@@ -9,15 +9,21 @@ use Rattle.calipers.proofs.side.arrived.Tie as tie
 add-t2 : tie.Need-add-t2
 add-t2 c = search needs
 
-add-t3 : tie.Need-add-t3
-add-t3 c = machine-fits (search (machine, bounded) depth 40) tt
+cast-t3 : tie.Need-cast-t3
+cast-t3 c = machine-fits (search (machine, bounded) depth 40) tt
 
 add-t4 : tie.Need-add-t4
 add-t4 c = machine-fits (search (machine, bounded) depth 40) tt
+
+cast-t5 : tie.Need-cast-t5
+cast-t5 c = machine-fits (search (machine, bounded) depth 40) tt
+
+add-t6 : tie.Need-add-t6
+add-t6 c = machine-fits (search (machine, bounded) depth 40) tt
 
 returns : tie.Need-returns
 returns c =
     (refl, refl, ap₂ point (machine-is (search (machine, bounded) depth 40) tt) (machine-is (search (machine, bounded) depth 40) tt), refl)
 
 pub arrived-spec : {M : Type 1} → statement M
-arrived-spec = tie.close (tie.spec add-t2 add-t3 add-t4 returns)
+arrived-spec = tie.close (tie.spec add-t2 cast-t3 add-t4 cast-t5 add-t6 returns)

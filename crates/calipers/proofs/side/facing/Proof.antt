@@ -1,21 +1,21 @@
--- `facing` meets its contract: differences of small parts fit.
+-- `facing` meets its contract: differences of small parts fit 32 bits.
 use mathlib.Core.Path.{refl, ap₂}
 use Rattle.plane.specs.Point.{point}
 use Rattle.integer.specs.Machine.{machine, bounded, machine-fits, machine-is}
 use Rattle.calipers.proofs.side.facing.Statement.{statement}
 use Rattle.calipers.proofs.side.facing.Tie as tie
 
-cast-t3 : tie.Need-cast-t3
-cast-t3 c = machine-fits (search (machine, bounded) depth 40) tt
+sub-t3 : tie.Need-sub-t3
+sub-t3 c = machine-fits (search (machine, bounded) depth 40) tt
 
-sub-t4 : tie.Need-sub-t4
-sub-t4 c = machine-fits (search (machine, bounded) depth 40) tt
+cast-t4 : tie.Need-cast-t4
+cast-t4 c = machine-fits (search (machine, bounded) depth 40) tt
 
-cast-t5 : tie.Need-cast-t5
-cast-t5 c = machine-fits (search (machine, bounded) depth 40) tt
+sub-t5 : tie.Need-sub-t5
+sub-t5 c = machine-fits (search (machine, bounded) depth 40) tt
 
-sub-t6 : tie.Need-sub-t6
-sub-t6 c = machine-fits (search (machine, bounded) depth 40) tt
+cast-t6 : tie.Need-cast-t6
+cast-t6 c = machine-fits (search (machine, bounded) depth 40) tt
 
 returns : tie.Need-returns
 returns c = (
@@ -26,4 +26,4 @@ returns c = (
 )
 
 pub facing-spec : {M : Type 1} → statement M
-facing-spec = tie.close (tie.spec cast-t3 sub-t4 cast-t5 sub-t6 returns)
+facing-spec = tie.close (tie.spec sub-t3 cast-t4 sub-t5 cast-t6 returns)

@@ -8,17 +8,12 @@ use Rattle.calipers.proofs.side.here.Tie as tie
 add-t3 : tie.Need-add-t3
 add-t3 c = machine-fits (search (machine, bounded) depth 40) tt
 
-cast-t4 : tie.Need-cast-t4
-cast-t4 c = machine-fits (search (machine, bounded) depth 40) tt
-
-add-t5 : tie.Need-add-t5
-add-t5 c = machine-fits (search (machine, bounded) depth 40) tt
-
-cast-t6 : tie.Need-cast-t6
-cast-t6 c = machine-fits (search (machine, bounded) depth 40) tt
+add-t4 : tie.Need-add-t4
+add-t4 c = machine-fits (search (machine, bounded) depth 40) tt
 
 returns : tie.Need-returns
-returns c = ap₂ point (machine-is (search (machine, bounded) depth 40) tt) (machine-is (search (machine, bounded) depth 40) tt)
+returns c =
+    ap₂ point (machine-is (search (machine, bounded) depth 40) tt) (machine-is (search (machine, bounded) depth 40) tt)
 
 pub here-spec : {M : Type 1} → statement M
-here-spec = tie.close (tie.spec add-t3 cast-t4 add-t5 cast-t6 returns)
+here-spec = tie.close (tie.spec add-t3 add-t4 returns)

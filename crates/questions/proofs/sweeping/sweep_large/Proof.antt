@@ -1,0 +1,26 @@
+-- `sweep_large` meets its contract: the buffer holds both chains of the points of any sweep.
+use native.Mathlib.Omega.{arith}
+use borrow.Author.Needs.{needs}
+use Rattle.plane.specs.Limits.{maxPoints}
+use Rattle.plane.specs.theory.lists.Flat.{points-length}
+use Rattle.questions.proofs.sweeping.sweep_large.Statement.{statement}
+use Rattle.questions.proofs.sweeping.sweep_large.Tie as tie
+
+slice-aggregate-sweep-in : tie.Need-slice-aggregate-sweep-in
+slice-aggregate-sweep-in c = search needs
+
+sweep-in-requires : tie.Need-sweep-in-requires
+unfolding maxPoints
+sweep-in-requires c κs =
+    let start = c .before .before in
+    let v = start .pre in
+    (v, omega (arith, v .few, v .paired, points-length (start .args .list .now)))
+
+same-length : tie.Need-same-length
+same-length c = search needs
+
+returns : tie.Need-returns
+returns c = search needs
+
+pub sweep-large-spec : {M : Type 1} → statement M
+sweep-large-spec = tie.close (tie.spec slice-aggregate-sweep-in sweep-in-requires same-length returns)
