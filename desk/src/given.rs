@@ -101,8 +101,7 @@ impl fmt::Display for Given {
             return write!(f, "{name}");
         }
         match self.corners() {
-            [] if self.numbers.is_empty() => f.write_str("the empty list"),
-            [] => write!(f, "the list of {} numbers", self.numbers.len()),
+            [] => f.write_str("the list"),
             [point] => write!(f, "the point {}", Corner(*point)),
             [from, to] => write!(f, "the segment {}", Edge(Corner(*from), Corner(*to))),
             [first, ..] => {

@@ -298,10 +298,11 @@ fn added(Record { name, shape, .. }: &Record, addition: Addition, log: &[u8]) ->
     let log = refusal::hexadecimal(log);
     match addition {
         Addition::Finished => {
-            format!("name {name} of the log reads as {shape} from now on; the log is {log}")
+            format!("{shape} is in the log as name {name}; its bytes are {log}")
         }
-        Addition::Cut => {
-            format!("the stores ran out, and every name still reads as before; the log is {log}")
-        }
+        Addition::Cut => format!(
+            "the stores ran out before {shape} was in the log as name {name}; \
+             every name still reads as before; its bytes are {log}"
+        ),
     }
 }
