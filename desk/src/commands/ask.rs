@@ -1,4 +1,5 @@
 //! `cocklesway ask`: answers the questions of files.
+use crate::answer::{AboutTwo, Answer};
 use crate::command::{Command, Console, Status, Trouble};
 use crate::object::object;
 use crate::options::{Arguments, Known};
@@ -53,12 +54,16 @@ fn run(arguments: &Arguments, console: &mut Console<'_>) -> Result<Status, Troub
     Ok(status)
 }
 
-/// Returns how a line that came to this ends the program.
+/// Returns how a line that came to this ends the program. A call of a sum in parts may be refused by itself.
 #[must_use]
 pub fn status_of(event: &Event) -> Status {
-    match event.outcome {
+    match &event.outcome {
         Outcome::Refused(_) | Outcome::Removed { .. } => Status::Refused,
         Outcome::Unreadable(_) => Status::Wrong,
+        Outcome::Answered {
+            answer: Answer::Two(_, AboutTwo::Parts(calls)),
+            ..
+        } if calls.iter().any(|call| call.corners.is_err()) => Status::Refused,
         _ => Status::Fine,
     }
 }
