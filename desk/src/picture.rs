@@ -4,7 +4,7 @@
 //! read back, and held against the library's answers.
 use crate::answer::{Refused, clearance};
 use crate::distance::Distance;
-use crate::frame::{Box2, Frame};
+use crate::frame::{Frame, Rect};
 use crate::given::Pair;
 use crate::grid;
 use crate::labels::{self, LINE, Label, Wanted};
@@ -49,7 +49,7 @@ pub fn picture(scene: &Scene) -> Result<Option<String>, Refused> {
         .iter()
         .flat_map(|figure| figure.shape.corners());
     let place = scene.place.iter();
-    let Some(shown) = Box2::around(corners.chain(place).map(|corner| corner.map(f64::from))) else {
+    let Some(shown) = Rect::around(corners.chain(place).map(|corner| corner.map(f64::from))) else {
         return Ok(None);
     };
     let frame = Frame::fitted(shown, [LEFT, TOP], MAP);
@@ -71,7 +71,7 @@ fn narrow_gaps(scene: &Scene, frame: &Frame) -> Result<Vec<Narrow>, Refused> {
         .iter()
         .filter(|figure| is_solid(figure.role))
         .collect();
-    let boxes: Vec<Option<Box2>> = things.iter().map(|figure| box_of(figure)).collect();
+    let boxes: Vec<Option<Rect>> = things.iter().map(|figure| box_of(figure)).collect();
     let mut narrow = Vec::new();
     for (at, (a, a_box)) in things.iter().zip(&boxes).enumerate() {
         for (b, b_box) in things.iter().zip(&boxes).skip(at + 1) {
@@ -112,8 +112,8 @@ fn is_solid(role: Role) -> bool {
     matches!(role, Role::Shape | Role::Cart)
 }
 
-fn box_of(figure: &Figure) -> Option<Box2> {
-    Box2::around(
+fn box_of(figure: &Figure) -> Option<Rect> {
+    Rect::around(
         figure
             .shape
             .corners()
@@ -213,7 +213,7 @@ impl Page<'_> {
         let title: &Attributes<'_> = &[("x", &Px(LEFT)), ("y", &26), ("font-size", &18)];
         svg.text("text", title, &format!("Floor {floor}"));
         grid::draw(&mut svg, &self.frame);
-        self.map(&mut svg, "map", &self.frame);
+        self.map(&mut svg, "map", &self.frame, [0, 0]);
         self.marks(&mut svg);
         self.names(&mut svg);
         self.insets(&mut svg, insets_top);
@@ -222,25 +222,28 @@ impl Page<'_> {
         svg.finish()
     }
 
-    /// Draws all outlines and lines with their millimetres, to the scale of a frame.
-    fn map(&self, svg: &mut Svg, class: &str, frame: &Frame) {
+    /// Draws all outlines and lines with their millimetres, to the scale of a frame. They are counted from a place near
+    /// by, since browsers round what is far away.
+    fn map(&self, svg: &mut Svg, class: &str, frame: &Frame, from: [i32; 2]) {
         self.hatches(svg, class, frame.scale);
         let attributes: &Attributes<'_> = &[
             ("class", &class),
-            ("transform", &frame.transform()),
-            ("stroke-width", &Px(1.6 / frame.scale)),
+            ("data-from", &format!("{},{}", from[0], from[1])),
+            ("transform", &frame.transform(from)),
+            ("stroke-width", &Px6(1.6 / frame.scale)),
             ("stroke-linejoin", &"round"),
             ("stroke-linecap", &"round"),
         ];
         svg.open("g", attributes);
         for figure in &self.scene.figures {
-            outline(svg, class, figure, frame.scale);
+            outline(svg, class, figure, frame.scale, from);
         }
         for stroke in &self.scene.strokes {
-            line(svg, stroke, frame.scale);
+            line(svg, stroke, frame.scale, from);
         }
-        if let Some([x, y]) = self.scene.place {
-            let [ring, width] = [5.0, 2.0].map(|size| Px(size / frame.scale));
+        if let Some(place) = self.scene.place {
+            let [x, y] = less(place, from);
+            let [ring, width] = [5.0, 2.0].map(|size| Px6(size / frame.scale));
             let attributes: &Attributes<'_> = &[
                 ("class", &"origin"),
                 ("cx", &x),
@@ -310,15 +313,35 @@ impl Page<'_> {
                 ("stroke-linejoin", &"round"),
             ],
         );
-        for Label { text, at: [x, y] } in labels::placed(&wanted, self.frame.page.widened(8.0)) {
+        let placed = labels::placed(&wanted, &self.marked(), self.frame.page.widened(8.0));
+        for Label { text, at: [x, y] } in placed {
             svg.text("text", &[("x", &Px(x)), ("y", &Px(y))], &text);
         }
         svg.close("g");
     }
 
+    /// What names must not cover: the cart's origin, and the marks of insets with their letters.
+    fn marked(&self) -> Vec<Rect> {
+        let around = |at: [f64; 2], by| {
+            let least = self.frame.at(at);
+            Rect {
+                least,
+                greatest: least,
+            }
+            .widened(by)
+        };
+        let origin = self
+            .scene
+            .place
+            .map(|place| around(place.map(f64::from), 7.0));
+        let gaps = self.narrow.iter().take(MOST_INSETS);
+        let gaps = gaps.map(|gap| around(middle(gap.stroke.ends), 18.0));
+        origin.into_iter().chain(gaps).collect()
+    }
+
     fn wanted(&self, figure: &Figure) -> Option<Wanted> {
         let around = self.frame.boxed(box_of(figure)?);
-        let ends = Box2::around(
+        let ends = Rect::around(
             figure
                 .shape
                 .corners()
@@ -343,11 +366,11 @@ impl Page<'_> {
                 top + row * (height + 2.0 * LINE) + LINE,
             ];
             let greatest = [least[0] + width, least[1] + height];
-            self.inset(svg, number, gap, Box2 { least, greatest });
+            self.inset(svg, number, gap, Rect { least, greatest });
         }
     }
 
-    fn inset(&self, svg: &mut Svg, number: usize, gap: &Narrow, page: Box2) {
+    fn inset(&self, svg: &mut Svg, number: usize, gap: &Narrow, page: Rect) {
         let scale = GAP_IN_INSET / length(gap.stroke.ends).max(0.01);
         let frame = Frame::centred(middle(gap.stroke.ends), scale, page);
         let letter = ('A'..).nth(number).unwrap_or('A');
@@ -364,9 +387,10 @@ impl Page<'_> {
         svg.empty("rect", sides);
         svg.close("clipPath");
         svg.open("g", &[("clip-path", &format!("url(#{clip})"))]);
-        self.map(svg, &class, &frame);
-        svg.open("g", &[("transform", &frame.transform())]);
-        line(svg, &gap.stroke, frame.scale);
+        let from = rounded(middle(gap.stroke.ends));
+        self.map(svg, &class, &frame, from);
+        svg.open("g", &[("transform", &frame.transform(from))]);
+        line(svg, &gap.stroke, frame.scale, from);
         svg.close("g");
         svg.close("g");
         let rim: &Attributes<'_> = &[("fill", &"none"), ("stroke", &"#cc0066")];
@@ -397,11 +421,12 @@ impl Page<'_> {
         kinds.into_iter().filter(has).collect()
     }
 
-    /// The sentences below the picture.
+    /// The sentences below the picture, in lines that fit it.
     fn said(&self) -> Vec<String> {
         let hidden = self.narrow.iter().skip(MOST_INSETS);
         let hidden = hidden.map(|gap| format!("too narrow to be seen: {}", gap.title));
-        self.scene.notes.iter().cloned().chain(hidden).collect()
+        let all = self.scene.notes.iter().cloned().chain(hidden);
+        all.flat_map(|note| wrapped(&note)).collect()
     }
 
     fn legend(&self, svg: &mut Svg, top: f64) {
@@ -558,8 +583,14 @@ fn fill_of(look: &Look, class: &str) -> String {
 }
 
 /// Draws the outline of a figure: a polygon, a segment, or a point.
-fn outline(svg: &mut Svg, class: &str, figure: &Figure, scale: f64) {
+fn outline(svg: &mut Svg, class: &str, figure: &Figure, scale: f64, from: [i32; 2]) {
     let look = look(figure.role);
+    let corners: Vec<[i32; 2]> = figure
+        .shape
+        .corners()
+        .iter()
+        .map(|&corner| less(corner, from))
+        .collect();
     let role = format!("{:?}", figure.role).to_lowercase();
     let dashes = scaled(look.dashes, scale);
     let common: &Attributes<'_> = &[
@@ -568,7 +599,7 @@ fn outline(svg: &mut Svg, class: &str, figure: &Figure, scale: f64) {
         ("stroke", &look.colour),
         ("stroke-dasharray", &dashes),
     ];
-    if let [[x, y]] = figure.shape.corners() {
+    if let [[x, y]] = corners.as_slice() {
         let [ring, dot] = [4.5, 2.0].map(|size| Px6(size / scale));
         let own: &Attributes<'_> = &[("cx", x), ("cy", y), ("r", &dot), ("fill", &look.colour)];
         svg.empty("circle", &[common, own].concat());
@@ -582,14 +613,9 @@ fn outline(svg: &mut Svg, class: &str, figure: &Figure, scale: f64) {
         svg.empty("circle", ring);
         return;
     }
-    let points: Vec<String> = figure
-        .shape
-        .corners()
-        .iter()
-        .map(|[x, y]| format!("{x},{y}"))
-        .collect();
+    let points: Vec<String> = corners.iter().map(|[x, y]| format!("{x},{y}")).collect();
     let (points, fill, thick) = (points.join(" "), fill_of(&look, class), Px6(3.0 / scale));
-    let own: &Attributes<'_> = match figure.shape.corners().len() {
+    let own: &Attributes<'_> = match corners.len() {
         2 => &[
             ("points", &points),
             ("fill", &"none"),
@@ -597,7 +623,7 @@ fn outline(svg: &mut Svg, class: &str, figure: &Figure, scale: f64) {
         ],
         _ => &[("points", &points), ("fill", &fill)],
     };
-    let name = if figure.shape.corners().len() == 2 {
+    let name = if corners.len() == 2 {
         "polyline"
     } else {
         "polygon"
@@ -611,10 +637,11 @@ fn outline(svg: &mut Svg, class: &str, figure: &Figure, scale: f64) {
     svg.close(name);
 }
 
-fn line(svg: &mut Svg, stroke: &Stroke, scale: f64) {
+fn line(svg: &mut Svg, stroke: &Stroke, scale: f64, from: [i32; 2]) {
     let (colour, dashes, _) = look_of_line(stroke.kind);
     let class = format!("{:?}", stroke.kind).to_lowercase();
-    let [[x1, y1], [x2, y2]] = stroke.ends.map(|end| end.map(Px6));
+    let [left, bottom] = from.map(f64::from);
+    let [[x1, y1], [x2, y2]] = stroke.ends.map(|[x, y]| [Px6(x - left), Px6(y - bottom)]);
     let attributes: &Attributes<'_> = &[
         ("class", &class),
         ("x1", &x1),
@@ -636,6 +663,33 @@ fn scaled(dashes: &str, scale: f64) -> String {
     });
     let all: Vec<String> = numbers.collect();
     all.join(" ")
+}
+
+/// A text in lines of words that fit the page.
+fn wrapped(text: &str) -> Vec<String> {
+    let mut lines = vec![String::new()];
+    for word in text.split(' ') {
+        match lines.last_mut() {
+            Some(line) if line.is_empty() => line.push_str(word),
+            Some(line) if labels::width(line) + labels::width(word) < MAP[0] => {
+                line.push(' ');
+                line.push_str(word);
+            }
+            _ => lines.push(word.to_string()),
+        }
+    }
+    lines
+}
+
+/// A corner, counted from a place. Both are in range or near it, so that nothing overflows.
+fn less([x, y]: [i32; 2], [left, bottom]: [i32; 2]) -> [i32; 2] {
+    [x.saturating_sub(left), y.saturating_sub(bottom)]
+}
+
+/// The whole millimetres next to a place that is in range.
+#[allow(clippy::cast_possible_truncation)]
+fn rounded(place: [f64; 2]) -> [i32; 2] {
+    place.map(|part| part.round() as i32)
 }
 
 fn middle([[ax, ay], [bx, by]]: [[f64; 2]; 2]) -> [f64; 2] {

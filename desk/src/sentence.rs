@@ -202,7 +202,7 @@ fn across_edge(with_corner: &Given, with_edge: &Given, across: Across) -> (Dista
         corner_of(with_corner, across.corner),
         with_edge.edge(across.edge),
     );
-    let places = format!("{corner} and the edge {edge} of {with_edge}");
+    let places = format!("{corner} and edge {edge} of {with_edge}");
     (distance, places)
 }
 
@@ -212,7 +212,7 @@ fn corner_of(shape: &Given, position: usize) -> String {
     match (shape.corners(), &shape.name) {
         ([_], None) => shape.to_string(),
         ([_], Some(name)) => format!("{name} at {corner}"),
-        _ => format!("the corner {corner} of {shape}"),
+        _ => format!("corner {corner} of {shape}"),
     }
 }
 

@@ -78,7 +78,8 @@ pub const TABLE: &[Row] = &[
     },
     Row {
         word: "offer", parts: &[A, B, TOWARDS], read: |f| Ok(Question::Two(f.pair()?, OfTwo::Offer(f.direction()?))),
-        asks: "is all of the first before the second in this direction?", example: "offer | linen-store | wall | 0 1",
+        asks: "is all of the first before the second in this direction?",
+        example: "offer | linen-store | wall | 0 1",
     },
     Row {
         word: "grow", parts: &[part("obstacle"), part("cart's outline"), ROOM],
@@ -128,7 +129,10 @@ pub const TABLE: &[Row] = &[
     },
     Row {
         word: "bookread", parts: &[part("log in hexadecimal"), part("name of a record"), ROOM],
-        read: |f| Ok(Question::Make(Making::Read { log: f.bytes()?, name: f.record_name()? }, f.optional_count("room")?)),
+        read: |f| {
+            let making = Making::Read { log: f.bytes()?, name: f.record_name()? };
+            Ok(Question::Make(making, f.optional_count("room")?))
+        },
         asks: "the latest shape of a name in a log", example: "bookread | 0F0002000700020001000000FFFFFFFF5A | 7",
     },
     Row {
@@ -137,7 +141,8 @@ pub const TABLE: &[Row] = &[
         read: |f| Ok(Question::Add(Record {
             log: f.bytes()?, name: f.record_name()?, shape: f.shape()?, stores: f.optional_count("stores")?,
         })),
-        asks: "the log after the shape is added", example: "bookadd | 000000000000000000000000000000000000 | 7 | @2 1 -1",
+        asks: "the log after the shape is added",
+        example: "bookadd | 000000000000000000000000000000000000 | 7 | @2 1 -1",
     },
 ];
 

@@ -29,7 +29,8 @@ fn read(text: &str) -> Value {
 
 #[test]
 fn answers_have_their_numbers() {
-    let lines = "shape | a | @3 0 0 2 0 2 2 0 2\nclearance | a | @3 5 6\nclearance | a | @3 5 1\nlength | a\nwidth | a\n\
+    let lines = "shape | a | @3 0 0 2 0 2 2 0 2\nclearance | a | @3 5 6\nclearance | a | @3 5 1\n\
+                 length | a\nwidth | a\n\
                  furthest | a | 1 0\nfind | a | @3 1 1\ng = grow | a | a\n";
     let [corners, across, length, width, furthest, find, grow] = &objects(lines)[..] else {
         panic!("seven questions");

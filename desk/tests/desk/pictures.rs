@@ -46,14 +46,16 @@ impl Drawn {
         let named = |element: &&Element| {
             element.inside.contains(&group) && element.attributes.contains_key("data-name")
         };
+        let [left, bottom] = corner(self.elements[group].get("data-from"));
         let outlines = self.elements.iter().filter(named).map(|element| {
-            let corners = match element.name.as_str() {
+            let corners: Vec<[i32; 2]> = match element.name.as_str() {
                 "circle" => vec![[element.get("cx"), element.get("cy")].map(whole)],
                 _ => element.get("points").split(' ').map(corner).collect(),
             };
+            let corners = corners.iter().map(|[x, y]| [x + left, y + bottom]);
             (
                 element.get("data-name").to_string(),
-                (element.get("class").to_string(), corners),
+                (element.get("class").to_string(), corners.collect()),
             )
         });
         outlines.collect()

@@ -4,8 +4,11 @@ use std::fs::{self, File, OpenOptions};
 use std::io::{Read, Write};
 use std::process::{Command, Output, Stdio};
 
-const MAP: &str = "shape | wall | @2 0 5000 12000 5000\nshape | linen-store | @2 3000 1000 4200 1000 4200 1800 3000 1800\n\
-                   outline | cart | 0 0 600 0 600 900 0 900\n";
+const MAP: &str = "\
+shape | wall | @2 0 5000 12000 5000
+shape | linen-store | @2 3000 1000 4200 1000 4200 1800 3000 1800
+outline | cart | 0 0 600 0 600 900 0 900
+";
 
 fn program() -> Command {
     Command::new(env!("CARGO_BIN_EXE_cocklesway"))
