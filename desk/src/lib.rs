@@ -1,0 +1,54 @@
+//! The map desk: shapes of a floor by their names, questions about them, and pictures. Every answer comes from the
+//! proved library, the package `cocklesway`. What is here reads lines, keeps names, and tells the answers.
+//!
+//! | module | subject |
+//! |---|---|
+//! | [`source`], [`lines`], [`fields`] | files read, taken apart into lines, fields and words, and these into values |
+//! | [`fault`], [`place`], [`escape`] | why a line cannot be read, and where it is |
+//! | [`name`], [`given`], [`map`] | names, shapes as they are given, and which name stands for which |
+//! | [`table`], [`question`], [`answer`] | the questions; the library asked |
+//! | [`session`] | lines in their order: definitions, questions, and what came of each |
+//! | [`sentence`], [`refusal`], [`distance`], [`report`] | answers and refusals in words |
+//! | [`json`], [`object`] | answers as JSON |
+//! | [`scene`], [`frame`], [`grid`], [`labels`], [`svg`], [`picture`] | pictures |
+//! | [`options`], [`command`], [`commands`], [`help`] | the program |
+#![forbid(unsafe_code)]
+#![deny(missing_docs)]
+#![warn(
+    clippy::expect_used,
+    clippy::indexing_slicing,
+    clippy::panic,
+    clippy::pedantic,
+    clippy::unwrap_used
+)]
+#![allow(clippy::format_push_string)]
+
+pub mod answer;
+pub mod command;
+pub mod commands;
+pub mod distance;
+pub mod escape;
+pub mod fault;
+pub mod fields;
+pub mod frame;
+pub mod given;
+pub mod grid;
+pub mod help;
+pub mod json;
+pub mod labels;
+pub mod lines;
+pub mod map;
+pub mod name;
+pub mod object;
+pub mod options;
+pub mod picture;
+pub mod place;
+pub mod question;
+pub mod refusal;
+pub mod report;
+pub mod scene;
+pub mod sentence;
+pub mod session;
+pub mod source;
+pub mod svg;
+pub mod table;

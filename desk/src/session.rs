@@ -1,0 +1,345 @@
+//! Lines in their order: definitions kept by name, questions asked, and what came of each.
+//!
+//! Every line of a file gives exactly one event. A definition that is refused or cannot be read removes its name, so
+//! that no later question is answered with a shape from before it.
+use crate::answer::{Answer, Refused, ask};
+use crate::fault::Fault;
+use crate::fields::{Fields, Unread, is_numeric};
+use crate::given::Given;
+use crate::lines::{Line, lines, text_of};
+use crate::map::{Entry, Map, Origin};
+use crate::name::{Name, most_like};
+use crate::place::Place;
+use crate::question::{OfOne, Question};
+use crate::source::Source;
+use crate::table;
+use std::sync::Arc;
+
+/// What came of a line.
+#[derive(Clone, Debug, PartialEq)]
+pub struct Event {
+    /// The line.
+    pub place: Place,
+    /// The name that it defines.
+    pub name: Option<Name>,
+    /// What came of it.
+    pub outcome: Outcome,
+}
+
+/// What came of a line.
+#[derive(Clone, Debug, PartialEq)]
+pub enum Outcome {
+    /// A shape or an outline was written down and accepted. It may take the place of an earlier one of this file.
+    Defined {
+        /// The shape.
+        shape: Given,
+        /// Where the earlier one was.
+        earlier: Option<Place>,
+    },
+    /// A question was answered. A shape that it made may have a name, and take the place of an earlier one.
+    Answered {
+        /// The answer.
+        answer: Answer,
+        /// Where the earlier shape of the name was.
+        earlier: Option<Place>,
+    },
+    /// A question was read and, as wished, not asked.
+    Unasked(Question),
+    /// All names are asked for.
+    Listed(Vec<Given>),
+    /// The library refused.
+    Refused(Refused),
+    /// A shape that the line names was refused before.
+    Removed {
+        /// The name.
+        name: Name,
+        /// Where it was refused.
+        at: Place,
+    },
+    /// The line cannot be read.
+    Unreadable(Fault),
+}
+
+/// The shapes so far.
+#[derive(Clone, Debug, Default)]
+pub struct Session {
+    map: Map,
+    only_definitions: bool,
+}
+
+/// What a line is.
+enum Said {
+    Shape(Name, Given),
+    Question(Option<Name>, Question),
+    Shapes,
+}
+
+impl Session {
+    /// Begins without shapes. All lines are asked.
+    #[must_use]
+    pub fn new() -> Session {
+        Session::default()
+    }
+
+    /// Begins without shapes. Questions are read and not asked, but for those that define a name.
+    #[must_use]
+    pub fn of_definitions() -> Session {
+        Session {
+            only_definitions: true,
+            ..Session::default()
+        }
+    }
+
+    /// Returns the shapes by their names.
+    #[must_use]
+    pub fn map(&self) -> &Map {
+        &self.map
+    }
+
+    /// Takes all lines of a file, and hands out what came of each.
+    ///
+    /// # Errors
+    /// Those of the receiver.
+    pub fn read<E>(
+        &mut self,
+        source: &Source,
+        mut told: impl FnMut(Event) -> Result<(), E>,
+    ) -> Result<(), E> {
+        let text = text_of(&source.bytes);
+        let lines = lines(&source.bytes, &text);
+        let mut before = None;
+        for (at, line) in lines.iter().enumerate() {
+            told(self.line(&source.name, before, line, lines.get(at + 1)))?;
+            before = if is_left_over(line) {
+                before
+            } else {
+                Some(line)
+            };
+        }
+        Ok(())
+    }
+
+    /// Takes a line. Its neighbours tell whether numbers are left over.
+    fn line(
+        &mut self,
+        file: &Arc<str>,
+        before: Option<&Line<'_>>,
+        line: &Line<'_>,
+        next: Option<&Line<'_>>,
+    ) -> Event {
+        let place = |line| Place {
+            file: file.clone(),
+            line,
+        };
+        let name = target(line);
+        let said = self.said(file, before, line).and_then(|said| match next {
+            Some(next) if is_left_over(next) => Err(Unread::Fault {
+                line: line.number,
+                fault: Fault::NumbersAfter { line: next.number },
+            }),
+            _ => Ok(said),
+        });
+        let said = said.and_then(|said| {
+            self.of_one_file(&place(line.number), name.as_ref())
+                .map(|()| said)
+        });
+        let (at, outcome) = match said {
+            Ok(said) => (line.number, self.done(&place(line.number), said)),
+            Err(Unread::Fault { line, fault }) => (line, Outcome::Unreadable(fault)),
+            Err(Unread::Removed { line, name, at }) => (line, Outcome::Removed { name, at }),
+        };
+        let place = place(at);
+        self.remove_if_failed(&place, name.as_ref(), &outcome);
+        Event {
+            place,
+            name,
+            outcome,
+        }
+    }
+
+    /// Reads a line.
+    fn said(
+        &self,
+        file: &Arc<str>,
+        before: Option<&Line<'_>>,
+        line: &Line<'_>,
+    ) -> Result<Said, Unread> {
+        if let Some((line, fault)) = line.fault.clone() {
+            return Err(Unread::Fault { line, fault });
+        }
+        if is_left_over(line) {
+            let place = |line| Place {
+                file: file.clone(),
+                line,
+            };
+            let before = before.map(|before| (place(before.number), target(before)));
+            return Err(Unread::Fault {
+                line: line.number,
+                fault: Fault::LeftOver { before },
+            });
+        }
+        let (word, is_named) = word_of(line)?;
+        match (word, is_named) {
+            ("shape", false) => {
+                let mut fields = Fields::new("shape", table::SHAPE, line, &self.map)?;
+                let name = fields.new_name()?;
+                Ok(Said::Shape(name, fields.list()?))
+            }
+            ("outline", false) => {
+                let mut fields = Fields::new("outline", table::OUTLINE, line, &self.map)?;
+                let name = fields.new_name()?;
+                Ok(Said::Shape(name, fields.outline()?))
+            }
+            ("shapes", false) => Fields::new("shapes", &[], line, &self.map).map(|_| Said::Shapes),
+            (word, _) => self.question(word, line),
+        }
+    }
+
+    /// Reads a question, with a name or without.
+    fn question(&self, word: &str, line: &Line<'_>) -> Result<Said, Unread> {
+        let row = table::find(word).ok_or_else(|| unknown(line, word))?;
+        let name = match line.words(0) {
+            [name, sign, ..] if sign.text == "=" => Some(Name::read(name.text).map_err(|why| {
+                let found = name.text.to_string();
+                Unread::Fault {
+                    line: name.line,
+                    fault: Fault::NotAName { found, why },
+                }
+            })?),
+            _ => None,
+        };
+        let mut fields = Fields::new(row.word, row.parts, line, &self.map)?;
+        let question = (row.read)(&mut fields)?;
+        if name.is_some() && !matches!(question, Question::Make(..)) {
+            let question = row.word;
+            return Err(Unread::Fault {
+                line: line.number,
+                fault: Fault::NoShape { question },
+            });
+        }
+        Ok(Said::Question(name, question))
+    }
+
+    /// A name belongs to the first file that defines it: otherwise two maps, an old and a new one, would be mixed.
+    fn of_one_file(&self, place: &Place, name: Option<&Name>) -> Result<(), Unread> {
+        let Some(item) = name.and_then(|name| self.map.get(name)) else {
+            return Ok(());
+        };
+        // Two files are two even if they have one name: a file that is given twice is read twice.
+        if Arc::ptr_eq(&item.first.file, &place.file) {
+            return Ok(());
+        }
+        let (name, first) = (item.name.clone(), item.first.clone());
+        Err(Unread::Fault {
+            line: place.line,
+            fault: Fault::TwoFiles { name, first },
+        })
+    }
+
+    /// Does what a line says.
+    fn done(&mut self, place: &Place, said: Said) -> Outcome {
+        match said {
+            Said::Shapes => {
+                Outcome::Listed(self.map.shapes().map(|(shape, _)| shape.clone()).collect())
+            }
+            Said::Shape(name, shape) => {
+                let shape = Given {
+                    name: Some(name),
+                    ..shape
+                };
+                match cocklesway::judge(shape.alone()) {
+                    Ok(_) => {
+                        let earlier = self.keep(place, &shape, Origin::Written);
+                        Outcome::Defined { shape, earlier }
+                    }
+                    Err(refusal) => {
+                        Outcome::Refused(Refused::new(Question::One(shape, OfOne::Judge), refusal))
+                    }
+                }
+            }
+            Said::Question(None, question) if self.only_definitions => Outcome::Unasked(question),
+            Said::Question(name, question) => self.asked(place, name, question),
+        }
+    }
+
+    /// Asks a question; a shape that it makes is kept under its name.
+    fn asked(&mut self, place: &Place, name: Option<Name>, question: Question) -> Outcome {
+        match ask(question) {
+            Ok(Answer::Made(making, shape)) => {
+                let question = making.word();
+                let of = making.shapes().first().and_then(|shape| shape.name.clone());
+                let shape = Given { name, ..shape };
+                let earlier = self.keep(place, &shape, Origin::Answer { question, of });
+                let answer = Answer::Made(making, shape);
+                Outcome::Answered { answer, earlier }
+            }
+            Ok(answer) => Outcome::Answered {
+                answer,
+                earlier: None,
+            },
+            Err(refused) => Outcome::Refused(refused),
+        }
+    }
+
+    /// Keeps a shape under its name, and returns where an earlier one was.
+    fn keep(&mut self, place: &Place, shape: &Given, origin: Origin) -> Option<Place> {
+        let name = shape.name.clone()?;
+        let entry = Entry::Shape {
+            shape: shape.clone(),
+            origin,
+        };
+        self.map
+            .set(name, place.clone(), entry)
+            .map(|earlier| earlier.place)
+    }
+
+    /// Removes a name whose definition failed.
+    fn remove_if_failed(&mut self, place: &Place, name: Option<&Name>, outcome: &Outcome) {
+        let failed = matches!(
+            outcome,
+            Outcome::Refused(_) | Outcome::Removed { .. } | Outcome::Unreadable(_)
+        );
+        if let Some(name) = name.filter(|_| failed) {
+            self.map.set(name.clone(), place.clone(), Entry::Removed);
+        }
+    }
+}
+
+/// The name that a line defines, or would define if it could be read.
+fn target(line: &Line<'_>) -> Option<Name> {
+    let word = match line.words(0) {
+        [name, sign, ..] if sign.text == "=" => Some(name),
+        [word] if word.text == "shape" || word.text == "outline" => line.words(1).first(),
+        _ => None,
+    };
+    word.and_then(|word| Name::read(word.text).ok())
+}
+
+/// Whether a line has only numbers where its word should be.
+fn is_left_over(line: &Line<'_>) -> bool {
+    let words = line.words(0);
+    let numbers = words.iter().all(|word| is_numeric(word.text));
+    numbers && !words.is_empty()
+}
+
+/// The word of a line, and whether a name is before it.
+fn word_of<'a>(line: &'a Line<'_>) -> Result<(&'a str, bool), Unread> {
+    match line.words(0) {
+        [word] => Ok((word.text, false)),
+        [_, sign, word] if sign.text == "=" => Ok((word.text, true)),
+        words => {
+            let texts: Vec<&str> = words.iter().map(|word| word.text).collect();
+            Err(unknown(line, &texts.join(" ")))
+        }
+    }
+}
+
+fn unknown(line: &Line<'_>, word: &str) -> Unread {
+    Unread::Fault {
+        line: line.number,
+        fault: Fault::UnknownWord {
+            found: word.to_string(),
+            like: most_like(word, table::words()),
+        },
+    }
+}
