@@ -1,5 +1,5 @@
 //! Where names are written: inside their shapes, or beside them where they cover least.
-use crate::frame::Rect;
+use super::frame::Rect;
 
 /// The height of a line of text, in pixels.
 pub const LINE: f64 = 16.0;
