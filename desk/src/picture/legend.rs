@@ -37,7 +37,9 @@ impl Legend {
         Legend {
             figures: roles.map(look::of_role).collect(),
             lines: kinds.filter(drawn).map(look::of_line).collect(),
-            said: notes.flat_map(|note| wrapped(&note, width)).collect(),
+            said: notes
+                .flat_map(|note| labels::wrapped(&note, width))
+                .collect(),
             at,
         }
     }
@@ -126,20 +128,4 @@ fn stroke(svg: &mut Svg, look: &Look, [x1, y1]: [f64; 2], [x2, y2]: [f64; 2], da
         ("stroke-dasharray", &dashes),
     ];
     svg.empty("line", line);
-}
-
-/// A text in lines of words that fit a width.
-fn wrapped(text: &str, width: f64) -> Vec<String> {
-    let mut lines = vec![String::new()];
-    for word in text.split(' ') {
-        match lines.last_mut() {
-            Some(line) if line.is_empty() => line.push_str(word),
-            Some(line) if labels::width(line) + labels::width(word) < width => {
-                line.push(' ');
-                line.push_str(word);
-            }
-            _ => lines.push(word.to_string()),
-        }
-    }
-    lines
 }

@@ -9,7 +9,7 @@
 //! | [`gaps`] | gaps that are too narrow to be seen |
 //! | [`frame`], [`grid`] | from millimetres to pixels; coordinates |
 //! | [`labels`], [`legend`] | where names are written; what is below the map |
-//! | [`look`], [`outline`], [`svg`] | colours and hatchings; outlines; elements |
+//! | [`look`], [`mod@outline`], [`svg`] | colours and hatchings; outlines; elements |
 pub mod frame;
 pub mod gaps;
 pub mod grid;
@@ -240,7 +240,7 @@ impl Page<'_> {
     fn inset_top(&self, row: u32) -> f64 {
         let [_, height] = INSET;
         let [_, bottom] = self.frame.page.greatest;
-        bottom + 40.0 + LINE + f64::from(row) * (height + 2.0 * LINE)
+        bottom + 36.0 + 2.0 * LINE + f64::from(row) * (height + 3.0 * LINE)
     }
 
     fn inset(&self, svg: &mut Svg, letter: char, gap: &Narrow, page: Rect) {
@@ -260,14 +260,18 @@ impl Page<'_> {
         svg.empty("rect", sides);
         svg.close("clipPath");
         svg.open("g", &[("clip-path", &format!("url(#{clip})"))]);
+        svg.text("title", &[], &gap.title);
         self.map(svg, &format!("inset-{letter}"), &frame, from);
         svg.open("g", &[("transform", &frame.transform(from))]);
         line(svg, &gap.stroke, frame.scale, from);
         svg.close("g");
         svg.close("g");
         svg.empty("rect", &[sides, rim].concat());
-        let place: &Attributes<'_> = &[("x", &Px(x)), ("y", &Px(y - 5.0))];
-        svg.text("text", place, &format!("{letter}: {}", gap.title));
+        let lines = labels::wrapped(&format!("{letter}: {}", gap.title), page.width());
+        for (text, y) in lines.iter().zip([y - 5.0 - LINE, y - 5.0]) {
+            let place: &Attributes<'_> = &[("x", &Px(x)), ("y", &Px(y))];
+            svg.text("text", place, &labels::fitted(text, page.width()));
+        }
     }
 
     /// Where the legend begins: below all rows of insets.
