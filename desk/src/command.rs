@@ -4,6 +4,7 @@ use crate::escape::quoted;
 use crate::help;
 use crate::name::most_like;
 use crate::options::{self, Arguments, Known, Misuse};
+use crate::session::defined_twice;
 use crate::source::{self, NotRead, Source};
 use std::ffi::OsString;
 use std::io::{self, Read, Write};
@@ -163,6 +164,7 @@ fn find(name: &str) -> Result<&'static Command, Misuse> {
 fn helped(subjects: &[OsString], console: &mut Console<'_>) -> Result<Status, Trouble> {
     match subjects {
         [] => said(console, &help::overview()),
+        [subject] if subject == "help" => said(console, &help::overview()),
         [subject] => {
             let subject = subject.to_string_lossy();
             match help::subject(&subject) {
@@ -202,7 +204,7 @@ impl Console<'_> {
     /// Reads all files before anything is answered.
     ///
     /// # Errors
-    /// There is none, or one cannot be read; all that cannot are said.
+    /// There is none, one cannot be read, or two define the same name; all that is wrong is said.
     pub fn sources(&mut self, files: &[OsString]) -> Result<Vec<Source>, Trouble> {
         if files.is_empty() {
             return Err(Misuse::NoFile.into());
@@ -222,7 +224,11 @@ impl Console<'_> {
                 Err(why) => self.complain(&format!("{}: {why}", source::shown(file)))?,
             }
         }
-        if sources.len() < files.len() {
+        let again = defined_twice(&sources);
+        for (place, fault) in &again {
+            self.complain(&format!("{place}: {fault}"))?;
+        }
+        if sources.len() < files.len() || !again.is_empty() {
             return Err(Trouble::Said(Status::Wrong));
         }
         Ok(sources)

@@ -24,6 +24,37 @@ A name may be defined again in the same file: from there on it is the new shape.
 refused, or that cannot be read, removes the name.
 ";
 
+/// The objects of `--json`.
+const JSON: &str = "\
+With --json each answer is one object on a line of its own. All numbers are whole.
+
+    file, line    where the question is
+    name          the name that the line defines
+    question      its word; `shapes` lists what it asks about
+    sentence      what is said without --json
+
+A shape is {name, floor, corners}: null for no name or no floor, and corners as [x, y]. A list with an
+odd count of numbers has `numbers` instead. Corners are told by their coordinates, edges by both ends.
+
+    judge         count                             relation    relation
+    length        squared, from, to                 inside      inside
+    width         corner, edge, turn, squared,      offer       direction, accepted
+                  rounded                           find        direction, or null
+    furthest      direction, first, last, value     tangents    left, right, crossing, reverse
+    clearance     apart, rounded; first, second, squared or turn and squared
+    grow, at, merge, sweep, sum, mirror, bookread   made
+    parts         calls: corners or refused         part        corners, walk
+    tablet        corner                            bookadd     finished, log
+
+`turn` is t and `squared` is q of a distance t/√q; `squared` alone is the square of the distance.
+
+    refused       number, reason; shape (0 or 1), edge and corner by their positions, place, axis
+    not_asked     name and at: a shape of the question was refused there
+    replaces      where the earlier shape of the name is
+
+Lines that cannot be read are errors on standard error.
+";
+
 /// The numbers of refusals.
 const REFUSALS: &str = "\
 A refusal has a number, the same everywhere in Cocklesway:
@@ -65,7 +96,7 @@ Usage: cocklesway COMMAND [OPTIONS] FILE..      (- is standard input)
         page.push_str(&format!("    {:<10}{}\n", command.name, command.does));
     }
     page.push_str(
-        "    help      tells about a command, or about `map`, `questions` or `refusals`
+        "    help      tells about a command, or about `map`, `questions`, `refusals` or `json`
 
     -h, --help       this page
     -V, --version    the version
@@ -121,6 +152,7 @@ pub fn subject(name: &str) -> Option<String> {
         "map" => Some(MAP.to_string()),
         "questions" => Some(questions()),
         "refusals" => Some(REFUSALS.to_string()),
+        "json" => Some(JSON.to_string()),
         _ => None,
     }
 }

@@ -10,7 +10,7 @@
 //! | [`session`] | lines in their order: definitions, questions, and what came of each |
 //! | [`sentence`], [`refusal`], [`distance`], [`report`] | answers and refusals in words |
 //! | [`json`], [`object`] | answers as JSON |
-//! | [`scene`], [`frame`], [`grid`], [`labels`], [`svg`], [`picture`] | pictures |
+//! | [`picture`] | pictures |
 //! | [`options`], [`command`], [`commands`], [`help`] | the program |
 #![forbid(unsafe_code)]
 #![deny(missing_docs)]
@@ -30,12 +30,9 @@ pub mod distance;
 pub mod escape;
 pub mod fault;
 pub mod fields;
-pub mod frame;
 pub mod given;
-pub mod grid;
 pub mod help;
 pub mod json;
-pub mod labels;
 pub mod lines;
 pub mod map;
 pub mod name;
@@ -46,9 +43,7 @@ pub mod place;
 pub mod question;
 pub mod refusal;
 pub mod report;
-pub mod scene;
 pub mod sentence;
 pub mod session;
 pub mod source;
-pub mod svg;
 pub mod table;

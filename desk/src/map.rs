@@ -2,6 +2,7 @@
 use crate::given::Given;
 use crate::name::{Name, most_like};
 use crate::place::Place;
+use crate::question::Making;
 use std::collections::HashMap;
 
 /// Where a shape comes from.
@@ -9,13 +10,8 @@ use std::collections::HashMap;
 pub enum Origin {
     /// It was written down: a shape on a floor, or an outline.
     Written,
-    /// It is the answer of a question with this word; the first shape of the question had this name.
-    Answer {
-        /// The question's word.
-        question: &'static str,
-        /// The first shape's name.
-        of: Option<Name>,
-    },
+    /// It is what this question answered.
+    Made(Making),
 }
 
 /// What is known of a name.
@@ -37,8 +33,6 @@ pub enum Entry {
 pub struct Item {
     /// The name.
     pub name: Name,
-    /// Where it was defined first, which is the file that it belongs to.
-    pub first: Place,
     /// Where it was defined last, or removed.
     pub place: Place,
     /// What is known of it.
@@ -61,18 +55,13 @@ impl Map {
 
     /// Sets what is known of a name, and returns what was known before.
     pub fn set(&mut self, name: Name, place: Place, entry: Entry) -> Option<Item> {
-        let known = self
-            .positions
-            .get(&name)
-            .and_then(|&at| self.items.get_mut(at));
-        let first = known.as_ref().map_or(&place, |known| &known.first).clone();
         let item = Item {
             name: name.clone(),
-            first,
             place,
             entry,
         };
-        if let Some(known) = known {
+        let known = self.positions.get(&name);
+        if let Some(known) = known.and_then(|&at| self.items.get_mut(at)) {
             return Some(std::mem::replace(known, item));
         }
         self.positions.insert(name, self.items.len());

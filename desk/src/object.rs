@@ -13,9 +13,9 @@ use cocklesway::{
 
 type Members = Vec<(&'static str, Json)>;
 
-/// Returns the object of an event; nothing for a line that cannot be read, which is an error.
+/// Returns the object of an event.
 #[must_use]
-pub fn object(event: &Event) -> Option<Json> {
+pub fn object(event: &Event) -> Json {
     let mut members = place_of(&event.place);
     members.extend(
         event
@@ -24,7 +24,11 @@ pub fn object(event: &Event) -> Option<Json> {
             .map(|name| ("name", name.as_str().into())),
     );
     match &event.outcome {
-        Outcome::Unreadable(_) | Outcome::Unasked(_) => return None,
+        Outcome::Unreadable(_) => members.push(("unreadable", true.into())),
+        Outcome::Unasked(question) => {
+            members.push(("question", question.word().into()));
+            members.push(("asked", false.into()));
+        }
         Outcome::Defined { shape, earlier } => {
             members.push(("shape", shape_of(shape)));
             members.extend(earlier.as_ref().map(|earlier| ("replaces", place(earlier))));
@@ -52,7 +56,7 @@ pub fn object(event: &Event) -> Option<Json> {
         }
     }
     members.push(("sentence", report::sentence(event).into()));
-    Some(Json::Object(members))
+    Json::Object(members)
 }
 
 fn place_of(place: &Place) -> Members {

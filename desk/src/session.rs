@@ -13,6 +13,7 @@ use crate::place::Place;
 use crate::question::{OfOne, Question};
 use crate::source::Source;
 use crate::table;
+use std::collections::{HashMap, HashSet};
 use std::sync::Arc;
 
 /// What came of a line.
@@ -139,10 +140,6 @@ impl Session {
             }),
             _ => Ok(said),
         });
-        let said = said.and_then(|said| {
-            self.of_one_file(&place(line.number), name.as_ref())
-                .map(|()| said)
-        });
         let (at, outcome) = match said {
             Ok(said) => (line.number, self.done(&place(line.number), said)),
             Err(Unread::Fault { line, fault }) => (line, Outcome::Unreadable(fault)),
@@ -220,22 +217,6 @@ impl Session {
         Ok(Said::Question(name, question))
     }
 
-    /// A name belongs to the first file that defines it: otherwise two maps, an old and a new one, would be mixed.
-    fn of_one_file(&self, place: &Place, name: Option<&Name>) -> Result<(), Unread> {
-        let Some(item) = name.and_then(|name| self.map.get(name)) else {
-            return Ok(());
-        };
-        // Two files are two even if they have one name: a file that is given twice is read twice.
-        if Arc::ptr_eq(&item.first.file, &place.file) {
-            return Ok(());
-        }
-        let (name, first) = (item.name.clone(), item.first.clone());
-        Err(Unread::Fault {
-            line: place.line,
-            fault: Fault::TwoFiles { name, first },
-        })
-    }
-
     /// Does what a line says.
     fn done(&mut self, place: &Place, said: Said) -> Outcome {
         match said {
@@ -266,10 +247,8 @@ impl Session {
     fn asked(&mut self, place: &Place, name: Option<Name>, question: Question) -> Outcome {
         match ask(question) {
             Ok(Answer::Made(making, shape)) => {
-                let question = making.word();
-                let of = making.shapes().first().and_then(|shape| shape.name.clone());
                 let shape = Given { name, ..shape };
-                let earlier = self.keep(place, &shape, Origin::Answer { question, of });
+                let earlier = self.keep(place, &shape, Origin::Made(making.clone()));
                 let answer = Answer::Made(making, shape);
                 Outcome::Answered { answer, earlier }
             }
@@ -303,6 +282,43 @@ impl Session {
             self.map.set(name.clone(), place.clone(), Entry::Removed);
         }
     }
+}
+
+/// Returns the names that more than one file defines: where it is defined again, and what to say. An old map and a new
+/// one would be mixed otherwise, and shapes that only the old one has would stay.
+#[must_use]
+pub fn defined_twice(sources: &[Source]) -> Vec<(Place, Fault)> {
+    let mut first: HashMap<Name, Place> = HashMap::new();
+    let mut again = Vec::new();
+    for source in sources {
+        let own = defined_in(source);
+        for (name, place) in &own {
+            if let Some(first) = first.get(name) {
+                let (name, first) = (name.clone(), first.clone());
+                again.push((place.clone(), Fault::TwoFiles { name, first }));
+            }
+        }
+        first.extend(own);
+    }
+    again
+}
+
+/// The names that a file defines, and where each is defined first.
+fn defined_in(source: &Source) -> Vec<(Name, Place)> {
+    let text = text_of(&source.bytes);
+    let mut seen = HashSet::new();
+    let lines = lines(&source.bytes, &text);
+    let targets = lines.iter().filter_map(|line| {
+        let file = source.name.clone();
+        let place = Place {
+            file,
+            line: line.number,
+        };
+        target(line).map(|name| (name, place))
+    });
+    targets
+        .filter(|(name, _)| seen.insert(name.clone()))
+        .collect()
 }
 
 /// The name that a line defines, or would define if it could be read.

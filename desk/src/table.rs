@@ -65,7 +65,8 @@ pub const TABLE: &[Row] = &[
         asks: "how wide is it where it is narrowest?", example: "width | linen-store",
     },
     Row {
-        word: "furthest", parts: &[A, TOWARDS], read: |f| Ok(Question::One(f.shape()?, OfOne::Furthest(f.direction()?))),
+        word: "furthest", parts: &[A, TOWARDS],
+        read: |f| Ok(Question::One(f.shape()?, OfOne::Furthest(f.direction()?))),
         asks: "which corners are furthest in a direction?", example: "furthest | linen-store | 1 0",
     },
     Row {

@@ -20,8 +20,8 @@ not asked.
     cocklesway ask map.txt questions.txt
     echo 'clearance | linen-store | wall' | cocklesway ask map.txt -
 
-A name belongs to one file. If a second file defines it again, the line is an error and the name is
-removed: an old map and a new one are never mixed.
+A name belongs to one file. If two files define one, nothing is answered: an old map and a new one are
+never mixed.
 
 `cocklesway help map` tells how a map is written, `cocklesway help questions` what can be asked.
 ",
@@ -74,9 +74,9 @@ pub fn status_of(event: &Event) -> Status {
 /// It cannot be written.
 pub fn tell(console: &mut Console<'_>, json: bool, event: &Event) -> Result<(), Trouble> {
     let line = || format!("{}: {}", event.place, sentence(event));
-    match object(event) {
-        None => console.complain(&line()),
-        Some(object) if json => console.say(&object.text()),
-        Some(_) => console.say(&line()),
+    match event.outcome {
+        Outcome::Unreadable(_) => console.complain(&line()),
+        _ if json => console.say(&object(event).text()),
+        _ => console.say(&line()),
     }
 }

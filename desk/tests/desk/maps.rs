@@ -164,15 +164,15 @@ fn two_maps_are_not_mixed() {
         "new.txt",
         "shape | store | @2 0 0 20 0 20 8 0 8\nshape | store | @2 0 0\njudge | store\n",
     );
-    let ran = with_input(&["ask", &old, &new], b"");
-    let again = |line| {
-        format!(
-            "cocklesway: {new}:{line}: `store` is already defined at {old}:1, in another file; \
-             ask each map by itself, or give the shape another name"
-        )
-    };
-    let said = format!("{new}:3: not asked: `store` was refused at {new}:2");
-    holds(&ran, 2, &[&said], &[&again(1), &again(2)]);
+    let error = format!(
+        "cocklesway: {new}:1: `store` is already defined at {old}:1, in another file; \
+         ask each map by itself, or give the shape another name"
+    );
+    for command in ["ask", "check", "draw"] {
+        holds(&with_input(&[command, &old, &new], b""), 2, &[], &[&error]);
+    }
+    let questions = folder.file("ask.txt", "other = mirror | store\nlength | bed\n");
+    assert_eq!(with_input(&["ask", &old, &questions], b"").status, 0);
     assert_eq!(with_input(&["ask", &old, &old], b"").status, 2);
 }
 

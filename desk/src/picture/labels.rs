@@ -1,5 +1,5 @@
 //! Where names are written: inside their shapes, or beside them where they cover least.
-use crate::frame::Rect;
+use super::frame::Rect;
 
 /// The height of a line of text, in pixels.
 pub const LINE: f64 = 16.0;
@@ -103,4 +103,37 @@ fn extent(text: &str, [x, y]: [f64; 2]) -> Rect {
 pub fn width(text: &str) -> f64 {
     let wide = |c: char| if u32::from(c) > 0x2E80 { 14.0 } else { 7.1 };
     text.chars().map(wide).sum()
+}
+
+/// Returns a text in lines of words that fit a width.
+#[must_use]
+pub fn wrapped(text: &str, most: f64) -> Vec<String> {
+    let mut lines = vec![String::new()];
+    for word in text.split(' ') {
+        match lines.last_mut() {
+            Some(line) if line.is_empty() => line.push_str(word),
+            Some(line) if width(line) + width(" ") + width(word) <= most => {
+                line.push(' ');
+                line.push_str(word);
+            }
+            _ => lines.push(word.to_string()),
+        }
+    }
+    lines
+}
+
+/// Returns a text, or as much of its beginning as fits a width.
+#[must_use]
+pub fn fitted(text: &str, most: f64) -> String {
+    if width(text) <= most {
+        return text.to_string();
+    }
+    let mut short = String::new();
+    for c in text.chars() {
+        if width(&short) + 30.0 > most {
+            break;
+        }
+        short.push(c);
+    }
+    short + ".."
 }
