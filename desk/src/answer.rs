@@ -169,7 +169,8 @@ fn about_two(pair: &Pair, asked: &OfTwo) -> Result<AboutTwo, Refusal> {
     })
 }
 
-/// Returns the shape that a question makes, with room for so many numbers or for every answer. It has no name yet.
+/// Returns the shape that a question makes, without a name. `room` is the output's size in numbers; without it every
+/// answer has room.
 ///
 /// # Errors
 /// The library's refusal.
@@ -202,7 +203,7 @@ pub fn shape_of(making: &Making, room: Option<usize>) -> Result<Given, Refusal> 
     })
 }
 
-/// An output for so many numbers, or for every answer.
+/// Returns an output for `room` numbers; without it for every answer.
 fn output(room: Option<usize>) -> Vec<[i32; 2]> {
     let most = cocklesway::limits().corners;
     let corners = room.map_or(most, |numbers| (numbers / 2).min(most));

@@ -114,10 +114,7 @@ pub fn run(arguments: &[OsString], console: &mut Console<'_>) -> Status {
 /// Says what ended a command.
 fn failed(console: &mut Console<'_>, trouble: &Trouble) -> Status {
     match trouble {
-        Trouble::Misuse(misuse) => complain(
-            console,
-            &format!("{misuse}; `cocklesway --help` tells more"),
-        ),
+        Trouble::Misuse(misuse) => complain(console, &format!("{misuse}; see `cocklesway --help`")),
         Trouble::Unwritten(file, error) => {
             complain(console, &format!("{file}: cannot be written: {error}"));
         }

@@ -1,7 +1,7 @@
 //! Text of a user, made safe to print.
 use std::fmt::Write;
 
-/// What is echoed of a word has at most so many characters.
+/// The most characters that are echoed of a word.
 const MOST_SHOWN: usize = 48;
 
 /// Returns the text with control characters and invisible ones escaped, as `\u{1b}`.
@@ -35,7 +35,7 @@ pub fn quoted(text: &str) -> String {
     format!("`{}{rest}`", escaped(&short))
 }
 
-/// Whether a character changes what others look like, or cannot be told from a space or from nothing.
+/// Whether a character changes what others look like, or looks like a space or like nothing.
 fn is_invisible(c: char) -> bool {
     matches!(
         c,

@@ -268,7 +268,7 @@ impl<'a> Fields<'a> {
         Ok(Walk::at(count(&first)?, count(&second)?, is_over))
     }
 
-    /// Takes a field of exactly so many words.
+    /// Takes a field of exactly `N` words.
     fn exactly<const N: usize>(&mut self, wanted: &'static str) -> Result<[Word<'a>; N], Unread> {
         let words = self.next();
         words.try_into().map_err(|_| {

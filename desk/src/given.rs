@@ -45,7 +45,7 @@ impl Given {
         Shape::of_numbers(&self.numbers, self.floor.unwrap_or(floor).into())
     }
 
-    /// Lends it to the library. An outline is on floor 0, which no answer about it tells.
+    /// Lends it to the library. An outline is on floor 0, which its answers leave out.
     #[must_use]
     pub fn alone(&self) -> Shape<'_> {
         self.on(0)

@@ -34,7 +34,7 @@ With --json each answer is one object on a line of its own. All numbers are whol
     sentence      what is said without --json
 
 A shape is {name, floor, corners}: null for no name or no floor, and corners as [x, y]. A list with an
-odd count of numbers has `numbers` instead. Corners are told by their coordinates, edges by both ends.
+odd count of numbers has `numbers` instead. Corners are coordinates, edges are both of their ends.
 
     judge         count                             relation    relation
     length        squared, from, to                 inside      inside
@@ -96,7 +96,7 @@ Usage: cocklesway COMMAND [OPTIONS] FILE..      (- is standard input)
         page.push_str(&format!("    {:<10}{}\n", command.name, command.does));
     }
     page.push_str(
-        "    help      tells about a command, or about `map`, `questions`, `refusals` or `json`
+        "    help      the page of a command, or of `map`, `questions`, `refusals` or `json`
 
     -h, --help       this page
     -V, --version    the version
@@ -189,6 +189,6 @@ in a map. `NAME = ` before a question keeps the shape that it answers.
             fields.join(" ")
         ));
     }
-    page.push_str("Positions are not counted: corners and edges are told by their coordinates.\n");
+    page.push_str("In answers, corners and edges are given by their coordinates.\n");
     page
 }

@@ -1,11 +1,11 @@
 //! The map desk: shapes of a floor by their names, questions about them, and pictures. Every answer comes from the
-//! proved library, the package `cocklesway`. What is here reads lines, keeps names, and tells the answers.
+//! proved library, the package `cocklesway`. What is here reads lines, keeps names, and puts answers into words.
 //!
 //! | module | subject |
 //! |---|---|
 //! | [`source`], [`lines`], [`fields`] | files read, taken apart into lines, fields and words, and these into values |
 //! | [`fault`], [`place`], [`escape`] | why a line cannot be read, and where it is |
-//! | [`name`], [`given`], [`map`] | names, shapes as they are given, and which name stands for which |
+//! | [`name`], [`given`], [`map`] | names, shapes as they are given, and the shapes of the names |
 //! | [`table`], [`question`], [`answer`] | the questions; the library asked |
 //! | [`session`] | lines in their order: definitions, questions, and what came of each |
 //! | [`sentence`], [`refusal`], [`distance`], [`report`] | answers and refusals in words |

@@ -17,7 +17,7 @@ pub enum Origin {
 /// What is known of a name.
 #[derive(Clone, Debug, PartialEq, Eq)]
 pub enum Entry {
-    /// The shape that it stands for. The library has accepted it.
+    /// The name has a shape, which the library has accepted.
     Shape {
         /// The shape, which has the name.
         shape: Given,

@@ -2,11 +2,11 @@
 use std::fmt;
 use std::sync::Arc;
 
-/// A name has at most so many characters.
+/// The most characters that a name may have.
 pub const MOST_CHARACTERS: usize = 64;
 
-/// The name of a shape: letters and digits of any script, `-` and `_`, with a letter or `_` among them, which tells
-/// it from a number.
+/// The name of a shape: letters and digits of any script, `-` and `_`, with a letter or `_` among them, so
+/// that it is no number.
 ///
 /// ```
 /// use desk::name::Name;
@@ -113,7 +113,7 @@ impl fmt::Display for BadName {
                 let sign = crate::escape::quoted(sign.encode_utf8(&mut [0; 4]));
                 write!(f, "a name has letters, digits, - and _, and no {sign}")
             }
-            BadName::NoLetter => f.write_str("a name has a letter or _, to tell it from a number"),
+            BadName::NoLetter => f.write_str("a name has a letter or _, a number has none"),
             BadName::Long => write!(f, "a name has at most {MOST_CHARACTERS} characters"),
         }
     }

@@ -9,7 +9,7 @@ pub enum Question {
     One(Given, OfOne),
     /// About two shapes.
     Two(Pair, OfTwo),
-    /// One that answers a shape. The output has room for so many numbers, or for every answer.
+    /// One that answers a shape. The second value is the output's room in numbers; without it every answer has room.
     Make(Making, Option<usize>),
     /// The corner of two readings of the tablet.
     Tablet([Reading; 2]),

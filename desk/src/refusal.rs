@@ -73,6 +73,7 @@ fn of_list(question: &Question, refusal: Refusal) -> String {
 fn count(shape: &Given, noun: &str) -> String {
     match shape.numbers.len() {
         0 => format!("{shape} has no {noun}; at least one is needed"),
+        1 => format!("{shape} has 1 number; each {noun} needs two, x and y"),
         odd => format!("{shape} has {odd} numbers; each {noun} needs two, x and y"),
     }
 }

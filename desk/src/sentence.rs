@@ -58,7 +58,7 @@ pub fn described(shape: &Given) -> String {
     }
 }
 
-/// Returns what a name stands for.
+/// Returns what the shape of a name is.
 #[must_use]
 pub fn defined(shape: &Given) -> String {
     defined_as(&shape.to_string(), shape)
@@ -242,7 +242,7 @@ fn made(making: &Making, shape: &Given) -> String {
 }
 
 fn parts(Pair { a, b }: &Pair, written: &[Written]) -> String {
-    let mut told = format!("the sum of {a} and {b} in parts");
+    let mut said = format!("the sum of {a} and {b} in parts");
     for (
         number,
         Written {
@@ -260,9 +260,9 @@ fn parts(Pair { a, b }: &Pair, written: &[Written]) -> String {
                 refusal::of_call(*refused, *call)
             ),
         };
-        told.push_str(&format!("; call {number}: {what}"));
+        said.push_str(&format!("; call {number}: {what}"));
     }
-    told
+    said
 }
 
 fn part(Pair { a, b }: &Pair, list: &[[i32; 2]], walk: Walk) -> String {

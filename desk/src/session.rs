@@ -61,6 +61,19 @@ pub enum Outcome {
     Unreadable(Fault),
 }
 
+impl Event {
+    /// Returns whether a shape takes the place of an earlier one of its name.
+    #[must_use]
+    pub fn replaces(&self) -> bool {
+        match &self.outcome {
+            Outcome::Defined { earlier, .. } | Outcome::Answered { earlier, .. } => {
+                earlier.is_some()
+            }
+            _ => false,
+        }
+    }
+}
+
 /// The shapes so far.
 #[derive(Clone, Debug, Default)]
 pub struct Session {
@@ -104,13 +117,13 @@ impl Session {
     pub fn read<E>(
         &mut self,
         source: &Source,
-        mut told: impl FnMut(Event) -> Result<(), E>,
+        mut receive: impl FnMut(Event) -> Result<(), E>,
     ) -> Result<(), E> {
         let text = text_of(&source.bytes);
         let lines = lines(&source.bytes, &text);
         let mut before = None;
         for (at, line) in lines.iter().enumerate() {
-            told(self.line(&source.name, before, line, lines.get(at + 1)))?;
+            receive(self.line(&source.name, before, line, lines.get(at + 1)))?;
             before = if is_left_over(line) {
                 before
             } else {
@@ -120,7 +133,7 @@ impl Session {
         Ok(())
     }
 
-    /// Takes a line. Its neighbours tell whether numbers are left over.
+    /// Takes a line. Its neighbours show whether numbers are left over.
     fn line(
         &mut self,
         file: &Arc<str>,
@@ -260,16 +273,15 @@ impl Session {
         }
     }
 
-    /// Keeps a shape under its name, and returns where an earlier one was.
+    /// Keeps a shape under its name, and returns where an earlier shape of the name was.
     fn keep(&mut self, place: &Place, shape: &Given, origin: Origin) -> Option<Place> {
         let name = shape.name.clone()?;
         let entry = Entry::Shape {
             shape: shape.clone(),
             origin,
         };
-        self.map
-            .set(name, place.clone(), entry)
-            .map(|earlier| earlier.place)
+        let earlier = self.map.set(name, place.clone(), entry)?;
+        matches!(earlier.entry, Entry::Shape { .. }).then_some(earlier.place)
     }
 
     /// Removes a name whose definition failed.

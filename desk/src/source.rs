@@ -5,7 +5,7 @@ use std::fs::File;
 use std::io::{self, Read};
 use std::sync::Arc;
 
-/// A file has at most so many bytes.
+/// The most bytes that a file may have.
 pub const MOST_BYTES: u64 = 64 << 20;
 
 /// A file that was read whole.

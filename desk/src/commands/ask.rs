@@ -23,7 +23,7 @@ not asked.
 A name belongs to one file. If two files define one, nothing is answered: an old map and a new one are
 never mixed.
 
-`cocklesway help map` tells how a map is written, `cocklesway help questions` what can be asked.
+See `cocklesway help map` for how a map is written, and `cocklesway help questions` for what can be asked.
 ",
     run,
 };
@@ -43,9 +43,9 @@ fn run(arguments: &Arguments, console: &mut Console<'_>) -> Result<Status, Troub
     for source in console.sources(&arguments.files)? {
         session.read(&source, |event| {
             status = status.max(status_of(&event));
-            let is_said = !matches!(event.outcome, Outcome::Defined { earlier: None, .. });
+            let is_said = event.replaces() || !matches!(event.outcome, Outcome::Defined { .. });
             if is_said {
-                tell(console, json, &event)
+                print(console, json, &event)
             } else {
                 Ok(())
             }
@@ -72,7 +72,7 @@ pub fn status_of(event: &Event) -> Status {
 ///
 /// # Errors
 /// It cannot be written.
-pub fn tell(console: &mut Console<'_>, json: bool, event: &Event) -> Result<(), Trouble> {
+pub fn print(console: &mut Console<'_>, json: bool, event: &Event) -> Result<(), Trouble> {
     let line = || format!("{}: {}", event.place, sentence(event));
     match event.outcome {
         Outcome::Unreadable(_) => console.complain(&line()),

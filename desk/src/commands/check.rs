@@ -1,5 +1,5 @@
 //! `cocklesway check`: judges every shape of a map.
-use super::ask::{JSON, status_of, tell};
+use super::ask::{JSON, print, status_of};
 use crate::command::{Command, Console, Status, Trouble};
 use crate::distance::Distance;
 use crate::given::{Corner, Given};
@@ -25,6 +25,7 @@ questions are read and not asked. The status is 0 if all are shapes and every li
 #[derive(Clone, Debug, Default, PartialEq, Eq)]
 struct Tally {
     shapes: usize,
+    replaced: usize,
     refused: usize,
     unreadable: usize,
 }
@@ -46,12 +47,12 @@ fn run(arguments: &Arguments, console: &mut Console<'_>) -> Result<Status, Troub
                     sentence(&event),
                     extent(shape)
                 )),
-                _ => tell(console, json, &event),
+                _ => print(console, json, &event),
             }
         })?;
     }
     if !json {
-        console.say(&tally.told())?;
+        console.say(&tally.summary())?;
     }
     Ok(status)
 }
@@ -88,8 +89,9 @@ fn extent(shape: &Given) -> String {
 impl Tally {
     fn count(&mut self, event: &Event) {
         match &event.outcome {
-            Outcome::Defined { earlier, .. } | Outcome::Answered { earlier, .. } => {
-                self.shapes += usize::from(earlier.is_none());
+            Outcome::Defined { .. } | Outcome::Answered { .. } => {
+                self.shapes += usize::from(!event.replaces());
+                self.replaced += usize::from(event.replaces());
             }
             Outcome::Refused(_) | Outcome::Removed { .. } => self.refused += 1,
             Outcome::Unreadable(_) => self.unreadable += 1,
@@ -97,12 +99,17 @@ impl Tally {
         }
     }
 
-    fn told(&self) -> String {
+    fn summary(&self) -> String {
         let Tally {
             shapes,
+            replaced,
             refused,
             unreadable,
         } = self;
-        format!("accepted: {shapes}, refused: {refused}, unreadable lines: {unreadable}")
+        let replaced = match replaced {
+            0 => String::new(),
+            count => format!("replaced: {count}, "),
+        };
+        format!("accepted: {shapes}, {replaced}refused: {refused}, unreadable lines: {unreadable}")
     }
 }

@@ -93,9 +93,12 @@ const OPTIONS: &[Known] = &[
 ];
 
 fn run(arguments: &Arguments, console: &mut Console<'_>) -> Result<Status, Trouble> {
-    let session = read(arguments, console)?;
+    let (session, replaced) = read(arguments, console)?;
     let map = session.map();
-    let wishes = wishes(arguments, map)?;
+    let wishes = Wishes {
+        notes: replaced,
+        ..wishes(arguments, map)?
+    };
     let floor = floor(arguments, map)?;
     let drawn = scene(map, floor, &wishes).and_then(|scene| picture(&scene));
     match drawn {
@@ -108,21 +111,29 @@ fn run(arguments: &Arguments, console: &mut Console<'_>) -> Result<Status, Troub
     }
 }
 
-/// Reads the map. All lines that cannot be used are said, and then nothing is drawn.
-fn read(arguments: &Arguments, console: &mut Console<'_>) -> Result<Session, Trouble> {
+/// Reads the map, and says below the picture which shapes took the place of others. All lines that cannot be used are
+/// said, and then nothing is drawn.
+fn read(
+    arguments: &Arguments,
+    console: &mut Console<'_>,
+) -> Result<(Session, Vec<String>), Trouble> {
     let mut session = Session::of_definitions();
     let mut status = Status::Fine;
+    let mut replaced = Vec::new();
     for source in console.sources(&arguments.files)? {
-        session.read(&source, |event| match status_of(&event) {
-            Status::Fine => Ok(()),
-            wrong => {
-                status = status.max(wrong);
-                console.complain(&format!("{}: {}", event.place, sentence(&event)))
+        session.read(&source, |event| {
+            let said = format!("{}: {}", event.place, sentence(&event));
+            status = status.max(status_of(&event));
+            match status_of(&event) {
+                Status::Fine if event.replaces() => replaced.push(said),
+                Status::Fine => {}
+                _ => console.complain(&said)?,
             }
+            Ok::<(), Trouble>(())
         })?;
     }
     match status {
-        Status::Fine => Ok(session),
+        Status::Fine => Ok((session, replaced)),
         status => {
             console.complain("nothing is drawn, since the map is not whole")?;
             Err(Trouble::Said(status))
@@ -175,6 +186,7 @@ fn wishes(arguments: &Arguments, map: &Map) -> Result<Wishes, Misuse> {
     };
     let also = arguments.values(ALSO).map(|value| named(ALSO, value, map));
     Ok(Wishes {
+        notes: Vec::new(),
         also: also.collect::<Result<_, _>>()?,
         cart,
         at,

@@ -6,7 +6,7 @@ use crate::distance::Distance;
 use crate::given::Pair;
 use crate::sentence;
 
-/// A gap that is drawn narrower than so many pixels is also drawn larger, beside the map.
+/// A gap that is narrower than this on the page, in pixels, is also drawn larger, below the map.
 const NARROW: f64 = 3.0;
 
 /// A narrow gap: between which figures, where, and how wide.

@@ -2,7 +2,7 @@
 use super::frame::Frame;
 use super::svg::{Attributes, Px, Svg};
 
-/// The lines of a grid are at least so many pixels apart.
+/// The least distance of two lines of the grid, in pixels.
 const LEAST: f64 = 55.0;
 
 /// Draws the grid of a frame, and the coordinates at its left and lower sides.

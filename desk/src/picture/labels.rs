@@ -4,7 +4,7 @@ use super::frame::Rect;
 /// The height of a line of text, in pixels.
 pub const LINE: f64 = 16.0;
 
-/// A label that is one line of text further away costs as much as one that covers so many square pixels of a shape.
+/// What one line of text further away costs, in square pixels of a shape that are covered.
 const FAR: f64 = 120.0;
 
 /// A label, and what it belongs to, on the page.

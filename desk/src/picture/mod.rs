@@ -36,7 +36,7 @@ const LEFT: f64 = 56.0;
 const TOP: f64 = 44.0;
 const MAP: [f64; 2] = [WIDTH - LEFT - 24.0, 640.0];
 
-/// The narrowest gaps are drawn larger, at most so many. All others are named.
+/// The most gaps that are drawn larger: the narrowest ones. All others are named.
 const MOST_INSETS: usize = 6;
 const INSETS_IN_ROW: usize = 3;
 const INSET: [f64; 2] = [288.0, 190.0];

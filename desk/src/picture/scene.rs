@@ -70,6 +70,8 @@ pub struct Scene {
 /// What is wished for besides the shapes of the floor.
 #[derive(Clone, Debug, Default, PartialEq, Eq)]
 pub struct Wishes {
+    /// Sentences to be written below the picture.
+    pub notes: Vec<String>,
     /// Named answers to be drawn.
     pub also: Vec<Given>,
     /// The cart whose obstacles are grown.
@@ -163,6 +165,7 @@ pub fn scene(map: &Map, floor: u16, wishes: &Wishes) -> Result<Scene, Refused> {
         .collect();
     let mut scene = Scene {
         floor,
+        notes: wishes.notes.clone(),
         ..Scene::default()
     };
     if let Some(cart) = &wishes.cart {

@@ -107,6 +107,12 @@ fn a_refused_correction_removes_the_name() {
         "-:5: not asked: `g` was refused at -:4",
     ];
     holds(&asked(&map), 1, &said, &[]);
+    let mended = format!("shape | store | 0\n{STORE}judge | store\n");
+    let said = [
+        "-:1: `store` is refused (1): store has 1 number; each corner needs two, x and y",
+        "-:3: store is a shape of 4 corners on floor 2",
+    ];
+    holds(&asked(&mended), 1, &said, &[]);
 }
 
 #[test]
@@ -242,7 +248,7 @@ fn errors_tell_file_line_and_word() {
     );
     assert_eq!(
         error("2-3 = mirror | 0 0"),
-        "`2-3` is no name: a name has a letter or _, to tell it from a number"
+        "`2-3` is no name: a name has a letter or _, a number has none"
     );
     assert_eq!(
         error("shape | a.b | 0 0"),

@@ -165,6 +165,25 @@ fn the_zone_is_around_the_obstacle_and_the_cart_at_its_place() {
     assert_eq!([ring.get("cx"), ring.get("cy")], ["3500", "0"]);
 }
 
+#[test]
+fn a_shape_in_place_of_another_is_told_below() {
+    let map = "shape | bed | @2 0 0 20 0 20 9\nshape | bed | @2 50 50 70 50 70 59\n";
+    let picture = drawn(&[], map);
+    assert_eq!(
+        picture.outlines("map")["bed"].1,
+        [[50, 50], [70, 50], [70, 59]]
+    );
+    assert!(
+        picture.says("-:2: bed is a shape of 3 corners on floor 2, in place of the one of -:1")
+    );
+    let ran = with_input(&["check", "-"], map.as_bytes());
+    assert!(
+        ran.output
+            .ends_with("accepted: 1, replaced: 1, refused: 0, unreadable lines: 0\n"),
+        "{ran:?}"
+    );
+}
+
 /// A cart that is itself a shape of the floor is drawn at its place alone, and is no obstacle to itself.
 #[test]
 fn a_cart_of_the_floor_is_no_obstacle() {

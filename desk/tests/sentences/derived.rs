@@ -21,7 +21,7 @@ struct List {
     numbers: Vec<i64>,
 }
 
-/// Questions with so many lists at their front; `bookadd` has one as its third field.
+/// Questions on two lists; `bookadd` has one list as its third field, all others one as their first.
 const TWO: [&str; 10] = [
     "sum",
     "parts",
