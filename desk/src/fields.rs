@@ -6,6 +6,7 @@ use crate::map::{Entry, Map};
 use crate::name::Name;
 use crate::place::Place;
 use crate::question::Call;
+use crate::words::{byte, call, count, double, is_numeric, list, number};
 use cocklesway::{Reading, Walk};
 
 /// Why a line is not asked.
@@ -31,7 +32,8 @@ pub enum Unread {
 
 impl Unread {
     /// Returns the fault of a word.
-    fn at(word: &Word<'_>, fault: Fault) -> Unread {
+    #[must_use]
+    pub fn at(word: &Word<'_>, fault: Fault) -> Unread {
         Unread::Fault {
             line: word.line,
             fault,
@@ -106,10 +108,7 @@ impl<'a> Fields<'a> {
     /// It is no name.
     pub fn new_name(&mut self) -> Result<Name, Unread> {
         let [word] = self.exactly("a name")?;
-        Name::read(word.text).map_err(|why| {
-            let found = word.text.to_string();
-            Unread::at(&word, Fault::NotAName { found, why })
-        })
+        name_of(&word)
     }
 
     /// Reads a shape: a name, or numbers after their floor, which is 0 if it is left out.
@@ -118,7 +117,7 @@ impl<'a> Fields<'a> {
     /// It is neither.
     pub fn shape(&mut self) -> Result<Given, Unread> {
         match self.next() {
-            [word] if is_word(word.text) => self.named(word),
+            [word] if !is_numeric(word.text) => self.named(word),
             words => list(words, Some(0)),
         }
     }
@@ -285,25 +284,10 @@ impl<'a> Fields<'a> {
 
     /// The shape of a name.
     fn named(&self, word: &Word<'_>) -> Result<Given, Unread> {
-        let found = || word.text.to_string();
-        let name = Name::read(word.text).map_err(|why| {
-            Unread::at(
-                word,
-                Fault::NotAName {
-                    found: found(),
-                    why,
-                },
-            )
-        })?;
+        let name = name_of(word)?;
         let unknown = || {
-            let like = self.map.like(word.text);
-            Unread::at(
-                word,
-                Fault::UnknownName {
-                    found: found(),
-                    like,
-                },
-            )
+            let (found, like) = (word.text.to_string(), self.map.like(word.text));
+            Unread::at(word, Fault::UnknownName { found, like })
         };
         let item = self.map.get(&name).ok_or_else(unknown)?;
         match &item.entry {
@@ -317,99 +301,13 @@ impl<'a> Fields<'a> {
     }
 }
 
-/// Whether a word is meant as a name and not as a number or a floor.
-fn is_word(text: &str) -> bool {
-    !is_numeric(text)
-}
-
-/// Whether a word is meant as a number or a floor.
-#[must_use]
-pub fn is_numeric(text: &str) -> bool {
-    let digits = text.trim_start_matches(['-', '+', '@', '.']);
-    let only = |c: char| c.is_ascii_digit() || matches!(c, '.' | ',' | '-' | '+' | '@');
-    text.starts_with('@') || digits.chars().all(only)
-}
-
-/// A list of numbers after its floor.
-fn list(words: &[Word<'_>], unsaid: Option<u16>) -> Result<Given, Unread> {
-    let (floor, numbers) = match words {
-        [first, rest @ ..] if first.text.starts_with('@') => (Some(floor(first)?), rest),
-        all => (unsaid, all),
-    };
-    let numbers: Result<Vec<i32>, Unread> = numbers.iter().map(number).collect();
-    Ok(Given {
-        name: None,
-        numbers: numbers?.into(),
-        floor,
+/// Reads a name.
+///
+/// # Errors
+/// It is none.
+pub fn name_of(word: &Word<'_>) -> Result<Name, Unread> {
+    Name::read(word.text).map_err(|why| {
+        let found = word.text.to_string();
+        Unread::at(word, Fault::NotAName { found, why })
     })
-}
-
-/// A floor, with its sign.
-fn floor(word: &Word<'_>) -> Result<u16, Unread> {
-    let digits = word.text.strip_prefix('@').unwrap_or_default();
-    let all_digits = !digits.is_empty() && digits.bytes().all(|byte| byte.is_ascii_digit());
-    let number = digits.parse().ok().filter(|_| all_digits);
-    let found = || word.text.to_string();
-    number.ok_or_else(|| Unread::at(word, Fault::NotAFloor { found: found() }))
-}
-
-/// A whole number of 32 bits, with a minus or without.
-fn number(word: &Word<'_>) -> Result<i32, Unread> {
-    let found = || word.text.to_string();
-    if word.text.starts_with('@') {
-        return Err(Unread::at(word, Fault::MisplacedFloor { found: found() }));
-    }
-    let digits = word.text.strip_prefix('-').unwrap_or(word.text);
-    if digits.is_empty() || !digits.bytes().all(|byte| byte.is_ascii_digit()) {
-        return Err(Unread::at(word, not_a_number(word.text)));
-    }
-    let number = word.text.parse();
-    number.map_err(|_| Unread::at(word, Fault::LargeNumber { found: found() }))
-}
-
-/// Why a word is no number.
-fn not_a_number(text: &str) -> Fault {
-    let found = text.to_string();
-    if is_word(text) && Name::read(text).is_ok() {
-        return Fault::NameAmongNumbers { found };
-    }
-    Fault::NotANumber { found }
-}
-
-/// A whole number of 31 bits that is not negative.
-fn count(word: &Word<'_>) -> Result<usize, Unread> {
-    let count = number(word)?.try_into();
-    count.map_err(|_| Unread::at(word, Fault::not_a("a count", word.text)))
-}
-
-/// A call of a sum in parts.
-fn call(word: &Word<'_>) -> Result<Call, Unread> {
-    let wrong = || Unread::at(word, Fault::not_a("a call, such as 2:4", word.text));
-    let (corners, room) = word.text.split_once(':').ok_or_else(wrong)?;
-    let part = |text| {
-        let line = word.line;
-        count(&Word { text, line }).map_err(|_| wrong())
-    };
-    Ok(Call {
-        corners: part(corners)?,
-        room: part(room)?,
-    })
-}
-
-/// The byte of two hexadecimal digits.
-fn byte(digits: &[u8]) -> Option<u8> {
-    let [high, low] = *digits else { return None };
-    let digit = |byte: u8| char::from(byte).to_digit(16);
-    let byte = (digit(high)? << 4) | digit(low)?;
-    byte.try_into().ok()
-}
-
-/// The double of 16 hexadecimal digits after `0x`.
-fn double(text: &str) -> Option<f64> {
-    let digits = text
-        .strip_prefix("0x")
-        .filter(|digits| digits.len() == 16)?;
-    let hexadecimal = digits.bytes().all(|byte| byte.is_ascii_hexdigit());
-    let bits = u64::from_str_radix(digits, 16).ok().filter(|_| hexadecimal);
-    bits.map(f64::from_bits)
 }

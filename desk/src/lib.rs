@@ -3,7 +3,7 @@
 //!
 //! | module | subject |
 //! |---|---|
-//! | [`source`], [`lines`], [`fields`] | files read, taken apart into lines, fields and words, and these into values |
+//! | [`source`], [`lines`], [`fields`], [`words`] | files read, taken apart into lines, fields and words, and values |
 //! | [`fault`], [`place`], [`escape`] | why a line cannot be read, and where it is |
 //! | [`name`], [`given`], [`map`] | names, shapes as they are given, and the shapes of the names |
 //! | [`table`], [`question`], [`answer`] | the questions; the library asked |
@@ -47,3 +47,4 @@ pub mod sentence;
 pub mod session;
 pub mod source;
 pub mod table;
+pub mod words;

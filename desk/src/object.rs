@@ -23,40 +23,55 @@ pub fn object(event: &Event) -> Json {
             .as_ref()
             .map(|name| ("name", name.as_str().into())),
     );
-    match &event.outcome {
-        Outcome::Unreadable(_) => members.push(("unreadable", true.into())),
-        Outcome::Unasked(question) => {
-            members.push(("question", question.word().into()));
-            members.push(("asked", false.into()));
-        }
-        Outcome::Defined { shape, earlier } => {
-            members.push(("shape", shape_of(shape)));
-            members.extend(earlier.as_ref().map(|earlier| ("replaces", place(earlier))));
-        }
-        Outcome::Answered { answer, earlier } => {
-            members.push(("question", answer.word().into()));
-            let shapes = answer.shapes().into_iter().map(shape_of);
-            members.push(("shapes", Json::List(shapes.collect())));
-            members.extend(answered(answer));
-            members.extend(earlier.as_ref().map(|earlier| ("replaces", place(earlier))));
-        }
-        Outcome::Listed(shapes) => {
-            members.push(("question", "shapes".into()));
-            members.push(("names", Json::List(shapes.iter().map(shape_of).collect())));
-        }
-        Outcome::Refused(refused) => {
-            members.push(("question", refused.question.word().into()));
-            let shapes = refused.question.shapes().into_iter().map(shape_of);
-            members.push(("shapes", Json::List(shapes.collect())));
-            members.push(("refused", refusal(refused.refusal, reason(refused))));
-        }
-        Outcome::Removed { name, at } => {
-            let members_of = vec![("name", name.as_str().into()), ("at", place(at))];
-            members.push(("not_asked", Json::Object(members_of)));
-        }
-    }
+    members.extend(outcome(&event.outcome));
     members.push(("sentence", report::sentence(event).into()));
     Json::Object(members)
+}
+
+/// The members of what came of a line.
+fn outcome(outcome: &Outcome) -> Members {
+    let list = |shapes: Vec<&Given>| Json::List(shapes.into_iter().map(shape_of).collect());
+    let replaced = |earlier: &Option<Place>| earlier.as_ref().map(|at| ("replaces", place(at)));
+    match outcome {
+        Outcome::Unreadable(_) => vec![("unreadable", true.into())],
+        Outcome::Unasked(question) => {
+            vec![
+                ("question", question.word().into()),
+                ("asked", false.into()),
+            ]
+        }
+        Outcome::Defined { shape, earlier } => {
+            let shape = ("shape", shape_of(shape));
+            [shape].into_iter().chain(replaced(earlier)).collect()
+        }
+        Outcome::Answered { answer, earlier } => {
+            let question = ("question", answer.word().into());
+            let asked = [question, ("shapes", list(answer.shapes()))];
+            let answer = answered(answer).into_iter();
+            asked
+                .into_iter()
+                .chain(answer)
+                .chain(replaced(earlier))
+                .collect()
+        }
+        Outcome::Listed(shapes) => {
+            vec![
+                ("question", "shapes".into()),
+                ("names", list(shapes.iter().collect())),
+            ]
+        }
+        Outcome::Refused(refused) => vec![
+            ("question", refused.question.word().into()),
+            ("shapes", list(refused.question.shapes())),
+            ("refused", refusal(refused.refusal, reason(refused))),
+        ],
+        Outcome::Removed { name, at } => vec![("not_asked", removed(name, at))],
+    }
+}
+
+/// A name whose definition was refused, and where.
+fn removed(name: &Name, at: &Place) -> Json {
+    Json::Object(vec![("name", name.as_str().into()), ("at", place(at))])
 }
 
 fn place_of(place: &Place) -> Members {

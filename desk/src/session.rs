@@ -4,7 +4,7 @@
 //! that no later question is answered with a shape from before it.
 use crate::answer::{Answer, Refused, ask};
 use crate::fault::Fault;
-use crate::fields::{Fields, Unread, is_numeric};
+use crate::fields::{Fields, Unread, name_of};
 use crate::given::Given;
 use crate::lines::{Line, lines, text_of};
 use crate::map::{Entry, Map, Origin};
@@ -13,6 +13,7 @@ use crate::place::Place;
 use crate::question::{OfOne, Question};
 use crate::source::Source;
 use crate::table;
+use crate::words::is_numeric;
 use std::collections::{HashMap, HashSet};
 use std::sync::Arc;
 
@@ -209,13 +210,7 @@ impl Session {
     fn question(&self, word: &str, line: &Line<'_>) -> Result<Said, Unread> {
         let row = table::find(word).ok_or_else(|| unknown(line, word))?;
         let name = match line.words(0) {
-            [name, sign, ..] if sign.text == "=" => Some(Name::read(name.text).map_err(|why| {
-                let found = name.text.to_string();
-                Unread::Fault {
-                    line: name.line,
-                    fault: Fault::NotAName { found, why },
-                }
-            })?),
+            [name, sign, ..] if sign.text == "=" => Some(name_of(name)?),
             _ => None,
         };
         let mut fields = Fields::new(row.word, row.parts, line, &self.map)?;

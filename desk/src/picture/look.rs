@@ -124,6 +124,12 @@ pub fn define(svg: &mut Svg, class: &str, look: &Look, scale: f64) {
     ];
     svg.open("pattern", pattern);
     svg.empty("rect", ground);
+    motif(svg, look, [size, half, thin]);
+    svg.close("pattern");
+}
+
+/// Draws what a hatching repeats: a dot or a line.
+fn motif(svg: &mut Svg, look: &Look, [size, half, thin]: [Mm; 3]) {
     if look.hatch == Hatch::Dots {
         let dot: &Attributes<'_> = &[
             ("cx", &half),
@@ -143,5 +149,4 @@ pub fn define(svg: &mut Svg, class: &str, look: &Look, scale: f64) {
         ];
         svg.empty("line", line);
     }
-    svg.close("pattern");
 }

@@ -7,12 +7,6 @@ use crate::sentence;
 /// Draws the outline of a figure: a polygon, a segment, or a point.
 pub fn outline(svg: &mut Svg, class: &str, figure: &Figure, scale: f64, from: [i32; 2]) {
     let look = look::of_role(figure.role);
-    let corners: Vec<[i32; 2]> = figure
-        .shape
-        .corners()
-        .iter()
-        .map(|&corner| less(corner, from))
-        .collect();
     let role = format!("{:?}", figure.role).to_lowercase();
     let dashes = scaled(look.dashes, scale);
     let common: &Attributes<'_> = &[
@@ -21,41 +15,33 @@ pub fn outline(svg: &mut Svg, class: &str, figure: &Figure, scale: f64, from: [i
         ("stroke", &look.colour),
         ("stroke-dasharray", &dashes),
     ];
-    if let [[x, y]] = corners.as_slice() {
-        let [ring, dot] = [4.5, 2.0].map(|size| Mm(size / scale));
-        let own: &Attributes<'_> = &[("cx", x), ("cy", y), ("r", &dot), ("fill", &look.colour)];
-        svg.empty("circle", &[common, own].concat());
-        let ring: &Attributes<'_> = &[
-            ("cx", x),
-            ("cy", y),
-            ("r", &ring),
-            ("fill", &"none"),
-            ("stroke", &look.colour),
-        ];
-        svg.empty("circle", ring);
-        return;
-    }
+    let corners = figure.shape.corners().iter();
+    let corners: Vec<[i32; 2]> = corners.map(|&corner| less(corner, from)).collect();
     let points: Vec<String> = corners.iter().map(|[x, y]| format!("{x},{y}")).collect();
-    let (points, fill, thick) = (points.join(" "), look.hatch.fill(class), Mm(3.0 / scale));
-    let own: &Attributes<'_> = match corners.len() {
-        2 => &[
-            ("points", &points),
-            ("fill", &"none"),
-            ("stroke-width", &thick),
-        ],
-        _ => &[("points", &points), ("fill", &fill)],
-    };
-    let name = if corners.len() == 2 {
-        "polyline"
-    } else {
-        "polygon"
+    let (points, fill) = (points.join(" "), look.hatch.fill(class));
+    let [thick, dot, ring] = [3.0, 2.0, 4.5].map(|pixels| Mm(pixels / scale));
+    let (name, own): (&str, &Attributes<'_>) = match corners.as_slice() {
+        [[x, y]] => {
+            let ring: &Attributes<'_> = &[("cx", x), ("cy", y), ("r", &ring), ("fill", &"none")];
+            svg.empty("circle", &[ring, &[("stroke", &look.colour)]].concat());
+            (
+                "circle",
+                &[("cx", x), ("cy", y), ("r", &dot), ("fill", &look.colour)],
+            )
+        }
+        [_, _] => (
+            "polyline",
+            &[
+                ("points", &points),
+                ("fill", &"none"),
+                ("stroke-width", &thick),
+            ],
+        ),
+        _ => ("polygon", &[("points", &points), ("fill", &fill)]),
     };
     svg.open(name, &[common, own].concat());
-    svg.text(
-        "title",
-        &[],
-        &sentence::defined_as(&figure.label, &figure.shape),
-    );
+    let what = sentence::defined_as(&figure.label, &figure.shape);
+    svg.text("title", &[], &what);
     svg.close(name);
 }
 

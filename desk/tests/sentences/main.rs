@@ -2,10 +2,15 @@
 //!
 //! Questions of all kinds are made from seeds. The program's sentence for each is taken apart into its numbers. What
 //! they must be follows from the answer of `second`, which is found by brute force, and from the corners of the line.
+mod answers;
+mod case;
 mod derived;
+mod refusals;
+mod said;
 mod tokens;
 
-use derived::{Case, derive};
+use case::Case;
+use derived::derive;
 use desk::report::sentence;
 use desk::session::{Event, Session};
 use desk::source::Source;
@@ -100,7 +105,7 @@ fn numbers_of_lists_in_the_line() {
 fn numbers_of_named_shapes() {
     let mut held = 0;
     for question in questions(12, 4_000, "") {
-        if let Some(text) = derived::with_names(&question) {
+        if let Some(text) = case::with_names(&question) {
             held += usize::from(hold(&question, &text, true).is_some());
         }
     }
@@ -134,7 +139,7 @@ fn refused_definitions_name_their_corner() {
 fn moved_shapes_have_every_corner_moved() {
     let mut seen = BTreeSet::new();
     for (number, question) in (0_i64..).zip(questions(14, 1_500, "judge")) {
-        let Some(list) = derived::good_list(&question) else {
+        let Some(list) = case::good_list(&question) else {
             continue;
         };
         let by = [
@@ -143,7 +148,7 @@ fn moved_shapes_have_every_corner_moved() {
         ];
         let by = by.map(|part| if number % 5 == 0 { part * 1001 } else { part });
         let moved: Vec<[i64; 2]> = list.iter().map(|[x, y]| [x + by[0], y + by[1]]).collect();
-        let text = format!("at | {} | {} {}", derived::text_of(&list), by[0], by[1]);
+        let text = format!("at | {} | {} {}", case::text_of(&list), by[0], by[1]);
         let all = events(&text);
         let said = sentence(all.last().expect("one event"));
         let numbers = tokens::numbers(&said);
