@@ -100,6 +100,7 @@ fn run(arguments: &Arguments, console: &mut Console<'_>) -> Result<Status, Troub
         ..wishes(arguments, map)?
     };
     let floor = floor(arguments, map)?;
+    are_here(&wishes, floor)?;
     let drawn = scene(map, floor, &wishes).and_then(|scene| picture(&scene));
     match drawn {
         Ok(Some(svg)) => write(arguments, console, &svg).map(|()| Status::Fine),
@@ -194,6 +195,31 @@ fn wishes(arguments: &Arguments, map: &Map) -> Result<Wishes, Misuse> {
         tangents: pairs(TANGENTS).collect::<Result<_, _>>()?,
         sums: pairs(SUM).collect::<Result<_, _>>()?,
     })
+}
+
+/// Whether all that is wished for is on the floor: a picture of one floor shows nothing of another. A gap and tangents
+/// are between things that have a place, so an outline has none of them.
+fn are_here(wishes: &Wishes, floor: u16) -> Result<(), Misuse> {
+    let of_pairs = |pairs: &[Pair]| -> Vec<Given> {
+        let both = |pair: &Pair| [pair.a.clone(), pair.b.clone()];
+        pairs.iter().flat_map(both).collect()
+    };
+    let placed = [of_pairs(&wishes.gaps), of_pairs(&wishes.tangents)].concat();
+    let any = [wishes.also.clone(), of_pairs(&wishes.sums)].concat();
+    if let Some(outline) = placed.iter().find(|shape| shape.floor.is_none()) {
+        let why = "is an outline, which is nowhere on the floor; `at` puts it at a place";
+        return Err(Misuse::Other(format!("{outline} {why}")));
+    }
+    let elsewhere = |shape: &&Given| shape.floor.is_some_and(|own| own != floor);
+    match placed.iter().chain(&any).find(elsewhere) {
+        Some(shape) => {
+            let own = shape.floor.unwrap_or_default();
+            Err(Misuse::Other(format!(
+                "{shape} is on floor {own}, and floor {floor} is drawn"
+            )))
+        }
+        None => Ok(()),
+    }
 }
 
 /// The shape of a name.

@@ -397,6 +397,18 @@ fn no_picture_of_a_map_that_is_not_whole() {
             "`--at` needs two whole numbers",
         ),
         (
+            &["--floor", "2", "--also", "upstairs"],
+            "upstairs is on floor 3, and floor 2 is drawn",
+        ),
+        (
+            &["--floor", "2", "--gap", "upstairs,upstairs"],
+            "upstairs is on floor 3, and floor 2 is drawn",
+        ),
+        (
+            &["--floor", "2", "--gap", "wall,cart"],
+            "cart is an outline, which is nowhere on the floor",
+        ),
+        (
             &["--floor", "x"],
             "`--floor` needs a floor from 0 to 65535, and not `x`",
         ),
