@@ -1,0 +1,284 @@
+//! Questions asked of the library, and what it answers.
+use crate::given::{Given, Pair};
+use crate::question::{Call, Making, OfOne, OfTwo, Question, Record};
+use cocklesway::{
+    Addition, Book, Clearance, Corners, Furthest, Inside, Length, Offer, Reading, Refusal,
+    Relation, Separator, Standing, Tangents, Walk, Width,
+};
+
+/// A question with its answer.
+#[derive(Clone, Debug, PartialEq)]
+pub enum Answer {
+    /// About one shape.
+    One(Given, AboutOne),
+    /// About two shapes.
+    Two(Pair, AboutTwo),
+    /// The shape that was made.
+    Made(Making, Given),
+    /// The corner of two readings.
+    Corner([Reading; 2], [i32; 2]),
+    /// Whether an addition was finished, and the log afterwards.
+    Added(Record, Addition, Vec<u8>),
+}
+
+/// What is answered about one shape.
+#[derive(Clone, Debug, PartialEq)]
+pub enum AboutOne {
+    /// It is a shape.
+    Judge(Corners),
+    /// The furthest corners in a direction.
+    Furthest([i32; 2], Furthest),
+    /// How long it is.
+    Length(Length),
+    /// How wide it is.
+    Width(Width),
+}
+
+/// What is answered about two shapes.
+#[derive(Clone, Debug, PartialEq)]
+pub enum AboutTwo {
+    /// How they stand to each other.
+    Relation(Standing),
+    /// Whether the first is inside the second.
+    Inside(Inside),
+    /// Whether the direction is accepted.
+    Offer([i32; 2], Offer),
+    /// A direction that is accepted.
+    Find(Separator),
+    /// Where they are nearest.
+    Clearance(Clearance),
+    /// The lines that just touch both.
+    Tangents(Tangents),
+    /// What each call of a sum in parts wrote.
+    Parts(Vec<Written>),
+    /// What a call wrote, and the walk for the next.
+    Part(Vec<[i32; 2]>, Walk),
+}
+
+/// What a call of a sum in parts wrote, or its refusal, and the call.
+#[derive(Clone, Debug, PartialEq, Eq)]
+pub struct Written {
+    /// The call.
+    pub call: Call,
+    /// The corners, or the refusal.
+    pub corners: Result<Vec<[i32; 2]>, Refusal>,
+}
+
+/// A question that was refused.
+#[derive(Clone, Debug, PartialEq)]
+pub struct Refused {
+    /// The question.
+    pub question: Box<Question>,
+    /// The refusal.
+    pub refusal: Refusal,
+}
+
+impl Refused {
+    /// A question with its refusal.
+    #[must_use]
+    pub fn new(question: Question, refusal: Refusal) -> Refused {
+        let question = Box::new(question);
+        Refused { question, refusal }
+    }
+}
+
+/// Asks the library.
+///
+/// # Errors
+/// The question, with its refusal.
+pub fn ask(question: Question) -> Result<Answer, Refused> {
+    answered(&question).map_err(|refusal| Refused::new(question, refusal))
+}
+
+/// Asks for the shape that a question makes.
+///
+/// # Errors
+/// The question, with its refusal.
+pub fn made(making: Making) -> Result<Given, Refused> {
+    let shape = shape_of(&making, None);
+    shape.map_err(|refusal| Refused::new(Question::Make(making, None), refusal))
+}
+
+/// Asks how two shapes stand to each other.
+///
+/// # Errors
+/// The question, with its refusal.
+pub fn relation(pair: &Pair) -> Result<Relation, Refused> {
+    let (a, b) = pair.lent();
+    let found = cocklesway::relation(a, b).map(|standing| standing.relation);
+    found.map_err(|refusal| Refused::new(Question::Two(pair.clone(), OfTwo::Relation), refusal))
+}
+
+/// Asks how near two shapes are.
+///
+/// # Errors
+/// The question, with its refusal.
+pub fn clearance(pair: &Pair) -> Result<Clearance, Refused> {
+    let (a, b) = pair.lent();
+    let found = cocklesway::clearance(a, b);
+    found.map_err(|refusal| Refused::new(Question::Two(pair.clone(), OfTwo::Clearance), refusal))
+}
+
+/// Asks for the lines that just touch two shapes.
+///
+/// # Errors
+/// The question, with its refusal.
+pub fn tangents(pair: &Pair) -> Result<Tangents, Refused> {
+    let (a, b) = pair.lent();
+    let found = cocklesway::tangents(a, b);
+    found.map_err(|refusal| Refused::new(Question::Two(pair.clone(), OfTwo::Tangents), refusal))
+}
+
+fn answered(question: &Question) -> Result<Answer, Refusal> {
+    Ok(match question {
+        Question::One(shape, asked) => Answer::One(shape.clone(), about_one(shape, *asked)?),
+        Question::Two(pair, asked) => Answer::Two(pair.clone(), about_two(pair, asked)?),
+        Question::Make(making, room) => Answer::Made(making.clone(), shape_of(making, *room)?),
+        Question::Tablet([x, y]) => Answer::Corner([*x, *y], cocklesway::tablet(*x, *y)?),
+        Question::Add(record) => added(record)?,
+    })
+}
+
+fn about_one(shape: &Given, asked: OfOne) -> Result<AboutOne, Refusal> {
+    let shape = shape.alone();
+    Ok(match asked {
+        OfOne::Judge => AboutOne::Judge(cocklesway::judge(shape)?),
+        OfOne::Furthest(towards) => {
+            AboutOne::Furthest(towards, cocklesway::furthest(shape, towards)?)
+        }
+        OfOne::Length => AboutOne::Length(cocklesway::length(shape)?),
+        OfOne::Width => AboutOne::Width(cocklesway::width(shape)?),
+    })
+}
+
+fn about_two(pair: &Pair, asked: &OfTwo) -> Result<AboutTwo, Refusal> {
+    let (a, b) = pair.lent();
+    Ok(match asked {
+        OfTwo::Relation => AboutTwo::Relation(cocklesway::relation(a, b)?),
+        OfTwo::Inside => AboutTwo::Inside(cocklesway::inside(a, b)?),
+        OfTwo::Offer(towards) => AboutTwo::Offer(*towards, cocklesway::offer(a, b, *towards)?),
+        OfTwo::Find => AboutTwo::Find(cocklesway::find(a, b)?),
+        OfTwo::Clearance => AboutTwo::Clearance(cocklesway::clearance(a, b)?),
+        OfTwo::Tangents => AboutTwo::Tangents(cocklesway::tangents(a, b)?),
+        OfTwo::Parts(calls) => AboutTwo::Parts(parts(pair, calls)?),
+        OfTwo::Part(walk, call) => {
+            let mut out = output(Some(call.room));
+            let part = walk.part(a, b, call.corners, &mut out)?;
+            AboutTwo::Part(part.corners.to_vec(), part.walk)
+        }
+    })
+}
+
+/// Returns the shape that a question makes, without a name. `room` is the output's size in numbers; without it every
+/// answer has room.
+///
+/// # Errors
+/// The library's refusal.
+pub fn shape_of(making: &Making, room: Option<usize>) -> Result<Given, Refusal> {
+    let mut out = output(room);
+    let shape = match making {
+        Making::Mirror(shape) => cocklesway::mirror(shape.alone(), &mut out)?,
+        Making::Sweep(points) => cocklesway::sweep(points.alone(), &mut out)?,
+        Making::Read { log, name } => cocklesway::log_read(log, *name, &mut out)?,
+        Making::Merge(pair) => {
+            let (a, b) = pair.lent();
+            cocklesway::merge(a, b, &mut out)?
+        }
+        Making::Grow(pair) => {
+            let (a, b) = pair.lent();
+            cocklesway::grow(a, b, &mut out)?
+        }
+        // A shape plus a point is the shape moved by the vector to the point.
+        Making::Sum(pair) | Making::At(pair) => {
+            let (a, b) = pair.lent();
+            cocklesway::sum(a, b, &mut out)?
+        }
+    };
+    let own = matches!(making, Making::Read { .. }).then_some(shape.floor);
+    let floor = own.and_then(|floor| floor.try_into().ok());
+    Ok(Given {
+        name: None,
+        numbers: shape.corners.as_flattened().into(),
+        floor: floor.or(making.floor()),
+    })
+}
+
+/// Returns an output for `room` numbers; without it for every answer.
+fn output(room: Option<usize>) -> Vec<[i32; 2]> {
+    let most = cocklesway::limits().corners;
+    let corners = room.map_or(most, |numbers| (numbers / 2).min(most));
+    vec![[0; 2]; corners]
+}
+
+/// The calls one after the other, each with the walk that was handed back last.
+fn parts(pair: &Pair, calls: &[Call]) -> Result<Vec<Written>, Refusal> {
+    let (a, b) = pair.lent();
+    let mut walk = Walk::begin(a, b)?;
+    let written = calls.iter().map(|&call| {
+        let mut out = output(Some(call.room));
+        let part = walk.part(a, b, call.corners, &mut out);
+        walk = part.map_or(walk, |part| part.walk);
+        let corners = part.map(|part| part.corners.to_vec());
+        Written { call, corners }
+    });
+    Ok(written.collect())
+}
+
+fn added(record: &Record) -> Result<Answer, Refusal> {
+    let mut log = record.log.clone();
+    let allowed = record.stores.unwrap_or(usize::MAX);
+    let addition = Book::new(&mut log).add(record.name, record.shape.alone(), allowed)?;
+    Ok(Answer::Added(record.clone(), addition, log))
+}
+
+impl Answer {
+    /// Returns the word of its question.
+    #[must_use]
+    pub fn word(&self) -> &'static str {
+        match self {
+            Answer::One(_, about) => about.word(),
+            Answer::Two(_, about) => about.word(),
+            Answer::Made(making, _) => making.word(),
+            Answer::Corner(..) => "tablet",
+            Answer::Added(..) => "bookadd",
+        }
+    }
+
+    /// Returns the shapes that were asked about.
+    #[must_use]
+    pub fn shapes(&self) -> Vec<&Given> {
+        match self {
+            Answer::One(shape, _) => vec![shape],
+            Answer::Two(pair, _) => vec![&pair.a, &pair.b],
+            Answer::Made(making, _) => making.shapes(),
+            Answer::Added(record, ..) => vec![&record.shape],
+            Answer::Corner(..) => Vec::new(),
+        }
+    }
+}
+
+impl AboutOne {
+    fn word(&self) -> &'static str {
+        match self {
+            AboutOne::Judge(_) => "judge",
+            AboutOne::Furthest(..) => "furthest",
+            AboutOne::Length(_) => "length",
+            AboutOne::Width(_) => "width",
+        }
+    }
+}
+
+impl AboutTwo {
+    fn word(&self) -> &'static str {
+        match self {
+            AboutTwo::Relation(_) => "relation",
+            AboutTwo::Inside(_) => "inside",
+            AboutTwo::Offer(..) => "offer",
+            AboutTwo::Find(_) => "find",
+            AboutTwo::Clearance(_) => "clearance",
+            AboutTwo::Tangents(_) => "tangents",
+            AboutTwo::Parts(_) => "parts",
+            AboutTwo::Part(..) => "part",
+        }
+    }
+}

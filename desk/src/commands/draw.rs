@@ -1,0 +1,301 @@
+//! `cocklesway draw`: a floor as a picture.
+use super::ask::status_of;
+use crate::answer::Refused;
+use crate::command::{Command, Console, Status, Trouble};
+use crate::given::{Given, Pair};
+use crate::map::{Entry, Map};
+use crate::name::Name;
+use crate::options::{Arguments, Known, Misuse};
+use crate::picture::picture;
+use crate::picture::scene::{Wishes, floors, scene};
+use crate::refusal::reason;
+use crate::report::sentence;
+use crate::session::Session;
+use crate::source;
+use std::ffi::OsStr;
+use std::fs::{self, File};
+use std::io::{self, Write};
+
+/// How it is called, and what it does.
+pub const COMMAND: Command = Command {
+    name: "draw",
+    does: "draws all shapes of a floor as a picture (SVG), which every browser shows",
+    options: OPTIONS,
+    page: "\
+Drawn are the shapes of the floor, each with its name, on a grid with coordinates in metres. A gap that
+is narrower than 3 pixels is drawn once more, larger, below the map. What was grown, summed or mirrored
+is no thing on the floor and is drawn only if it is asked for. If any line of the map is refused or
+cannot be read, nothing is drawn.
+
+    cocklesway draw map.txt --floor 2 -o floor.svg
+    cocklesway draw map.txt --grow cart --at 3500,0 -o cart.svg
+",
+    run,
+};
+
+const FLOOR: &str = "--floor";
+const GROW: &str = "--grow";
+const AT: &str = "--at";
+const GAP: &str = "--gap";
+const TANGENTS: &str = "--tangents";
+const SUM: &str = "--sum";
+const ALSO: &str = "--also";
+const OUTPUT: &str = "-o";
+
+const fn option(name: &'static str, value: &'static str, does: &'static str, many: bool) -> Known {
+    Known {
+        name,
+        value: Some(value),
+        does,
+        many,
+    }
+}
+
+const OPTIONS: &[Known] = &[
+    option(
+        FLOOR,
+        "N",
+        "the floor; needed if the map has several",
+        false,
+    ),
+    option(
+        GROW,
+        "CART",
+        "each obstacle grown by this cart's outline: where its origin must not be",
+        false,
+    ),
+    option(AT, "X,Y", "the cart with its origin at this place", false),
+    option(
+        GAP,
+        "A,B",
+        "the line between the nearest points of two shapes",
+        true,
+    ),
+    option(
+        TANGENTS,
+        "A,B",
+        "the four lines that just touch two shapes",
+        true,
+    ),
+    option(SUM, "A,B", "the vector sum of two shapes", true),
+    option(
+        ALSO,
+        "NAME",
+        "a named answer that was grown, summed or mirrored",
+        true,
+    ),
+    option(
+        OUTPUT,
+        "FILE",
+        "where the picture goes; standard output without it",
+        false,
+    ),
+];
+
+fn run(arguments: &Arguments, console: &mut Console<'_>) -> Result<Status, Trouble> {
+    let (session, replaced) = read(arguments, console)?;
+    let map = session.map();
+    let wishes = Wishes {
+        notes: replaced,
+        ..wishes(arguments, map)?
+    };
+    let floor = floor(arguments, map)?;
+    are_here(&wishes, floor)?;
+    let drawn = scene(map, floor, &wishes).and_then(|scene| picture(&scene));
+    match drawn {
+        Ok(Some(svg)) => write(arguments, console, &svg).map(|()| Status::Fine),
+        Ok(None) => Err(Misuse::Other(format!("floor {floor} has no shapes to draw")).into()),
+        Err(refused) => {
+            console.complain(&refusal(&refused))?;
+            Ok(Status::Refused)
+        }
+    }
+}
+
+/// Reads the map, and says below the picture which shapes took the place of others. All lines that cannot be used are
+/// said, and then nothing is drawn.
+fn read(
+    arguments: &Arguments,
+    console: &mut Console<'_>,
+) -> Result<(Session, Vec<String>), Trouble> {
+    let mut session = Session::of_definitions();
+    let mut status = Status::Fine;
+    let mut replaced = Vec::new();
+    for source in console.sources(&arguments.files)? {
+        session.read(&source, |event| {
+            let said = format!("{}: {}", event.place, sentence(&event));
+            status = status.max(status_of(&event));
+            match status_of(&event) {
+                Status::Fine if event.replaces() => replaced.push(said),
+                Status::Fine => {}
+                _ => console.complain(&said)?,
+            }
+            Ok::<(), Trouble>(())
+        })?;
+    }
+    match status {
+        Status::Fine => Ok((session, replaced)),
+        status => {
+            console.complain("nothing is drawn, since the map is not whole")?;
+            Err(Trouble::Said(status))
+        }
+    }
+}
+
+fn refusal(refused: &Refused) -> String {
+    let (word, number) = (refused.question.word(), refused.refusal.number());
+    format!("draw: {word} is refused ({number}): {}", reason(refused))
+}
+
+/// The floor that is named, or the only one.
+fn floor(arguments: &Arguments, map: &Map) -> Result<u16, Misuse> {
+    if let Some(value) = arguments.value(FLOOR) {
+        let text = value.to_string_lossy();
+        let wanted = "a floor from 0 to 65535";
+        return text
+            .parse()
+            .map_err(|_| Misuse::BadValue(FLOOR, text.to_string(), wanted));
+    }
+    match floors(map).as_slice() {
+        [] => Err(Misuse::Other("the map has no shape on a floor".to_string())),
+        [floor] => Ok(*floor),
+        several => {
+            let several: Vec<String> = several.iter().map(u16::to_string).collect();
+            let several = several.join(", ");
+            Err(Misuse::Other(format!(
+                "the map has the floors {several}: choose one with {FLOOR}"
+            )))
+        }
+    }
+}
+
+fn wishes(arguments: &Arguments, map: &Map) -> Result<Wishes, Misuse> {
+    let cart = arguments
+        .value(GROW)
+        .map(|value| named(GROW, value, map))
+        .transpose()?;
+    let at = arguments.value(AT).map(place).transpose()?;
+    if at.is_some() && cart.is_none() {
+        return Err(Misuse::Other(format!(
+            "{AT} needs a cart: {GROW} CART {AT} X,Y"
+        )));
+    }
+    let pairs = |option| {
+        arguments
+            .values(option)
+            .map(move |value| pair(option, value, map))
+    };
+    let also = arguments.values(ALSO).map(|value| named(ALSO, value, map));
+    Ok(Wishes {
+        notes: Vec::new(),
+        also: also.collect::<Result<_, _>>()?,
+        cart,
+        at,
+        gaps: pairs(GAP).collect::<Result<_, _>>()?,
+        tangents: pairs(TANGENTS).collect::<Result<_, _>>()?,
+        sums: pairs(SUM).collect::<Result<_, _>>()?,
+    })
+}
+
+/// Whether all that is wished for is on the floor: a picture of one floor shows nothing of another. A gap and tangents
+/// are between things that have a place, so an outline has none of them.
+fn are_here(wishes: &Wishes, floor: u16) -> Result<(), Misuse> {
+    let of_pairs = |pairs: &[Pair]| -> Vec<Given> {
+        let both = |pair: &Pair| [pair.a.clone(), pair.b.clone()];
+        pairs.iter().flat_map(both).collect()
+    };
+    let placed = [of_pairs(&wishes.gaps), of_pairs(&wishes.tangents)].concat();
+    let any = [wishes.also.clone(), of_pairs(&wishes.sums)].concat();
+    if let Some(outline) = placed.iter().find(|shape| shape.floor.is_none()) {
+        let why = "is an outline, which is nowhere on the floor; `at` puts it at a place";
+        return Err(Misuse::Other(format!("{outline} {why}")));
+    }
+    let elsewhere = |shape: &&Given| shape.floor.is_some_and(|own| own != floor);
+    match placed.iter().chain(&any).find(elsewhere) {
+        Some(shape) => {
+            let own = shape.floor.unwrap_or_default();
+            Err(Misuse::Other(format!(
+                "{shape} is on floor {own}, and floor {floor} is drawn"
+            )))
+        }
+        None => Ok(()),
+    }
+}
+
+/// The shape of a name.
+fn named(option: &'static str, value: &OsStr, map: &Map) -> Result<Given, Misuse> {
+    let text = value.to_string_lossy();
+    let item = Name::read(&text).ok().and_then(|name| map.get(&name));
+    match item.map(|item| &item.entry) {
+        Some(Entry::Shape { shape, .. }) => Ok(shape.clone()),
+        _ => Err(Misuse::BadValue(
+            option,
+            text.to_string(),
+            "the name of a shape of the map",
+        )),
+    }
+}
+
+/// Two names with a comma between them.
+fn pair(option: &'static str, value: &OsStr, map: &Map) -> Result<Pair, Misuse> {
+    let text = value.to_string_lossy();
+    let wrong = || {
+        Misuse::BadValue(
+            option,
+            text.to_string(),
+            "two names with a comma between them",
+        )
+    };
+    let (a, b) = text.split_once(',').ok_or_else(wrong)?;
+    Ok(Pair {
+        a: named(option, OsStr::new(a), map)?,
+        b: named(option, OsStr::new(b), map)?,
+    })
+}
+
+/// Two numbers with a comma between them.
+fn place(value: &OsStr) -> Result<[i32; 2], Misuse> {
+    let text = value.to_string_lossy();
+    let wrong = || {
+        Misuse::BadValue(
+            AT,
+            text.to_string(),
+            "two whole numbers of millimetres with a comma between them",
+        )
+    };
+    let (x, y) = text.split_once(',').ok_or_else(wrong)?;
+    let number = |part: &str| part.trim().parse().map_err(|_| wrong());
+    Ok([number(x)?, number(y)?])
+}
+
+/// Writes the picture.
+fn write(arguments: &Arguments, console: &mut Console<'_>, svg: &str) -> Result<(), Trouble> {
+    let Some(path) = arguments.value(OUTPUT).filter(|path| *path != "-") else {
+        console.output.write_all(svg.as_bytes())?;
+        return Ok(());
+    };
+    if arguments.files.iter().any(|file| is_same(file, path)) {
+        let shown = source::shown(path);
+        return Err(Misuse::Other(format!(
+            "{shown} is the map; the picture would be written over it"
+        ))
+        .into());
+    }
+    to_file(path, svg).map_err(|error| Trouble::Unwritten(source::shown(path), error))
+}
+
+/// Whether two paths lead to one file.
+fn is_same(one: &OsStr, other: &OsStr) -> bool {
+    let whole = |path| fs::canonicalize(path).ok();
+    one != "-" && whole(one).is_some() && whole(one) == whole(other)
+}
+
+/// Writes a file to the disk. A device may not know how to be synchronised.
+fn to_file(path: &OsStr, text: &str) -> io::Result<()> {
+    let mut file = File::create(path)?;
+    file.write_all(text.as_bytes())?;
+    match file.sync_all() {
+        Err(error) if error.kind() != io::ErrorKind::InvalidInput => Err(error),
+        _ => Ok(()),
+    }
+}

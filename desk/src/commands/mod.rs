@@ -1,0 +1,4 @@
+//! The commands, one a module.
+pub mod ask;
+pub mod check;
+pub mod draw;

@@ -1,0 +1,71 @@
+//! Distances in words.
+use std::fmt;
+
+/// A distance in whole millimetres, and whether it is rounded down.
+#[derive(Clone, Copy, Debug, PartialEq, Eq)]
+pub struct Distance {
+    /// The millimetres.
+    pub millimetres: u64,
+    /// Whether the distance is exactly so long.
+    pub exact: bool,
+}
+
+impl Distance {
+    /// Returns the distance whose square is given.
+    ///
+    /// ```
+    /// use desk::distance::Distance;
+    ///
+    /// assert_eq!(Distance::of_square(25).to_string(), "5 mm");
+    /// assert_eq!(Distance::of_square(26).to_string(), "5 mm (rounded down)");
+    /// ```
+    #[must_use]
+    pub fn of_square(squared: u64) -> Distance {
+        let millimetres = squared.isqrt();
+        Distance {
+            millimetres,
+            exact: u128::from(millimetres).pow(2) == squared.into(),
+        }
+    }
+
+    /// Returns the distance t/√q, which is so long rounded down.
+    ///
+    /// ```
+    /// use desk::distance::Distance;
+    ///
+    /// assert_eq!(Distance::of_turn(12, 25, 2).to_string(), "2 mm (rounded down)");
+    /// assert_eq!(Distance::of_turn(16_000, 25, 3200).to_string(), "3.2 m");
+    /// ```
+    #[must_use]
+    pub fn of_turn(turn: u64, squared: u64, rounded: u64) -> Distance {
+        // t·t is below 2^87, and w·w·q is at most t·t.
+        let wide = |number: u64| u128::from(number);
+        Distance {
+            millimetres: rounded,
+            exact: wide(turn).pow(2) == wide(rounded).pow(2) * wide(squared),
+        }
+    }
+}
+
+/// Millimetres below a metre, metres from there on, always exactly.
+impl fmt::Display for Distance {
+    fn fmt(&self, f: &mut fmt::Formatter<'_>) -> fmt::Result {
+        match self.millimetres {
+            below @ 0..1000 => write!(f, "{below} mm")?,
+            from => write!(f, "{} m", metres(from))?,
+        }
+        if self.exact {
+            return Ok(());
+        }
+        f.write_str(" (rounded down)")
+    }
+}
+
+/// Metres with the decimals that they need.
+fn metres(millimetres: u64) -> String {
+    let decimals = format!("{}.{:03}", millimetres / 1000, millimetres % 1000);
+    decimals
+        .trim_end_matches('0')
+        .trim_end_matches('.')
+        .to_string()
+}

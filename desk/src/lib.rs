@@ -1,0 +1,50 @@
+//! The map desk: shapes of a floor by their names, questions about them, and pictures. Every answer comes from the
+//! proved library, the package `cocklesway`. What is here reads lines, keeps names, and puts answers into words.
+//!
+//! | module | subject |
+//! |---|---|
+//! | [`source`], [`lines`], [`fields`], [`words`] | files read, taken apart into lines, fields and words, and values |
+//! | [`fault`], [`place`], [`escape`] | why a line cannot be read, and where it is |
+//! | [`name`], [`given`], [`map`] | names, shapes as they are given, and the shapes of the names |
+//! | [`table`], [`question`], [`answer`] | the questions; the library asked |
+//! | [`session`] | lines in their order: definitions, questions, and what came of each |
+//! | [`sentence`], [`refusal`], [`distance`], [`report`] | answers and refusals in words |
+//! | [`json`], [`object`] | answers as JSON |
+//! | [`picture`] | pictures |
+//! | [`options`], [`command`], [`commands`], [`help`] | the program |
+#![forbid(unsafe_code)]
+#![deny(missing_docs)]
+#![warn(
+    clippy::expect_used,
+    clippy::indexing_slicing,
+    clippy::panic,
+    clippy::pedantic,
+    clippy::unwrap_used
+)]
+#![allow(clippy::format_push_string)]
+
+pub mod answer;
+pub mod command;
+pub mod commands;
+pub mod distance;
+pub mod escape;
+pub mod fault;
+pub mod fields;
+pub mod given;
+pub mod help;
+pub mod json;
+pub mod lines;
+pub mod map;
+pub mod name;
+pub mod object;
+pub mod options;
+pub mod picture;
+pub mod place;
+pub mod question;
+pub mod refusal;
+pub mod report;
+pub mod sentence;
+pub mod session;
+pub mod source;
+pub mod table;
+pub mod words;

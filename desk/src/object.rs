@@ -1,0 +1,261 @@
+//! What came of a line, as one JSON object.
+use crate::answer::{AboutOne, AboutTwo, Answer, Written};
+use crate::given::{Given, Pair};
+use crate::json::Json;
+use crate::name::Name;
+use crate::place::Place;
+use crate::refusal::{hexadecimal, reason};
+use crate::report;
+use crate::session::{Event, Outcome};
+use cocklesway::{
+    Across, Addition, Axis, Clearance, Line, Nearest, Refusal, Relation, Tangents, Which, Width,
+};
+
+type Members = Vec<(&'static str, Json)>;
+
+/// Returns the object of an event.
+#[must_use]
+pub fn object(event: &Event) -> Json {
+    let mut members = place_of(&event.place);
+    members.extend(
+        event
+            .name
+            .as_ref()
+            .map(|name| ("name", name.as_str().into())),
+    );
+    members.extend(outcome(&event.outcome));
+    members.push(("sentence", report::sentence(event).into()));
+    Json::Object(members)
+}
+
+/// The members of what came of a line.
+fn outcome(outcome: &Outcome) -> Members {
+    let list = |shapes: Vec<&Given>| Json::List(shapes.into_iter().map(shape_of).collect());
+    let replaced = |earlier: &Option<Place>| earlier.as_ref().map(|at| ("replaces", place(at)));
+    match outcome {
+        Outcome::Unreadable(_) => vec![("unreadable", true.into())],
+        Outcome::Unasked(question) => {
+            vec![
+                ("question", question.word().into()),
+                ("asked", false.into()),
+            ]
+        }
+        Outcome::Defined { shape, earlier } => {
+            let shape = ("shape", shape_of(shape));
+            [shape].into_iter().chain(replaced(earlier)).collect()
+        }
+        Outcome::Answered { answer, earlier } => {
+            let question = ("question", answer.word().into());
+            let asked = [question, ("shapes", list(answer.shapes()))];
+            let answer = answered(answer).into_iter();
+            asked
+                .into_iter()
+                .chain(answer)
+                .chain(replaced(earlier))
+                .collect()
+        }
+        Outcome::Listed(shapes) => {
+            vec![
+                ("question", "shapes".into()),
+                ("names", list(shapes.iter().collect())),
+            ]
+        }
+        Outcome::Refused(refused) => vec![
+            ("question", refused.question.word().into()),
+            ("shapes", list(refused.question.shapes())),
+            ("refused", refusal(refused.refusal, reason(refused))),
+        ],
+        Outcome::Removed { name, at } => vec![("not_asked", removed(name, at))],
+    }
+}
+
+/// A name whose definition was refused, and where.
+fn removed(name: &Name, at: &Place) -> Json {
+    Json::Object(vec![("name", name.as_str().into()), ("at", place(at))])
+}
+
+fn place_of(place: &Place) -> Members {
+    vec![("file", (&*place.file).into()), ("line", place.line.into())]
+}
+
+fn place(place: &Place) -> Json {
+    Json::Object(place_of(place))
+}
+
+/// A shape with its name, its floor and its corners; a list that has an odd count of numbers has these instead.
+fn shape_of(shape: &Given) -> Json {
+    let name = shape.name.as_ref().map(Name::as_str);
+    let floor = shape.floor.map(i64::from);
+    let list = if shape.numbers.len().is_multiple_of(2) {
+        ("corners", shape.corners().into())
+    } else {
+        let numbers = shape
+            .numbers
+            .iter()
+            .map(|&number| Json::Number(number.into()));
+        ("numbers", Json::List(numbers.collect()))
+    };
+    Json::Object(vec![("name", name.into()), ("floor", floor.into()), list])
+}
+
+fn refusal(refusal: Refusal, reason: String) -> Json {
+    let mut members: Members = vec![("number", refusal.number().into())];
+    let shape = refusal
+        .shape()
+        .map(|which| usize::from(which == Which::Second));
+    members.extend(shape.map(|shape| ("shape", shape.into())));
+    match refusal {
+        Refusal::Side { edge, corner, .. } => {
+            members.extend([("edge", edge.into()), ("corner", corner.into())]);
+        }
+        Refusal::Damaged { place } => members.push(("place", place.into())),
+        Refusal::NotFinite { axis } | Refusal::NotWhole { axis } | Refusal::FarReading { axis } => {
+            members.push(("axis", if axis == Axis::X { "x" } else { "y" }.into()));
+        }
+        _ => {}
+    }
+    members.push(("reason", reason.into()));
+    Json::Object(members)
+}
+
+/// The members of an answer.
+fn answered(answer: &Answer) -> Members {
+    match answer {
+        Answer::One(shape, about) => about_one(shape, about),
+        Answer::Two(pair, about) => about_two(pair, about),
+        Answer::Made(_, shape) => vec![("made", shape_of(shape))],
+        Answer::Corner(_, corner) => vec![("corner", (*corner).into())],
+        Answer::Added(_, addition, log) => vec![
+            ("finished", (*addition == Addition::Finished).into()),
+            ("log", hexadecimal(log).into()),
+        ],
+    }
+}
+
+fn about_one(shape: &Given, about: &AboutOne) -> Members {
+    match about {
+        AboutOne::Judge(found) => vec![("count", found.count.into())],
+        AboutOne::Furthest(towards, found) => vec![
+            ("direction", (*towards).into()),
+            ("first", shape.corner(found.first).0.into()),
+            ("last", shape.corner(found.last).0.into()),
+            ("value", found.value.into()),
+        ],
+        AboutOne::Length(found) => vec![
+            ("squared", found.squared.into()),
+            ("from", shape.corner(found.from).0.into()),
+            ("to", shape.corner(found.to).0.into()),
+        ],
+        AboutOne::Width(found) => width(shape, *found),
+    }
+}
+
+fn width(shape: &Given, found: Width) -> Members {
+    vec![
+        ("corner", shape.corner(found.corner).0.into()),
+        ("edge", edge(shape, found.edge)),
+        ("turn", found.turn.into()),
+        ("squared", found.squared.into()),
+        ("rounded", found.rounded.into()),
+    ]
+}
+
+fn about_two(pair: &Pair, about: &AboutTwo) -> Members {
+    match about {
+        AboutTwo::Relation(found) => vec![("relation", relation(found.relation).into())],
+        AboutTwo::Inside(found) => vec![("inside", found.within.into())],
+        AboutTwo::Offer(towards, found) => {
+            vec![
+                ("direction", (*towards).into()),
+                ("accepted", found.accepted.into()),
+            ]
+        }
+        AboutTwo::Find(found) => vec![("direction", found.direction.into())],
+        AboutTwo::Clearance(found) => clearance(pair, *found),
+        AboutTwo::Tangents(found) => tangents(pair, *found),
+        AboutTwo::Parts(written) => vec![("calls", Json::List(written.iter().map(call).collect()))],
+        AboutTwo::Part(corners, walk) => {
+            let counts = [walk.first(), walk.second(), usize::from(walk.is_over())];
+            vec![
+                ("corners", corners.as_slice().into()),
+                ("walk", Json::List(counts.map(Json::from).to_vec())),
+            ]
+        }
+    }
+}
+
+fn relation(found: Relation) -> &'static str {
+    match found {
+        Relation::Apart => "apart",
+        Relation::Touching => "touching",
+        Relation::Overlapping => "overlapping",
+    }
+}
+
+fn clearance(Pair { a, b }: &Pair, found: Clearance) -> Members {
+    let mut members = vec![
+        ("apart", found.nearest.is_some().into()),
+        ("rounded", found.rounded().into()),
+    ];
+    match found.nearest {
+        None => {}
+        Some(Nearest::Corners {
+            first,
+            second,
+            squared,
+            ..
+        }) => members.extend([
+            ("first", a.corner(first).0.into()),
+            ("second", b.corner(second).0.into()),
+            ("squared", squared.into()),
+        ]),
+        Some(Nearest::CornerEdge(found)) => {
+            members.extend(across(["first", "second"], a, b, found));
+        }
+        Some(Nearest::EdgeCorner(found)) => {
+            members.extend(across(["second", "first"], b, a, found));
+        }
+    }
+    members
+}
+
+/// A corner of the one shape and an edge of the other.
+fn across(
+    [of_corner, of_edge]: [&'static str; 2],
+    one: &Given,
+    other: &Given,
+    found: Across,
+) -> Members {
+    vec![
+        (of_corner, one.corner(found.corner).0.into()),
+        (of_edge, edge(other, found.edge)),
+        ("turn", found.turn.into()),
+        ("squared", found.squared.into()),
+    ]
+}
+
+fn edge(shape: &Given, position: usize) -> Json {
+    let ends = shape.edge(position);
+    Json::List(vec![ends.0.0.into(), ends.1.0.into()])
+}
+
+fn tangents(Pair { a, b }: &Pair, found: Tangents) -> Members {
+    let line =
+        |Line { from, to, .. }| Json::List(vec![a.corner(from).0.into(), b.corner(to).0.into()]);
+    vec![
+        ("left", line(found.left)),
+        ("right", line(found.right)),
+        ("crossing", line(found.crossing)),
+        ("reverse", line(found.reverse)),
+    ]
+}
+
+fn call(written: &Written) -> Json {
+    match &written.corners {
+        Ok(corners) => Json::Object(vec![("corners", corners.as_slice().into())]),
+        Err(refused) => {
+            let reason = crate::refusal::of_call(*refused, written.call);
+            Json::Object(vec![("refused", refusal(*refused, reason))])
+        }
+    }
+}

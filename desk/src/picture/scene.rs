@@ -1,0 +1,331 @@
+//! What a picture shows: figures, lines between them, and what is said below.
+use super::frame::Rect;
+use crate::answer::{Refused, clearance, made, relation, tangents};
+use crate::distance::Distance;
+use crate::given::{Given, Pair};
+use crate::map::{Map, Origin};
+use crate::question::Making;
+use crate::sentence;
+use cocklesway::{Clearance, Nearest, Relation, Tangents};
+
+/// What a figure is.
+#[derive(Clone, Copy, Debug, PartialEq, Eq)]
+pub enum Role {
+    /// A shape of the map.
+    Shape,
+    /// A named answer that was asked for.
+    Answer,
+    /// The cart at its place.
+    Cart,
+    /// The places at which the cart meets an obstacle.
+    Zone,
+    /// A vector sum.
+    Sum,
+}
+
+/// A shape that is drawn.
+#[derive(Clone, Debug, PartialEq, Eq)]
+pub struct Figure {
+    /// What it is.
+    pub role: Role,
+    /// What is written beside it.
+    pub label: String,
+    /// The shape, as the library accepted or answered it.
+    pub shape: Given,
+}
+
+/// What a line is.
+#[derive(Clone, Copy, Debug, PartialEq, Eq)]
+pub enum LineKind {
+    /// Between the nearest points of two shapes.
+    Gap,
+    /// One that just touches both.
+    Tangent,
+}
+
+/// A line that is drawn, in millimetres.
+#[derive(Clone, Copy, Debug, PartialEq)]
+pub struct Stroke {
+    /// What it is.
+    pub kind: LineKind,
+    /// From where to where.
+    pub ends: [[f64; 2]; 2],
+}
+
+/// A picture before it is laid out.
+#[derive(Clone, Debug, Default, PartialEq)]
+pub struct Scene {
+    /// The floor.
+    pub floor: u16,
+    /// The figures, the lower ones first.
+    pub figures: Vec<Figure>,
+    /// The lines.
+    pub strokes: Vec<Stroke>,
+    /// Where the cart's origin is.
+    pub place: Option<[i32; 2]>,
+    /// Sentences below the picture.
+    pub notes: Vec<String>,
+}
+
+/// What is wished for besides the shapes of the floor.
+#[derive(Clone, Debug, Default, PartialEq, Eq)]
+pub struct Wishes {
+    /// Sentences to be written below the picture.
+    pub notes: Vec<String>,
+    /// Named answers to be drawn.
+    pub also: Vec<Given>,
+    /// The cart whose obstacles are grown.
+    pub cart: Option<Given>,
+    /// Where its origin is.
+    pub at: Option<[i32; 2]>,
+    /// Pairs whose gap is drawn.
+    pub gaps: Vec<Pair>,
+    /// Pairs whose tangents are drawn.
+    pub tangents: Vec<Pair>,
+    /// Pairs whose sum is drawn.
+    pub sums: Vec<Pair>,
+}
+
+/// Whether a shape is a thing on the floor. What is grown, summed or mirrored is none: it is drawn if it is asked for.
+fn is_thing(origin: &Origin) -> bool {
+    match origin {
+        Origin::Written => true,
+        Origin::Made(making) => {
+            !matches!(making, Making::Grow(_) | Making::Sum(_) | Making::Mirror(_))
+        }
+    }
+}
+
+/// Whether a shape is the cart, or the cart at a place.
+fn is_cart(shape: &Given, origin: &Origin, cart: &Given) -> bool {
+    let moved = match origin {
+        Origin::Made(Making::At(pair)) => pair.a.name.as_ref(),
+        _ => None,
+    };
+    cart.name.is_some() && (shape.name == cart.name || moved == cart.name.as_ref())
+}
+
+impl Figure {
+    /// Returns the least rectangle around it; nothing if it has no corner.
+    #[must_use]
+    pub fn around(&self) -> Option<Rect> {
+        Rect::around(self.shape.corners().iter().map(|&corner| float(corner)))
+    }
+
+    /// Returns the mean of its corners, which is inside of a convex shape; nothing if it has no corner.
+    #[must_use]
+    pub fn mean(&self) -> Option<[f64; 2]> {
+        let corners = self.shape.corners();
+        let count = u32::try_from(corners.len())
+            .ok()
+            .filter(|&count| count > 0)?;
+        let mean = |part: fn(&[i32; 2]) -> i32| {
+            let parts = corners.iter().map(|corner| f64::from(part(corner)));
+            parts.sum::<f64>() / f64::from(count)
+        };
+        Some([mean(|[x, _]| *x), mean(|[_, y]| *y)])
+    }
+}
+
+impl Stroke {
+    /// Returns how long it is, in millimetres.
+    #[must_use]
+    pub fn length(&self) -> f64 {
+        let [[ax, ay], [bx, by]] = self.ends;
+        (bx - ax).hypot(by - ay)
+    }
+
+    /// Returns its middle.
+    #[must_use]
+    pub fn middle(&self) -> [f64; 2] {
+        let [[ax, ay], [bx, by]] = self.ends;
+        [f64::midpoint(ax, bx), f64::midpoint(ay, by)]
+    }
+}
+
+/// Returns the floors of a map's shapes, in order.
+#[must_use]
+pub fn floors(map: &Map) -> Vec<u16> {
+    let things = map.shapes().filter(|(_, origin)| is_thing(origin));
+    let mut floors: Vec<u16> = things.filter_map(|(shape, _)| shape.floor).collect();
+    floors.sort_unstable();
+    floors.dedup();
+    floors
+}
+
+/// Returns all that a picture of a floor shows.
+///
+/// # Errors
+/// A wish that the library refuses.
+pub fn scene(map: &Map, floor: u16, wishes: &Wishes) -> Result<Scene, Refused> {
+    let here = |shape: &Given| shape.floor == Some(floor);
+    let things: Vec<(&Given, &Origin)> = map
+        .shapes()
+        .filter(|(shape, origin)| here(shape) && is_thing(origin))
+        .collect();
+    let mut scene = Scene {
+        floor,
+        notes: wishes.notes.clone(),
+        ..Scene::default()
+    };
+    if let Some(cart) = &wishes.cart {
+        let obstacles = things
+            .iter()
+            .filter(|(shape, origin)| !is_cart(shape, origin, cart));
+        let obstacles: Vec<&Given> = obstacles.map(|(shape, _)| *shape).collect();
+        scene.add_zones(&obstacles, cart)?;
+        scene.add_things(&things, Some(cart));
+        scene.add_cart(&obstacles, cart, wishes.at)?;
+    } else {
+        scene.add_things(&things, None);
+    }
+    scene.add_wishes(wishes)?;
+    Ok(scene)
+}
+
+impl Scene {
+    /// Returns whether a figure of this role is shown.
+    #[must_use]
+    pub fn has(&self, role: Role) -> bool {
+        self.figures.iter().any(|figure| figure.role == role)
+    }
+
+    fn add(&mut self, role: Role, label: String, shape: Given) {
+        self.figures.push(Figure { role, label, shape });
+    }
+
+    /// Adds the shapes of the floor, without a cart that is itself one.
+    fn add_things(&mut self, things: &[(&Given, &Origin)], cart: Option<&Given>) {
+        let is_itself = |shape: &Given| cart.is_some_and(|cart| shape.name == cart.name);
+        for (shape, _) in things.iter().filter(|(shape, _)| !is_itself(shape)) {
+            self.add(Role::Shape, shape.to_string(), (*shape).clone());
+        }
+    }
+
+    /// Adds each obstacle, grown by the cart's outline.
+    fn add_zones(&mut self, obstacles: &[&Given], cart: &Given) -> Result<(), Refused> {
+        for &obstacle in obstacles {
+            let pair = Pair {
+                a: obstacle.clone(),
+                b: cart.clone(),
+            };
+            let grown = made(Making::Grow(pair))?;
+            self.add(Role::Zone, format!("{obstacle} grown by {cart}"), grown);
+        }
+        Ok(())
+    }
+
+    /// Adds the cart at its place, and what it meets there.
+    fn add_cart(
+        &mut self,
+        obstacles: &[&Given],
+        cart: &Given,
+        at: Option<[i32; 2]>,
+    ) -> Result<(), Refused> {
+        let Some([x, y]) = at else {
+            return Ok(());
+        };
+        let place = Given {
+            name: None,
+            numbers: [x, y].into(),
+            floor: Some(self.floor),
+        };
+        let pair = Pair {
+            a: cart.clone(),
+            b: place,
+        };
+        let label = format!("{cart} at ({x}, {y})");
+        let there = made(Making::At(pair))?;
+        self.notes.push(met(&label, &there, obstacles)?);
+        self.add(Role::Cart, label, there);
+        self.place = at;
+        Ok(())
+    }
+
+    fn add_wishes(&mut self, wishes: &Wishes) -> Result<(), Refused> {
+        for shape in &wishes.also {
+            self.add(Role::Answer, shape.to_string(), shape.clone());
+        }
+        for pair in &wishes.sums {
+            let label = format!("sum of {} and {}", pair.a, pair.b);
+            self.add(Role::Sum, label, made(Making::Sum(pair.clone()))?);
+        }
+        for pair in &wishes.gaps {
+            let found = clearance(pair)?;
+            self.notes.push(sentence::clearance(pair, found));
+            self.strokes.extend(gap_of(pair, found));
+        }
+        for pair in &wishes.tangents {
+            let found = tangents(pair)?;
+            self.strokes.extend(tangents_of(pair, found));
+        }
+        Ok(())
+    }
+}
+
+/// What the cart meets at its place: all that it touches or overlaps, or else what it is nearest to, by whole
+/// millimetres.
+fn met(label: &str, there: &Given, obstacles: &[&Given]) -> Result<String, Refused> {
+    let mut met = Vec::new();
+    let mut near: Vec<(Distance, String)> = Vec::new();
+    for &obstacle in obstacles {
+        let pair = Pair {
+            a: there.clone(),
+            b: obstacle.clone(),
+        };
+        match relation(&pair)? {
+            Relation::Apart => {
+                let gap = sentence::nearest(&pair, clearance(&pair)?);
+                near.extend(
+                    gap.map(|(distance, _)| (distance, format!("{obstacle} ({distance})"))),
+                );
+            }
+            Relation::Touching => met.push(format!("touches {obstacle}")),
+            Relation::Overlapping => met.push(format!("overlaps {obstacle}")),
+        }
+    }
+    let least = near.iter().map(|(distance, _)| distance.millimetres).min();
+    near.retain(|(distance, _)| Some(distance.millimetres) == least);
+    let nearest: Vec<String> = near.into_iter().map(|(_, text)| text).collect();
+    Ok(match (met.as_slice(), nearest.as_slice()) {
+        ([], []) => format!("{label} is free"),
+        ([], nearest) => format!("{label} is free; the nearest is {}", nearest.join(", ")),
+        (met, _) => format!("{label} {}", met.join(", ")),
+    })
+}
+
+/// Returns the line between the nearest points of two shapes; nothing if they are not apart.
+#[must_use]
+pub fn gap_of(Pair { a, b }: &Pair, found: Clearance) -> Option<Stroke> {
+    let ends = match found.nearest? {
+        Nearest::Corners { first, second, .. } => {
+            [float(a.corner(first).0), float(b.corner(second).0)]
+        }
+        Nearest::CornerEdge(across) => foot(a.corner(across.corner).0, b, across.edge),
+        Nearest::EdgeCorner(across) => foot(b.corner(across.corner).0, a, across.edge),
+    };
+    let kind = LineKind::Gap;
+    Some(Stroke { kind, ends })
+}
+
+/// A corner, and the nearest point of an edge. The point is only drawn: nothing is decided by it.
+fn foot(corner: [i32; 2], shape: &Given, edge: usize) -> [[f64; 2]; 2] {
+    let edge = shape.edge(edge);
+    let ([cx, cy], [ax, ay], [bx, by]) = (float(corner), float(edge.0.0), float(edge.1.0));
+    let (dx, dy) = (bx - ax, by - ay);
+    let part = ((cx - ax) * dx + (cy - ay) * dy) / (dx * dx + dy * dy);
+    [[cx, cy], [ax + part * dx, ay + part * dy]]
+}
+
+/// The four lines that just touch both shapes.
+fn tangents_of(Pair { a, b }: &Pair, found: Tangents) -> [Stroke; 4] {
+    let lines = [found.left, found.right, found.crossing, found.reverse];
+    lines.map(|line| Stroke {
+        kind: LineKind::Tangent,
+        ends: [float(a.corner(line.from).0), float(b.corner(line.to).0)],
+    })
+}
+
+fn float(corner: [i32; 2]) -> [f64; 2] {
+    corner.map(f64::from)
+}

@@ -1,0 +1,316 @@
+//! Refusals in plain words: which shape, which corner, and what to do about it.
+use crate::answer::{Refused, shape_of};
+use crate::given::{Corner, Given};
+use crate::question::{Call, Making, OfOne, OfTwo, Question, Record};
+use cocklesway::{Axis, Reading, Refusal, Which, judge, limits};
+use std::fmt::Write;
+
+/// Returns why a question was refused.
+#[must_use]
+pub fn reason(refused: &Refused) -> String {
+    let Refused { question, refusal } = refused;
+    match *refusal {
+        Refusal::Count { .. }
+        | Refusal::Corners { .. }
+        | Refusal::Range { .. }
+        | Refusal::Side { .. }
+        | Refusal::Start { .. } => of_list(question, *refusal),
+        Refusal::LargeAnswer | Refusal::FarAnswer | Refusal::Room => of_answer(question, *refusal),
+        Refusal::Direction | Refusal::NotPrimitive => of_direction(question, *refusal),
+        Refusal::NotFinite { axis } | Refusal::NotWhole { axis } | Refusal::FarReading { axis } => {
+            of_reading(question, *refusal, axis)
+        }
+        other => of_question(question, other),
+    }
+}
+
+/// Returns why a call of a sum in parts was refused.
+#[must_use]
+pub fn of_call(refusal: Refusal, call: Call) -> String {
+    match refusal {
+        Refusal::Room => format!(
+            "its corners need more than the {} numbers of its room",
+            call.room
+        ),
+        other => other.to_string(),
+    }
+}
+
+/// Returns bytes as pairs of hexadecimal digits.
+#[must_use]
+pub fn hexadecimal(bytes: &[u8]) -> String {
+    let mut text = String::with_capacity(2 * bytes.len());
+    for byte in bytes {
+        // Writing to a string cannot fail.
+        let _ = write!(text, "{byte:02X}");
+    }
+    text
+}
+
+/// The refusals that blame a list.
+fn of_list(question: &Question, refusal: Refusal) -> String {
+    let shapes = question.shapes();
+    let blamed = match refusal.shape() {
+        Some(Which::Second) => shapes.get(1),
+        _ => shapes.first(),
+    };
+    let Some(&shape) = blamed else {
+        return refusal.to_string();
+    };
+    let noun = match question {
+        Question::Make(Making::Sweep(_), _) => "point",
+        _ => "corner",
+    };
+    match refusal {
+        Refusal::Count { .. } => count(shape, noun),
+        Refusal::Corners { .. } => many(shape, noun),
+        Refusal::Range { .. } => far(shape, noun),
+        Refusal::Side { edge, corner, .. } => side(shape, edge, corner),
+        _ => start(shape),
+    }
+}
+
+fn count(shape: &Given, noun: &str) -> String {
+    match shape.numbers.len() {
+        0 => format!("{shape} has no {noun}; at least one is needed"),
+        1 => format!("{shape} has 1 number; each {noun} needs two, x and y"),
+        odd => format!("{shape} has {odd} numbers; each {noun} needs two, x and y"),
+    }
+}
+
+fn many(shape: &Given, noun: &str) -> String {
+    let (count, most) = (shape.corners().len(), limits().corners);
+    format!("{shape} has {count} {noun}s; at most {most} are allowed")
+}
+
+fn far(shape: &Given, noun: &str) -> String {
+    let most = limits().coordinate;
+    let is_far = |c: &&[i32; 2]| c.iter().any(|part| part.unsigned_abs() > most);
+    let corner = Corner(
+        shape
+            .corners()
+            .iter()
+            .find(is_far)
+            .copied()
+            .unwrap_or_default(),
+    );
+    format!(
+        "the {noun} {corner} of {shape} is out of range: coordinates go from -{most} to {most} mm"
+    )
+}
+
+fn side(shape: &Given, edge: usize, corner: usize) -> String {
+    let (at, ends) = (shape.corner(corner), shape.edge(edge));
+    if shape.corners().len() == 2 {
+        return format!("both ends of {shape} are {at}; a point is written once");
+    }
+    let where_it_is = if is_right(ends.0, ends.1, at) {
+        "to the right"
+    } else {
+        "on the line"
+    };
+    let hint = hint(shape.corners());
+    format!(
+        "the corner {at} of {shape} is {where_it_is} of the edge {ends}; all others must be to its left{hint}"
+    )
+}
+
+/// Whether a corner is strictly to the right of an edge. Coordinates are in range, so the products are in 64 bits.
+fn is_right(Corner(a): Corner, Corner(b): Corner, Corner(c): Corner) -> bool {
+    let [[ax, ay], [bx, by], [cx, cy]] = [a, b, c].map(|corner| corner.map(i64::from));
+    (bx - ax) * (cy - ay) < (by - ay) * (cx - ax)
+}
+
+/// What may have been meant. Whether the other list is a shape is asked of the library.
+fn hint(corners: &[[i32; 2]]) -> &'static str {
+    if let [first, .., last] = corners
+        && first == last
+    {
+        return "; the last corner repeats the first, leave it out";
+    }
+    let mut reversed: Vec<[i32; 2]> = corners.iter().rev().copied().collect();
+    rotate_to_lowest(&mut reversed);
+    if judge(cocklesway::Shape::new(&reversed, 0)).is_ok() {
+        return "; the corners are in clockwise order, write them counterclockwise";
+    }
+    ""
+}
+
+fn rotate_to_lowest(corners: &mut [[i32; 2]]) {
+    let lowest = (0..).zip(corners.iter()).min_by_key(|&(_, [x, y])| (y, x));
+    let at = lowest.map_or(0, |(at, _)| at);
+    corners.rotate_left(at);
+}
+
+fn start(shape: &Given) -> String {
+    let lowest = shape.corners().iter().min_by_key(|[x, y]| (*y, *x));
+    let lowest = Corner(lowest.copied().unwrap_or_default());
+    let first = shape.corner(0);
+    format!(
+        "{shape} begins at {first}; it must begin at {lowest}, its lowest corner, the leftmost of several"
+    )
+}
+
+/// The refusals of the answer's size.
+fn of_answer(question: &Question, refusal: Refusal) -> String {
+    match refusal {
+        Refusal::LargeAnswer => format!(
+            "the answer would have more than {} corners",
+            limits().corners
+        ),
+        Refusal::FarAnswer => far_answer(question),
+        _ => room(question),
+    }
+}
+
+/// How far the answer would reach.
+fn far_answer(question: &Question) -> String {
+    let most = limits().coordinate;
+    let reached = match reach(question) {
+        Some((axis, value)) => format!("the answer would reach {axis} = {value}"),
+        None => "a corner of the answer would be out of range".to_string(),
+    };
+    format!("{reached}; coordinates go from -{most} to {most} mm")
+}
+
+/// The axis and the coordinate of the answer that is out of range, the first of least x, greatest x, least y and
+/// greatest y.
+fn reach(question: &Question) -> Option<(Axis, i64)> {
+    let (pair, sign) = match question {
+        Question::Make(Making::Sum(pair) | Making::At(pair), _)
+        | Question::Two(pair, OfTwo::Parts(_) | OfTwo::Part(..)) => (pair, 1),
+        Question::Make(Making::Grow(pair), _) => (pair, -1),
+        _ => return None,
+    };
+    let ends = [(Axis::X, -1), (Axis::X, 1), (Axis::Y, -1), (Axis::Y, 1)];
+    let reached = ends.map(|(axis, way)| {
+        (
+            axis,
+            way * (end(&pair.a, axis, way) + end(&pair.b, axis, way * sign)),
+        )
+    });
+    let most = i64::from(limits().coordinate);
+    reached.into_iter().find(|(_, value)| value.abs() > most)
+}
+
+/// The greatest coordinate of a shape, or for -1 that of its mirror image.
+fn end(shape: &Given, axis: Axis, sign: i64) -> i64 {
+    let part = |[x, y]: &[i32; 2]| match axis {
+        Axis::X => sign * i64::from(*x),
+        Axis::Y => sign * i64::from(*y),
+    };
+    shape.corners().iter().map(part).max().unwrap_or(0)
+}
+
+/// How much room the answer would need.
+fn room(question: &Question) -> String {
+    match question {
+        Question::Make(making, Some(room)) => {
+            let need = shape_of(making, None).map_or(0, |shape| shape.numbers.len());
+            format!("the answer has {need} numbers, and there is room for {room}")
+        }
+        Question::Two(_, OfTwo::Part(_, call)) => of_call(Refusal::Room, *call),
+        _ => Refusal::Room.to_string(),
+    }
+}
+
+fn of_direction(question: &Question, refusal: Refusal) -> String {
+    let (Question::One(_, OfOne::Furthest([u, v])) | Question::Two(_, OfTwo::Offer([u, v]))) =
+        question
+    else {
+        return refusal.to_string();
+    };
+    let most = limits().part;
+    match (refusal, divisor(u.unsigned_abs(), v.unsigned_abs())) {
+        (Refusal::Direction, 0) => "(0, 0) is no direction".to_string(),
+        (Refusal::Direction, _) => {
+            format!("the direction ({u}, {v}) is out of range: its parts go from -{most} to {most}")
+        }
+        (_, common) => {
+            let least = Corner([u, v].map(|part| reduced(*part, common)));
+            format!("the direction ({u}, {v}) is not in lowest terms: write {least}")
+        }
+    }
+}
+
+/// The greatest common divisor, by Euclid's remainders.
+fn divisor(a: u32, b: u32) -> u32 {
+    if b == 0 { a } else { divisor(b, a % b) }
+}
+
+/// A part of a direction divided by what both parts have in common.
+fn reduced(part: i32, common: u32) -> i32 {
+    let common = i64::from(common.max(1));
+    (i64::from(part) / common).try_into().unwrap_or(part)
+}
+
+fn of_reading(question: &Question, refusal: Refusal, axis: Axis) -> String {
+    let Question::Tablet([x, y]) = question else {
+        return refusal.to_string();
+    };
+    let reading = if axis == Axis::X { x } else { y };
+    let (value, unit) = match reading {
+        Reading::Millimetres(value) => (value, "mm"),
+        Reading::Eighths(value) => (value, "eighths of a mm"),
+    };
+    let most = limits().coordinate;
+    match refusal {
+        Refusal::NotFinite { .. } => format!("the reading of {axis} is no finite number: {value}"),
+        Refusal::NotWhole { .. } => {
+            format!("the reading of {axis} is no whole number of millimetres: {value:e} {unit}")
+        }
+        _ => {
+            format!("the reading of {axis} is out of range, -{most} to {most} mm: {value:e} {unit}")
+        }
+    }
+}
+
+/// The refusals of a question itself.
+fn of_question(question: &Question, refusal: Refusal) -> String {
+    let shapes = question.shapes();
+    match (refusal, shapes.as_slice(), question) {
+        (Refusal::NotApart, [a, b], _) => {
+            format!(
+                "{a} and {b} are not apart, and only shapes that are have lines that just touch both"
+            )
+        }
+        (Refusal::Flat, [shape, ..], _) => flat(shape),
+        (Refusal::Floors, [a, b], _) => floors(a, b),
+        (Refusal::NotAPlace, [a, b], Question::Two(_, OfTwo::Part(walk, _))) => {
+            let (first, second, over) = (walk.first(), walk.second(), u8::from(walk.is_over()));
+            format!("the walk {first} {second} {over} is at no place of the sum of {a} and {b}")
+        }
+        (Refusal::Damaged { place }, ..) => {
+            format!("the record at byte {place} of the log is damaged")
+        }
+        (Refusal::Full, _, Question::Add(record)) => full(record),
+        (Refusal::NoRecord, _, Question::Make(Making::Read { name, .. }, _)) => {
+            format!("no record of the log has the name {name}")
+        }
+        _ => refusal.to_string(),
+    }
+}
+
+fn flat(shape: &Given) -> String {
+    let what = if shape.corners().len() == 1 {
+        "point"
+    } else {
+        "segment"
+    };
+    format!("{shape} is a {what} and has no width")
+}
+
+fn floors(a: &Given, b: &Given) -> String {
+    let said = |shape: &Given| shape.floor.unwrap_or_default();
+    format!(
+        "{a} is on floor {} and {b} is on floor {}",
+        said(a),
+        said(b)
+    )
+}
+
+fn full(record: &Record) -> String {
+    let Record { log, shape, .. } = record;
+    let bytes = log.len();
+    format!("the log of {bytes} bytes has too little room after its last record for {shape}")
+}

@@ -1,0 +1,259 @@
+//! 100,000 files, random and mutated: no panic, nothing lost, and a status that says what happened.
+use crate::running::{Ran, with_input};
+use crate::{json, xml};
+use second::make::dice::Dice;
+
+const FILES: usize = 100_000;
+
+/// Good files, to be mutated.
+const GOOD: &[&str] = &[
+    "# Floor 2\nshape | wall | @2 0 5000 12000 5000\nshape | linen-store | @2 3000 1000 4200 1000\n\
+     \t+ 4200 1800 3000 1800 # rest\noutline | cart | 0 0 600 0 600 900 0 900\n\
+     grown = grow | linen-store | cart\nclearance | linen-store | wall\nrelation | @2 3500 100 | grown\n",
+    "\u{FEFF}shape|a|0 0 2 0 2 2 0 2\r\nshape|b|5 0 7 0 7 2 5 2\r\ntangents|a|b\r\nfind|a|b\r\nshapes\r\n",
+    "shape | Wäsche | @1 0 0 1 0 0 1\nx = mirror | Wäsche\ny = sum | x | Wäsche\nwidth | y\nlength | y | 4\n",
+    "parts | 0 0 2 0 2 2 0 2 | 0 0 1 0 0 1 | 2:4 9:6\npart | 0 0 2 0 | 0 0 1 0 | 1 1 0 | 9 9\n\
+     tablet | mm 0x4008000000000000 | e8 0xc030000000000000\nbookread | 0F0002000700020001000000FFFFFFFF5A | 7\n\
+     bookadd | 00 00 00 | 7 | @2 1 -1 | 3\n",
+    "p = sweep | @3 9 9 1 1 4 2 8 8\nq = at | p | 1000 -1000\nr = merge | p | q\noffer | p | q | 1 0\n\
+     inside | p | r\nfurthest | r | -1 0\njudge | r\n0 0 1 1\n+ 2 2\n",
+];
+
+/// Words of lines, good and bad.
+const WORDS: &[&str] = &[
+    "shape",
+    "outline",
+    "grow",
+    "sum",
+    "at",
+    "merge",
+    "sweep",
+    "mirror",
+    "relation",
+    "clearance",
+    "judge",
+    "shapes",
+    "width",
+    "length",
+    "tangents",
+    "offer",
+    "find",
+    "inside",
+    "furthest",
+    "parts",
+    "part",
+    "tablet",
+    "bookread",
+    "bookadd",
+    "a",
+    "b",
+    "cart",
+    "=",
+    "|",
+    "|",
+    "|",
+    "|",
+    "\n",
+    "\n",
+    "\n",
+    "+",
+    "#",
+    "@2",
+    "@65536",
+    "@",
+    "0",
+    "1",
+    "-1",
+    "7",
+    "600",
+    "1000001",
+    "-0",
+    "99999999999",
+    "1.5",
+    "2:4",
+    "mm",
+    "0x4008000000000000",
+    "\r",
+    "\t",
+    "\u{1b}",
+    "\u{202e}",
+    "\u{a0}",
+    "é",
+    "語",
+    "\0",
+    "--json",
+    "0 0 1 0 0 1",
+    "0 0",
+    "3 3 5 3",
+];
+
+fn file(dice: &mut Dice) -> Vec<u8> {
+    match dice.below(10) {
+        0 => (0..dice.below(200))
+            .map(|_| dice.below(256) as u8)
+            .collect(),
+        1..4 => words(dice).into_bytes(),
+        _ => {
+            let mut bytes = dice.pick(GOOD).as_bytes().to_vec();
+            for _ in 0..=dice.below(4) {
+                mutate(dice, &mut bytes);
+            }
+            bytes
+        }
+    }
+}
+
+fn words(dice: &mut Dice) -> String {
+    let words: Vec<&str> = (0..dice.below(60)).map(|_| dice.pick(WORDS)).collect();
+    words.join(" ")
+}
+
+fn mutate(dice: &mut Dice, bytes: &mut Vec<u8>) {
+    let at = dice.below(bytes.len() + 1);
+    let to = (at + dice.below(20)).min(bytes.len());
+    match dice.below(8) {
+        0 => bytes.truncate(at),
+        1 => drop(bytes.drain(at..to)),
+        2 => bytes.insert(at, dice.below(256) as u8),
+        3 => drop(bytes.splice(at..at, dice.pick(WORDS).bytes())),
+        4 => bytes.extend_from_within(at..to),
+        5 => bytes.insert(at, b'\n'),
+        6 if at < bytes.len() => bytes[at] = dice.pick(b"|+#=@\n\t 09-"),
+        _ => {
+            let lines: Vec<&[u8]> = bytes.split(|&byte| byte == b'\n').collect();
+            let (one, other) = (dice.below(lines.len()), dice.below(lines.len()));
+            let mut swapped = lines.clone();
+            swapped.swap(one, other);
+            *bytes = swapped.join(&b'\n');
+        }
+    }
+}
+
+/// How many lines say something: neither blank, nor a comment, nor continuing another.
+fn lines_of(bytes: &[u8]) -> usize {
+    let text = String::from_utf8_lossy(bytes);
+    let text = text.strip_prefix('\u{FEFF}').unwrap_or(&text);
+    let (mut count, mut is_open) = (0, false);
+    for row in text.split('\n') {
+        let said = row.split('#').next().unwrap_or("");
+        let is_comment = row.contains('#');
+        let said = if is_comment {
+            said
+        } else {
+            said.strip_suffix('\r').unwrap_or(said)
+        };
+        let said = said.trim_matches([' ', '\t']);
+        match (said.is_empty(), is_comment) {
+            (true, true) => {}
+            (true, false) => is_open = false,
+            (false, _) => {
+                count += usize::from(!(is_open && said.starts_with('+')));
+                is_open = true;
+            }
+        }
+    }
+    count
+}
+
+/// What holds of every run.
+fn hold(ran: &Ran, bytes: &[u8]) {
+    let shown = || String::from_utf8_lossy(bytes).into_owned();
+    let is_written = |c: char| c == '\n' || !c.is_control();
+    assert!(
+        ran.output.chars().chain(ran.errors.chars()).all(is_written),
+        "{ran:?}\n{}",
+        shown()
+    );
+    assert!(
+        ran.errors
+            .lines()
+            .all(|line| line.starts_with("cocklesway: -:")),
+        "{ran:?}\n{}",
+        shown()
+    );
+    let refused = ran.output.contains("refused");
+    let expected = match (ran.errors.is_empty(), refused) {
+        (false, _) => 2,
+        (true, true) => 1,
+        (true, false) => 0,
+    };
+    assert_eq!(ran.status, expected, "{ran:?}\n{}", shown());
+}
+
+#[test]
+fn files_of_all_sorts() {
+    let mut dice = Dice::new(38);
+    let mut ended = [0; 3];
+    for number in 0..FILES {
+        let bytes = file(&mut dice);
+        match number % 8 {
+            0 => {
+                let ran = with_input(&["ask", "--json", "-"], &bytes);
+                hold(&ran, &bytes);
+                ran.output
+                    .lines()
+                    .for_each(|line| drop(json::read(line).expect(line)));
+            }
+            1 => checked(&bytes),
+            2 => drawn(&["draw", "-"], &bytes),
+            3 => drawn(
+                &[
+                    "draw", "-", "--floor", "2", "--grow", "cart", "--at", "3500,0",
+                ],
+                &bytes,
+            ),
+            _ => {
+                let ran = with_input(&["ask", "-"], &bytes);
+                hold(&ran, &bytes);
+                ended[usize::from(ran.status)] += 1;
+            }
+        }
+        every_line_counts(&bytes);
+    }
+    assert!(
+        ended.iter().all(|&count| count > 1000),
+        "too few of one status: {ended:?}"
+    );
+}
+
+/// Every line gives one event, whatever it says.
+fn every_line_counts(bytes: &[u8]) {
+    let source = desk::source::Source {
+        name: "-".into(),
+        bytes: bytes.to_vec(),
+    };
+    let mut count = 0;
+    let told = desk::session::Session::new().read(&source, |_| -> Result<(), ()> {
+        count += 1;
+        Ok(())
+    });
+    assert_eq!(
+        (told, count),
+        (Ok(()), lines_of(bytes)),
+        "{}",
+        String::from_utf8_lossy(bytes)
+    );
+}
+
+/// The last line of a check counts what was found, and the status says the same.
+fn checked(bytes: &[u8]) {
+    let ran = with_input(&["check", "-"], bytes);
+    let last = ran.output.lines().last().unwrap_or("").to_string();
+    let is_fine = last.contains("refused: 0, unreadable lines: 0");
+    assert_eq!(ran.status == 0, is_fine, "{ran:?}");
+    assert_eq!(
+        ran.errors.is_empty(),
+        last.contains("unreadable lines: 0"),
+        "{ran:?}"
+    );
+}
+
+/// A picture is well-formed XML, or there is none and an error.
+fn drawn(arguments: &[&str], bytes: &[u8]) {
+    let ran = with_input(arguments, bytes);
+    assert_eq!(ran.status == 0, ran.errors.is_empty(), "{ran:?}");
+    assert_eq!(ran.status == 0, !ran.output.is_empty(), "{ran:?}");
+    if ran.status == 0 {
+        xml::read(&ran.output).unwrap_or_else(|wrong| panic!("{wrong}: {}", ran.output));
+    }
+}

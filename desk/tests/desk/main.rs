@@ -1,0 +1,9 @@
+//! The program as its users meet it: maps, answers, pictures, options, failures, and files that are no maps at all.
+mod fuzz;
+mod json;
+mod maps;
+mod objects;
+mod pictures;
+mod program;
+mod running;
+mod xml;

@@ -1,0 +1,109 @@
+//! `--json`: one object a line, with the numbers of the typed answer.
+use crate::json::{self, Value};
+use crate::running::with_input;
+
+fn objects(lines: &str) -> Vec<Value> {
+    let ran = with_input(&["ask", "--json", "-"], lines.as_bytes());
+    let read = ran
+        .output
+        .lines()
+        .map(|line| json::read(line).unwrap_or_else(|wrong| panic!("{wrong}: {line}")));
+    read.collect()
+}
+
+/// The value at a path of keys.
+#[track_caller]
+fn at<'a>(value: &'a Value, path: &str) -> &'a Value {
+    let mut value = value;
+    for key in path.split('.') {
+        value = value
+            .get(key)
+            .unwrap_or_else(|| panic!("no {key} in {value:?}"));
+    }
+    value
+}
+
+fn read(text: &str) -> Value {
+    json::read(text).expect("JSON")
+}
+
+#[test]
+fn answers_have_their_numbers() {
+    let lines = "shape | a | @3 0 0 2 0 2 2 0 2\nclearance | a | @3 5 6\nclearance | a | @3 5 1\n\
+                 length | a\nwidth | a\n\
+                 furthest | a | 1 0\nfind | a | @3 1 1\ng = grow | a | a\n";
+    let [corners, across, length, width, furthest, find, grow] = &objects(lines)[..] else {
+        panic!("seven questions");
+    };
+    assert_eq!(at(corners, "file"), &Value::Text("-".to_string()));
+    assert_eq!(at(corners, "line"), &Value::Number(2));
+    assert_eq!(at(corners, "question").text(), Some("clearance"));
+    assert_eq!(at(corners, "first"), &read("[2,2]"));
+    assert_eq!(at(corners, "second"), &read("[5,6]"));
+    assert_eq!(
+        (at(corners, "squared"), at(corners, "rounded")),
+        (&read("25"), &read("5"))
+    );
+    assert_eq!(
+        at(corners, "shapes"),
+        &read(
+            r#"[{"name":"a","floor":3,"corners":[[0,0],[2,0],[2,2],[0,2]]},{"name":null,"floor":3,"corners":[[5,6]]}]"#,
+        )
+    );
+    assert_eq!(at(across, "first"), &read("[[2,0],[2,2]]"));
+    assert_eq!(
+        (at(across, "turn"), at(across, "squared")),
+        (&read("6"), &read("4"))
+    );
+    assert_eq!(
+        (at(length, "squared"), at(length, "from"), at(length, "to")),
+        (&read("8"), &read("[0,0]"), &read("[2,2]"))
+    );
+    assert_eq!(
+        (at(width, "corner"), at(width, "rounded")),
+        (&read("[2,2]"), &read("2"))
+    );
+    assert_eq!(
+        (at(furthest, "first"), at(furthest, "last")),
+        (&read("[2,0]"), &read("[2,2]"))
+    );
+    assert_eq!(at(find, "direction"), &Value::Null);
+    assert_eq!(at(grow, "name").text(), Some("g"));
+    assert_eq!(
+        at(grow, "made.corners"),
+        &read("[[-2,-2],[2,-2],[2,2],[-2,2]]")
+    );
+}
+
+#[test]
+fn refusals_have_their_number_and_reason() {
+    let lines = "shape | a | 0 0 5 4 -1 4 4 0 2 6\njudge | a\nrelation | 0 0 | @2 0 0\nbookread | 0300010000 | 7\n";
+    let [star, removed, floors, _] = &objects(lines)[..] else {
+        panic!("four lines");
+    };
+    assert_eq!(at(star, "name").text(), Some("a"));
+    assert_eq!(at(star, "refused.number"), &Value::Number(4));
+    assert_eq!(
+        (at(star, "refused.edge"), at(star, "refused.corner")),
+        (&Value::Number(0), &Value::Number(3))
+    );
+    assert_eq!(at(removed, "not_asked.name").text(), Some("a"));
+    assert_eq!(at(removed, "not_asked.at.line"), &Value::Number(1));
+    assert_eq!(at(floors, "refused.number"), &Value::Number(13));
+    let reason = "the point (0, 0) is on floor 0 and the point (0, 0) is on floor 2";
+    assert_eq!(at(floors, "refused.reason").text(), Some(reason));
+}
+
+#[test]
+fn a_check_lists_every_shape() {
+    let ran = with_input(
+        &["check", "--json", "-"],
+        b"shape | a | @3 0 0\noutline | b | 1 1\njudge | a\n",
+    );
+    let lines: Vec<Value> = ran.output.lines().map(read).collect();
+    let [a, b] = &lines[..] else {
+        panic!("two shapes: {ran:?}");
+    };
+    assert_eq!(at(a, "shape.floor"), &Value::Number(3));
+    assert_eq!(at(b, "shape.floor"), &Value::Null);
+}

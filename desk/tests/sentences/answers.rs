@@ -1,0 +1,232 @@
+//! The numbers of answers, derived from the answer of `second` and the corners of the line.
+use crate::case::Case;
+use crate::said::{needs, never, rounding};
+use crate::tokens::numbers;
+use second::answer::offered;
+use second::plane::point;
+
+/// Returns the numbers of the sentence of an answered question.
+pub fn of_answer(case: &Case, answer: &str, said: &str) -> Result<Vec<i128>, String> {
+    let words: Vec<&str> = answer.split(' ').collect();
+    match case.word.as_str() {
+        "judge" | "furthest" | "length" | "width" => about_one(case, &words, said),
+        "relation" | "inside" | "offer" => Ok(decided(case, words[0], said)?),
+        "find" => found_direction(case, words[0], said),
+        "clearance" => clearance(case, &words, said),
+        "tangents" => Ok(tangents(case, &words)),
+        "parts" => Ok(parts(case, answer)),
+        "part" => Ok(part(case, &words, answer)),
+        "tablet" => Ok(words.iter().map(|word| double(word) as i128).collect()),
+        "bookadd" => added(case, answer, said),
+        _ => Ok(made(case, number(words[0]), floor(&words), answer)),
+    }
+}
+
+fn number(word: &str) -> i128 {
+    word.parse().expect("a number")
+}
+
+fn position(word: &str) -> usize {
+    word.parse().expect("a position")
+}
+
+fn floor(words: &[&str]) -> i128 {
+    let word = words.iter().find_map(|word| word.strip_prefix('@'));
+    number(word.expect("a floor"))
+}
+
+fn both(case: &Case) -> Vec<i128> {
+    [case.label(0), case.label(1)].concat()
+}
+
+fn about_one(case: &Case, words: &[&str], said: &str) -> Result<Vec<i128>, String> {
+    let (list, label) = (&case.lists[0], case.label(0));
+    let corner = |at: usize| list.corner(position(words[at])).to_vec();
+    Ok(match case.word.as_str() {
+        "judge" if number(words[0]) <= 2 => vec![floor(words)],
+        "judge" => vec![number(words[0]), floor(words)],
+        "furthest" => {
+            let (towards, value) = (case.numbers_of_field(1), vec![number(words[2])]);
+            let corners = match words[0] == words[1] {
+                true => corner(0),
+                false => [corner(0), corner(1)].concat(),
+            };
+            [towards.clone(), label, corners, towards, value].concat()
+        }
+        "length" if number(words[0]) == 0 => [label, vec![0]].concat(),
+        "length" => {
+            let squared = number(words[0]);
+            // √d is d/√d: the same rule as for a turn.
+            rounding(said, squared, squared, squared.isqrt())?;
+            [label, vec![squared.isqrt()], corner(1), corner(2)].concat()
+        }
+        _ => {
+            let [t, q, w] = [2, 3, 4].map(|at| number(words[at]));
+            rounding(said, t, q, w)?;
+            [label, vec![w], corner(1), list.edge(position(words[0]))].concat()
+        }
+    })
+}
+
+/// The questions that are answered by a word.
+fn decided(case: &Case, word: &str, said: &str) -> Result<Vec<i128>, String> {
+    match (case.word.as_str(), word) {
+        ("relation", "apart") => needs(said, " are apart")?,
+        ("relation", "touching") => needs(said, " touch:")?,
+        ("relation", _) => needs(said, " overlap")?,
+        ("inside", "yes") => never(said, "not inside")?,
+        ("inside", _) => needs(said, "not inside")?,
+        (_, answer) => needs(said, &format!("{answer}: "))?,
+    }
+    let towards = match case.word.as_str() {
+        "offer" => case.numbers_of_field(2),
+        _ => Vec::new(),
+    };
+    Ok([towards, both(case)].concat())
+}
+
+fn tangents(case: &Case, words: &[&str]) -> Vec<i128> {
+    let line = |at: usize| {
+        let [from, to] = [words[at], words[at + 1]].map(position);
+        [case.lists[0].corner(from), case.lists[1].corner(to)].concat()
+    };
+    let labels = || both(case);
+    [
+        labels(),
+        line(0),
+        line(2),
+        labels(),
+        line(4),
+        labels(),
+        line(6),
+    ]
+    .concat()
+}
+
+fn part(case: &Case, words: &[&str], answer: &str) -> Vec<i128> {
+    let next = match words[3] {
+        "1" => Vec::new(),
+        _ => vec![number(words[1]), number(words[2]), 0],
+    };
+    [both(case), numbers_after_bar(answer), next].concat()
+}
+
+/// The corners after the last bar of an answer.
+fn numbers_after_bar(answer: &str) -> Vec<i128> {
+    let (_, numbers) = answer.rsplit_once('|').expect("a bar");
+    numbers
+        .split_ascii_whitespace()
+        .map(|word| word.parse().expect("a number"))
+        .collect()
+}
+
+/// A shape that was made.
+fn made(case: &Case, count: i128, floor: i128, answer: &str) -> Vec<i128> {
+    let subject = match case.word.as_str() {
+        "bookread" => case.numbers_of_field(1),
+        "sweep" => Vec::new(),
+        "mirror" => case.label(0),
+        _ => [case.label(0), case.label(1)].concat(),
+    };
+    let what = if count > 2 {
+        vec![count, floor]
+    } else {
+        vec![floor]
+    };
+    [subject, what, numbers_after_bar(answer)].concat()
+}
+
+fn found_direction(case: &Case, word: &str, said: &str) -> Result<Vec<i128>, String> {
+    let labels = [case.label(0), case.label(1)].concat();
+    if word == "none" {
+        needs(said, "not apart")?;
+        return Ok(labels);
+    }
+    // Any direction that is accepted will do: the one that is said is offered to brute force.
+    let found = numbers(said);
+    let at = labels.len();
+    let (u, v) = (found[at], found[at + 1]);
+    let accepted = offered(case.line.as_bytes(), point(u as i64, v as i64));
+    if !accepted
+        .as_ref()
+        .is_some_and(|answer| answer.starts_with("yes"))
+    {
+        return Err(format!(
+            "the direction {u} {v} is not accepted: {accepted:?}"
+        ));
+    }
+    Ok([labels.clone(), vec![u, v], labels].concat())
+}
+
+fn clearance(case: &Case, words: &[&str], said: &str) -> Result<Vec<i128>, String> {
+    let labels = [case.label(0), case.label(1)].concat();
+    if words[0] == "0" {
+        needs(said, "not apart")?;
+        return Ok(labels);
+    }
+    let number = |at: usize| number(words[at]);
+    let position = |at: usize| position(words[at]);
+    if words[0] == "cc" {
+        let (squared, root) = (number(3), number(4));
+        rounding(said, squared, squared, root)?;
+        let corners = [case.corner(0, position(1)), case.corner(1, position(2))].concat();
+        return Ok([labels, vec![root], corners].concat());
+    }
+    rounding(said, number(3), number(4), number(5))?;
+    let (with_corner, with_edge) = if words[0] == "ce" { (0, 1) } else { (1, 0) };
+    let corner = case.corner(with_corner, position(1));
+    let edge = case.lists[with_edge].edge(position(2));
+    Ok([labels, vec![number(5)], corner, edge, case.label(with_edge)].concat())
+}
+
+fn parts(case: &Case, answer: &str) -> Vec<i128> {
+    let rooms = case.fields[2].split_ascii_whitespace();
+    let rooms: Vec<i128> = rooms
+        .map(|call| {
+            call.split_once(':')
+                .expect("a colon")
+                .1
+                .parse()
+                .expect("a room")
+        })
+        .collect();
+    let mut expected = [case.label(0), case.label(1)].concat();
+    for (number, part) in (1..).zip(answer.split('|').skip(1)) {
+        expected.push(number);
+        match part.trim().strip_prefix("no ") {
+            Some(refused) => expected.extend([
+                refused.parse().expect("a number"),
+                rooms[number as usize - 1],
+            ]),
+            None => expected.extend(
+                part.split_ascii_whitespace()
+                    .skip(1)
+                    .map(|word| word.parse::<i128>().expect("a number")),
+            ),
+        }
+    }
+    expected
+}
+
+fn added(case: &Case, answer: &str, said: &str) -> Result<Vec<i128>, String> {
+    let (word, log) = answer
+        .split_once(" | ")
+        .unwrap_or((answer.trim_end_matches([' ', '|']), ""));
+    let told = said.split_once("its bytes are ").map_or("", |(_, log)| log);
+    if told != log.trim() {
+        return Err(format!("the log is told as {told}"));
+    }
+    let how = if word == "cut" {
+        "the stores ran out"
+    } else {
+        " is in the log as name "
+    };
+    needs(said, how)?;
+    Ok([case.label(0), case.numbers_of_field(1)].concat())
+}
+
+/// Returns the double of its bits.
+pub fn double(word: &str) -> f64 {
+    let digits = word.trim_start_matches("0x");
+    f64::from_bits(u64::from_str_radix(digits, 16).expect("hexadecimal digits"))
+}
