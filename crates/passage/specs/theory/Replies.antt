@@ -1,0 +1,195 @@
+-- What passage replies.
+--     three→none, none→three     no row of the shapes and of their floors applies exactly if they are three valid shapes on one floor
+--     passage-three              an answer is given only of such shapes whose grown obstacles fit; `passage-answers`: and of all of them
+--     passage-floors             three valid shapes that are not on one floor are refused 13
+--     zero-blocked, one-passed   what an answer's numbers are, by its first
+--     told-passes                its direction is one that 11 and 12 let pass
+--     told-clear                 and every place between its lines is clear of both obstacles
+use mathlib.Core.Path.{_≡_, refl, sym, _∙_, ap}
+use mathlib.Core.Bool.{Bool, true, false, not, cond}
+use mathlib.Core.List.{List, [], _∷_, _++_}
+use Prim.Native.Nat.{ℕ, _<_}
+use native.Mathlib.Decide.{ℕ-discrete}
+use native.Mathlib.Omega.{arith}
+use borrow.Author.Tests.{eqb-true, eq-eqb, ne-eqb, not-false}
+use lib.IntN.{ℤ, pos}
+use lib.ListN.{length}
+use lib.Signed.{_<ℤ_}
+use Rattle.plane.specs.Point.{Point, point}
+use Rattle.plane.specs.Reply.{answered, refused, Row, NoneApply, First, here, later}
+use Rattle.plane.specs.Refusal.{shapeRows, Valid}
+use Rattle.plane.specs.Direction.{value}
+use Rattle.plane.specs.Furthest.{badDirection, commonDivisor}
+use Rattle.plane.specs.Output.{sizeRows}
+use Rattle.plane.specs.Separation.{apart}
+use Rattle.plane.specs.Floor.{Floored, corners, floorRow}
+use Rattle.plane.specs.Question.{reply}
+use Rattle.plane.specs.theory.lists.Members.{point-path}
+use Rattle.plane.specs.theory.refusals.Rows.{none-append, none-join, first-append, first-join}
+use Rattle.plane.specs.theory.refusals.Accept.{valid→accepted, accepted→valid, near→inRange}
+use Rattle.plane.specs.theory.refusals.Asked.{asked-given, asked-none, asked-values, asked-rest, rest-given, rest-none}
+use Rattle.growth.specs.Grown.{grown, placed}
+use Rattle.passage.specs.Passage.{passable, across, lowLine, highLine, freeWidth, passageNumbers, passageRows, askPassage}
+use Rattle.passage.specs.Passage.{SameThree, Told}
+use Rattle.passage.specs.theory.Places.{between-clear}
+use Rattle.passage.specs.theory.Small.{across-lowest, across-small}
+
+module _ (l r c : Floored) where
+  abbrev left : List Row
+  left = shapeRows 1 (l .list)
+
+  abbrev right : List Row
+  right = shapeRows 2 (r .list)
+
+  abbrev cart : List Row
+  cart = shapeRows 3 (c .list)
+
+  abbrev floors : List Row
+  floors = floorRow (l .floor) (r .floor) ∷ floorRow (l .floor) (c .floor) ∷ []
+
+  abbrev sizes : List Row
+  sizes = sizeRows (grown (corners l) (corners c)) ++ sizeRows (grown (corners r) (corners c))
+
+  -- what comes after the rows of the first shape, of the second, of the third
+  abbrev after-cart : List Row
+  after-cart = floors ++ sizes
+
+  abbrev after-right : List Row
+  after-right = cart ++ after-cart
+
+  abbrev after-left : List Row
+  after-left = right ++ after-right
+
+  -- ---- the shapes
+
+  three→none : SameThree l r c → NoneApply sizes → NoneApply (passageRows l r c)
+  three→none s n =
+      none-join left after-left (valid→accepted (l .list) 1 (s .left-valid))
+      (none-join right after-right (valid→accepted (r .list) 2 (s .right-valid))
+      (none-join cart after-cart (valid→accepted (c .list) 3 (s .cart-valid))
+      (none-join floors sizes (
+        ap not (eq-eqb (l .floor) (r .floor) (s .right-floor)),
+        (ap not (eq-eqb (l .floor) (c .floor) (s .cart-floor)), tt),
+      ) n)))
+
+  none→three : NoneApply (passageRows l r c) → SameThree l r c × NoneApply sizes
+  none→three n =
+      let first = none-append left after-left n in
+      let second = none-append right after-right (first .1) in
+      let third = none-append cart after-cart (second .1) in
+      let last = none-append floors sizes (third .1) in (
+        record {
+          left-valid = accepted→valid (l .list) 1 (first .0);
+          right-valid = accepted→valid (r .list) 2 (second .0);
+          cart-valid = accepted→valid (c .list) 3 (third .0);
+          right-floor = eqb-true (l .floor) (r .floor) (not-false _ (last .0 .0));
+          cart-floor = eqb-true (l .floor) (c .floor) (not-false _ (last .0 .1 .0));
+        },
+        last .1,
+      )
+
+  -- ---- the reply
+
+  abbrev L : List Point
+  L = corners l
+
+  abbrev R : List Point
+  R = corners r
+
+  abbrev A : List Point
+  A = corners c
+
+  abbrev told : List ℤ
+  told = passageNumbers L R A ++ (pos (l .floor) ∷ [])
+
+  pub passage-three : (v : List ℤ) → reply (askPassage l r c) ≡ answered v
+      → SameThree l r c × NoneApply (sizeRows (grown L A)) × NoneApply (sizeRows (grown R A))
+  passage-three v h =
+      let (s, n) = none→three (asked-rest (askPassage l r c) v h) in
+      let fit = none-append (sizeRows (grown L A)) (sizeRows (grown R A)) n in
+      (s, fit .0, fit .1)
+
+  pub passage-answers : SameThree l r c → NoneApply (sizeRows (grown L A)) → NoneApply (sizeRows (grown R A))
+      → reply (askPassage l r c) ≡ answered told
+  passage-answers s n k = asked-none (askPassage l r c) (rest-none (askPassage l r c) tt
+      (three→none s (none-join (sizeRows (grown L A)) (sizeRows (grown R A)) n k)))
+
+  pub passage-floors : Valid (l .list) → Valid (r .list) → Valid (c .list) → ((l .floor ≡ r .floor) × (l .floor ≡ c .floor) → ⊥)
+      → reply (askPassage l r c) ≡ refused 13 []
+  passage-floors u v w f = go (ℕ-discrete (l .floor) (r .floor)) (ℕ-discrete (l .floor) (c .floor))
+    where
+      given : {x : Row} → First x floors → reply (askPassage l r c) ≡ refused (x .number) (x .carries)
+      given x = asked-given (askPassage l r c) (rest-given (askPassage l r c) tt
+          (first-join left (valid→accepted (l .list) 1 u) (first-join right (valid→accepted (r .list) 2 v)
+          (first-join cart (valid→accepted (c .list) 3 w) (first-append sizes x)))))
+
+      go : Dec (l .floor ≡ r .floor) → Dec (l .floor ≡ c .floor) → reply (askPassage l r c) ≡ refused 13 []
+      go (no e) k = given (here (ap not (ne-eqb (l .floor) (r .floor) e)))
+      go (yes e) (no k) = given (later (ap not (eq-eqb (l .floor) (r .floor) e)) (here (ap not (ne-eqb (l .floor) (c .floor) k))))
+      go (yes e) (yes k) = absurd (f (e, k))
+
+  -- ---- an answer's numbers
+
+  -- by whether the cart may pass
+  abbrev told-by : Bool → List ℤ
+  told-by t =
+      let n = across L R A in
+      cond t (pos 1 ∷ n .x ∷ n .y ∷ lowLine n R A ∷ highLine n L A ∷ pos (freeWidth L R A) ∷ []) (pos 0 ∷ []) ++ (pos (l .floor) ∷ [])
+
+  pub zero-blocked : (f : ℤ) → reply (askPassage l r c) ≡ answered (pos 0 ∷ f ∷ []) → passable L R A ≡ false
+  zero-blocked f h = go (passable L R A) (asked-values (askPassage l r c) _ h)
+    where
+      go : (t : Bool) → pos 0 ∷ f ∷ [] ≡ told-by t → t ≡ false
+      go false e = refl
+      go true e = absurd (let z : _≡_ {A = ℕ} 0 1 = cc e in let b : ⊥ = omega arith in b)
+
+  pub one-passed : (u v low high w f : ℤ) → reply (askPassage l r c) ≡ answered (pos 1 ∷ u ∷ v ∷ low ∷ high ∷ w ∷ f ∷ [])
+      → Told l r c u v low high w f
+  one-passed u v low high w f h = go (passable L R A) refl (asked-values (askPassage l r c) _ h)
+    where
+      go : (t : Bool) → passable L R A ≡ t → pos 1 ∷ u ∷ v ∷ low ∷ high ∷ w ∷ f ∷ [] ≡ told-by t → Told l r c u v low high w f
+      go false k e = absurd (let z : _≡_ {A = ℕ} 0 1 = cc e in let b : ⊥ = omega arith in b)
+      go true k e =
+          let x : u ≡ across L R A .x = cc e in
+          let y : v ≡ across L R A .y = cc e in
+          let n : point u v ≡ across L R A = point-path x y in
+          let i : low ≡ lowLine (across L R A) R A = cc e in
+          let j : high ≡ highLine (across L R A) L A = cc e in
+          record {
+            passes = k;
+            direction-is = n;
+            low-is = i ∙ ap (λ d. lowLine d R A) (sym n);
+            high-is = j ∙ ap (λ d. highLine d L A) (sym n);
+            width-is = cc e;
+            floor-is = cc e;
+          }
+
+  -- ---- what they promise
+
+  module _ (u v low high w f : ℤ) (h : reply (askPassage l r c) ≡ answered (pos 1 ∷ u ∷ v ∷ low ∷ high ∷ w ∷ f ∷ [])) where
+    told-numbers : Told l r c u v low high w f
+    told-numbers = one-passed u v low high w f h
+
+    three : SameThree l r c × NoneApply (sizeRows (grown L A)) × NoneApply (sizeRows (grown R A))
+    three = passage-three _ h
+
+    left-some : 0 < length L
+    left-some = three .0 .left-valid .shape .some
+
+    right-some : 0 < length R
+    right-some = three .0 .right-valid .shape .some
+
+    cart-some : 0 < length A
+    cart-some = three .0 .cart-valid .shape .some
+
+    pub told-passes : (badDirection (point u v) ≡ false) × (commonDivisor (point u v) ≡ false)
+    told-passes = rw (told-numbers .direction-is) (
+      across-small L R A left-some right-some cart-some (told-numbers .passes) (near→inRange _ (three .1 .1 .0))
+          (near→inRange _ (three .2 .1 .0)),
+      across-lowest L R A left-some right-some cart-some (told-numbers .passes),
+    )
+
+    pub told-clear : (t : Point) → low <ℤ value (point u v) t → value (point u v) t <ℤ high
+        → (apart (placed A t) L ≡ true) × (apart (placed A t) R ≡ true)
+    told-clear t above below = between-clear (point u v) L R A left-some right-some cart-some t
+        (record { above-low = rw (told-numbers .low-is) at above; below-high = rw (told-numbers .high-is) at below })
