@@ -2,7 +2,7 @@
 use mathlib.Core.Path.{_≡_, refl}
 use mathlib.Core.List.{List, [], _∷_, map}
 use Prim.Native.Nat.{ℕ}
-use lib.IntN.{ℤ, pos, negsuc}
+use lib.IntN.{ℤ, pos, negsuc, negℤ}
 use Rattle.divisor.specs.Divisor.{gcd, euclid}
 use Rattle.plane.specs.Limits.{maxCorners, maxCoordinate}
 use Rattle.plane.specs.Point.{samePoint}
@@ -43,9 +43,9 @@ above = pos 0 ∷ pos 5 ∷ pos 8 ∷ pos 5 ∷ []
 abbrev below : List ℤ
 below = pos 0 ∷ pos 0 ∷ pos 8 ∷ pos 0 ∷ []
 
--- a cart of height h about its lower left corner: 0 0 2 0 2 h 0 h
-abbrev high : ℕ → List ℤ
-high h = pos 0 ∷ pos 0 ∷ pos 2 ∷ pos 0 ∷ pos 2 ∷ pos h ∷ pos 0 ∷ pos h ∷ []
+-- a cart that reaches a below its origin and b above it: -1 -a 1 -a 1 b -1 b
+abbrev tall : ℕ → ℕ → List ℤ
+tall a b = negsuc 0 ∷ negℤ (pos a) ∷ pos 1 ∷ negℤ (pos a) ∷ pos 1 ∷ pos b ∷ negsuc 0 ∷ pos b ∷ []
 
 abbrev at : ℕ → ℕ → List ℤ
 at x y = pos x ∷ pos y ∷ []
@@ -53,19 +53,19 @@ at x y = pos x ∷ pos y ∷ []
 abbrev pub cases : List Case
 cases =
     -- blocked by one millimetre; touching both walls is blocked as well
-    answers above below (high 6) (pos 0 ∷ pos 3 ∷ [])
-    ∷ answers above below (high 5) (pos 0 ∷ pos 3 ∷ [])
-    -- one millimetre of room: the y of the cart's origin is from 0 to 1; in direction 0 -1, the walls exchanged, its value from -1 to 0
-    ∷ answers above below (high 4) (pos 1 ∷ pos 0 ∷ pos 1 ∷ pos 0 ∷ pos 1 ∷ pos 1 ∷ pos 3 ∷ [])
-    ∷ answers below above (high 4) (pos 1 ∷ pos 0 ∷ negsuc 0 ∷ negsuc 0 ∷ pos 0 ∷ pos 1 ∷ pos 3 ∷ [])
-    ∷ answers above below (high 1) (pos 1 ∷ pos 0 ∷ pos 1 ∷ pos 0 ∷ pos 4 ∷ pos 4 ∷ pos 3 ∷ [])
+    answers above below (tall 3 3) (pos 0 ∷ pos 3 ∷ [])
+    ∷ answers above below (tall 3 2) (pos 0 ∷ pos 3 ∷ [])
+    -- one millimetre of room: the y of the cart's origin is from 2 to 3; in direction 0 -1, the walls exchanged, its value from -3 to -2
+    ∷ answers above below (tall 2 2) (pos 1 ∷ pos 0 ∷ pos 1 ∷ pos 2 ∷ pos 3 ∷ pos 1 ∷ pos 3 ∷ [])
+    ∷ answers below above (tall 2 2) (pos 1 ∷ pos 0 ∷ negsuc 0 ∷ negsuc 2 ∷ negsuc 1 ∷ pos 1 ∷ pos 3 ∷ [])
+    ∷ answers above below (tall 1 0) (pos 1 ∷ pos 0 ∷ pos 1 ∷ pos 1 ∷ pos 5 ∷ pos 4 ∷ pos 3 ∷ [])
     -- between two posts, 6 8 and 0 0, a cart that is a point has 10 mm; one that is 0 0 1 0 has 9.4
     ∷ answers (at 6 8) (at 0 0) (at 0 0) (pos 1 ∷ pos 3 ∷ pos 4 ∷ pos 0 ∷ pos 50 ∷ pos 10 ∷ pos 3 ∷ [])
     ∷ answers (at 6 8) (at 0 0) (pos 0 ∷ pos 0 ∷ pos 1 ∷ pos 0 ∷ [])
     (pos 1 ∷ pos 5 ∷ pos 8 ∷ pos 0 ∷ pos 89 ∷ pos 9 ∷ pos 3 ∷ [])
     -- 1 to 5 of the cart blame the third shape; 13 for its floor alone; 7, the left obstacle grown is out of range
     ∷ case above below [] (refused 1 (3 ∷ []))
-    ∷ record { left = on above 3; right = on below 3; cart = on (high 4) 4; stated = refused 13 [] }
+    ∷ record { left = on above 3; right = on below 3; cart = on (tall 2 2) 4; stated = refused 13 [] }
     ∷ case (at 1_000_000 5) (at 0 0) (negsuc 0 ∷ pos 0 ∷ []) (refused 7 [])
     ∷ []
 

@@ -1,10 +1,10 @@
 -- Passing between two obstacles: what the answer of passage says. Each theorem is proved in the theory; here it is only cited. Fractions
 -- are compared by products: a/b ≤ c/d says a·d ≤ c·b.
---     every direction      blocked says that the cart fits in no direction, and passable that it fits in some
---     the direction across no direction has more room than the answered one, and no other in lowest terms has as much
---     places               every place between the lines is clear of both obstacles, and every drive along them
---     smaller              smaller obstacles and carts have no less room: "a map that lost a corner" only promises more
---     the replies          what is answered, and when
+--     every direction        blocked says that the cart fits in no direction, and passable that it fits in some
+--     the direction across   no direction has more room than the answered one, and no other in lowest terms has as much
+--     places                 every place between the lines is clear of both obstacles, and every drive along them
+--     smaller                smaller obstacles and carts have no less room: "a map that lost a corner" only promises more
+--     the replies            what is answered, and when
 -- L is the left obstacle, R the right one, A the cart's outline; each has a corner (0 < length), and no number has a bound. A direction d
 -- is any two whole numbers, its squared length is value d d. In d, gapIn d L R is from the greatest value of R to the least of L, and
 -- spread d A is from the least to the greatest value of the cart (`Strip.antt` of strips).
@@ -16,7 +16,8 @@ use Prim.Native.Nat.{_≤_, _<_}
 use lib.IntN.{ℤ, pos, _+ℤ_, _-ℤ_, _*ℤ_}
 use lib.ListN.{length}
 use lib.Signed.{_≤ℤ_, _<ℤ_}
-use Rattle.plane.specs.Point.{Point, point, origin, _⊕_, _⊆_}
+use Rattle.integer.specs.Bound.{Within}
+use Rattle.plane.specs.Point.{Point, point, origin, opposite, _⊕_, _⊆_}
 use Rattle.plane.specs.Reply.{answered, refused, NoneApply}
 use Rattle.plane.specs.Refusal.{Valid}
 use Rattle.plane.specs.Direction.{value}
@@ -35,9 +36,10 @@ use Rattle.passage.specs.theory.Gaps.{grown-gap, blocked-nowhere, nowher
 use Rattle.passage.specs.theory.Room.{room-spread, room-positive, room-at-clearance, no-more-room, room-only}
 use Rattle.passage.specs.theory.Room.{width-bounded, width-last}
 use Rattle.passage.specs.theory.Places.{between-clear, drive-clear, along-between, room-between, millimetre-between}
+use Rattle.passage.specs.theory.Exchanged.{exchanged}
 use Rattle.passage.specs.theory.Smaller.{smaller-passes, smaller-room, smaller-width, fewer-promises}
-use Rattle.passage.specs.theory.Replies.{passage-three, passage-answers, passage-floors, zero-blocked, one-passed, told-clear}
-use Rattle.passage.specs.theory.Replies.{told-passes}
+use Rattle.passage.specs.theory.Replies.{passage-three, passage-answers, passage-floors, blocked-exactly, one-passed, told-clear}
+use Rattle.passage.specs.theory.Replies.{told-passes, told-bounded}
 
 module _ (L R A : List Point) (l : 0 < length L) (r : 0 < length R) (a : 0 < length A) where
   -- the grown obstacles, and the direction across
@@ -67,16 +69,16 @@ module _ (L R A : List Point) (l : 0 < length L) (r : 0 < length R) (a : 0 < len
   -- ---- the direction across
 
   module _ (h : passable L R A ≡ true) where
-    -- the room is what the gap leaves of the cart's spread, and there is some
+    -- the room is what the cart's spread leaves of the gap, and there is some
     pub own-direction-has-room : (room L R A ≡ gapIn n L R -ℤ spread n A) × (pos 0 <ℤ room L R A)
     own-direction-has-room = (room-spread L R A l r a, room-positive L R A l r a h)
 
-    -- in every direction in which the cart fits, what the gap leaves, squared, over the squared length, is at most that
+    -- in no direction in which the cart fits does its spread leave more: squared, over the direction's squared length
     pub no-direction-has-more-room : (d : Point) → (d ≡ origin → ⊥) → spread d A ≤ℤ gapIn d L R
         → ((gapIn d L R -ℤ spread d A) *ℤ (gapIn d L R -ℤ spread d A) *ℤ value n n) ≤ℤ (room L R A *ℤ room L R A *ℤ value d d)
     no-direction-has-more-room d some fits = no-more-room L R A l r a h d some fits
 
-    -- a direction in lowest terms in which it is as much is the answered one
+    -- and a direction in lowest terms in which it leaves as much is the answered one
     pub own-direction-is-the-only-one : (d : Point) → (d ≡ origin → ⊥) → commonDivisor d ≡ false → spread d A ≤ℤ gapIn d L R
         → (room L R A *ℤ room L R A *ℤ value d d) ≤ℤ ((gapIn d L R -ℤ spread d A) *ℤ (gapIn d L R -ℤ spread d A) *ℤ value n n)
         → d ≡ n
@@ -91,17 +93,14 @@ module _ (L R A : List Point) (l : 0 < length L) (r : 0 < length R) (a : 0 < len
         × ((room L R A *ℤ room L R A) <ℤ ((pos (freeWidth L R A) +ℤ pos 1) *ℤ (pos (freeWidth L R A) +ℤ pos 1) *ℤ value n n))
     width-is-rounded-down = let w = width-bounded L R A l r a h in (w .low, w .high)
 
-    -- and the last number that clearance answers of the grown obstacles, before the floor
+    -- and it is the last number that clearance answers of the grown obstacles, before the floor
     pub width-is-last-of-clearance : EndsIn (pos (freeWidth L R A) ∷ []) (numbersOf G H (nearest G H))
     width-is-last-of-clearance = width-last L R A l r a h
 
-    -- some place, in whole millimetres, is strictly between the lines exactly if the room is more than 1
-    pub a-place-is-between : (pos 1 <ℤ room L R A) ↔ ((t : Point) × Between n L R A t)
-    a-place-is-between = room-between L R A l r a h
-
-    -- so if the free way is more than a millimetre wide; if it is one millimetre there may be none
-    pub more-than-a-millimetre-has-a-place : value n n <ℤ (room L R A *ℤ room L R A) → (t : Point) × Between n L R A t
-    more-than-a-millimetre-has-a-place wide = millimetre-between L R A l r a h wide
+    -- either obstacle may be the left one: exchanged, they have the opposite direction, the same room and the same free width
+    pub exchanged-obstacles-turn-direction : (passable R L A ≡ true) × (across R L A ≡ opposite n) × (room R L A ≡ room L R A)
+        × (freeWidth R L A ≡ freeWidth L R A)
+    exchanged-obstacles-turn-direction = exchanged L R A l r a h
 
   -- ---- places
 
@@ -118,6 +117,15 @@ module _ (L R A : List Point) (l : 0 < length L) (r : 0 < length R) (a : 0 < len
   pub driving-along-is-clear : (d t : Point) (k : ℤ) → Between d L R A t → let u = t ⊕ times k (quarter d) in
       (apart (driven A t u) L ≡ true) × (apart (driven A t u) R ≡ true)
   driving-along-is-clear d t k b = drive-clear d L R A l r a t (t ⊕ times k (quarter d)) b (along-between d L R A t k b)
+
+  module _ (h : passable L R A ≡ true) where
+    -- some place, in whole millimetres, is strictly between the lines exactly if the room is more than 1
+    pub a-place-is-between : (pos 1 <ℤ room L R A) ↔ ((t : Point) × Between n L R A t)
+    a-place-is-between = room-between L R A l r a h
+
+    -- so if the free way is more than a millimetre wide; if it is one millimetre there may be none
+    pub more-than-a-millimetre-has-a-place : value n n <ℤ (room L R A *ℤ room L R A) → (t : Point) × Between n L R A t
+    more-than-a-millimetre-has-a-place wide = millimetre-between L R A l r a h wide
 
 -- ---- smaller
 
@@ -156,10 +164,12 @@ module _ (l r c : Floored) where
       → ((l .floor ≡ r .floor) × (l .floor ≡ c .floor) → ⊥) → reply (askPassage l r c) ≡ refused 13 []
   different-floors-are-refused u v w f = passage-floors l r c u v w f
 
-  -- an answer that begins with 0 says blocked
-  pub zero-is-blocked : (f : ℤ) → reply (askPassage l r c) ≡ answered (pos 0 ∷ f ∷ [])
-      → passable (corners l) (corners r) (corners c) ≡ false
-  zero-is-blocked f h = zero-blocked l r c f h
+  -- blocked is answered exactly if in every direction the gap is at most the cart's spread
+  pub blocked-is-answered-exactly : SameThree l r c → NoneApply (sizeRows (grown (corners l) (corners c)))
+      → NoneApply (sizeRows (grown (corners r) (corners c)))
+      → (reply (askPassage l r c) ≡ answered (pos 0 ∷ pos (l .floor) ∷ []))
+      ↔ ((d : Point) → (d ≡ origin → ⊥) → gapIn d (corners l) (corners r) ≤ℤ spread d (corners c))
+  blocked-is-answered-exactly s left right = blocked-exactly l r c s left right
 
   -- an answer that begins with 1
   module _ (u v low high w f : ℤ) (h : reply (askPassage l r c) ≡ answered (pos 1 ∷ u ∷ v ∷ low ∷ high ∷ w ∷ f ∷ [])) where
@@ -170,6 +180,10 @@ module _ (l r c : Floored) where
     -- rows 11 and 12 let its direction pass: it may be given to other questions
     pub across-passes : (badDirection (point u v) ≡ false) × (commonDivisor (point u v) ≡ false)
     across-passes = told-passes l r c u v low high w f h
+
+    -- and its lines are at most 4,000,000,000,000 in size
+    pub lines-are-bounded : Within 4_000_000_000_000 low × Within 4_000_000_000_000 high
+    lines-are-bounded = told-bounded l r c u v low high w f h
 
     -- at every place with a value between low and high the cart is apart from both obstacles
     pub answered-places-are-clear : (t : Point) → low <ℤ value (point u v) t → value (point u v) t <ℤ high

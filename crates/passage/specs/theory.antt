@@ -7,5 +7,6 @@ pub mod Room
 pub mod Bezout
 pub mod Places
 pub mod Smaller
-pub mod Small
+pub mod Exchanged
+pub mod Rows
 pub mod Replies

@@ -35,7 +35,7 @@ use Rattle.growth.specs.theory.Places.{grown-some, place-alike, drive-alike}
 use Rattle.passage.specs.Passage.{passable, across, lowLine, highLine, room, Between}
 use Rattle.passage.specs.theory.Gaps.{grown-low, grown-high}
 use Rattle.passage.specs.theory.Room.{across-some, room-positive}
-use Rattle.passage.specs.theory.Small.{across-lowest}
+use Rattle.passage.specs.theory.Rows.{across-lowest}
 use Rattle.passage.specs.theory.Bezout.{value-had}
 
 -- ---- points on one side of a list

@@ -2,22 +2,25 @@
 --     three→none, none→three     no row of the shapes and of their floors applies exactly if they are three valid shapes on one floor
 --     passage-three              an answer is given only of such shapes whose grown obstacles fit; `passage-answers`: and of all of them
 --     passage-floors             three valid shapes that are not on one floor are refused 13
---     zero-blocked, one-passed   what an answer's numbers are, by its first
---     told-passes                its direction is one that 11 and 12 let pass
+--     blocked-exactly            0 is answered exactly if the cart's spread is at least the gap in every direction
+--     one-passed                 what the numbers of an answer that begins with 1 are
+--     told-passes                its direction is one that 11 and 12 let pass; `told-bounded`: its lines are bounded
 --     told-clear                 and every place between its lines is clear of both obstacles
 use mathlib.Core.Path.{_≡_, refl, sym, _∙_, ap}
 use mathlib.Core.Bool.{Bool, true, false, not, cond}
 use mathlib.Core.List.{List, [], _∷_, _++_}
+use mathlib.Core.Logic.{_↔_}
 use Prim.Native.Nat.{ℕ, _<_}
 use native.Mathlib.Decide.{ℕ-discrete}
 use native.Mathlib.Omega.{arith}
 use borrow.Author.Tests.{eqb-true, eq-eqb, ne-eqb, not-false}
 use lib.IntN.{ℤ, pos}
 use lib.ListN.{length}
-use lib.Signed.{_<ℤ_}
-use Rattle.plane.specs.Point.{Point, point}
+use lib.Signed.{_≤ℤ_, _<ℤ_}
+use Rattle.integer.specs.Bound.{Within}
+use Rattle.plane.specs.Point.{Point, point, origin, numbers}
 use Rattle.plane.specs.Reply.{answered, refused, Row, NoneApply, First, here, later}
-use Rattle.plane.specs.Refusal.{shapeRows, Valid}
+use Rattle.plane.specs.Refusal.{shapeRows, Valid, InRange}
 use Rattle.plane.specs.Direction.{value}
 use Rattle.plane.specs.Furthest.{badDirection, commonDivisor}
 use Rattle.plane.specs.Output.{sizeRows}
@@ -28,11 +31,13 @@ use Rattle.plane.specs.theory.lists.Members.{point-path}
 use Rattle.plane.specs.theory.refusals.Rows.{none-append, none-join, first-append, first-join}
 use Rattle.plane.specs.theory.refusals.Accept.{valid→accepted, accepted→valid, near→inRange}
 use Rattle.plane.specs.theory.refusals.Asked.{asked-given, asked-none, asked-values, asked-rest, rest-given, rest-none}
+use Rattle.strips.specs.Strip.{spread, gapIn}
 use Rattle.growth.specs.Grown.{grown, placed}
 use Rattle.passage.specs.Passage.{passable, across, lowLine, highLine, freeWidth, passageNumbers, passageRows, askPassage}
 use Rattle.passage.specs.Passage.{SameThree, Told}
+use Rattle.passage.specs.theory.Gaps.{blocked-nowhere, nowhere-blocked}
 use Rattle.passage.specs.theory.Places.{between-clear}
-use Rattle.passage.specs.theory.Small.{across-lowest, across-small}
+use Rattle.passage.specs.theory.Rows.{across-lowest, across-small, lines-small}
 
 module _ (l r c : Floored) where
   abbrev left : List Row
@@ -136,12 +141,22 @@ module _ (l r c : Floored) where
       let n = across L R A in
       cond t (pos 1 ∷ n .x ∷ n .y ∷ lowLine n R A ∷ highLine n L A ∷ pos (freeWidth L R A) ∷ []) (pos 0 ∷ []) ++ (pos (l .floor) ∷ [])
 
-  pub zero-blocked : (f : ℤ) → reply (askPassage l r c) ≡ answered (pos 0 ∷ f ∷ []) → passable L R A ≡ false
+  zero-blocked : (f : ℤ) → reply (askPassage l r c) ≡ answered (pos 0 ∷ f ∷ []) → passable L R A ≡ false
   zero-blocked f h = go (passable L R A) (asked-values (askPassage l r c) _ h)
     where
       go : (t : Bool) → pos 0 ∷ f ∷ [] ≡ told-by t → t ≡ false
       go false e = refl
       go true e = absurd (let z : _≡_ {A = ℕ} 0 1 = cc e in let b : ⊥ = omega arith in b)
+
+  pub blocked-exactly : SameThree l r c → NoneApply (sizeRows (grown L A)) → NoneApply (sizeRows (grown R A))
+      → (reply (askPassage l r c) ≡ answered (pos 0 ∷ pos (l .floor) ∷ []))
+      ↔ ((d : Point) → (d ≡ origin → ⊥) → gapIn d L R ≤ℤ spread d A)
+  blocked-exactly s n k = (
+    λ h d some. blocked-nowhere L R A (s .left-valid .shape .some) (s .right-valid .shape .some) (s .cart-valid .shape .some)
+        (zero-blocked _ h) d,
+    λ f. passage-answers s n k ∙ ap (λ t. answered (told-by t)) (nowhere-blocked L R A (s .left-valid .shape .some)
+        (s .right-valid .shape .some) (s .cart-valid .shape .some) f),
+  )
 
   pub one-passed : (u v low high w f : ℤ) → reply (askPassage l r c) ≡ answered (pos 1 ∷ u ∷ v ∷ low ∷ high ∷ w ∷ f ∷ [])
       → Told l r c u v low high w f
@@ -182,12 +197,21 @@ module _ (l r c : Floored) where
     cart-some : 0 < length A
     cart-some = three .0 .cart-valid .shape .some
 
+    left-near : InRange (numbers (grown L A))
+    left-near = near→inRange _ (three .1 .1 .0)
+
+    right-near : InRange (numbers (grown R A))
+    right-near = near→inRange _ (three .2 .1 .0)
+
     pub told-passes : (badDirection (point u v) ≡ false) × (commonDivisor (point u v) ≡ false)
     told-passes = rw (told-numbers .direction-is) (
-      across-small L R A left-some right-some cart-some (told-numbers .passes) (near→inRange _ (three .1 .1 .0))
-          (near→inRange _ (three .2 .1 .0)),
+      across-small L R A left-some right-some cart-some (told-numbers .passes) left-near right-near,
       across-lowest L R A left-some right-some cart-some (told-numbers .passes),
     )
+
+    pub told-bounded : Within 4_000_000_000_000 low × Within 4_000_000_000_000 high
+    told-bounded = rw (told-numbers .low-is, told-numbers .high-is, told-numbers .direction-is)
+        (lines-small L R A left-some right-some cart-some (told-numbers .passes) left-near right-near)
 
     pub told-clear : (t : Point) → low <ℤ value (point u v) t → value (point u v) t <ℤ high
         → (apart (placed A t) L ≡ true) × (apart (placed A t) R ≡ true)

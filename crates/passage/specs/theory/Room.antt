@@ -1,5 +1,5 @@
 -- The room between two obstacles that a cart may pass, and the free width.
---     room-gap             the room is the gap of the grown obstacles; `room-spread`: the gap of the obstacles less the cart's spread
+--     room-gap             the room is the gap of the grown obstacles; `room-spread`: the gap of the obstacles minus the cart's spread
 --     across-some          the direction across is not (0,0)
 --     room-positive        the room is above 0
 --     room-at-clearance    squared, over the direction's squared length, it is the squared clearance of the grown obstacles

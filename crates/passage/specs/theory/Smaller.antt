@@ -1,5 +1,5 @@
 -- Smaller obstacles and a smaller cart: the cart may still pass, and has no less room.
---     smaller-gap          in every direction the gap less the spread is no less
+--     smaller-gap          in every direction the gap minus the spread is no less
 --     smaller-passes       what is passable stays so
 --     smaller-room         the room, over the direction's length, is no less
 --     smaller-width        nor is the free width

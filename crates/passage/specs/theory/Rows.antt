@@ -2,6 +2,7 @@
 -- pass.
 --     across-lowest      12: its parts have no common divisor
 --     across-small       11: it is not (0,0), and its parts are in range
+--     lines-small        its two lines are at most 4,000,000,000,000 in size
 use mathlib.Core.Path.{_≡_, sym, _∙_, ap, subst}
 use mathlib.Core.Bool.{true, false}
 use mathlib.Core.List.{List, [], _∷_}
@@ -19,7 +20,7 @@ use Rattle.plane.specs.Limits.{maxCoordinate, maxPart}
 use Rattle.plane.specs.Point.{Point, origin, numbers, corner, opposite, _⊖_}
 use Rattle.plane.specs.Shape.{next, IsShape}
 use Rattle.plane.specs.Refusal.{InRange}
-use Rattle.plane.specs.Direction.{SameWay}
+use Rattle.plane.specs.Direction.{support, SameWay}
 use Rattle.plane.specs.Furthest.{badDirection, commonDivisor}
 use Rattle.plane.specs.Primitive.{primitive}
 use Rattle.plane.specs.Mean.{times}
@@ -29,17 +30,20 @@ use Rattle.plane.specs.theory.lists.Flat.{Near, points-near, points-numbers}
 use Rattle.plane.specs.theory.lists.Members.{point-path}
 use Rattle.plane.specs.theory.lists.Next.{next-below}
 use Rattle.plane.specs.theory.forms.SameWay.{same-sym, same-trans, same-non-zero}
-use Rattle.plane.specs.theory.direction.Rows.{near-direction}
+use Rattle.plane.specs.theory.support.Bounds.{support-size}
+use Rattle.plane.specs.theory.direction.Rows.{direction-near, near-direction}
 use Rattle.plane.specs.theory.direction.Primitive.{primitive-same, primitive-common, primitive-bad, primitive-only}
 use Rattle.clearance.specs.Order.{Listed}
 use Rattle.clearance.specs.theory.Nearest.{nearest-is-listed}
+use Rattle.strips.specs.Strip.{least}
 use Rattle.strips.specs.OwnDirection.{outOf, towards}
 use Rattle.growth.specs.Grown.{grown}
 use Rattle.growth.specs.theory.Places.{grown-shape}
-use Rattle.passage.specs.Passage.{passable, across}
+use Rattle.passage.specs.Passage.{passable, across, lowLine, highLine}
+use Rattle.passage.specs.theory.Gaps.{grown-low, grown-high}
 use Rattle.passage.specs.theory.Widest.{step-some}
 
--- two coordinates, one less the other, are the part of a direction
+-- the difference of two coordinates fits a part of a direction
 coordinates-fit : maxCoordinate + maxCoordinate ≤ maxPart
 unfolding maxCoordinate maxPart
 coordinates-fit = lit≤ tt
@@ -97,6 +101,11 @@ times-name k v some u w = go (compared (pos 0) k)
 corner-near : (ps : List Point) → InRange (numbers ps) → (i : ℕ) → i < length ps → Near (corner ps i)
 corner-near ps r i h = subst (λ qs. i < length qs → Near (corner qs i)) (points-numbers ps) (points-near (numbers ps) r i) h
 
+reach-size : (ps : List Point) → InRange (numbers ps) → (d : Point) → 0 < length ps → Within maxPart (d .x) → Within maxPart (d .y)
+    → Within 4_000_000_000_000 (support d ps)
+reach-size ps r d some u v = subst (λ qs. 0 < length qs → Within 4_000_000_000_000 (support d qs)) (points-numbers ps)
+    (support-size (numbers ps) r u v) some
+
 -- a multiple of the direction out of an edge
 edge-name : (ps : List Point) → InRange (numbers ps) → (e : ℕ) → e < length ps → (k : ℤ) → NonZero (times k (outOf ps e))
     → badDirection (primitive (times k (outOf ps e))) ≡ false
@@ -136,3 +145,15 @@ module _ (L R A : List Point) (l : 0 < length L) (r : 0 < length R) (a : 0 < len
   unfolding across
   across-small near also = towards-name G H near also (nearest G H) (nearest-is-listed G H left-shape right-shape h)
       (step-some G H left-shape right-shape h)
+
+  -- the lines are the greatest and the least value of lists in range
+  pub lines-small : InRange (numbers G) → InRange (numbers H)
+      → Within 4_000_000_000_000 (lowLine (across L R A) R A) × Within 4_000_000_000_000 (highLine (across L R A) L A)
+  unfolding least
+  lines-small near also =
+      let n = across L R A in
+      let fits = direction-near n (across-small near also) in (
+        subst (λ z. Within 4_000_000_000_000 z) (grown-low R A r a n) (reach-size H also n (right-shape .some) (fits .0) (fits .1)),
+        subst (λ z. Within 4_000_000_000_000 z) (grown-high L A l a n)
+            (within-neg (reach-size G near (opposite n) (left-shape .some) (within-neg (fits .0)) (within-neg (fits .1)))),
+      )
