@@ -10,3 +10,4 @@ pub mod Smaller
 pub mod Exchanged
 pub mod Rows
 pub mod Replies
+pub mod Walked

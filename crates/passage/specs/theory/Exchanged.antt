@@ -68,8 +68,8 @@ module _ (A B : List Point) (s : IsShape A) (t : IsShape B) (h : apart A B ≡ t
       (rw (turned-gap B A k) (weaken (widest-positive B A t s back))))
 
   widest-turned : k ≡ opposite n
-  widest-turned = sym (widest-only B A t s back (opposite n) (opposite-non-zero (widest-some A B s t h)) lowest
-      (rw (turned-gap A B n) (weaken (widest-positive A B s t h))) as-wide)
+  widest-turned = sym (widest-only B A t s back (opposite n) (opposite-non-zero (widest-some A B s t h))
+      (rw (turned-gap A B n) (weaken (widest-positive A B s t h))) as-wide lowest)
 
 -- ---- the passage
 

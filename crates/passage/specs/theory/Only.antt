@@ -1,6 +1,7 @@
 -- Only one direction in lowest terms has the widest gap. A direction with as wide a gap goes along the step between the two nearest points:
 -- its value there is at least the gap, and not more than the length of both allows only if they are parallel.
---     widest-only      a direction in lowest terms with as wide a gap is the widest
+--     as-wide-same     a direction with as wide a gap points the same way
+--     widest-only      and in lowest terms it is the same direction
 use mathlib.Core.Path.{_≡_}
 use mathlib.Core.Bool.{true, false}
 use mathlib.Core.List.{List, [], _∷_}
@@ -103,11 +104,15 @@ module _ (A B : List Point) (s : IsShape A) (t : IsShape B) (h : apart A B ≡ t
         (lagrange d step) (nearest-two .exact) wide;
   }
 
-  pub widest-only : (d : Point) → NonZero d → commonDivisor d ≡ false → pos 0 ≤ℤ gapIn d A B
-      → (gapIn n A B *ℤ gapIn n A B *ℤ value d d) ≤ℤ (gapIn d A B *ℤ gapIn d A B *ℤ value n n) → d ≡ n
-  widest-only d some lowest low wide = primitive-only (towards A B (nearest A B)) d (step-some A B s t h) lowest
-      (same-trans (along-same (wide-along d (not-level (gapIn n A B) (value n n) (gapIn d A B) (value d d)
-      (widest-positive A B s t h) (square-positive d some) low wide) (same-wide (gapIn d A B) (value d d) (gapIn n A B) (value n n)
-      (top A B (nearest A B)) (bottom A B (nearest A B)) (square-positive n (widest-some A B s t h))
-      (le-antisym (none-wider A B s t h d some low) wide) (widest-clearance A B s t h)))
-      (wide-along n (widest-positive A B s t h) (widest-clearance A B s t h))) (widest-same A B s t h))
+  module _ (d : Point) (some : NonZero d) (low : pos 0 ≤ℤ gapIn d A B)
+      (wide : (gapIn n A B *ℤ gapIn n A B *ℤ value d d) ≤ℤ (gapIn d A B *ℤ gapIn d A B *ℤ value n n)) where
+    pub as-wide-same : SameWay d n
+    as-wide-same = along-same (wide-along d (not-level (gapIn n A B) (value n n) (gapIn d A B) (value d d)
+        (widest-positive A B s t h) (square-positive d some) low wide) (same-wide (gapIn d A B) (value d d) (gapIn n A B) (value n n)
+        (top A B (nearest A B)) (bottom A B (nearest A B)) (square-positive n (widest-some A B s t h))
+        (le-antisym (none-wider A B s t h d some low) wide) (widest-clearance A B s t h)))
+        (wide-along n (widest-positive A B s t h) (widest-clearance A B s t h))
+
+    pub widest-only : commonDivisor d ≡ false → d ≡ n
+    widest-only lowest = primitive-only (towards A B (nearest A B)) d (step-some A B s t h) lowest
+        (same-trans as-wide-same (widest-same A B s t h))

@@ -95,8 +95,8 @@ module _ (L R A : List Point) (l : 0 < length L) (r : 0 < length R) (a : 0 < len
       pub room-only : commonDivisor d ≡ false
           → (room L R A *ℤ room L R A *ℤ value d d) ≤ℤ ((gapIn d L R -ℤ spread d A) *ℤ (gapIn d L R -ℤ spread d A) *ℤ value n n) → d ≡ n
       unfolding across
-      room-only lowest wide = widest-only G H left-shape right-shape h d (record { non-zero = some }) lowest gap-left
-          (rw (room-gap, ← grown-gap L R A l r a d) at wide)
+      room-only lowest wide = widest-only G H left-shape right-shape h d (record { non-zero = some }) gap-left
+          (rw (room-gap, ← grown-gap L R A l r a d) at wide) lowest
 
     pub width-bounded : Bounded (room L R A *ℤ room L R A) (value n n) (freeWidth L R A)
     unfolding freeWidth
