@@ -2,6 +2,7 @@
 pub mod Places
 pub mod Walk
 pub mod Side
+pub mod Image
 pub mod Stretch
 pub mod Advance
 pub mod PlaceAfter

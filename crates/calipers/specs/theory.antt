@@ -6,6 +6,7 @@ pub mod Places
 pub mod PlaceCorners
 pub mod Visited
 pub mod Sides
+pub mod Image
 pub mod Steps
 pub mod Carry
 pub mod Directions

@@ -2,6 +2,7 @@
 // `questions`.
 pub mod convex;
 pub mod edges;
+pub mod image;
 pub mod side;
 pub mod walk;
 

@@ -1,36 +1,40 @@
 // Inner functions: the direction from one shape to another along which they are nearest, by one walk round the corners
-// of their differences.
+// of their differences: the sum of the first and the mirror image of the second, whose peak is at position top.
 ghost use mathlib.Core.Path.{_≡_};
 ghost use Prim.Native.Nat.{_^_};
 ghost use Rattle.plane.specs.Point.{points, corner, _⊖_};
+ghost use Rattle.plane.specs.Refusal.{Valid};
 ghost use Rattle.plane.specs.Forms.{NonZero};
 ghost use Rattle.plane.specs.Cut.{quarter};
 ghost use Rattle.plane.specs.VectorSum.{vectorSum};
+ghost use Rattle.polygon.specs.Peak.{Peak};
 ghost use Rattle.polygon.specs.Point.{at, Small};
-ghost use Rattle.calipers.specs.Walk.{At, begun};
+ghost use Rattle.calipers.specs.Image.{image};
 ghost use Rattle.clearance.specs.Stop.{footInside, Stopped};
 ghost use Rattle.clearance.specs.Stop.{rests as Stop·rests, crosses as Stop·crosses};
+use calipers::image;
 use calipers::side;
 use polygon::point;
 use polygon::point::Point;
 
 // The walk stops at a corner that neither of its neighbours is nearer than, along itself; or at an edge that has the
 // origin to its right and the origin's foot strictly inside. The corner before the first is not known when the walk is
-// at the first: the origin stands for it, and then the first corner is what is left if no other place is found.
-pub fn facing(a: &[i32], b: &[i32]) -> Point
-    requires { ⌜ At (now a) (now b) begun × NonZero (corner (vectorSum (points (now a)) (points (now b))) 0) ⌝ }
+// at the first: the origin takes its place, and the first corner is what is left if no other place is found.
+pub fn facing(a: &[i32], b: &[i32], top: usize) -> Point
+    requires { ⌜ Valid (now a) × Valid (now b) × Peak (points (now b)) top
+        × NonZero (corner (vectorSum (points (now a)) (points (image (now b)))) 0) ⌝ }
     ensures { λ r. ⌜ Small (2 ^ 22) (at r)
-        × Stopped (vectorSum (points (now (a .entry))) (points (now (b .entry)))) (at r) ⌝ }
+        × Stopped (vectorSum (points (now (a .entry))) (points (image (now (b .entry))))) (at r) ⌝ }
 {
     let mut s = side::side_at(a, 0);
-    let mut t = side::side_at(b, 0);
+    let mut t = image::side_at(b, top, 0);
     let all = s.end + t.end;
     let first = side::here(s, t);
     let mut back = Point { x: 0, y: 0 };
     loop {
         let c = side::order(s, t);
         let m = side::next(a, s, c < 0);
-        let n = side::next(b, t, 0 < c);
+        let n = image::next(b, top, t, 0 < c);
         let here = side::here(s, t);
         let there = side::here(m, n);
         if rests(back, here, there) {

@@ -13,9 +13,7 @@ ghost use Rattle.plane.specs.Separation.{apart};
 ghost use Rattle.plane.specs.Clearance.{numbersOf, nearest as Clearance·nearest};
 ghost use Rattle.clearance.specs.Answer.{valuesOf};
 use measured::Distance;
-use polygon::corners;
-use polygon::limits;
-use polygon::opposite;
+use polygon::peak;
 
 // Where two shapes that are apart are nearest, and how near: the first of the least candidates. A walk round their
 // differences finds the direction, which leaves one or two corners of each shape; of these the first that are reached.
@@ -25,8 +23,6 @@ pub fn nearest(a: &[i32], b: &[i32]) -> Distance
     ensures { λ r. ⌜ valuesOf r ≡ numbersOf (points (now (a .entry))) (points (now (b .entry)))
         (Clearance·nearest (points (now (a .entry))) (points (now (b .entry)))) ⌝ }
 {
-    let mut image = [0i32; limits::SHAPE_NUMBERS];
-    opposite::mirror(b, &mut image);
-    let n = facing::facing(a, &image[..2 * corners::count(b)]);
+    let n = facing::facing(a, b, peak::top(b));
     measured::measured(a, b, reach::first_reached(a, b, n))
 }

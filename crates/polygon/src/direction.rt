@@ -105,6 +105,25 @@ pub fn face_towards(list: &[i32], d: Point) -> Face
     }
 }
 
+// The greatest value of a corner.
+// Ruled out: least value for the greatest.
+pub fn reach(list: &[i32], d: Point) -> i64
+    requires { ⌜ (0 < length (points (now list))) × InRange (now list) × Small (2 ^ 22) (at d) ⌝ }
+    ensures { λ r. ⌜ r ≡ support (at d) (points (now (list .entry))) ⌝ }
+{
+    let n = corners::count(list);
+    let mut greatest = value_at(list, 0, d);
+    let mut i = 1;
+    while i < n {
+        let next = value_at(list, i, d);
+        if greatest < next {
+            greatest = next;
+        }
+        i += 1;
+    }
+    greatest
+}
+
 // Whether a corner has at least a value.
 fn reaches(list: &[i32], i: usize, d: Point, least: i64) -> bool
     requires { ⌜ (i < length (points (now list))) × InRange (now list) × Small (2 ^ 22) (at d) ⌝ }

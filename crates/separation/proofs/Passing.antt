@@ -5,7 +5,7 @@
 --     passing-below, passing-count     there is an edge to pass; the count fits
 --     passing-corners                  the corners that the edge joins
 use mathlib.Core.Path.{_≡_, refl, sym, _∙_, ap, ap₂, subst}
-use mathlib.Core.Bool.{Bool, true, false, _||_, true≢false}
+use mathlib.Core.Bool.{Bool, true, false, _||_, true≢false, false≢true}
 use mathlib.Core.List.{List}
 use Prim.Native.Nat.{ℕ, suc, _+_, _≤_, _<_, zero-le}
 use native.Mathlib.Numerals.{add-one}
@@ -23,7 +23,12 @@ use Rattle.separation.specs.theory.Rim.{notLeft-cross}
 use Rattle.calipers.specs.Walk.{Walk, here, begun, advanced, stepped, At}
 use Rattle.calipers.specs.theory.Steps.{at-stepped}
 use Rattle.plane.specs.Search.{some}
+use Rattle.polygon.specs.declared.point.Point.{Point as Code·Point}
+use Rattle.polygon.specs.Point.{at}
+use Rattle.separation.specs.Outward.{Outward}
 use Rattle.separation.specs.Around.{crossAt, rightOf, Passed}
+use Rattle.separation.specs.theory.Outward.{stepped-away}
+use Rattle.separation.specs.theory.Passed.{passedNormal}
 use Rattle.separation.specs.theory.Stops.{sum-length, on-below, over-end, corner-here, stop-here}
 
 -- ---- the loop
@@ -46,14 +51,16 @@ module _ {a b : List ℤ} where
     pub passing-at : At a b walk
     passing-at = subst (At a b) (sym (p .moved)) (at-stepped a b begun (p .start) count)
 
-    pub passing-end : walk .over ≡ true → Passed D (record { count = count; outside = false; rim = rim })
-    passing-end o =
+    pub passing-end : walk .over ≡ true → (normal : Code·Point)
+        → Passed D (record { count = count; outside = false; rim = rim; normal = normal })
+    passing-end o normal =
         let e : count ≡ length D =
         omega (arith, p .within, over-end a b (p .start) count (p .within) (ap (λ (w : Walk). w .over) (sym (p .moved)) ∙ o)) in
         record {
           outside-is = sym (p .inner) ∙ ap (some (rightOf D)) e;
           count-is = λ h. e;
           rim-is = λ h. p .rim-is ∙ ap (some (notLeft D)) e;
+          normal-is = λ h. absurd (false≢true h);
         }
 
     module _ (on : walk .over ≡ false) where
@@ -77,11 +84,14 @@ module _ {a b : List ℤ} where
           unfolding rightOf crossAt
           side-is = ap (λ (z : ℤ). ltZ z (pos 0)) (t ∙ passing-corners cross)
 
-          pub passing-out : ltZ turn (pos 0) ≡ true → Passed D (record { count = count; outside = true; rim = rim })
-          passing-out h = record {
+          pub passing-out : ltZ turn (pos 0) ≡ true → (normal : Code·Point) → at normal ≡ passedNormal (points a) (points b) walk after
+              → Passed D (record { count = count; outside = true; rim = rim; normal = normal })
+          passing-out h normal n = record {
             outside-is = sym (some-here (rightOf D) (length D) count passing-below (sym side-is ∙ h));
             count-is = λ k. absurd (true≢false k);
             rim-is = λ k. absurd (true≢false k);
+            normal-is = λ k. subst (Outward D) (sym (n ∙ ap₂ (passedNormal (points a) (points b)) (p .moved) after-is))
+                (stepped-away a b (p .start) count passing-below (sym side-is ∙ h));
           }
 
           pub passing-more : ltZ turn (pos 0) ≡ false → {new : Bool} → new ≡ (rim || leZ turn (pos 0)) → Passing a b after (count + 1) new

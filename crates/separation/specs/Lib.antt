@@ -1,5 +1,6 @@
 -- What the questions answer, what their code finds on the way, the paper's sentences; then the meaning, and the theory behind it.
 pub mod Answer
+pub mod Outward
 pub mod Around
 pub mod Directions
 pub mod Meaning

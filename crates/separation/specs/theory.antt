@@ -8,4 +8,7 @@ pub mod Stops
 pub mod Around
 pub mod Image
 pub mod Within
+pub mod Edge
+pub mod Passed
+pub mod Outward
 pub mod Replies

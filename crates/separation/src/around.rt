@@ -1,34 +1,46 @@
-// Inner functions: the origin against the corners of a sum, in one walk round them.
+// Inner functions: the origin against the differences of two shapes, in one walk round their corners: the sum of the
+// first and the mirror image of the second, whose peak is at position top.
 ghost use mathlib.Core.Path.{_≡_};
-ghost use Rattle.plane.specs.Point.{points};
+ghost use Prim.Native.Nat.{_^_};
+ghost use Rattle.plane.specs.Point.{points, corner};
+ghost use Rattle.plane.specs.Refusal.{Valid};
 ghost use Rattle.plane.specs.VectorSum.{vectorSum};
-ghost use Rattle.calipers.specs.Walk.{At, begun};
+ghost use Rattle.polygon.specs.Peak.{Peak};
+ghost use Rattle.polygon.specs.Point.{at, Small};
+ghost use Rattle.calipers.specs.Image.{image};
 ghost use Rattle.separation.specs.Answer.{numberOf};
-ghost use Rattle.separation.specs.Around.{Passed, originIn, originInFew};
+ghost use Rattle.separation.specs.Around.{Passed, originIn, originOn};
 use crate::answer::Relation;
+use crate::normal;
+use calipers::image;
 use calipers::side;
 use polygon::point;
+use polygon::point::Point;
 use polygon::rules::either;
 
-// What a walk round the edges saw: whether the origin is to the right of one, at which it stops; and if of none, how
-// many edges there are and whether the origin is not to the left of one.
+// What a walk round the edges saw: whether the origin is to the right of one, at which it stops, and then its outer
+// normal; and if of none, how many edges there are and whether the origin is not to the left of one.
 pub struct Sides {
     pub count: usize,
     pub outside: bool,
     pub rim: bool,
+    pub normal: Point,
 }
 
-// Apart if the origin is outside the sum, touching if on its rim, else overlapping.
-pub fn around(a: &[i32], b: &[i32]) -> Relation
-    requires { ⌜ At (now a) (now b) begun ⌝ }
-    ensures { λ r. ⌜ numberOf r ≡ originIn (vectorSum (points (now (a .entry))) (points (now (b .entry)))) ⌝ }
+// Apart if the origin is outside, touching if on the rim, else overlapping.
+pub fn around(a: &[i32], b: &[i32], top: usize) -> Relation
+    requires { ⌜ Valid (now a) × Valid (now b) × Peak (points (now b)) top ⌝ }
+    ensures { λ r. ⌜ numberOf r ≡ originIn (vectorSum (points (now (a .entry))) (points (image (now (b .entry))))) ⌝ }
 {
-    let sides = pass(a, b);
+    let sides = pass(a, b, top);
     if sides.outside {
         return Relation::Apart;
     }
     if sides.count < 3 {
-        return around_few(a, b);
+        if is_on(a, b, top) {
+            return Relation::Touching;
+        }
+        return Relation::Apart;
     }
     if sides.rim {
         return Relation::Touching;
@@ -36,44 +48,50 @@ pub fn around(a: &[i32], b: &[i32]) -> Relation
     Relation::Overlapping
 }
 
-// A point or a segment that has the origin on its line: it is on it unless the first two corners lie the same way.
-fn around_few(a: &[i32], b: &[i32]) -> Relation
-    requires { ⌜ At (now a) (now b) begun ⌝ }
-    ensures { λ r. ⌜ numberOf r ≡ originInFew (vectorSum (points (now (a .entry))) (points (now (b .entry)))) ⌝ }
+// Whether the origin is on a point or a segment that has it on its line: the first two corners do not lie the same way.
+pub fn is_on(a: &[i32], b: &[i32], top: usize) -> bool
+    requires { ⌜ Valid (now a) × Valid (now b) × Peak (points (now b)) top ⌝ }
+    ensures { λ r. ⌜ r ≡ originOn (vectorSum (points (now (a .entry))) (points (image (now (b .entry))))) ⌝ }
 {
     let s = side::side_at(a, 0);
-    let t = side::side_at(b, 0);
+    let t = image::side_at(b, top, 0);
     let c = side::order(s, t);
     let m = side::next(a, s, c < 0);
-    let n = side::next(b, t, 0 < c);
-    let along = point::dot(side::here(s, t), side::here(m, n));
-    if along <= 0 {
-        return Relation::Touching;
-    }
-    Relation::Apart
+    let n = image::next(b, top, t, 0 < c);
+    point::dot(side::here(s, t), side::here(m, n)) <= 0
 }
 
-// Passes the edges of the sum, each once, up to one that has the origin to its right. Behind the last edge both sides
-// stand at their first corners again.
-fn pass(a: &[i32], b: &[i32]) -> Sides
-    requires { ⌜ At (now a) (now b) begun ⌝ }
-    ensures { λ r. ⌜ Passed (vectorSum (points (now (a .entry))) (points (now (b .entry)))) r ⌝ }
+// The first corner of the differences.
+pub fn first(a: &[i32], b: &[i32], top: usize) -> Point
+    requires { ⌜ Valid (now a) × Valid (now b) × Peak (points (now b)) top ⌝ }
+    ensures { λ r. ⌜ at r ≡ corner (vectorSum (points (now (a .entry))) (points (image (now (b .entry))))) 0 ⌝ }
+    ensures { λ r. ⌜ Small (2 ^ 21) (at r) ⌝ }
+{
+    side::here(side::side_at(a, 0), image::side_at(b, top, 0))
+}
+
+// Passes the edges, each once, up to one that has the origin to its right. After the last edge both sides are at their
+// first corners again.
+pub fn pass(a: &[i32], b: &[i32], top: usize) -> Sides
+    requires { ⌜ Valid (now a) × Valid (now b) × Peak (points (now b)) top ⌝ }
+    ensures { λ r. ⌜ Passed (vectorSum (points (now (a .entry))) (points (image (now (b .entry))))) r ⌝ }
 {
     let mut s = side::side_at(a, 0);
-    let mut t = side::side_at(b, 0);
+    let mut t = image::side_at(b, top, 0);
     let all = s.end + t.end;
     let mut count = 0;
     let mut rim = false;
     loop {
         let c = side::order(s, t);
         let m = side::next(a, s, c < 0);
-        let n = side::next(b, t, 0 < c);
+        let n = image::next(b, top, t, 0 < c);
         let turn = point::cross(side::here(s, t), side::here(m, n));
         if turn < 0 {
             return Sides {
                 count,
                 outside: true,
                 rim,
+                normal: normal::passed_normal(s, t, m, n),
             };
         }
         rim = either(rim, turn <= 0);
@@ -83,6 +101,7 @@ fn pass(a: &[i32], b: &[i32]) -> Sides
                 count,
                 outside: false,
                 rim,
+                normal: Point { x: 0, y: 0 },
             };
         }
         s = m;

@@ -1,7 +1,8 @@
 // Inner functions for how two shapes stand to each other (document 01, "Relation" and "Inside"), and for their
 // differences. Callers ask the crate `questions`.
 pub mod answer;
-mod around;
+pub mod around;
+mod normal;
 mod within;
 
 ghost use mathlib.Core.Path.{_≡_};
@@ -18,17 +19,16 @@ use answer::Relation;
 use polygon::corners;
 use polygon::limits;
 use polygon::opposite;
+use polygon::peak;
 
 // Whether two shapes are apart, touching or overlapping, by a walk round their differences: the sum of the first and
-// the mirror image of the second, which has as many corners as the second.
+// the mirror image of the second.
 // Ruled out: touching read as apart; less or equal for less; segments in line by normals only.
 pub fn relation(a: &[i32], b: &[i32]) -> Relation
     requires { ⌜ Valid (now a) × Valid (now b) ⌝ }
     ensures { λ r. ⌜ numberOf r ≡ relationNumber (points (now (a .entry))) (points (now (b .entry))) ⌝ }
 {
-    let mut image = [0i32; limits::SHAPE_NUMBERS];
-    opposite::mirror(b, &mut image);
-    around::around(a, &image[..2 * corners::count(b)])
+    around::around(a, b, peak::top(b))
 }
 
 // Writes the shape of all differences, a corner of the first less a corner of the second, at the front of the buffer,

@@ -1,7 +1,6 @@
 // Inner functions for a direction in which one shape is below another: the witness that they are apart (document 02,
 // request W13). Callers ask the crate `questions`.
 mod primitive;
-mod search;
 
 ghost use mathlib.Core.Bool.{false};
 ghost use mathlib.Core.Path.{_≡_};
@@ -9,14 +8,15 @@ ghost use Rattle.plane.specs.Point.{points};
 ghost use Rattle.plane.specs.Refusal.{Valid};
 ghost use Rattle.plane.specs.Furthest.{badDirection};
 ghost use Rattle.plane.specs.Offer.{below};
+ghost use Rattle.plane.specs.Primitive.{primitive};
 ghost use Rattle.polygon.specs.Point.{at};
+ghost use Rattle.separator.specs.declared.Separator.the-variants.{Direction};
 ghost use Rattle.separator.specs.Separator.{Finds};
-use polygon::corners;
 use polygon::direction;
-use polygon::limits;
-use polygon::opposite;
+use polygon::peak;
 use polygon::point;
 use polygon::point::Point;
+use separation::around;
 
 // Whether every corner of the first shape is strictly below every corner of the second in a direction: the greatest
 // value of the first is less than the least of the second, which is the greatest in the opposite direction, negated.
@@ -25,8 +25,8 @@ pub fn is_below(a: &[i32], b: &[i32], d: Point) -> bool
     requires { ⌜ Valid (now a) × Valid (now b) × (badDirection (at d) ≡ false) ⌝ }
     ensures { λ r. ⌜ r ≡ below (at d) (points (now (a .entry))) (points (now (b .entry))) ⌝ }
 {
-    let greatest = direction::face_towards(a, d).value;
-    let least = -direction::face_towards(b, point::opposite(d)).value;
+    let greatest = direction::reach(a, d);
+    let least = -direction::reach(b, point::opposite(d));
     greatest < least
 }
 
@@ -37,22 +37,33 @@ pub enum Separator {
 }
 
 // A direction that is accepted, its parts with no common divisor above 1; nothing exactly if the shapes are not apart.
-// Which of the directions it is, is left open. It is the one that leads away from the differences, if any does: the
-// sum of the first shape and the mirror image of the second, which has as many corners as the second.
-// Ruled out: direction not divided.
+// Which of the directions it is, is left open. It leads away from the differences, if any does: it is the normal of the
+// first edge that has the origin to its right. If none has, only a point or a segment in line with the origin can have
+// it outside, and then it is the opposite of a corner.
 pub fn find(a: &[i32], b: &[i32]) -> Separator
     requires { ⌜ Valid (now a) × Valid (now b) ⌝ }
     ensures { λ r. ⌜ Finds (points (now (a .entry))) (points (now (b .entry))) r ⌝ }
 {
-    let mut image = [0i32; limits::SHAPE_NUMBERS];
-    opposite::mirror(b, &mut image);
-    let d = search::seek(a, &image[..2 * corners::count(b)]);
-    if direction::bad_direction(d.x, d.y) {
+    let top = peak::top(b);
+    let sides = around::pass(a, b, top);
+    if sides.outside {
+        return named(sides.normal);
+    }
+    if 2 < sides.count {
         return Separator::Nothing;
     }
-    let e = primitive::primitive(d);
-    if is_below(a, b, e) {
-        return Separator::Direction { u: e.x, v: e.y };
+    if around::is_on(a, b, top) {
+        return Separator::Nothing;
     }
-    Separator::Nothing
+    named(point::opposite(around::first(a, b, top)))
+}
+
+// A direction, its parts over their greatest common divisor.
+// Ruled out: direction not divided.
+fn named(d: Point) -> Separator
+    requires { ⌜ badDirection (at d) ≡ false ⌝ }
+    ensures { λ r. ⌜ r ≡ Direction (primitive (at d) .x) (primitive (at d) .y) ⌝ }
+{
+    let e = primitive::primitive(d);
+    Separator::Direction { u: e.x, v: e.y }
 }

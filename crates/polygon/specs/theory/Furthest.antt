@@ -1,6 +1,6 @@
 -- A walk that keeps the greatest value so far and its smallest position (`Greatest`), and what it has found at the end.
 --     greatest-start, greatest-keep, greatest-rise      the moves of the walk
---     greatest-furthest                                 past the last corner: the position of the furthest corner
+--     greatest-support, greatest-furthest               past the last corner: the greatest value, and its position
 use mathlib.Core.Path.{_≡_, sym, _∙_, ap, subst}
 use mathlib.Core.List.{List, [], _∷_}
 use Prim.Native.Nat.{ℕ, _+_, _<_}
@@ -52,7 +52,7 @@ module _ (f : ℕ → ℤ) where
 -- ---- the end
 
 module _ (d : Point) (ps : List Point) {i at : ℕ} {z : ℤ} (g : Greatest (λ k. value d (corner ps k)) i at z) (end : i ≡ length ps) where
-  greatest-support : z ≡ support d ps
+  pub greatest-support : z ≡ support d ps
   greatest-support =
       let here : at < length ps = omega (arith, g .within) in
       g .has ∙ sym (support-unique d (position-member ps at here) (λ q m. below q (member-position m)))

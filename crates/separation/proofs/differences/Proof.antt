@@ -4,19 +4,23 @@ use native.Mathlib.Omega.{arith}
 use borrow.Author.Needs.{needs}
 use lib.ListN.{length}
 use Rattle.plane.specs.Limits.{maxCorners}
+use Rattle.plane.specs.Point.{points}
 use Rattle.plane.specs.Refusal.{Valid}
+use Rattle.plane.specs.Corner.{shapeOf, mirrored}
 use Rattle.plane.specs.theory.lists.Flat.{points-length}
 use Rattle.plane.specs.theory.mirror.Mirror.{mirror-count}
 use Rattle.polygon.specs.Front.{Front}
-use Rattle.polygon.specs.theory.Fronts.{front-length, front-points}
-use Rattle.separation.specs.theory.Image.{image, image-front, image-valid, image-summed}
+use Rattle.polygon.specs.theory.Fronts.{overwritten-front, front-length, front-points}
+use Rattle.calipers.specs.theory.Image.{image-valid}
+use Rattle.separation.specs.theory.Image.{image-summed}
 use Rattle.separation.proofs.differences.Statement.{statement}
 use Rattle.separation.proofs.differences.Tie as tie
 
 -- the image, where it is known
-front : (c : tie.After-count) → Front (image (c .before .before .before .before .args .b .now)) (c .count .result)
+front : (c : tie.After-count) → Front (shapeOf (mirrored (points (c .before .before .before .before .args .b .now)))) (c .count .result)
     (c .before .before .mirror .last .1 .0)
-front c = image-front _ (c .before .before .before .before .pre .1) _ _ (c .before .before .mirror .ensures) _ (c .count .ensures)
+front c = overwritten-front _ _ _ _
+    (c .count .ensures ∙ sym (mirror-count _ (c .before .before .before .before .pre .1 .shape))) (c .before .before .mirror .ensures)
 
 slice-aggregate-mirror : tie.Need-slice-aggregate-mirror
 slice-aggregate-mirror c = search needs
@@ -51,7 +55,7 @@ returns : tie.Need-returns
 returns c =
     let at-count = c .before .before .before .before in
     let start = at-count .before .before .before .before in
-    image-summed _ (start .pre .1) _ (start .pre .0) _ (front at-count .front) (c .before .sum .ensures)
+    image-summed _ _ (start .pre .0) (start .pre .1) _ (front at-count .front) (c .before .sum .ensures)
 
 pub differences-spec : {M : Type 1} → statement M
 differences-spec =

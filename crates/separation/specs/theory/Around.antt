@@ -28,7 +28,7 @@ use Rattle.plane.specs.theory.hull.ShapeOf.{shapeOf-shape}
 use Rattle.separation.specs.theory.Apart.{differences-some, apart-shapeOf}
 use Rattle.separation.specs.theory.InsideShape.{polygon-origin→crosses, polygon-crosses→origin, segment-origin→opposed}
 use Rattle.separation.specs.theory.InsideShape.{segment-opposed→origin, point-inside→equal, point-equal→inside}
-use Rattle.separation.specs.Around.{crossAt, rightOf, originInFew, originIn}
+use Rattle.separation.specs.Around.{crossAt, rightOf, originOn, originIn}
 
 -- ---- the origin against a shape
 
@@ -67,8 +67,8 @@ module _ (D : List Point) (s : IsShape D) where
   no-right h e l = ltZ-false (some-none (rightOf D) (length D) h e l)
 
 few-origin : (D : List Point) → IsShape D → ((e : ℕ) → e < length D → pos 0 ≤ℤ cross (corner D e) (corner D (next (length D) e)))
-    → length D < 3 → originInFew D ≡ cond (not (inside (origin ∷ []) D)) (pos 0) (pos 1)
-unfolding originInFew
+    → length D < 3 → cond (originOn D) (pos 1) (pos 0) ≡ cond (not (inside (origin ∷ []) D)) (pos 0) (pos 1)
+unfolding originOn
 few-origin [] s f h = absurd (omega (arith, s .some))
 few-origin (p ∷ []) s f h = few-number (inside (origin ∷ []) (p ∷ []))
     (λ v. point-equal→inside p origin (point-origin p v)) (λ k. origin-point p (point-inside→equal p origin k))
@@ -84,7 +84,7 @@ unfolding originIn onRim
 originIn-inside D s = go (some (rightOf D) (length D)) refl (ltb (length D) 3) refl
   where
     go : (t : Bool) → some (rightOf D) (length D) ≡ t → (u : Bool) → ltb (length D) 3 ≡ u
-        → cond t (pos 0) (cond u (originInFew D) (cond (some (notLeft D) (length D)) (pos 1) (pos 2)))
+        → cond t (pos 0) (cond u (cond (originOn D) (pos 1) (pos 0)) (cond (some (notLeft D) (length D)) (pos 1) (pos 2)))
         ≡ cond (not (inside (origin ∷ []) D)) (pos 0) (cond (u || some (notLeft D) (length D)) (pos 1) (pos 2))
     go true e u f = rw (right→outside D s e)
     go false e true f = few-origin D s (no-right D s e) (ltb-true (length D) 3 f)

@@ -1,46 +1,56 @@
 -- Shapes apart have a witness: a direction that leads away from their differences, divided.
---     away→below          in such a direction shapes apart are below each other
---     away-refused        if it is (0,0), they are not apart
---     away-not-below      nor if they are not below each other in it, divided
---     divided-witness     if they are, it is a witness
+--     outside-few         the origin is outside a point or a segment that has it on its line, but not on itself
+--     not-apart-on        where it is on one, the shapes are not apart; `not-apart-many`: nor where a polygon has it right of no edge
+--     away-good           such a direction is not refused; `away-witness`: divided, it is a witness
 --     witness-exists      and there is one
-use mathlib.Core.Path.{_≡_, _∙_, ap, subst}
-use mathlib.Core.Bool.{true, false}
+use mathlib.Core.Path.{_≡_, refl, sym, _∙_, subst}
+use mathlib.Core.Bool.{Bool, true, false, cond}
 use mathlib.Core.List.{List}
+use Prim.Native.Nat.{_<_}
+use native.Mathlib.Omega.{arith}
+use borrow.Author.Tests.{lt-ltb, le-ltb}
 use lib.IntN.{ℤ, pos}
+use lib.ListN.{length}
 use lib.Signed.{_<ℤ_}
-use Rattle.plane.specs.Point.{Point, points, numbers}
+use Rattle.plane.specs.Point.{Point, points}
 use Rattle.plane.specs.Refusal.{Valid}
+use Rattle.plane.specs.Search.{some}
 use Rattle.plane.specs.Direction.{support}
-use Rattle.plane.specs.Corner.{shapeOf}
-use Rattle.plane.specs.Separation.{differences, apart, relationNumber}
+use Rattle.plane.specs.Separation.{apart, notLeft, relationNumber}
 use Rattle.plane.specs.Furthest.{badDirection}
 use Rattle.plane.specs.Primitive.{primitive}
 use Rattle.plane.specs.Offer.{below}
 use Rattle.plane.specs.VectorSum.{vectorSum}
-use Rattle.plane.specs.theory.lists.Flat.{points-numbers}
-use Rattle.plane.specs.theory.lists.Sought.{true-not-false}
 use Rattle.plane.specs.theory.direction.Rows.{direction-some, near-direction}
 use Rattle.plane.specs.theory.direction.Primitive.{primitive-same, primitive-bad, primitive-common}
-use Rattle.separation.specs.theory.Apart.{differences-shape}
-use Rattle.separation.specs.theory.Around.{refuted}
-use Rattle.separation.specs.theory.Image.{image, image-begun, image-related}
+use Rattle.calipers.specs.Image.{image}
+use Rattle.separation.specs.Outward.{Outward}
+use Rattle.separation.specs.Around.{rightOf, originOn, originIn}
+use Rattle.separation.specs.theory.Around.{related-not-apart}
+use Rattle.separation.specs.theory.Outward.{some-away}
+use Rattle.separation.specs.theory.Image.{image-begun, image-visited, image-related}
 use Rattle.separator.specs.Separator.{Separates}
-use Rattle.separator.specs.Outward.{Outward}
 use Rattle.separator.specs.theory.Below.{negative→below, below→nonzero}
 use Rattle.separator.specs.theory.Direction.{same-below}
-use Rattle.separator.specs.theory.Outward.{some-away}
+
+-- ---- the origin against the differences
+
+pub outside-few : (D : List Point) → some (rightOf D) (length D) ≡ false → length D < 3 → originOn D ≡ false → originIn D ≡ pos 0
+unfolding originIn
+outside-few D none few off = rw (none, lt-ltb (length D) 3 few, off)
+
+on-few : (D : List Point) → some (rightOf D) (length D) ≡ false → length D < 3 → originOn D ≡ true → pos 1 ≡ originIn D
+unfolding originIn
+on-few D none few on = rw (none, lt-ltb (length D) 3 few, on)
+
+in-many : (D : List Point) → some (rightOf D) (length D) ≡ false → 2 < length D → {t : Bool} → some (notLeft D) (length D) ≡ t
+    → originIn D ≡ cond t (pos 1) (pos 2)
+unfolding originIn
+in-many D none many e = rw (none, le-ltb (length D) 3 many, e)
 
 apart-related : (A B : List Point) → apart A B ≡ true → relationNumber A B ≡ pos 0
 unfolding relationNumber
 apart-related A B h = rw h
-
-pub divided-witness : (A B : List Point) (d : Point) → badDirection d ≡ false → below (primitive d) A B ≡ true → Separates A B (primitive d)
-divided-witness A B d good h = record {
-  in-limits = primitive-bad d good;
-  coprime = primitive-common d (direction-some d good);
-  is-below = h;
-}
 
 module _ (a b : List ℤ) (u : Valid a) (v : Valid b) where
   abbrev A : List Point
@@ -51,32 +61,38 @@ module _ (a b : List ℤ) (u : Valid a) (v : Valid b) where
 
   -- the corners that the walk visits
   abbrev D : List Point
-  D = vectorSum A (points (numbers (image b)))
+  D = vectorSum A (points (image b))
 
-  visited : D ≡ shapeOf (differences A B)
-  visited = ap (vectorSum A) (points-numbers (image b)) ∙ differences-shape A B (u .shape) (v .shape .some)
+  pub not-apart-on : some (rightOf D) (length D) ≡ false → length D < 3 → originOn D ≡ true → apart A B ≡ false
+  not-apart-on none few on = related-not-apart A B (omega arith) (on-few D none few on ∙ image-related a b u v)
+
+  pub not-apart-many : some (rightOf D) (length D) ≡ false → 2 < length D → apart A B ≡ false
+  not-apart-many none many = go (some (notLeft D) (length D)) refl
+    where
+      go : (t : Bool) → some (notLeft D) (length D) ≡ t → apart A B ≡ false
+      go true e = related-not-apart A B (omega arith) (sym (in-many D none many e) ∙ image-related a b u v)
+      go false e = related-not-apart A B (omega arith) (sym (in-many D none many e) ∙ image-related a b u v)
+
+  -- ---- a direction that leads away
 
   module _ (d : Point) (w : Outward D d) where
-    pub away→below : apart A B ≡ true → below d A B ≡ true
-    away→below h = negative→below d A B (u .shape .some) (v .shape .some)
-        (subst (λ C. support d C <ℤ pos 0) visited (w .negative (image-related b v a u ∙ apart-related A B h)))
+    away-below : below d A B ≡ true
+    away-below = negative→below d A B (u .shape .some) (v .shape .some)
+        (subst (λ C. support d C <ℤ pos 0) (image-visited a b u v) (w .negative))
 
-    good : apart A B ≡ true → badDirection d ≡ false
-    good h = near-direction d (w .in-limits .small-x) (w .in-limits .small-y)
-        (below→nonzero d A B (u .shape .some) (v .shape .some) (away→below h))
+    pub away-good : badDirection d ≡ false
+    away-good = near-direction d (w .in-limits .small-x) (w .in-limits .small-y)
+        (below→nonzero d A B (u .shape .some) (v .shape .some) away-below)
 
     -- its name does as well
-    divided : badDirection d ≡ false → below (primitive d) A B ≡ below d A B
-    divided fine = same-below A B (primitive-same d (direction-some d fine))
-
-    pub away-refused : badDirection d ≡ true → apart A B ≡ false
-    away-refused bad = refuted (apart A B) (λ h. true-not-false bad (good h))
-
-    pub away-not-below : below (primitive d) A B ≡ false → apart A B ≡ false
-    away-not-below no-more =
-        refuted (apart A B) (λ h. true-not-false (divided (good h) ∙ away→below h) no-more)
+    pub away-witness : Separates A B (primitive d)
+    away-witness = record {
+      in-limits = primitive-bad d away-good;
+      coprime = primitive-common d (direction-some d away-good);
+      is-below = same-below A B (primitive-same d (direction-some d away-good)) ∙ away-below;
+    }
 
   pub witness-exists : apart A B ≡ true → (d : Point) × Separates A B d
   witness-exists h =
-      let (d, w) = some-away a (numbers (image b)) (image-begun b v a u) in
-      (primitive d, divided-witness A B d (good d w h) (divided d w (good d w h) ∙ away→below d w h))
+      let (d, w) = some-away a (image b) (image-begun a b u v) (image-related a b u v ∙ apart-related A B h) in
+      (primitive d, away-witness d w)

@@ -15,12 +15,15 @@ use Rattle.plane.specs.theory.sum.Positions.{edges-at-most}
 use Rattle.plane.specs.VectorSum.{vectorSum}
 use Rattle.polygon.specs.Point.{at, Small}
 use Rattle.polygon.specs.theory.Small.{small-wide}
+use Rattle.calipers.specs.Image.{image}
 use Rattle.calipers.specs.Side.{Carried, walkOf}
 use Rattle.calipers.specs.Places as Places
 use Rattle.calipers.specs.Walk.{Walk, here, begun, finished, advanced, passed, At}
 use Rattle.calipers.specs.theory.Carry.{all-passed, some-left, sides-walk, sides-here, sides-advanced, sides-at}
-use Rattle.calipers.specs.theory.Carry.{here-near, first-next, second-next, corners-fit, edges-fit}
+use Rattle.calipers.specs.theory.Carry.{here-near, first-next, corners-fit, edges-fit}
 use Rattle.calipers.specs.theory.Standing.{passed-ended, edges-less}
+use Rattle.calipers.specs.theory.Image.{image-count}
+use Rattle.separation.specs.theory.Image.{image-begun}
 use Rattle.separation.specs.theory.Stops.{on-below, corner-here}
 use Rattle.clearance.specs.Stop.{rests, crosses, Stopped}
 use Rattle.clearance.proofs.Looking.{Looking, looking-start, looking-at, looking-corner, looking-edge, looking-more, looking-end}
@@ -28,30 +31,36 @@ use Rattle.clearance.proofs.facing.facing.Statement.{statement}
 use Rattle.clearance.proofs.facing.facing.Tie as tie
 
 abbrev Inv-loop : tie.InvT-loop
-Inv-loop a b s₀ t₀ all first back₀ s t back =
-    Looking a b (walkOf s t false) (at back) × Carried a s × Carried b t × Small 4194304 (at back)
+Inv-loop a b top s₀ t₀ all first back₀ s t back =
+    Looking a (image b) (walkOf s t false) (at back) × Carried a s × Carried (image b) t × Small 4194304 (at back)
 
 abbrev μ-loop : tie.MeasureT-loop
-μ-loop a b s₀ t₀ all first back₀ s t back = length (edges (points a)) - s .at + (length (edges (points b)) - t .at)
+μ-loop a b top s₀ t₀ all first back₀ s t back =
+    length (edges (points a)) - s .at + (length (edges (points (image b))) - t .at)
 
 side-at-requires : tie.Need-side-at-requires Inv-loop μ-loop
-side-at-requires c κs = (omega arith, c .pre .0 .first-near, c .pre .0 .first-shape .some)
+side-at-requires c κs = (omega arith, c .pre .0 .inRange, c .pre .0 .shape .some)
 
 side-at-requires-2 : tie.Need-side-at-requires-2 Inv-loop μ-loop
-side-at-requires-2 c κs = (omega arith, c .before .pre .0 .second-near, c .before .pre .0 .second-shape .some)
+side-at-requires-2 c κs = let pre = c .before .pre in (pre .1, pre .2, omega arith)
+
+-- the walk may begin
+starts : (c : tie.Start Inv-loop μ-loop) → At (c .args .a .now) (image (c .args .b .now)) begun
+starts c = image-begun _ _ (c .pre .0) (c .pre .1)
 
 -- all edges of both
 all : (c : tie.After-struct-known2 Inv-loop μ-loop) → let second = c .before .before in
     let args = second .before .before .args in
     second .before .side-at .result .end + second .side-at2 .result .end
-    ≡ length (edges (points (args .a .now))) + length (edges (points (args .b .now)))
+    ≡ length (edges (points (args .a .now))) + length (edges (points (image (args .b .now))))
 all c = let second = c .before .before in omega (arith, second .before .side-at .ensures .1 .end-is, second .side-at2 .ensures .1 .end-is)
 
 add-all : tie.Need-add-all Inv-loop μ-loop
 add-all c =
     let start = c .before .before .before .before in
     let few = edges-at-most (points (start .args .a .now)) in
-    let too = edges-at-most (points (start .args .b .now)) in
+    let too = edges-at-most (points (image (start .args .b .now))) in
+    let count = image-count (start .args .b .now) (start .pre .1) in
     omega (arith, all c, points-length (start .args .a .now), points-length (start .args .b .now))
 
 -- where the walk begins
@@ -63,11 +72,11 @@ begins c = let second = c .before .before in
 
 standing : (c : tie.After-struct-known2 Inv-loop μ-loop) → let second = c .before .before in
     let args = second .before .before .args in
-    At (args .a .now) (args .b .now) (walkOf (second .before .side-at .result) (second .side-at2 .result) false)
-standing c = subst (At _ _) (sym (begins c)) (c .before .before .before .before .pre .0)
+    At (args .a .now) (image (args .b .now)) (walkOf (second .before .side-at .result) (second .side-at2 .result) false)
+standing c = subst (At _ _) (sym (begins c)) (starts (c .before .before .before .before))
 
 first-here : (c : tie.After-here Inv-loop μ-loop) → let args = c .before .before .before .before .before .args in
-    at (c .here .result) ≡ here (points (args .a .now)) (points (args .b .now)) begun
+    at (c .here .result) ≡ here (points (args .a .now)) (points (image (args .b .now))) begun
 first-here c =
     let at-known = c .before in
     let second = at-known .before .before in
@@ -76,9 +85,9 @@ first-here c =
 
 -- the first corner
 begins-here : (c : tie.After-here Inv-loop μ-loop) → let args = c .before .before .before .before .before .args in
-    at (c .here .result) ≡ corner (vectorSum (points (args .a .now)) (points (args .b .now))) 0
+    at (c .here .result) ≡ corner (vectorSum (points (args .a .now)) (points (image (args .b .now)))) 0
 begins-here c =
-    let start = c .before .before .before .before .before .pre .0 in
+    let start = starts (c .before .before .before .before .before) in
     first-here c ∙ corner-here _ _ start 0 (on-below _ _ start 0 zero-le refl)
 
 here-requires : tie.Need-here-requires Inv-loop μ-loop
@@ -89,7 +98,7 @@ here-requires c κs =
 loop-holds : tie.Need-loop-holds Inv-loop μ-loop
 loop-holds c =
     let second = c .before .before .before in (
-      looking-start (second .before .before .pre .0) (begins (c .before)),
+      looking-start (starts (second .before .before)) (begins (c .before)),
       second .before .side-at .ensures .1,
       second .side-at2 .ensures .1,
       record { small-x = record { size = zero-le }; small-y = record { size = zero-le } },
@@ -102,7 +111,10 @@ next-requires : tie.Need-next-requires Inv-loop μ-loop
 next-requires c κs = let inv = c .before .loop .inv in first-next (looking-at (inv .0)) (inv .1) (inv .2)
 
 next-requires-2 : tie.Need-next-requires-2 Inv-loop μ-loop
-next-requires-2 c κs = let inv = c .before .before .loop .inv in second-next (looking-at (inv .0)) (inv .1) (inv .2)
+next-requires-2 c κs =
+    let at-loop = c .before .before in
+    let pre = at-loop .before .before .before .before .before .before .pre in
+    (pre .1, pre .2, at-loop .loop .inv .2)
 
 here-requires-2 : tie.Need-here-requires-2 Inv-loop μ-loop
 here-requires-2 c κs = let inv = c .before .before .before .loop .inv in corners-fit (looking-at (inv .0)) (inv .1) (inv .2)
@@ -110,7 +122,7 @@ here-requires-2 c κs = let inv = c .before .before .before .loop .inv in corner
 -- the walk after the step
 steps : (c : tie.After-next2 Inv-loop μ-loop) (end : Bool) → let at-loop = c .before .before .before in
     let args = at-loop .before .before .before .before .before .before .args in
-    At (args .a .now) (args .b .now) (walkOf (c .before .next .result) (c .next2 .result) end)
+    At (args .a .now) (image (args .b .now)) (walkOf (c .before .next .result) (c .next2 .result) end)
 steps c end =
     let at-order = c .before .before in
     let inv = at-order .before .loop .inv in
@@ -121,8 +133,8 @@ advances : (c : tie.After-next2 Inv-loop μ-loop) → let at-loop = c .before .b
     let args = at-loop .before .before .before .before .before .before .args in
     let m = c .before .next .result in
     let n = c .next2 .result in
-    walkOf m n (finished (points (args .a .now)) (m .at) (points (args .b .now)) (n .at))
-    ≡ advanced (points (args .a .now)) (points (args .b .now)) (walkOf (at-loop .loop .s) (at-loop .loop .t) false)
+    walkOf m n (finished (points (args .a .now)) (m .at) (points (image (args .b .now))) (n .at))
+    ≡ advanced (points (args .a .now)) (points (image (args .b .now))) (walkOf (at-loop .loop .s) (at-loop .loop .t) false)
 advances c =
     let at-order = c .before .before in
     let inv = at-order .before .loop .inv in
@@ -132,14 +144,14 @@ advances c =
 first-step : (c : tie.After-next2 Inv-loop μ-loop) → let at-loop = c .before .before .before in
     let args = at-loop .before .before .before .before .before .before .args in
     c .before .next .result .at
-    ≡ Places.passed (edges (points (args .a .now))) (at-loop .loop .s .at) (edges (points (args .b .now))) (at-loop .loop .t .at)
+    ≡ Places.passed (edges (points (args .a .now))) (at-loop .loop .s .at) (edges (points (image (args .b .now)))) (at-loop .loop .t .at)
 unfolding advanced passed
 first-step c = ap (λ (w : Walk). w .i) (advances c)
 
 second-step : (c : tie.After-next2 Inv-loop μ-loop) → let at-loop = c .before .before .before in
     let args = at-loop .before .before .before .before .before .before .args in
     c .next2 .result .at
-    ≡ Places.passed (edges (points (args .b .now))) (at-loop .loop .t .at) (edges (points (args .a .now))) (at-loop .loop .s .at)
+    ≡ Places.passed (edges (points (image (args .b .now)))) (at-loop .loop .t .at) (edges (points (args .a .now))) (at-loop .loop .s .at)
 unfolding advanced passed
 second-step c = ap (λ (w : Walk). w .j) (advances c)
 
@@ -151,14 +163,14 @@ here-requires-3 c κs =
 leaves : (c : tie.After-here3 Inv-loop μ-loop) → let at-loop = c .before .before .before .before .before in
     let args = at-loop .before .before .before .before .before .before .args in
     at (c .before .here2 .result)
-    ≡ here (points (args .a .now)) (points (args .b .now)) (walkOf (at-loop .loop .s) (at-loop .loop .t) false)
+    ≡ here (points (args .a .now)) (points (image (args .b .now))) (walkOf (at-loop .loop .s) (at-loop .loop .t) false)
 leaves c = let inv = c .before .before .before .before .before .loop .inv in
     c .before .here2 .ensures ∙ sides-here (looking-at (inv .0)) (inv .1) (inv .2)
 
 arrives : (c : tie.After-here3 Inv-loop μ-loop) (end : Bool) → let at-next = c .before .before in
     let args = at-next .before .before .before .before .before .before .before .before .before .args in
     at (c .here3 .result)
-    ≡ here (points (args .a .now)) (points (args .b .now)) (walkOf (at-next .before .next .result) (at-next .next2 .result) end)
+    ≡ here (points (args .a .now)) (points (image (args .b .now))) (walkOf (at-next .before .next .result) (at-next .next2 .result) end)
 arrives c end = let at-next = c .before .before in
     c .here3 .ensures ∙ sides-here (steps at-next end) (at-next .before .next .ensures .1) (at-next .next2 .ensures .1)
 
@@ -177,7 +189,7 @@ returns c =
     let at-loop = at-here .before .before .before .before .before in (
       small-wide (near at-here .0),
       looking-corner (at-loop .loop .inv .0) refl (advances (at-here .before .before)) (leaves at-here)
-          (arrives at-here _) (at-loop .before .before .before .before .before .before .pre .1)
+          (arrives at-here _) (at-loop .before .before .before .before .before .before .pre .3)
           (sym (c .before .rests .ensures) ∙ c .if1 .taken),
     )
 
@@ -209,7 +221,8 @@ add-if3 c =
     let first = at-next .before .next .ensures .1 .at-in in
     let second = at-next .next2 .ensures .1 .at-in in
     let few = edges-at-most (points (start .args .a .now)) in
-    let too = edges-at-most (points (start .args .b .now)) in
+    let too = edges-at-most (points (image (start .args .b .now))) in
+    let count = image-count (start .args .b .now) (start .pre .1) in
     omega (arith, points-length (start .args .a .now), points-length (start .args .b .now))
 
 -- neither place at hand passes
@@ -232,7 +245,7 @@ returns-3 c =
     let at-first = at-loop .before in
     let over = all-passed _ _ _ _ (at-next .before .next .ensures .1 .at-in) (at-next .next2 .ensures .1 .at-in)
     (c .if3 .taken ∙ all (at-first .before)) in (
-      small-wide (here-near (at-first .before .before .before .before .before .pre .0) (first-here at-first)),
+      small-wide (here-near (starts (at-first .before .before .before .before .before)) (first-here at-first)),
       looking-end (at-loop .loop .inv .0) refl (advances at-next) (leaves at-here) (arrives at-here _) (fails known .0)
           (fails known .1) over
           (begins-here at-first),
@@ -245,7 +258,7 @@ loop-less c =
     let inv = at-loop .loop .inv in
     let args = at-loop .before .before .before .before .before .before .args in
     let E = edges (points (args .a .now)) in
-    let F = edges (points (args .b .now)) in
+    let F = edges (points (image (args .b .now))) in
     edges-less E F _ _ (first-step at-next) (second-step at-next) (λ h k. c .if3 .left (omega (
       arith,
       all (at-loop .before .before),
@@ -264,7 +277,7 @@ loop-again c =
     let args = at-loop .before .before .before .before .before .before .args in
     let on = some-left _ _ (at-next .before .next .result .at) (at-next .next2 .result .at)
     (λ e. c .if3 .left (e ∙ sym (all (at-loop .before .before)))) in (
-      subst (λ (o : Bool). Looking (args .a .now) (args .b .now) (walkOf (at-next .before .next .result) (at-next .next2 .result) o)
+      subst (λ (o : Bool). Looking (args .a .now) (image (args .b .now)) (walkOf (at-next .before .next .result) (at-next .next2 .result) o)
           (at (at-here .before .here2 .result))) on
           (looking-more (at-loop .loop .inv .0) refl (advances at-next) (leaves at-here) (arrives at-here _)
           (fails known .0) (fails known .1)),

@@ -1,4 +1,4 @@
--- Directions in which a shape is below the origin, if the origin is outside.
+-- Directions in which a shape is below the origin, where the origin is outside.
 --     edge-away      the outer normal of a vector that points the same way as an edge which has the origin to its right
 --     start-away     where no edge has it to its right: the opposite of the first corner
 -- The shape is then a point, or a segment in line with the origin.
@@ -26,10 +26,10 @@ use Rattle.plane.specs.theory.lists.Sought.{true-not-false}
 use Rattle.plane.specs.theory.forms.Vector.{value-origin, value-turned, square-positive, positive-non-zero}
 use Rattle.plane.specs.theory.support.Support.{support-attained}
 use Rattle.polygon.specs.Point.{Small}
-use Rattle.separation.specs.Around.{crossAt, rightOf, originInFew, originIn}
+use Rattle.separation.specs.Around.{crossAt, rightOf, originOn, originIn}
 use Rattle.separation.specs.theory.InsideShape.{turn-origin}
 use Rattle.separation.specs.theory.Sector.{value-outward, edge-outermost}
-use Rattle.separator.specs.Outward.{Outward}
+use Rattle.separation.specs.Outward.{Outward}
 
 -- what all points of a list are below, the greatest value is below
 support-lt : (d : Point) (D : List Point) {v : ℤ} → 0 < length D → ((r : Point) → r ∈ D → value d r <ℤ v) → support d D <ℤ v
@@ -58,7 +58,7 @@ module _ (D : List Point) (s : IsShape D) where
   pub edge-away : (e : ℕ) → e < length D → rightOf D e ≡ true → (p q : Point)
       → SameWay (q ⊖ p) (corner D (next (length D) e) ⊖ corner D e) → Small maxPart (outward p q) → Outward D (outward p q)
   edge-away e h right p q w near =
-      record { in-limits = near; negative = λ o. support-lt (outward p q) D (s .some) negative }
+      record { in-limits = near; negative = support-lt (outward p q) D (s .some) negative }
     where
       a : Point
       a = corner D e
@@ -75,7 +75,7 @@ module _ (D : List Point) (s : IsShape D) where
 -- the origin is outside, but to the right of no edge
 outside-few : (D : List Point) → originIn D ≡ pos 0 → some (rightOf D) (length D) ≡ false
     → (length D < 3) × (pos 0 <ℤ value (corner D 0) (corner D (next (length D) 0)))
-unfolding originIn originInFew
+unfolding originIn originOn
 outside-few D o none = go (some (rightOf D) (length D)) none (ltb (length D) 3) refl
     (leZ (value (corner D 0) (corner D (next (length D) 0))) (pos 0)) refl (some (notLeft D) (length D)) o
   where
@@ -107,9 +107,9 @@ few-negative (p ∷ (q ∷ [])) some few h r (List·Memᴰ·head e) = rw e (turn
 few-negative (p ∷ (q ∷ [])) some few h r (List·Memᴰ·tail m) = rw (List·Memᴰ·eq-of-singleton m) (turned-negative p q h)
 few-negative (p ∷ (q ∷ (t ∷ D))) some few h r m = absurd (omega arith)
 
-pub start-away : (D : List Point) → 0 < length D → some (rightOf D) (length D) ≡ false → Small maxPart (opposite (corner D 0))
-    → Outward D (opposite (corner D 0))
-start-away D any none near = record {
+pub start-away : (D : List Point) → 0 < length D → some (rightOf D) (length D) ≡ false → originIn D ≡ pos 0
+    → Small maxPart (opposite (corner D 0)) → Outward D (opposite (corner D 0))
+start-away D any none o near = record {
   in-limits = near;
-  negative = λ o. let r = outside-few D o none in support-lt (opposite (corner D 0)) D any (few-negative D any (r .0) (r .1));
+  negative = let r = outside-few D o none in support-lt (opposite (corner D 0)) D any (few-negative D any (r .0) (r .1));
 }

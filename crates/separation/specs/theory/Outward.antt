@@ -1,12 +1,12 @@
 -- A walk round two shapes meets a direction that leads away from their sum.
 --     stepped-away     if the edge of the sum that leaves corner n has the origin to its right, the normal of the edge that the step passes
---     begun-away       if no edge has, the opposite of the first corner
---     some-away        there is always one
+--     begun-away       if no edge has and the origin is outside, the opposite of the first corner
+--     some-away        if the origin is outside, there is one
 use mathlib.Core.Path.{_≡_, refl, sym, ap₂, subst}
 use mathlib.Core.Bool.{Bool, true, false}
 use mathlib.Core.List.{List}
 use Prim.Native.Nat.{ℕ, _<_}
-use lib.IntN.{ℤ}
+use lib.IntN.{ℤ, pos}
 use lib.ListN.{length}
 use Rattle.integer.specs.Bound.{within-neg}
 use Rattle.plane.specs.Point.{Point, points, corner, opposite, _⊖_}
@@ -23,11 +23,11 @@ use Rattle.plane.specs.theory.sum.EdgeSum.{vectorSum-shape}
 use Rattle.polygon.specs.Point.{Small}
 use Rattle.calipers.specs.Walk.{Walk, begun, advanced, stepped, At}
 use Rattle.calipers.specs.theory.Steps.{at-stepped}
-use Rattle.separation.specs.Around.{rightOf}
+use Rattle.separation.specs.Around.{rightOf, originIn}
 use Rattle.separation.specs.theory.Stops.{corner-here, stop-here}
-use Rattle.separator.specs.Outward.{Outward}
-use Rattle.separator.specs.theory.Edge.{edge-away, start-away}
-use Rattle.separator.specs.theory.Passed.{passedNormal, passed-normal, here-limits}
+use Rattle.separation.specs.Outward.{Outward}
+use Rattle.separation.specs.theory.Edge.{edge-away, start-away}
+use Rattle.separation.specs.theory.Passed.{passedNormal, passed-normal, here-limits}
 
 module _ (a b : List ℤ) (start : At a b begun) where
   abbrev D : List Point
@@ -54,12 +54,12 @@ module _ (a b : List ℤ) (start : At a b begun) where
       subst (λ p. Small maxPart (opposite p)) (corner-here a b start 0 (sum-shape .some))
       (record { small-x = within-neg (small .small-x); small-y = within-neg (small .small-y) })
 
-  pub begun-away : some (rightOf D) (length D) ≡ false → Outward D (opposite (corner D 0))
-  begun-away none = start-away D (sum-shape .some) none first-small
+  pub begun-away : some (rightOf D) (length D) ≡ false → originIn D ≡ pos 0 → Outward D (opposite (corner D 0))
+  begun-away none o = start-away D (sum-shape .some) none o first-small
 
-  pub some-away : (d : Point) × Outward D d
-  some-away = go (some (rightOf D) (length D)) refl
+  pub some-away : originIn D ≡ pos 0 → (d : Point) × Outward D d
+  some-away o = go (some (rightOf D) (length D)) refl
     where
       go : (t : Bool) → some (rightOf D) (length D) ≡ t → (d : Point) × Outward D d
       go true e = let (n, h, beyond) = some-witness (rightOf D) (length D) e in (_, stepped-away n h beyond)
-      go false e = (_, begun-away e)
+      go false e = (_, begun-away e o)

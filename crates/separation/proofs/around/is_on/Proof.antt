@@ -1,6 +1,6 @@
--- `around_few` meets its contract: the first edge of the sum, and the value of its ends.
-use mathlib.Core.Path.{_≡_, refl, sym, _∙_, ap, ap₂}
-use mathlib.Core.Bool.{Bool, false, cond}
+-- `is_on` meets its contract: the first edge of the sum, and the value of its ends.
+use mathlib.Core.Path.{_≡_, refl, _∙_, ap, ap₂}
+use mathlib.Core.Bool.{Bool, false}
 use native.Mathlib.Omega.{arith}
 use lib.IntN.{ℤ, pos}
 use lib.ListN.{length}
@@ -13,28 +13,34 @@ use Rattle.plane.specs.Shape.{next}
 use Rattle.plane.specs.Direction.{value}
 use Rattle.plane.specs.VectorSum.{vectorSum}
 use Rattle.polygon.specs.theory.Small.{small-plus}
+use Rattle.calipers.specs.Image.{image}
 use Rattle.calipers.specs.Side.{walkOf}
 use Rattle.calipers.specs.Walk.{begun, At}
-use Rattle.calipers.specs.theory.Carry.{sides-walk, sides-here, sides-advanced, sides-at, first-next, second-next, corners-fit, edges-fit}
-use Rattle.separation.specs.Around.{originInFew}
+use Rattle.calipers.specs.theory.Carry.{sides-walk, sides-here, sides-advanced, sides-at, first-next, corners-fit, edges-fit}
+use Rattle.separation.specs.Around.{originOn}
+use Rattle.separation.specs.theory.Image.{image-begun}
 use Rattle.separation.proofs.Passing.{passing-start, passing-corners}
-use Rattle.separation.proofs.around.around_few.Statement.{statement}
-use Rattle.separation.proofs.around.around_few.Tie as tie
+use Rattle.separation.proofs.around.is_on.Statement.{statement}
+use Rattle.separation.proofs.around.is_on.Tie as tie
 
 side-at-requires : tie.Need-side-at-requires
-side-at-requires c κs = (omega arith, c .pre .first-near, c .pre .first-shape .some)
+side-at-requires c κs = (omega arith, c .pre .0 .inRange, c .pre .0 .shape .some)
 
 side-at-requires-2 : tie.Need-side-at-requires-2
-side-at-requires-2 c κs = (omega arith, c .before .pre .second-near, c .before .pre .second-shape .some)
+side-at-requires-2 c κs = let pre = c .before .pre in (pre .1, pre .2, omega arith)
+
+-- the walk may begin
+starts : (c : tie.Start) → At (c .args .a .now) (image (c .args .b .now)) begun
+starts c = image-begun _ _ (c .pre .0) (c .pre .1)
 
 -- the two sides, at the beginning
 begins : (c : tie.After-side-at2) → walkOf (c .before .side-at .result) (c .side-at2 .result) false ≡ begun
 begins c = sides-walk begun (c .before .side-at .result) (c .side-at2 .result) (c .before .side-at .ensures .0) (c .side-at2 .ensures .0)
 
 stands : (c : tie.After-side-at2)
-    → At (c .before .before .args .a .now) (c .before .before .args .b .now)
+    → At (c .before .before .args .a .now) (image (c .before .before .args .b .now))
     (walkOf (c .before .side-at .result) (c .side-at2 .result) false)
-stands c = rw (begins c) (c .before .before .pre)
+stands c = rw (begins c) (starts (c .before .before))
 
 order-requires : tie.Need-order-requires
 order-requires c κs = edges-fit (stands c) (c .before .side-at .ensures .1) (c .side-at2 .ensures .1)
@@ -45,7 +51,8 @@ next-requires c κs = first-next (stands (c .before)) (c .before .before .side-a
 next-requires-2 : tie.Need-next-requires-2
 next-requires-2 c κs =
     let at-sides = c .before .before in
-    second-next (stands at-sides) (at-sides .before .side-at .ensures .1) (at-sides .side-at2 .ensures .1)
+    let pre = at-sides .before .before .pre in
+    (pre .1, pre .2, at-sides .side-at2 .ensures .1)
 
 here-requires : tie.Need-here-requires
 here-requires c κs =
@@ -54,7 +61,7 @@ here-requires c κs =
 
 -- the two sides after the step
 steps : (c : tie.After-next2) (end : Bool) → let args = c .before .before .before .before .before .args in
-    At (args .a .now) (args .b .now) (walkOf (c .before .next .result) (c .next2 .result) end)
+    At (args .a .now) (image (args .b .now)) (walkOf (c .before .next .result) (c .next2 .result) end)
 steps c end =
     let at-order = c .before .before in
     let at-sides = at-order .before in
@@ -77,7 +84,7 @@ dot-requires c κs =
 
 -- what is tested, by the corners of the sum
 tested : (c : tie.After-dot) → let start = c .before .before .before .before .before .before .before .before in
-    let D = vectorSum (points (start .args .a .now)) (points (start .args .b .now)) in
+    let D = vectorSum (points (start .args .a .now)) (points (image (start .args .b .now))) in
     toZ w64 (ofZ w64 (c .dot .result)) ≡ value (corner D 0) (corner D (next (length D) 0))
 tested c =
     let at-plus = c .before in
@@ -90,20 +97,14 @@ tested c =
     (at-next .before .next .result) (at-next .next2 .result) (at-next .before .next .ensures .0) (at-next .next2 .ensures .0) refl in
     result-is w64 (c .dot .ok) (c .dot .ensures ∙ ap₂ value (at-plus .before .here .ensures ∙ sides-here (stands at-sides) first second)
     (at-plus .here2 .ensures ∙ sides-here (steps at-next _) (at-next .before .next .ensures .1) (at-next .next2 .ensures .1))
-    ∙ passing-corners (passing-start (at-sides .before .before .pre) (begins at-sides)) refl on value)
+    ∙ passing-corners (passing-start (starts (at-sides .before .before)) (begins at-sides)) refl on value)
 
 returns : tie.Need-returns
-unfolding originInFew
-returns c = ap (λ (t : Bool). cond t (pos 1) (pos 0)) (sym (c .if1 .taken))
-    ∙ ap (λ (z : ℤ). cond (leZ z (pos 0)) (pos 1) (pos 0)) (tested (c .before))
+unfolding originOn
+returns c = ap (λ (z : ℤ). leZ z (pos 0)) (tested c)
 
-returns-2 : tie.Need-returns-2
-unfolding originInFew
-returns-2 c = ap (λ (t : Bool). cond t (pos 1) (pos 0)) (sym (c .if1 .left))
-    ∙ ap (λ (z : ℤ). cond (leZ z (pos 0)) (pos 1) (pos 0)) (tested (c .before))
-
-pub around-few-spec : {M : Type 1} → statement M
-around-few-spec =
+pub is-on-spec : {M : Type 1} → statement M
+is-on-spec =
     tie.close
     (tie.spec side-at-requires side-at-requires-2 order-requires next-requires next-requires-2 here-requires here-requires-2 dot-requires
-    returns returns-2)
+    returns)

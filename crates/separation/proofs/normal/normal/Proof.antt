@@ -2,8 +2,8 @@
 use mathlib.Core.Path.{ap₂}
 use Rattle.integer.specs.Machine.{machine, bounded, machine-fits, machine-is}
 use Rattle.plane.specs.Point.{point}
-use Rattle.separator.proofs.search.normal.Statement.{statement}
-use Rattle.separator.proofs.search.normal.Tie as tie
+use Rattle.separation.proofs.normal.normal.Statement.{statement}
+use Rattle.separation.proofs.normal.normal.Tie as tie
 
 sub-t3 : tie.Need-sub-t3
 sub-t3 c = machine-fits (search (machine, bounded) depth 40) tt

@@ -7,9 +7,9 @@ use lib.Dec.{ltb}
 use Rattle.plane.specs.Cut.{outward}
 use Rattle.polygon.specs.theory.Small.{small-plus}
 use Rattle.calipers.specs.Side.{cornerOf}
-use Rattle.separator.specs.theory.Passed.{normal-left, normal-right}
-use Rattle.separator.proofs.search.passed_normal.Statement.{statement}
-use Rattle.separator.proofs.search.passed_normal.Tie as tie
+use Rattle.separation.specs.theory.Passed.{normal-left, normal-right}
+use Rattle.separation.proofs.normal.passed_normal.Statement.{statement}
+use Rattle.separation.proofs.normal.passed_normal.Tie as tie
 
 here-requires : tie.Need-here-requires
 here-requires c κs = search needs

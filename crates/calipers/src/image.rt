@@ -1,0 +1,103 @@
+// Inner functions: the mirror image of a shape on a walk. It is not written: its corners are the opposites of the
+// shape's, from the peak on.
+ghost use mathlib.Core.Bool.{cond};
+ghost use mathlib.Core.Path.{_≡_};
+ghost use Prim.Native.Nat.{_^_, _<_, _≤_};
+ghost use lib.ListN.{length};
+ghost use Rattle.plane.specs.Point.{points, _⊕_, _⊖_};
+ghost use Rattle.plane.specs.Refusal.{Valid};
+ghost use Rattle.plane.specs.Forms.{edges as Forms·edges};
+ghost use Rattle.plane.specs.Cycle.{turned, cornerRound};
+ghost use Rattle.polygon.specs.Peak.{Peak};
+ghost use Rattle.polygon.specs.Point.{at, Small};
+ghost use Rattle.calipers.specs.Side.{cornerOf, nextOf, onward, Carried};
+ghost use Rattle.calipers.specs.Image.{image};
+use crate::edges;
+use crate::side::Side;
+use polygon::corners;
+use polygon::point;
+use polygon::point::Point;
+
+// The side of the image with i edges passed. The peak of the shape is at position top.
+// Ruled out: image begun at the first corner; edges of the image reversed.
+pub fn side_at(list: &[i32], top: usize, i: usize) -> Side
+    requires { ⌜ Valid (now list) × Peak (points (now list)) top
+        × (i ≤ length (Forms·edges (points (image (now list))))) ⌝ }
+    ensures { λ r. ⌜ (r .at ≡ i) × Carried (image (now (list .entry))) r ⌝ }
+{
+    onto(list, top, i, corner_at(list, top, i))
+}
+
+// One edge on, unless the side waits or has none left. The corner there is reached along the edge, and not read.
+pub fn next(list: &[i32], top: usize, s: Side, waits: bool) -> Side
+    requires { ⌜ Valid (now list) × Peak (points (now list)) top × Carried (image (now list)) s ⌝ }
+    ensures { λ r. ⌜ (r .at ≡ cond waits (s .at) (onward (points (image (now (list .entry)))) (s .at)))
+        × Carried (image (now (list .entry))) r ⌝ }
+{
+    if waits {
+        return s;
+    }
+    if s.at == s.end {
+        return s;
+    }
+    onto(list, top, s.at + 1, arrived(s))
+}
+
+// The side with i edges passed, where its corner is known.
+fn onto(list: &[i32], top: usize, i: usize, from: Point) -> Side
+    requires { ⌜ Valid (now list) × Peak (points (now list)) top
+        × (i ≤ length (Forms·edges (points (image (now list)))))
+        × (at from ≡ cornerRound (points (image (now list))) i) ⌝ }
+    ensures { λ r. ⌜ (r .at ≡ i) × Carried (image (now (list .entry))) r ⌝ }
+{
+    let end = edges::sides(list);
+    if i == end {
+        return leaving(i, end, from, from);
+    }
+    leaving(i, end, from, corner_at(list, top, i + 1))
+}
+
+// The corner at the end of the next edge.
+fn arrived(s: Side) -> Point
+    requires { ⌜ Small (2 ^ 21) (cornerOf s) × Small (2 ^ 21) (nextOf s) ⌝ }
+    ensures { λ r. ⌜ at r ≡ cornerOf s ⊕ nextOf s ⌝ }
+{
+    Point {
+        x: (s.x + s.run) as i32,
+        y: (s.y + s.rise) as i32,
+    }
+}
+
+// At a corner, with i edges passed, and with the edge to another corner.
+fn leaving(i: usize, end: usize, from: Point, to: Point) -> Side
+    requires { ⌜ Small (2 ^ 21) (at from) × Small (2 ^ 21) (at to) ⌝ }
+    ensures { λ r. ⌜ (r .at ≡ i) × (r .end ≡ end) × (cornerOf r ≡ at from) × (nextOf r ≡ at to ⊖ at from) ⌝ }
+{
+    Side {
+        at: i,
+        end,
+        x: from.x as i64,
+        y: from.y as i64,
+        run: (to.x - from.x) as i64,
+        rise: (to.y - from.y) as i64,
+    }
+}
+
+// Corner i on the way round the image: the opposite of the corner i places after the peak.
+fn corner_at(list: &[i32], top: usize, i: usize) -> Point
+    requires { ⌜ Valid (now list) × Peak (points (now list)) top × (i ≤ length (points (now list))) ⌝ }
+    ensures { λ r. ⌜ at r ≡ cornerRound (points (image (now (list .entry)))) i ⌝ }
+{
+    point::opposite(corners::corner_at(list, place(list, top, i)))
+}
+
+// The position i places after the peak, on the way round the shape.
+fn place(list: &[i32], top: usize, i: usize) -> usize
+    requires { ⌜ (top < length (points (now list))) × (i ≤ length (points (now list))) ⌝ }
+    ensures { λ r. ⌜ r ≡ turned (length (points (now (list .entry)))) top i ⌝ }
+    ensures { λ r. ⌜ r < length (points (now (list .entry))) ⌝ }
+{
+    let n = corners::count(list);
+    let k = top + i;
+    if k < n { k } else { k - n }
+}
