@@ -1,6 +1,6 @@
 -- The theory of passing, which only proves: gaps of grown obstacles; the direction with the widest gap, and that it is the only one; the
 -- room and the free width; that 11 and 12 let the direction pass; places between the lines; smaller obstacles and carts; exchanged
--- obstacles; what is replied; how a walk finds the direction.
+-- obstacles; what is replied; how the code finds it.
 pub mod Gaps
 pub mod Widest
 pub mod Only
@@ -11,4 +11,4 @@ pub mod Places
 pub mod Smaller
 pub mod Exchanged
 pub mod Replies
-pub mod Walked
+pub mod Found

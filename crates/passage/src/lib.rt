@@ -1,1 +1,2 @@
-// May a cart pass straight between two obstacles: see specs/. There is no code here.
+// Inner functions: may a cart pass straight between two obstacles. Callers ask the crate `questions`.
+pub mod corridor;

@@ -26,7 +26,8 @@ use Rattle.strips.specs.Strip.{least, gapIn}
 use Rattle.growth.specs.Grown.{grown}
 use Rattle.growth.specs.theory.Places.{grown-some, grown-shape}
 use Rattle.passage.specs.Passage.{passable, across, room, freeWidth}
-use Rattle.passage.specs.theory.Widest.{widestOf, step-some, widest-some, none-wider, widest-positive}
+use Rattle.passage.specs.Corridor.{widestOf}
+use Rattle.passage.specs.theory.Widest.{step-some, widest-some, none-wider, widest-positive}
 use Rattle.passage.specs.theory.Only.{widest-only}
 use Rattle.passage.specs.theory.Room.{room-gap}
 

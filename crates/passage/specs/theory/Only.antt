@@ -30,7 +30,9 @@ use Rattle.clearance.specs.theory.Nearest.{nearest-attained, nearest-is-whole}
 use Rattle.strips.specs.Strip.{least, gapIn}
 use Rattle.strips.specs.OwnDirection.{towards}
 use Rattle.strips.specs.theory.Spread.{least-le-value}
-use Rattle.passage.specs.theory.Widest.{widestOf, step-some, widest-same, widest-some, widest-clearance, none-wider, widest-positive}
+use Rattle.passage.specs.Corridor.{widestOf}
+use Rattle.passage.specs.theory.Widest.{step-some, widest-same, widest-some, widest-clearance, none-wider, widest-positive}
+use Rattle.passage.specs.Corridor.{widestOf}
 use Rattle.passage.specs.theory.Widest.{not-level}
 
 -- ---- two directions along one vector

@@ -1,7 +1,7 @@
 -- The direction across is one that a caller may give: where the corners of the grown obstacles are in range, refusals 11 and 12 let it
 -- pass.
 --     across-lowest      12: its parts have no common divisor
---     across-small       11: it is not (0,0), and its parts are in range
+--     across-small       11: it is not (0,0), and its parts are in range; `widest-good`: so is that of any two shapes in range
 --     lines-small        its two lines are at most 4,000,000,000,000 in size
 use mathlib.Core.Path.{_≡_, sym, _∙_, ap, subst}
 use mathlib.Core.Bool.{true, false}
@@ -24,6 +24,7 @@ use Rattle.plane.specs.Direction.{support, SameWay}
 use Rattle.plane.specs.Furthest.{badDirection, commonDivisor}
 use Rattle.plane.specs.Primitive.{primitive}
 use Rattle.plane.specs.Mean.{times}
+use Rattle.plane.specs.Separation.{apart}
 use Rattle.plane.specs.Clearance.{Candidate, corners, onSecond, onFirst, turnOn, nearest}
 use Rattle.plane.specs.Forms.{NonZero}
 use Rattle.plane.specs.theory.lists.Flat.{Near, points-near, points-numbers}
@@ -40,6 +41,7 @@ use Rattle.strips.specs.OwnDirection.{outOf, towards}
 use Rattle.growth.specs.Grown.{grown}
 use Rattle.growth.specs.theory.Places.{grown-shape}
 use Rattle.passage.specs.Passage.{passable, across, lowLine, highLine}
+use Rattle.passage.specs.Corridor.{widestOf}
 use Rattle.passage.specs.theory.Gaps.{grown-low, grown-high}
 use Rattle.passage.specs.theory.Widest.{step-some}
 
@@ -124,6 +126,10 @@ towards-name A B near also (corners i j) (h, k) some =
 towards-name A B near also (onSecond i e) (h, k, r) some = edge-name B also e k (negℤ (turnOn B e (corner A i))) some
 towards-name A B near also (onFirst j e) (h, k, r) some = edge-name A near e k (turnOn A e (corner B j)) some
 
+pub widest-good : (A B : List Point) → IsShape A → IsShape B → apart A B ≡ true → InRange (numbers A) → InRange (numbers B)
+    → badDirection (widestOf A B) ≡ false
+widest-good A B s t h near also = towards-name A B near also (nearest A B) (nearest-is-listed A B s t h) (step-some A B s t h)
+
 module _ (L R A : List Point) (l : 0 < length L) (r : 0 < length R) (a : 0 < length A) (h : passable L R A ≡ true) where
   abbrev G : List Point
   G = grown L A
@@ -143,8 +149,7 @@ module _ (L R A : List Point) (l : 0 < length L) (r : 0 < length R) (a : 0 < len
 
   pub across-small : InRange (numbers G) → InRange (numbers H) → badDirection (across L R A) ≡ false
   unfolding across
-  across-small near also = towards-name G H near also (nearest G H) (nearest-is-listed G H left-shape right-shape h)
-      (step-some G H left-shape right-shape h)
+  across-small near also = widest-good G H left-shape right-shape h near also
 
   -- the lines are the greatest and the least value of lists in range
   pub lines-small : InRange (numbers G) → InRange (numbers H)

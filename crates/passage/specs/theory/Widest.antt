@@ -1,7 +1,6 @@
 -- The gap between two shapes that are apart is widest across the step between their nearest points. The direction is taken in lowest terms.
 --     same-gap, same-length      the gap and the squared length of two directions that point the same way
---     widestOf A B               the direction
---     widest-some                it is not (0,0)
+--     widest-some                the direction is not (0,0)
 --     widest-clearance           the gap in it, squared, over its squared length, is the squared clearance
 --     none-wider                 no direction has a wider gap
 --     widest-positive            the gap in it is above 0
@@ -16,7 +15,6 @@ use Rattle.integer.specs.Order.{_<×<_, _<×≤_, _≤×≤_, _≡×_, contra<,
 use Rattle.plane.specs.Point.{Point, opposite}
 use Rattle.plane.specs.Shape.{IsShape}
 use Rattle.plane.specs.Direction.{value, support, SameWay}
-use Rattle.plane.specs.Primitive.{primitive}
 use Rattle.plane.specs.Separation.{apart}
 use Rattle.plane.specs.Clearance.{top, bottom, nearest}
 use Rattle.plane.specs.Forms.{NonZero}
@@ -30,6 +28,7 @@ use Rattle.strips.specs.Strip.{least, gapIn, Corridor}
 use Rattle.strips.specs.OwnDirection.{towards}
 use Rattle.strips.specs.theory.Spread.{least-le-value}
 use Rattle.strips.specs.theory.Corridors.{corridor-no-wider, towards-corridor, towards-wide}
+use Rattle.passage.specs.Corridor.{widestOf}
 use Rattle.passage.specs.theory.Gaps.{apart→gap}
 
 -- ---- directions that point the same way
@@ -64,9 +63,6 @@ same-fraction m k g t N M x y some gap long at =
     (ap₂ (λ v w. v *ℤ w *ℤ y) gap gap & long ≡× x & at ≡× (k *ℤ k)) (search linear depth 40) (omega arith))
 
 -- ---- the widest gap
-
-abbrev pub widestOf : List Point → List Point → Point
-widestOf A B = primitive (towards A B (nearest A B))
 
 -- g·g/D is at most x/y, and t·t/N is x/y
 no-wider : (g D t N x y : ℤ) → pos 0 <ℤ y → pos 0 ≤ℤ N → (g *ℤ g *ℤ y) ≤ℤ (x *ℤ D) → t *ℤ t *ℤ y ≡ x *ℤ N

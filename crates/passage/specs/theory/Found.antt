@@ -1,49 +1,43 @@
--- How a walk finds the passage: round the left obstacle grown by the cart and the cart grown by the right obstacle. That needs no mirror
--- image, and no limit on corners.
---     grown-turned       the cart grown by an obstacle is the mirror image of the obstacle grown by the cart
---     walk-related       so the walk, as of `relation`, tells how the grown obstacles stand to each other
---     walk-across        and the direction at which it stops, as of `nearest`, is in lowest terms the direction across
-use mathlib.Core.Path.{_≡_, sym, _∙_, ap, subst}
-use mathlib.Core.Bool.{true}
+-- How the code finds the passage: by a direction in which the grown obstacles face each other.
+--     facing-some          a direction in which two shapes face each other is not (0,0)
+--     facing-name          in lowest terms it is that of their widest gap
+--     corridor-passage     the widest corridor between the grown obstacles is the passage
+use mathlib.Core.Path.{_≡_, sym, _∙_, ap, ap₂}
+use mathlib.Core.Bool.{Bool, true, cond}
 use mathlib.Core.List.{List, [], _∷_}
-use Prim.Native.Nat.{_<_}
+use Prim.Native.Nat.{ℕ, _*_, _<_}
 use native.Mathlib.Omega.{arith}
-use lib.IntN.{ℤ, pos, _+ℤ_, _*ℤ_, +ℤ-comm}
+use lib.IntN.{ℤ, pos, natAbs, _+ℤ_, _*ℤ_}
 use lib.ListN.{length}
 use lib.Signed.{_≤ℤ_, _<ℤ_}
 use Rattle.integer.specs.Linear.{linear, lia, _&_}
 use Rattle.integer.specs.Order.{_<×<_, _<×≤_, _≤×≤_, _≡×_, contra≤, weaken, le-trans}
-use Rattle.plane.specs.Point.{Point, opposite}
+use Rattle.plane.specs.Point.{Point}
 use Rattle.plane.specs.Shape.{IsShape}
 use Rattle.plane.specs.Direction.{value, support}
 use Rattle.plane.specs.Primitive.{primitive}
-use Rattle.plane.specs.Corner.{shapeOf, mirrored}
-use Rattle.plane.specs.VectorSum.{vectorSum}
-use Rattle.plane.specs.Separation.{differences, apart, relationNumber}
+use Rattle.plane.specs.Measure.{rootBelow}
+use Rattle.plane.specs.Separation.{apart}
 use Rattle.plane.specs.Clearance.{top, bottom, nearest}
 use Rattle.plane.specs.Forms.{NonZero}
-use Rattle.plane.specs.theory.lists.Members.{mirrored-some, member-position}
-use Rattle.plane.specs.theory.forms.Vector.{opposite-opposite, value-nonneg, positive-non-zero}
+use Rattle.plane.specs.theory.lists.Members.{member-position}
+use Rattle.plane.specs.theory.forms.Vector.{value-nonneg, positive-non-zero}
 use Rattle.plane.specs.theory.forms.SameWay.{same-trans}
-use Rattle.plane.specs.theory.support.Support.{support-mirrored, support-attained}
-use Rattle.plane.specs.theory.hull.ShapeOf.{shapeOf-support, shapeOf-shape}
+use Rattle.plane.specs.theory.support.Support.{support-attained}
 use Rattle.plane.specs.theory.direction.Primitive.{primitive-same, primitive-common, primitive-only}
-use Rattle.separation.specs.Around.{originIn}
-use Rattle.separation.specs.theory.Apart.{differences-shape}
-use Rattle.separation.specs.theory.Around.{originIn-relation}
 use Rattle.clearance.specs.Facing.{Facing}
-use Rattle.clearance.specs.Stop.{Stopped}
 use Rattle.clearance.specs.theory.First.{Held, facing-held, held-square, nearest-at}
 use Rattle.clearance.specs.theory.Nearest.{nearest-is-whole}
-use Rattle.clearance.specs.theory.Walked.{stopped-facing}
 use Rattle.strips.specs.Strip.{least, gapIn}
 use Rattle.strips.specs.OwnDirection.{towards}
 use Rattle.strips.specs.theory.Spread.{least-attained}
 use Rattle.growth.specs.Grown.{grown}
-use Rattle.growth.specs.theory.Places.{grown-some, grown-shape, grown-reach, grown-known}
-use Rattle.passage.specs.Passage.{passable, across}
-use Rattle.passage.specs.theory.Widest.{widestOf, step-some, widest-same, widest-clearance}
+use Rattle.passage.specs.Passage.{across, room, freeWidth, lowLine, highLine, passable, passageNumbers}
+use Rattle.passage.specs.Corridor.{widestOf, corridorNumbers}
+use Rattle.passage.specs.theory.Gaps.{grown-low, grown-high}
+use Rattle.passage.specs.theory.Widest.{step-some, widest-same, widest-clearance}
 use Rattle.passage.specs.theory.Only.{as-wide-same}
+use Rattle.passage.specs.theory.Room.{room-gap}
 
 -- ---- a direction in which two shapes face each other
 
@@ -77,7 +71,7 @@ module _ (A B : List Point) (s : IsShape A) (t : IsShape B) (h : apart A B ≡ t
       lia (value m p ∷ value m (high .at) ∷ least m A ∷ support m B ∷ far ∷ []) (apart-by & low & high .at-value)
       (search linear depth 40) (omega arith)
 
-  facing-some : NonZero m
+  pub facing-some : NonZero m
   facing-some = positive-non-zero m m (held-square A B m far held)
 
   -- the gap in it is as wide as the widest
@@ -88,15 +82,7 @@ module _ (A B : List Point) (s : IsShape A) (t : IsShape B) (h : apart A B ≡ t
       (top A B (nearest A B)) (bottom A B (nearest A B)) (held .some) gap-held (value-nonneg n) (nearest-is-whole A B s t h)
       (nearest-at A B (s .some) (t .some) m f .at) (widest-clearance A B s t h))) (widest-same A B s t h)))
 
--- ---- the walk
-
-pub grown-turned : (B A : List Point) → 0 < length B → 0 < length A → grown A B ≡ shapeOf (mirrored (grown B A))
-grown-turned B A b a = sym (grown-known A B a b (shapeOf (mirrored (grown B A))) (shapeOf-shape (mirrored (grown B A)) some)
-    (λ d. shapeOf-support (mirrored (grown B A)) some d ∙ support-mirrored d (grown B A) ∙ grown-reach B A b a (opposite d)
-    ∙ ap (λ e. support (opposite d) B +ℤ support e A) (opposite-opposite d) ∙ +ℤ-comm (support (opposite d) B) (support d A)))
-  where
-    some : 0 < length (mirrored (grown B A))
-    some = mirrored-some (grown B A) (grown-some B A b a)
+-- ---- the grown obstacles
 
 module _ (L R A : List Point) (l : 0 < length L) (r : 0 < length R) (a : 0 < length A) where
   abbrev G : List Point
@@ -105,13 +91,22 @@ module _ (L R A : List Point) (l : 0 < length L) (r : 0 < length R) (a : 0 < len
   abbrev H : List Point
   H = grown R A
 
-  walk-round : vectorSum G (grown A R) ≡ shapeOf (differences G H)
-  walk-round = ap (vectorSum G) (grown-turned R A r a) ∙ differences-shape G H (grown-shape L A l a) (grown-some R A r a)
+  abbrev gap : ℕ
+  gap = natAbs (gapIn (widestOf G H) G H)
 
-  pub walk-related : originIn (vectorSum G (grown A R)) ≡ relationNumber G H
-  walk-related = ap originIn walk-round ∙ originIn-relation G H (grown-some L A l a) (grown-some R A r a)
+  -- the numbers, by the two lines and the width
+  abbrev told : ℤ → ℤ → ℕ → List ℤ
+  told low high width =
+      let n = widestOf G H in
+      cond (apart G H) (pos 1 ∷ n .x ∷ n .y ∷ low ∷ high ∷ pos width ∷ []) (pos 0 ∷ [])
 
-  pub walk-across : passable L R A ≡ true → {m : Point} → Stopped (vectorSum G (grown A R)) m → primitive m ≡ across L R A
+  width-is : rootBelow (gap * gap) (natAbs (value (widestOf G H) (widestOf G H))) ≡ freeWidth L R A
+  unfolding freeWidth across
+  width-is = ap (λ z. rootBelow (natAbs z * natAbs z) (natAbs (value (widestOf G H) (widestOf G H)))) (sym (room-gap L R A l r a))
+
+  pub corridor-passage : corridorNumbers G H ≡ passageNumbers L R A
   unfolding across
-  walk-across h {m} stop = facing-name G H (grown-shape L A l a) (grown-shape R A r a) h m
-      (stopped-facing G H (grown-shape L A l a) (grown-shape R A r a) h (subst (λ D. Stopped D m) walk-round stop))
+  corridor-passage =
+      let n = widestOf G H in
+      ap (λ w. told (support n H) (least n G) w) width-is
+      ∙ ap₂ (λ low high. told low high (freeWidth L R A)) (grown-low R A r a n) (grown-high L A l a n)
