@@ -1,12 +1,18 @@
 // The calls of a host in Rust or C: every question, with lists of numbers and floors that are any numbers. A list is
 // lent as a pointer and a count. A floor above its limit is refused 13, after the lists and before what the question
-// itself refuses. Each call answers a `Reply`: the numbers of the reply that the question's definition states.
+// itself refuses. Each call answers a `Reply`: the numbers of the reply that the question's definition states. Four
+// questions can be asked on plain bytes too; each of these calls answers one number.
+mod bytes;
+mod decoding;
 mod floors;
+mod lent;
 mod logs;
+mod packing;
 mod pairs;
 mod readings;
 mod shapes;
 mod walks;
+mod writing;
 
 ghost use mathlib.Core.Path.{_≡_};
 ghost use Rattle.plane.specs.Limits.{maxCorners, maxPoints, maxCoordinate, maxPart, maxFloor};
