@@ -1,274 +1,131 @@
-// One arm and one function for each question: it asks the library and adds the reply, without its
-// newline.
-use crate::logs;
-use crate::names;
+// One arm for each question: it asks the library, and `replies` prints what it is told.
 use crate::parts;
 use crate::readings;
-use crate::separators;
-use crate::table::Measure;
+use crate::replies;
+use crate::table;
+use crate::table::Entry;
 use crate::table::Question;
-use crate::table::Written;
 use questions::SHAPE_NUMBERS;
-use questions::answer::Answer;
-use questions::answer::Clearance;
-use questions::answer::Furthest;
-use questions::answer::Inside;
-use questions::answer::Length;
-use questions::answer::Relation;
-use questions::answer::Tangents;
-use questions::answer::Width;
-use text::answers;
+use questions::separators;
+use questions::walk;
+use reply::Reply;
 use text::fields;
+use text::fields::name;
+use text::fields::room;
+use text::output;
 
-// Asks the question of its fields, of which so many are given; readings, bytes and floors stand in the line itself.
+// A line has at most 65,536 characters, and a byte of a log two of them.
+const LOG: usize = 32768;
+
+// Asks the question of a line, and adds its answer, without a newline.
 pub fn ask(
     out: &mut [u8],
     filled: usize,
-    question: Question,
+    entry: Entry,
     line: &[u8],
-    count: usize,
-    room: usize,
     values: &[i32],
     marks: &[usize],
-    cells: &mut [usize],
-    named: &mut [i32],
 ) -> usize {
+    let mut bytes = [0u8; LOG];
+    let buffer: &mut [u8] = &mut bytes;
+    let size = fields::log(line, entry.kinds, buffer);
     let a = fields::field(values, marks, 0);
     let b = fields::field(values, marks, 1);
     let c = fields::field(values, marks, 2);
     let d = fields::field(values, marks, 3);
-    let f = fields::floor(line, 0, cells);
-    let g = fields::floor(line, 1, cells);
+    add(out, filled, entry, line, &mut buffer[0..size], a, b, c, d)
+}
+
+// Asks the question of the fields that a line holds, of which the log, readings and floors are no numbers. What it
+// writes goes to an output of as many numbers as the room says.
+fn add(
+    out: &mut [u8],
+    filled: usize,
+    entry: Entry,
+    line: &[u8],
+    log: &mut [u8],
+    a: &[i32],
+    b: &[i32],
+    c: &[i32],
+    d: &[i32],
+) -> usize {
+    let mut numbers = [0i32; SHAPE_NUMBERS];
+    let shape: &mut [i32] = &mut numbers;
+    let question = entry.question;
+    let form = table::form_of(question);
+    let end = fields::lent(room_of(question, b, c, d), shape);
+    let told = told(question, line, log, a, b, c, d, &mut shape[0..end]);
+    let said = replies::add(out, filled, told, form, shape);
+    if told.number != 0 {
+        return said;
+    }
     match question {
-        Question::Measure(which) => measure(out, filled, which, a, f, b, g),
-        Question::Write(which) => write(out, filled, which, a, f, b, g, room),
-        Question::Offer => separators::offer(out, filled, a, f, b, g, c),
-        Question::Find => separators::find(out, filled, a, f, b, g),
-        Question::Draw(grown) => maps::draw(out, filled, grown, line, count, values, marks, cells),
-        Question::Tablet => readings::tablet(out, filled, line),
-        Question::LogRead => logs::read(out, filled, line, fields::name(b), room),
+        Question::Parts => {
+            let walk = parts::walk_of(told.values[0], told.values[1], told.values[2]);
+            parts::calls(out, said, walk, fields::floor(line, 0), a, b, c)
+        }
         Question::LogAdd => {
-            let on = fields::floor(line, 2, cells);
-            logs::add(out, filled, line, fields::name(b), on, c, room)
+            let begun = output::word(out, said, b" | ");
+            output::bytes(out, begun, log)
         }
-        Question::Shape => names::shape(out, filled, line, b, g, cells, named),
-        Question::Shapes => names::list(out, filled, cells, named),
-        Question::Words(on) => words(out, filled, on),
-        Question::Help => manual::page(out, filled),
-        Question::Parts => parts::parts(out, filled, a, f, b, g, c),
-        Question::Part => parts::part(out, filled, a, f, b, g, c, d),
+        _ => said,
     }
 }
 
-// Says that words are on or off.
-fn words(out: &mut [u8], filled: usize, on: bool) -> usize {
-    if on {
-        answers::word(out, filled, b"ok words on")
-    } else {
-        answers::word(out, filled, b"ok words off")
+// Returns the room of a question that writes a shape; any number for the others.
+fn room_of(question: Question, b: &[i32], c: &[i32], d: &[i32]) -> usize {
+    match question {
+        Question::Mirror => fields::room(b),
+        Question::Sweep => fields::room(b),
+        Question::Part => fields::count(d, 1),
+        _ => fields::room(c),
     }
 }
 
-// Asks a question that is answered by numbers or a word.
-fn measure(
-    out: &mut [u8],
-    filled: usize,
-    which: Measure,
+// Asks the library.
+fn told(
+    question: Question,
+    line: &[u8],
+    log: &mut [u8],
     a: &[i32],
-    f: u16,
     b: &[i32],
-    g: u16,
-) -> usize {
-    match which {
-        Measure::Judge => judge(out, filled, a, f),
-        Measure::Furthest => furthest(out, filled, a, f, b),
-        Measure::Length => length(out, filled, a, f),
-        Measure::Width => width(out, filled, a, f),
-        Measure::Relation => relation(out, filled, a, f, b, g),
-        Measure::Inside => inside(out, filled, a, f, b, g),
-        Measure::Clearance => clearance(out, filled, a, f, b, g),
-        Measure::Tangents => tangents(out, filled, a, f, b, g),
+    c: &[i32],
+    d: &[i32],
+    out: &mut [i32],
+) -> Reply {
+    let f = fields::floor(line, 0);
+    let g = fields::floor(line, 1);
+    let h = fields::floor(line, 2);
+    match question {
+        Question::Judge => reply::of_answer(questions::judge(a, f)),
+        Question::Furthest => reply::of_furthest(questions::furthest(a, f, u(b), v(b))),
+        Question::Mirror => reply::of_answer(questions::mirror(a, f, out)),
+        Question::Sum => reply::of_answer(questions::sum(a, f, b, g, out)),
+        Question::Parts => reply::of_begun(walk::begin(a, f, b, g)),
+        Question::Part => reply::of_part(parts::part(a, f, b, g, c, d, out)),
+        Question::Merge => reply::of_answer(questions::merge(a, f, b, g, out)),
+        Question::Grow => reply::of_answer(questions::grow(a, f, b, g, out)),
+        Question::Sweep => reply::of_answer(questions::sweep(a, f, out)),
+        Question::Length => reply::of_length(questions::length(a, f)),
+        Question::Width => reply::of_width(questions::width(a, f)),
+        Question::Relation => reply::of_relation(questions::relation(a, f, b, g)),
+        Question::Inside => reply::of_inside(questions::inside(a, f, b, g)),
+        Question::Offer => reply::of_offer(separators::offer(a, f, b, g, u(c), v(c))),
+        Question::Find => reply::of_separator(separators::find(a, f, b, g)),
+        Question::Clearance => reply::of_clearance(questions::clearance(a, f, b, g)),
+        Question::Tangents => reply::of_tangents(questions::tangents(a, f, b, g)),
+        Question::Tablet => readings::tablet(line),
+        Question::LogRead => reply::of_answer(questions::log_read(log, name(b), out)),
+        Question::LogAdd => reply::of_addition(questions::log_add(log, name(b), h, c, room(d))),
     }
 }
 
-// Asks a question that writes a shape, in an output of as many numbers as the room says.
-fn write(
-    out: &mut [u8],
-    filled: usize,
-    which: Written,
-    a: &[i32],
-    f: u16,
-    b: &[i32],
-    g: u16,
-    room: usize,
-) -> usize {
-    let mut answer = [0i32; SHAPE_NUMBERS];
-    let lent: &mut [i32] = &mut answer;
-    let end = fields::lent(room, lent);
-    match shape(which, a, f, b, g, &mut lent[0..end]) {
-        Answer::Corners { count, floor } => answers::ok_pairs(out, filled, count, floor, lent),
-        Answer::No(refusal) => replies::refuse(out, filled, refusal),
-    }
+// Returns the first part of a direction.
+fn u(direction: &[i32]) -> i32 {
+    fields::number(direction, 0)
 }
 
-// The mirror image, the vector sum, the shape of both together, the first grown by the second, or the shape of the
-// points of a sweep.
-fn shape(which: Written, a: &[i32], f: u16, b: &[i32], g: u16, out: &mut [i32]) -> Answer {
-    match which {
-        Written::Mirror => questions::mirror(a, f, out),
-        Written::Sum => questions::sum(a, f, b, g, out),
-        Written::Merge => questions::merge(a, f, b, g, out),
-        Written::Grow => questions::grow(a, f, b, g, out),
-        Written::Sweep => questions::sweep(a, f, out),
-    }
-}
-
-// Whether a list is a shape, and how many corners it has.
-fn judge(out: &mut [u8], filled: usize, list: &[i32], on: u16) -> usize {
-    match questions::judge(list, on) {
-        Answer::Corners { count, floor } => {
-            replies::found(out, filled, b"ok", &[count as u64], floor)
-        }
-        Answer::No(refusal) => replies::refuse(out, filled, refusal),
-    }
-}
-
-// The first and the last of the furthest corners in a direction, and their value.
-fn furthest(out: &mut [u8], filled: usize, list: &[i32], on: u16, direction: &[i32]) -> usize {
-    match questions::furthest(
-        list,
-        on,
-        fields::number(direction, 0),
-        fields::number(direction, 1),
-    ) {
-        Furthest::At {
-            first,
-            last,
-            value,
-            floor,
-        } => {
-            let now = answers::ok(out, filled, &[first as u64, last as u64]);
-            let then = answers::number(out, now, value);
-            answers::floor(out, then, floor)
-        }
-        Furthest::No(refusal) => replies::refuse(out, filled, refusal),
-    }
-}
-
-// The greatest squared distance between two corners, and their positions.
-fn length(out: &mut [u8], filled: usize, list: &[i32], on: u16) -> usize {
-    match questions::length(list, on) {
-        Length::Between {
-            squared,
-            from,
-            to,
-            floor,
-        } => {
-            let values = [squared, from as u64, to as u64];
-            replies::found(out, filled, b"ok", &values, floor)
-        }
-        Length::No(refusal) => replies::refuse(out, filled, refusal),
-    }
-}
-
-// The edge and the corner of the least width, its turn, the squared edge, and the width rounded
-// down.
-fn width(out: &mut [u8], filled: usize, list: &[i32], on: u16) -> usize {
-    match questions::width(list, on) {
-        Width::Across {
-            edge,
-            corner,
-            turn,
-            squared,
-            rounded,
-            floor,
-        } => {
-            let values = [edge as u64, corner as u64, turn, squared, rounded];
-            replies::found(out, filled, b"ok", &values, floor)
-        }
-        Width::No(refusal) => replies::refuse(out, filled, refusal),
-    }
-}
-
-// Whether two shapes are apart, touching or overlapping.
-fn relation(out: &mut [u8], filled: usize, a: &[i32], f: u16, b: &[i32], g: u16) -> usize {
-    match questions::relation(a, f, b, g) {
-        Relation::Apart { floor } => replies::told(out, filled, b"ok apart", floor),
-        Relation::Touching { floor } => replies::told(out, filled, b"ok touching", floor),
-        Relation::Overlapping { floor } => replies::told(out, filled, b"ok overlapping", floor),
-        Relation::No(refusal) => replies::refuse(out, filled, refusal),
-    }
-}
-
-// Whether the first shape is inside the second.
-fn inside(out: &mut [u8], filled: usize, a: &[i32], f: u16, b: &[i32], g: u16) -> usize {
-    match questions::inside(a, f, b, g) {
-        Inside::Is { within, floor } => {
-            let now = answers::ok_yes(out, filled, within);
-            answers::floor(out, now, floor)
-        }
-        Inside::No(refusal) => replies::refuse(out, filled, refusal),
-    }
-}
-
-// Where two shapes are nearest and how near: `cc` for two corners, `ce` for a corner of the first and an edge of the
-// second, `ec` for the reverse; 0 if they are not apart.
-fn clearance(out: &mut [u8], filled: usize, a: &[i32], f: u16, b: &[i32], g: u16) -> usize {
-    match questions::clearance(a, f, b, g) {
-        Clearance::None { floor } => replies::told(out, filled, b"ok 0", floor),
-        Clearance::Corners {
-            first,
-            second,
-            squared,
-            rounded,
-            floor,
-        } => {
-            let values = [first as u64, second as u64, squared, rounded];
-            replies::found(out, filled, b"ok cc", &values, floor)
-        }
-        Clearance::CornerEdge {
-            corner,
-            edge,
-            turn,
-            squared,
-            rounded,
-            floor,
-        } => {
-            let values = [corner as u64, edge as u64, turn, squared, rounded];
-            replies::found(out, filled, b"ok ce", &values, floor)
-        }
-        Clearance::EdgeCorner {
-            corner,
-            edge,
-            turn,
-            squared,
-            rounded,
-            floor,
-        } => {
-            let values = [corner as u64, edge as u64, turn, squared, rounded];
-            replies::found(out, filled, b"ok ec", &values, floor)
-        }
-        Clearance::No(refusal) => replies::refuse(out, filled, refusal),
-    }
-}
-
-// The positions of the four lines that just touch both shapes, in the first and in the second.
-fn tangents(out: &mut [u8], filled: usize, a: &[i32], f: u16, b: &[i32], g: u16) -> usize {
-    match questions::tangents(a, f, b, g) {
-        Tangents::Lines {
-            left,
-            right,
-            crossing,
-            reverse,
-            floor,
-        } => {
-            let mut now = answers::word(out, filled, b"ok");
-            now = replies::line(out, now, left);
-            now = replies::line(out, now, right);
-            now = replies::line(out, now, crossing);
-            now = replies::line(out, now, reverse);
-            answers::floor(out, now, floor)
-        }
-        Tangents::No(refusal) => replies::refuse(out, filled, refusal),
-    }
+// Returns the second part of a direction.
+fn v(direction: &[i32]) -> i32 {
+    fields::number(direction, 1)
 }

@@ -3,7 +3,8 @@ ghost use mathlib.Core.Path.{_≡_};
 ghost use lib.Ieee.{binary64, nanBits};
 use questions::Reading;
 use questions::answer::Tablet;
-use text::answers;
+use reply::Reply;
+use reply::refusals;
 use text::fields;
 use text::readings;
 
@@ -14,21 +15,22 @@ const EXPONENT: u64 = 0x10000000000000;
 
 const ONES: u64 = 2047;
 
-// A corner of the readings of a line's two fields: the bits of the doubles that go back.
-pub fn tablet(out: &mut [u8], filled: usize, line: &[u8]) -> usize {
+// Asks for the corner of the readings of a line's two fields. The values told are the bits of the doubles that go back.
+pub fn tablet(line: &[u8]) -> Reply {
     let x = reading(fields::reading(line, 0));
     let y = reading(fields::reading(line, 1));
     match questions::tablet(x, y) {
-        Tablet::Corner { sent, x: _, y: _ } => {
-            let now = answers::word(out, filled, b"ok");
-            let then = answers::bits(out, now, pattern(sent.x));
-            answers::bits(out, then, pattern(sent.y))
-        }
-        Tablet::No(refusal) => replies::unread(out, filled, refusal),
+        Tablet::Corner { sent, x: _, y: _ } => Reply {
+            number: 0,
+            carried: [0, 0, 0],
+            count: 2,
+            values: [pattern(sent.x), pattern(sent.y), 0, 0, 0, 0, 0, 0, 0],
+        },
+        Tablet::No(refusal) => refusals::of_unread(refusal),
     }
 }
 
-// The reading of a unit and bits. (A line whose fields are no readings is not asked.)
+// Returns the reading of a unit and bits. (A line whose fields are no readings is not asked.)
 fn reading(text: readings::Reading) -> Reading {
     match text {
         readings::Reading::Millimetres(bits) => Reading::Millimetres(double(bits)),
@@ -37,7 +39,7 @@ fn reading(text: readings::Reading) -> Reading {
     }
 }
 
-// The double of a bit pattern. The language has no bits of a NaN: one is made by a division.
+// Returns the double of a bit pattern. The language has no bits of a NaN: one is made by a division.
 fn double(bits: u64) -> f64 {
     if is_nan(bits) {
         let zero = 0.0;
@@ -56,7 +58,7 @@ fn is_nan(bits: u64) -> bool
     false
 }
 
-// The bit pattern of a double. (None that goes back is a NaN, which alone differs from itself.)
+// Returns the bit pattern of a double. (None that goes back is a NaN, which alone differs from itself.)
 fn pattern(v: f64) -> u64 {
     if v == v {
         return f64::to_bits(v);

@@ -1,195 +1,131 @@
 // The table of questions: a row says a question's word and the kinds of its fields.
+use crate::replies::Form;
 use text::fields;
-use text::fields::Kind;
-use text::fields::Kinds;
 
 // What can be asked.
 pub enum Question {
-    Measure(Measure),
-    Write(Written),
-    Offer,
-    Find,
-    // A picture; of two shapes the first grown by the second, or their sum.
-    Draw(bool),
-    Tablet,
-    Parts,
-    Part,
-    LogRead,
-    LogAdd,
-    // A shape is remembered, or all names are listed.
-    Shape,
-    Shapes,
-    // Sentences are turned on or off.
-    Words(bool),
-    Help,
-}
-
-// The questions that are answered by numbers or a word.
-pub enum Measure {
     Judge,
     Furthest,
+    Mirror,
+    Sum,
+    Parts,
+    Part,
+    Merge,
+    Grow,
+    Sweep,
     Length,
     Width,
     Relation,
     Inside,
+    Offer,
+    Find,
     Clearance,
     Tangents,
+    Tablet,
+    LogRead,
+    LogAdd,
 }
 
-// The questions that write a shape.
-pub enum Written {
-    Mirror,
-    Sum,
-    Merge,
-    Grow,
-    Sweep,
-}
-
-// What a word stands for: a question and the kinds of its fields.
+// What a word asks: a question, and the kinds of its fields.
 pub struct Entry {
     pub question: Question,
-    pub kinds: Kinds,
+    pub kinds: u64,
 }
 
-// Looks a word up in the table. Where it is not there the kinds are unknown, and nothing is asked.
+// The kinds of one field, of two, of three and of four, the first lowest.
+const ONE: u64 = fields::SHAPE;
+
+const AIMED: u64 = ONE + 16 * fields::DIRECTION;
+
+const WRITTEN: u64 = ONE + 16 * fields::ROOM;
+
+const PAIR: u64 = ONE + 16 * fields::SHAPE;
+
+const PAIR_WRITTEN: u64 = PAIR + 256 * fields::ROOM;
+
+const PAIR_AIMED: u64 = PAIR + 256 * fields::DIRECTION;
+
+const PAIR_CALLED: u64 = PAIR + 256 * fields::CALLS;
+
+const PAIR_WALKED: u64 = PAIR + 256 * fields::WALK + 4096 * fields::CALL;
+
+const READINGS: u64 = fields::READING + 16 * fields::READING;
+
+const NAMED: u64 = fields::BYTES + 16 * fields::NAME;
+
+const LOG_READ: u64 = NAMED + 256 * fields::ROOM;
+
+const LOG_ADDED: u64 = NAMED + 256 * fields::SHAPE + 4096 * fields::ROOM;
+
+// Looks a word up. If it is not there the kinds are unknown, and nothing is asked.
 pub fn look_up(word: &[u8]) -> Entry {
-    let mut entry = Entry {
-        question: Question::Draw(false),
-        kinds: fields::unknown(),
+    let mut found = Entry {
+        question: Question::Judge,
+        kinds: fields::UNKNOWN,
     };
-    entry = on_one(entry, word);
-    entry = on_two(entry, word);
-    entry = directions(entry, word);
-    entry = shapes(entry, word);
-    entry = pictures(entry, word);
-    entry = in_parts(entry, word);
-    entry = corners(entry, word);
-    entry = logs(entry, word);
-    program(entry, word)
+    found = on_one(found, word);
+    found = on_two(found, word);
+    found = sums(found, word);
+    others(found, word)
 }
 
-// Whether words are on after a line.
-pub fn in_words(question: Question, before: bool) -> bool {
-    if let Question::Words(on) = question {
-        return on;
-    }
-    before
+// The questions on one shape.
+fn on_one(mut found: Entry, word: &[u8]) -> Entry {
+    found = row(found, word, b"judge", Question::Judge, ONE);
+    found = row(found, word, b"furthest", Question::Furthest, AIMED);
+    found = row(found, word, b"mirror", Question::Mirror, WRITTEN);
+    found = row(found, word, b"length", Question::Length, ONE);
+    row(found, word, b"width", Question::Width, ONE)
 }
 
-// The measures of one shape.
-fn on_one(found: Entry, word: &[u8]) -> Entry {
-    let shape = fields::one(Kind::Shape);
-    let aimed = fields::two(Kind::Shape, Kind::Direction);
-    let mut entry = found;
-    entry = measured(entry, word, b"judge", Measure::Judge, shape);
-    entry = measured(entry, word, b"furthest", Measure::Furthest, aimed);
-    entry = measured(entry, word, b"length", Measure::Length, shape);
-    measured(entry, word, b"width", Measure::Width, shape)
+// How two shapes stand to each other.
+fn on_two(mut found: Entry, word: &[u8]) -> Entry {
+    found = row(found, word, b"relation", Question::Relation, PAIR);
+    found = row(found, word, b"inside", Question::Inside, PAIR);
+    found = row(found, word, b"offer", Question::Offer, PAIR_AIMED);
+    found = row(found, word, b"find", Question::Find, PAIR);
+    found = row(found, word, b"clearance", Question::Clearance, PAIR);
+    row(found, word, b"tangents", Question::Tangents, PAIR)
 }
 
-// The measures of two shapes.
-fn on_two(found: Entry, word: &[u8]) -> Entry {
-    let pair = fields::two(Kind::Shape, Kind::Shape);
-    let mut entry = found;
-    entry = measured(entry, word, b"relation", Measure::Relation, pair);
-    entry = measured(entry, word, b"inside", Measure::Inside, pair);
-    entry = measured(entry, word, b"clearance", Measure::Clearance, pair);
-    measured(entry, word, b"tangents", Measure::Tangents, pair)
+// The shapes that are made of two.
+fn sums(mut found: Entry, word: &[u8]) -> Entry {
+    found = row(found, word, b"sum", Question::Sum, PAIR_WRITTEN);
+    found = row(found, word, b"parts", Question::Parts, PAIR_CALLED);
+    found = row(found, word, b"part", Question::Part, PAIR_WALKED);
+    found = row(found, word, b"merge", Question::Merge, PAIR_WRITTEN);
+    row(found, word, b"grow", Question::Grow, PAIR_WRITTEN)
 }
 
-// The directions in which one shape is below another.
-fn directions(found: Entry, word: &[u8]) -> Entry {
-    let offered = fields::three(Kind::Shape, Kind::Shape, Kind::Direction);
-    let pair = fields::two(Kind::Shape, Kind::Shape);
-    let entry = row(found, word, b"offer", Question::Offer, offered);
-    row(entry, word, b"find", Question::Find, pair)
+// The points of a sweep, the corner of two readings, and the log.
+fn others(mut found: Entry, word: &[u8]) -> Entry {
+    found = row(found, word, b"sweep", Question::Sweep, WRITTEN);
+    found = row(found, word, b"tablet", Question::Tablet, READINGS);
+    found = row(found, word, b"bookread", Question::LogRead, LOG_READ);
+    row(found, word, b"bookadd", Question::LogAdd, LOG_ADDED)
 }
 
-// The shapes that are written.
-fn shapes(found: Entry, word: &[u8]) -> Entry {
-    let one = fields::two(Kind::Shape, Kind::Room);
-    let two = fields::three(Kind::Shape, Kind::Shape, Kind::Room);
-    let mut entry = found;
-    entry = write(entry, word, b"mirror", Written::Mirror, one);
-    entry = write(entry, word, b"sum", Written::Sum, two);
-    entry = write(entry, word, b"merge", Written::Merge, two);
-    entry = write(entry, word, b"grow", Written::Grow, two);
-    write(entry, word, b"sweep", Written::Sweep, one)
-}
-
-// The pictures.
-fn pictures(found: Entry, word: &[u8]) -> Entry {
-    let pair = fields::two(Kind::Shape, Kind::Shape);
-    let entry = row(
-        found,
-        word,
-        b"draw",
-        Question::Draw(false),
-        fields::shapes(),
-    );
-    row(entry, word, b"drawgrow", Question::Draw(true), pair)
-}
-
-// The sum in parts.
-fn in_parts(found: Entry, word: &[u8]) -> Entry {
-    let calls = fields::three(Kind::Shape, Kind::Shape, Kind::Calls);
-    let call = fields::four(Kind::Shape, Kind::Shape, Kind::Walk, Kind::Call);
-    let entry = row(found, word, b"parts", Question::Parts, calls);
-    row(entry, word, b"part", Question::Part, call)
-}
-
-// The corner of two readings.
-fn corners(found: Entry, word: &[u8]) -> Entry {
-    let readings = fields::two(Kind::Reading, Kind::Reading);
-    row(found, word, b"tablet", Question::Tablet, readings)
-}
-
-// The log.
-fn logs(found: Entry, word: &[u8]) -> Entry {
-    let named = fields::three(Kind::Bytes, Kind::Name, Kind::Room);
-    let added = fields::four(Kind::Bytes, Kind::Name, Kind::Shape, Kind::Room);
-    let entry = row(found, word, b"bookread", Question::LogRead, named);
-    row(entry, word, b"bookadd", Question::LogAdd, added)
-}
-
-// The lines that ask nothing of the geometry.
-fn program(found: Entry, word: &[u8]) -> Entry {
-    let label = fields::two(Kind::Label, Kind::Shape);
-    let mut entry = found;
-    entry = row(entry, word, b"shape", Question::Shape, label);
-    entry = row(entry, word, b"shapes", Question::Shapes, fields::none());
-    entry = row(
-        entry,
-        word,
-        b"words on",
-        Question::Words(true),
-        fields::none(),
-    );
-    entry = row(
-        entry,
-        word,
-        b"words off",
-        Question::Words(false),
-        fields::none(),
-    );
-    row(entry, word, b"help", Question::Help, fields::none())
-}
-
-// A row of the table, of a measure.
-fn measured(found: Entry, word: &[u8], own: &[u8], question: Measure, kinds: Kinds) -> Entry {
-    row(found, word, own, Question::Measure(question), kinds)
-}
-
-// A row of the table, of a shape that is written.
-fn write(found: Entry, word: &[u8], own: &[u8], question: Written, kinds: Kinds) -> Entry {
-    row(found, word, own, Question::Write(question), kinds)
-}
-
-// A row of the table: what was found before, or the row's question if the word is its own.
-fn row(found: Entry, word: &[u8], own: &[u8], question: Question, kinds: Kinds) -> Entry {
+// Returns the row's question if the word is its own, else what was found before.
+fn row(found: Entry, word: &[u8], own: &[u8], question: Question, kinds: u64) -> Entry {
     if check::same(word, own) {
         Entry { question, kinds }
     } else {
         found
+    }
+}
+
+// Returns how the answer of a question is written.
+pub fn form_of(question: Question) -> Form {
+    match question {
+        Question::Mirror | Question::Sum | Question::Merge | Question::Grow => Form::Shape,
+        Question::Sweep | Question::Part | Question::LogRead => Form::Shape,
+        Question::Relation => Form::Relation,
+        Question::Inside | Question::Offer => Form::YesNo,
+        Question::Find => Form::Direction,
+        Question::Clearance => Form::Clearance,
+        Question::Parts => Form::Begun,
+        Question::Tablet => Form::Bits,
+        Question::LogAdd => Form::Addition,
+        _ => Form::Numbers,
     }
 }

@@ -1,126 +1,57 @@
-// Bytes as text: pairs of hexadecimal digits, in small letters or large; spaces may stand between pairs.
-use crate::answers;
-use crate::readings;
-use crate::words::is_space;
+// Bytes as text: pairs of hexadecimal digits, in small letters or large, with or without spaces between pairs.
+use crate::digits;
+use crate::words;
 
-// No first digit of a pair.
-const NONE: u64 = 16;
-
-// How many bytes a text has, or none where it is no pairs of digits.
+// How many bytes a text has, or none if it is no pairs of digits.
 pub enum Pairs {
     Bytes(usize),
     Nothing,
 }
 
-// How far a text is read: the bytes held, the first digit of a pair that lacks the second, and whether all was digits.
-struct Progress {
-    held: usize,
-    first: u64,
-    good: bool,
-}
-
-// Reads the bytes of a text to the front of a buffer. What finds no room is dropped.
+// Reads the bytes of a text to the front of a buffer. Bytes that find no room are dropped. A text has fewer pairs than
+// characters.
 pub fn read(text: &[u8], bytes: &mut [u8]) -> Pairs {
-    let mut progress = Progress {
-        held: 0,
-        first: NONE,
-        good: true,
-    };
-    let mut i = 0;
-    while i < text.len() {
-        progress = step(progress, text[i], bytes);
-        i += 1;
+    let mut held = 0;
+    let mut at = words::start(text, 0, false);
+    let mut turns = text.len();
+    while turns > 0 && at < text.len() {
+        let value = pair_at(text, at);
+        if 255 < value {
+            return Pairs::Nothing;
+        }
+        held = hold(bytes, held, value);
+        at = words::start(text, words::after(words::after(at)), false);
+        turns -= 1;
     }
-    outcome(at_space(progress))
+    Pairs::Bytes(held)
 }
 
-// Adds bytes, two digits each, in large letters.
-pub fn add(out: &mut [u8], filled: usize, bytes: &[u8]) -> usize {
-    let mut now = filled;
-    let mut i = 0;
-    while i < bytes.len() {
-        now = pair(out, now, bytes[i]);
-        i += 1;
+// Returns the byte of the pair of digits at a position; 256 if there is none.
+fn pair_at(text: &[u8], at: usize) -> u64 {
+    let high = digit_at(text, at);
+    if 15 < high {
+        return 256;
     }
-    now
+    let low = digit_at(text, words::after(at));
+    if 15 < low {
+        return 256;
+    }
+    high * 16 + low
 }
 
-// Adds the two digits of a byte.
-fn pair(out: &mut [u8], filled: usize, byte: u8) -> usize {
-    let digits = [digit(byte / 16), digit(byte % 16)];
-    answers::word(out, filled, &digits)
-}
-
-// Reads one character.
-fn step(progress: Progress, byte: u8, bytes: &mut [u8]) -> Progress {
-    if is_space(byte) {
-        return at_space(progress);
+// Returns what the digit at a position counts; 16 if there is no digit.
+fn digit_at(text: &[u8], at: usize) -> u64 {
+    if at < text.len() {
+        return digits::value(text[at]);
     }
-    let digit = readings::digit(byte);
-    if 15 < digit {
-        return broken(progress);
-    }
-    if 15 < progress.first {
-        return with_first(progress, digit);
-    }
-    hold(progress, progress.first * 16 + digit, bytes)
-}
-
-// No pair goes on behind a space, or behind the end.
-fn at_space(progress: Progress) -> Progress {
-    if 15 < progress.first {
-        return progress;
-    }
-    broken(progress)
-}
-
-// What is no digit, or no pair.
-fn broken(progress: Progress) -> Progress {
-    Progress {
-        held: progress.held,
-        first: NONE,
-        good: false,
-    }
-}
-
-// The same place with the first digit of a pair.
-fn with_first(progress: Progress, first: u64) -> Progress {
-    Progress {
-        held: progress.held,
-        first,
-        good: progress.good,
-    }
+    16
 }
 
 // Holds one byte more, if there is room.
-fn hold(progress: Progress, value: u64, bytes: &mut [u8]) -> Progress {
-    let held = progress.held;
-    if bytes.len() <= held {
-        return with_first(progress, NONE);
+fn hold(bytes: &mut [u8], held: usize, value: u64) -> usize {
+    if held < bytes.len() {
+        bytes[held] = (value % 256) as u8;
+        return held + 1;
     }
-    bytes[held] = (value % 256) as u8;
-    Progress {
-        held: held + 1,
-        first: NONE,
-        good: progress.good,
-    }
-}
-
-// What the end of a text finds.
-fn outcome(progress: Progress) -> Pairs {
-    if progress.good {
-        return Pairs::Bytes(progress.held);
-    }
-    Pairs::Nothing
-}
-
-// A hexadecimal digit.
-fn digit(value: u8) -> u8 {
-    if value < 10 {
-        return b'0' + value;
-    }
-    if value < 16 {
-        return b'A' + (value - 10);
-    }
-    b'?'
+    held
 }

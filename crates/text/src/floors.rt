@@ -1,6 +1,6 @@
-// The floor of a shape, which may stand before its numbers: a word of an at sign and a number from 0 to 65,535.
+// The floor of a shape, which may come before its numbers: a word of an at sign and a number from 0 to 65,535.
 use crate::numbers;
-use crate::numbers::Taken;
+use crate::numbers::Value;
 use crate::words;
 
 // What a floor begins with.
@@ -15,20 +15,21 @@ pub enum Floor {
     Wrong,
 }
 
-// The floor that the text of a field says; 0 where it says none.
+// Returns the floor that the text of a field says; 0 if it says none.
 pub fn read(text: &[u8]) -> Floor {
-    let word = words::first_word(text);
+    let word = words::first(text);
     if !is_marked(word) {
         return Floor::On(0);
     }
-    let mut number = [0i32; 1];
-    let taken = numbers::read(words::between(word, 1, word.len()), &mut number, 0, false);
-    of_number(taken, number[0])
+    match numbers::number(words::between(word, 1, word.len())) {
+        Value::Fits(number) => of_number(number),
+        Value::Wide => Floor::Wrong,
+    }
 }
 
-// What the text of a field says behind the floor.
-pub fn behind(text: &[u8]) -> &[u8] {
-    if !is_marked(words::first_word(text)) {
+// Returns what the text of a field says after the floor.
+pub fn after(text: &[u8]) -> &[u8] {
+    if !is_marked(words::first(text)) {
         return text;
     }
     words::between(text, words::first_end(text), text.len())
@@ -42,16 +43,10 @@ fn is_marked(word: &[u8]) -> bool {
     false
 }
 
-// The floor of what was read behind the mark.
-fn of_number(taken: Taken, number: i32) -> Floor {
-    let Taken::Held(held) = taken else {
-        return Floor::Wrong;
-    };
-    if held != 1 || number < 0 {
-        return Floor::Wrong;
-    }
+// Returns the floor of a number.
+fn of_number(number: i32) -> Floor {
     let floor = numbers::size(numbers::wide(number));
-    if GREATEST < floor {
+    if number < 0 || GREATEST < floor {
         return Floor::Wrong;
     }
     Floor::On(floor as u16)

@@ -1,19 +1,19 @@
-// Inputs and standard output. A call that a signal interrupted, or that would have to wait, is made
-// again. A write that failed otherwise is told on standard error, in the system's words; a read is left to the caller
-// to tell, who knows what was read.
+// Standard input and output. A call that a signal interrupted, or that would have to wait, is made again. A write that
+// failed otherwise is reported on standard error, in the system's words; reporting a read is left to the caller.
+use libc::STDIN_FILENO;
 use libc::STDOUT_FILENO;
 
 // What a read has found.
 pub enum Input {
-    // So many bytes; none where it is to be tried again.
+    // The count of bytes; 0 if it is to be tried again.
     Bytes(usize),
     End,
     Failed,
 }
 
-// Reads once from a descriptor into the chunk.
-pub fn read(source: i32, chunk: &mut [u8]) -> Input {
-    let got = libc::read(source, chunk);
+// Reads once into the chunk.
+pub fn read(chunk: &mut [u8]) -> Input {
+    let got = libc::read(STDIN_FILENO, chunk);
     if got == 0 {
         return Input::End;
     }
@@ -26,8 +26,8 @@ pub fn read(source: i32, chunk: &mut [u8]) -> Input {
     Input::Failed
 }
 
-// Writes all bytes, and answers whether that could be done. A proved loop has to end, so this one
-// counts its turns down, from a number that no run uses up.
+// Writes all bytes, and returns whether that could be done. A proved loop has to end, so this one counts its turns
+// down, from a number that no run uses up.
 pub fn write(bytes: &[u8]) -> bool {
     let mut done = 0;
     let mut turns = u64::MAX;
@@ -38,8 +38,7 @@ pub fn write(bytes: &[u8]) -> bool {
     done == bytes.len()
 }
 
-// Writes once, from a position on, and answers the position behind what was written; past the end
-// of the bytes where the write failed.
+// Writes once, from a position on, and returns the position after what was written; `usize::MAX` if the write failed.
 fn write_from(bytes: &[u8], from: usize) -> usize {
     if bytes.len() <= from {
         return from;

@@ -6,10 +6,9 @@ use super::line;
 use crate::text::fields::MOST_NUMBERS;
 use crate::text::lines::{MOST_CHARACTERS, is_passed_over};
 
-/// Not among them: `draw`, which the other program knows and this one does not.
 #[rustfmt::skip]
 const WORDS: &[&str] = &[
-    "rotate", "Judge", "sums", "x", "", " # judge", "sum sum", "judge 0 0", "\u{FEFF}judge",
+    "rotate", "Judge", "sums", "x", "", " # judge", "sum sum", "judge 0 0", "\u{FEFF}judge", "shape",
 ];
 
 #[rustfmt::skip]

@@ -6,21 +6,24 @@ use Rattle.query.proofs.answer_all.Statement.{statement}
 use Rattle.query.proofs.answer_all.Tie as tie
 
 abbrev Inv-loop : tie.InvT-loop
-Inv-loop path out₀ chunk₀ line₀ values₀ cells₀ named₀ reading₀ turns₀ out chunk line values cells named reading turns =
+Inv-loop out₀ chunk₀ line₀ values₀ reading₀ turns₀ t7 out chunk line values reading turns =
     (length chunk ≡ length chunk₀)
-    × ((length line ≡ length line₀)
-    × ((length values ≡ length values₀)
-    × ((length cells ≡ length cells₀) × ((length named ≡ length named₀) × (length out ≡ length out₀)))))
+    × ((length line ≡ length line₀) × ((length values ≡ length values₀) × (length out ≡ length out₀)))
 
 abbrev μ-loop : tie.MeasureT-loop
-μ-loop path out₀ chunk₀ line₀ values₀ cells₀ named₀ reading₀ turns₀ out chunk line values cells named reading turns =
-    turns
+μ-loop out₀ chunk₀ line₀ values₀ reading₀ turns₀ t7 out chunk line values reading turns = turns
+
+begin-requires : tie.Need-begin-requires Inv-loop μ-loop
+begin-requires c κs = search needs
 
 loop-holds : tie.Need-loop-holds Inv-loop μ-loop
 loop-holds c = search needs
 
-answer-next-requires : tie.Need-answer-next-requires Inv-loop μ-loop
-answer-next-requires c κs = search needs
+take-requires : tie.Need-take-requires Inv-loop μ-loop
+take-requires c κs = search needs
+
+answer-whole-requires : tie.Need-answer-whole-requires Inv-loop μ-loop
+answer-whole-requires c κs = search needs
 
 sub-turns : tie.Need-sub-turns Inv-loop μ-loop
 sub-turns c = search needs
@@ -34,6 +37,12 @@ loop-again c = search needs
 flush-requires : tie.Need-flush-requires Inv-loop μ-loop
 flush-requires c κs = search needs
 
+slice-aggregate-fail : tie.Need-slice-aggregate-fail Inv-loop μ-loop
+slice-aggregate-fail c = search needs
+
+fail-requires : tie.Need-fail-requires Inv-loop μ-loop
+fail-requires c κs = search needs
+
 same-length : tie.Need-same-length Inv-loop μ-loop
 same-length c = search needs
 
@@ -46,14 +55,23 @@ same-length-3 c = search needs
 same-length-4 : tie.Need-same-length-4 Inv-loop μ-loop
 same-length-4 c = search needs
 
+returns : tie.Need-returns Inv-loop μ-loop
+returns c = search needs
+
 same-length-5 : tie.Need-same-length-5 Inv-loop μ-loop
 same-length-5 c = search needs
 
 same-length-6 : tie.Need-same-length-6 Inv-loop μ-loop
 same-length-6 c = search needs
 
-returns : tie.Need-returns Inv-loop μ-loop
-returns c = search needs
+same-length-7 : tie.Need-same-length-7 Inv-loop μ-loop
+same-length-7 c = search needs
+
+same-length-8 : tie.Need-same-length-8 Inv-loop μ-loop
+same-length-8 c = search needs
+
+returns-2 : tie.Need-returns-2 Inv-loop μ-loop
+returns-2 c = search needs
 
 pub answer-all-spec : {M : Type 1} → statement M
 answer-all-spec =
@@ -61,16 +79,23 @@ answer-all-spec =
     (tie.spec
     Inv-loop
     μ-loop
+    begin-requires
     loop-holds
-    answer-next-requires
+    take-requires
+    answer-whole-requires
     sub-turns
     loop-less
     loop-again
     flush-requires
+    slice-aggregate-fail
+    fail-requires
     same-length
     same-length-2
     same-length-3
     same-length-4
+    returns
     same-length-5
     same-length-6
-    returns)
+    same-length-7
+    same-length-8
+    returns-2)

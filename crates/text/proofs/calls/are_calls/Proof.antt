@@ -1,27 +1,37 @@
--- `are_calls` is safe and ends. The invariant: `i` is within the text. The measure: what is left of it.
-use Prim.Native.Nat.{_≤_, _-_}
-use lib.ListN.{length}
+-- `are_calls` is safe and ends. The invariant: nothing is to be said. The measure: the turns left.
 use borrow.Author.Needs.{needs}
 use Rattle.text.proofs.calls.are_calls.Statement.{statement}
 use Rattle.text.proofs.calls.are_calls.Tie as tie
 
 abbrev Inv-loop : tie.InvT-loop
-Inv-loop text word₀ i₀ word i = i ≤ length text
+Inv-loop text at₀ turns₀ at turns = Unit {0}
 
 abbrev μ-loop : tie.MeasureT-loop
-μ-loop text word₀ i₀ word i = length text - i
+μ-loop text at₀ turns₀ at turns = turns
+
+start-requires : tie.Need-start-requires Inv-loop μ-loop
+start-requires c κs = search needs
 
 loop-holds : tie.Need-loop-holds Inv-loop μ-loop
 loop-holds c = search needs
 
-shared-slice-read-step : tie.Need-shared-slice-read-step Inv-loop μ-loop
-shared-slice-read-step c = search needs
+end-requires : tie.Need-end-requires Inv-loop μ-loop
+end-requires c κs = search needs
 
-step-requires : tie.Need-step-requires Inv-loop μ-loop
-step-requires c κs = search needs
+between-requires : tie.Need-between-requires Inv-loop μ-loop
+between-requires c κs = search needs
 
-add-i : tie.Need-add-i Inv-loop μ-loop
-add-i c = search needs
+is-call-requires : tie.Need-is-call-requires Inv-loop μ-loop
+is-call-requires c κs = search needs
+
+returns : tie.Need-returns Inv-loop μ-loop
+returns c = search needs
+
+start-requires-2 : tie.Need-start-requires-2 Inv-loop μ-loop
+start-requires-2 c κs = search needs
+
+sub-turns : tie.Need-sub-turns Inv-loop μ-loop
+sub-turns c = search needs
 
 loop-less : tie.Need-loop-less Inv-loop μ-loop
 loop-less c = search needs
@@ -29,11 +39,11 @@ loop-less c = search needs
 loop-again : tie.Need-loop-again Inv-loop μ-loop
 loop-again c = search needs
 
-is-whole-requires : tie.Need-is-whole-requires Inv-loop μ-loop
-is-whole-requires c κs = search needs
+returns-2 : tie.Need-returns-2 Inv-loop μ-loop
+returns-2 c = search needs
 
-returns : tie.Need-returns Inv-loop μ-loop
-returns c = search needs
+returns-3 : tie.Need-returns-3 Inv-loop μ-loop
+returns-3 c = search needs
 
 pub are-calls-spec : {M : Type 1} → statement M
 are-calls-spec =
@@ -41,11 +51,15 @@ are-calls-spec =
     (tie.spec
     Inv-loop
     μ-loop
+    start-requires
     loop-holds
-    shared-slice-read-step
-    step-requires
-    add-i
+    end-requires
+    between-requires
+    is-call-requires
+    returns
+    start-requires-2
+    sub-turns
     loop-less
     loop-again
-    is-whole-requires
-    returns)
+    returns-2
+    returns-3)

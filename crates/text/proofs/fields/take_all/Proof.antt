@@ -1,5 +1,5 @@
--- `take_all` is safe and ends. The invariant: no more fields are passed than there are, and both buffers keep their length.
--- The measure: the fields left.
+-- `take_all` is safe and ends. The invariant: no more fields are read than there are, and both buffers keep their length. The measure:
+-- the fields left.
 use mathlib.Core.Path.{_≡_}
 use Prim.Native.Nat.{_≤_, _-_}
 use lib.ListN.{length}
@@ -8,38 +8,29 @@ use Rattle.text.proofs.fields.take_all.Statement.{statement}
 use Rattle.text.proofs.fields.take_all.Tie as tie
 
 abbrev Inv-loop : tie.InvT-loop
-Inv-loop line kinds count values₀ marks₀ cells named bar₀ held₀ k₀ values marks bar held k =
+Inv-loop line kinds count values₀ marks₀ reason₀ held₀ k₀ values marks reason held k =
     (k ≤ count) × ((length values ≡ length values₀) × (length marks ≡ length marks₀))
 
 abbrev μ-loop : tie.MeasureT-loop
-μ-loop line kinds count values₀ marks₀ cells named bar₀ held₀ k₀ values marks bar held k = count - k
-
-next-bar-requires : tie.Need-next-bar-requires Inv-loop μ-loop
-next-bar-requires c κs = search needs
+μ-loop line kinds count values₀ marks₀ reason₀ held₀ k₀ values marks reason held k = count - k
 
 loop-holds : tie.Need-loop-holds Inv-loop μ-loop
 loop-holds c = search needs
 
-after-requires : tie.Need-after-requires Inv-loop μ-loop
-after-requires c κs = search needs
-
-next-bar-requires-2 : tie.Need-next-bar-requires-2 Inv-loop μ-loop
-next-bar-requires-2 c κs = search needs
-
-between-requires : tie.Need-between-requires Inv-loop μ-loop
-between-requires c κs = search needs
-
 kind-at-requires : tie.Need-kind-at-requires Inv-loop μ-loop
 kind-at-requires c κs = search needs
+
+text-of-requires : tie.Need-text-of-requires Inv-loop μ-loop
+text-of-requires c κs = search needs
 
 take-requires : tie.Need-take-requires Inv-loop μ-loop
 take-requires c κs = search needs
 
-enum-known-now : tie.Need-enum-known-now Inv-loop μ-loop
-enum-known-now c = search needs
+enum-known-more : tie.Need-enum-known-more Inv-loop μ-loop
+enum-known-more c = search needs
 
-enum-known-reason : tie.Need-enum-known-reason Inv-loop μ-loop
-enum-known-reason c = search needs
+enum-known-fault : tie.Need-enum-known-fault Inv-loop μ-loop
+enum-known-fault c = search needs
 
 same-length : tie.Need-same-length Inv-loop μ-loop
 same-length c = search needs
@@ -50,11 +41,23 @@ same-length-2 c = search needs
 returns : tie.Need-returns Inv-loop μ-loop
 returns c = search needs
 
-add-k : tie.Need-add-k Inv-loop μ-loop
-add-k c = search needs
+add-set-mark : tie.Need-add-set-mark Inv-loop μ-loop
+add-set-mark c = search needs
 
 set-mark-requires : tie.Need-set-mark-requires Inv-loop μ-loop
 set-mark-requires c κs = search needs
+
+field-requires : tie.Need-field-requires Inv-loop μ-loop
+field-requires c κs = search needs
+
+fit-requires : tie.Need-fit-requires Inv-loop μ-loop
+fit-requires c κs = search needs
+
+earlier-requires : tie.Need-earlier-requires Inv-loop μ-loop
+earlier-requires c κs = search needs
+
+add-k : tie.Need-add-k Inv-loop μ-loop
+add-k c = search needs
 
 loop-less : tie.Need-loop-less Inv-loop μ-loop
 loop-less c = search needs
@@ -77,20 +80,21 @@ take-all-spec =
     (tie.spec
     Inv-loop
     μ-loop
-    next-bar-requires
     loop-holds
-    after-requires
-    next-bar-requires-2
-    between-requires
     kind-at-requires
+    text-of-requires
     take-requires
-    enum-known-now
-    enum-known-reason
+    enum-known-more
+    enum-known-fault
     same-length
     same-length-2
     returns
-    add-k
+    add-set-mark
     set-mark-requires
+    field-requires
+    fit-requires
+    earlier-requires
+    add-k
     loop-less
     loop-again
     same-length-3

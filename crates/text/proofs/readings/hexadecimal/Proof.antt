@@ -1,4 +1,4 @@
--- `hexadecimal` is safe and ends. The invariant: `i` is within the text. The measure: what is left of it.
+-- `hexadecimal` is safe and ends. The invariant: `i` is within the text. The measure: what is left of the text.
 use Prim.Native.Nat.{_≤_, _-_}
 use lib.ListN.{length}
 use borrow.Author.Needs.{needs}
@@ -6,19 +6,28 @@ use Rattle.text.proofs.readings.hexadecimal.Statement.{statement}
 use Rattle.text.proofs.readings.hexadecimal.Tie as tie
 
 abbrev Inv-loop : tie.InvT-loop
-Inv-loop digits bits₀ i₀ bits i = i ≤ length digits
+Inv-loop text value₀ i₀ value i = i ≤ length text
 
 abbrev μ-loop : tie.MeasureT-loop
-μ-loop digits bits₀ i₀ bits i = length digits - i
+μ-loop text value₀ i₀ value i = length text - i
 
 loop-holds : tie.Need-loop-holds Inv-loop μ-loop
 loop-holds c = search needs
 
-shared-slice-read-with-digit : tie.Need-shared-slice-read-with-digit Inv-loop μ-loop
-shared-slice-read-with-digit c = search needs
+shared-slice-read-value : tie.Need-shared-slice-read-value Inv-loop μ-loop
+shared-slice-read-value c = search needs
 
-with-digit-requires : tie.Need-with-digit-requires Inv-loop μ-loop
-with-digit-requires c κs = search needs
+value-requires : tie.Need-value-requires Inv-loop μ-loop
+value-requires c κs = search needs
+
+returns : tie.Need-returns Inv-loop μ-loop
+returns c = search needs
+
+mul-value : tie.Need-mul-value Inv-loop μ-loop
+mul-value c = search needs
+
+add-value : tie.Need-add-value Inv-loop μ-loop
+add-value c = search needs
 
 add-i : tie.Need-add-i Inv-loop μ-loop
 add-i c = search needs
@@ -29,8 +38,8 @@ loop-less c = search needs
 loop-again : tie.Need-loop-again Inv-loop μ-loop
 loop-again c = search needs
 
-returns : tie.Need-returns Inv-loop μ-loop
-returns c = search needs
+returns-2 : tie.Need-returns-2 Inv-loop μ-loop
+returns-2 c = search needs
 
 pub hexadecimal-spec : {M : Type 1} → statement M
 hexadecimal-spec =
@@ -39,9 +48,12 @@ hexadecimal-spec =
     Inv-loop
     μ-loop
     loop-holds
-    shared-slice-read-with-digit
-    with-digit-requires
+    shared-slice-read-value
+    value-requires
+    returns
+    mul-value
+    add-value
     add-i
     loop-less
     loop-again
-    returns)
+    returns-2)

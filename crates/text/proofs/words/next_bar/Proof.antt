@@ -1,4 +1,4 @@
--- `next_bar` is safe and ends. The invariant says nothing. The measure: what is left of the line.
+-- `next_bar` is safe and ends. The invariant: nothing is to be said. The measure: what is left of the line.
 use Prim.Native.Nat.{_-_}
 use lib.ListN.{length}
 use borrow.Author.Needs.{needs}
@@ -6,7 +6,7 @@ use Rattle.text.proofs.words.next_bar.Statement.{statement}
 use Rattle.text.proofs.words.next_bar.Tie as tie
 
 abbrev Inv-loop : tie.InvT-loop
-Inv-loop line from i₀ i = Unit
+Inv-loop line from i₀ i = Unit {0}
 
 abbrev μ-loop : tie.MeasureT-loop
 μ-loop line from i₀ i = length line - i
