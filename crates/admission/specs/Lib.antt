@@ -1,5 +1,7 @@
--- The replies of a refusal and of an answer that is a shape, and what the judging of lists says; then the theory behind it.
+-- The replies of a refusal and of an answer that is a shape, what the judging of lists says, and the size of an answer; then the theory
+-- behind it.
 pub mod Answer
 pub mod Admission
+pub mod Fit
 pub mod Meaning
 pub mod theory

@@ -1,56 +1,63 @@
-// Inner function: an answer that is a shape, written to the lent output.
+// Inner functions: an answer that is a shape, judged by its size, and written to the lent output.
 ghost use mathlib.Core.Path.{_≡_};
 ghost use Prim.Native.Nat.{_%_};
 ghost use lib.ListN.{length};
 ghost use Rattle.plane.specs.Point.{points};
 ghost use Rattle.plane.specs.Reply.{NoneApply};
-ghost use Rattle.plane.specs.Output.{sizeRows};
 ghost use Rattle.plane.specs.Floor.{noShape};
 ghost use Rattle.plane.specs.Question.{reply, output, makes};
 ghost use Rattle.admission.specs.Answer.{ofAnswer};
 ghost use Rattle.admission.specs.Admission.{Judged};
+ghost use Rattle.admission.specs.Fit.{sizedRows, fitRows};
 use crate::Admission;
 use crate::answer::Answer;
 use crate::answer::Refusal;
 use polygon::corners;
+use polygon::limits;
 use polygon::numbers;
 use polygon::rules;
 
-// Refusals 6 and 7 of an answer that is a shape, in their order.
+// Judges an answer of n corners, of which some are out of range or none: 6, then 7.
 // Ruled out: count and range exchanged.
-pub fn survey(shape: &[i32]) -> Admission
-    requires paired { ⌜ length (now shape) % 2 ≡ 0 ⌝ }
-    ensures { λ r. ⌜ Judged (NoneApply (sizeRows (points (now (shape .entry)))))
-        (sizeRows (points (now (shape .entry)))) r ⌝ }
+pub fn sized(n: usize, far: bool) -> Admission
+    ensures { λ r. ⌜ Judged (NoneApply (sizedRows n far)) (sizedRows n far) r ⌝ }
 {
-    if rules::too_many(shape) {
+    if limits::exceeds_corners(n) {
         return Admission::No(Refusal::LargeAnswer);
     }
-    if rules::some_outside(shape) {
+    if far {
         return Admission::No(Refusal::FarAnswer);
     }
     Admission::Valid
 }
 
-// Writes a shape's numbers at the front of the output, all behind them being kept, and answers how many corners it has;
+// Judges the same answer for an output of so many numbers: 6, then 7, then 8.
+// Ruled out: exact room refused; output written before the room is known.
+pub fn fits(n: usize, far: bool, room: usize) -> Admission
+    ensures { λ r. ⌜ Judged (NoneApply (fitRows n far room)) (fitRows n far room) r ⌝ }
+{
+    if let Admission::No(refusal) = sized(n, far) {
+        return Admission::No(refusal);
+    }
+    if room < 2 * n {
+        return Admission::No(Refusal::Room);
+    }
+    Admission::Valid
+}
+
+// Writes a shape's numbers at the front of the output, all after them being kept, and returns how many corners it has,
 // with its floor; or refuses 6, 7 and 8 in their order, with the output as it was.
-// Ruled out: exact room refused; output written before the room is known; output left alone; tail cleared; floor zero
-// in every answer.
+// Ruled out: output left alone; tail cleared; floor zero in every answer.
 pub fn deliver(shape: &[i32], floor: u16, out: &mut [i32]) -> Answer
     requires paired { ⌜ length (now shape) % 2 ≡ 0 ⌝ }
     ensures { λ r. ⌜
         (ofAnswer r ≡ reply (makes (noShape floor) (points (now (shape .entry))) (now (out .entry))))
         × (now (out .exit) ≡ output (makes (noShape floor) (points (now (shape .entry))) (now (out .entry)))) ⌝ }
 {
-    if let Admission::No(refusal) = survey(shape) {
+    let n = corners::count(shape);
+    if let Admission::No(refusal) = fits(n, rules::some_outside(shape), out.len()) {
         return Answer::No(refusal);
     }
-    if out.len() < shape.len() {
-        return Answer::No(Refusal::Room);
-    }
     numbers::copy(shape, shape.len(), out, 0);
-    Answer::Corners {
-        count: corners::count(shape),
-        floor,
-    }
+    Answer::Corners { count: n, floor }
 }

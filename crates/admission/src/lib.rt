@@ -3,12 +3,14 @@
 pub mod answer;
 pub mod deliver;
 
+ghost use mathlib.Core.List.{[], _∷_};
+ghost use mathlib.Core.Path.{_≡_};
 ghost use Rattle.plane.specs.Point.{point};
 ghost use Rattle.plane.specs.Reply.{NoneApply};
 ghost use Rattle.plane.specs.Refusal.{shapeRows, Valid};
 ghost use Rattle.plane.specs.Sweep.{pointRows, ValidPoints};
 ghost use Rattle.plane.specs.Furthest.{directionRows};
-ghost use Rattle.plane.specs.Floor.{on, pairRows, Same};
+ghost use Rattle.plane.specs.Floor.{on, pairRows, floorRow, Same};
 ghost use Rattle.admission.specs.Admission.{Judged};
 use answer::Refusal;
 use calipers::convex;
@@ -29,6 +31,17 @@ pub enum Admission {
 pub fn admit(list: &[i32], shape: usize) -> Admission
     ensures { λ r. ⌜ Judged (Valid (now (list .entry))) (shapeRows shape (now (list .entry))) r ⌝ }
 {
+    if convex::passes(list) {
+        return Admission::Valid;
+    }
+    blamed(list, shape)
+}
+
+// Judges a list by one rule after the other. It is slow on a shape, so only lists that failed the pass come here. It
+// has two callers, so that the compiler keeps it out of the code that judges shapes.
+fn blamed(list: &[i32], shape: usize) -> Admission
+    ensures { λ r. ⌜ Judged (Valid (now (list .entry))) (shapeRows shape (now (list .entry))) r ⌝ }
+{
     if rules::bad_count(list) {
         return Admission::No(Refusal::Count { shape });
     }
@@ -37,9 +50,6 @@ pub fn admit(list: &[i32], shape: usize) -> Admission
     }
     if rules::some_outside(list) {
         return Admission::No(Refusal::Range { shape });
-    }
-    if convex::is_shape(list) {
-        return Admission::Valid;
     }
     if let Broken::At { edge, corner } = rules::first_broken(list) {
         return Admission::No(Refusal::Side {
@@ -54,18 +64,40 @@ pub fn admit(list: &[i32], shape: usize) -> Admission
     Admission::Valid
 }
 
-// Judges the first list, then the second, and then whether they are on one floor.
+// Judges the first list, then the second, and then whether they are on one floor. Lists that are no shapes are judged
+// again, out of line.
 // Ruled out: second shape judged first; other shape blamed; thirteen for a bad second shape; floors not compared.
 pub fn admit_pair(a: &[i32], f: u16, b: &[i32], g: u16) -> Admission
+    ensures { λ r. ⌜ Judged (Same (on (now (a .entry)) f) (on (now (b .entry)) g))
+        (pairRows (on (now (a .entry)) f) (on (now (b .entry)) g)) r ⌝ }
+{
+    if !convex::passes(a) {
+        return blamed_pair(a, f, b, g);
+    }
+    if !convex::passes(b) {
+        return blamed_pair(a, f, b, g);
+    }
+    admit_floors(f, g)
+}
+
+// Judges two lists of which one failed the pass.
+fn blamed_pair(a: &[i32], f: u16, b: &[i32], g: u16) -> Admission
     ensures { λ r. ⌜ Judged (Same (on (now (a .entry)) f) (on (now (b .entry)) g))
         (pairRows (on (now (a .entry)) f) (on (now (b .entry)) g)) r ⌝ }
 {
     if let Admission::No(first) = admit(a, 1) {
         return Admission::No(first);
     }
-    if let Admission::No(second) = admit(b, 2) {
+    if let Admission::No(second) = blamed(b, 2) {
         return Admission::No(second);
     }
+    admit_floors(f, g)
+}
+
+// Judges whether two shapes are on one floor: 13.
+fn admit_floors(f: u16, g: u16) -> Admission
+    ensures { λ r. ⌜ Judged (f ≡ g) (floorRow f g ∷ []) r ⌝ }
+{
     if f != g {
         return Admission::No(Refusal::Floors);
     }

@@ -1,4 +1,4 @@
 -- Lemmas that function proofs share.
 pub mod Tests
+pub mod Walked
 pub mod Progress
-pub mod Summed

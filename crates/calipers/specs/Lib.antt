@@ -5,6 +5,7 @@ pub mod Side
 pub mod Image
 pub mod Stretch
 pub mod Advance
+pub mod Size
 pub mod PlaceAfter
 pub mod PlaceTest
 pub mod Part

@@ -23,7 +23,7 @@ struct Edge {
     rise: i64,
 }
 
-// Returns whether a list is a shape: none of refusals 1 to 5 applies.
+// Returns whether a list is a shape: none of refusals 1 to 5 applies. Judging asks this of every list.
 pub fn passes(list: &[i32]) -> bool
     ensures { λ r. ⌜ (r ≡ true → Valid (now (list .entry))) × (Valid (now (list .entry)) → r ≡ true) ⌝ }
 {
@@ -43,7 +43,7 @@ pub fn passes(list: &[i32]) -> bool
 // are one if the first precedes the second, the next edges go up or level, the others down, and each edge is strictly
 // left of the one before it.
 // Ruled out: list that winds twice passed; last edge left unchecked.
-pub fn is_shape(list: &[i32]) -> bool
+fn is_shape(list: &[i32]) -> bool
     requires { ⌜ InRange (now list) × (0 < length (points (now list))) ⌝ }
     ensures { λ r. ⌜ (r ≡ true → IsShape (points (now (list .entry))))
         × (IsShape (points (now (list .entry))) → r ≡ true) ⌝ }

@@ -4,21 +4,25 @@ pub mod convex;
 pub mod edges;
 pub mod image;
 pub mod side;
+pub mod size;
 pub mod walk;
 
-ghost use Prim.Native.Nat.{_+_, _≤_};
+ghost use mathlib.Core.Path.{_≡_};
+ghost use Prim.Native.Nat.{_*_, _≤_};
 ghost use lib.ListN.{length};
-ghost use Rattle.plane.specs.Point.{points};
+ghost use Rattle.plane.specs.Point.{points, numbers};
 ghost use Rattle.plane.specs.Refusal.{Valid};
 ghost use Rattle.plane.specs.Corner.{shapeOf, sums};
-ghost use Rattle.polygon.specs.Front.{Front};
+ghost use Rattle.plane.specs.Output.{overwritten};
 
-// Writes the shape of all corner-plus-corner points at the front of the buffer, and says how many corners it has: at
-// most as many as both shapes together. It is the walk from the beginning to its end.
-pub fn sum(a: &[i32], b: &[i32], buf: &mut [i32]) -> usize
+// Writes the shape of all corner-plus-corner points at the front of the output, keeps all after it, and returns how
+// many corners it has. It is the walk from the beginning to its end.
+pub fn sum(a: &[i32], b: &[i32], out: &mut [i32]) -> usize
     requires { ⌜ Valid (now a) × Valid (now b)
-        × (length (points (now a)) + length (points (now b)) ≤ length (points (now buf))) ⌝ }
-    ensures { λ r. ⌜ Front (shapeOf (sums (points (now (a .entry))) (points (now (b .entry))))) r (now (buf .exit)) ⌝ }
+        × (2 * length (shapeOf (sums (points (now a)) (points (now b)))) ≤ length (now out)) ⌝ }
+    ensures { λ r. ⌜ (r ≡ length (shapeOf (sums (points (now (a .entry))) (points (now (b .entry))))))
+        × (now (out .exit) ≡ overwritten (numbers (shapeOf (sums (points (now (a .entry))) (points (now (b .entry))))))
+        (now (out .entry))) ⌝ }
 {
-    walk::walk_on(a, b, 0, 0, buf.len(), buf).count
+    walk::walk_on(a, b, 0, 0, out.len(), out).count
 }

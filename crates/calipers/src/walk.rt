@@ -1,13 +1,14 @@
 // Inner functions: the caliper walk from any of its places on, and which states are its places.
 ghost use mathlib.Core.Bool.{false};
 ghost use mathlib.Core.Path.{_≡_};
-ghost use Prim.Native.Nat.{_+_, _<_, _≤_};
+ghost use Prim.Native.Nat.{_*_, _<_, _≤_};
 ghost use lib.ListN.{length};
-ghost use Rattle.plane.specs.Point.{points};
+ghost use Rattle.plane.specs.Point.{points, numbers};
 ghost use Rattle.plane.specs.Refusal.{Valid};
+ghost use Rattle.plane.specs.Output.{overwritten};
 ghost use Rattle.plane.specs.Forms.{edges as Forms·edges};
 ghost use Rattle.calipers.specs.Walk.{At};
-ghost use Rattle.calipers.specs.Advance.{state, reached, Advanced};
+ghost use Rattle.calipers.specs.Advance.{state, nextCorners, reached, Advanced};
 ghost use Rattle.calipers.specs.Side.{walkOf};
 ghost use Rattle.calipers.specs.PlaceAfter.{isPlace};
 ghost use Rattle.calipers.specs.PlaceTest.{ends as PlaceTest·ends, follows as PlaceTest·follows};
@@ -26,20 +27,23 @@ pub struct Advance {
 }
 
 // Goes on from the place at which i edges of the first shape and j of the second are passed, and writes the corners on
-// its way at the front of the buffer: k of them or what remains, whichever is less. Edges of equal direction make one
-// step, so no three corners are in line. A point moves the other shape; a segment's edge is passed twice.
+// its way at the front of the output: k of them or what remains, whichever is less. All after them is kept. Edges of
+// equal direction make one step, so no three corners are in line. A point moves the other shape; a segment's edge is
+// passed twice.
 // Ruled out: parallel corners kept; made up count; one corner too few; everything in the first part.
-pub fn walk_on(a: &[i32], b: &[i32], i: usize, j: usize, k: usize, buf: &mut [i32]) -> Advance
+pub fn walk_on(a: &[i32], b: &[i32], i: usize, j: usize, k: usize, out: &mut [i32]) -> Advance
     requires { ⌜ At (now a) (now b) (state i j false) × (0 < k)
-        × (length (points (now a)) + length (points (now b)) ≤ length (points (now buf))) ⌝ }
-    ensures { λ r. ⌜ Advanced (now (a .entry)) (now (b .entry)) (state i j false) k r (now (buf .exit)) ⌝ }
+        × (2 * length (nextCorners (now a) (now b) (state i j false) k) ≤ length (now out)) ⌝ }
+    ensures { λ r. ⌜ Advanced (now (a .entry)) (now (b .entry)) (state i j false) k r
+        × (now (out .exit) ≡ overwritten (numbers (nextCorners (now (a .entry)) (now (b .entry)) (state i j false) k))
+        (now (out .entry))) ⌝ }
 {
     let mut s = side::side_at(a, i);
     let mut t = side::side_at(b, j);
     let all = s.end + t.end;
     let mut count = 0;
     loop {
-        corners::put(buf, count, side::here(s, t));
+        corners::put(out, count, side::here(s, t));
         count += 1;
         let c = side::order(s, t);
         s = side::next(a, s, c < 0);

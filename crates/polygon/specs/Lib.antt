@@ -3,4 +3,5 @@ pub mod Point
 pub mod Broken
 pub mod Front
 pub mod Peak
+pub mod Extent
 pub mod theory

@@ -43,6 +43,7 @@ use answer::Sent;
 use answer::Tablet;
 use answer::Tangents;
 use answer::Width;
+use calipers::size;
 use clearance::measured::Distance;
 use coordinate::Coordinate;
 use journal::latest::Found;
@@ -53,7 +54,9 @@ use polygon::direction;
 use polygon::limits;
 pub use polygon::limits::SHAPE_NUMBERS;
 use polygon::opposite;
+use polygon::peak;
 use polygon::point::Point;
+use separation::differences;
 pub use tablet::reading::Reading;
 
 // Whether the list is a shape, and how many corners it has. A point and a segment are shapes. Refused: an empty or odd
@@ -123,8 +126,8 @@ pub fn mirror(list: &[i32], floor: u16, out: &mut [i32]) -> Answer
 // Edges of equal direction make one step, so no three corners of the answer are in line. Refused, with the output as it
 // was: 1 to 5 of the first shape, then of the second; different floors; then an answer of too many corners, one out of
 // range, and too small an output. On success all behind the written numbers is kept.
-// Ruled out: parallel corners kept; segment passed once; origin for every sum; second shape judged first; output left
-// alone; floor zero in every answer.
+// Ruled out: parallel corners kept; segment passed once; origin for every sum; second shape judged first; sum written
+// in too small an output; far sum written.
 pub fn sum(a: &[i32], f: u16, b: &[i32], g: u16, out: &mut [i32]) -> Answer
     ensures { λ r. ⌜
         (ofAnswer r ≡ reply (askSum (on (now (a .entry)) f) (on (now (b .entry)) g) (now (out .entry))))
@@ -133,9 +136,14 @@ pub fn sum(a: &[i32], f: u16, b: &[i32], g: u16, out: &mut [i32]) -> Answer
     if let Admission::No(refusal) = admission::admit_pair(a, f, b, g) {
         return Answer::No(refusal);
     }
-    let mut shape = [0i32; limits::PAIR_NUMBERS];
-    let n = calipers::sum(a, b, &mut shape);
-    deliver::deliver(&shape[..2 * n], f, out)
+    let n = size::reckon(a, b, out.len());
+    if let Admission::No(refusal) = deliver::fits(n, size::is_far(a, b), out.len()) {
+        return Answer::No(refusal);
+    }
+    Answer::Corners {
+        count: calipers::sum(a, b, out),
+        floor: f,
+    }
 }
 
 // Writes the shape of both corner lists taken together at the front of the output, and answers how many corners it has.
@@ -172,9 +180,19 @@ pub fn grow(obstacle: &[i32], f: u16, cart: &[i32], g: u16, out: &mut [i32]) -> 
     if let Admission::No(refusal) = admission::admit_pair(obstacle, f, cart, g) {
         return Answer::No(refusal);
     }
-    let mut shape = [0i32; limits::PAIR_NUMBERS];
-    let n = separation::differences(obstacle, cart, &mut shape);
-    deliver::deliver(&shape[..2 * n], f, out)
+    let top = peak::top(cart);
+    let n = differences::reckon(obstacle, cart, top, out.len());
+    if let Admission::No(refusal) = deliver::fits(
+        n,
+        differences::is_far(obstacle, cart),
+        out.len(),
+    ) {
+        return Answer::No(refusal);
+    }
+    Answer::Corners {
+        count: differences::write(obstacle, cart, top, out),
+        floor: f,
+    }
 }
 
 // Writes the shape of up to as many points as a sweep may have, in any order, at the front of the output, and answers

@@ -16,8 +16,8 @@ use crate::answer::Part;
 use crate::answer::Refusal;
 use admission::Admission;
 use admission::deliver;
+use calipers::size;
 use polygon::limits;
-use polygon::numbers;
 
 // How far the walk round two shapes is: so many edges of the first and of the second are passed, and over if all
 // corners of their sum are written. It is a plain value, which a caller may keep, copy or make up: one that is at no
@@ -102,12 +102,10 @@ impl Walk {
                 floor: f,
             };
         }
-        let mut corners = [0i32; limits::PAIR_NUMBERS];
-        let went = calipers::walk::walk_on(a, b, self.first, self.second, k, &mut corners);
-        if out.len() < 2 * went.count {
+        if !size::has_room(a, b, self.first, self.second, k, out.len()) {
             return Part::No(Refusal::Room);
         }
-        numbers::copy(&corners, 2 * went.count, out, 0);
+        let went = calipers::walk::walk_on(a, b, self.first, self.second, k, out);
         Part::Corners {
             count: went.count,
             walk: Walk {
@@ -120,13 +118,12 @@ impl Walk {
     }
 }
 
-// Refusals 6 and 7 of the whole sum of two shapes.
+// Judges the whole sum of two shapes by its size, without writing it: 6, then 7.
 fn survey(a: &[i32], b: &[i32]) -> Admission
     requires { ⌜ Valid (now a) × Valid (now b) ⌝ }
     ensures { λ r. ⌜ Judged (NoneApply (sizeRows (wholeSum (now (a .entry)) (now (b .entry)))))
         (sizeRows (wholeSum (now (a .entry)) (now (b .entry)))) r ⌝ }
 {
-    let mut shape = [0i32; limits::PAIR_NUMBERS];
-    let n = calipers::sum(a, b, &mut shape);
-    deliver::survey(&shape[..2 * n])
+    let n = size::reckon(a, b, limits::SHAPE_NUMBERS);
+    deliver::sized(n, size::is_far(a, b))
 }

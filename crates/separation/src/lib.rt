@@ -2,23 +2,17 @@
 // differences. Callers ask the crate `questions`.
 pub mod answer;
 pub mod around;
+pub mod differences;
 mod normal;
 mod within;
 
 ghost use mathlib.Core.Path.{_≡_};
-ghost use Prim.Native.Nat.{_+_, _≤_};
-ghost use lib.ListN.{length};
 ghost use Rattle.plane.specs.Point.{points};
 ghost use Rattle.plane.specs.Refusal.{Valid};
-ghost use Rattle.plane.specs.Corner.{shapeOf};
 ghost use Rattle.plane.specs.Separation.{relationNumber, inside as Separation·inside};
-ghost use Rattle.plane.specs.Separation.{differences as Separation·differences};
-ghost use Rattle.polygon.specs.Front.{Front};
 ghost use Rattle.separation.specs.Answer.{numberOf};
 use answer::Relation;
 use polygon::corners;
-use polygon::limits;
-use polygon::opposite;
 use polygon::peak;
 
 // Whether two shapes are apart, touching or overlapping, by a walk round their differences: the sum of the first and
@@ -29,20 +23,6 @@ pub fn relation(a: &[i32], b: &[i32]) -> Relation
     ensures { λ r. ⌜ numberOf r ≡ relationNumber (points (now (a .entry))) (points (now (b .entry))) ⌝ }
 {
     around::around(a, b, peak::top(b))
-}
-
-// Writes the shape of all differences, a corner of the first less a corner of the second, at the front of the buffer,
-// and says how many corners it has: at most as many as both shapes together. It is the sum of the first and the mirror
-// image of the second.
-pub fn differences(a: &[i32], b: &[i32], buf: &mut [i32]) -> usize
-    requires { ⌜ Valid (now a) × Valid (now b)
-        × (length (points (now a)) + length (points (now b)) ≤ length (points (now buf))) ⌝ }
-    ensures { λ r. ⌜ Front (shapeOf (Separation·differences (points (now (a .entry))) (points (now (b .entry))))) r
-        (now (buf .exit)) ⌝ }
-{
-    let mut image = [0i32; limits::SHAPE_NUMBERS];
-    opposite::mirror(b, &mut image);
-    calipers::sum(a, &image[..2 * corners::count(b)], buf)
 }
 
 // Whether the first shape is inside the second: a point and a segment by their ends, a polygon by a walk round both.

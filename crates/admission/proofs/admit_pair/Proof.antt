@@ -1,83 +1,43 @@
--- `admit_pair` meets its contract: the first list's refusal is given before the second's, and that before 13.
-use mathlib.Core.Path.{_≡_}
-use mathlib.Core.List.{[], _∷_, _++_}
+-- `admit_pair` meets its contract: two lists that pass are valid, and their floors are compared; others are blamed.
 use borrow.Author.Needs.{needs}
-use Rattle.plane.specs.Reply.{NoneApply}
-use Rattle.plane.specs.Refusal.{shapeRows, Valid}
-use Rattle.plane.specs.Floor.{Floored, on, floorRow}
-use Rattle.plane.specs.theory.refusals.Accept.{valid→accepted}
-use Rattle.plane.specs.theory.refusals.Asked.{floors-first}
-use Rattle.admission.specs.theory.Judged.{refuses, refuses-append, refuses-join, passes, turns-away}
+use borrow.Author.Tests.{not-false}
+use Rattle.plane.specs.Floor.{on}
+use Rattle.admission.specs.theory.Door.{then-floors}
 use Rattle.admission.proofs.admit_pair.Statement.{statement}
 use Rattle.admission.proofs.admit_pair.Tie as tie
 
--- the two shapes
-abbrev one : tie.Start → Floored
-one c = on (c .args .a .now) (c .args .f)
+passes-requires : tie.Need-passes-requires
+passes-requires c κs = search needs
 
-abbrev other : tie.Start → Floored
-other c = on (c .args .b .now) (c .args .g)
-
--- past its judging each is valid
-first : (c : tie.After-enum-told) → Valid (c .before .before .before .args .a .now)
-first c = c .before .before .admit .ensures .valid (c .enum-told .given .1)
-
-second : (c : tie.After-enum-told2) → Valid (c .before .before .before .before .before .before .args .b .now)
-second c = c .before .before .admit2 .ensures .valid (c .enum-told2 .given .1)
-
--- the rows of the second list and 13, behind those of the first
-behind-first : (c : tie.After-enum-told) → NoneApply (shapeRows 1 (c .before .before .before .args .a .now))
-behind-first c = valid→accepted _ 1 (first c)
-
-admit-requires : tie.Need-admit-requires
-admit-requires c κs = search needs
-
-enum-known-first : tie.Need-enum-known-first
-enum-known-first c = search needs
+blamed-pair-requires : tie.Need-blamed-pair-requires
+blamed-pair-requires c κs = search needs
 
 returns : tie.Need-returns
-returns c =
-    let start = c .before .before .before .before in
-    turns-away (refuses-append (shapeRows 2 (start .args .b .now) ++ (floorRow (start .args .f) (start .args .g) ∷ []))
-    (c .before .before .before .admit .ensures .no _ (c .before .first .given .1)))
+returns c = c .blamed-pair .ensures
 
-enum-told : tie.Need-enum-told
-enum-told c = search needs
+passes-requires-2 : tie.Need-passes-requires-2
+passes-requires-2 c κs = search needs
 
-admit-requires-2 : tie.Need-admit-requires-2
-admit-requires-2 c κs = search needs
-
-enum-known-second : tie.Need-enum-known-second
-enum-known-second c = search needs
+blamed-pair-requires-2 : tie.Need-blamed-pair-requires-2
+blamed-pair-requires-2 c κs = search needs
 
 returns-2 : tie.Need-returns-2
-returns-2 c =
-    let at-second = c .before .before .before in
-    let start = at-second .before .before .before .before in
-    turns-away (refuses-join (shapeRows 1 (start .args .a .now)) (behind-first (at-second .before))
-    (refuses-append (floorRow (start .args .f) (start .args .g) ∷ []) (at-second .admit2 .ensures .no _ (c .before .second .given .1))))
+returns-2 c = c .blamed-pair2 .ensures
 
-enum-told-2 : tie.Need-enum-told-2
-enum-told-2 c = search needs
+admit-floors-requires : tie.Need-admit-floors-requires
+admit-floors-requires c κs = search needs
 
 returns-3 : tie.Need-returns-3
 returns-3 c =
-    let at-told = c .before in
-    let at-first = at-told .before .before .before in
-    let start = at-first .before .before .before in
-    turns-away (refuses (floors-first (one start) (other start) (first at-first) (second at-told) (c .if1 .taken)))
-
-returns-4 : tie.Need-returns-4
-returns-4 c =
-    let at-told = c .before in
-    passes (record {
-      first-valid = first (at-told .before .before .before);
-      second-valid = second at-told;
-      one-floor = c .if1 .left;
-    })
+    let second = c .before .before in
+    let first = second .before .before in
+    let args = first .before .args in
+    then-floors (on (args .a .now) (args .f)) (on (args .b .now) (args .g))
+    (first .passes .ensures .0 (not-false _ (second .before .if1 .left)))
+    (second .passes2 .ensures .0 (not-false _ (c .before .if2 .left))) (c .admit-floors .ensures)
 
 pub admit-pair-spec : {M : Type 1} → statement M
 admit-pair-spec =
     tie.close
-    (tie.spec admit-requires enum-known-first returns enum-told admit-requires-2 enum-known-second returns-2 enum-told-2
-    returns-3 returns-4)
+    (tie.spec passes-requires blamed-pair-requires returns passes-requires-2 blamed-pair-requires-2 returns-2 admit-floors-requires
+    returns-3)

@@ -1,54 +1,79 @@
--- A shape's numbers, written to an output.
+-- A shape's size, and its numbers, written to an output.
+--     sized-rows, fit-rows     what its size says of rows 6, 7 and 8; `judged-by`: so it is judged by these; `room-there`: there is room
 --     numbers-outside     row 7 is asked of the numbers as they are
---     little-room, enough-room     row 8 applies, or does not
 --     copied              a copy of the list is the shape's numbers, and all after them is kept
 --     made-delivered      what is delivered of the front of a buffer, where the shape that a question makes is; `front-paired`: its numbers
 --     sweep-delivered     the same of the shape of a sweep
-use mathlib.Core.Path.{_≡_, sym, _∙_, ap, ap₂}
-use mathlib.Core.Bool.{Bool, true, false}
+use mathlib.Core.Path.{_≡_, sym, _∙_, ap, ap₂, subst}
+use mathlib.Core.Bool.{Bool}
 use mathlib.Core.List.{List, [], _∷_, _++_}
 use Prim.Native.Nat.{ℕ, _%_, _*_, _+_, _≤_, _<_}
 use native.Mathlib.Omega.{arith}
-use borrow.Author.Tests.{lt-ltb, le-ltb}
+use borrow.Author.Tests.{ltb-false, le-ltb}
+use lib.Dec.{ltb}
 use lib.IntN.{ℤ}
 use lib.ListN.{length, take, drop}
 use lib.Seq.{paste, take-length}
 use Rattle.plane.specs.Point.{Point, points, numbers}
-use Rattle.plane.specs.Reply.{Reply}
-use Rattle.plane.specs.Refusal.{someOutside}
+use Rattle.plane.specs.Limits.{maxCorners}
+use Rattle.plane.specs.Reply.{Reply, Row, row, NoneApply}
+use Rattle.plane.specs.Refusal.{tooMany, someOutside}
 use Rattle.plane.specs.Corner.{shapeOf}
 use Rattle.plane.specs.Output.{noRoom, sizeRows, roomRow, answerRows, overwritten}
 use Rattle.plane.specs.Sweep.{ValidPoints}
 use Rattle.plane.specs.Floor.{Floored, corners, Shapes, noShape, manyPoints, rowsOf, floorOf, Admitted}
 use Rattle.plane.specs.Question.{reply, output, makes, askSweep}
-use Rattle.plane.specs.theory.lists.Flat.{numbers-points}
+use Rattle.plane.specs.theory.lists.Flat.{numbers-points, numbers-length}
 use Rattle.plane.specs.theory.refusals.Rows.{firstRow-passed, passed-output}
 use Rattle.plane.specs.theory.refusals.Asked.{admitted→none}
 use Rattle.plane.specs.theory.sweep.SweepSize.{sweep-size}
 use Rattle.polygon.specs.Front.{Front}
 use Rattle.polygon.specs.theory.Fronts.{front-points, front-length}
+use Rattle.calipers.specs.Size.{Reckoned, exact, enough}
+use Rattle.admission.specs.declared.Admission.{Admission}
+use Rattle.admission.specs.Admission.{Judged}
+use Rattle.admission.specs.Fit.{sizedRows, fitRows}
+
+-- ---- the size of a shape
+
+module _ (S : List Point) where
+  many-is : {n room : ℕ} → Reckoned (length S) room n → ltb maxCorners n ≡ tooMany S
+  unfolding tooMany
+  many-is (exact e) = ap (ltb maxCorners) e
+  many-is (enough h k l) = le-ltb maxCorners _ k ∙ sym (le-ltb maxCorners (length S) (omega arith))
+
+  room-is : (old : List ℤ) {n : ℕ} → Reckoned (length S) (length old) n → ltb (length old) (2 * n) ≡ noRoom S old
+  unfolding noRoom
+  room-is old (exact e) = ap (ltb (length old)) (ap (λ k. 2 * k) e ∙ sym (numbers-length S))
+  room-is old (enough h k l) = le-ltb (length old) _ l ∙ sym (le-ltb (length old) (length (numbers S)) (omega (arith, numbers-length S)))
+
+  module _ {far : Bool} (f : far ≡ someOutside (numbers S)) where
+    pub sized-rows : {n room : ℕ} → Reckoned (length S) room n → sizedRows n far ≡ sizeRows S
+    sized-rows r = ap₂ (λ (s t : Bool). row 6 s [] ∷ row 7 t [] ∷ []) (many-is r) f
+
+    pub fit-rows : (old : List ℤ) {n : ℕ} → Reckoned (length S) (length old) n → fitRows n far (length old) ≡ answerRows S old
+    fit-rows old r = ap₂ (λ (v : List Row) (t : Bool). v ++ (row 8 t [] ∷ [])) (sized-rows r) (room-is old r)
+
+  -- no row applies: there is room
+  pub room-there : (old : List ℤ) → NoneApply (answerRows S old) → 2 * length S ≤ length old
+  unfolding noRoom
+  room-there old n = omega (arith, ltb-false (length old) (length (numbers S)) (n .1 .1 .0), numbers-length S)
+
+-- what is judged by one table is judged by an equal one
+pub judged-by : {vs ws : List Row} → vs ≡ ws → {x : Admission} → Judged (NoneApply vs) vs x → Judged (NoneApply ws) ws x
+judged-by e {x} j = subst (λ (rows : List Row). Judged (NoneApply rows) rows x) e j
+
+-- ---- a list that is a shape
 
 module _ (l : List ℤ) (paired : length l % 2 ≡ 0) where
-  pub numbers-outside : {t : Bool} → someOutside l ≡ t → someOutside (numbers (points l)) ≡ t
-  numbers-outside h = ap someOutside (numbers-points l paired) ∙ h
+  pub numbers-outside : someOutside l ≡ someOutside (numbers (points l))
+  numbers-outside = ap someOutside (sym (numbers-points l paired))
 
-  count : length (numbers (points l)) ≡ length l
-  count = ap length (numbers-points l paired)
-
-  module _ (old : List ℤ) where
-    pub little-room : length old < length l → noRoom (points l) old ≡ true
-    unfolding noRoom
-    little-room h = lt-ltb (length old) (length (numbers (points l))) (omega (arith, count))
-
-    pub enough-room : length l ≤ length old → noRoom (points l) old ≡ false
-    unfolding noRoom
-    enough-room h = le-ltb (length old) (length (numbers (points l))) (omega (arith, count))
-
-    pub copied : {out : List ℤ} → out ≡ paste old 0 l (length l) → out ≡ overwritten (numbers (points l)) old
-    unfolding overwritten
-    copied f =
-        let zero : 0 + length l ≡ length l = omega arith in
-        f ∙ ap₂ (λ k n. k ++ drop n old) (take-length l) zero ∙ ap (λ k. k ++ drop (length k) old) (sym (numbers-points l paired))
+  pub copied : (old : List ℤ) {out : List ℤ} → out ≡ paste old 0 l (length l) → out ≡ overwritten (numbers (points l)) old
+  unfolding overwritten
+  copied old f =
+      let zero : 0 + length l ≡ length l = omega arith in
+      f ∙ ap₂ (λ k n. k ++ drop n old) (take-length l) zero ∙ ap (λ k. k ++ drop (length k) old) (sym (numbers-points l paired))
 
 -- ---- a shape at the front of a buffer
 

@@ -1,8 +1,9 @@
 -- A sum in parts: what each call writes from a place on.
 --     part-from, handed-from        from the place after c corners: the next k, and the place after them; `part-in`: within the sum
---     part-advanced                 a walk that went on wrote the part; `part-none`: with nothing to write the walk stays
+--     part-remaining                the corners of a part are the next of the walk
+--     part-advanced                 a walk that went on came to the place after the part; `part-none`: with nothing to write the walk stays
 --     over-all, over-at-last        the walk is over exactly at the last place
-use mathlib.Core.Path.{_≡_, refl, sym, _∙_, ap, ap₂, subst}
+use mathlib.Core.Path.{_≡_, refl, sym, _∙_, ap, ap₂}
 use mathlib.Core.Bool.{Bool, true, false}
 use mathlib.Core.List.{List, []}
 use mathlib.Core.Logic.{_⊎_, inl, inr}
@@ -13,10 +14,9 @@ use lib.ListN.{length, take, drop, length-take, length-drop}
 use lib.Seq.{take-nil}
 use Rattle.plane.specs.Point.{Point, points}
 use Rattle.plane.specs.Refusal.{Valid}
-use Rattle.polygon.specs.Front.{Front}
 use Rattle.calipers.specs.declared.walk.Advance.{Advance}
 use Rattle.calipers.specs.Walk.{Walk, begun, advanced, stepped, remaining}
-use Rattle.calipers.specs.Advance.{reached, Advanced}
+use Rattle.calipers.specs.Advance.{nextCorners, reached, Advanced}
 use Rattle.calipers.specs.PlaceAfter.{wholeSum, placeAfter, isPlace}
 use Rattle.calipers.specs.Part.{partCorners, handedBack}
 use Rattle.calipers.specs.theory.Steps.{remaining-over}
@@ -48,7 +48,7 @@ module _ (a b : List ℤ) (v : Valid a) (w : Valid b) where
   -- ---- a walk that went on
 
   module _ (u : Walk) (k : ℕ) (p : isPlace a b u ≡ true) where
-    part-remaining : partCorners a b u k ≡ take k (remaining (points a) (points b) u)
+    pub part-remaining : partCorners a b u k ≡ nextCorners a b u k
     part-remaining = let r = place-count a b u p in
         ap (λ (x : Walk). partCorners a b x k) (r .2) ∙ part-from (r .0) k (r .1) ∙ ap (take k) (sym (to-come a b v w (r .0) (r .1)))
         ∙ ap (λ (x : Walk). take k (remaining (points a) (points b) x)) (sym (r .2))
@@ -60,11 +60,10 @@ module _ (a b : List ℤ) (v : Valid a) (w : Valid b) where
         ∙ ap₂ (stepped (points a) (points b))
         (ap length (sym (part-from (r .0) k (r .1)) ∙ ap (λ (x : Walk). partCorners a b x k) (sym (r .2)))) (sym (r .2))
 
-    pub part-advanced : {r : Advance} {buf : List ℤ} → Advanced a b u k r buf
-        → Front (partCorners a b u k) (r .count) buf × (reached r ≡ handedBack a b u k)
-    part-advanced {r} {buf} t =
-        let front = subst (λ (l : List Point). Front l (r .count) buf) (sym part-remaining) (t .front) in
-        (front, t .moved ∙ ap (λ (n : ℕ). stepped (points a) (points b) n u) (front .counted) ∙ sym handed-stepped)
+    pub part-advanced : {r : Advance} → Advanced a b u k r → (r .count ≡ length (partCorners a b u k)) × (reached r ≡ handedBack a b u k)
+    part-advanced {r} t =
+        let counted = t .counted ∙ ap length (sym part-remaining) in
+        (counted, t .moved ∙ ap (λ (n : ℕ). stepped (points a) (points b) n u) counted ∙ sym handed-stepped)
 
     -- nothing to write
     pub part-none : (u .over ≡ true) ⊎ (k ≡ 0) → (partCorners a b u k ≡ []) × (handedBack a b u k ≡ u)

@@ -1,26 +1,42 @@
--- `sum` meets its contract: a list is refused, or the shape is made in a buffer and delivered.
-use mathlib.Core.Path.{sym}
-use native.Mathlib.Omega.{arith}
+-- `sum` meets its contract: a list is refused, or the size of the sum, or it is written.
+use mathlib.Core.Path.{_≡_, ap}
+use mathlib.Core.List.{List, [], _∷_}
 use borrow.Author.Needs.{needs}
-use Rattle.plane.specs.Limits.{maxCorners}
-use Rattle.plane.specs.Floor.{Floored, on, twoShapes, Same}
-use Rattle.plane.specs.Question.{askSum}
-use Rattle.polygon.specs.theory.Fronts.{front-length}
-use Rattle.admission.specs.theory.Door.{shapes-refused}
-use Rattle.admission.specs.theory.Delivery.{front-paired, made-delivered}
+use lib.IntN.{pos}
+use Rattle.plane.specs.Point.{Point}
+use Rattle.plane.specs.Reply.{NoneApply}
+use Rattle.plane.specs.Output.{answerRows}
+use Rattle.plane.specs.Floor.{Floored, on, Same}
+use Rattle.plane.specs.Question.{Question, askSum}
+use Rattle.calipers.specs.PlaceAfter.{wholeSum}
+use Rattle.admission.specs.Admission.{Judged}
+use Rattle.admission.specs.theory.Door.{shapes-refused, rest-refused, all-written}
+use Rattle.admission.specs.theory.Delivery.{fit-rows, judged-by, room-there}
 use Rattle.questions.proofs.sum.Statement.{statement}
 use Rattle.questions.proofs.sum.Tie as tie
 
--- the two shapes
+-- the two shapes, and what is asked of them
 abbrev one : tie.Start → Floored
 one c = on (c .args .a .now) (c .args .f)
 
 abbrev other : tie.Start → Floored
 other c = on (c .args .b .now) (c .args .g)
 
+abbrev asked : tie.Start → Question
+asked c = askSum (one c) (other c) (c .args .out .now)
+
 -- past the judging they are shapes on one floor
 shapes : (c : tie.After-enum-told) → let start = c .before .before .before in Same (one start) (other start)
 shapes c = c .before .before .admit-pair .ensures .valid (c .enum-told .given .1)
+
+-- the sum is judged by its size
+judged : (c : tie.After-fits2) → let args = c .before .before .before .before .before .before .args in
+    let rows = answerRows (wholeSum (args .a .now) (args .b .now)) (args .out .now) in
+    Judged (NoneApply rows) rows (c .fits2 .result)
+judged c =
+    let args = c .before .before .before .before .before .before .args in
+    judged-by (fit-rows (wholeSum (args .a .now) (args .b .now)) (c .before .is-far .ensures) (args .out .now)
+    (c .before .before .reckon .ensures)) (c .fits2 .ensures)
 
 admit-pair-requires : tie.Need-admit-pair-requires
 admit-pair-requires c κs = search needs
@@ -28,50 +44,60 @@ admit-pair-requires c κs = search needs
 enum-known-refusal : tie.Need-enum-known-refusal
 enum-known-refusal c = search needs
 
+returns : tie.Need-returns
+returns c =
+    shapes-refused (asked (c .before .before .before .before))
+    (c .before .before .before .admit-pair .ensures .no _ (c .before .refusal .given .1))
+
 enum-told : tie.Need-enum-told
 enum-told c = search needs
 
-returns : tie.Need-returns
-returns c =
-    let start = c .before .before .before .before in
-    shapes-refused (askSum (one start) (other start) (start .args .out .now))
-    (c .before .before .before .admit-pair .ensures .no _ (c .before .refusal .given .1))
+reckon-requires : tie.Need-reckon-requires
+reckon-requires c κs = let both = shapes c in (both .first-valid, both .second-valid)
 
-slice-aggregate-sum : tie.Need-slice-aggregate-sum
-slice-aggregate-sum c = search needs
+is-far-requires : tie.Need-is-far-requires
+is-far-requires c κs = let both = shapes (c .before) in (both .first-valid, both .second-valid)
+
+fits-requires : tie.Need-fits-requires
+fits-requires c κs = search needs
+
+enum-known-refusal-2 : tie.Need-enum-known-refusal-2
+enum-known-refusal-2 c = search needs
+
+returns-2 : tie.Need-returns-2
+returns-2 c =
+    let at-fits = c .before .before .before in
+    let at-told = at-fits .before .before .before in
+    rest-refused (asked (at-told .before .before .before)) (shapes at-told) (judged at-fits .no _ (c .before .refusal2 .given .1))
+
+enum-told-2 : tie.Need-enum-told-2
+enum-told-2 c = search needs
+
+-- past this judging no row applies
+passed : (c : tie.After-enum-told2) → let args = c .before .before .before .before .before .before .before .before .args in
+    NoneApply (answerRows (wholeSum (args .a .now) (args .b .now)) (args .out .now))
+passed c = judged (c .before .before) .valid (c .enum-told2 .given .1)
 
 sum-requires : tie.Need-sum-requires
-unfolding maxCorners
 sum-requires c κs =
-    let u = shapes (c .before) .first-valid in
-    let v = shapes (c .before) .second-valid in
-    (u, v, omega (arith, u .few, v .few))
-
-mul-shape : tie.Need-mul-shape
-mul-shape c = search needs
-
-array-share-prefix-shape : tie.Need-array-share-prefix-shape
-array-share-prefix-shape c = search needs
-
-slice-aggregate-deliver : tie.Need-slice-aggregate-deliver
-slice-aggregate-deliver c = sym (front-length (c .before .before .sum .ensures))
-
-deliver-requires : tie.Need-deliver-requires
-deliver-requires c κs = front-paired (c .before .before .before .sum .ensures)
+    let at-passed = c .before in
+    let both = shapes (at-passed .before .before .before .before .before) in
+    (both .first-valid, both .second-valid, room-there _ _ (passed at-passed))
 
 same-length : tie.Need-same-length
 same-length c = search needs
 
-returns-2 : tie.Need-returns-2
-returns-2 c =
-    let at-made = c .before .before .before .before .before in
-    let at-told = at-made .before .before in
+returns-3 : tie.Need-returns-3
+returns-3 c =
+    let at-sum = c .before in
+    let at-passed = at-sum .before .before in
+    let at-told = at-passed .before .before .before .before .before in
     let start = at-told .before .before .before in
-    made-delivered (at-made .sum .ensures) (twoShapes (one start) (other start)) (shapes at-told) (start .args .out .now)
-    (c .before .deliver .ensures .0) (c .before .deliver .ensures .1)
+    all-written (asked start) (shapes at-told) (passed at-passed)
+    (ap (λ n. pos n ∷ pos (start .args .f) ∷ []) (at-sum .sum .ensures .0)) (at-sum .sum .ensures .1)
 
 pub sum-spec : {M : Type 1} → statement M
 sum-spec =
     tie.close
-    (tie.spec admit-pair-requires enum-known-refusal returns enum-told slice-aggregate-sum sum-requires mul-shape
-    array-share-prefix-shape slice-aggregate-deliver deliver-requires same-length returns-2)
+    (tie.spec admit-pair-requires enum-known-refusal returns enum-told reckon-requires is-far-requires fits-requires enum-known-refusal-2
+    returns-2 enum-told-2 sum-requires same-length returns-3)

@@ -1,17 +1,15 @@
 -- A sum in parts: what is answered of the walk that went on.
 --     part-off-place, part-surveyed       the walk is at no place; the sum is refused
 --     part-little-room, part-done         no room for its corners; they are written; `part-idle`: there are none
---     copied-over                         what is copied from the front of a buffer
 use mathlib.Core.Path.{_≡_, sym, _∙_, ap, ap₂}
 use mathlib.Core.Bool.{true, false, not}
 use mathlib.Core.List.{List, [], _∷_, _++_}
 use mathlib.Core.Logic.{_⊎_}
-use Prim.Native.Nat.{ℕ, _+_, _*_, _≤_, _<_}
+use Prim.Native.Nat.{ℕ, _*_, _≤_, _<_}
 use native.Mathlib.Omega.{arith}
 use borrow.Author.Tests.{lt-ltb, le-ltb}
 use lib.IntN.{ℤ, pos}
-use lib.ListN.{length, drop}
-use lib.Seq.{paste}
+use lib.ListN.{length}
 use Rattle.plane.specs.Point.{Point, numbers}
 use Rattle.plane.specs.Reply.{Reply, answered, refused, Row, row, NoneApply, here, later}
 use Rattle.plane.specs.Floor.{Floored, Same}
@@ -19,7 +17,6 @@ use Rattle.plane.specs.Output.{noRoom, sizeRows, roomRow, overwritten}
 use Rattle.plane.specs.Question.{Question, reply, output}
 use Rattle.plane.specs.theory.lists.Flat.{numbers-length}
 use Rattle.plane.specs.theory.refusals.Rows.{none-join}
-use Rattle.polygon.specs.Front.{Front}
 use Rattle.calipers.specs.Walk.{Walk}
 use Rattle.calipers.specs.PlaceAfter.{wholeSum, isPlace}
 use Rattle.calipers.specs.Part.{partCorners, handedBack, walkNumbers, askPart}
@@ -79,11 +76,3 @@ module _ (a b : Floored) (u : Walk) (k : ℕ) (old : List ℤ) (good : Same a b)
       part-idle t =
           let r = part-none (a .list) (b .list) (good .first-valid) (good .second-valid) u k p t in
           part-done (ap length (sym (r .0))) (omega arith) (sym (r .1)) (rw (r .0))
-
--- what is copied from the front of a buffer is written over the front of the output
-pub copied-over : {ps : List Point} {n : ℕ} {l : List ℤ} → Front ps n l → (old : List ℤ) {out : List ℤ} → out ≡ paste old 0 l (2 * n)
-    → out ≡ overwritten (numbers ps) old
-unfolding overwritten
-copied-over {ps} {n} {l} f old e =
-    let all : 0 + 2 * n ≡ length (numbers ps) = omega (arith, f .counted, numbers-length ps) in
-    e ∙ ap₂ (λ (m : List ℤ) (k : ℕ). m ++ drop k old) (f .front) all

@@ -1,22 +1,30 @@
 -- The walk round the first shape and the mirror image of the second.
 --     image-begun        it may begin
 --     image-visited      the corners that it visits are those of the differences; `image-related`: how the shapes stand
---     image-summed       the shape of the sum is that of the differences
-use mathlib.Core.Path.{_≡_, sym, _∙_, ap, subst}
-use mathlib.Core.List.{List}
-use Prim.Native.Nat.{ℕ}
+--     image-sum          the shape of the sum is that of the differences; `image-all`: all corners to come are its own
+--     differences-few    it has no more corners than both shapes together
+--     image-extends      the image reaches as far, the other way round
+use mathlib.Core.Path.{_≡_, refl, sym, _∙_, ap, ap₂}
+use mathlib.Core.List.{List, [], _∷_}
+use Prim.Native.Nat.{ℕ, _+_, _≤_}
+use native.Mathlib.Omega.{arith}
 use lib.IntN.{ℤ}
-use Rattle.plane.specs.Point.{points, numbers}
+use lib.ListN.{length}
+use Rattle.plane.specs.Point.{Point, points}
 use Rattle.plane.specs.Refusal.{Valid}
-use Rattle.plane.specs.Corner.{shapeOf, sums}
+use Rattle.plane.specs.Corner.{shapeOf, sums, mirrored}
 use Rattle.plane.specs.Separation.{differences, relationNumber}
 use Rattle.plane.specs.VectorSum.{vectorSum}
+use Rattle.plane.specs.theory.forms.Vector.{opposite-opposite}
 use Rattle.plane.specs.theory.sum.EdgeSum.{vectorSum-shape}
-use Rattle.polygon.specs.Front.{Front}
+use Rattle.polygon.specs.declared.extent.Extent.{Extent}
+use Rattle.polygon.specs.Extent.{highest, Extends}
+use Rattle.calipers.specs.Advance.{nextCorners}
 use Rattle.calipers.specs.Image.{image}
 use Rattle.calipers.specs.Walk.{begun, At}
-use Rattle.calipers.specs.theory.Image.{image-points, image-valid}
+use Rattle.calipers.specs.theory.Image.{image-points, image-valid, image-count}
 use Rattle.calipers.specs.theory.Steps.{at-begin}
+use Rattle.calipers.specs.theory.Summed.{next-all, sum-few}
 use Rattle.separation.specs.Around.{originIn}
 use Rattle.separation.specs.theory.Apart.{differences-shape}
 use Rattle.separation.specs.theory.Around.{originIn-relation}
@@ -31,9 +39,23 @@ module _ (a b : List ℤ) (u : Valid a) (v : Valid b) where
   pub image-related : originIn (vectorSum (points a) (points (image b))) ≡ relationNumber (points a) (points b)
   image-related = ap originIn image-visited ∙ originIn-relation (points a) (points b) (u .shape .some) (v .shape .some)
 
-  image-sum : shapeOf (sums (points a) (points (image b))) ≡ shapeOf (differences (points a) (points b))
+  pub image-sum : shapeOf (sums (points a) (points (image b))) ≡ shapeOf (differences (points a) (points b))
   image-sum = sym (vectorSum-shape (points a) (points (image b)) (u .shape) (image-valid b v .shape)) ∙ image-visited
 
-  pub image-summed : (m : List ℤ) → m ≡ image b → {n : ℕ} {l : List ℤ} → Front (shapeOf (sums (points a) (points m))) n l
-      → Front (shapeOf (differences (points a) (points b))) n l
-  image-summed m e {n} {l} f = subst (λ ps. Front ps n l) (ap (λ k. shapeOf (sums (points a) (points k))) e ∙ image-sum) f
+  -- all corners that the walk comes to, if it may go on for long enough
+  pub image-all : (k : ℕ) → length (points a) + length (points b) ≤ k
+      → nextCorners a (image b) begun k ≡ shapeOf (differences (points a) (points b))
+  image-all k h = next-all a (image b) u (image-valid b v) k
+      (omega (arith, sum-few a (image b) u (image-valid b v), image-count b v)) ∙ image-sum
+
+  pub differences-few : length (shapeOf (differences (points a) (points b))) ≤ length (points a) + length (points b)
+  differences-few = omega (arith, ap length image-sum, sum-few a (image b) u (image-valid b v), image-count b v)
+
+-- ---- how far the image reaches
+
+mirrored-twice : (ps : List Point) → mirrored (mirrored ps) ≡ ps
+mirrored-twice [] = refl
+mirrored-twice (p ∷ ps) = ap₂ _∷_ (opposite-opposite p) (mirrored-twice ps)
+
+pub image-extends : (ps : List Point) {e : Extent} → Extends ps e → Extends (mirrored ps) (record { high = e .low; low = e .high })
+image-extends ps x = record { high-is = x .low-is; low-is = x .high-is ∙ ap highest (sym (mirrored-twice ps)) }

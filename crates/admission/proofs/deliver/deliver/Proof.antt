@@ -1,70 +1,82 @@
 -- `deliver` meets its contract: refusals 6, 7 and 8 in their order, and a copy makes the answer.
-use mathlib.Core.Path.{_≡_, ap}
+use mathlib.Core.Path.{_∙_, ap}
 use mathlib.Core.List.{[], _∷_}
 use native.Mathlib.Omega.{arith}
 use borrow.Author.Needs.{needs}
 use lib.IntN.{pos}
+use lib.ListN.{length}
+use Prim.Native.Nat.{_≤_}
 use Rattle.plane.specs.Point.{points}
-use Rattle.plane.specs.Reply.{NoneApply, here}
-use Rattle.plane.specs.Output.{sizeRows, roomRow}
+use Rattle.plane.specs.Reply.{NoneApply}
+use Rattle.plane.specs.Output.{answerRows}
 use Rattle.plane.specs.Floor.{noShape}
 use Rattle.plane.specs.Question.{makes}
-use Rattle.plane.specs.theory.refusals.Rows.{none-join}
-use Rattle.admission.specs.theory.Judged.{refuses, refuses-append, refuses-join}
+use Rattle.plane.specs.theory.lists.Flat.{points-length}
+use Rattle.calipers.specs.Size.{exact}
+use Rattle.admission.specs.Admission.{Judged}
 use Rattle.admission.specs.theory.Door.{rest-refused, all-written}
-use Rattle.admission.specs.theory.Delivery.{little-room, enough-room, copied}
+use Rattle.admission.specs.theory.Delivery.{fit-rows, judged-by, room-there, numbers-outside, copied}
 use Rattle.admission.proofs.deliver.deliver.Statement.{statement}
 use Rattle.admission.proofs.deliver.deliver.Tie as tie
 
--- past the survey neither 6 nor 7 applies
-surveyed : (c : tie.After-enum-told) → NoneApply (sizeRows (points (c .before .before .before .args .shape .now)))
-surveyed c = c .before .before .survey .ensures .valid (c .enum-told .given .1)
+-- its size is judged by the rows of the shape
+judged : (c : tie.After-fits2) → let args = c .before .before .before .args in
+    let rows = answerRows (points (args .shape .now)) (args .out .now) in
+    Judged (NoneApply rows) rows (c .fits2 .result)
+judged c =
+    let start = c .before .before .before in
+    judged-by (fit-rows _ (c .before .some-outside .ensures ∙ numbers-outside _ (start .pre)) (start .args .out .now)
+    (exact (c .before .before .count .ensures))) (c .fits2 .ensures)
 
-survey-requires : tie.Need-survey-requires
-survey-requires c κs = search needs
+count-requires : tie.Need-count-requires
+count-requires c κs = search needs
+
+some-outside-requires : tie.Need-some-outside-requires
+some-outside-requires c κs = search needs
+
+fits-requires : tie.Need-fits-requires
+fits-requires c κs = search needs
 
 enum-known-refusal : tie.Need-enum-known-refusal
 enum-known-refusal c = search needs
 
 returns : tie.Need-returns
 returns c =
-    let start = c .before .before .before .before in
-    rest-refused _ tt (refuses-append (roomRow (points (start .args .shape .now)) (start .args .out .now) ∷ [])
-    (c .before .before .before .survey .ensures .no _ (c .before .refusal .given .1)))
+    let at-fits = c .before .before .before in
+    let start = at-fits .before .before .before in
+    rest-refused (makes (noShape (start .args .floor)) (points (start .args .shape .now)) (start .args .out .now)) tt
+    (judged at-fits .no _ (c .before .refusal .given .1))
 
 enum-told : tie.Need-enum-told
 enum-told c = search needs
 
-returns-2 : tie.Need-returns-2
-returns-2 c =
-    let start = c .before .before .before .before in
-    let l = start .args .shape .now in
-    let old = start .args .out .now in
-    rest-refused (makes (noShape (start .args .floor)) (points l) old) tt (refuses-join (sizeRows (points l)) (surveyed (c .before))
-    (refuses {rows = roomRow (points l) old ∷ []} (here (little-room l (start .pre) old (c .if1 .taken)))))
+-- past the judging no row applies, and there is room
+passed : (c : tie.After-enum-told) → let args = c .before .before .before .before .before .args in
+    NoneApply (answerRows (points (args .shape .now)) (args .out .now))
+passed c = judged (c .before .before) .valid (c .enum-told .given .1)
+
+room : (c : tie.After-enum-told) → let args = c .before .before .before .before .before .args in
+    length (args .shape .now) ≤ length (args .out .now)
+room c =
+    let start = c .before .before .before .before .before in
+    omega (arith, room-there _ _ (passed c), points-length (start .args .shape .now), start .pre)
 
 copy-requires : tie.Need-copy-requires
-copy-requires c κs = search needs
-
-count-requires : tie.Need-count-requires
-count-requires c κs = search needs
+copy-requires c κs = (omega arith, omega (arith, room (c .before)))
 
 same-length : tie.Need-same-length
 same-length c = search needs
 
-returns-3 : tie.Need-returns-3
-returns-3 c =
-    let at-copy = c .before .before in
-    let at-8 = at-copy .before .before in
-    let start = at-8 .before .before .before .before in
-    let l = start .args .shape .now in
-    let old = start .args .out .now in
-    all-written (makes (noShape (start .args .floor)) (points l) old) tt
-    (none-join (sizeRows (points l)) (roomRow (points l) old ∷ []) (surveyed (at-8 .before))
-    (enough-room l (start .pre) old (omega (arith, at-8 .if1 .left)), tt))
-    (ap (λ n. pos n ∷ pos (start .args .floor) ∷ []) (c .count .ensures)) (copied l (start .pre) old (at-copy .copy .ensures))
+returns-2 : tie.Need-returns-2
+returns-2 c =
+    let at-copy = c .before in
+    let at-told = at-copy .before .before in
+    let start = at-told .before .before .before .before .before in
+    all-written (makes (noShape (start .args .floor)) (points (start .args .shape .now)) (start .args .out .now)) tt (passed at-told)
+    (ap (λ n. pos n ∷ pos (start .args .floor) ∷ []) (at-told .before .before .before .before .count .ensures))
+    (copied (start .args .shape .now) (start .pre) (start .args .out .now) (at-copy .copy .ensures))
 
 pub deliver-spec : {M : Type 1} → statement M
 deliver-spec =
     tie.close
-    (tie.spec survey-requires enum-known-refusal returns enum-told returns-2 copy-requires count-requires same-length returns-3)
+    (tie.spec count-requires some-outside-requires fits-requires enum-known-refusal returns enum-told copy-requires same-length returns-2)

@@ -1,43 +1,24 @@
--- `survey` meets its contract: the sum is made in a buffer, and surveyed there.
-use mathlib.Core.Path.{sym, subst}
-use native.Mathlib.Omega.{arith}
+-- `survey` meets its contract: the sum is judged by its size.
 use borrow.Author.Needs.{needs}
-use Rattle.plane.specs.Limits.{maxCorners}
-use Rattle.plane.specs.Point.{Point}
-use mathlib.Core.List.{List}
-use Rattle.polygon.specs.theory.Fronts.{front-points, front-length}
-use Rattle.plane.specs.Reply.{NoneApply}
-use Rattle.plane.specs.Output.{sizeRows}
-use Rattle.admission.specs.Admission.{Judged}
-use Rattle.admission.specs.theory.Delivery.{front-paired}
+use Rattle.calipers.specs.PlaceAfter.{wholeSum}
+use Rattle.admission.specs.theory.Delivery.{sized-rows, judged-by}
 use Rattle.questions.proofs.walk.survey.Statement.{statement}
 use Rattle.questions.proofs.walk.survey.Tie as tie
 
-slice-aggregate-sum : tie.Need-slice-aggregate-sum
-slice-aggregate-sum c = search needs
+reckon-requires : tie.Need-reckon-requires
+reckon-requires c κs = search needs
 
-sum-requires : tie.Need-sum-requires
-unfolding maxCorners
-sum-requires c κs = let pre = c .before .pre in (pre .0, pre .1, omega (arith, pre .0 .few, pre .1 .few))
+is-far-requires : tie.Need-is-far-requires
+is-far-requires c κs = search needs
 
-mul-shape : tie.Need-mul-shape
-mul-shape c = search needs
-
-array-share-prefix-shape : tie.Need-array-share-prefix-shape
-array-share-prefix-shape c = search needs
-
-slice-aggregate-survey : tie.Need-slice-aggregate-survey
-slice-aggregate-survey c = sym (front-length (c .before .before .sum .ensures))
-
-survey-requires : tie.Need-survey-requires
-survey-requires c κs = front-paired (c .before .before .sum .ensures)
+sized-requires : tie.Need-sized-requires
+sized-requires c κs = search needs
 
 returns : tie.Need-returns
 returns c =
-    subst (λ (ps : List Point). Judged (NoneApply (sizeRows ps)) (sizeRows ps) (c .survey .result))
-    (front-points (c .before .before .before .sum .ensures)) (c .survey .ensures)
+    let args = c .before .before .before .args in
+    judged-by (sized-rows (wholeSum (args .a .now) (args .b .now)) (c .before .is-far .ensures) (c .before .before .reckon .ensures))
+    (c .sized .ensures)
 
 pub survey-spec : {M : Type 1} → statement M
-survey-spec =
-    tie.close
-    (tie.spec slice-aggregate-sum sum-requires mul-shape array-share-prefix-shape slice-aggregate-survey survey-requires returns)
+survey-spec = tie.close (tie.spec reckon-requires is-far-requires sized-requires returns)
