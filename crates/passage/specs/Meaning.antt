@@ -29,9 +29,10 @@ use Rattle.plane.specs.Mean.{times}
 use Rattle.plane.specs.Clearance.{top, bottom, nearest, numbersOf}
 use Rattle.plane.specs.Floor.{Floored, corners}
 use Rattle.plane.specs.Question.{reply}
+use Rattle.admission.specs.Three.{SameThree}
 use Rattle.strips.specs.Strip.{spread, gapIn}
 use Rattle.growth.specs.Grown.{grown, placed, driven, EndsIn}
-use Rattle.passage.specs.Passage.{passable, across, room, freeWidth, Between, passageNumbers, askPassage, SameThree, Told}
+use Rattle.passage.specs.Passage.{passable, across, room, freeWidth, Between, passageNumbers, askPassage, Told}
 use Rattle.passage.specs.theory.Gaps.{grown-gap, blocked-nowhere, nowhere-blocked}
 use Rattle.passage.specs.theory.Room.{room-spread, room-positive, room-at-clearance, no-more-room, room-only}
 use Rattle.passage.specs.theory.Room.{width-bounded, width-last}

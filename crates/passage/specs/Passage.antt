@@ -9,8 +9,8 @@
 --     freeWidth L R A        the room in millimetres: over the direction's length, rounded down as width is
 --     Between d L R A t      the place t is strictly between the lines
 --     passageNumbers L R A   what is answered: 0 blocked; else 1, the direction, the two lines and the free width
+--     passageRows l r c      its refusals in order; grownRows: those of the grown obstacles
 --     askPassage l r c       the question: the left obstacle, the right one and the cart, each with its floor
---     SameThree l r c        three valid shapes on one floor
 --     Told l r c u v ..      what the numbers of an answer that begins with 1 are
 -- What it means: `Meaning.antt`.
 use mathlib.Core.Path.{_≡_}
@@ -21,15 +21,15 @@ use lib.IntN.{ℤ, pos, natAbs, _-ℤ_}
 use lib.Signed.{_<ℤ_}
 use Rattle.plane.specs.Point.{Point, point}
 use Rattle.plane.specs.Reply.{Row}
-use Rattle.plane.specs.Refusal.{shapeRows, Valid}
 use Rattle.plane.specs.Direction.{value, support}
 use Rattle.plane.specs.Primitive.{primitive}
 use Rattle.plane.specs.Output.{sizeRows}
 use Rattle.plane.specs.Measure.{rootBelow}
 use Rattle.plane.specs.Separation.{apart}
 use Rattle.plane.specs.Clearance.{nearest}
-use Rattle.plane.specs.Floor.{Floored, corners, noShape, floorRow}
+use Rattle.plane.specs.Floor.{Floored, corners, noShape}
 use Rattle.plane.specs.Question.{Question, asks}
+use Rattle.admission.specs.Three.{threeRows}
 use Rattle.strips.specs.Strip.{least}
 use Rattle.strips.specs.OwnDirection.{towards}
 use Rattle.growth.specs.Grown.{grown}
@@ -67,24 +67,16 @@ passageNumbers L R A =
     let n = across L R A in
     cond (passable L R A) (pos 1 ∷ n .x ∷ n .y ∷ lowLine n R A ∷ highLine n L A ∷ pos (freeWidth L R A) ∷ []) (pos 0 ∷ [])
 
--- 1 to 5 of each shape, which is blamed as 1, 2 or 3; 13 unless all floors are equal; 6 and 7 of the left obstacle grown, then of the right
+-- 6 and 7 of the left obstacle grown, then of the right
+abbrev pub grownRows : Floored → Floored → Floored → List Row
+grownRows l r c = sizeRows (grown (corners l) (corners c)) ++ sizeRows (grown (corners r) (corners c))
+
+-- 1 to 5 of each shape, which is blamed as 1, 2 or 3; 13 unless all floors are equal; then these
 abbrev pub passageRows : Floored → Floored → Floored → List Row
-passageRows l r c =
-    shapeRows 1 (l .list)
-    ++ (shapeRows 2 (r .list)
-    ++ (shapeRows 3 (c .list)
-    ++ (floorRow (l .floor) (r .floor) ∷ floorRow (l .floor) (c .floor) ∷ []
-    ++ (sizeRows (grown (corners l) (corners c)) ++ sizeRows (grown (corners r) (corners c))))))
+passageRows l r c = threeRows l r c ++ grownRows l r c
 
 abbrev pub askPassage : Floored → Floored → Floored → Question
 askPassage l r c = asks (noShape (l .floor)) (passageRows l r c) (passageNumbers (corners l) (corners r) (corners c))
-
-pub record SameThree (l r c : Floored) : Type 0 where
-  pub left-valid : Valid (l .list)
-  pub right-valid : Valid (r .list)
-  pub cart-valid : Valid (c .list)
-  pub right-floor : l .floor ≡ r .floor
-  pub cart-floor : l .floor ≡ c .floor
 
 -- the numbers of an answer that begins with 1
 pub record Told (l r c : Floored) (u v low high w f : ℤ) : Type 0 where

@@ -1,6 +1,7 @@
 -- How the code finds the passage: by a direction in which the grown obstacles face each other.
 --     facing-some          a direction in which two shapes face each other is not (0,0)
 --     facing-name          in lowest terms it is that of their widest gap
+--     grown-valid          a grown obstacle that 6 and 7 let pass is a shape that may be asked about
 --     corridor-passage     the widest corridor between the grown obstacles is the passage
 use mathlib.Core.Path.{_≡_, sym, _∙_, ap, ap₂}
 use mathlib.Core.Bool.{Bool, true, cond}
@@ -12,15 +13,20 @@ use lib.ListN.{length}
 use lib.Signed.{_≤ℤ_, _<ℤ_}
 use Rattle.integer.specs.Linear.{linear, lia, _&_}
 use Rattle.integer.specs.Order.{_<×<_, _<×≤_, _≤×≤_, _≡×_, contra≤, weaken, le-trans}
-use Rattle.plane.specs.Point.{Point}
+use Rattle.plane.specs.Point.{Point, numbers}
+use Rattle.plane.specs.Reply.{NoneApply}
+use Rattle.plane.specs.Refusal.{Valid}
 use Rattle.plane.specs.Shape.{IsShape}
 use Rattle.plane.specs.Direction.{value, support}
 use Rattle.plane.specs.Primitive.{primitive}
 use Rattle.plane.specs.Measure.{rootBelow}
+use Rattle.plane.specs.Output.{sizeRows}
 use Rattle.plane.specs.Separation.{apart}
 use Rattle.plane.specs.Clearance.{top, bottom, nearest}
 use Rattle.plane.specs.Forms.{NonZero}
+use Rattle.plane.specs.theory.lists.Flat.{points-numbers, numbers-length}
 use Rattle.plane.specs.theory.lists.Members.{member-position}
+use Rattle.plane.specs.theory.refusals.Accept.{few-corners, near→inRange}
 use Rattle.plane.specs.theory.forms.Vector.{value-nonneg, positive-non-zero}
 use Rattle.plane.specs.theory.forms.SameWay.{same-trans}
 use Rattle.plane.specs.theory.support.Support.{support-attained}
@@ -32,6 +38,7 @@ use Rattle.strips.specs.Strip.{least, gapIn}
 use Rattle.strips.specs.OwnDirection.{towards}
 use Rattle.strips.specs.theory.Spread.{least-attained}
 use Rattle.growth.specs.Grown.{grown}
+use Rattle.growth.specs.theory.Places.{grown-shape}
 use Rattle.passage.specs.Passage.{across, room, freeWidth, lowLine, highLine, passable, passageNumbers}
 use Rattle.passage.specs.Corridor.{widestOf, corridorNumbers}
 use Rattle.passage.specs.theory.Gaps.{grown-low, grown-high}
@@ -110,3 +117,13 @@ module _ (L R A : List Point) (l : 0 < length L) (r : 0 < length R) (a : 0 < len
       let n = widestOf G H in
       ap (λ w. told (support n H) (least n G) w) width-is
       ∙ ap₂ (λ low high. told low high (freeWidth L R A)) (grown-low R A r a n) (grown-high L A l a n)
+
+-- ---- the grown obstacle as a list
+
+pub grown-valid : (B A : List Point) → 0 < length B → 0 < length A → NoneApply (sizeRows (grown B A)) → Valid (numbers (grown B A))
+grown-valid B A b a n = record {
+  paired = omega (arith, numbers-length (grown B A));
+  few = rw points-numbers (few-corners (grown B A) (n .0));
+  inRange = near→inRange _ (n .1 .0);
+  shape = rw points-numbers (grown-shape B A b a);
+}

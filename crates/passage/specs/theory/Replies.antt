@@ -1,5 +1,4 @@
 -- What passage replies.
---     three→none, none→three     no row of the shapes and of their floors applies exactly if they are three valid shapes on one floor
 --     passage-three              an answer is given only of such shapes whose grown obstacles fit; `passage-answers`: and of all of them
 --     passage-floors             three valid shapes that are not on one floor are refused 13
 --     blocked-exactly            0 is answered exactly if the cart's spread is at least the gap in every direction
@@ -13,7 +12,7 @@ use mathlib.Core.Logic.{_↔_}
 use Prim.Native.Nat.{ℕ, _<_}
 use native.Mathlib.Decide.{ℕ-discrete}
 use native.Mathlib.Omega.{arith}
-use borrow.Author.Tests.{eqb-true, eq-eqb, ne-eqb, not-false}
+use borrow.Author.Tests.{eq-eqb, ne-eqb}
 use lib.IntN.{ℤ, pos}
 use lib.ListN.{length}
 use lib.Signed.{_≤ℤ_, _<ℤ_}
@@ -25,74 +24,22 @@ use Rattle.plane.specs.Direction.{value}
 use Rattle.plane.specs.Furthest.{badDirection, commonDivisor}
 use Rattle.plane.specs.Output.{sizeRows}
 use Rattle.plane.specs.Separation.{apart}
-use Rattle.plane.specs.Floor.{Floored, corners, floorRow}
+use Rattle.plane.specs.Floor.{Floored, corners}
 use Rattle.plane.specs.Question.{reply}
 use Rattle.plane.specs.theory.lists.Members.{point-path}
 use Rattle.plane.specs.theory.refusals.Rows.{none-append, none-join, first-append, first-join}
-use Rattle.plane.specs.theory.refusals.Accept.{valid→accepted, accepted→valid, near→inRange}
+use Rattle.plane.specs.theory.refusals.Accept.{valid→accepted, near→inRange}
 use Rattle.plane.specs.theory.refusals.Asked.{asked-given, asked-none, asked-values, asked-rest, rest-given, rest-none}
+use Rattle.admission.specs.Three.{floorRows, threeRows, SameThree}
+use Rattle.admission.specs.theory.Three.{three→none, none→three}
 use Rattle.strips.specs.Strip.{spread, gapIn}
 use Rattle.growth.specs.Grown.{grown, placed}
-use Rattle.passage.specs.Passage.{passable, across, lowLine, highLine, freeWidth, passageNumbers, passageRows, askPassage}
-use Rattle.passage.specs.Passage.{SameThree, Told}
+use Rattle.passage.specs.Passage.{passable, across, lowLine, highLine, freeWidth, passageNumbers, grownRows, askPassage, Told}
 use Rattle.passage.specs.theory.Gaps.{blocked-nowhere, nowhere-blocked}
 use Rattle.passage.specs.theory.Places.{between-clear}
 use Rattle.passage.specs.theory.Rows.{across-lowest, across-small, lines-small}
 
 module _ (l r c : Floored) where
-  abbrev left : List Row
-  left = shapeRows 1 (l .list)
-
-  abbrev right : List Row
-  right = shapeRows 2 (r .list)
-
-  abbrev cart : List Row
-  cart = shapeRows 3 (c .list)
-
-  abbrev floors : List Row
-  floors = floorRow (l .floor) (r .floor) ∷ floorRow (l .floor) (c .floor) ∷ []
-
-  abbrev sizes : List Row
-  sizes = sizeRows (grown (corners l) (corners c)) ++ sizeRows (grown (corners r) (corners c))
-
-  -- what comes after the rows of the first shape, of the second, of the third
-  abbrev after-cart : List Row
-  after-cart = floors ++ sizes
-
-  abbrev after-right : List Row
-  after-right = cart ++ after-cart
-
-  abbrev after-left : List Row
-  after-left = right ++ after-right
-
-  -- ---- the shapes
-
-  three→none : SameThree l r c → NoneApply sizes → NoneApply (passageRows l r c)
-  three→none s n =
-      none-join left after-left (valid→accepted (l .list) 1 (s .left-valid))
-      (none-join right after-right (valid→accepted (r .list) 2 (s .right-valid))
-      (none-join cart after-cart (valid→accepted (c .list) 3 (s .cart-valid))
-      (none-join floors sizes (
-        ap not (eq-eqb (l .floor) (r .floor) (s .right-floor)),
-        (ap not (eq-eqb (l .floor) (c .floor) (s .cart-floor)), tt),
-      ) n)))
-
-  none→three : NoneApply (passageRows l r c) → SameThree l r c × NoneApply sizes
-  none→three n =
-      let first = none-append left after-left n in
-      let second = none-append right after-right (first .1) in
-      let third = none-append cart after-cart (second .1) in
-      let last = none-append floors sizes (third .1) in (
-        record {
-          left-valid = accepted→valid (l .list) 1 (first .0);
-          right-valid = accepted→valid (r .list) 2 (second .0);
-          cart-valid = accepted→valid (c .list) 3 (third .0);
-          right-floor = eqb-true (l .floor) (r .floor) (not-false _ (last .0 .0));
-          cart-floor = eqb-true (l .floor) (c .floor) (not-false _ (last .0 .1 .0));
-        },
-        last .1,
-      )
-
   -- ---- the reply
 
   abbrev L : List Point
@@ -110,23 +57,25 @@ module _ (l r c : Floored) where
   pub passage-three : (v : List ℤ) → reply (askPassage l r c) ≡ answered v
       → SameThree l r c × NoneApply (sizeRows (grown L A)) × NoneApply (sizeRows (grown R A))
   passage-three v h =
-      let (s, n) = none→three (asked-rest (askPassage l r c) v h) in
-      let fit = none-append (sizeRows (grown L A)) (sizeRows (grown R A)) n in
-      (s, fit .0, fit .1)
+      let both = none-append (threeRows l r c) (grownRows l r c) (asked-rest (askPassage l r c) v h) in
+      let fit = none-append (sizeRows (grown L A)) (sizeRows (grown R A)) (both .1) in
+      (none→three l r c (both .0), fit .0, fit .1)
 
   pub passage-answers : SameThree l r c → NoneApply (sizeRows (grown L A)) → NoneApply (sizeRows (grown R A))
       → reply (askPassage l r c) ≡ answered told
   passage-answers s n k = asked-none (askPassage l r c) (rest-none (askPassage l r c) tt
-      (three→none s (none-join (sizeRows (grown L A)) (sizeRows (grown R A)) n k)))
+      (none-join (threeRows l r c) (grownRows l r c) (three→none l r c s)
+      (none-join (sizeRows (grown L A)) (sizeRows (grown R A)) n k)))
 
   pub passage-floors : Valid (l .list) → Valid (r .list) → Valid (c .list) → ((l .floor ≡ r .floor) × (l .floor ≡ c .floor) → ⊥)
       → reply (askPassage l r c) ≡ refused 13 []
   passage-floors u v w f = go (ℕ-discrete (l .floor) (r .floor)) (ℕ-discrete (l .floor) (c .floor))
     where
-      given : {x : Row} → First x floors → reply (askPassage l r c) ≡ refused (x .number) (x .carries)
+      given : {x : Row} → First x (floorRows l r c) → reply (askPassage l r c) ≡ refused (x .number) (x .carries)
       given x = asked-given (askPassage l r c) (rest-given (askPassage l r c) tt
-          (first-join left (valid→accepted (l .list) 1 u) (first-join right (valid→accepted (r .list) 2 v)
-          (first-join cart (valid→accepted (c .list) 3 w) (first-append sizes x)))))
+          (first-append (grownRows l r c) (first-join (shapeRows 1 (l .list)) (valid→accepted (l .list) 1 u)
+          (first-join (shapeRows 2 (r .list)) (valid→accepted (r .list) 2 v)
+          (first-join (shapeRows 3 (c .list)) (valid→accepted (c .list) 3 w) x)))))
 
       go : Dec (l .floor ≡ r .floor) → Dec (l .floor ≡ c .floor) → reply (askPassage l r c) ≡ refused 13 []
       go (no e) k = given (here (ap not (ne-eqb (l .floor) (r .floor) e)))
@@ -152,10 +101,10 @@ module _ (l r c : Floored) where
       → (reply (askPassage l r c) ≡ answered (pos 0 ∷ pos (l .floor) ∷ []))
       ↔ ((d : Point) → (d ≡ origin → ⊥) → gapIn d L R ≤ℤ spread d A)
   blocked-exactly s n k = (
-    λ h d some. blocked-nowhere L R A (s .left-valid .shape .some) (s .right-valid .shape .some) (s .cart-valid .shape .some)
+    λ h d some. blocked-nowhere L R A (s .first-valid .shape .some) (s .second-valid .shape .some) (s .third-valid .shape .some)
         (zero-blocked _ h) d,
-    λ f. passage-answers s n k ∙ ap (λ t. answered (told-by t)) (nowhere-blocked L R A (s .left-valid .shape .some)
-        (s .right-valid .shape .some) (s .cart-valid .shape .some) f),
+    λ f. passage-answers s n k ∙ ap (λ t. answered (told-by t)) (nowhere-blocked L R A (s .first-valid .shape .some)
+        (s .second-valid .shape .some) (s .third-valid .shape .some) f),
   )
 
   pub one-passed : (u v low high w f : ℤ) → reply (askPassage l r c) ≡ answered (pos 1 ∷ u ∷ v ∷ low ∷ high ∷ w ∷ f ∷ [])
@@ -189,13 +138,13 @@ module _ (l r c : Floored) where
     three = passage-three _ h
 
     left-some : 0 < length L
-    left-some = three .0 .left-valid .shape .some
+    left-some = three .0 .first-valid .shape .some
 
     right-some : 0 < length R
-    right-some = three .0 .right-valid .shape .some
+    right-some = three .0 .second-valid .shape .some
 
     cart-some : 0 < length A
-    cart-some = three .0 .cart-valid .shape .some
+    cart-some = three .0 .third-valid .shape .some
 
     left-near : InRange (numbers (grown L A))
     left-near = near→inRange _ (three .1 .1 .0)
