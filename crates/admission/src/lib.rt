@@ -102,14 +102,14 @@ pub fn admit_three(a: &[i32], f: u16, b: &[i32], g: u16, c: &[i32], h: u16) -> A
         (SameThree (on (now (a .entry)) f) (on (now (b .entry)) g) (on (now (c .entry)) h))
         (threeRows (on (now (a .entry)) f) (on (now (b .entry)) g) (on (now (c .entry)) h)) r ⌝ }
 {
-    if let Admission::No(first) = admit(a, 1) {
-        return Admission::No(first);
+    if let Admission::No(of_first) = admit(a, 1) {
+        return Admission::No(of_first);
     }
-    if let Admission::No(second) = admit(b, 2) {
-        return Admission::No(second);
+    if let Admission::No(of_second) = admit(b, 2) {
+        return Admission::No(of_second);
     }
-    if let Admission::No(third) = admit(c, 3) {
-        return Admission::No(third);
+    if let Admission::No(of_third) = admit(c, 3) {
+        return Admission::No(of_third);
     }
     if let Admission::No(floors) = admit_floors(f, g) {
         return Admission::No(floors);

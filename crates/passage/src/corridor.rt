@@ -47,6 +47,7 @@ pub fn corridor(a: &[i32], b: &[i32]) -> Way
 }
 
 // The same of two shapes that are apart.
+// Ruled out: low line taken of the left obstacle.
 fn widest(a: &[i32], b: &[i32]) -> Way
     requires { ⌜ Valid (now a) × Valid (now b) × (apart (points (now a)) (points (now b)) ≡ true) ⌝ }
     ensures { λ r. ⌜ wayNumbers r ≡ widestNumbers (points (now (a .entry))) (points (now (b .entry))) ⌝ }
@@ -72,7 +73,7 @@ fn least(list: &[i32], d: Point) -> i64
 }
 
 // What lies between two values in a direction, in millimetres: over the direction's length, rounded down.
-// Ruled out: width not divided by the length.
+// Ruled out: width rounded up.
 fn width(room: i64, d: Point) -> u64
     requires { ⌜ (pos 0 ≤ℤ room) × (badDirection (at d) ≡ false) ⌝ }
     ensures { λ r. ⌜ r ≡ rootBelow (natAbs room * natAbs room) (natAbs (value (at d) (at d))) ⌝ }

@@ -14,7 +14,7 @@ use separation::differences;
 
 // The way of a cart between two obstacles that are shapes, also when they are grown by it: the widest corridor between
 // the grown obstacles.
-// Ruled out: one obstacle grown only; cart not mirrored.
+// Ruled out: one obstacle grown only; cart not mirrored; left obstacle grown twice.
 pub fn between(left: &[i32], right: &[i32], cart: &[i32]) -> Way
     requires { ⌜ Valid (now left) × Valid (now right) × Valid (now cart)
         × Valid (numbers (grown (points (now left)) (points (now cart))))

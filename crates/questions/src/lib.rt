@@ -380,7 +380,7 @@ fn measured(found: Distance, floor: u16) -> Clearance
 // of the three may be a point or a segment. Refused: 1 to 5 of the left obstacle, of the right one, of the cart;
 // different floors; then, of the left obstacle grown by the cart and then of the right one, too many corners and a
 // corner out of range.
-// Ruled out: right obstacle not judged when grown; floor of the cart answered.
+// Ruled out: right obstacle not judged when grown; obstacles exchanged.
 pub fn passage(left: &[i32], f: u16, right: &[i32], g: u16, cart: &[i32], h: u16) -> Passage
     ensures { λ r. ⌜ ofPassage r ≡ reply
         (askPassage (on (now (left .entry)) f) (on (now (right .entry)) g) (on (now (cart .entry)) h)) ⌝ }

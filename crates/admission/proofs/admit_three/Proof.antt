@@ -38,14 +38,14 @@ level c = c .before .before .admit-floors .ensures .valid (c .enum-told4 .given 
 admit-requires : tie.Need-admit-requires
 admit-requires c κs = search needs
 
-enum-known-first : tie.Need-enum-known-first
-enum-known-first c = search needs
+enum-known-of-first : tie.Need-enum-known-of-first
+enum-known-of-first c = search needs
 
 returns : tie.Need-returns
 returns c =
     let start = c .before .before .before .before in
     turns-away (refuses-append (shapeRows 2 (start .args .b .now) ++ (shapeRows 3 (start .args .c .now)
-    ++ floorRows (one start) (two start) (three start))) (c .before .before .before .admit .ensures .no _ (c .before .first .given .1)))
+    ++ floorRows (one start) (two start) (three start))) (c .before .before .before .admit .ensures .no _ (c .before .of-first .given .1)))
 
 enum-told : tie.Need-enum-told
 enum-told c = search needs
@@ -53,8 +53,8 @@ enum-told c = search needs
 admit-requires-2 : tie.Need-admit-requires-2
 admit-requires-2 c κs = search needs
 
-enum-known-second : tie.Need-enum-known-second
-enum-known-second c = search needs
+enum-known-of-second : tie.Need-enum-known-of-second
+enum-known-of-second c = search needs
 
 returns-2 : tie.Need-returns-2
 returns-2 c =
@@ -63,7 +63,7 @@ returns-2 c =
     let start = at-first .before .before .before in
     turns-away (refuses-join (shapeRows 1 (start .args .a .now)) (valid→accepted _ 1 (first at-first))
     (refuses-append (shapeRows 3 (start .args .c .now) ++ floorRows (one start) (two start) (three start))
-    (at-second .admit2 .ensures .no _ (c .before .second .given .1))))
+    (at-second .admit2 .ensures .no _ (c .before .of-second .given .1))))
 
 enum-told-2 : tie.Need-enum-told-2
 enum-told-2 c = search needs
@@ -71,8 +71,8 @@ enum-told-2 c = search needs
 admit-requires-3 : tie.Need-admit-requires-3
 admit-requires-3 c κs = search needs
 
-enum-known-third : tie.Need-enum-known-third
-enum-known-third c = search needs
+enum-known-of-third : tie.Need-enum-known-of-third
+enum-known-of-third c = search needs
 
 returns-3 : tie.Need-returns-3
 returns-3 c =
@@ -82,7 +82,7 @@ returns-3 c =
     let start = at-first .before .before .before in
     turns-away (refuses-join (shapeRows 1 (start .args .a .now)) (valid→accepted _ 1 (first at-first))
     (refuses-join (shapeRows 2 (start .args .b .now)) (valid→accepted _ 2 (second at-second))
-    (refuses-append (floorRows (one start) (two start) (three start)) (at-third .admit3 .ensures .no _ (c .before .third .given .1)))))
+    (refuses-append (floorRows (one start) (two start) (three start)) (at-third .admit3 .ensures .no _ (c .before .of-third .given .1)))))
 
 enum-told-3 : tie.Need-enum-told-3
 enum-told-3 c = search needs
@@ -122,5 +122,5 @@ returns-5 c =
 pub admit-three-spec : {M : Type 1} → statement M
 admit-three-spec =
     tie.close
-    (tie.spec admit-requires enum-known-first returns enum-told admit-requires-2 enum-known-second returns-2 enum-told-2 admit-requires-3
-    enum-known-third returns-3 enum-told-3 admit-floors-requires enum-known-floors returns-4 enum-told-4 admit-floors-requires-2 returns-5)
+    (tie.spec admit-requires enum-known-of-first returns enum-told admit-requires-2 enum-known-of-second returns-2 enum-told-2 admit-requires-3
+    enum-known-of-third returns-3 enum-told-3 admit-floors-requires enum-known-floors returns-4 enum-told-4 admit-floors-requires-2 returns-5)
