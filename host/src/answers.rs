@@ -328,8 +328,8 @@ pub struct Passage {
 }
 
 /// A straight way between two obstacles. At every place (x, y) of the cart's origin with u·x + v·y strictly between
-/// `low` and `high`, where (u, v) is `across`, the cart is apart from both, and so it is on straight drives between such
-/// places.
+/// `low` and `high`, where (u, v) is `across`, the cart is apart from both, and so it is on straight drives between
+/// such places.
 ///
 /// ```
 /// use cocklesway::{Relation, Shape, passage, relation};

@@ -73,8 +73,8 @@ pub use answers::{
 pub use book::{Addition, Book, log_read};
 pub use limits::{Limits, limits, version};
 pub use questions::{
-    clearance, find, furthest, grow, inside, judge, length, merge, mirror, offer, passage, relation,
-    sum, sweep, tangents, width,
+    clearance, find, furthest, grow, inside, judge, length, merge, mirror, offer, passage,
+    relation, sum, sweep, tangents, width,
 };
 pub use refusal::{Axis, Refusal, Which};
 pub use shape::Shape;

@@ -387,11 +387,7 @@ pub fn clearance(a: Shape<'_>, b: Shape<'_>) -> Result<Clearance, Refusal> {
 /// # Ok::<(), cocklesway::Refusal>(())
 /// ```
 #[inline]
-pub fn passage(
-    left: Shape<'_>,
-    right: Shape<'_>,
-    cart: Shape<'_>,
-) -> Result<Passage, Refusal> {
+pub fn passage(left: Shape<'_>, right: Shape<'_>, cart: Shape<'_>) -> Result<Passage, Refusal> {
     Ok(match archive::passage(left, right, cart).values()? {
         [0, floor, ..] => Passage {
             way: None,

@@ -161,7 +161,10 @@ pub fn passage(given: &Given) -> Answer {
         return Ok(format!("blocked @{floor}"));
     };
     let (d, low, high) = (way.across, way.low, way.high);
-    Ok(format!("{} {} {low} {high} {} @{floor}", d.x, d.y, way.width))
+    Ok(format!(
+        "{} {} {low} {high} {} @{floor}",
+        d.x, d.y, way.width
+    ))
 }
 
 pub fn tangents(given: &Given) -> Answer {

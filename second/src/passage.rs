@@ -24,11 +24,7 @@ pub struct Way {
 }
 
 /// Nothing if the cart fits in no direction. 6 and 7 of the left obstacle grown, then of the right.
-pub fn passage(
-    left: &[Point],
-    right: &[Point],
-    cart: &[Point],
-) -> Result<Option<Way>, Refusal> {
+pub fn passage(left: &[Point], right: &[Point], cart: &[Point]) -> Result<Option<Way>, Refusal> {
     let (left_grown, right_grown) = (grow(left, cart)?, grow(right, cart)?);
     let points = all_sums(&left_grown, &mirror(&right_grown));
     let ways = directions(&points).map(|d| way(left, right, cart, d));
@@ -97,7 +93,8 @@ mod tests {
 
     fn small_shape(dice: &mut Dice, size: i64) -> Shape {
         let count = dice.between(1, 6);
-        let points = (0..count).map(|_| point(dice.between(-size, size), dice.between(-size, size)));
+        let points =
+            (0..count).map(|_| point(dice.between(-size, size), dice.between(-size, size)));
         hull_of(points.collect())
     }
 
@@ -125,7 +122,10 @@ mod tests {
                 match found {
                     None => assert!(tried.high <= tried.low, "{left:?} {right:?} {cart:?} {d:?}"),
                     Some(most) if tried.low < tried.high => {
-                        assert!(wider(&tried, &most).is_le(), "{left:?} {right:?} {cart:?} {d:?}");
+                        assert!(
+                            wider(&tried, &most).is_le(),
+                            "{left:?} {right:?} {cart:?} {d:?}"
+                        );
                     }
                     Some(_) => {}
                 }
