@@ -2,7 +2,7 @@
 //! are refused for each reason, and floors.
 use crate::plain::MOST;
 use crate::random::Random;
-use crate::shapes::{List, grown, moved, polygon};
+use crate::shapes::{List, from_lowest, grown, moved, polygon};
 
 /// A list that is a shape, unless it grew too far.
 pub fn shape(random: &mut Random) -> List {
@@ -65,11 +65,7 @@ pub fn beside(random: &mut Random, a: &[i32]) -> List {
 
 /// The mirror image, begun at its lowest corner.
 fn turned(a: &[i32]) -> List {
-    let mut list: List = a.iter().map(|z| z.wrapping_neg()).collect();
-    if let Some(k) = (0..list.len() / 2).min_by_key(|&k| (list[2 * k + 1], list[2 * k])) {
-        list.rotate_left(2 * k);
-    }
-    list
+    from_lowest(a.iter().map(|z| z.wrapping_neg()).collect())
 }
 
 /// A list of one corner or more that something was done to, most often so that it is refused.
@@ -155,9 +151,7 @@ pub fn points(random: &mut Random, a: &[i32], b: &[i32]) -> List {
         points.push([middle(0), middle(1)]);
         points.push(p);
     }
-    for k in (1..points.len()).rev() {
-        points.swap(k, random.below(k as u64 + 1) as usize);
-    }
+    random.shuffle(&mut points);
     let list = points.into_flattened();
     if random.below(8) == 0 && list.len() > 1 {
         spoilt(random, &list)
@@ -166,13 +160,17 @@ pub fn points(random: &mut Random, a: &[i32], b: &[i32]) -> List {
     }
 }
 
-/// The floors of two lists: mostly one floor.
-pub fn floors(random: &mut Random) -> [u16; 2] {
-    let any = |random: &mut Random| random.bits() as u16;
-    match random.below(8) {
-        0 => [any(random), any(random)],
-        1 => [0, u16::MAX],
-        2 => [u16::MAX; 2],
-        _ => [any(random); 2],
+/// The floors of two lists: mostly one floor, and at times above the highest.
+pub fn floors(random: &mut Random) -> [u32; 2] {
+    let f = random.bits() as u16 as u32;
+    match random.below(32) {
+        0..3 => [f, random.bits() as u16 as u32],
+        3..6 => [0, 65_535],
+        6..9 => [65_535; 2],
+        9 => [f + 65_536; 2],
+        10 => [f, f + 65_536],
+        11 => [65_536; 2],
+        12 => [u32::MAX, f],
+        _ => [f; 2],
     }
 }

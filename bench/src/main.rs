@@ -1,6 +1,8 @@
 //! `bench agree COUNT` compares so many plain and proved answers, and fails where two differ.
 //! `bench ROUNDS` measures both, and how the proved ones grow, and prints the tables.
-use bench::{agree, table};
+//! `bench ROUNDS WORD ..` does so for the rows that have one of these words in their names.
+use bench::agree;
+use bench::table::{self, Chosen};
 use std::process::ExitCode;
 
 fn main() -> ExitCode {
@@ -8,7 +10,10 @@ fn main() -> ExitCode {
     let words: Vec<&str> = words.iter().map(String::as_str).collect();
     match words[..] {
         ["agree", count] => count.parse().map_or_else(|_| usage(), agreed),
-        [rounds] => rounds.parse().map_or_else(|_| usage(), measured),
+        [rounds, ref words @ ..] => {
+            let measured = |rounds| measured(rounds, words);
+            rounds.parse().map_or_else(|_| usage(), measured)
+        }
         _ => usage(),
     }
 }
@@ -16,6 +21,7 @@ fn main() -> ExitCode {
 fn usage() -> ExitCode {
     eprintln!("bench agree COUNT: compares answers, as bench agree 100000");
     eprintln!("bench ROUNDS: measures, as bench 200");
+    eprintln!("bench ROUNDS WORD ..: measures some rows, as bench 200 sum grow");
     ExitCode::FAILURE
 }
 
@@ -32,9 +38,16 @@ fn agreed(count: u64) -> ExitCode {
     }
 }
 
-fn measured(rounds: usize) -> ExitCode {
-    table::compare(rounds);
-    println!();
-    table::grow(rounds);
-    ExitCode::SUCCESS
+fn measured(rounds: usize, words: &[&str]) -> ExitCode {
+    match Chosen::of(words) {
+        Ok(chosen) => {
+            table::compare(&chosen, rounds);
+            table::grow(&chosen, rounds);
+            ExitCode::SUCCESS
+        }
+        Err(word) => {
+            eprintln!("no row has the word {word}");
+            ExitCode::FAILURE
+        }
+    }
 }

@@ -26,4 +26,11 @@ impl Random {
         let span = (high as i64 - low as i64 + 1) as u64;
         (low as i64 + self.below(span) as i64) as i32
     }
+
+    /// Puts items in any order.
+    pub fn shuffle<T>(&mut self, items: &mut [T]) {
+        for k in (1..items.len()).rev() {
+            items.swap(k, self.below(k as u64 + 1) as usize);
+        }
+    }
 }

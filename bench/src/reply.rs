@@ -1,40 +1,49 @@
 //! Answers as numbers: those of the plain questions, and those of the package beside them.
-use cocklesway::{
-    Corners, Furthest, Inside, Length, Offer, Refusal, Separator, Shape, Standing, Width,
-};
+mod answers;
 
-/// A refusal: its number, the shape that 1 to 5 blame, and 4's edge and corner as the two first values. An answer: 0,
-/// 0 and its values, after them the floor. What is not needed is 0; a value below 0 is its two's complement.
+use cocklesway::Refusal;
+
+/// The most values of an answer, floor included: those of the four lines that just touch two shapes.
+const MOST_VALUES: usize = 9;
+
+/// A refusal: its number, the shape that 1 to 5 blame or the part of a reading, and 4's edge and corner or 15's place
+/// as the first values. An answer: 0, 0 and its values, after them the floor. What is not needed is 0; a value below 0
+/// is its two's complement.
 #[derive(Clone, Copy, Debug, PartialEq, Eq)]
 pub struct Numbers {
     pub refusal: u64,
     pub shape: u64,
-    pub values: [u64; 6],
+    pub values: [u64; MOST_VALUES],
 }
 
 impl Numbers {
     /// An answer of one value, on a floor.
     #[inline]
     pub fn one(value: u64, floor: impl Into<u64>) -> Numbers {
-        Numbers::all([value, floor.into(), 0, 0, 0, 0])
+        Numbers::all([value, floor.into()])
     }
 
     /// An answer, its floor among the values.
     #[inline]
-    pub fn all(values: [u64; 6]) -> Numbers {
-        Numbers {
-            refusal: 0,
-            shape: 0,
-            values,
-        }
+    pub fn all<const K: usize>(values: [u64; K]) -> Numbers {
+        Numbers::new(0, 0, values)
     }
 
     /// A direction on a floor, or none.
     #[inline]
     pub fn found(direction: Option<[i32; 2]>, floor: impl Into<u64>) -> Numbers {
         match direction {
-            Some([u, v]) => Numbers::all([1, u as u64, v as u64, floor.into(), 0, 0]),
+            Some([u, v]) => Numbers::all([1, u as u64, v as u64, floor.into()]),
             None => Numbers::one(0, floor),
+        }
+    }
+
+    /// How many corners were written on a floor, or the number of the refusal.
+    #[inline]
+    pub fn written(count: Result<usize, u64>, floor: impl Into<u64>) -> Numbers {
+        match count {
+            Ok(count) => Numbers::one(count as u64, floor),
+            Err(number) => Numbers::refused(number),
         }
     }
 
@@ -47,11 +56,35 @@ impl Numbers {
     /// A refusal of one of the shapes.
     #[inline]
     pub fn blamed(refusal: u64, shape: u64) -> Numbers {
+        Numbers::new(refusal, shape, [])
+    }
+
+    /// Refusal 4 of one of the shapes, with its edge and corner.
+    pub fn broken(shape: u64, edge: usize, corner: usize) -> Numbers {
+        Numbers::new(4, shape, [edge as u64, corner as u64])
+    }
+
+    /// Refusal 15, with the place of the record.
+    pub fn damaged(place: usize) -> Numbers {
+        Numbers::new(15, 0, [place as u64])
+    }
+
+    #[inline]
+    fn new<const K: usize>(refusal: u64, shape: u64, front: [u64; K]) -> Numbers {
+        let mut values = [0; MOST_VALUES];
+        values[..K].copy_from_slice(&front);
         Numbers {
             refusal,
             shape,
-            values: [0; 6],
+            values,
         }
+    }
+
+    /// The reply of a call on bytes: a byte, a byte, two bytes and two bytes from the low end, and what is above them.
+    pub fn unpacked(reply: u64) -> Numbers {
+        let two_bytes = |at: u32| reply >> at & 0xFFFF;
+        let values = [two_bytes(16), two_bytes(32), two_bytes(48)];
+        Numbers::new(reply & 0xFF, reply >> 8 & 0xFF, values)
     }
 
     /// The direction that was found.
@@ -65,73 +98,5 @@ impl Numbers {
     /// An answer of the package.
     pub fn of<T: Into<Numbers>>(answer: Result<T, Refusal>) -> Numbers {
         answer.map_or_else(Numbers::from, T::into)
-    }
-}
-
-impl From<Refusal> for Numbers {
-    fn from(refusal: Refusal) -> Numbers {
-        let shape = refusal.shape().map_or(0, |shape| 1 + shape as u64);
-        let mut numbers = Numbers::blamed(refusal.number(), shape);
-        if let Refusal::Side { edge, corner, .. } = refusal {
-            numbers.values[0] = edge as u64;
-            numbers.values[1] = corner as u64;
-        }
-        numbers
-    }
-}
-
-impl From<Corners> for Numbers {
-    fn from(r: Corners) -> Numbers {
-        Numbers::one(r.count as u64, r.floor)
-    }
-}
-
-impl From<Shape<'_>> for Numbers {
-    fn from(r: Shape<'_>) -> Numbers {
-        Numbers::one(r.corners.len() as u64, r.floor)
-    }
-}
-
-impl From<Furthest> for Numbers {
-    fn from(r: Furthest) -> Numbers {
-        let (first, last) = (r.first as u64, r.last as u64);
-        Numbers::all([first, last, r.value as u64, r.floor.into(), 0, 0])
-    }
-}
-
-impl From<Length> for Numbers {
-    fn from(r: Length) -> Numbers {
-        Numbers::all([r.squared, r.from as u64, r.to as u64, r.floor.into(), 0, 0])
-    }
-}
-
-impl From<Width> for Numbers {
-    fn from(r: Width) -> Numbers {
-        let (edge, corner) = (r.edge as u64, r.corner as u64);
-        Numbers::all([edge, corner, r.turn, r.squared, r.rounded, r.floor.into()])
-    }
-}
-
-impl From<Standing> for Numbers {
-    fn from(r: Standing) -> Numbers {
-        Numbers::one(r.relation as u64, r.floor)
-    }
-}
-
-impl From<Inside> for Numbers {
-    fn from(r: Inside) -> Numbers {
-        Numbers::one(r.within as u64, r.floor)
-    }
-}
-
-impl From<Offer> for Numbers {
-    fn from(r: Offer) -> Numbers {
-        Numbers::one(r.accepted as u64, r.floor)
-    }
-}
-
-impl From<Separator> for Numbers {
-    fn from(r: Separator) -> Numbers {
-        Numbers::found(r.direction, r.floor)
     }
 }

@@ -1,101 +1,85 @@
-//! The rows of the two tables: a question, and cases for which it does its work.
-use crate::pairs::{alike, apart, crossing, far, large, merged, nested, scattered, single, summed};
-use crate::plain;
+//! The rows of the tables: a question, and cases for which it does its work.
+use crate::pairs::{
+    Make, alike, apart, beside_cart, crossing, far, kept, large, merged, moved_away, nested,
+    scattered, shuffled, single, summed, twice, under_cart,
+};
 use crate::plain::MOST;
-use crate::random::Random;
-use crate::shapes::Case;
-use crate::timing::{Run, block, block_bytes};
-use cocklesway::{Book, Refusal, Shape, Walk, bytes, log_read};
+use crate::runs::*;
+use crate::shapes::{Case, Outline, polygon, regular};
+use crate::timing::Run;
 
-/// Makes a case of about n corners.
-pub type Make = fn(&mut Random, usize) -> Case;
+/// A question in both ways, proved first.
+pub type Row = (&'static str, [Run; 2], Make);
 
-/// The floor that all shapes are on.
-const FLOOR: u16 = 3;
-
-/// A loop of its own for each question, proved and plain: of these lists of a case, and perhaps of an output, or of a
-/// direction.
-macro_rules! both {
-    ($question:ident($($list:ident),*)) => {
-        [proved!($question($($list),*)), |cases| block(cases, |c, _| plain::$question($(&c.$list, FLOOR),*))]
-    };
-    ($question:ident($($list:ident),*; out)) => {
-        [proved!($question($($list),*; out)), |cases| block(cases, |c, out| plain::$question($(&c.$list, FLOOR,)* out))]
-    };
-    ($question:ident($($list:ident),*; $u:literal, $v:literal)) => {
-        [
-            |cases| block(cases, |c, _| cocklesway::$question($(on(&c.$list),)* [$u, $v])),
-            |cases| block(cases, |c, _| plain::$question($(&c.$list, FLOOR,)* $u, $v)),
-        ]
-    };
+/// Questions at several sizes, proved beside plain.
+pub struct Table {
+    pub legend: &'static str,
+    pub sizes: &'static [usize],
+    pub outline: Outline,
+    /// how the cases are lent
+    pub form: fn(Case) -> Case,
+    pub rows: &'static [Row],
 }
 
-/// The same, proved alone.
-macro_rules! proved {
-    ($question:ident($($list:ident),*)) => {
-        |cases| block(cases, |c, _| cocklesway::$question($(on(&c.$list)),*))
-    };
-    ($question:ident($($list:ident),*; out)) => {
-        |cases| block(cases, |c, out| count(cocklesway::$question($(on(&c.$list),)* out.as_chunks_mut().0)))
-    };
-}
+/// How many corners the shapes have.
+const SIZES: &[usize] = &[32, 100, 500, MOST];
 
-/// The same for the calls on bytes, and perhaps of so many bytes of an output.
-macro_rules! on_bytes {
-    ($question:ident, $plain:ident($($k:literal),*)) => {
-        [
-            |cases| block_bytes(cases, |c, _| bytes::$question($(&c.bytes[$k], FLOOR.into()),*)),
-            |cases| block_bytes(cases, |c, _| plain::$plain($(&c.bytes[$k], FLOOR.into()),*)),
-        ]
-    };
-    ($question:ident, $plain:ident($($k:literal),*; $room:expr)) => {
-        [
-            |cases| block_bytes(cases, |c, out| bytes::$question($(&c.bytes[$k], FLOOR.into(),)* &mut out[..$room])),
-            |cases| block_bytes(cases, |c, out| plain::$plain($(&c.bytes[$k], FLOOR.into(),)* &mut out[..$room])),
-        ]
-    };
-}
+/// Corners of the obstacles that a cart of 8 is asked against. With the last they are as many as a shape may have.
+const OBSTACLES: &[usize] = &[100, 500, MOST - 8];
 
-/// How many corners were written.
-fn count(written: Result<Shape, Refusal>) -> Result<usize, Refusal> {
-    written.map(|shape| shape.corners.len())
-}
+/// Every question on shapes in general position, calls on bytes, regular shapes, and carts.
+pub const TABLES: [Table; 4] = [
+    Table {
+        legend: "\
+microseconds a call, proved and plain, and their ratio; of two shapes one has 4 corners less, and at 1,024 those of
+`sum`, `grow`, `begin` and `part` have 512 and 506; a sweep has the column's count of points; a log has 4 records of
+a quarter of the corners each, and the added shape has all
+",
+        sizes: SIZES,
+        outline: polygon,
+        form: Case::in_numbers,
+        rows: &QUESTIONS,
+    },
+    Table {
+        legend: "\
+the calls of a host, on bytes: both shapes of their sums have the column's corner count, at most 512; of those refused
+6 the second has 1,024
+",
+        sizes: SIZES,
+        outline: polygon,
+        form: Case::in_bytes,
+        rows: &BYTES,
+    },
+    Table {
+        legend: "regular polygons\n",
+        sizes: SIZES,
+        outline: regular,
+        form: Case::in_numbers,
+        rows: &REGULAR,
+    },
+    Table {
+        legend: "an obstacle of the column's corner count and a cart of 8 corners\n",
+        sizes: OBSTACLES,
+        outline: polygon,
+        form: Case::in_numbers,
+        rows: &CARTS,
+    },
+];
 
-/// A list as the package takes it.
-fn on(list: &[i32]) -> Shape<'_> {
-    Shape::of_numbers(list, FLOOR.into())
-}
-
-const JUDGE: [Run; 2] = both!(judge(a));
-const FURTHEST: [Run; 2] = both!(furthest(a; 3, 1));
-const SUM: [Run; 2] = both!(sum(a, b; out));
-const MERGE: [Run; 2] = both!(merge(a, b; out));
-const GROW: [Run; 2] = both!(grow(a, b; out));
-const SWEEP: [Run; 2] = both!(sweep(a; out));
-const LENGTH: [Run; 2] = both!(length(a));
-const WIDTH: [Run; 2] = both!(width(a));
-const RELATION: [Run; 2] = both!(relation(a, b));
-const INSIDE: [Run; 2] = both!(inside(a, b));
-const OFFER: [Run; 2] = both!(offer(a, b; 3, 1));
-const FIND: [Run; 2] = both!(find(a, b));
-
-const JUDGE_BYTES: [Run; 2] = on_bytes!(judge, judge_bytes(0));
-const SUM_BYTES: [Run; 2] = on_bytes!(sum, sum_bytes(0, 1; 8 * MOST));
-const SUM_BYTES_SHORT: [Run; 2] = on_bytes!(sum, sum_bytes(0, 1; 8));
-const MERGE_BYTES: [Run; 2] = on_bytes!(merge, merge_bytes(0, 1; 8 * MOST));
-const RELATION_BYTES: [Run; 2] = on_bytes!(relation, relation_bytes(0, 1));
-
-/// The questions that are asked in both ways, and the calls of a host.
-pub const ROWS: [(&str, [Run; 2], Make); 24] = [
+const QUESTIONS: [Row; 27] = [
     ("judge", JUDGE, single),
     ("furthest", FURTHEST, single),
-    ("sum", SUM, summed),
-    ("sum, refused 6 at 1,024", SUM, crossing),
-    ("merge", MERGE, merged),
-    ("grow", GROW, summed),
-    ("sweep", SWEEP, scattered),
+    ("mirror", MIRROR, single),
     ("length", LENGTH, single),
     ("width", WIDTH, single),
+    ("sum", SUM, summed),
+    ("sum, refused 6 at 1,024", SUM, crossing),
+    ("begin", BEGIN, summed),
+    ("part of 16 corners", FIRST_PART, summed),
+    ("merge", MERGE, merged),
+    ("grow", GROW, summed),
+    ("sweep, points anywhere", SWEEP, scattered),
+    ("sweep, all corners", SWEEP, shuffled),
     ("relation, apart", RELATION, apart),
     ("relation, overlapping", RELATION, crossing),
     ("inside, yes", INSIDE, nested),
@@ -103,74 +87,73 @@ pub const ROWS: [(&str, [Run; 2], Make); 24] = [
     ("offer", OFFER, apart),
     ("find, apart", FIND, apart),
     ("find, none", FIND, crossing),
-    ("bytes: judge", JUDGE_BYTES, |random, n| {
-        single(random, n).in_bytes()
-    }),
-    ("bytes: sum", SUM_BYTES, |random, n| {
-        alike(random, n).in_bytes()
-    }),
-    ("bytes: sum, refused 6", SUM_BYTES, |random, n| {
-        large(random, n).in_bytes()
-    }),
-    ("bytes: sum, refused 7", SUM_BYTES, |random, n| {
-        far(random, n).in_bytes()
-    }),
-    ("bytes: sum, refused 8", SUM_BYTES_SHORT, |random, n| {
-        alike(random, n).in_bytes()
-    }),
-    ("bytes: merge", MERGE_BYTES, |random, n| {
-        merged(random, n).in_bytes()
-    }),
-    ("bytes: apart", RELATION_BYTES, |random, n| {
-        apart(random, n).in_bytes()
-    }),
-    ("bytes: overlapping", RELATION_BYTES, |random, n| {
-        crossing(random, n).in_bytes()
-    }),
+    ("clearance, apart", CLEARANCE, apart),
+    ("clearance, none", CLEARANCE, crossing),
+    ("tangents", TANGENTS, apart),
+    ("tangents, refused 9", TANGENTS, crossing),
+    ("tablet, a corner each", TABLET, single),
+    ("log_read", LOG_READ, kept),
+    ("log_add", LOG_ADD, kept),
 ];
 
-/// Every proved question, on a shape and the same one moved away (`pairs::moved_away`). It takes the
-/// whole walk to find that a shape overlaps itself, is inside itself, or is not below itself. A log
-/// has as many records as the shape has corners.
-pub const GROWTH: [(&str, Run); 20] = [
-    ("judge", JUDGE[0]),
-    ("furthest", FURTHEST[0]),
-    ("mirror", proved!(mirror(a; out))),
-    ("sum", SUM[0]),
-    ("begin", |cases| {
-        block(cases, |c, _| Walk::begin(on(&c.a), on(&c.b)))
-    }),
-    ("part of none", |cases| part(cases, 0)),
-    ("part of 16 corners", |cases| part(cases, 16)),
-    ("merge", MERGE[0]),
-    ("grow", GROW[0]),
-    ("sweep", SWEEP[0]),
-    ("length", LENGTH[0]),
-    ("width", WIDTH[0]),
-    ("relation", proved!(relation(a, a))),
-    ("inside", proved!(inside(a, a))),
-    ("offer", OFFER[0]),
-    ("find", proved!(find(a, a))),
-    ("clearance", proved!(clearance(a, b))),
-    ("tangents", proved!(tangents(a, b))),
-    ("log_read, records", |cases| {
-        block(cases, |c, out| {
-            count(log_read(&c.log, 0, out.as_chunks_mut().0))
-        })
-    }),
-    ("log_add, records", |cases| {
-        let point = Shape::new(&[[1, -1]], FLOOR.into());
-        block(cases, |c, _| {
-            Book::new(&mut c.log.clone()).add(0, point, usize::MAX)
-        })
-    }),
+const BYTES: [Row; 8] = [
+    ("bytes: judge", JUDGE_BYTES, single),
+    ("bytes: sum", SUM_BYTES, alike),
+    ("bytes: sum, refused 6", SUM_BYTES, large),
+    ("bytes: sum, refused 7", SUM_BYTES, far),
+    ("bytes: sum, refused 8", SUM_BYTES_SHORT, alike),
+    ("bytes: merge", MERGE_BYTES, merged),
+    ("bytes: apart", RELATION_BYTES, apart),
+    ("bytes: overlapping", RELATION_BYTES, crossing),
 ];
 
-/// The first part of a sum, of k corners at most.
-fn part(cases: &[Case], k: usize) -> u64 {
-    block(cases, |c, out| {
-        let begun = Walk::at(0, 0, false);
-        let part = begun.part(on(&c.a), on(&c.b), k, out.as_chunks_mut().0);
-        part.map(|part| part.walk)
-    })
-}
+const REGULAR: [Row; 14] = [
+    ("judge", JUDGE, single),
+    ("furthest", FURTHEST, single),
+    ("length", LENGTH, single),
+    ("width", WIDTH, single),
+    ("sum", SUM, summed),
+    ("merge", MERGE, merged),
+    ("grow", GROW, summed),
+    ("sweep, all corners", SWEEP, shuffled),
+    ("relation, apart", RELATION, apart),
+    ("relation, overlapping", RELATION, crossing),
+    ("inside, yes", INSIDE, nested),
+    ("find, none", FIND, crossing),
+    ("clearance, apart", CLEARANCE, apart),
+    ("tangents", TANGENTS, apart),
+];
+
+const CARTS: [Row; 6] = [
+    ("sum", SUM, under_cart),
+    ("grow", GROW, under_cart),
+    ("relation, apart", RELATION, beside_cart),
+    ("relation, overlapping", RELATION, under_cart),
+    ("clearance, apart", CLEARANCE, beside_cart),
+    ("clearance, none", CLEARANCE, under_cart),
+];
+
+/// Every proved question, on a shape and the same one moved away (`moved_away`). It takes the whole walk to find that a
+/// shape overlaps one that it is inside of. A log has as many records as the shape has corners.
+pub const GROWTH: [(&str, Run, Make); 20] = [
+    ("judge", JUDGE[0], moved_away),
+    ("furthest", FURTHEST[0], moved_away),
+    ("mirror", MIRROR[0], moved_away),
+    ("sum", SUM[0], moved_away),
+    ("begin", BEGIN[0], moved_away),
+    ("part of none", NO_PART, moved_away),
+    ("part of 16 corners", FIRST_PART[0], moved_away),
+    ("merge", MERGE[0], moved_away),
+    ("grow", GROW[0], moved_away),
+    ("sweep", SWEEP[0], moved_away),
+    ("length", LENGTH[0], moved_away),
+    ("width", WIDTH[0], moved_away),
+    ("relation", RELATION[0], twice),
+    ("inside", INSIDE[0], twice),
+    ("offer", OFFER[0], moved_away),
+    ("find", FIND[0], twice),
+    ("clearance", CLEARANCE[0], moved_away),
+    ("tangents", TANGENTS[0], moved_away),
+    ("log_read, records", LOG_READ[0], moved_away),
+    ("log_add, records", LOG_ADD[0], moved_away),
+];

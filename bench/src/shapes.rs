@@ -1,4 +1,5 @@
-//! Shapes in general position: so many corners, edges of irregular directions and lengths.
+//! Shapes of so many corners: in general position, with edges of irregular directions and lengths; regular ones; and
+//! some with many parallel edges.
 use crate::random::Random;
 
 /// A list of numbers, x y x y.
@@ -24,6 +25,11 @@ impl Case {
         }
     }
 
+    /// The same lists, as they are.
+    pub fn in_numbers(self) -> Case {
+        self
+    }
+
     /// The same lists as bytes alone.
     pub fn in_bytes(self) -> Case {
         Case {
@@ -35,7 +41,7 @@ impl Case {
     /// Reads all its numbers and bytes, for a number that hangs on them.
     pub fn read(&self) -> i32 {
         let numbers = self.a.iter().chain(&self.b);
-        let bytes = self.bytes.iter().flatten();
+        let bytes = self.bytes.iter().flatten().chain(&self.log);
         let sum = numbers.fold(0, |sum: i32, z| sum.wrapping_add(*z));
         bytes.fold(sum, |sum, byte| sum.wrapping_add(*byte as i32))
     }
@@ -49,9 +55,12 @@ pub fn bytes_of(list: &[i32]) -> Vec<u8> {
 /// How far an edge goes across and up.
 type Edge = (i64, i64);
 
-/// A shape of n corners, 3 or more, in a square of about that size with its middle at (x, y): n
-/// differences along each axis that add up to 0, paired at random and laid end to end in the order
-/// of their directions. It is tried again until no two directions are equal.
+/// Makes a shape of n corners, 3 or more, in a square of about that size with its middle at (x, y).
+pub type Outline = fn(&mut Random, usize, i32, i32, i32) -> List;
+
+/// An outline in general position: n differences along each axis that add up to 0, paired at random and laid end to end
+/// in the order of their directions. It is tried again until no two directions are equal. The edges of two such shapes
+/// follow one another without a pattern, and no processor can guess whose is next.
 pub fn polygon(random: &mut Random, n: usize, size: i32, x: i32, y: i32) -> List {
     loop {
         let (across, up) = (differences(random, n, size), differences(random, n, size));
@@ -60,6 +69,31 @@ pub fn polygon(random: &mut Random, n: usize, size: i32, x: i32, y: i32) -> List
             return laid(&edges, x, y);
         }
     }
+}
+
+/// A regular outline, turned by any angle: corners of a circle, rounded to whole numbers. It must be wide enough for
+/// its corners to stay corners.
+pub fn regular(random: &mut Random, n: usize, size: i32, x: i32, y: i32) -> List {
+    let step = std::f64::consts::TAU / n as f64;
+    let turned = step * random.between(0, 1000) as f64 / 1000.0;
+    let radius = size as f64 / 2.0;
+    let corners = (0..n).flat_map(|k| {
+        let (sin, cos) = (turned + step * k as f64).sin_cos();
+        [
+            x + (radius * cos).round() as i32,
+            y + (radius * sin).round() as i32,
+        ]
+    });
+    from_lowest(corners.collect())
+}
+
+/// The list begun at its lowest corner.
+pub fn from_lowest(mut list: List) -> List {
+    let corners = list.as_chunks_mut::<2>().0;
+    if let Some(k) = (0..corners.len()).min_by_key(|&k| (corners[k][1], corners[k][0])) {
+        corners.rotate_left(k);
+    }
+    list
 }
 
 /// A shape with its middle at (x, y) whose edges come of so many segments and triangles with
@@ -112,9 +146,7 @@ fn differences(random: &mut Random, n: usize, size: i32) -> Vec<i64> {
     }
     steps.push(most - one);
     steps.push(other - most);
-    for i in (1..n).rev() {
-        steps.swap(i, random.below(i as u64 + 1) as usize);
-    }
+    random.shuffle(&mut steps);
     steps
 }
 

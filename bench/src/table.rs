@@ -1,76 +1,110 @@
-//! Measures all rows of a table by turns, and prints it.
-use crate::pairs::moved_away;
-use crate::plain::MOST;
+//! Measures the rows of a table by turns, and prints it.
+use crate::pairs::Make;
 use crate::random::Random;
-use crate::rows::{GROWTH, Make, ROWS};
+use crate::rows::{GROWTH, Row, TABLES, Table};
+use crate::shapes::{Case, polygon};
 use crate::timing::{Meter, Run};
 
-/// Corners of the first table, proved beside plain.
-const SIZES: [usize; 4] = [32, 100, 500, MOST];
-
-/// Corners of the second table, how the proved questions grow.
+/// Corners of the table of how the proved questions grow.
 const STEPS: [usize; 2] = [100, 400];
-
-/// What stands above the first table.
-const LEGEND: &str = "\
-microseconds a call, proved and plain, and their ratio; of two shapes one has 4 corners less,
-and at 1,024 those of `sum` and `grow` have 512 and 506; a sweep has so many points. `bytes` are
-the calls of a host: both shapes of their sums have so many corners, and 512 at 1,024; of those
-refused 6 the second has 1,024
-";
 
 /// The seed of all shapes.
 const SEED: u64 = 2026;
 
-/// For each question and size: proved and plain in microseconds, and their ratio.
-pub fn compare(rounds: usize) {
-    let meters = ROWS
-        .iter()
-        .map(|(_, runs, make)| SIZES.map(|n| meter(n, runs, *make)));
-    println!("{LEGEND}");
-    println!(
-        "{:24}{}",
-        "",
-        SIZES.map(|n| format!("{n:>19} corners")).concat()
-    );
-    for ((name, ..), times) in ROWS.iter().zip(measured(meters.collect(), rounds)) {
-        let cells = times.map(|t| format!("{:9.3}{:9.3}{:9.2}", t[0], t[1], t[0] / t[1]));
-        println!("{name:24}{}", cells.concat());
+/// Which rows are measured: those that have one of these words in their names, or all if there are no words.
+pub struct Chosen<'a>(&'a [&'a str]);
+
+impl<'a> Chosen<'a> {
+    /// The rows that have one of these words, or the first word that no row has.
+    pub fn of(words: &'a [&'a str]) -> Result<Chosen<'a>, &'a str> {
+        let compared = TABLES.iter().flat_map(|table| table.rows).map(|row| row.0);
+        let names: Vec<&str> = compared.chain(GROWTH.iter().map(|row| row.0)).collect();
+        let missing = |word: &&&str| !names.iter().any(|name| words_of(name).any(|w| w == **word));
+        words
+            .iter()
+            .find(missing)
+            .map_or(Ok(Chosen(words)), |word| Err(word))
+    }
+
+    fn has(&self, name: &str) -> bool {
+        self.0.is_empty() || words_of(name).any(|word| self.0.contains(&word))
     }
 }
 
-/// For each question: its time at the two sizes, and the ratio; 4 is linear, 16 quadratic.
-pub fn grow(rounds: usize) {
-    let meters = GROWTH
+/// The words of a row's name.
+fn words_of(name: &str) -> impl Iterator<Item = &str> {
+    name.split(|c: char| !c.is_alphanumeric() && c != '_')
+}
+
+/// For each question and size: proved and plain in microseconds, and their ratio.
+pub fn compare(chosen: &Chosen, rounds: usize) {
+    for table in &TABLES {
+        print(table, chosen, rounds);
+    }
+}
+
+/// The rows of one table that are chosen.
+fn print(table: &Table, chosen: &Chosen, rounds: usize) {
+    let rows: Vec<_> = table.rows.iter().filter(|row| chosen.has(row.0)).collect();
+    if rows.is_empty() {
+        return;
+    }
+    let meter_of = |&(_, runs, make): &Row, n| {
+        meter(n, &runs, |random| {
+            (table.form)(make(random, n, table.outline))
+        })
+    };
+    let meters = rows
         .iter()
-        .map(|&(_, run)| STEPS.map(|n| meter(n, &[run], moved_away)));
-    println!("microseconds a call, proved; a ratio of 4 is linear, one of 16 quadratic");
+        .map(|row| table.sizes.iter().map(|&n| meter_of(row, n)).collect());
+    let times = measured(meters.collect(), rounds);
+    let heads = table.sizes.iter().map(|n| format!("{n:>19} corners"));
+    println!("{}", table.legend);
+    println!("{:24}{}", "", heads.collect::<String>());
+    for ((name, ..), times) in rows.iter().zip(times) {
+        let cells = times
+            .iter()
+            .map(|t| format!("{:9.3}{:9.3}{:9.2}", t[0], t[1], t[0] / t[1]));
+        println!("{name:24}{}", cells.collect::<String>());
+    }
     println!();
+}
+
+/// For each question: its time at the two sizes, and the ratio; 4 is linear, 16 quadratic.
+pub fn grow(chosen: &Chosen, rounds: usize) {
+    let rows: Vec<_> = GROWTH.iter().filter(|row| chosen.has(row.0)).collect();
+    if rows.is_empty() {
+        return;
+    }
+    let meter_of = |run, make: Make, n| meter(n, &[run], |random| make(random, n, polygon));
+    let meters = rows
+        .iter()
+        .map(|&&(_, run, make)| STEPS.map(|n| meter_of(run, make, n)).into());
+    let times = measured(meters.collect(), rounds);
+    println!("microseconds a call, proved; a ratio of 4 is linear, one of 16 quadratic\n");
     println!(
         "{:24}{:>9}{:>9}{:>9}",
         "corners", STEPS[0], STEPS[1], "ratio"
     );
-    for ((name, _), times) in GROWTH.iter().zip(measured(meters.collect(), rounds)) {
+    for ((name, ..), times) in rows.iter().zip(times) {
         let (few, many) = (times[0][0], times[1][0]);
         println!("{name:24}{few:9.3}{many:9.3}{:9.2}", many / few);
     }
 }
 
 /// A meter of n corners.
-fn meter(n: usize, runs: &[Run], make: Make) -> Meter {
+fn meter(n: usize, runs: &[Run], make: impl Fn(&mut Random) -> Case) -> Meter {
     let mut random = Random::new(SEED);
-    Meter::new(n, runs, || make(&mut random, n))
+    Meter::new(n, runs, || make(&mut random))
 }
 
-/// The times of all meters after so many rounds, in which all take turns.
-fn measured<const K: usize>(mut meters: Vec<[Meter; K]>, rounds: usize) -> Vec<[Vec<f64>; K]> {
+/// The times of all meters, row by row, after so many rounds, in which all take turns.
+fn measured(mut meters: Vec<Vec<Meter>>, rounds: usize) -> Vec<Vec<Vec<f64>>> {
     for round in 0..rounds {
         for meter in meters.iter_mut().flatten() {
             meter.round(round);
         }
     }
-    meters
-        .iter()
-        .map(|row| row.each_ref().map(Meter::microseconds))
-        .collect()
+    let times = |row: &Vec<Meter>| row.iter().map(Meter::microseconds).collect();
+    meters.iter().map(times).collect()
 }

@@ -28,6 +28,14 @@ pub fn block_bytes<T>(cases: &[Case], ask: impl Fn(&Case, &mut [u8]) -> T) -> u6
     timed(cases, |case| ask(case, &mut out))
 }
 
+/// The same, of a question that adds to the log of its case, which is a fresh one each time.
+#[inline(always)]
+pub fn block_logs<T>(cases: &[Case], ask: impl Fn(&Case, &mut [u8]) -> T) -> u64 {
+    let mut logs: Vec<Vec<u8>> = cases.iter().map(|case| case.log.clone()).collect();
+    let mut logs = logs.iter_mut();
+    timed(cases, |case| logs.next().map(|log| ask(case, log)))
+}
+
 /// A loop with nothing in it but the call. The lists are read first, so that no way of answering waits
 /// for them.
 #[inline(always)]

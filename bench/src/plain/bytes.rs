@@ -1,115 +1,80 @@
-//! The calls of a host (document 02, W14): lists as bytes, floors as numbers, the reply as one number.
-use super::deliver::{Buffer, checked, checked_near};
-use super::judge::{MOST, Shape, admitted};
+//! The calls of a host (document 02, W14): lists as bytes, the reply as one number. Only a merge decodes its lists.
+use super::corner::{Bytes, Corner, Stored, corners_in, room_in};
+use super::deliver::checked_near;
+use super::judge::{MOST, Shape, judged, judged_pair, on_one_floor};
 use super::merge::{Hull, merged};
 use super::relation::stand;
-use super::sum::walk;
+use super::sum::add;
 use crate::reply::Numbers;
 use std::mem::MaybeUninit;
 
-/// The numbers of a list. It is not cleared first: only what was decoded is read.
-type Decoded = [MaybeUninit<i32>; 2 * MOST];
+/// Corners of a list. It is not cleared first: only what was decoded is read.
+type Decoded = [MaybeUninit<Corner>; MOST];
 
-const EMPTY: Decoded = [MaybeUninit::uninit(); 2 * MOST];
+const EMPTY: Decoded = [MaybeUninit::uninit(); MOST];
 
 /// Whether the bytes hold a shape, and how many corners it has.
 #[inline(never)]
 pub fn judge_bytes(list: &[u8], floor: u32) -> u64 {
-    packed(judge(list, floor))
+    let judged = judged(corners_in(list), 1).and_then(|shape| {
+        on_one_floor(floor, floor)?;
+        Ok(Numbers::one(shape.corners.len() as u64, floor))
+    });
+    packed(judged)
 }
 
 /// The shape of all corner-plus-corner points, as bytes.
 #[inline(never)]
 pub fn sum_bytes(a: &[u8], f: u32, b: &[u8], g: u32, out: &mut [u8]) -> u64 {
-    packed(sum(a, f, b, g, out))
+    let pair = judged_pair(corners_in(a), f, corners_in(b), g);
+    packed(pair.map(|(a, b)| Numbers::written(add::<_, false>(a, b, room_in(out)), f)))
 }
 
 /// The shape of both corner lists together, as bytes.
 #[inline(never)]
 pub fn merge_bytes(a: &[u8], f: u32, b: &[u8], g: u32, out: &mut [u8]) -> u64 {
-    packed(merge(a, f, b, g, out))
+    let pair = judged_pair(corners_in(a), f, corners_in(b), g);
+    packed(pair.map(|(a, b)| {
+        let (mut first, mut second) = (EMPTY, EMPTY);
+        let mut hull = Hull::empty();
+        merged(decoded(a, &mut first), decoded(b, &mut second), &mut hull);
+        match checked_near(&hull.answer) {
+            Ok(numbers) => Numbers::written(encoded(numbers, room_in(out)), f),
+            Err(refusal) => refusal,
+        }
+    }))
 }
 
 /// 0 if the shapes are apart, 1 if they touch, 2 if they overlap.
 #[inline(never)]
 pub fn relation_bytes(a: &[u8], f: u32, b: &[u8], g: u32) -> u64 {
-    packed(relation(a, f, b, g))
+    let pair = judged_pair(corners_in(a), f, corners_in(b), g);
+    packed(pair.map(|(a, b)| Numbers::one(stand(a, b), f)))
 }
 
+/// The same shape with its corners as numbers.
 #[inline(always)]
-fn judge(list: &[u8], floor: u32) -> Result<Numbers, Numbers> {
-    let mut numbers = EMPTY;
-    let shape = read(list, &mut numbers, 1)?;
-    Ok(Numbers::one(
-        shape.corners.len() as u64,
-        same(floor, floor)?,
-    ))
-}
-
-#[inline(always)]
-fn sum(a: &[u8], f: u32, b: &[u8], g: u32, out: &mut [u8]) -> Result<Numbers, Numbers> {
-    let (mut first, mut second) = (EMPTY, EMPTY);
-    let (a, b) = (read(a, &mut first, 1)?, read(b, &mut second, 2)?);
-    let floor = same(f, g)?;
-    let mut answer = Buffer::empty();
-    walk(a.corners, b.corners, &mut answer);
-    written(checked(&answer)?, floor, out)
-}
-
-#[inline(always)]
-fn merge(a: &[u8], f: u32, b: &[u8], g: u32, out: &mut [u8]) -> Result<Numbers, Numbers> {
-    let (mut first, mut second) = (EMPTY, EMPTY);
-    let (a, b) = (read(a, &mut first, 1)?, read(b, &mut second, 2)?);
-    let floor = same(f, g)?;
-    let mut hull = Hull::empty();
-    merged(a, b, &mut hull);
-    written(checked_near(&hull.answer)?, floor, out)
-}
-
-#[inline(always)]
-fn relation(a: &[u8], f: u32, b: &[u8], g: u32) -> Result<Numbers, Numbers> {
-    let (mut first, mut second) = (EMPTY, EMPTY);
-    let (a, b) = (read(a, &mut first, 1)?, read(b, &mut second, 2)?);
-    let floor = same(f, g)?;
-    Ok(Numbers::one(stand(a, b), floor))
-}
-
-/// The shape that bytes hold, or its refusal as the first or second shape of a call.
-#[inline(always)]
-fn read<'a>(bytes: &[u8], numbers: &'a mut Decoded, which: u64) -> Result<Shape<'a>, Numbers> {
-    let (words, rest) = bytes.as_chunks::<4>();
-    if !rest.is_empty() || words.len() % 2 == 1 {
-        return Err(Numbers::blamed(1, which));
+fn decoded<'a>(shape: Shape<Bytes>, room: &'a mut Decoded) -> Shape<'a> {
+    let front = &mut room[..shape.corners.len()];
+    for (to, from) in front.iter_mut().zip(shape.corners) {
+        to.write(from.read());
     }
-    let Some(numbers) = numbers.get_mut(..words.len()) else {
-        return Err(Numbers::blamed(2, which));
-    };
-    for (number, word) in numbers.iter_mut().zip(words) {
-        number.write(i32::from_le_bytes(*word));
-    }
-    // SAFETY: all of these were written.
-    admitted(unsafe { numbers.assume_init_ref() }, which)
-}
-
-/// The floor, if both are one that there is.
-#[inline(always)]
-fn same(f: u32, g: u32) -> Result<u16, Numbers> {
-    match u16::try_from(f) {
-        Ok(floor) if f == g => Ok(floor),
-        _ => Err(Numbers::refused(13)),
+    Shape {
+        // SAFETY: all of these were written.
+        corners: unsafe { front.assume_init_ref() },
+        top: shape.top,
     }
 }
 
-/// Writes the numbers at the front of the output, or refuses 8.
+/// Writes the numbers at the front of the output, and returns how many corners they are; or refuses 8.
 #[inline(always)]
-fn written(numbers: &[i32], floor: u16, out: &mut [u8]) -> Result<Numbers, Numbers> {
-    let Some(front) = out.get_mut(..4 * numbers.len()) else {
-        return Err(Numbers::refused(8));
-    };
-    for (word, number) in front.as_chunks_mut::<4>().0.iter_mut().zip(numbers) {
-        *word = number.to_le_bytes();
+fn encoded(numbers: &[i32], out: &mut [Bytes]) -> Result<usize, u64> {
+    let corners = numbers.as_chunks().0;
+    let front = out.get_mut(..corners.len()).ok_or(8_u64)?;
+    for (to, from) in front.iter_mut().zip(corners) {
+        *to = Bytes::of(*from);
     }
-    Ok(Numbers::one(numbers.len() as u64 / 2, floor))
+    Ok(corners.len())
 }
 
 /// A byte, a byte, two bytes and two bytes, from the low end.

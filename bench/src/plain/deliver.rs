@@ -1,6 +1,6 @@
-//! Answers that are shapes: a buffer for their corners, and refusals 6, 7 and 8.
+//! Answers of scans, which drop corners again: a buffer for their corners, and refusals 6 and 8.
 use super::corner::Corner;
-use super::judge::{MOST, some_outside};
+use super::judge::MOST;
 use crate::reply::Numbers;
 use std::mem::MaybeUninit;
 
@@ -67,35 +67,16 @@ impl Buffer {
     }
 }
 
-/// Writes the corners at the front of the output, or refuses 6, 7 or 8.
+/// Writes the corners at the front of the output, or refuses 6 or 8. None can be out of range.
 #[inline(always)]
-pub fn deliver(answer: &Buffer, floor: u16, out: &mut [i32]) -> Numbers {
-    match checked(answer) {
-        Ok(numbers) => write(numbers, floor, out),
-        Err(refusal) => refusal,
-    }
-}
-
-/// The same for corners that cannot be out of range.
-#[inline(always)]
-pub fn deliver_near(answer: &Buffer, floor: u16, out: &mut [i32]) -> Numbers {
+pub fn deliver_near(answer: &Buffer, floor: u32, out: &mut [i32]) -> Numbers {
     match checked_near(answer) {
         Ok(numbers) => write(numbers, floor, out),
         Err(refusal) => refusal,
     }
 }
 
-/// The numbers of the corners, or refusal 6 or 7.
-#[inline(always)]
-pub fn checked(answer: &Buffer) -> Result<&[i32], Numbers> {
-    let numbers = checked_near(answer)?;
-    if some_outside(numbers) {
-        return Err(Numbers::refused(7));
-    }
-    Ok(numbers)
-}
-
-/// The same for corners that cannot be out of range.
+/// The numbers of the corners, or refusal 6.
 #[inline(always)]
 pub fn checked_near(answer: &Buffer) -> Result<&[i32], Numbers> {
     if answer.len() > MOST {
@@ -106,7 +87,7 @@ pub fn checked_near(answer: &Buffer) -> Result<&[i32], Numbers> {
 
 /// Writes the numbers at the front of the output, or refuses 8.
 #[inline(always)]
-fn write(numbers: &[i32], floor: u16, out: &mut [i32]) -> Numbers {
+fn write(numbers: &[i32], floor: u32, out: &mut [i32]) -> Numbers {
     match out.get_mut(..numbers.len()) {
         Some(front) => front.copy_from_slice(numbers),
         None => return Numbers::refused(8),

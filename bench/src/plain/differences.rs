@@ -1,82 +1,59 @@
-//! The origin against the edges of the differences of two shapes, which are walked as a sum is.
-use super::corner::{Corner, cross, edge};
-use super::edges::Edges;
+//! The origin against the edges of the differences of two shapes, whose corners are a corner of the first minus one of
+//! the second.
+use super::corner::{Edge, Stored, cross};
 use super::judge::Shape;
+use super::walk::Walk;
+use std::ops::ControlFlow::{Break, Continue};
 
-/// How the origin lies to the edges so far: on the line of some, on the line of all, else left.
-pub struct Origin {
-    pub on_some: bool,
-    pub on_all: bool,
+/// How the origin lies to the differences.
+pub enum Origin {
+    /// Outside of an edge.
+    Outside(Facing),
+    /// On the line of every edge: the differences are flat.
+    InLine,
+    /// On the line of an edge, and outside of none.
+    OnRim,
+    /// Left of every edge.
+    Inside,
 }
 
-impl Origin {
-    /// No edge yet.
-    #[inline(always)]
-    pub fn new() -> Origin {
-        Origin {
-            on_some: false,
-            on_all: true,
-        }
-    }
-
-    /// Walks the edges of the differences, those of a and those of b turned round, in their order;
-    /// each leaves a corner of a minus a corner of b. The first that has the origin outside; of two
-    /// that point the same way that of a.
-    #[inline(always)]
-    pub fn outside(&mut self, a: Shape, b: Shape) -> Option<Corner> {
-        let (mut p, mut q) = (Edges::of(a.corners, 0), Edges::of(b.corners, b.top));
-        while p.more() && q.more() {
-            let back = opposite(q.edge);
-            let turn = cross(p.edge, back);
-            let e = if turn >= 0 { p.edge } else { back };
-            if self.is_outside(e, edge(p.corner, q.corner)) {
-                return Some(e);
-            }
-            if turn >= 0 {
-                p.step();
-            }
-            if turn <= 0 {
-                q.step();
-            }
-        }
-        while p.more() {
-            if self.is_outside(p.edge, edge(p.corner, q.corner)) {
-                return Some(p.edge);
-            }
-            p.step();
-        }
-        while q.more() {
-            let back = opposite(q.edge);
-            if self.is_outside(back, edge(p.corner, q.corner)) {
-                return Some(back);
-            }
-            q.step();
-        }
-        None
-    }
-
-    /// Whether it is right of an edge, being so far from the corner that the edge leaves.
-    #[inline(always)]
-    fn is_outside(&mut self, e: Corner, from: Corner) -> bool {
-        let turn = cross(e, from);
-        self.on_some |= turn == 0;
-        self.on_all &= turn == 0;
-        turn < 0
-    }
+/// An edge of the differences that has the origin outside, and the positions of the corners whose difference it leaves.
+/// Along the edge all of the first shape is left of its corner, and all of the second right of its own.
+pub struct Facing {
+    pub edge: Edge,
+    pub first: usize,
+    pub second: usize,
 }
 
-/// The edge turned round.
+/// Walks the differences to the first edge that has the origin outside.
 #[inline(always)]
-fn opposite(e: Corner) -> Corner {
-    [-e[0], -e[1]]
+pub fn origin<C: Stored>(a: Shape<C>, b: Shape<C>) -> Origin {
+    let (mut on_some, mut on_all) = (false, true);
+    let mut walk = Walk::<C, true>::of(a, b);
+    let walked = walk.pass(|walk, next| {
+        let turn = cross(walk.corner, walk.edge(next));
+        on_some |= turn == 0;
+        on_all &= turn == 0;
+        if turn < 0 { Break(next) } else { Continue(()) }
+    });
+    match walked {
+        Break(next) => Origin::Outside(Facing {
+            edge: walk.edge(next),
+            first: walk.first.at(),
+            second: walk.second.at(),
+        }),
+        Continue(()) if on_all => Origin::InLine,
+        Continue(()) if on_some => Origin::OnRim,
+        Continue(()) => Origin::Inside,
+    }
 }
 
 /// Whether two points or segments in one line have a point in common.
 #[cold]
-pub fn meet(a: &[Corner], b: &[Corner]) -> bool {
+pub fn meet<C: Stored>(a: &[C], b: &[C]) -> bool {
     let along = |axis: usize| {
-        let span = |c: &[Corner]| {
-            let (p, q) = (c[0][axis], c[c.len() - 1][axis]);
+        let span = |c: &[C]| {
+            let (p, q) = (c[0].read()[axis], c[c.len() - 1].read()[axis]);
             (p.min(q), p.max(q))
         };
         let ((low, high), (least, most)) = (span(a), span(b));

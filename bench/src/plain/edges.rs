@@ -1,53 +1,119 @@
-//! The edges of a shape in their order, the next one carried with the corner that it leaves.
-use super::corner::{Corner, edge};
+//! The edges of a shape in their order, the next one carried.
+use super::corner::{Corner, Edge, Stored, edge};
+use super::judge::Shape;
 
-/// A shape on a walk round it.
-pub struct Edges<'a> {
-    corners: &'a [Corner],
-    /// the position that the next edge leads to
-    to: usize,
-    /// how many edges are left
-    left: usize,
-    pub corner: Corner,
-    pub edge: Corner,
+/// A shape on a walk round it, from one of its corners on: to the last corner of the list, then from the first one.
+#[derive(Clone, Copy)]
+pub struct Edges<'a, C> {
+    /// the corners from the one that the next edge leaves to the end of the list, or of the way
+    run: &'a [C],
+    /// the corners from the first one on, if they come after those
+    rest: &'a [C],
+    /// the position after the last corner of the run
+    end: usize,
+    /// the next edge; none is left if it is (0, 0)
+    pub edge: Edge,
 }
 
-impl<'a> Edges<'a> {
-    /// All edges from that corner on. A point has none.
+/// How many edges a shape of n corners has. A point has none.
+#[inline(always)]
+pub fn edges(n: usize) -> usize {
+    if n > 1 { n } else { 0 }
+}
+
+/// The position after it, on the way round n corners.
+#[inline(always)]
+pub fn after(i: usize, n: usize) -> usize {
+    if i + 1 < n { i + 1 } else { 0 }
+}
+
+/// The position before it.
+#[inline(always)]
+pub fn before(i: usize, n: usize) -> usize {
+    if i > 0 { i - 1 } else { n - 1 }
+}
+
+impl<'a, C: Stored> Edges<'a, C> {
+    /// All edges from that corner on.
     #[inline(always)]
-    pub fn of(corners: &'a [Corner], start: usize) -> Edges<'a> {
-        let n = corners.len();
-        let to = if start + 1 < n { start + 1 } else { 0 };
-        let corner = corners[start];
-        let left = if n > 1 { n } else { 0 };
+    pub fn of(corners: &'a [C], start: usize) -> Edges<'a, C> {
+        let rest = if corners.len() > 1 { start + 1 } else { 0 };
+        Edges::new(&corners[start..], &corners[..rest], corners.len())
+    }
+
+    /// The edges from corner 0 on, but for so many that are passed.
+    #[inline(always)]
+    pub fn past(corners: &'a [C], passed: usize) -> Edges<'a, C> {
+        if passed < edges(corners.len()) {
+            Edges::new(&corners[passed..], &corners[..1], corners.len())
+        } else {
+            Edges::new(&corners[..1], &[], 1)
+        }
+    }
+
+    /// The edges that go up, from the first corner to the top.
+    #[inline(always)]
+    pub fn up(shape: Shape<'a, C>) -> Edges<'a, C> {
+        Edges::new(&shape.corners[..=shape.top], &[], shape.top + 1)
+    }
+
+    /// The edges that go down, from the top to the first corner.
+    #[inline(always)]
+    pub fn down(shape: Shape<'a, C>) -> Edges<'a, C> {
+        Edges::past(shape.corners, shape.top)
+    }
+
+    #[inline(always)]
+    fn new(run: &'a [C], rest: &'a [C], end: usize) -> Edges<'a, C> {
+        let edge = match (run, rest) {
+            ([from, to, ..], _) | ([from], [to, ..]) => edge(from.read(), to.read()),
+            _ => [0, 0],
+        };
         Edges {
-            corners,
-            to,
-            left,
-            corner,
-            edge: edge(corner, corners[to]),
+            run,
+            rest,
+            end,
+            edge,
         }
     }
 
-    /// Whether an edge is left.
+    /// How many edges are left.
     #[inline(always)]
-    pub fn more(&self) -> bool {
-        self.left > 0
+    pub fn left(&self) -> usize {
+        self.run.len() + self.rest.len() - 1
     }
 
-    /// On to the next corner.
+    /// The corner that the next edge leaves.
     #[inline(always)]
-    pub fn step(&mut self) {
-        // SAFETY: `to` starts below the length, and is set back to 0 where it reaches it.
-        unsafe {
-            self.corner = *self.corners.get_unchecked(self.to);
-            self.to = if self.to + 1 < self.corners.len() {
-                self.to + 1
-            } else {
-                0
-            };
-            self.edge = edge(self.corner, *self.corners.get_unchecked(self.to));
+    pub fn corner(&self) -> Corner {
+        self.run[0].read()
+    }
+
+    /// Its position.
+    #[inline(always)]
+    pub fn at(&self) -> usize {
+        self.end - self.run.len()
+    }
+
+    /// On to the next corner. Whether an edge leaves it.
+    #[inline(always)]
+    pub fn step(&mut self) -> bool {
+        if let [_, from, to, ..] = self.run {
+            self.run = &self.run[1..];
+            self.edge = edge(from.read(), to.read());
+            return true;
         }
-        self.left -= 1;
+        *self = self.turned();
+        self.left() > 0
+    }
+
+    /// The same where the run or the list ends.
+    #[cold]
+    #[inline(never)]
+    fn turned(self) -> Edges<'a, C> {
+        match self.run {
+            [_, run @ ..] if !run.is_empty() => Edges::new(run, self.rest, self.end),
+            _ => Edges::new(self.rest, &[], self.rest.len()),
+        }
     }
 }

@@ -1,13 +1,13 @@
 //! Furthest corner: one pass over the corners, then the two beside the first that is furthest.
-use super::corner::Corner;
+use super::corner::{Corner, value};
 use super::direction;
 use super::judge::admitted;
 use crate::reply::Numbers;
 
 /// The first and the last of the furthest corners, counterclockwise, and their value.
 #[inline(never)]
-pub fn furthest(list: &[i32], floor: u16, u: i32, v: i32) -> Numbers {
-    match admitted(list, 1) {
+pub fn furthest(list: &[i32], floor: u32, u: i32, v: i32) -> Numbers {
+    match admitted(list, floor) {
         Ok(shape) => match direction::refused(u, v) {
             Some(number) => Numbers::refused(number),
             None => face(shape.corners, [u, v], floor),
@@ -19,8 +19,8 @@ pub fn furthest(list: &[i32], floor: u16, u: i32, v: i32) -> Numbers {
 /// The corners with the greatest value are one or two neighbours. A segment across the direction is
 /// 0 and 1.
 #[inline(always)]
-fn face(corners: &[Corner], d: Corner, floor: u16) -> Numbers {
-    let value = |c: Corner| d[0] as i64 * c[0] as i64 + d[1] as i64 * c[1] as i64;
+fn face(corners: &[Corner], d: Corner, floor: u32) -> Numbers {
+    let value = |c: Corner| value(d, c);
     let (mut here, mut greatest) = (0, value(corners[0]));
     for (i, &corner) in corners.iter().enumerate().skip(1) {
         let next = value(corner);
@@ -36,12 +36,5 @@ fn face(corners: &[Corner], d: Corner, floor: u16) -> Numbers {
     } else {
         (here, here)
     };
-    Numbers::all([
-        first as u64,
-        last as u64,
-        greatest as u64,
-        floor as u64,
-        0,
-        0,
-    ])
+    Numbers::all([first as u64, last as u64, greatest as u64, floor as u64])
 }

@@ -6,7 +6,7 @@ use crate::reply::Numbers;
 
 /// 1 if the first shape is inside the second, else 0.
 #[inline(never)]
-pub fn inside(a: &[i32], f: u16, b: &[i32], g: u16) -> Numbers {
+pub fn inside(a: &[i32], f: u32, b: &[i32], g: u32) -> Numbers {
     match admitted_pair(a, f, b, g) {
         Ok((a, b)) => Numbers::one(is_inside(a.corners, b.corners) as u64, f),
         Err(refusal) => refusal,
@@ -29,21 +29,21 @@ fn on_segment(p: Corner, from: Corner, to: Corner) -> bool {
     cross(edge(from, to), edge(from, p)) == 0 && between(0) && between(1)
 }
 
-/// Walks the edges of both in one order: the edges of the first that come before an edge of the
-/// second lead to the corner that is least to its left.
+/// Walks the edges of both in one order: the edges of the first that come before an edge of the second lead to the
+/// corner that is least to its left.
 #[inline(always)]
 fn around(a: &[Corner], b: &[Corner]) -> bool {
-    let mut inner = Edges::of(a, 0);
-    let mut from = b[0];
-    for &to in b[1..].iter().chain(&b[..1]) {
-        let rim = edge(from, to);
-        while inner.more() && cross(inner.edge, rim) > 0 {
-            inner.step();
+    let (mut inner, mut rim) = (Edges::of(a, 0), Edges::of(b, 0));
+    let mut more = a.len() > 1;
+    loop {
+        while more && cross(inner.edge, rim.edge) > 0 {
+            more = inner.step();
         }
-        if cross(rim, edge(from, inner.corner)) < 0 {
+        if cross(rim.edge, edge(rim.corner(), inner.corner())) < 0 {
             return false;
         }
-        from = to;
+        if !rim.step() {
+            return true;
+        }
     }
-    true
 }

@@ -1,35 +1,35 @@
 //! Length: the furthest pair is one that two parallel lines can hold between them.
 use super::calipers::calipers;
-use super::corner::{Corner, edge, squared};
-use super::judge::admitted;
+use super::corner::squared;
+use super::judge::{Shape, admitted};
 use crate::reply::Numbers;
+use std::ops::ControlFlow::Continue;
 
 /// The greatest squared distance of two corners, and their positions.
 #[inline(never)]
-pub fn length(list: &[i32], floor: u16) -> Numbers {
-    match admitted(list, 1) {
-        Ok(shape) => longest(shape.corners, floor),
+pub fn length(list: &[i32], floor: u32) -> Numbers {
+    match admitted(list, floor) {
+        Ok(shape) => {
+            let Pair { squared, from, to } = longest(shape);
+            Numbers::all([squared, from as u64, to as u64, floor.into()])
+        }
         Err(refusal) => refusal,
     }
 }
 
-/// Every pair that two parallel lines can hold is the corner that some edge leaves and the first
-/// corner that is furthest from this edge.
+/// The best pair of those that the calipers hold. A point is its own.
 #[inline(always)]
-fn longest(corners: &[Corner], floor: u16) -> Numbers {
-    let last = corners.len() - 1;
+fn longest(shape: Shape) -> Pair {
     let mut best = Pair {
-        squared: squared(edge(corners[0], corners[last])),
+        squared: 0,
         from: 0,
-        to: last,
+        to: 0,
     };
-    if last >= 2 {
-        calipers(corners, |met| {
-            best.meet(squared(met.across), met.from, met.far)
-        });
-    }
-    let positions = [best.from, best.to].map(|i| i as u64);
-    Numbers::all([best.squared, positions[0], positions[1], floor as u64, 0, 0])
+    let _ = calipers(shape).pass(|walk, _| {
+        best.meet(squared(walk.corner), walk.first.at(), walk.second.at());
+        Continue::<()>(())
+    });
+    best
 }
 
 /// The best pair so far.

@@ -6,7 +6,7 @@ use crate::reply::Numbers;
 
 /// The shape of both corner lists together.
 #[inline(never)]
-pub fn merge(a: &[i32], f: u16, b: &[i32], g: u16, out: &mut [i32]) -> Numbers {
+pub fn merge(a: &[i32], f: u32, b: &[i32], g: u32, out: &mut [i32]) -> Numbers {
     match admitted_pair(a, f, b, g) {
         Ok((a, b)) => {
             let mut hull = Hull::empty();

@@ -1,5 +1,6 @@
 //! Relation: the origin against the edges of the differences.
-use super::differences::{Origin, meet};
+use super::corner::Stored;
+use super::differences::{Origin, meet, origin};
 use super::judge::{Shape, admitted_pair};
 use crate::reply::Numbers;
 
@@ -9,29 +10,21 @@ const OVERLAPPING: u64 = 2;
 
 /// 0 if the shapes are apart, 1 if they touch, 2 if they overlap.
 #[inline(never)]
-pub fn relation(a: &[i32], f: u16, b: &[i32], g: u16) -> Numbers {
+pub fn relation(a: &[i32], f: u32, b: &[i32], g: u32) -> Numbers {
     match admitted_pair(a, f, b, g) {
         Ok((a, b)) => Numbers::one(stand(a, b), f),
         Err(refusal) => refusal,
     }
 }
 
-/// What follows from where the origin is. On the line of all edges the differences are flat.
+/// What follows from where the origin is.
 #[inline(always)]
-pub fn stand(a: Shape, b: Shape) -> u64 {
-    let mut origin = Origin::new();
-    if origin.outside(a, b).is_some() {
-        return APART;
-    }
-    match (origin.on_all, origin.on_some) {
-        (true, _) => {
-            if meet(a.corners, b.corners) {
-                TOUCHING
-            } else {
-                APART
-            }
-        }
-        (_, true) => TOUCHING,
-        (_, false) => OVERLAPPING,
+pub fn stand<C: Stored>(a: Shape<C>, b: Shape<C>) -> u64 {
+    match origin(a, b) {
+        Origin::Outside(_) => APART,
+        Origin::InLine if meet(a.corners, b.corners) => TOUCHING,
+        Origin::InLine => APART,
+        Origin::OnRim => TOUCHING,
+        Origin::Inside => OVERLAPPING,
     }
 }

@@ -1,13 +1,13 @@
 //! Directions in which one shape is below another: one offered, and one found.
-use super::corner::Corner;
-use super::differences::{Origin, meet};
+use super::corner::{Corner, minus, value};
+use super::differences::{Origin, meet, origin};
 use super::direction;
 use super::judge::{Shape, admitted_pair};
 use crate::reply::Numbers;
 
 /// 1 if every corner of the first is strictly below every corner of the second, else 0.
 #[inline(never)]
-pub fn offer(a: &[i32], f: u16, b: &[i32], g: u16, u: i32, v: i32) -> Numbers {
+pub fn offer(a: &[i32], f: u32, b: &[i32], g: u32, u: i32, v: i32) -> Numbers {
     let (a, b) = match admitted_pair(a, f, b, g) {
         Ok(pair) => pair,
         Err(refusal) => return refusal,
@@ -21,13 +21,13 @@ pub fn offer(a: &[i32], f: u16, b: &[i32], g: u16, u: i32, v: i32) -> Numbers {
 /// The greatest value of the one against the least of the other.
 #[inline(always)]
 fn below(a: &[Corner], b: &[Corner], d: Corner) -> bool {
-    let value = |c: &Corner| d[0] as i64 * c[0] as i64 + d[1] as i64 * c[1] as i64;
+    let value = |&c: &Corner| value(d, c);
     a.iter().map(value).max() < b.iter().map(value).min()
 }
 
 /// A direction that is accepted if it is offered, or that there is none.
 #[inline(never)]
-pub fn find(a: &[i32], f: u16, b: &[i32], g: u16) -> Numbers {
+pub fn find(a: &[i32], f: u32, b: &[i32], g: u32) -> Numbers {
     match admitted_pair(a, f, b, g) {
         Ok((a, b)) => Numbers::found(away(a, b).map(shortest), f),
         Err(refusal) => refusal,
@@ -38,13 +38,14 @@ pub fn find(a: &[i32], f: u16, b: &[i32], g: u16) -> Numbers {
 /// from the one shape to the other.
 #[inline(always)]
 fn away(a: Shape, b: Shape) -> Option<Corner> {
-    let mut origin = Origin::new();
-    if let Some([x, y]) = origin.outside(a, b) {
-        return Some([y, -x]);
+    match origin(a, b) {
+        Origin::Outside(facing) => {
+            let [run, rise] = facing.edge.map(|part| part as i32);
+            Some([rise, -run])
+        }
+        Origin::InLine if !meet(a.corners, b.corners) => Some(minus(b.corners[0], a.corners[0])),
+        _ => None,
     }
-    let [p, q] = [a.corners[0], b.corners[0]];
-    let flat = origin.on_all && !meet(a.corners, b.corners);
-    flat.then(|| [q[0] - p[0], q[1] - p[1]])
 }
 
 /// The direction over the divisor of its parts.

@@ -1,0 +1,57 @@
+//! Compares the questions on a log.
+use super::room::room;
+use super::tally::Tally;
+use super::written::corners;
+use super::{Lent, on};
+use crate::logs::NAMES;
+use crate::plain::{self, MOST};
+use crate::random::Random;
+use crate::reply::Numbers;
+use cocklesway::{Book, log_read};
+
+/// Reads names of a log, adds a shape, and reads again.
+pub fn ask(tally: &mut Tally, random: &mut Random, log: &[u8], shape: Lent) -> Result<(), String> {
+    let name = random.below(NAMES) as u16;
+    ask_read(tally, random, log, name)?;
+    let added = ask_add(tally, random, log, name, shape)?;
+    ask_read(tally, random, &added, name)
+}
+
+/// Reads a name into an output of any room.
+fn ask_read(tally: &mut Tally, random: &mut Random, log: &[u8], name: u16) -> Result<(), String> {
+    let needed = 2 * plain::log_read(log, name, &mut [0; 2 * MOST]).values[0] as usize;
+    let mut out = vec![random.bits() as i32; room(random, needed, 2 * MOST)];
+    let mut other = out.clone();
+    let by_hand = plain::log_read(log, name, &mut out);
+    let by_proof = Numbers::of(log_read(log, name, corners(&mut other)));
+    tally.add("log_read", (log, name), by_hand, by_proof)?;
+    if out != other {
+        return Err(format!("log_read of {name} in {log:?}: the outputs differ"));
+    }
+    Ok(())
+}
+
+/// Adds a shape, and returns the log afterwards.
+fn ask_add(
+    tally: &mut Tally,
+    random: &mut Random,
+    log: &[u8],
+    name: u16,
+    shape: Lent,
+) -> Result<Vec<u8>, String> {
+    let allowed = match random.below(4) {
+        0 => random.below(40) as usize,
+        1 => random.below(2 * log.len() as u64 + 1) as usize,
+        2 => 9 + 4 * shape.0.len() - random.below(2) as usize,
+        _ => usize::MAX,
+    };
+    let (mut ours, mut theirs) = (log.to_vec(), log.to_vec());
+    let by_hand = plain::log_add(&mut ours, name, shape.0, shape.1, allowed);
+    let by_proof = Numbers::of(Book::new(&mut theirs).add(name, on(shape), allowed));
+    let asked = (log, name, shape, allowed);
+    tally.add("log_add", asked, by_hand, by_proof)?;
+    if ours != theirs {
+        return Err(format!("log_add of {asked:?}: the logs differ"));
+    }
+    Ok(ours)
+}

@@ -1,0 +1,173 @@
+//! The log of shapes by name: one pass over its records, whose corners are judged as they are stored.
+use super::corner::{Bytes, Stored, corners_in, room_of};
+use super::judge::{admitted, is_shape};
+use crate::reply::Numbers;
+
+/// The last byte of a record.
+const LAST: u8 = 0x5A;
+
+/// The kind of a record that says its floor: the one that is written.
+const FLOORED: u16 = 2;
+
+/// The kind of a record that says none, and is on floor 0.
+const PLAIN: u16 = 1;
+
+/// The bytes of a record besides its corners: length, kind, name, floor and last byte.
+const FIXED: usize = 9;
+
+/// Writes the latest shape of a name, and answers its corners and floor.
+#[inline(never)]
+pub fn log_read(log: &[u8], name: u16, out: &mut [i32]) -> Numbers {
+    let mut latest = None;
+    let surveyed = survey(log, |record| {
+        if record.name == name {
+            latest = Some(record);
+        }
+    });
+    let record = match (surveyed, latest) {
+        (Err(refusal), _) => return refusal,
+        (Ok(_), None) => return Numbers::refused(19),
+        (Ok(_), Some(record)) => record,
+    };
+    let count = record.corners.len();
+    let Some(front) = room_of(out).get_mut(..count) else {
+        return Numbers::refused(8);
+    };
+    for (to, from) in front.iter_mut().zip(record.corners) {
+        *to = from.read();
+    }
+    Numbers::one(count as u64, record.floor)
+}
+
+/// Adds a shape under a name with at most so many stores of single bytes. 1 if it finished, 0 if it was cut.
+#[inline(never)]
+pub fn log_add(log: &mut [u8], name: u16, list: &[i32], floor: u32, allowed: usize) -> Numbers {
+    match admitted(list, floor).and_then(|_| survey(log, |_| ())) {
+        Ok(end) if log.len() - end < FIXED + 4 * list.len() => Numbers::refused(16),
+        Ok(end) => Numbers::all([add(&mut log[end..], name, list, floor, allowed) as u64]),
+        Err(refusal) => refusal,
+    }
+}
+
+/// What a record says.
+struct Record<'a> {
+    name: u16,
+    floor: u16,
+    corners: &'a [Bytes],
+}
+
+/// Shows all whole records, and returns where the last ends; or refuses 15 at the first bad one.
+#[inline(always)]
+fn survey<'a>(log: &'a [u8], mut show: impl FnMut(Record<'a>)) -> Result<usize, Numbers> {
+    let mut place = 0;
+    while let Some(body) = whole(&log[place..]) {
+        match record(body) {
+            Some(record) => show(record),
+            None => return Err(Numbers::damaged(place)),
+        }
+        place += 2 + body.len();
+    }
+    Ok(place)
+}
+
+/// What the length of the first record counts, if the record is whole.
+#[inline(always)]
+fn whole(log: &[u8]) -> Option<&[u8]> {
+    let (length, rest) = log.split_first_chunk()?;
+    let body = rest.get(..u16::from_le_bytes(*length).into())?;
+    (body.last() == Some(&LAST)).then_some(body)
+}
+
+/// The record, unless its kind or length is wrong, or its corners are no shape.
+#[inline(always)]
+fn record(body: &[u8]) -> Option<Record<'_>> {
+    let [k, kind, n, name, rest @ .., _] = body else {
+        return None;
+    };
+    let name = u16::from_le_bytes([*n, *name]);
+    let (floor, corners) = match u16::from_le_bytes([*k, *kind]) {
+        PLAIN => (0, rest),
+        FLOORED => {
+            let (floor, corners) = rest.split_first_chunk()?;
+            (u16::from_le_bytes(*floor), corners)
+        }
+        _ => return None,
+    };
+    let corners = corners_in(corners)?;
+    is_shape(corners).then_some(Record {
+        name,
+        floor,
+        corners,
+    })
+}
+
+/// Clears what is after the last whole record, then stores the record there. Whether all stores were made.
+#[inline(always)]
+fn add(rest: &mut [u8], name: u16, list: &[i32], floor: u32, allowed: usize) -> bool {
+    let mut store = Store {
+        left: clear(rest, allowed),
+        at: 0,
+        rest,
+    };
+    store.bytes(((FIXED - 2 + 4 * list.len()) as u16).to_le_bytes());
+    store.bytes(FLOORED.to_le_bytes());
+    store.bytes(name.to_le_bytes());
+    store.bytes((floor as u16).to_le_bytes());
+    store.numbers(list);
+    store.bytes([LAST])
+}
+
+/// Clears all bytes that are not 0, from the far end down, and returns how many stores are left. Most often there are
+/// none, which a fold without an exit tells soonest.
+#[inline(always)]
+fn clear(rest: &mut [u8], mut allowed: usize) -> usize {
+    if rest.iter().fold(0, |all, byte| all | byte) != 0 {
+        for byte in rest.iter_mut().rev().filter(|byte| **byte != 0) {
+            if allowed == 0 {
+                break;
+            }
+            *byte = 0;
+            allowed -= 1;
+        }
+    }
+    allowed
+}
+
+/// Bytes that are stored one after the other, as many as are allowed.
+struct Store<'a> {
+    rest: &'a mut [u8],
+    at: usize,
+    left: usize,
+}
+
+impl Store<'_> {
+    /// Stores bytes, or as many of them as are left. Whether all were.
+    #[inline(always)]
+    fn bytes<const K: usize>(&mut self, bytes: [u8; K]) -> bool {
+        let count = self.left.min(K);
+        self.rest[self.at..][..count].copy_from_slice(&bytes[..count]);
+        self.pass(count);
+        count == K
+    }
+
+    /// Stores numbers, or as many of their bytes as are left.
+    #[inline(always)]
+    fn numbers(&mut self, list: &[i32]) {
+        let (whole, cut) = list.split_at(list.len().min(self.left / 4));
+        let words = self.rest[self.at..].as_chunks_mut::<4>().0;
+        for (word, number) in words.iter_mut().zip(whole) {
+            *word = number.to_le_bytes();
+        }
+        self.pass(4 * whole.len());
+        if let [number, ..] = cut {
+            self.bytes(number.to_le_bytes());
+        }
+    }
+
+    /// So many stores were made.
+    #[inline(always)]
+    fn pass(&mut self, count: usize) {
+        self.at += count;
+        self.left -= count;
+    }
+}

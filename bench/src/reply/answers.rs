@@ -1,0 +1,137 @@
+//! What the package answers, as numbers.
+use super::{MOST_VALUES, Numbers};
+use cocklesway::{
+    Across, Addition, Clearance, Corners, Furthest, Inside, Length, Nearest, Offer, Part, Refusal,
+    Separator, Shape, Standing, Tangents, Walk, Width,
+};
+
+impl From<Refusal> for Numbers {
+    fn from(refusal: Refusal) -> Numbers {
+        let shape = refusal.shape().map_or(0, |shape| 1 + shape as u64);
+        match refusal {
+            Refusal::NotFinite { axis }
+            | Refusal::NotWhole { axis }
+            | Refusal::FarReading { axis } => Numbers::blamed(refusal.number(), 1 + axis as u64),
+            Refusal::Side { edge, corner, .. } => Numbers::broken(shape, edge, corner),
+            Refusal::Damaged { place } => Numbers::damaged(place),
+            _ => Numbers::blamed(refusal.number(), shape),
+        }
+    }
+}
+
+impl From<[i32; 2]> for Numbers {
+    fn from(corner: [i32; 2]) -> Numbers {
+        Numbers::all(corner.map(|z| z as u64))
+    }
+}
+
+impl From<Corners> for Numbers {
+    fn from(r: Corners) -> Numbers {
+        Numbers::one(r.count as u64, r.floor)
+    }
+}
+
+impl From<Shape<'_>> for Numbers {
+    fn from(r: Shape<'_>) -> Numbers {
+        Numbers::one(r.corners.len() as u64, r.floor)
+    }
+}
+
+impl From<Furthest> for Numbers {
+    fn from(r: Furthest) -> Numbers {
+        let (first, last) = (r.first as u64, r.last as u64);
+        Numbers::all([first, last, r.value as u64, r.floor.into()])
+    }
+}
+
+impl From<Length> for Numbers {
+    fn from(r: Length) -> Numbers {
+        Numbers::all([r.squared, r.from as u64, r.to as u64, r.floor.into()])
+    }
+}
+
+impl From<Width> for Numbers {
+    fn from(r: Width) -> Numbers {
+        let (edge, corner) = (r.edge as u64, r.corner as u64);
+        Numbers::all([edge, corner, r.turn, r.squared, r.rounded, r.floor.into()])
+    }
+}
+
+impl From<Standing> for Numbers {
+    fn from(r: Standing) -> Numbers {
+        Numbers::one(r.relation as u64, r.floor)
+    }
+}
+
+impl From<Inside> for Numbers {
+    fn from(r: Inside) -> Numbers {
+        Numbers::one(r.within as u64, r.floor)
+    }
+}
+
+impl From<Offer> for Numbers {
+    fn from(r: Offer) -> Numbers {
+        Numbers::one(r.accepted as u64, r.floor)
+    }
+}
+
+impl From<Separator> for Numbers {
+    fn from(r: Separator) -> Numbers {
+        Numbers::found(r.direction, r.floor)
+    }
+}
+
+impl From<Clearance> for Numbers {
+    fn from(r: Clearance) -> Numbers {
+        let floor = r.floor.into();
+        match r.nearest {
+            None => Numbers::one(0, r.floor),
+            Some(Nearest::Corners {
+                first,
+                second,
+                squared,
+                rounded,
+            }) => Numbers::all([1, first as u64, second as u64, squared, rounded, floor]),
+            Some(Nearest::CornerEdge(across)) => Numbers::across(2, across, floor),
+            Some(Nearest::EdgeCorner(across)) => Numbers::across(3, across, floor),
+        }
+    }
+}
+
+impl Numbers {
+    /// A corner of one shape and an edge of the other.
+    fn across(kind: u64, r: Across, floor: u64) -> Numbers {
+        let (corner, edge) = (r.corner as u64, r.edge as u64);
+        Numbers::all([kind, corner, edge, r.turn, r.squared, r.rounded, floor])
+    }
+}
+
+impl From<Tangents> for Numbers {
+    fn from(r: Tangents) -> Numbers {
+        let ends = [r.left, r.right, r.crossing, r.reverse].map(|line| [line.from, line.to]);
+        let mut values = [r.floor.into(); MOST_VALUES];
+        for (value, end) in values.iter_mut().zip(ends.as_flattened()) {
+            *value = *end as u64;
+        }
+        Numbers::all(values)
+    }
+}
+
+impl From<Walk> for Numbers {
+    fn from(r: Walk) -> Numbers {
+        Numbers::all([r.first() as u64, r.second() as u64, r.is_over().into()])
+    }
+}
+
+impl From<Part<'_>> for Numbers {
+    fn from(r: Part<'_>) -> Numbers {
+        let [first, second, over, ..] = Numbers::from(r.walk).values;
+        Numbers::all([r.corners.len() as u64, first, second, over, r.floor.into()])
+    }
+}
+
+impl From<Addition> for Numbers {
+    fn from(r: Addition) -> Numbers {
+        Numbers::all([(r == Addition::Finished).into()])
+    }
+}
