@@ -19,8 +19,8 @@ use polygon::direction;
 use polygon::rules;
 use polygon::rules::Broken;
 
-// A list that is a shape, two or three shapes on one floor, the points of a sweep, a direction that passes, or the first
-// refusal.
+// A list that is a shape, two or three shapes on one floor, the points of a sweep, a direction that passes, or the
+// first refusal.
 pub enum Admission {
     Valid,
     No(Refusal),

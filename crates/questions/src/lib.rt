@@ -372,8 +372,8 @@ fn measured(found: Distance, floor: u16) -> Clearance
     }
 }
 
-// Whether a cart may pass straight between two obstacles, without turning, and how: the direction (u, v) across the way,
-// its parts with no common divisor above 1, in which the right obstacle is below and the left one above; where the
+// Whether a cart may pass straight between two obstacles, without turning, and how: the direction (u, v) across the
+// way, its parts with no common divisor above 1, in which the right obstacle is below and the left one above; where the
 // cart's origin stays, at values strictly between low and high in that direction; and the width of that in millimetres,
 // rounded down. No other direction has as much room. Blocked, if in every direction the gap is at most the cart's
 // spread: a cart that would touch both obstacles is. The outline's corners are relative to the cart's own origin. Any

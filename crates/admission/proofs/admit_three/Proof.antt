@@ -101,7 +101,8 @@ returns-4 c =
     let at-first = at-second .before .before .before in
     let start = at-first .before .before .before in
     turns-away (floors-refused (one start) (two start) (three start) (first at-first) (second at-second) (third at-third)
-    (refuses-append (floorRow (start .args .f) (start .args .h) ∷ []) (at-floors .admit-floors .ensures .no _ (c .before .floors .given .1))))
+    (refuses-append (floorRow (start .args .f) (start .args .h) ∷ [])
+    (at-floors .admit-floors .ensures .no _ (c .before .floors .given .1))))
 
 enum-told-4 : tie.Need-enum-told-4
 enum-told-4 c = search needs
@@ -122,5 +123,6 @@ returns-5 c =
 pub admit-three-spec : {M : Type 1} → statement M
 admit-three-spec =
     tie.close
-    (tie.spec admit-requires enum-known-of-first returns enum-told admit-requires-2 enum-known-of-second returns-2 enum-told-2 admit-requires-3
-    enum-known-of-third returns-3 enum-told-3 admit-floors-requires enum-known-floors returns-4 enum-told-4 admit-floors-requires-2 returns-5)
+    (tie.spec admit-requires enum-known-of-first returns enum-told admit-requires-2 enum-known-of-second returns-2 enum-told-2
+    admit-requires-3 enum-known-of-third returns-3 enum-told-3 admit-floors-requires enum-known-floors returns-4 enum-told-4
+    admit-floors-requires-2 returns-5)
