@@ -82,7 +82,7 @@ fn sort_of(line: &[u8], answer: &str) -> String {
 
 #[test]
 fn every_sort_of_answer_comes_up_often() {
-    let input = made(12, 13_000);
+    let input = made(14, 12_000);
     let mut seen: HashMap<String, usize> = HashMap::new();
     for (_, line) in lines::questions(&input) {
         *seen.entry(sort_of(line, &answer(line))).or_default() += 1;
