@@ -1,6 +1,7 @@
 -- The gap between two shapes that are apart is widest across the step between their nearest points. The direction is taken in lowest terms.
 --     same-gap, same-length      the gap and the squared length of two directions that point the same way
 --     widestOf A B               the direction
+--     gap-clearance              the gap in a direction, squared, over its squared length, is at most the squared clearance
 --     widest-some                it is not (0,0)
 --     widest-clearance           the gap in it, squared, over its squared length, is the squared clearance
 --     none-wider                 no direction has a wider gap
@@ -109,7 +110,7 @@ module _ (A B : List Point) (s : IsShape A) (t : IsShape B) (h : apart A B ≡ t
   m = towards A B (nearest A B)
 
   -- it is at most the clearance
-  gap-clearance : (d : Point) → NonZero d → pos 0 ≤ℤ gapIn d A B
+  pub gap-clearance : (d : Point) → NonZero d → pos 0 ≤ℤ gapIn d A B
       → (gapIn d A B *ℤ gapIn d A B *ℤ bottom A B (nearest A B)) ≤ℤ (top A B (nearest A B) *ℤ value d d)
   unfolding gapIn
   gap-clearance d some wide = corridor-no-wider A B s t h d (support d B) (least d A) (gap-corridor A B d some wide)
