@@ -9,10 +9,8 @@
 --     up N O                 the excess in millimetres, rounded up: rounded down it would promise nothing
 --     excessNumbers N O      what is answered: 0 inside; or where the outermost corner and the old shape are nearest, and `up`
 --     askExcess new old      the question: the new shape and the old one, each with its floor
---     Told new old c g u f   what the numbers of an answer that does not begin with 0 are
--- What it means: `Meaning.antt`.
-use mathlib.Core.Path.{_≡_}
-use mathlib.Core.Bool.{Bool, false, cond}
+-- What it means: `Meaning.antt`, in the words of `Settled.antt`.
+use mathlib.Core.Bool.{Bool, cond}
 use mathlib.Core.List.{List, [], _∷_}
 use Prim.Native.Nat.{ℕ, _*_}
 use lib.Dec.{leb}
@@ -23,7 +21,8 @@ use Rattle.plane.specs.Point.{Point, corner}
 use Rattle.plane.specs.Search.{every, first}
 use Rattle.plane.specs.Measure.{squared, edgeSquared}
 use Rattle.plane.specs.Separation.{inside, apart}
-use Rattle.plane.specs.Clearance.{Candidate, corners, onSecond, onFirst, turnOn, top, bottom, nearest}
+use Rattle.plane.specs.Clearance.{Candidate, corners, onSecond, onFirst, turnOn}
+use Rattle.plane.specs.Clearance.{top, bottom, nearest}
 use Rattle.plane.specs.Floor.{Floored, corners as cornersOf, twoShapes}
 use Rattle.plane.specs.Question.{Question, asks}
 
@@ -37,7 +36,8 @@ over n d = record { numerator = n; denominator = d }
 unfoldable pub beyond : Point → List Point → Fraction
 beyond c O =
     let C = c ∷ [] in
-    cond (apart C O) (over (top C O (nearest C O)) (bottom C O (nearest C O))) (over (pos 0) (pos 1))
+    let s = nearest C O in
+    cond (apart C O) (over (top C O s) (bottom C O s)) (over (pos 0) (pos 1))
 
 -- "distances compare as exact fractions"
 unfoldable pub noNearer : List Point → List Point → ℕ → ℕ → Bool
@@ -78,11 +78,3 @@ excessNumbers N O =
 -- 1 to 5 of the new shape, then of the old one, then 13
 abbrev pub askExcess : Floored → Floored → Question
 askExcess new old = asks (twoShapes new old) [] (excessNumbers (cornersOf new) (cornersOf old))
-
--- corner c, the squared distance g, the distance u rounded up, the floor f
-pub record Told (new old : Floored) (c : ℕ) (g : Fraction) (u f : ℕ) : Type 0 where
-  pub not-inside : inside (cornersOf new) (cornersOf old) ≡ false
-  pub corner-is : c ≡ outermost (cornersOf new) (cornersOf old)
-  pub distance-is : g ≡ excess (cornersOf new) (cornersOf old)
-  pub up-is : u ≡ up (cornersOf new) (cornersOf old)
-  pub floor-is : f ≡ new .floor

@@ -7,7 +7,7 @@ pub mod Outermost
 pub mod Reach
 pub mod Rounded
 pub mod Moved
-pub mod Settled
+pub mod Clear
 pub mod Promises
 pub mod Passages
 pub mod Kinds

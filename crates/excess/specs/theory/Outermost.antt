@@ -2,6 +2,7 @@
 --     Furthest N O k i                     of the first k corners of N, corner i is the first that is no nearer to O than any
 --     furthest-start, -keep, -replace      the moves of the search; `furthest-done`: of all corners it is the outermost
 --     outermost-furthest                   there is one, so the outermost corner is it
+--     outermost-only                       what meets the rule, in fractions, is the outermost corner
 --     excess-greatest                      no corner is further than the excess; `earlier-nearer`: those before the outermost are nearer
 --     excess-whole, excess-nonneg          what it is divided by is above 0, and it is not below 0
 use mathlib.Core.Path.{_≡_, refl, sym, subst}
@@ -14,7 +15,7 @@ use lib.IntN.{ℤ, pos, _*ℤ_}
 use lib.ListN.{length}
 use lib.Signed.{_≤ℤ_, _<ℤ_, ≤ℤ-refl}
 use Rattle.integer.specs.Linear.{linear, lia, _&_}
-use Rattle.integer.specs.Order.{_<×<_, _≤×<_, contra≤, weaken, leZ-true, leZ-false, le-leZ}
+use Rattle.integer.specs.Order.{_<×<_, _≤×<_, contra≤, weaken, leZ-true, leZ-false, le-leZ, lt-leZ}
 use Rattle.plane.specs.Point.{Point, corner}
 use Rattle.plane.specs.Search.{every}
 use Rattle.plane.specs.Shape.{IsShape}
@@ -52,6 +53,11 @@ module _ (N O : List Point) where
       → noNearer N O i j ≡ true
   unfolding noNearer
   le-noNearer i j h = le-leZ h
+
+  lt-nearer : (i j : ℕ) → (far i .numerator *ℤ far j .denominator) <ℤ (far j .numerator *ℤ far i .denominator)
+      → noNearer N O i j ≡ false
+  unfolding noNearer
+  lt-nearer i j h = lt-leZ h
 
   noNearer-refl : (i : ℕ) → noNearer N O i i ≡ true
   noNearer-refl i = le-noNearer i i (≤ℤ-refl (far i .numerator *ℤ far i .denominator))
@@ -98,6 +104,16 @@ module _ (N O : List Point) where
   furthest-done {i} f = first-unique (λ k. every (noNearer N O k) (length N)) (length N) i
       (omega (arith, f .among)) (λ h. all-every (noNearer N O i) (length N) (f .none-further))
       (λ k l. not-every (noNearer N O k) (length N) i (f .among) (f .earlier-nearer k l))
+
+  -- the rule in fractions: no corner is further than i, and each before it is nearer
+  pub outermost-only : (i : ℕ) → i < length N
+      → ((j : ℕ) → j < length N → (far j .numerator *ℤ far i .denominator) ≤ℤ (far i .numerator *ℤ far j .denominator))
+      → ((j : ℕ) → j < i → (far j .numerator *ℤ far i .denominator) <ℤ (far i .numerator *ℤ far j .denominator)) → i ≡ outermost N O
+  outermost-only i l most less = sym (furthest-done (record {
+    among = l;
+    none-further = λ j k. le-noNearer i j (most j k);
+    earlier-nearer = λ j k. lt-nearer j i (less j k);
+  }))
 
 -- ---- there is one
 

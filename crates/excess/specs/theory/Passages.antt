@@ -28,7 +28,7 @@ use Rattle.excess.specs.Excess.{up}
 use Rattle.excess.specs.theory.Lengths.{nonneg, le-of-pos, put-back}
 use Rattle.excess.specs.theory.Rounded.{bounded-above}
 use Rattle.excess.specs.theory.Moved.{Moved, up→moved, moved-grown}
-use Rattle.excess.specs.theory.Settled.{Clear, clear-both, both-apart}
+use Rattle.excess.specs.theory.Clear.{Clear, clear-both, both-apart}
 use Rattle.excess.specs.theory.Promises.{unmoved}
 
 -- k·k·D is at most g·g, and g·g/D at most r·r/N

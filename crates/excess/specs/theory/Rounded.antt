@@ -10,7 +10,7 @@ use Prim.Native.Nat.{ℕ, zero, suc, _*_, _≤_, _<_, zero-le}
 use native.Mathlib.Nat.{le-mul-of-pos-right, zero-lt-suc}
 use native.Mathlib.Omega.{arith}
 use borrow.Author.Tests.{ltb-true, ltb-false, leb-true, le-leb}
-use lib.Dec.{leb, ltb, le→leb, leb→le}
+use lib.Dec.{ltb, le→leb, leb→le}
 use lib.IntN.{ℤ, pos, natAbs, _+ℤ_, _*ℤ_}
 use lib.ListN.{length}
 use lib.Signed.{_≤ℤ_, _<ℤ_}
@@ -18,7 +18,6 @@ use Rattle.integer.specs.Linear.{linear, lia, _&_}
 use Rattle.integer.specs.Order.{_≤×≤_, contra≤, weaken}
 use Rattle.integer.specs.Bound.{positive-size, size-is}
 use Rattle.plane.specs.Point.{Point}
-use Rattle.plane.specs.Search.{first}
 use Rattle.plane.specs.Shape.{IsShape}
 use Rattle.plane.specs.theory.lists.Sought.{first-true, first-at-most}
 use Rattle.clearance.specs.theory.Rounding.{Bounded}
@@ -34,18 +33,15 @@ module _ (n q : ℕ) (some : 0 < q) where
 
   pub rootAbove-enough : n ≤ rootAbove n q * rootAbove n q * q
   unfolding rootAbove
-  rootAbove-enough = go (ltb e n) refl
+  rootAbove-enough = go (ltb (rootAbove n q) n) refl
     where
-      e : ℕ
-      e = first (λ v. leb n (v * v * q)) n
-
-      go : (t : Bool) → ltb e n ≡ t → n ≤ e * e * q
-      go true h = leb-true n (e * e * q) (first-true (λ v. leb n (v * v * q)) n (ltb-true e n h))
-      go false h = omega (arith, ltb-false e n h, own-square e)
+      go : (t : Bool) → ltb (rootAbove n q) n ≡ t → n ≤ rootAbove n q * rootAbove n q * q
+      go true h = leb-true n _ (first-true _ n (ltb-true (rootAbove n q) n h))
+      go false h = omega (arith, ltb-false (rootAbove n q) n h, own-square (rootAbove n q))
 
   pub rootAbove-least : (e : ℕ) → n ≤ e * e * q → rootAbove n q ≤ e
   unfolding rootAbove
-  rootAbove-least e h = first-at-most (λ v. leb n (v * v * q)) n e (le-leb n (e * e * q) h)
+  rootAbove-least e h = first-at-most _ n e (le-leb n (e * e * q) h)
 
 -- ---- rounded down
 

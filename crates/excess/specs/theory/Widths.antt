@@ -1,4 +1,5 @@
 -- The free width that passage answers, and obstacles that changed.
+--     passage-has           passage answers a number of millimetres, which is the free width
 --     passage-answered      of obstacles that both changed, it is less by no more than the answered excesses
 use mathlib.Core.Path.{_≡_, refl, sym, _∙_, ap}
 use mathlib.Core.Bool.{Bool, true, false, cond, true≢false}
@@ -19,11 +20,11 @@ use Rattle.growth.specs.Grown.{EndsIn}
 use Rattle.passage.specs.Passage.{passable, across, lowLine, highLine, freeWidth, askPassage, SameThree}
 use Rattle.passage.specs.theory.Replies.{passage-three}
 use Rattle.excess.specs.Excess.{askExcess}
-use Rattle.excess.specs.theory.Moved.{Moved, up-moved}
+use Rattle.excess.specs.Settled.{Millimetres}
+use Rattle.excess.specs.theory.Moved.{Moved}
 use Rattle.excess.specs.theory.Passages.{moved-passage}
 use Rattle.excess.specs.theory.Promises.{unmoved}
-use Rattle.excess.specs.theory.Replies.{excess-same, excess-ends}
-use Rattle.excess.specs.theory.Answers.{ends-same, number-le}
+use Rattle.excess.specs.theory.Answers.{ends-same, number-le, changed, change-is}
 
 -- the number that is answered: the free width, or 0 if the cart may not pass
 record Width (l r c : Floored) (v : List ℤ) : Type 0 where
@@ -63,6 +64,13 @@ width-answered l r c v h = go (passable L R A) refl (asked-values (askPassage l 
       none = λ x. refl;
     }
 
+pub passage-has : (l r c : Floored) (v : List ℤ) → reply (askPassage l r c) ≡ answered v
+    → (w : ℕ) × Millimetres (askPassage l r c) (pos w) × (passable (corners l) (corners r) (corners c) ≡ true
+    → w ≡ freeWidth (corners l) (corners r) (corners c))
+passage-has l r c v h =
+    let r = width-answered l r c v h in
+    (r .number, record { numbers = v; floor = pos (l .floor); is-answered = h; ends = r .ends }, r .free)
+
 -- l and r are the old obstacles, m and s the new ones, c is the cart
 module _ (l r c m s : Floored) {e f : ℕ} (left : Moved (pos e) (corners m) (corners l)) (right : Moved (pos f) (corners s) (corners r))
     (v y : List ℤ) (h : reply (askPassage l r c) ≡ answered v) (k : reply (askPassage m s c) ≡ answered y) where
@@ -95,14 +103,9 @@ module _ (l r c m s : Floored) {e f : ℕ} (left : Moved (pos e) (corners m) (co
           (omega (arith, ltb-true (e + f) (earlier .number) q, earlier .free x)) in
           omega (arith, earlier .free x, later .free (still .0), still .1)
 
-pub passage-answered : (l r c m s : Floored) (v y i j : List ℤ) → reply (askPassage l r c) ≡ answered v
-    → reply (askPassage m s c) ≡ answered y → reply (askExcess m l) ≡ answered i → reply (askExcess s r) ≡ answered j
-    → {w x e f g : ℤ} → EndsIn (w ∷ g ∷ []) v → EndsIn (x ∷ g ∷ []) y → EndsIn (e ∷ g ∷ []) i → EndsIn (f ∷ g ∷ []) j
-    → (w -ℤ e -ℤ f) ≤ℤ x
-passage-answered l r c m s v y i j h k p q iv iy ie ig =
-    let a = excess-same m l i p in
-    let b = excess-same s r j q in
-    number-le (ends-same iv (width-answered l r c v h .ends)) (ends-same iy (width-answered m s c y k .ends))
-    (ends-same ie (excess-ends m l i p)) (ends-same ig (excess-ends s r j q))
-    (settled-widths l r c m s (up-moved (corners m) (corners l) (a .first-valid .shape .some) (a .second-valid .shape))
-    (up-moved (corners s) (corners r) (b .first-valid .shape .some) (b .second-valid .shape)) v y h k)
+pub passage-answered : (l r c m s : Floored) {w x e f : ℤ} → Millimetres (askPassage l r c) w → Millimetres (askPassage m s c) x
+    → Millimetres (askExcess m l) e → Millimetres (askExcess s r) f → (w -ℤ e -ℤ f) ≤ℤ x
+passage-answered l r c m s i j p q =
+    number-le (ends-same (i .ends) (width-answered l r c (i .numbers) (i .is-answered) .ends))
+    (ends-same (j .ends) (width-answered m s c (j .numbers) (j .is-answered) .ends)) (change-is p) (change-is q)
+    (settled-widths l r c m s (changed p) (changed q) (i .numbers) (j .numbers) (i .is-answered) (j .is-answered))
