@@ -29,9 +29,10 @@ use Rattle.clearance.specs.theory.Nearest.{nearest-is-whole}
 use Rattle.clearance.specs.theory.Rounding.{Bounded, nearest-rounded}
 use Rattle.clearance.specs.theory.Replies.{clearance-values}
 use Rattle.growth.specs.Grown.{EndsIn}
+use Rattle.passage.specs.theory.Smaller.{sizes-le}
 use Rattle.excess.specs.Excess.{up, askExcess}
 use Rattle.excess.specs.Settled.{ApartBy, Millimetres}
-use Rattle.excess.specs.theory.Lengths.{pos-le, le-of-pos, put-back}
+use Rattle.excess.specs.theory.Lengths.{pos-le, put-back}
 use Rattle.excess.specs.theory.Rounded.{bounded-above}
 use Rattle.excess.specs.theory.Moved.{Moved, up-moved}
 use Rattle.excess.specs.theory.Promises.{one-moved, both-moved, unmoved}
@@ -130,7 +131,7 @@ module _ (a b c d : Floored) {e f : ℕ} (m : Moved (pos e) (corners c) (corners
           (other .first-valid .shape) (other .second-valid .shape) m k (ltb-true (e + f) (earlier .number) q) was in
           let whole = nearest-is-whole (corners c) (corners d) (other .first-valid .shape) (other .second-valid .shape)
           (still .are-apart) in
-          le-of-pos (put-back (pos (earlier .number)) (pos e) (pos f) (pos (later .number))
+          sizes-le (put-back (pos (earlier .number)) (pos e) (pos f) (pos (later .number))
           (bounded-above whole (still .so-clear) (later .rounded (still .are-apart))))
 
 -- ---- in the answers' own numbers

@@ -1,7 +1,6 @@
 -- The distance of a point from a shape.
---     point-shape          a point is a shape
 --     beyond-whole         what its fraction is divided by is above 0; `beyond-nonneg`: it is not below 0
---     beyond-none          it is 0 if the point is not apart from the shape
+--     beyond-none          it is 0 if the point is not apart from the shape; `beyond-apart`: else the nearest candidate's
 --     beyond-least         in no direction is the point further ahead of the shape
 --     Ahead c O            and in some direction it is as far ahead, and ahead at all (`beyond-ahead`)
 use mathlib.Core.Path.{_≡_, refl, ap}
@@ -18,20 +17,17 @@ use Rattle.plane.specs.Direction.{value, support}
 use Rattle.plane.specs.Separation.{apart}
 use Rattle.plane.specs.Clearance.{top, bottom, nearest}
 use Rattle.plane.specs.Forms.{NonZero}
-use Rattle.plane.specs.theory.forms.Standard.{ordered→shape}
 use Rattle.plane.specs.theory.forms.Vector.{value-turned, square-positive, below-non-zero}
 use Rattle.plane.specs.theory.support.Support.{support-one, support-attained}
 use Rattle.clearance.specs.theory.Nearest.{nearest-is-whole}
 use Rattle.strips.specs.Strip.{least, gapIn}
+use Rattle.growth.specs.theory.Places.{point-shape}
 use Rattle.passage.specs.theory.Gaps.{gap→apart}
 use Rattle.passage.specs.theory.Widest.{widestOf, widest-some, widest-clearance, widest-positive, gap-clearance}
 use Rattle.excess.specs.Excess.{Fraction, over, beyond}
 
-pub point-shape : (c : Point) → IsShape (c ∷ [])
-point-shape c = ordered→shape (c ∷ []) (tt, (tt, tt))
-
 -- how far a point is ahead of a list
-pub point-gap : (d c : Point) (O : List Point) → gapIn d (c ∷ []) O ≡ value d c -ℤ support d O
+point-gap : (d c : Point) (O : List Point) → gapIn d (c ∷ []) O ≡ value d c -ℤ support d O
 unfolding gapIn least
 point-gap d c O = lia (support (opposite d) (c ∷ []) ∷ value (opposite d) c ∷ value d c ∷ support d O ∷ [])
     (support-one (opposite d) c & value-turned d c) (search linear depth 40) (omega arith)
@@ -86,7 +82,7 @@ module _ (c : Point) (O : List Point) (s : IsShape O) where
       exact = rw (beyond-apart h, ← point-gap n c O) (widest-clearance C O (point-shape c) s h);
     }
 
-    pub beyond-positive : pos 0 <ℤ beyond c O .numerator
+    beyond-positive : pos 0 <ℤ beyond c O .numerator
     beyond-positive =
         let a = beyond-ahead in
         let d = a .direction in

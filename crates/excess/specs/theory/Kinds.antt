@@ -18,7 +18,7 @@ use Rattle.plane.specs.Clearance.{Candidate, corners, onSecond, onFirst, fallsO
 use Rattle.clearance.specs.Order.{Listed}
 use Rattle.clearance.specs.theory.Bound.{foot-positive}
 use Rattle.clearance.specs.theory.Nearest.{nearest-is-listed}
-use Rattle.excess.specs.theory.Beyond.{point-shape}
+use Rattle.growth.specs.theory.Places.{point-shape}
 
 pub data Kind (c : Point) (O : List Point) : Candidate → Type 0 where
   at-corner : (j : ℕ) → j < length O → Kind c O (corners 0 j)

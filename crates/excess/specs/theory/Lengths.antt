@@ -3,13 +3,14 @@
 --     shorter-less       so is what is less; `shorter-more`: so it is with a greater e
 --     shorter-add        two such numbers together
 --     Longer g w D       g is at least w times the length
---     longer-minus       what is left of it when a shorter one is taken away
--- Also `nonneg`, `pos-le`, `le-of-pos`: numbers of ℕ among those of ℤ.
+--     longer-more        so is what is more; `longer-minus`: what is left when a shorter one is taken away
+--     root-le            numbers compare as their squares
+-- Also `pos-le`: numbers of ℕ among those of ℤ; `put-back`: w - e - f ≤ x in its other form.
 use mathlib.Core.List.{[], _∷_}
 use mathlib.Core.Logic.{_⊎_, inl, inr}
 use Prim.Native.Nat.{ℕ, _≤_}
 use native.Mathlib.Omega.{arith}
-use lib.Dec.{le→leb, leb→le}
+use lib.Dec.{le→leb}
 use lib.IntN.{ℤ, pos, _+ℤ_, _-ℤ_, _*ℤ_}
 use lib.Signed.{_≤ℤ_, _<ℤ_}
 use Rattle.integer.specs.Linear.{linear, lia, _&_}
@@ -22,16 +23,10 @@ pub record Longer (g w D : ℤ) : Type 0 where
   pub ahead : pos 0 ≤ℤ g
   pub squares : (w *ℤ w *ℤ D) ≤ℤ (g *ℤ g)
 
--- ---- numbers of ℕ
-
-pub nonneg : (n : ℕ) → pos 0 ≤ℤ pos n
-nonneg n = record { le = le→leb 0 n (omega arith) }
+-- ---- numbers
 
 pub pos-le : {m n : ℕ} → m ≤ n → pos m ≤ℤ pos n
 pos-le h = record { le = le→leb _ _ h }
-
-pub le-of-pos : {m n : ℕ} → pos m ≤ℤ pos n → m ≤ n
-le-of-pos h = leb→le _ _ (h .le)
 
 -- what was taken away is put back
 pub put-back : (w e f x : ℤ) → (w -ℤ e -ℤ f) ≤ℤ x → w ≤ℤ (x +ℤ (e +ℤ f))
@@ -102,7 +97,7 @@ longer-more {g} {h} {w} {D} more l = record {
   squares = le-trans (l .squares) (square-le g h (l .ahead) more);
 }
 
-pub longer-less : {g v w D : ℤ} → pos 0 ≤ℤ v → v ≤ℤ w → pos 0 ≤ℤ D → Longer g w D → Longer g v D
+longer-less : {g v w D : ℤ} → pos 0 ≤ℤ v → v ≤ℤ w → pos 0 ≤ℤ D → Longer g w D → Longer g v D
 longer-less {g} {v} {w} {D} low more long l = record {
   ahead = l .ahead;
   squares = lia (g ∷ v ∷ w ∷ D ∷ []) (l .squares & square-le v w low more ≤×≤ long) (search linear depth 40) (omega arith);

@@ -1,6 +1,6 @@
 -- A list of points that reaches at most e beyond another, in every direction: e times the direction's length.
 --     Moved e N O          N reaches at most e beyond O
---     up→moved             that is so if `up` is at most e; `moved→up`: and only then
+--     up-moved             that is so of `up`; `up→moved`: and if `up` is at most e; `moved→up`: and only then
 --     up-reaches, reaches-up      the same in the directions' own numbers
 --     moved-none           of a list inside another, e is 0
 --     moved-chain          a chain of changes
@@ -28,11 +28,12 @@ use Rattle.plane.specs.theory.forms.Vector.{value-nonneg, square-positive}
 use Rattle.plane.specs.theory.support.Support.{support-sums}
 use Rattle.plane.specs.theory.hull.ShapeOf.{shapeOf-support}
 use Rattle.separation.specs.theory.Inside.{inside→reach}
+use Rattle.clearance.specs.theory.Means.{size-nonneg}
 use Rattle.clearance.specs.theory.First.{turned-square}
 use Rattle.growth.specs.Grown.{grown, driven}
 use Rattle.growth.specs.theory.Places.{grown-reach}
 use Rattle.excess.specs.Excess.{excess, up}
-use Rattle.excess.specs.theory.Lengths.{nonneg, pos-le, Shorter, shorter-less, shorter-more, shorter-add}
+use Rattle.excess.specs.theory.Lengths.{pos-le, Shorter, shorter-less, shorter-more, shorter-add}
 use Rattle.excess.specs.theory.Outermost.{excess-whole}
 use Rattle.excess.specs.theory.Reach.{reach-le, reach-attained, inside→none}
 use Rattle.excess.specs.theory.Rounded.{up-enough, up-least}
@@ -66,7 +67,7 @@ module _ (N O : List Point) (n : 0 < length N) (s : IsShape O) where
   }
 
   pub up→moved : {e : ℕ} → up N O ≤ e → Moved (pos e) N O
-  up→moved h = record { by = λ d. shorter-more (nonneg (up N O)) (pos-le h) (value-nonneg d) (up-moved .by d) }
+  up→moved h = record { by = λ d. shorter-more (size-nonneg (up N O)) (pos-le h) (value-nonneg d) (up-moved .by d) }
 
   pub moved→up : {e : ℕ} → Moved (pos e) N O → up N O ≤ e
   moved→up {e} m = up-least N O n s e (go (inside N O) refl)

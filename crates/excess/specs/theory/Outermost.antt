@@ -3,6 +3,7 @@
 --     furthest-start, -keep, -replace      the moves of the search; `furthest-done`: of all corners it is the outermost
 --     outermost-furthest                   there is one, so the outermost corner is it
 --     outermost-only                       what meets the rule, in fractions, is the outermost corner
+--     outermost-among                      it is a corner of N
 --     excess-greatest                      no corner is further than the excess; `earlier-nearer`: those before the outermost are nearer
 --     excess-whole, excess-nonneg          what it is divided by is above 0, and it is not below 0
 use mathlib.Core.Path.{_≡_, refl, sym, subst}

@@ -18,14 +18,16 @@ use Rattle.plane.specs.Point.{Point}
 use Rattle.plane.specs.Shape.{IsShape}
 use Rattle.plane.specs.Direction.{value}
 use Rattle.plane.specs.theory.forms.Vector.{square-positive, value-nonneg}
+use Rattle.clearance.specs.theory.Means.{size-nonneg}
 use Rattle.strips.specs.Strip.{gapIn}
 use Rattle.growth.specs.Grown.{grown}
 use Rattle.growth.specs.theory.Places.{grown-some, grown-shape}
 use Rattle.passage.specs.Passage.{passable, across, room, freeWidth}
 use Rattle.passage.specs.theory.Widest.{none-wider}
 use Rattle.passage.specs.theory.Room.{room-gap, across-some, room-positive, width-bounded}
+use Rattle.passage.specs.theory.Smaller.{sizes-le}
 use Rattle.excess.specs.Excess.{up}
-use Rattle.excess.specs.theory.Lengths.{nonneg, le-of-pos, put-back}
+use Rattle.excess.specs.theory.Lengths.{put-back}
 use Rattle.excess.specs.theory.Rounded.{bounded-above}
 use Rattle.excess.specs.theory.Moved.{Moved, up→moved, moved-grown}
 use Rattle.excess.specs.theory.Clear.{Clear, clear-both, both-apart}
@@ -78,13 +80,13 @@ pub moved-passage : {e f g : ℕ} (L R A M S C : List Point) → 0 < length L �
 moved-passage {e} {f} {g} L R A M S C l r a m s c left right cart h less =
     let w = pos (freeWidth L R A) in
     let room : (pos (e + g) +ℤ pos (f + g)) <ℤ w = record { lt = lt→ltb _ _ less } in
-    let one = moved-grown M L C A m l c a (nonneg e) (nonneg g) left cart in
-    let other = moved-grown S R C A s r c a (nonneg f) (nonneg g) right cart in
+    let one = moved-grown M L C A m l c a (size-nonneg e) (size-nonneg g) left cart in
+    let other = moved-grown S R C A s r c a (size-nonneg f) (size-nonneg g) right cart in
     let far = width-clear L R A l r a h in
-    let still = both-apart (grown L A) (grown R A) (grown M C) (grown S C) (nonneg (e + g)) (nonneg (f + g)) room far one other
+    let still = both-apart (grown L A) (grown R A) (grown M C) (grown S C) (size-nonneg (e + g)) (size-nonneg (f + g)) room far one other
     (grown-some M C m c) (grown-some S C s c) in
-    let clear = clear-both (grown L A) (grown R A) (grown M C) (grown S C) (nonneg (e + g)) (nonneg (f + g)) room far one other in
-    (still, le-of-pos (put-back w (pos (e + g)) (pos (f + g)) (pos (freeWidth M S C)) (clear-width M S C m s c still clear)))
+    let clear = clear-both (grown L A) (grown R A) (grown M C) (grown S C) (size-nonneg (e + g)) (size-nonneg (f + g)) room far one other in
+    (still, sizes-le (put-back w (pos (e + g)) (pos (f + g)) (pos (freeWidth M S C)) (clear-width M S C m s c still clear)))
 
 -- ---- by up
 

@@ -25,9 +25,9 @@ use Rattle.plane.specs.theory.lists.Members.{sums-some}
 use Rattle.plane.specs.theory.hull.ShapeOf.{shapeOf-shape}
 use Rattle.growth.specs.Grown.{driven}
 use Rattle.separation.specs.theory.Inside.{inside-refl}
+use Rattle.clearance.specs.theory.Means.{size-nonneg}
 use Rattle.excess.specs.Excess.{excess, up}
 use Rattle.excess.specs.Settled.{ApartBy}
-use Rattle.excess.specs.theory.Lengths.{nonneg}
 use Rattle.excess.specs.theory.Outermost.{excess-nonneg}
 use Rattle.excess.specs.theory.Reach.{none→inside}
 use Rattle.excess.specs.theory.Rounded.{up-enough}
@@ -45,10 +45,10 @@ module _ (A B C D : List Point) (s : IsShape A) (t : IsShape B) (u : IsShape C) 
   both-moved {w} {e} {f} m k less h =
       let room : (pos e +ℤ pos f) <ℤ pos w = record { lt = lt→ltb _ _ less } in
       let was = fraction-clear A B s t (h .are-apart) (h .so-clear) in
-      let still = both-apart A B C D (nonneg e) (nonneg f) room was m k (u .some) (v .some) in
+      let still = both-apart A B C D (size-nonneg e) (size-nonneg f) room was m k (u .some) (v .some) in
       record {
         are-apart = still;
-        so-clear = clear-fraction C D u v still (clear-both A B C D (nonneg e) (nonneg f) room was m k);
+        so-clear = clear-fraction C D u v still (clear-both A B C D (size-nonneg e) (size-nonneg f) room was m k);
       }
 
 module _ (A B C : List Point) (s : IsShape A) (t : IsShape B) (u : IsShape C) where
@@ -57,7 +57,7 @@ module _ (A B C : List Point) (s : IsShape A) (t : IsShape B) (u : IsShape C) wh
       let more : pos e <ℤ pos w = record { lt = lt→ltb _ _ less } in
       let some : pos 0 <ℤ pos w = record { lt = lt→ltb 0 w (omega arith) } in
       let was = clear-turned A B (fraction-clear A B s t (h .are-apart) (h .so-clear)) in
-      let c = clear-turned B C (clear-moved B A C some (nonneg e) (weaken more) was m) in
+      let c = clear-turned B C (clear-moved B A C some (size-nonneg e) (weaken more) was m) in
       let still = clear-apart C B (u .some) (t .some) (something (pos e) (pos w) more) c in
       record { are-apart = still; so-clear = clear-fraction C B u t still c }
 
@@ -90,7 +90,8 @@ module _ (N O C A : List Point) (n : IsShape N) (o : IsShape O) (c : 0 < length 
 
 module _ (N O P : List Point) (n : 0 < length N) (s : IsShape O) (t : IsShape P) where
   pub up-chain : up N P ≤ up N O + up O P
-  up-chain = moved→up N P n t (moved-chain N O P (nonneg (up N O)) (nonneg (up O P)) (up-moved N O n s) (up-moved O P (s .some) t))
+  up-chain = moved→up N P n t (moved-chain N O P (size-nonneg (up N O)) (size-nonneg (up O P)) (up-moved N O n s)
+      (up-moved O P (s .some) t))
 
 module _ (N O : List Point) (n : 0 < length N) (s : IsShape O) where
   pub up-inside : (inside N O ≡ true) ↔ (up N O ≡ 0)

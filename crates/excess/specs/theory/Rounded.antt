@@ -1,16 +1,17 @@
 -- The root of a fraction, rounded up and down.
 --     rootAbove-enough     its square is at least the fraction, where the fraction is divided by something
 --     rootAbove-least      and that of nothing less is
+--     rootAbove-from-below      it is the root rounded down, and one more unless that is exact
 --     bounded-above        a number whose square is at most a fraction is at most the root rounded down
 --     up-enough, up-least  the excess, rounded up
 use mathlib.Core.Path.{_≡_, refl, sym, subst}
-use mathlib.Core.Bool.{Bool, true, false}
+use mathlib.Core.Bool.{Bool, true, false, cond}
 use mathlib.Core.List.{List, [], _∷_}
-use Prim.Native.Nat.{ℕ, zero, suc, _*_, _≤_, _<_, zero-le}
-use native.Mathlib.Nat.{le-mul-of-pos-right, zero-lt-suc}
+use Prim.Native.Nat.{ℕ, zero, suc, _+_, _*_, _≤_, _<_, zero-le}
+use native.Mathlib.Nat.{mul-le-mul, mul-le-mul-right, mul-lt-mul-of-pos-right, le-mul-of-pos-right, zero-lt-suc}
 use native.Mathlib.Omega.{arith}
-use borrow.Author.Tests.{ltb-true, ltb-false, leb-true, le-leb}
-use lib.Dec.{ltb, le→leb, leb→le}
+use borrow.Author.Tests.{ltb-true, ltb-false, leb-true, leb-false, le-leb}
+use lib.Dec.{leb, ltb, le→leb, leb→le}
 use lib.IntN.{ℤ, pos, natAbs, _+ℤ_, _*ℤ_}
 use lib.ListN.{length}
 use lib.Signed.{_≤ℤ_, _<ℤ_}
@@ -19,11 +20,16 @@ use Rattle.integer.specs.Order.{_≤×≤_, contra≤, weaken}
 use Rattle.integer.specs.Bound.{positive-size, size-is}
 use Rattle.plane.specs.Point.{Point}
 use Rattle.plane.specs.Shape.{IsShape}
+use Rattle.plane.specs.Measure.{rootBelow}
 use Rattle.plane.specs.theory.lists.Sought.{first-true, first-at-most}
+use Rattle.measure.specs.theory.Rounded.{rounded-low, rounded-high}
+use Rattle.clearance.specs.theory.Means.{size-nonneg}
 use Rattle.clearance.specs.theory.Rounding.{Bounded}
 use Rattle.excess.specs.Excess.{excess, rootAbove, up}
-use Rattle.excess.specs.theory.Lengths.{nonneg}
 use Rattle.excess.specs.theory.Outermost.{excess-whole, excess-nonneg}
+
+squares-le : (q : ℕ) {a b : ℕ} → a ≤ b → a * a * q ≤ b * b * q
+squares-le q h = mul-le-mul-right q (mul-le-mul h h)
 
 module _ (n q : ℕ) (some : 0 < q) where
   -- n itself is enough
@@ -43,6 +49,41 @@ module _ (n q : ℕ) (some : 0 < q) where
   unfolding rootAbove
   rootAbove-least e h = first-at-most _ n e (le-leb n (e * e * q) h)
 
+  -- ---- from the root rounded down, which is one less unless it is exact
+
+  abbrev w : ℕ
+  w = rootBelow n q
+
+  square-more : (e : ℕ) → e * e * q < (e + 1) * (e + 1) * q
+  square-more e =
+      let same : e ≤ e = omega arith in
+      let more : e ≤ e + 1 = omega arith in
+      let less : e < e + 1 = omega arith in
+      let next : 0 < e + 1 = omega arith in
+      let squares : e * e < (e + 1) * (e + 1) = omega (arith, mul-le-mul same more, mul-lt-mul-of-pos-right less next) in
+      mul-lt-mul-of-pos-right squares some
+
+  pub rootAbove-from-below : rootAbove n q ≡ cond (leb n (w * w * q)) w (w + 1)
+  rootAbove-from-below = go (leb n (w * w * q)) refl
+    where
+      e : ℕ
+      e = rootAbove n q
+
+      -- an e below w would not be enough
+      below : (t : Bool) → ltb e w ≡ t → w ≤ e
+      below false h = ltb-false e w h
+      below true h =
+          let next : e + 1 ≤ w = omega (arith, ltb-true e w h) in
+          absurd (omega (arith, squares-le q next, square-more e, rounded-low n q some, rootAbove-enough))
+
+      go : (t : Bool) → leb n (w * w * q) ≡ t → e ≡ cond t w (w + 1)
+      go true h = omega (arith, rootAbove-least w (leb-true n (w * w * q) h), below (ltb e w) refl)
+      go false h = omega (arith, rootAbove-least (w + 1) (omega (arith, rounded-high n q some)), more (leb e w) refl)
+        where
+          more : (t : Bool) → leb e w ≡ t → w < e
+          more false k = leb-false e w k
+          more true k = absurd (omega (arith, squares-le q (leb-true e w k), leb-false n (w * w * q) h, rootAbove-enough))
+
 -- ---- rounded down
 
 -- k·k·q is at most n, of which x is the root rounded down
@@ -55,7 +96,7 @@ rounded-above k x n q low whole most less = contra≤ (λ h.
 
 -- the same, where x is so bounded
 pub bounded-above : {k n q : ℤ} {x : ℕ} → pos 0 <ℤ q → (k *ℤ k *ℤ q) ≤ℤ n → Bounded n q x → k ≤ℤ pos x
-bounded-above {k} {n} {q} {x} whole most b = rounded-above k (pos x) n q (nonneg x) whole most (b .high)
+bounded-above {k} {n} {q} {x} whole most b = rounded-above k (pos x) n q (size-nonneg x) whole most (b .high)
 
 -- ---- the excess
 

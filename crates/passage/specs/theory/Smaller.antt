@@ -4,6 +4,7 @@
 --     smaller-room         the room, over the direction's length, is no less
 --     smaller-width        nor is the free width
 --     fewer-promises       so it is with obstacles and a cart that lost corners
+--     sizes-le             numbers of ℕ compare as among those of ℤ
 -- Lists have a point: 0 < length.
 use mathlib.Core.Path.{_≡_}
 use mathlib.Core.Bool.{true}
@@ -33,7 +34,7 @@ use Rattle.passage.specs.theory.Room.{room-spread, across-some, room-pos
 subset-inside : (A B : List Point) → 0 < length A → 0 < length B → A ⊆ B → inside A B ≡ true
 subset-inside A B a b f = reach→inside A B a b (λ d. support-subset d a f)
 
-sizes-le : {m n : ℕ} → pos m ≤ℤ pos n → m ≤ n
+pub sizes-le : {m n : ℕ} → pos m ≤ℤ pos n → m ≤ n
 sizes-le h = leb→le _ _ (h .le)
 
 -- g·g/D is at most t·t/N, and s at most g
