@@ -120,6 +120,20 @@ fn with_cart(random: &mut Random, n: usize, [x, y]: [i32; 2], outline: Outline) 
     Case::new(obstacle, outline(random, 8, 1200, x, y))
 }
 
+/// Two obstacles of n corners side by side, or one above the other, and a cart of 8 that passes between them.
+pub fn passing(random: &mut Random, n: usize, outline: Outline) -> Case {
+    let case = apart(random, n, outline);
+    let cart = outline(random, 8, 1200, 0, 0);
+    Case { cart, ..case }
+}
+
+/// The same with obstacles that overlap.
+pub fn stuck(random: &mut Random, n: usize, outline: Outline) -> Case {
+    let case = crossing(random, n, outline);
+    let cart = outline(random, 8, 1200, 0, 0);
+    Case { cart, ..case }
+}
+
 /// A shape, and the same again: each overlaps the other and is inside it.
 pub fn twice(random: &mut Random, n: usize, outline: Outline) -> Case {
     let case = moved_away(random, n, outline);

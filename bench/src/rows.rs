@@ -1,7 +1,7 @@
 //! The rows of the tables: a question, and cases for which it does its work.
 use crate::pairs::{
     Make, alike, apart, beside_cart, crossing, far, kept, large, merged, moved_away, nested,
-    scattered, shuffled, single, summed, twice, under_cart,
+    passing, scattered, shuffled, single, stuck, summed, twice, under_cart,
 };
 use crate::plain::MOST;
 use crate::runs::*;
@@ -58,7 +58,7 @@ the calls of a host, on bytes: both shapes of their sums have the column's corne
         rows: &REGULAR,
     },
     Table {
-        legend: "an obstacle of the column's corner count and a cart of 8 corners\n",
+        legend: "an obstacle of the column's corner count, of a passage two, and a cart of 8 corners\n",
         sizes: OBSTACLES,
         outline: polygon,
         form: Case::in_numbers,
@@ -124,18 +124,20 @@ const REGULAR: [Row; 14] = [
     ("tangents", TANGENTS, apart),
 ];
 
-const CARTS: [Row; 6] = [
+const CARTS: [Row; 8] = [
     ("sum", SUM, under_cart),
     ("grow", GROW, under_cart),
     ("relation, apart", RELATION, beside_cart),
     ("relation, overlapping", RELATION, under_cart),
     ("clearance, apart", CLEARANCE, beside_cart),
     ("clearance, none", CLEARANCE, under_cart),
+    ("passage, free", PASSAGE, passing),
+    ("passage, blocked", PASSAGE, stuck),
 ];
 
 /// Every proved question, on a shape and the same one moved away (`moved_away`). It takes the whole walk to find that a
 /// shape overlaps one that it is inside of. A log has as many records as the shape has corners.
-pub const GROWTH: [(&str, Run, Make); 20] = [
+pub const GROWTH: [(&str, Run, Make); 21] = [
     ("judge", JUDGE[0], moved_away),
     ("furthest", FURTHEST[0], moved_away),
     ("mirror", MIRROR[0], moved_away),
@@ -154,6 +156,7 @@ pub const GROWTH: [(&str, Run, Make); 20] = [
     ("find", FIND[0], twice),
     ("clearance", CLEARANCE[0], moved_away),
     ("tangents", TANGENTS[0], moved_away),
+    ("passage", PASSAGE[0], passing),
     ("log_read, records", LOG_READ[0], moved_away),
     ("log_add, records", LOG_ADD[0], moved_away),
 ];

@@ -11,6 +11,7 @@ pub type List = Vec<i32>;
 pub struct Case {
     pub a: List,
     pub b: List,
+    pub cart: List,
     pub bytes: [Vec<u8>; 2],
     pub log: Vec<u8>,
 }

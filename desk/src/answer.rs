@@ -1,8 +1,8 @@
 //! Questions asked of the library, and what it answers.
-use crate::given::{Given, Pair};
+use crate::given::{Given, Pair, Trio};
 use crate::question::{Call, Making, OfOne, OfTwo, Question, Record};
 use cocklesway::{
-    Addition, Book, Clearance, Corners, Furthest, Inside, Length, Offer, Reading, Refusal,
+    Addition, Book, Clearance, Corners, Furthest, Inside, Length, Offer, Passage, Reading, Refusal,
     Relation, Separator, Standing, Tangents, Walk, Width,
 };
 
@@ -15,6 +15,8 @@ pub enum Answer {
     Two(Pair, AboutTwo),
     /// The shape that was made.
     Made(Making, Given),
+    /// Whether a cart may pass between two obstacles, and where.
+    Passage(Trio, Passage),
     /// The corner of two readings.
     Corner([Reading; 2], [i32; 2]),
     /// Whether an addition was finished, and the log afterwards.
@@ -134,6 +136,10 @@ fn answered(question: &Question) -> Result<Answer, Refusal> {
         Question::One(shape, asked) => Answer::One(shape.clone(), about_one(shape, *asked)?),
         Question::Two(pair, asked) => Answer::Two(pair.clone(), about_two(pair, asked)?),
         Question::Make(making, room) => Answer::Made(making.clone(), shape_of(making, *room)?),
+        Question::Passage(trio) => {
+            let [left, right, cart] = trio.lent();
+            Answer::Passage(trio.clone(), cocklesway::passage(left, right, cart)?)
+        }
         Question::Tablet([x, y]) => Answer::Corner([*x, *y], cocklesway::tablet(*x, *y)?),
         Question::Add(record) => added(record)?,
     })
@@ -239,6 +245,7 @@ impl Answer {
             Answer::One(_, about) => about.word(),
             Answer::Two(_, about) => about.word(),
             Answer::Made(making, _) => making.word(),
+            Answer::Passage(..) => "passage",
             Answer::Corner(..) => "tablet",
             Answer::Added(..) => "bookadd",
         }
@@ -251,6 +258,7 @@ impl Answer {
             Answer::One(shape, _) => vec![shape],
             Answer::Two(pair, _) => vec![&pair.a, &pair.b],
             Answer::Made(making, _) => making.shapes(),
+            Answer::Passage(trio, _) => trio.shapes().to_vec(),
             Answer::Added(record, ..) => vec![&record.shape],
             Answer::Corner(..) => Vec::new(),
         }

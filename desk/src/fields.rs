@@ -1,6 +1,6 @@
 //! The fields of a line, each read as what its question needs there.
 use crate::fault::Fault;
-use crate::given::{Given, Pair};
+use crate::given::{Given, Pair, Trio};
 use crate::lines::{Field, Line, Word};
 use crate::map::{Entry, Map};
 use crate::name::Name;
@@ -138,6 +138,18 @@ impl<'a> Fields<'a> {
         let a = self.shape()?;
         let b = self.shape()?;
         Ok(Pair { a, b })
+    }
+
+    /// Reads two obstacles and a cart.
+    ///
+    /// # Errors
+    /// One of them is no shape.
+    pub fn trio(&mut self) -> Result<Trio, Unread> {
+        Ok(Trio {
+            left: self.shape()?,
+            right: self.shape()?,
+            cart: self.shape()?,
+        })
     }
 
     /// Reads the corners of an outline, which has no floor.

@@ -24,6 +24,17 @@ pub struct Pair {
     pub b: Given,
 }
 
+/// Two obstacles, and the cart that is to pass between them.
+#[derive(Clone, Debug, PartialEq, Eq)]
+pub struct Trio {
+    /// The obstacle on the left.
+    pub left: Given,
+    /// The one on the right.
+    pub right: Given,
+    /// The cart's outline.
+    pub cart: Given,
+}
+
 /// A point of the floor, in millimetres.
 #[derive(Clone, Copy, Debug, PartialEq, Eq, Hash)]
 pub struct Corner(pub [i32; 2]);
@@ -78,6 +89,37 @@ impl Pair {
     pub fn lent(&self) -> (Shape<'_>, Shape<'_>) {
         let floor = self.floor().unwrap_or(0);
         (self.a.on(floor), self.b.on(floor))
+    }
+}
+
+impl Trio {
+    /// Returns the floor that an outline takes; nothing for three outlines.
+    #[must_use]
+    pub fn floor(&self) -> Option<u16> {
+        let Trio { left, right, cart } = self;
+        left.floor.or(right.floor).or(cart.floor)
+    }
+
+    /// Lends all three to the library.
+    #[must_use]
+    pub fn lent(&self) -> [Shape<'_>; 3] {
+        let floor = self.floor().unwrap_or(0);
+        self.shapes().map(|shape| shape.on(floor))
+    }
+
+    /// Returns all three, in order.
+    #[must_use]
+    pub fn shapes(&self) -> [&Given; 3] {
+        [&self.left, &self.right, &self.cart]
+    }
+
+    /// Returns each obstacle with the cart that it is grown by, in order.
+    #[must_use]
+    pub fn grown(&self) -> [Pair; 2] {
+        [&self.left, &self.right].map(|obstacle| Pair {
+            a: obstacle.clone(),
+            b: self.cart.clone(),
+        })
     }
 }
 

@@ -42,13 +42,14 @@ odd count of numbers has `numbers` instead. Corners are coordinates, edges are b
                   rounded                           find        direction, or null
     furthest      direction, first, last, value     tangents    left, right, crossing, reverse
     clearance     apart, rounded; first, second, squared or turn and squared
+    passage       passable; direction, low, high, rounded
     grow, at, merge, sweep, sum, mirror, bookread   made
     parts         calls: corners or refused         part        corners, walk
     tablet        corner                            bookadd     finished, log
 
 `turn` is t and `squared` is q of a distance t/√q; `squared` alone is the square of the distance.
 
-    refused       number, reason; shape (0 or 1), edge and corner by their positions, place, axis
+    refused       number, reason; shape (0 to 2), edge and corner by their positions, place, axis
     not_asked     name and at: a shape of the question was refused there
     replaces      where the earlier shape of the name is
 

@@ -8,7 +8,8 @@ use crate::refusal::{hexadecimal, reason};
 use crate::report;
 use crate::session::{Event, Outcome};
 use cocklesway::{
-    Across, Addition, Axis, Clearance, Line, Nearest, Refusal, Relation, Tangents, Which, Width,
+    Across, Addition, Axis, Clearance, Line, Nearest, Passage, Refusal, Relation, Tangents, Which,
+    Width,
 };
 
 type Members = Vec<(&'static str, Json)>;
@@ -100,9 +101,7 @@ fn shape_of(shape: &Given) -> Json {
 
 fn refusal(refusal: Refusal, reason: String) -> Json {
     let mut members: Members = vec![("number", refusal.number().into())];
-    let shape = refusal
-        .shape()
-        .map(|which| usize::from(which == Which::Second));
+    let shape = refusal.shape().map(position_of);
     members.extend(shape.map(|shape| ("shape", shape.into())));
     match refusal {
         Refusal::Side { edge, corner, .. } => {
@@ -118,18 +117,41 @@ fn refusal(refusal: Refusal, reason: String) -> Json {
     Json::Object(members)
 }
 
+/// The position of a shape among those of its question.
+fn position_of(which: Which) -> usize {
+    match which {
+        Which::Second => 1,
+        Which::Third => 2,
+        _ => 0,
+    }
+}
+
 /// The members of an answer.
 fn answered(answer: &Answer) -> Members {
     match answer {
         Answer::One(shape, about) => about_one(shape, about),
         Answer::Two(pair, about) => about_two(pair, about),
         Answer::Made(_, shape) => vec![("made", shape_of(shape))],
+        Answer::Passage(_, found) => passage(*found),
         Answer::Corner(_, corner) => vec![("corner", (*corner).into())],
         Answer::Added(_, addition, log) => vec![
             ("finished", (*addition == Addition::Finished).into()),
             ("log", hexadecimal(log).into()),
         ],
     }
+}
+
+fn passage(found: Passage) -> Members {
+    let mut members = vec![("passable", found.way.is_some().into())];
+    members.extend(found.way.into_iter().flat_map(|way| {
+        [
+            ("direction", way.across.into()),
+            ("low", way.low.into()),
+            ("high", way.high.into()),
+            ("rounded", way.width.into()),
+        ]
+    }));
+    members
 }
 
 fn about_one(shape: &Given, about: &AboutOne) -> Members {

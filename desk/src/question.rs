@@ -1,5 +1,5 @@
 //! Questions, read and not yet asked.
-use crate::given::{Given, Pair};
+use crate::given::{Given, Pair, Trio};
 use cocklesway::{Reading, Walk};
 
 /// A question of a line.
@@ -11,6 +11,8 @@ pub enum Question {
     Two(Pair, OfTwo),
     /// One that answers a shape. The second value is the output's room in numbers; without it every answer has room.
     Make(Making, Option<usize>),
+    /// May a cart pass straight between two obstacles?
+    Passage(Trio),
     /// The corner of two readings of the tablet.
     Tablet([Reading; 2]),
     /// A shape added to a log.
@@ -105,6 +107,7 @@ impl Question {
             Question::One(_, asked) => asked.word(),
             Question::Two(_, asked) => asked.word(),
             Question::Make(making, _) => making.word(),
+            Question::Passage(_) => "passage",
             Question::Tablet(_) => "tablet",
             Question::Add(_) => "bookadd",
         }
@@ -117,6 +120,7 @@ impl Question {
             Question::One(shape, _) | Question::Add(Record { shape, .. }) => vec![shape],
             Question::Two(pair, _) => vec![&pair.a, &pair.b],
             Question::Make(making, _) => making.shapes(),
+            Question::Passage(trio) => trio.shapes().to_vec(),
             Question::Tablet(_) => Vec::new(),
         }
     }

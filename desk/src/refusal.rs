@@ -1,6 +1,6 @@
 //! Refusals in plain words: which shape, which corner, and what to do about it.
 use crate::answer::{Refused, shape_of};
-use crate::given::{Corner, Given};
+use crate::given::{Corner, Given, Pair, Trio};
 use crate::question::{Call, Making, OfOne, OfTwo, Question, Record};
 use cocklesway::{Axis, Reading, Refusal, Which, judge, limits};
 use std::fmt::Write;
@@ -52,6 +52,7 @@ fn of_list(question: &Question, refusal: Refusal) -> String {
     let shapes = question.shapes();
     let blamed = match refusal.shape() {
         Some(Which::Second) => shapes.get(1),
+        Some(Which::Third) => shapes.get(2),
         _ => shapes.first(),
     };
     let Some(&shape) = blamed else {
@@ -153,22 +154,39 @@ fn start(shape: &Given) -> String {
 
 /// The refusals of the answer's size.
 fn of_answer(question: &Question, refusal: Refusal) -> String {
+    if let Question::Passage(trio) = question {
+        return of_grown(trio, refusal);
+    }
     match refusal {
-        Refusal::LargeAnswer => format!(
-            "the answer would have more than {} corners",
-            limits().corners
-        ),
-        Refusal::FarAnswer => far_answer(question),
+        Refusal::LargeAnswer => large("the answer"),
+        Refusal::FarAnswer => far_answer("the answer", reach(question)),
         _ => room(question),
     }
 }
 
-/// How far the answer would reach.
-fn far_answer(question: &Question) -> String {
+/// The obstacle that is too large or too far when it is grown. The library judges the left one first.
+fn of_grown(trio: &Trio, refusal: Refusal) -> String {
+    let refused = |pair: &Pair| shape_of(&Making::Grow(pair.clone()), None) == Err(refusal);
+    let Some(pair) = trio.grown().into_iter().find(refused) else {
+        return refusal.to_string();
+    };
+    let grown = format!("{} grown by {}", pair.a, pair.b);
+    match refusal {
+        Refusal::LargeAnswer => large(&grown),
+        _ => far_answer(&grown, reach_of(&pair, -1)),
+    }
+}
+
+fn large(what: &str) -> String {
+    format!("{what} would have more than {} corners", limits().corners)
+}
+
+/// How far something would reach.
+fn far_answer(what: &str, reached: Option<(Axis, i64)>) -> String {
     let most = limits().coordinate;
-    let reached = match reach(question) {
-        Some((axis, value)) => format!("the answer would reach {axis} = {value}"),
-        None => "a corner of the answer would be out of range".to_string(),
+    let reached = match reached {
+        Some((axis, value)) => format!("{what} would reach {axis} = {value}"),
+        None => format!("a corner of {what} would be out of range"),
     };
     format!("{reached}; coordinates go from -{most} to {most} mm")
 }
@@ -176,12 +194,16 @@ fn far_answer(question: &Question) -> String {
 /// The axis and the coordinate of the answer that is out of range, the first of least x, greatest x, least y and
 /// greatest y.
 fn reach(question: &Question) -> Option<(Axis, i64)> {
-    let (pair, sign) = match question {
+    match question {
         Question::Make(Making::Sum(pair) | Making::At(pair), _)
-        | Question::Two(pair, OfTwo::Parts(_) | OfTwo::Part(..)) => (pair, 1),
-        Question::Make(Making::Grow(pair), _) => (pair, -1),
-        _ => return None,
-    };
+        | Question::Two(pair, OfTwo::Parts(_) | OfTwo::Part(..)) => reach_of(pair, 1),
+        Question::Make(Making::Grow(pair), _) => reach_of(pair, -1),
+        _ => None,
+    }
+}
+
+/// The same of the sum of two shapes; for -1 of the first and the mirror image of the second.
+fn reach_of(pair: &Pair, sign: i64) -> Option<(Axis, i64)> {
     let ends = [(Axis::X, -1), (Axis::X, 1), (Axis::Y, -1), (Axis::Y, 1)];
     let reached = ends.map(|(axis, way)| {
         (
@@ -275,7 +297,8 @@ fn of_question(question: &Question, refusal: Refusal) -> String {
             )
         }
         (Refusal::Flat, [shape, ..], _) => flat(shape),
-        (Refusal::Floors, [a, b], _) => floors(a, b),
+        (Refusal::Floors, [a, b], _) => floors(a, b, 0),
+        (Refusal::Floors, _, Question::Passage(trio)) => floors_of_three(trio),
         (Refusal::NotAPlace, [a, b], Question::Two(_, OfTwo::Part(walk, _))) => {
             let (first, second, over) = (walk.first(), walk.second(), u8::from(walk.is_over()));
             format!("the walk {first} {second} {over} is at no place of the sum of {a} and {b}")
@@ -300,8 +323,18 @@ fn flat(shape: &Given) -> String {
     format!("{shape} is a {what} and has no width")
 }
 
-fn floors(a: &Given, b: &Given) -> String {
-    let said = |shape: &Given| shape.floor.unwrap_or_default();
+/// The left obstacle, and the first of the others that is on another floor. An outline takes that of the question.
+fn floors_of_three(trio: &Trio) -> String {
+    let floor = trio.floor().unwrap_or_default();
+    let of = |shape: &Given| shape.floor.unwrap_or(floor);
+    let Trio { left, right, cart } = trio;
+    let other = if of(left) == of(right) { cart } else { right };
+    floors(left, other, floor)
+}
+
+/// Two shapes and their floors; an outline is on the given one.
+fn floors(a: &Given, b: &Given, floor: u16) -> String {
+    let said = |shape: &Given| shape.floor.unwrap_or(floor);
     format!(
         "{a} is on floor {} and {b} is on floor {}",
         said(a),

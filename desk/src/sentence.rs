@@ -1,12 +1,12 @@
 //! Answers in plain words, made from the typed answer: shapes by their names, corners by their coordinates.
 use crate::answer::{AboutOne, AboutTwo, Answer, Written};
 use crate::distance::Distance;
-use crate::given::{Corner, Given, Pair};
+use crate::given::{Corner, Given, Pair, Trio};
 use crate::question::{Making, Record};
 use crate::refusal;
 use cocklesway::{
-    Across, Addition, Clearance, Furthest, Line, Nearest, Offer, Reading, Relation, Separator,
-    Tangents, Walk, Width,
+    Across, Addition, Clearance, Furthest, Line, Nearest, Offer, Passage, Reading, Relation,
+    Separator, Tangents, Walk, Width,
 };
 
 /// Returns the sentence of an answer.
@@ -16,6 +16,7 @@ pub fn sentence(answer: &Answer) -> String {
         Answer::One(shape, about) => about_one(shape, about),
         Answer::Two(pair, about) => about_two(pair, about),
         Answer::Made(making, shape) => made(making, shape),
+        Answer::Passage(trio, found) => passage(trio, *found),
         Answer::Corner(readings, corner) => tablet(*readings, *corner),
         Answer::Added(record, addition, log) => added(record, *addition, log),
     }
@@ -223,6 +224,21 @@ fn tangents(Pair { a, b }: &Pair, found: Tangents) -> String {
     format!(
         "the lines from {a} to {b} that just touch both: both on the left of {left}; both on the right of {right}; \
          {a} on the left and {b} on the right of {crossing}; {a} on the right and {b} on the left of {reverse}"
+    )
+}
+
+fn passage(Trio { left, right, cart }: &Trio, found: Passage) -> String {
+    let Some(way) = found.way else {
+        return format!(
+            "{cart} cannot pass straight between {left} and {right}: it has room in no direction"
+        );
+    };
+    let ([u, v], low, high) = (way.across, way.low, way.high);
+    let squared = [u, v].map(|part| u64::from(part.unsigned_abs()).pow(2));
+    let distance = Distance::of_turn(low.abs_diff(high), squared.iter().sum(), way.width);
+    format!(
+        "{cart} can pass straight between {left} and {right} with {distance} to spare, measured in direction \
+         ({u}, {v}), while {u}·x + {v}·y of its origin is between {low} and {high}"
     )
 }
 

@@ -88,6 +88,12 @@ pub const TABLE: &[Row] = &[
         asks: "at which places does the cart meet the obstacle?", example: "grown = grow | linen-store | cart",
     },
     Row {
+        word: "passage", parts: &[part("left obstacle"), part("right obstacle"), part("cart's outline")],
+        read: |f| Ok(Question::Passage(f.trio()?)),
+        asks: "may the cart pass straight between the two, and where?",
+        example: "passage | wall | linen-store | cart",
+    },
+    Row {
         word: "at", parts: &[part("shape or outline"), part("place x y")],
         read: |f| Ok(Question::Make(Making::At(Pair { a: f.shape()?, b: f.place()? }), None)),
         asks: "the shape with its origin at the place", example: "there = at | cart | @2 3500 0",

@@ -173,6 +173,15 @@ cocklesway_reply cocklesway_clearance(const int32_t *a, size_t n, uint32_t f, co
  * right; the reverse. Values: of each its corner in the first and in the second; floor. Refused 1 to 5, 13, 9. */
 cocklesway_reply cocklesway_tangents(const int32_t *a, size_t n, uint32_t f, const int32_t *b, size_t m, uint32_t g);
 
+/* Whether a cart may pass straight between a left and a right obstacle, without turning. The corners of its outline are
+ * relative to its own origin. Values: 0, floor if it is blocked; or 1, u, v, low, high (each of these four may be below
+ * 0), width, floor: (u, v) is the direction across the way, from the right obstacle to the left one, in lowest terms; at
+ * every place (x, y) of the cart's origin with u*x + v*y strictly between low and high it is apart from both; width is
+ * that room in millimetres, rounded down. Refused 1 to 5 of each list, 13, then 6, 7 of the left obstacle grown by the
+ * cart, then of the right one. */
+cocklesway_reply cocklesway_passage(const int32_t *left, size_t n, uint32_t f, const int32_t *right, size_t m,
+                                    uint32_t g, const int32_t *cart, size_t k, uint32_t h);
+
 /* The corner of two readings, each in millimetres or in eighths of one. Values: x, y (may be below 0); no floor.
  * Refused 17, 18 or 3 of x, then of y. */
 cocklesway_reply cocklesway_tablet(bool x_eighths, double x, bool y_eighths, double y);

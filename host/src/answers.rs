@@ -306,6 +306,56 @@ pub struct Across {
     pub rounded: u64,
 }
 
+/// Whether a cart may pass straight between two obstacles.
+///
+/// ```
+/// use cocklesway::{Shape, passage};
+///
+/// let (left, right) = (Shape::new(&[[0, 5], [8, 5]], 0), Shape::new(&[[0, 0], [8, 0]], 0));
+/// let cart = Shape::new(&[[0, 0], [1, 0], [1, 3], [0, 3]], 0);
+/// let way = passage(left, right, cart)?.way.expect("there are 2 mm of room");
+/// assert_eq!((way.across, way.low, way.high, way.width), ([0, 1], 0, 2, 2));
+/// # Ok::<(), cocklesway::Refusal>(())
+/// ```
+#[derive(Clone, Copy, Debug, PartialEq, Eq, Hash)]
+#[non_exhaustive]
+#[must_use]
+pub struct Passage {
+    /// The way, or nothing if the cart is blocked: in every direction the gap is at most its spread.
+    pub way: Option<Way>,
+    /// The floor.
+    pub floor: u32,
+}
+
+/// A straight way between two obstacles. At every place (x, y) of the cart's origin with u·x + v·y strictly between
+/// `low` and `high`, where (u, v) is `across`, the cart is apart from both. So it is on straight drives between such
+/// places.
+///
+/// ```
+/// use cocklesway::{Relation, Shape, passage, relation};
+///
+/// let (left, right) = (Shape::new(&[[6, 8]], 0), Shape::new(&[[0, 0]], 0));
+/// let way = passage(left, right, Shape::new(&[[0, 0], [1, 0]], 0))?.way.expect("there is room");
+/// let ([x, y], [u, v]) = ([2, 4], way.across.map(i64::from));
+/// assert!(way.low < u * x + v * y && u * x + v * y < way.high);
+///
+/// let there = Shape::new(&[[2, 4], [3, 4]], 0);
+/// assert_eq!(relation(there, left)?.relation, Relation::Apart);
+/// # Ok::<(), cocklesway::Refusal>(())
+/// ```
+#[derive(Clone, Copy, Debug, PartialEq, Eq, Hash)]
+#[non_exhaustive]
+pub struct Way {
+    /// The direction across the way, from the right obstacle to the left one. Its parts have no common divisor above 1.
+    pub across: [i32; 2],
+    /// The value in that direction at which the cart touches the right obstacle.
+    pub low: i64,
+    /// The value at which it touches the left one.
+    pub high: i64,
+    /// The room from `low` to `high` in millimetres, rounded down. No direction has more room.
+    pub width: u64,
+}
+
 /// A line from a corner of the first shape to a corner of the second, by their positions.
 ///
 /// ```

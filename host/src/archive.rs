@@ -73,6 +73,9 @@ unsafe extern "C" {
     fn cocklesway_find(a: List, n: usize, f: u32, b: List, m: usize, g: u32) -> Reply;
     fn cocklesway_clearance(a: List, n: usize, f: u32, b: List, m: usize, g: u32) -> Reply;
     fn cocklesway_tangents(a: List, n: usize, f: u32, b: List, m: usize, g: u32) -> Reply;
+    fn cocklesway_passage(
+        a: List, n: usize, f: u32, b: List, m: usize, g: u32, c: List, k: usize, h: u32,
+    ) -> Reply;
     fn cocklesway_log_read(log: Bytes, count: usize, name: u16, out: Output, room: usize) -> Reply;
     fn cocklesway_log_add(
         log: BytesOutput, count: usize, name: u16, floor: u32, list: List, n: usize, allowed: usize,
@@ -186,6 +189,16 @@ pub(crate) fn clearance(a: Shape<'_>, b: Shape<'_>) -> Reply {
 
 pub(crate) fn tangents(a: Shape<'_>, b: Shape<'_>) -> Reply {
     two(cocklesway_tangents, a, b)
+}
+
+pub(crate) fn passage(left: Shape<'_>, right: Shape<'_>, cart: Shape<'_>) -> Reply {
+    let (a, b, c) = (lent(left), lent(right), lent(cart));
+    // SAFETY: all three lists are live slices of these lengths.
+    unsafe {
+        cocklesway_passage(
+            a.list, a.n, a.floor, b.list, b.n, b.floor, c.list, c.n, c.floor,
+        )
+    }
 }
 
 pub(crate) fn log_read(log: &[u8], name: u16, out: &mut [i32]) -> Reply {

@@ -26,6 +26,7 @@
 //! |---|---|
 //! | one shape | [`judge`], [`furthest`], [`mirror`], [`length`], [`width`] |
 //! | two shapes | [`sum`], [`merge`], [`grow`], [`relation`], [`inside`], [`clearance`], [`tangents`] |
+//! | two obstacles and a cart | [`passage`] |
 //! | why they are apart | [`offer`], [`find`] |
 //! | a sum in parts | [`Walk::begin`], [`Walk::part`] |
 //! | points in any order | [`sweep`] |
@@ -66,14 +67,14 @@ mod tests;
 mod walk;
 
 pub use answers::{
-    Across, Clearance, Corners, Furthest, Inside, Length, Line, Nearest, Offer, Relation,
-    Separator, Standing, Tangents, Width,
+    Across, Clearance, Corners, Furthest, Inside, Length, Line, Nearest, Offer, Passage, Relation,
+    Separator, Standing, Tangents, Way, Width,
 };
 pub use book::{Addition, Book, log_read};
 pub use limits::{Limits, limits, version};
 pub use questions::{
-    clearance, find, furthest, grow, inside, judge, length, merge, mirror, offer, relation, sum,
-    sweep, tangents, width,
+    clearance, find, furthest, grow, inside, judge, length, merge, mirror, offer, passage,
+    relation, sum, sweep, tangents, width,
 };
 pub use refusal::{Axis, Refusal, Which};
 pub use shape::Shape;

@@ -2,8 +2,8 @@
 use crate::archive;
 use crate::reply::{coordinate, narrow, position};
 use crate::{
-    Across, Clearance, Corners, Furthest, Inside, Length, Line, Nearest, Offer, Refusal, Relation,
-    Separator, Shape, Standing, Tangents, Width,
+    Across, Clearance, Corners, Furthest, Inside, Length, Line, Nearest, Offer, Passage, Refusal,
+    Relation, Separator, Shape, Standing, Tangents, Way, Width,
 };
 
 /// Returns how many corners the shape has.
@@ -365,6 +365,44 @@ pub fn clearance(a: Shape<'_>, b: Shape<'_>) -> Result<Clearance, Refusal> {
     };
     let floor = narrow(floor);
     Ok(Clearance { nearest, floor })
+}
+
+/// Returns whether a cart may pass straight between two obstacles, without turning, and how. The corners of its outline
+/// are relative to its own origin. A cart that would touch both obstacles is blocked.
+///
+/// # Errors
+/// Refused: 1 to 5 of the first list, of the second, of the third, 13 unless all are on one floor, then 6 and 7 of the
+/// left obstacle grown by the cart, then of the right one.
+///
+/// ```
+/// use cocklesway::{Shape, passage};
+///
+/// let bed = Shape::new(&[[-1000, -450], [1000, -450], [1000, 450], [-1000, 450]], 2);
+/// let wall = Shape::new(&[[-1000, 1050], [1000, 1050]], 2);
+/// let lengthwise = Shape::new(&[[-450, -250], [450, -250], [450, 250], [-450, 250]], 2);
+/// assert_eq!(passage(wall, bed, lengthwise)?.way.map(|way| way.width), Some(100));
+///
+/// let crosswise = Shape::new(&[[-250, -450], [250, -450], [250, 450], [-250, 450]], 2);
+/// assert_eq!(passage(wall, bed, crosswise)?.way, None);
+/// # Ok::<(), cocklesway::Refusal>(())
+/// ```
+#[inline]
+pub fn passage(left: Shape<'_>, right: Shape<'_>, cart: Shape<'_>) -> Result<Passage, Refusal> {
+    Ok(match archive::passage(left, right, cart).values()? {
+        [0, floor, ..] => Passage {
+            way: None,
+            floor: narrow(floor),
+        },
+        [_, u, v, low, high, width, floor, ..] => Passage {
+            way: Some(Way {
+                across: [coordinate(u), coordinate(v)],
+                low: low.cast_signed(),
+                high: high.cast_signed(),
+                width,
+            }),
+            floor: narrow(floor),
+        },
+    })
 }
 
 /// Returns the four lines that just touch both shapes.

@@ -18,6 +18,8 @@ pub enum Which {
     First,
     /// The second one.
     Second,
+    /// The third one: the cart of a passage.
+    Third,
 }
 
 /// A coordinate of a corner.
@@ -255,10 +257,10 @@ impl Refusal {
 impl Which {
     /// 1 is the first.
     pub(crate) fn of(number: u64) -> Which {
-        if number == 1 {
-            Which::First
-        } else {
-            Which::Second
+        match number {
+            1 => Which::First,
+            2 => Which::Second,
+            _ => Which::Third,
         }
     }
 }
@@ -268,6 +270,7 @@ impl fmt::Display for Which {
         f.write_str(match self {
             Which::First => "first list",
             Which::Second => "second list",
+            Which::Third => "third list",
         })
     }
 }

@@ -126,7 +126,8 @@ static void pair(list a, list b) {
     cocklesway_length(a.numbers, a.n, 0);
     cocklesway_width(a.numbers, a.n, 0);
     cocklesway_offer(a.numbers, a.n, 0, b.numbers, b.n, 0, 1, 0);
-    calls += 11;
+    cocklesway_passage(a.numbers, a.n, 0, b.numbers, b.n, 0, a.numbers, a.n, 0);
+    calls += 12;
     in_bytes(cocklesway_sum_bytes, a, b);
     in_bytes(cocklesway_merge_bytes, a, b);
 }

@@ -2,7 +2,7 @@
 //! up to 65,535 only.
 use cocklesway::{
     Book, Refusal, Shape, Walk, clearance, find, furthest, grow, inside, judge, length, limits,
-    merge, mirror, offer, relation, sum, sweep, tangents, width,
+    merge, mirror, offer, passage, relation, sum, sweep, tangents, width,
 };
 use second::make::dice::Dice;
 use second::make::pairs;
@@ -21,7 +21,7 @@ const ONE: [Asked; 7] = [
     |a, _, _, _| width(a).err(),
     |a, _, _, log| Book::new(log).add(7, a, 99).err(),
 ];
-const TWO: [Asked; 11] = [
+const TWO: [Asked; 13] = [
     |a, b, out, _| sum(a, b, out).err(),
     |a, b, out, _| merge(a, b, out).err(),
     |a, b, out, _| grow(a, b, out).err(),
@@ -33,6 +33,8 @@ const TWO: [Asked; 11] = [
     |a, b, _, _| find(a, b).err(),
     |a, b, _, _| clearance(a, b).err(),
     |a, b, _, _| tangents(a, b).err(),
+    |a, b, _, _| passage(a, b, a).err(),
+    |a, b, _, _| passage(a, a, b).err(),
 ];
 
 /// Numbers at and above the highest floor.

@@ -1,8 +1,8 @@
 //! The exchange of the README, asked of the package.
 use cocklesway::{
     Addition, Axis, Book, Nearest, Reading, Refusal, Relation, Shape, Walk, Which, clearance, find,
-    furthest, grow, inside, judge, length, log_read, merge, mirror, offer, relation, sum, sweep,
-    tablet, tangents, width,
+    furthest, grow, inside, judge, length, log_read, merge, mirror, offer, passage, relation, sum,
+    sweep, tablet, tangents, width,
 };
 
 const SQUARE: Shape = on(2, &[[0, 0], [2, 0], [2, 2], [0, 2]]);
@@ -106,6 +106,38 @@ fn two_shapes_are_compared() {
         find(SQUARE, SQUARE).map(|r| (r.direction, r.floor)),
         Ok((None, 2))
     );
+}
+
+#[test]
+fn carts_pass_or_are_blocked() {
+    let told = |left, right, cart| passage(left, right, cart).map(|r| (r.way, r.floor));
+    let (wall, post) = (on(2, &[[-9, 7], [9, 7]]), on(2, &[[1, 0]]));
+    let (way, floor) = told(wall, post, SQUARE).expect("all are shapes");
+    let way = way.expect("there are 5 mm of room");
+    assert_eq!(
+        (way.across, way.low, way.high, way.width),
+        ([0, 1], 0, 5, 5)
+    );
+    assert_eq!(floor, 2);
+    let back =
+        passage(post, wall, SQUARE).map(|r| r.way.map(|way| (way.across, way.low, way.high)));
+    assert_eq!(back, Ok(Some(([0, -1], -5, 0))));
+    assert_eq!(told(SQUARE, TRIANGLE, post), Ok((None, 2)));
+    assert_eq!(told(wall, post, UPSTAIRS), Err(Refusal::Floors));
+    let shape = Which::Third;
+    let (edge, corner) = (0, 3);
+    let broken = Refusal::Side {
+        shape,
+        edge,
+        corner,
+    };
+    assert_eq!(told(wall, post, STAR), Err(broken));
+    assert_eq!(
+        broken.shape().map(|which| which.to_string()).as_deref(),
+        Some("third list")
+    );
+    let far = on(2, &[[-1_000_000, 0]]);
+    assert_eq!(told(post, far, TRIANGLE), Err(Refusal::FarAnswer));
 }
 
 #[test]

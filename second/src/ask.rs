@@ -9,6 +9,7 @@ use crate::host;
 use crate::log;
 use crate::measure;
 use crate::parts::{self, State};
+use crate::passage;
 use crate::plane::{Point, Shape};
 use crate::refusal::Refusal;
 use crate::separation::{self, Relation};
@@ -151,6 +152,19 @@ pub fn clearance(given: &Given) -> Answer {
         Between::EdgeCorner(found) => format!("ec {}", against(found)),
     };
     Ok(format!("{words} {w} @{floor}"))
+}
+
+/// The left obstacle, the right one, then the cart's outline.
+pub fn passage(given: &Given) -> Answer {
+    let ([left, right, cart], floor) = given.shapes()?;
+    let Some(way) = passage::passage(&left, &right, &cart)? else {
+        return Ok(format!("blocked @{floor}"));
+    };
+    let (d, low, high) = (way.across, way.low, way.high);
+    Ok(format!(
+        "{} {} {low} {high} {} @{floor}",
+        d.x, d.y, way.width
+    ))
 }
 
 pub fn tangents(given: &Given) -> Answer {

@@ -12,6 +12,7 @@ use std::io::{self, Write};
 mod floors;
 mod growing;
 mod log;
+mod passing;
 mod separating;
 
 /// Words of 01 or 02, and the questions with their stated answers.
@@ -290,6 +291,7 @@ pub fn groups() -> Vec<Group> {
     groups.extend(spelled(floors::FLOORS));
     groups.extend(spelled(separating::SEPARATING));
     groups.extend(spelled(growing::GROWING));
+    groups.extend(spelled(passing::PASSING));
     groups
 }
 

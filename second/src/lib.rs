@@ -16,6 +16,7 @@ mod log;
 pub mod make;
 mod measure;
 mod parts;
+mod passage;
 pub mod plane;
 mod questions;
 pub mod refusal;

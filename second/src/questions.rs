@@ -38,6 +38,7 @@ pub const TABLE: &[Row] = &[
     Row { word: "find", fields: &[Shape, Shape], ask: ask::find, make: make::find },
     Row { word: "clearance", fields: &[Shape, Shape], ask: ask::clearance, make: make::clearance },
     Row { word: "tangents", fields: &[Shape, Shape], ask: ask::tangents, make: make::tangents },
+    Row { word: "passage", fields: &[Shape, Shape, Shape], ask: ask::passage, make: make::passage },
     Row { word: "tablet", fields: &[Reading, Reading], ask: ask::tablet, make: readings::corner },
     Row { word: "bookread", fields: &[Log, Name, Room], ask: ask::log_read, make: logs::to_read },
     Row { word: "bookadd", fields: &[Log, Name, Shape, Stores], ask: ask::log_add, make: logs::to_add },

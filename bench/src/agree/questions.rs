@@ -5,7 +5,8 @@ use super::{Lent, on};
 use crate::plain;
 use crate::reply::Numbers;
 use cocklesway::{
-    Walk, clearance, find, furthest, inside, judge, length, offer, relation, tangents, width,
+    Walk, clearance, find, furthest, inside, judge, length, offer, passage, relation, tangents,
+    width,
 };
 
 /// A question of two shapes.
@@ -62,6 +63,11 @@ pub fn ask_one(tally: &mut Tally, lent: Lent) -> Result<(), String> {
 pub fn ask_two(tally: &mut Tally, a: Lent, b: Lent) -> Result<(), String> {
     for (word, by_hand, by_proof) in FIXED {
         tally.add(word, [a, b], by_hand(a, b), by_proof(a, b))?;
+    }
+    for cart in [(&[1, -1][..], a.1), (&[0, 0, 3, 1, 1, 2], a.1), b] {
+        let by_hand = plain::passage(a.0, a.1, b.0, b.1, cart.0, cart.1);
+        let by_proof = Numbers::of(passage(on(a), on(b), on(cart)));
+        tally.add("passage", [a, b, cart], by_hand, by_proof)?;
     }
     ask_directions(tally, a, b)
 }

@@ -1,5 +1,5 @@
 //! Clearance: the place of the differences that is nearest to the origin, found in one walk round them.
-use super::corner::{Corner, cross, dot, edge, squared};
+use super::corner::{Corner, cross, dot, edge, minus, opposite, squared};
 use super::edges::after;
 use super::judge::{Shape, admitted_pair};
 use super::root::rounded;
@@ -17,6 +17,21 @@ pub fn clearance(a: &[i32], f: u32, b: &[i32], g: u32) -> Numbers {
         },
         Err(refusal) => refusal,
     }
+}
+
+/// The direction from b to a along which they are nearest; none if they are not apart.
+#[inline(always)]
+pub fn towards(a: Shape, b: Shape) -> Option<Corner> {
+    let place = place(a, b)?;
+    let step = |list: &[Corner], i: usize| minus(list[after(i, list.len())], list[i]);
+    let (first, second) = (place.first, place.second);
+    let [x, y] = match place.edge {
+        None => return Some(minus(a.corners[first], b.corners[second])),
+        Some(Next::First) => step(a.corners, first),
+        Some(Next::Second) => opposite(step(b.corners, second)),
+        Some(Next::Both) => minus(step(a.corners, first), step(b.corners, second)),
+    };
+    Some([-y, x])
 }
 
 /// The place of the differences nearest to the origin: the corner that is made of these corners of the two shapes, or

@@ -50,7 +50,7 @@ fn away(a: Shape, b: Shape) -> Option<Corner> {
 
 /// The direction over the divisor of its parts.
 #[inline(always)]
-fn shortest([u, v]: Corner) -> Corner {
+pub fn shortest([u, v]: Corner) -> Corner {
     let common = direction::divisor(u, v) as i32;
     [u / common, v / common]
 }

@@ -1,8 +1,8 @@
 //! What the package answers, as numbers.
 use super::{MOST_VALUES, Numbers};
 use cocklesway::{
-    Across, Addition, Clearance, Corners, Furthest, Inside, Length, Nearest, Offer, Part, Refusal,
-    Separator, Shape, Standing, Tangents, Walk, Width,
+    Across, Addition, Clearance, Corners, Furthest, Inside, Length, Nearest, Offer, Part, Passage,
+    Refusal, Separator, Shape, Standing, Tangents, Walk, Width,
 };
 
 impl From<Refusal> for Numbers {
@@ -72,6 +72,17 @@ impl From<Inside> for Numbers {
 impl From<Offer> for Numbers {
     fn from(r: Offer) -> Numbers {
         Numbers::one(r.accepted as u64, r.floor)
+    }
+}
+
+impl From<Passage> for Numbers {
+    fn from(r: Passage) -> Numbers {
+        let Some(way) = r.way else {
+            return Numbers::one(0, r.floor);
+        };
+        let [u, v] = way.across.map(|z| z as u64);
+        let (low, high) = (way.low as u64, way.high as u64);
+        Numbers::all([1, u, v, low, high, way.width, r.floor.into()])
     }
 }
 

@@ -2,6 +2,7 @@
 -- behind it.
 pub mod Answer
 pub mod Admission
+pub mod Three
 pub mod Fit
 pub mod Meaning
 pub mod theory

@@ -12,14 +12,15 @@ ghost use Rattle.plane.specs.Sweep.{pointRows, ValidPoints};
 ghost use Rattle.plane.specs.Furthest.{directionRows};
 ghost use Rattle.plane.specs.Floor.{on, pairRows, floorRow, Same};
 ghost use Rattle.admission.specs.Admission.{Judged};
+ghost use Rattle.admission.specs.Three.{threeRows, SameThree};
 use answer::Refusal;
 use calipers::convex;
 use polygon::direction;
 use polygon::rules;
 use polygon::rules::Broken;
 
-// A list that is a shape, two shapes on one floor, the points of a sweep, a direction that passes, or the first
-// refusal.
+// A list that is a shape, two or three shapes on one floor, the points of a sweep, a direction that passes, or the
+// first refusal.
 pub enum Admission {
     Valid,
     No(Refusal),
@@ -92,6 +93,28 @@ fn blamed_pair(a: &[i32], f: u16, b: &[i32], g: u16) -> Admission
         return Admission::No(second);
     }
     admit_floors(f, g)
+}
+
+// Judges three lists, one after the other, and then whether all are on one floor.
+// Ruled out: third floor not compared; second shape blamed for the third.
+pub fn admit_three(a: &[i32], f: u16, b: &[i32], g: u16, c: &[i32], h: u16) -> Admission
+    ensures { λ r. ⌜ Judged
+        (SameThree (on (now (a .entry)) f) (on (now (b .entry)) g) (on (now (c .entry)) h))
+        (threeRows (on (now (a .entry)) f) (on (now (b .entry)) g) (on (now (c .entry)) h)) r ⌝ }
+{
+    if let Admission::No(of_first) = admit(a, 1) {
+        return Admission::No(of_first);
+    }
+    if let Admission::No(of_second) = admit(b, 2) {
+        return Admission::No(of_second);
+    }
+    if let Admission::No(of_third) = admit(c, 3) {
+        return Admission::No(of_third);
+    }
+    if let Admission::No(floors) = admit_floors(f, g) {
+        return Admission::No(floors);
+    }
+    admit_floors(f, h)
 }
 
 // Judges whether two shapes are on one floor: 13.

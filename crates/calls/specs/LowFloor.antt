@@ -1,15 +1,18 @@
 -- A floor that a host gives is any number (document 02, W14: "one above 65,535 being refused 13 with the same place in the order").
 --     lowFloor q       the question, with 13 also for a floor above its limit: after the rows of the shapes and before its own
+--     lowPassage l r c     the same of passage, whose rows of the shapes are among its own
 --     barred rows      the reply where a floor is above its limit: the refusal of the first of these rows that applies, or 13
 --     Numbered rows    no row has number 0, so that 0 tells an answer
 -- Different floors are 13 by the pair's own row, and equal ones above the limit by this one. What it means: `Meaning.antt`.
-use mathlib.Core.List.{List, [], _∷_}
+use mathlib.Core.List.{List, [], _∷_, _++_}
 use Prim.Native.Nat.{_<_}
 use lib.Dec.{ltb}
 use Rattle.plane.specs.Limits.{maxFloor}
 use Rattle.plane.specs.Reply.{Reply, refused, Row, row, firstRow}
-use Rattle.plane.specs.Floor.{floorOf}
-use Rattle.plane.specs.Question.{Question}
+use Rattle.plane.specs.Floor.{Floored, corners, noShape, floorOf}
+use Rattle.plane.specs.Question.{Question, asks}
+use Rattle.admission.specs.Three.{threeRows}
+use Rattle.passage.specs.Passage.{passageNumbers, grownRows}
 
 unfoldable pub lowFloor : Question → Question
 lowFloor q = record {
@@ -19,6 +22,10 @@ lowFloor q = record {
   shape = q .shape;
   lent = q .lent;
 }
+
+unfoldable pub lowPassage : Floored → Floored → Floored → Question
+lowPassage l r c = asks (noShape (l .floor)) (threeRows l r c ++ (row 13 (ltb maxFloor (l .floor)) [] ∷ grownRows l r c))
+    (passageNumbers (corners l) (corners r) (corners c))
 
 abbrev pub barred : List Row → Reply
 barred rows = firstRow rows (refused 13 [])

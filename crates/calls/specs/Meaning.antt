@@ -1,7 +1,8 @@
 -- What a floor that is any number means to a question (document 02, W14), what a host may read from the numbers of a call, and what the
 -- calls on bytes mean ("with the answers unchanged"): they are questions, so all of this holds for them, and so does all that plane's
 -- `Meaning.antt` says of every question. The theorems are proved in the theory; here they are only cited.
-use mathlib.Core.Path.{_≡_, refl}
+use mathlib.Core.Path.{_≡_, refl, sym, _∙_}
+use mathlib.Core.Bool.{true, _||_}
 use mathlib.Core.List.{List, [], _∷_, _++_, map}
 use Prim.Native.Nat.{ℕ, _*_, _≤_, _<_}
 use borrow.Author.Tests.{le-ltb, lt-ltb}
@@ -20,12 +21,14 @@ use Rattle.separator.specs.Separator.{Finds, separatorNumbers}
 use Rattle.journal.specs.Adding.{added}
 use Rattle.reply.specs.Told.{bits, crossed}
 use Rattle.reply.specs.Heard.{numberOf, valuesOf}
-use Rattle.calls.specs.LowFloor.{lowFloor, Numbered}
+use Rattle.passage.specs.Passage.{askPassage}
+use Rattle.calls.specs.LowFloor.{lowFloor, lowPassage, Numbered}
 use Rattle.calls.specs.Calls.{SeparatorTold, addedLow}
 use Rattle.calls.specs.Bytes.{wordsIn, askJudgeBytes, askRelationBytes, askSumBytes, askMergeBytes, bytesAfter}
 use Rattle.calls.specs.Packing.{packed, Unpacked, packed-back}
 use Rattle.calls.specs.Passing.{Room}
 use Rattle.calls.specs.theory.Low.{within}
+use Rattle.calls.specs.theory.Passages as passages
 use Rattle.calls.specs.theory.Thirteen as thirteen
 use Rattle.calls.specs.theory.Fits.{judged-fits, relation-fits, made-fits}
 use Rattle.calls.specs.theory.Stored.{kept-bytes, wrote-bytes, room-words, few-numbers, room-same, made-read-back}
@@ -56,6 +59,16 @@ module _ (q : Question) where
   -- a host that reads 0 has an answer, whose values are the question's
   pub zero-is-answered : Numbered (q .rest) → numberOf (crossed (reply (lowFloor q))) ≡ 0 → reply (lowFloor q) ≡ answered (values q)
   zero-is-answered rows h = thirteen.answered-zero q rows h
+
+-- passage, which has three shapes: on floors within the limit it is the question; above, 13 comes after the rows of the three lists
+module _ (l r c : Floored) where
+  pub passage-within-is-the-question : l .floor ≤ maxFloor → reply (lowPassage l r c) ≡ reply (askPassage l r c)
+  passage-within-is-the-question h = sym (passages.passage-within l r c (le-ltb maxFloor (l .floor) h))
+
+  pub passage-above-is-thirteen : Valid (l .list) → Valid (r .list) → Valid (c .list)
+      → ((ltb maxFloor (l .floor) || ltb maxFloor (r .floor)) || ltb maxFloor (c .floor)) ≡ true
+      → reply (lowPassage l r c) ≡ refused 13 []
+  passage-above-is-thirteen u v w h = sym (passages.barred-three _ _ _ u v w ∙ passages.passage-above l r c h)
 
 -- "finds one, or says none if they are not apart": where the number is 0, what is told is accepted, or the shapes are not apart
 pub told-separator-is-found : (a b : Floored) (ns : List ℕ) (s : SeparatorTold a b ns) → numberOf ns ≡ 0

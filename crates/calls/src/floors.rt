@@ -22,6 +22,14 @@ pub fn exceeds(f: u32, g: u32) -> bool
     limits::exceeds_floor(f) || limits::exceeds_floor(g)
 }
 
+// Whether one of three floors is above its limit.
+// Ruled out: floor of the cart not looked at.
+pub fn exceeds_three(f: u32, g: u32, h: u32) -> bool
+    ensures { λ r. ⌜ r ≡ ((ltb maxFloor f || ltb maxFloor g) || ltb maxFloor h) ⌝ }
+{
+    exceeds(f, g) || limits::exceeds_floor(h)
+}
+
 // Returns the list's refusal, else 13.
 pub fn barred(list: &[i32]) -> Reply
     ensures { λ r. ⌜ numbers r ≡ crossed (LowFloor·barred (shapeRows 1 (now (list .entry)))) ⌝ }
@@ -43,6 +51,24 @@ pub fn barred_pair(a: &[i32], b: &[i32]) -> Reply
     }
     if let Admission::No(second) = admission::admit(b, 2) {
         return refusals::of_refusal(second);
+    }
+    refusals::of_refusal(Refusal::Floors)
+}
+
+// Returns the refusal of the first of three lists that has one, else 13.
+// Ruled out: second list judged for the third.
+pub fn barred_three(a: &[i32], b: &[i32], c: &[i32]) -> Reply
+    ensures { λ r. ⌜ numbers r ≡ crossed (LowFloor·barred
+        (shapeRows 1 (now (a .entry)) ++ (shapeRows 2 (now (b .entry)) ++ shapeRows 3 (now (c .entry))))) ⌝ }
+{
+    if let Admission::No(of_first) = admission::admit(a, 1) {
+        return refusals::of_refusal(of_first);
+    }
+    if let Admission::No(of_second) = admission::admit(b, 2) {
+        return refusals::of_refusal(of_second);
+    }
+    if let Admission::No(of_third) = admission::admit(c, 3) {
+        return refusals::of_refusal(of_third);
     }
     refusals::of_refusal(Refusal::Floors)
 }

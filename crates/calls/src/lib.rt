@@ -9,6 +9,7 @@ mod lent;
 mod logs;
 mod packing;
 mod pairs;
+mod passages;
 mod readings;
 mod shapes;
 mod walks;

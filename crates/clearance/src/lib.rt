@@ -7,13 +7,17 @@ mod reach;
 
 ghost use mathlib.Core.Bool.{true};
 ghost use mathlib.Core.Path.{_≡_};
+ghost use Prim.Native.Nat.{_^_};
 ghost use Rattle.plane.specs.Point.{points};
 ghost use Rattle.plane.specs.Refusal.{Valid};
 ghost use Rattle.plane.specs.Separation.{apart};
 ghost use Rattle.plane.specs.Clearance.{numbersOf, nearest as Clearance·nearest};
+ghost use Rattle.polygon.specs.Point.{at, Small};
+ghost use Rattle.clearance.specs.Facing.{Facing};
 ghost use Rattle.clearance.specs.Answer.{valuesOf};
 use measured::Distance;
 use polygon::peak;
+use polygon::point::Point;
 
 // Where two shapes that are apart are nearest, and how near: the first of the least candidates. A walk round their
 // differences finds the direction, which leaves one or two corners of each shape; of these the first that are reached.
@@ -23,6 +27,15 @@ pub fn nearest(a: &[i32], b: &[i32]) -> Distance
     ensures { λ r. ⌜ valuesOf r ≡ numbersOf (points (now (a .entry))) (points (now (b .entry)))
         (Clearance·nearest (points (now (a .entry))) (points (now (b .entry)))) ⌝ }
 {
-    let n = facing::facing(a, b, peak::top(b));
+    let n = towards(a, b);
     measured::measured(a, b, reach::first_reached(a, b, n))
+}
+
+// A direction from the second shape to the first along which they are nearest, where they are apart. It may be of any
+// length.
+pub fn towards(a: &[i32], b: &[i32]) -> Point
+    requires { ⌜ Valid (now a) × Valid (now b) × (apart (points (now a)) (points (now b)) ≡ true) ⌝ }
+    ensures { λ r. ⌜ Small (2 ^ 22) (at r) × Facing (points (now (a .entry))) (points (now (b .entry))) (at r) ⌝ }
+{
+    facing::facing(a, b, peak::top(b))
 }

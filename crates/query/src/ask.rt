@@ -114,6 +114,7 @@ fn told(
         Question::Find => reply::of_separator(separators::find(a, f, b, g)),
         Question::Clearance => reply::of_clearance(questions::clearance(a, f, b, g)),
         Question::Tangents => reply::of_tangents(questions::tangents(a, f, b, g)),
+        Question::Passage => reply::of_passage(questions::passage(a, f, b, g, c, h)),
         Question::Tablet => readings::tablet(line),
         Question::LogRead => reply::of_answer(questions::log_read(log, name(b), out)),
         Question::LogAdd => reply::of_addition(questions::log_add(log, name(b), h, c, room(d))),

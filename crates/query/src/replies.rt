@@ -13,6 +13,7 @@ pub enum Form {
     YesNo,
     Direction,
     Clearance,
+    Passage,
     // `ok` and the value as a word. The log that an addition leaves is added by the caller.
     Addition,
     // `ok` and the values in hexadecimal digits. A refusal carries the part of the corner.
@@ -55,6 +56,7 @@ fn heading(out: &mut [u8], filled: usize, told: Reply, form: Form) -> usize {
         Form::YesNo => either(out, filled, first, b"ok no", b"ok yes"),
         Form::Direction => either(out, filled, first, b"ok none", b"ok"),
         Form::Clearance => clearance(out, filled, first),
+        Form::Passage => either(out, filled, first, b"ok blocked", b"ok"),
         Form::Addition => either(out, filled, first, b"ok cut", b"ok finished"),
         Form::Call => output::labelled(out, filled, b"", first),
         _ => output::word(out, filled, b"ok"),

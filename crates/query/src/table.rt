@@ -21,6 +21,7 @@ pub enum Question {
     Find,
     Clearance,
     Tangents,
+    Passage,
     Tablet,
     LogRead,
     LogAdd,
@@ -40,6 +41,8 @@ const AIMED: u64 = ONE + 16 * fields::DIRECTION;
 const WRITTEN: u64 = ONE + 16 * fields::ROOM;
 
 const PAIR: u64 = ONE + 16 * fields::SHAPE;
+
+const THREE: u64 = PAIR + 256 * fields::SHAPE;
 
 const PAIR_WRITTEN: u64 = PAIR + 256 * fields::ROOM;
 
@@ -78,14 +81,15 @@ fn on_one(mut found: Entry, word: &[u8]) -> Entry {
     row(found, word, b"width", Question::Width, ONE)
 }
 
-// How two shapes stand to each other.
+// How two shapes stand to each other, and whether a third passes between them.
 fn on_two(mut found: Entry, word: &[u8]) -> Entry {
     found = row(found, word, b"relation", Question::Relation, PAIR);
     found = row(found, word, b"inside", Question::Inside, PAIR);
     found = row(found, word, b"offer", Question::Offer, PAIR_AIMED);
     found = row(found, word, b"find", Question::Find, PAIR);
     found = row(found, word, b"clearance", Question::Clearance, PAIR);
-    row(found, word, b"tangents", Question::Tangents, PAIR)
+    found = row(found, word, b"tangents", Question::Tangents, PAIR);
+    row(found, word, b"passage", Question::Passage, THREE)
 }
 
 // The shapes that are made of two.
@@ -123,6 +127,7 @@ pub fn form_of(question: Question) -> Form {
         Question::Inside | Question::Offer => Form::YesNo,
         Question::Find => Form::Direction,
         Question::Clearance => Form::Clearance,
+        Question::Passage => Form::Passage,
         Question::Parts => Form::Begun,
         Question::Tablet => Form::Bits,
         Question::LogAdd => Form::Addition,

@@ -29,6 +29,8 @@ use Rattle.questions.specs.declared.answer.Separator.{Separator}
 use Rattle.questions.specs.declared.answer.Separator.the-variants as Separator
 use Rattle.questions.specs.declared.answer.Clearance.{Clearance}
 use Rattle.questions.specs.declared.answer.Clearance.the-variants as Clearance
+use Rattle.questions.specs.declared.answer.Passage.{Passage}
+use Rattle.questions.specs.declared.answer.Passage.the-variants as Passage
 use Rattle.questions.specs.declared.answer.Line.{Line}
 use Rattle.questions.specs.declared.answer.Tangents.{Tangents}
 use Rattle.questions.specs.declared.answer.Tangents.the-variants as Tangents
@@ -91,6 +93,12 @@ ofClearance (Clearance.Corners i j d w floor) = answered (pos 1 ∷ pos i ∷ po
 ofClearance (Clearance.CornerEdge c e t q w floor) = answered (pos 2 ∷ pos c ∷ pos e ∷ pos t ∷ pos q ∷ pos w ∷ pos floor ∷ [])
 ofClearance (Clearance.EdgeCorner c e t q w floor) = answered (pos 3 ∷ pos c ∷ pos e ∷ pos t ∷ pos q ∷ pos w ∷ pos floor ∷ [])
 ofClearance (Clearance.No r) = ofRefusal r
+
+-- 0 blocked; or 1, the direction, the two lines and the width
+abbrev pub ofPassage : Passage → Reply
+ofPassage (Passage.Blocked floor) = answered (pos 0 ∷ pos floor ∷ [])
+ofPassage (Passage.Free u v low high width floor) = answered (pos 1 ∷ u ∷ v ∷ low ∷ high ∷ pos width ∷ pos floor ∷ [])
+ofPassage (Passage.No r) = ofRefusal r
 
 -- of each line the position in the first shape, then in the second
 abbrev pub ofTangents : Tangents → Reply

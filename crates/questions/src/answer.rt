@@ -116,6 +116,23 @@ pub enum Clearance {
     No(Refusal),
 }
 
+// Blocked, or how a cart may pass straight between two obstacles: the direction across, from the right obstacle to the
+// left one, the values in it between which the cart's origin stays, and the width of that in millimetres, rounded down.
+pub enum Passage {
+    Blocked {
+        floor: u16,
+    },
+    Free {
+        u: i32,
+        v: i32,
+        low: i64,
+        high: i64,
+        width: u64,
+        floor: u16,
+    },
+    No(Refusal),
+}
+
 // A line from a corner of the first shape to a corner of the second, by their positions.
 pub struct Line {
     pub from: usize,

@@ -1,7 +1,7 @@
-// The questions of documents 01 and 02, and all that callers need of this library. Each judges its own lists, once
-// each, gives its refusals in the order of the table, and asks one inner function. A shape is lent with its floor, and
-// every answer on shapes carries it: of two shapes, a on floor f and b on floor g, both have the same, or are refused
-// 13 behind 1 to 5 of the first and of the second.
+// The questions of documents 01 and 02, two of our own, and all that callers need of this library. Each judges its own
+// lists, once each, gives its refusals in the order of the table, and asks one inner function. A shape is lent with its
+// floor, and every answer on shapes carries it: of two shapes, a on floor f and b on floor g, both have the same, or
+// are refused 13 behind 1 to 5 of the first and of the second.
 pub mod answer;
 mod coordinate;
 mod merging;
@@ -12,11 +12,12 @@ pub mod walk;
 ghost use mathlib.Core.Path.{_≡_};
 ghost use mathlib.Core.List.{[], _∷_, _++_};
 ghost use lib.IntN.{pos};
-ghost use Rattle.plane.specs.Reply.{answered};
+ghost use Rattle.plane.specs.Reply.{answered, NoneApply};
 ghost use Rattle.separation.specs.Answer.{numberOf};
 ghost use mathlib.Core.Bool.{true, false};
 ghost use Rattle.plane.specs.Point.{point, points};
 ghost use Rattle.plane.specs.Refusal.{Valid};
+ghost use Rattle.plane.specs.Output.{sizeRows};
 ghost use Rattle.plane.specs.Separation.{apart};
 ghost use Rattle.plane.specs.Tangent.{tangentFrom, tangentTo};
 ghost use Rattle.plane.specs.Floor.{on};
@@ -25,11 +26,16 @@ ghost use Rattle.plane.specs.Question.{askSweep, askLength, askWidth, askRelati
 ghost use Rattle.plane.specs.Question.{askTangents};
 ghost use Rattle.questions.specs.Answer.{ofAnswer, ofFurthest, ofLength, ofWidth};
 ghost use Rattle.clearance.specs.Answer.{valuesOf};
+ghost use Rattle.growth.specs.Grown.{grown};
+ghost use Rattle.passage.specs.Passage.{askPassage};
+ghost use Rattle.passage.specs.Corridor.{wayNumbers};
+ghost use Rattle.admission.specs.Admission.{Judged};
 ghost use Rattle.tablet.specs.Reading.{tabletSent};
 ghost use Rattle.journal.specs.Format.{records};
 ghost use Rattle.journal.specs.Reading.{damaged, askRead};
 ghost use Rattle.journal.specs.Adding.{added, end as Adding·end};
 ghost use Rattle.questions.specs.Answer.{ofRelation, ofInside, ofClearance, ofTangents, ofTablet, ofAddition};
+ghost use Rattle.questions.specs.Answer.{ofPassage};
 use admission::Admission;
 use admission::deliver;
 use answer::Addition;
@@ -39,6 +45,7 @@ use answer::Furthest;
 use answer::Inside;
 use answer::Length;
 use answer::Line;
+use answer::Passage;
 use answer::Refusal;
 use answer::Relation;
 use answer::Sent;
@@ -51,6 +58,7 @@ use coordinate::Coordinate;
 use journal::latest::Found;
 use journal::storing;
 use journal::survey::Surveyed;
+use passage::corridor::Way;
 use polygon::corners;
 use polygon::direction;
 use polygon::limits;
@@ -357,6 +365,65 @@ fn measured(found: Distance, floor: u16) -> Clearance
             turn,
             squared,
             rounded,
+            floor,
+        },
+    }
+}
+
+// Whether a cart may pass straight between two obstacles, without turning, and how: the direction (u, v) across the
+// way, its parts with no common divisor above 1, in which the right obstacle is below and the left one above; where the
+// cart's origin stays, at values strictly between low and high in that direction; and the width of that in millimetres,
+// rounded down. No other direction has as much room. Blocked, if in every direction the gap is at most the cart's
+// spread: a cart that would touch both obstacles is. The outline's corners are relative to the cart's own origin. Any
+// of the three may be a point or a segment. Refused: 1 to 5 of the left obstacle, of the right one, of the cart;
+// different floors; then, of the left obstacle grown by the cart and then of the right one, too many corners and a
+// corner out of range.
+// Ruled out: right obstacle not judged when grown; obstacles exchanged.
+pub fn passage(left: &[i32], f: u16, right: &[i32], g: u16, cart: &[i32], h: u16) -> Passage
+    ensures { λ r. ⌜ ofPassage r ≡ reply
+        (askPassage (on (now (left .entry)) f) (on (now (right .entry)) g) (on (now (cart .entry)) h)) ⌝ }
+{
+    if let Admission::No(refusal) = admission::admit_three(left, f, right, g, cart, h) {
+        return Passage::No(refusal);
+    }
+    if let Admission::No(refusal) = admit_grown(left, cart) {
+        return Passage::No(refusal);
+    }
+    if let Admission::No(refusal) = admit_grown(right, cart) {
+        return Passage::No(refusal);
+    }
+    passed(passage::between(left, right, cart), f)
+}
+
+// Judges an obstacle grown by the cart by its size, before it is made: 6, then 7.
+fn admit_grown(obstacle: &[i32], cart: &[i32]) -> Admission
+    requires { ⌜ Valid (now obstacle) × Valid (now cart) ⌝ }
+    ensures { λ r. ⌜ Judged
+        (NoneApply (sizeRows (grown (points (now (obstacle .entry))) (points (now (cart .entry))))))
+        (sizeRows (grown (points (now (obstacle .entry))) (points (now (cart .entry))))) r ⌝ }
+{
+    let n = differences::reckon(obstacle, cart, peak::top(cart), SHAPE_NUMBERS);
+    deliver::sized(n, differences::is_far(obstacle, cart))
+}
+
+// A way with its floor.
+fn passed(found: Way, floor: u16) -> Passage
+    ensures { λ r. ⌜ ofPassage r ≡ answered (wayNumbers found ++ (pos floor ∷ [])) ⌝ }
+{
+    match found {
+        Way::Blocked => Passage::Blocked { floor },
+        Way::Free {
+            u,
+            v,
+            low,
+            high,
+            width,
+        } => Passage::Free {
+            u,
+            v,
+            low,
+            high,
+            width,
             floor,
         },
     }

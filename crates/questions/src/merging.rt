@@ -11,7 +11,7 @@ use crate::answer::Answer;
 use admission::deliver;
 use polygon::limits;
 
-// So many numbers hold the corners of two small shapes, and of two of middle size.
+// Numbers of a buffer for two small shapes, and for two of middle size.
 const SMALL_NUMBERS: usize = 256;
 
 const MIDDLE_NUMBERS: usize = 1_024;
@@ -34,7 +34,7 @@ pub fn merge(a: &[i32], b: &[i32], floor: u16, out: &mut [i32]) -> Answer
     merge_large(a, b, floor, out)
 }
 
-// The same for two small shapes.
+// Does the same for two small shapes.
 fn merge_small(a: &[i32], b: &[i32], floor: u16, out: &mut [i32]) -> Answer
     requires { ⌜ Valid (now a) × Valid (now b) × (length (now a) + length (now b) ≤ 256) ⌝ }
     ensures { λ r. ⌜
@@ -46,7 +46,7 @@ fn merge_small(a: &[i32], b: &[i32], floor: u16, out: &mut [i32]) -> Answer
     merge_in(a, b, floor, &mut shape, out)
 }
 
-// The same for two shapes of middle size.
+// Does the same for two shapes of middle size.
 fn merge_middle(a: &[i32], b: &[i32], floor: u16, out: &mut [i32]) -> Answer
     requires { ⌜ Valid (now a) × Valid (now b) × (length (now a) + length (now b) ≤ 1_024) ⌝ }
     ensures { λ r. ⌜
@@ -58,7 +58,7 @@ fn merge_middle(a: &[i32], b: &[i32], floor: u16, out: &mut [i32]) -> Answer
     merge_in(a, b, floor, &mut shape, out)
 }
 
-// The same for any two shapes.
+// Does the same for any two shapes.
 fn merge_large(a: &[i32], b: &[i32], floor: u16, out: &mut [i32]) -> Answer
     requires { ⌜ Valid (now a) × Valid (now b) ⌝ }
     ensures { λ r. ⌜
@@ -70,7 +70,7 @@ fn merge_large(a: &[i32], b: &[i32], floor: u16, out: &mut [i32]) -> Answer
     merge_in(a, b, floor, &mut shape, out)
 }
 
-// The same in a lent buffer.
+// Does the same in a lent buffer.
 fn merge_in(a: &[i32], b: &[i32], floor: u16, shape: &mut [i32], out: &mut [i32]) -> Answer
     requires { ⌜ Valid (now a) × Valid (now b) × (length (now a) + length (now b) ≤ length (now shape)) ⌝ }
     ensures { λ r. ⌜

@@ -11,7 +11,7 @@ use crate::answer::Answer;
 use admission::deliver;
 use polygon::limits;
 
-// So many numbers hold both chains of few points, and of some more.
+// Numbers of a buffer for both chains of few points, and of some more.
 const SMALL_NUMBERS: usize = 128;
 
 const MIDDLE_NUMBERS: usize = 1_024;

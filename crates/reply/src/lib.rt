@@ -6,7 +6,7 @@ pub mod refusals;
 ghost use mathlib.Core.Path.{_≡_};
 ghost use Rattle.questions.specs.Answer.{ofAnswer, ofBegun, ofPart, ofFurthest, ofLength};
 ghost use Rattle.questions.specs.Answer.{ofWidth, ofRelation, ofInside, ofOffer, ofSeparator, ofClearance, ofTangents};
-ghost use Rattle.questions.specs.Answer.{ofTablet, ofAddition};
+ghost use Rattle.questions.specs.Answer.{ofPassage, ofTablet, ofAddition};
 ghost use Rattle.reply.specs.Told.{crossed, numbers};
 use questions::answer::Addition;
 use questions::answer::Answer;
@@ -17,6 +17,7 @@ use questions::answer::Inside;
 use questions::answer::Length;
 use questions::answer::Offer;
 use questions::answer::Part;
+use questions::answer::Passage;
 use questions::answer::Relation;
 use questions::answer::Separator;
 use questions::answer::Tablet;
@@ -239,6 +240,33 @@ pub fn of_clearance(answer: Clearance) -> Reply
             floor as u64,
         ),
         Clearance::No(refusal) => refusals::of_refusal(refusal),
+    }
+}
+
+// Returns 0 for blocked; or 1, the direction, the two lines, all of which may be below 0, and the width.
+// Ruled out: lines exchanged.
+pub fn of_passage(answer: Passage) -> Reply
+    ensures { λ r. ⌜ numbers r ≡ crossed (ofPassage answer) ⌝ }
+{
+    match answer {
+        Passage::Blocked { floor } => numbers::answered2(0, floor as u64),
+        Passage::Free {
+            u,
+            v,
+            low,
+            high,
+            width,
+            floor,
+        } => numbers::answered7(
+            1,
+            numbers::extended(u),
+            numbers::extended(v),
+            numbers::bits(low),
+            numbers::bits(high),
+            width,
+            floor as u64,
+        ),
+        Passage::No(refusal) => refusals::of_refusal(refusal),
     }
 }
 

@@ -1,6 +1,6 @@
 // Inner functions for a direction in which one shape is below another: the witness that they are apart (document 02,
 // request W13). Callers ask the crate `questions`.
-mod primitive;
+pub mod primitive;
 
 ghost use mathlib.Core.Bool.{false};
 ghost use mathlib.Core.Path.{_≡_};

@@ -14,6 +14,7 @@ pub fn of_answer(case: &Case, answer: &str, said: &str) -> Result<Vec<i128>, Str
         "find" => found_direction(case, words[0], said),
         "clearance" => clearance(case, &words, said),
         "tangents" => Ok(tangents(case, &words)),
+        "passage" => passage(case, &words, said),
         "parts" => Ok(parts(case, answer)),
         "part" => Ok(part(case, &words, answer)),
         "tablet" => Ok(words.iter().map(|word| double(word) as i128).collect()),
@@ -101,6 +102,18 @@ fn tangents(case: &Case, words: &[&str]) -> Vec<i128> {
         line(6),
     ]
     .concat()
+}
+
+fn passage(case: &Case, words: &[&str], said: &str) -> Result<Vec<i128>, String> {
+    let labels = [case.label(2), both(case)].concat();
+    if words[0] == "blocked" {
+        needs(said, " cannot pass straight between ")?;
+        return Ok(labels);
+    }
+    needs(said, " can pass straight between ")?;
+    let [u, v, low, high, width] = [0, 1, 2, 3, 4].map(|at| number(words[at]));
+    rounding(said, high - low, u * u + v * v, width)?;
+    Ok([labels, vec![width, u, v, u, v, low, high]].concat())
 }
 
 fn part(case: &Case, words: &[&str], answer: &str) -> Vec<i128> {

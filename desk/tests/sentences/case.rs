@@ -20,7 +20,7 @@ pub struct List {
     pub numbers: Vec<i64>,
 }
 
-/// Questions on two lists; `bookadd` has one list as its third field, all others one as their first.
+/// Questions on two lists; `passage` has three, `bookadd` one as its third field, all others one as their first.
 const TWO: [&str; 11] = [
     "sum",
     "parts",
@@ -34,6 +34,9 @@ const TWO: [&str; 11] = [
     "clearance",
     "tangents",
 ];
+
+/// What the lists of a question are called.
+const NAMES: [&str; 3] = ["alpha", "beta", "gamma"];
 
 impl List {
     pub fn read(text: &str) -> Option<List> {
@@ -92,7 +95,7 @@ impl Case {
             .map(|&at| List::read(fields.get(at)?))
             .collect();
         let lists = lists?;
-        let names = ["alpha", "beta"].map(|name| named.then(|| name.to_string()));
+        let names = NAMES.map(|name| named.then(|| name.to_string()));
         Some(Case {
             line: line.to_string(),
             names: names.into_iter().take(lists.len()).collect(),
@@ -147,6 +150,7 @@ pub fn list_fields(word: &str) -> &'static [usize] {
     match word {
         "tablet" | "bookread" => &[],
         "bookadd" => &[2],
+        "passage" => &[0, 1, 2],
         word if TWO.contains(&word) => &[0, 1],
         _ => &[0],
     }
@@ -165,7 +169,7 @@ pub fn with_names(line: &str) -> Option<String> {
         return None;
     }
     let mut text = String::new();
-    for (name, &at) in ["alpha", "beta"].iter().zip(lists) {
+    for (name, &at) in NAMES.iter().zip(lists) {
         let list = fields.get(at)?;
         if !answer(format!("judge | {list}").as_bytes()).starts_with("ok") {
             return None;

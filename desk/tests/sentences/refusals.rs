@@ -21,15 +21,22 @@ pub fn of_refusal(case: &Case, said: &str) -> Result<Vec<i128>, String> {
             of_list(case, number, after("shape").unwrap_or(1) - 1, &words, said)?
         }
         3 | 17 | 18 => of_reading(case, words[3], said)?,
-        6 => vec![1024],
-        7 => far(case, said)?,
+        6 => [grown(case), vec![1024]].concat(),
+        7 => [grown(case), far(case, said)?].concat(),
         8 => room(case),
         9 => both(),
         10 => flat(case, said)?,
         11 | 12 => of_direction(case, number),
         13 => {
-            let [f, g] = [0, 1].map(|which| vec![case.lists[which].floor]);
-            [case.label(0), f, case.label(1), g].concat()
+            let floor = |which: usize| case.lists[which].floor;
+            let other = if floor(0) == floor(1) { 2 } else { 1 };
+            [
+                case.label(0),
+                vec![floor(0)],
+                case.label(other),
+                vec![floor(other)],
+            ]
+            .concat()
         }
         14 => [case.numbers_of_field(2), both()].concat(),
         15 => vec![after("place").expect("a place") as i128],
@@ -138,10 +145,28 @@ fn of_reading(case: &Case, axis: &str, said: &str) -> Result<Vec<i128>, String> 
     Err(format!("{told} was not read, but {read}"))
 }
 
+/// The obstacle of a passage that is refused when it is grown: the left one, if that is.
+fn obstacle(case: &Case) -> usize {
+    let grown = answer(format!("grow | {} | {}", case.fields[0], case.fields[2]).as_bytes());
+    usize::from(grown.starts_with("ok"))
+}
+
+/// The labels of the obstacle of a passage that is refused when it is grown, and of its cart.
+fn grown(case: &Case) -> Vec<i128> {
+    match case.word.as_str() {
+        "passage" => [case.label(obstacle(case)), case.label(2)].concat(),
+        _ => Vec::new(),
+    }
+}
+
 /// How far the answer would reach: the first end of its shape by brute force that is out of range.
 fn far(case: &Case, said: &str) -> Result<Vec<i128>, String> {
-    let (a, mut b) = (case.lists[0].points(), case.lists[1].points());
-    if case.word == "grow" {
+    let (first, second) = match case.word.as_str() {
+        "passage" => (obstacle(case), 2),
+        _ => (0, 1),
+    };
+    let (a, mut b) = (case.lists[first].points(), case.lists[second].points());
+    if ["grow", "passage"].contains(&case.word.as_str()) {
         b = b.iter().map(|&p| -p).collect();
     }
     let all = second::combine::all_sums(&a, &b);

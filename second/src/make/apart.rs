@@ -170,7 +170,7 @@ fn long_ones(dice: &mut Dice) -> (Shape, Shape) {
 
 /// The second, moved by so many steps that all of it is past the first in the step's direction; a
 /// few more at times, or a few fewer, which may leave them touching or overlapping.
-fn away(dice: &mut Dice, a: &[Point], b: &[Point], step: Point) -> Shape {
+pub fn away(dice: &mut Dice, a: &[Point], b: &[Point], step: Point) -> Shape {
     let short = -gap(a, b, step);
     let least = short.div_euclid(dot(step, step)) + 1;
     let steps =

@@ -2,7 +2,9 @@
 
 use super::dice::Dice;
 use super::floors::texts;
-use super::{List, apart, damage, line, numbers, pairs, points, shape_text, shapes, tails};
+use super::{
+    List, apart, damage, line, numbers, pairs, passages, points, shape_text, shapes, tails,
+};
 use crate::answer::answer;
 use crate::combine::mirror as mirror_of;
 use crate::direction;
@@ -36,6 +38,12 @@ pub fn clearance(dice: &mut Dice) -> Vec<String> {
 
 pub fn tangents(dice: &mut Dice) -> Vec<String> {
     let lists = two_lists(dice, apart::mostly);
+    texts(dice, &lists)
+}
+
+pub fn passage(dice: &mut Dice) -> Vec<String> {
+    let shapes = passages::three(dice);
+    let lists = damaged_at_times(dice, &shapes, 24);
     texts(dice, &lists)
 }
 

@@ -5,6 +5,7 @@
 //!     shapes, pairs, long   good shapes, alone and in pairs; damage: lists that are refused
 //!     points                points of sweeps; floors: those of all lists
 //!     apart                 pairs of good shapes that are mostly apart
+//!     passages              two obstacles and a cart
 //!     parts                 walks and calls of sums in parts; all of them for small sums
 //!     tails                 directions and rooms; readings: bits of doubles; logs: their bytes
 //!     host                  bytes, floors and rooms of a host's calls
@@ -24,6 +25,7 @@ pub mod logs;
 pub mod long;
 pub mod pairs;
 pub mod parts;
+mod passages;
 pub mod points;
 pub mod readings;
 mod shapes;

@@ -82,7 +82,7 @@ fn sort_of(line: &[u8], answer: &str) -> String {
 
 #[test]
 fn every_sort_of_answer_comes_up_often() {
-    let input = made(12, 12_000);
+    let input = made(14, 12_000);
     let mut seen: HashMap<String, usize> = HashMap::new();
     for (_, line) in lines::questions(&input) {
         *seen.entry(sort_of(line, &answer(line))).or_default() += 1;
@@ -91,7 +91,7 @@ fn every_sort_of_answer_comes_up_often() {
                  no 19,judge ok,furthest ok,mirror ok,sum ok,parts ok,part ok,merge ok,grow ok,sweep ok,length ok,\
                  width ok,relation apart,relation touching,\
                  relation overlapping,inside yes,inside no,offer yes,offer no,find ok,find none,\
-                 clearance ok,clearance cc,clearance ce,clearance ec,tangents ok,\
+                 clearance ok,clearance cc,clearance ce,clearance ec,tangents ok,passage ok,passage blocked,\
                  tablet ok,bookread ok,bookadd finished,bookadd cut,\
                  unreadable: line too long,unreadable: unknown word,unreadable: missing field,\
                  unreadable: too many fields,unreadable: not a number of 32 bits,\

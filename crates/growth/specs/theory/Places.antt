@@ -8,6 +8,7 @@
 --     drive-met, met-drive                     a drive is not apart exactly if a point of its segment is one of the grown obstacle
 --     driven-merge                             what it passes over is the shape of the cart at t and at u together
 --     driven-passes                            and at each place on the way the cart is inside it
+--     point-shape                              a point is a shape
 --     point-apart, place-inside                a point is apart from a list exactly if it is not inside; so the cart at t
 -- Both are one fact about all places of a list P: a + p - b is p - (b - a). Lists have a point: 0 < length.
 use mathlib.Core.Path.{_≡_, refl, sym, _∙_, ap, ap₂, subst}
@@ -115,7 +116,7 @@ module _ (A B : List Point) (a : 0 < length A) (b : 0 < length B) where
 
 -- ---- clearance
 
-point-shape : (t : Point) → IsShape (t ∷ [])
+pub point-shape : (t : Point) → IsShape (t ∷ [])
 point-shape t = ordered→shape (t ∷ []) (tt, (tt, tt))
 
 module _ (A B : List Point) (s : IsShape B) (t : Point) where

@@ -1,6 +1,7 @@
 -- What relation and clearance reply of lists whose corners stand alike.
 --     relation-answered      of valid shapes on one floor, relation answers its number and their floor
 --     relation-replies       and of pairs that stand alike the same
+--     rounded-le             the root of the smaller of two fractions, rounded down, is not above that of the other
 --     clearance-fractions    where both are answered, the clearances are the same fraction
 --     clearance-rounded      and the same distance rounded down, which is the number before the floor
 use mathlib.Core.Path.{_≡_, refl, sym, _∙_, ap, ap₂, subst}
@@ -11,7 +12,7 @@ use native.Mathlib.Omega.{arith}
 use lib.IntN.{ℤ, pos, _+ℤ_, _*ℤ_}
 use lib.Signed.{_≤ℤ_, _<ℤ_}
 use Rattle.integer.specs.Linear.{linear, lia, _&_}
-use Rattle.integer.specs.Order.{_<×<_, _<×≤_, _≤×≤_, contra≤, le-antisym}
+use Rattle.integer.specs.Order.{_<×<_, _<×≤_, _≤×≤_, contra≤, le-of-eq, le-antisym}
 use Rattle.plane.specs.Point.{Point}
 use Rattle.plane.specs.Reply.{answered}
 use Rattle.plane.specs.Separation.{apart, relationNumber}
@@ -41,8 +42,8 @@ relation-replies a b c d k f s t = relation-answered a b s ∙ ap₂ (λ n g. an
 
 -- ---- clearance
 
--- w and x, the roots of the same fraction rounded down
-root-le : (w x n d m e : ℤ) → pos 0 ≤ℤ x → pos 0 <ℤ d → pos 0 <ℤ e → n *ℤ e ≡ m *ℤ d → (w *ℤ w *ℤ d) ≤ℤ n
+-- w and x, the roots of n/d and m/e rounded down
+root-le : (w x n d m e : ℤ) → pos 0 ≤ℤ x → pos 0 <ℤ d → pos 0 <ℤ e → (n *ℤ e) ≤ℤ (m *ℤ d) → (w *ℤ w *ℤ d) ≤ℤ n
     → m <ℤ ((x +ℤ pos 1) *ℤ (x +ℤ pos 1) *ℤ e) → w ≤ℤ x
 root-le w x n d m e start some other same low high =
     contra≤ (λ g. lia (w ∷ x ∷ n ∷ d ∷ m ∷ e ∷ []) (some <×< high & other <×≤ low & same & both ≤×≤ squares g)
@@ -57,7 +58,8 @@ root-le w x n d m e start some other same low high =
     both : pos 0 ≤ℤ (d *ℤ e)
     both = lia (d ∷ e ∷ []) (some <×< other) (search linear depth 40) (omega arith)
 
-rounded-le : {w x : ℕ} {n d m e : ℤ} → pos 0 <ℤ d → pos 0 <ℤ e → n *ℤ e ≡ m *ℤ d → Bounded n d w → Bounded m e x → pos w ≤ℤ pos x
+pub rounded-le : {w x : ℕ} {n d m e : ℤ} → pos 0 <ℤ d → pos 0 <ℤ e → (n *ℤ e) ≤ℤ (m *ℤ d) → Bounded n d w → Bounded m e x
+    → pos w ≤ℤ pos x
 rounded-le {w} {x} {n} {d} {m} {e} some other same r s =
     root-le (pos w) (pos x) n d m e (size-nonneg x) some other same (r .low) (s .high)
 
@@ -117,8 +119,8 @@ module _ (a b c d : Floored) (k : Alike (corners a) (corners b) (corners c) (cor
           let s = nearest-rounded C D (other .first-valid .shape) (other .second-valid .shape) (apart-too e) in
           let x = nearest-is-whole A B (one .first-valid .shape) (one .second-valid .shape) e in
           let y = nearest-is-whole C D (other .first-valid .shape) (other .second-valid .shape) (apart-too e) in
-          let equal = le-antisym (rounded-le y x (sym (same e)) (s .bounded) (r .bounded))
-          (rounded-le x y (same e) (r .bounded) (s .bounded)) in (
+          let equal = le-antisym (rounded-le y x (le-of-eq (sym (same e))) (s .bounded) (r .bounded))
+          (rounded-le x y (le-of-eq (same e)) (r .bounded) (s .bounded)) in (
             pos (r .rounded),
             ends (r .before) _ (a .floor) (clearance-values a b v h true e) (r .last),
             subst (λ z. EndsIn (z ∷ pos (c .floor) ∷ []) w) equal

@@ -24,6 +24,8 @@ use Rattle.questions.specs.declared.answer.Offer.{Offer}
 use Rattle.questions.specs.declared.answer.Offer.the-variants as Offer
 use Rattle.questions.specs.declared.answer.Separator.{Separator}
 use Rattle.questions.specs.declared.answer.Separator.the-variants as Separator
+use Rattle.questions.specs.declared.answer.Passage.{Passage}
+use Rattle.questions.specs.declared.answer.Passage.the-variants as Passage
 use Rattle.questions.specs.declared.answer.Clearance.{Clearance}
 use Rattle.questions.specs.declared.answer.Clearance.the-variants as Clearance
 use Rattle.questions.specs.declared.answer.Tangents.{Tangents}
@@ -33,7 +35,7 @@ use Rattle.questions.specs.declared.answer.Tablet.the-variants as Tablet
 use Rattle.questions.specs.declared.answer.Addition.{Addition}
 use Rattle.questions.specs.declared.answer.Addition.the-variants as Addition
 use Rattle.questions.specs.Answer.{ofRefusal, ofUnread, ofAnswer, ofBegun, ofPart, ofFurthest, ofLength, ofWidth, ofRelation}
-use Rattle.questions.specs.Answer.{ofInside, ofOffer, ofSeparator, ofClearance, ofTangents, ofTablet, ofAddition}
+use Rattle.questions.specs.Answer.{ofInside, ofOffer, ofSeparator, ofClearance, ofPassage, ofTangents, ofTablet, ofAddition}
 use Rattle.reply.specs.Heard.{Room}
 
 pub refusal-room : (x : Refusal) → Room (ofRefusal x)
@@ -102,6 +104,11 @@ pub separator-room : (x : Separator) → Room (ofSeparator x)
 separator-room (Separator.Direction u v f) = lit≤ tt
 separator-room (Separator.Nothing f) = lit≤ tt
 separator-room (Separator.No r) = refusal-room r
+
+pub passage-room : (x : Passage) → Room (ofPassage x)
+passage-room (Passage.Blocked f) = lit≤ tt
+passage-room (Passage.Free u v low high w f) = lit≤ tt
+passage-room (Passage.No r) = refusal-room r
 
 pub clearance-room : (x : Clearance) → Room (ofClearance x)
 clearance-room (Clearance.None f) = lit≤ tt

@@ -38,6 +38,7 @@ pub const TABLE: &[Row] = &[
     Row { word: "find", fields: &[List, List], ask: find },
     Row { word: "clearance", fields: &[List, List], ask: clearance },
     Row { word: "tangents", fields: &[List, List], ask: tangents },
+    Row { word: "passage", fields: &[List, List, List], ask: passage },
     Row { word: "tablet", fields: &[Reading, Reading], ask: tablet },
     Row { word: "bookread", fields: &[Bytes, Numbers, Optional], ask: book_read },
     Row { word: "bookadd", fields: &[Bytes, Numbers, List, Optional], ask: book_add },
@@ -193,6 +194,19 @@ fn tangents(mut fields: Fields) -> Answer {
         .map(|line| format!("{} {}", line.from, line.to))
         .join(" ");
     Ok(format!("ok {lines} @{}", answer.floor))
+}
+
+fn passage(mut fields: Fields) -> Answer {
+    let (left, right, cart) = (fields.list(), fields.list(), fields.list());
+    let answer = cocklesway::passage(left.shape(), right.shape(), cart.shape())?;
+    let Some(way) = answer.way else {
+        return Ok(format!("ok blocked @{}", answer.floor));
+    };
+    let ([u, v], low, high) = (way.across, way.low, way.high);
+    Ok(format!(
+        "ok {u} {v} {low} {high} {} @{}",
+        way.width, answer.floor
+    ))
 }
 
 fn tablet(mut fields: Fields) -> Answer {

@@ -53,7 +53,11 @@ impl fmt::Display for Fault {
 fn fmt_refusal(f: &mut fmt::Formatter<'_>, refusal: Refusal) -> fmt::Result {
     write!(f, "no {}", refusal.number())?;
     if let Some(shape) = refusal.shape() {
-        let shape = if shape == Which::First { 1 } else { 2 };
+        let shape = match shape {
+            Which::First => 1,
+            Which::Second => 2,
+            _ => 3,
+        };
         write!(f, " shape {shape}")?;
     }
     match refusal {

@@ -1,0 +1,51 @@
+-- `cocklesway_passage` meets its contract: 13 for a floor above its limit, else the reply of `passage`, crossed.
+use mathlib.Core.Path.{_≡_, sym, _∙_, ap}
+use mathlib.Core.Bool.{false}
+use lib.Dec.{ltb}
+use Rattle.plane.specs.Limits.{maxFloor}
+use Rattle.reply.specs.Told.{crossed}
+use Rattle.calls.specs.theory.Low.{low-fits}
+use Rattle.calls.specs.theory.Passages.{all-low, passage-within, passage-above}
+use borrow.Author.Needs.{needs}
+use Rattle.calls.proofs.passages.cocklesway_passage.Statement.{statement}
+use Rattle.calls.proofs.passages.cocklesway_passage.Tie as tie
+
+-- past the test all floors are within their limit
+low : (c : tie.Else1) → let args = c .before .before .args in
+    (ltb maxFloor (args .f) ≡ false) × (ltb maxFloor (args .g) ≡ false) × (ltb maxFloor (args .h) ≡ false)
+low c = all-low _ _ _ (sym (c .before .exceeds-three .ensures) ∙ c .if1 .left)
+
+exceeds-three-requires : tie.Need-exceeds-three-requires
+exceeds-three-requires c κs = search needs
+
+barred-three-requires : tie.Need-barred-three-requires
+barred-three-requires c κs = search needs
+
+returns : tie.Need-returns
+returns c = c .barred-three .ensures
+    ∙ ap crossed (passage-above _ _ _ (sym (c .before .before .exceeds-three .ensures) ∙ c .before .if1 .taken))
+
+cast-passage : tie.Need-cast-passage
+cast-passage c = low-fits _ (low c .0)
+
+cast-passage-2 : tie.Need-cast-passage-2
+cast-passage-2 c = low-fits _ (low c .1)
+
+cast-passage-3 : tie.Need-cast-passage-3
+cast-passage-3 c = low-fits _ (low c .2)
+
+passage-requires : tie.Need-passage-requires
+passage-requires c κs = search needs
+
+of-passage-requires : tie.Need-of-passage-requires
+of-passage-requires c κs = search needs
+
+returns-2 : tie.Need-returns-2
+returns-2 c = c .of-passage .ensures
+    ∙ ap crossed (c .before .passage .ensures ∙ passage-within _ _ _ (low (c .before .before) .0))
+
+pub cocklesway-passage-spec : {M : Type 1} → statement M
+cocklesway-passage-spec =
+    tie.close
+    (tie.spec exceeds-three-requires barred-three-requires returns cast-passage cast-passage-2 cast-passage-3 passage-requires
+    of-passage-requires returns-2)

@@ -1,0 +1,6 @@
+-- Passing between two obstacles: the definitions; what they mean; cases; then the theory behind it.
+pub mod Passage
+pub mod Corridor
+pub mod Meaning
+pub mod Cases
+pub mod theory
