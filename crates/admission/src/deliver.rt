@@ -31,7 +31,7 @@ pub fn sized(n: usize, far: bool) -> Admission
     Admission::Valid
 }
 
-// Judges the same answer for an output of so many numbers: 6, then 7, then 8.
+// Judges the same answer for an output that holds `room` numbers: 6, then 7, then 8.
 // Ruled out: exact room refused; output written before the room is known.
 pub fn fits(n: usize, far: bool, room: usize) -> Admission
     ensures { λ r. ⌜ Judged (NoneApply (fitRows n far room)) (fitRows n far room) r ⌝ }

@@ -15,7 +15,7 @@ use polygon::corners;
 use polygon::extent;
 use polygon::limits;
 
-// Returns the number of corners of a sum that is to be written to an output of so many numbers. Where the corners of
+// Returns the number of corners of a sum that is to be written to an output of `room` numbers. Where the corners of
 // both shapes together are few enough, their number is returned instead: no sum has more. The count stops after one
 // corner more than a shape may have: the sum is refused then, however many follow.
 pub fn reckon(a: &[i32], b: &[i32], room: usize) -> usize
@@ -29,7 +29,7 @@ pub fn reckon(a: &[i32], b: &[i32], room: usize) -> usize
     count_on(a, b, 0, 0, limits::MAX_CORNERS + 1)
 }
 
-// Returns whether so many corners are not more than a shape may have, nor more than an output of so many numbers holds.
+// Returns whether a shape may have this number of corners, and an output of `room` numbers holds them.
 // Ruled out: corners taken for numbers.
 pub fn suffices(most: usize, room: usize) -> bool
     ensures { λ r. ⌜ (r ≡ true → (most ≤ maxCorners) × (2 * most ≤ room)) ⌝ }
@@ -65,7 +65,7 @@ pub fn count_on(a: &[i32], b: &[i32], i: usize, j: usize, k: usize) -> usize
     }
 }
 
-// Returns whether these corners fit in an output of so many numbers. They are counted only if neither k nor the corners
+// Returns whether these corners fit in an output of `room` numbers. They are counted only if neither k nor the corners
 // of both shapes together settle it.
 // Ruled out: room for one corner more asked.
 pub fn has_room(a: &[i32], b: &[i32], i: usize, j: usize, k: usize, room: usize) -> bool

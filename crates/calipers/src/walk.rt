@@ -109,7 +109,7 @@ fn inside(s: Side, t: Side, count: usize, k: usize) -> bool
     count + 1 < k
 }
 
-// A walk at these two sides, with so many corners written.
+// Returns the walk at these two sides, with `count` corners written.
 fn arrived(count: usize, s: Side, t: Side, over: bool) -> Advance
     ensures { λ r. ⌜ (r .count ≡ count) × (reached r ≡ walkOf s t over) ⌝ }
 {
@@ -121,8 +121,8 @@ fn arrived(count: usize, s: Side, t: Side, over: bool) -> Advance
     }
 }
 
-// Whether a walk with so many edges passed of either shape, over or not, is at a place of the sum. It takes no walk to
-// tell: the last edge passed of either shape is before the next of the other.
+// Whether a walk with i and j edges passed of the two shapes, over or not, is at a place of the sum. It takes no walk
+// to tell: the last edge passed of either shape is before the next of the other.
 pub fn is_place(a: &[i32], b: &[i32], i: usize, j: usize, over: bool) -> bool
     requires { ⌜ Valid (now a) × Valid (now b) ⌝ }
     ensures { λ r. ⌜ r ≡ isPlace (now (a .entry)) (now (b .entry)) (state i j over) ⌝ }
@@ -141,7 +141,7 @@ pub fn is_place(a: &[i32], b: &[i32], i: usize, j: usize, over: bool) -> bool
     follows(a, i, b, j) && follows(b, j, a, i)
 }
 
-// Whether a walk that has so many edges left of all is rightly said to be over, or not to be: over exactly if none is
+// Whether a walk that has `left` of `all` edges left is rightly said to be over, or not to be: over exactly if none is
 // left. The walk of two points has no edge, and two places.
 // Ruled out: place passed twice.
 fn ends(left: usize, all: usize, over: bool) -> bool

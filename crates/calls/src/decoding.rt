@@ -8,13 +8,13 @@ ghost use Rattle.calls.specs.Bytes.{listOf};
 ghost use Rattle.calls.specs.Passing.{Alike, Cut, Enough, smallBytes};
 use polygon::limits;
 
-// So many numbers are more than a shape may have, whether their count is even or odd.
+// More numbers than a shape may have, whether their count is even or odd.
 pub const NUMBERS: usize = limits::SHAPE_NUMBERS + 3;
 
-// So many numbers hold a small list. A buffer is cleared before it is used, and a small one is sooner clear.
+// The numbers of a small list. A buffer is cleared before it is used, and a small one takes less time.
 pub const SMALL_NUMBERS: usize = 256;
 
-// Whether so many bytes hold a small list.
+// Returns whether this number of bytes holds a small list.
 // Ruled out: long list in a small buffer.
 pub fn is_small(bytes: usize) -> bool
     ensures { λ r. ⌜ r ≡ leb bytes smallBytes ⌝ }

@@ -28,7 +28,7 @@ use polygon::peak;
 use polygon::point;
 use polygon::point::Point;
 
-// So many numbers hold few points.
+// The numbers of few points.
 const FEW_NUMBERS: usize = 64;
 
 // Writes the shape of both corner lists taken together at the front of the buffer, and says how many corners it has: at

@@ -18,19 +18,19 @@ pub const MAX_PART: i32 = 2_000_000;
 
 pub const MAX_FLOOR: u32 = 65_535;
 
-// So many numbers hold the corners of any shape.
+// Enough numbers for the corners of any shape.
 pub const SHAPE_NUMBERS: usize = 2 * MAX_CORNERS;
 
-// So many numbers hold the corners of any two shapes.
+// Enough numbers for the corners of any two shapes.
 pub const PAIR_NUMBERS: usize = 2 * SHAPE_NUMBERS;
 
-// So many numbers hold the points of any sweep.
+// Enough numbers for the points of any sweep.
 pub const POINTS_NUMBERS: usize = 2 * MAX_POINTS;
 
-// So many numbers hold both chains of the points of any sweep.
+// Enough numbers for both chains of the points of any sweep.
 pub const CHAINS_NUMBERS: usize = 2 * POINTS_NUMBERS;
 
-// Whether so many corners are more than a shape may have.
+// Returns whether this number of corners is more than a shape may have.
 // Ruled out: one corner fewer.
 pub fn exceeds_corners(n: usize) -> bool
     ensures { λ r. ⌜ r ≡ ltb maxCorners n ⌝ }
@@ -38,7 +38,7 @@ pub fn exceeds_corners(n: usize) -> bool
     MAX_CORNERS < n
 }
 
-// Whether so many points are more than a sweep may have.
+// Returns whether this number of points is more than a sweep may have.
 pub fn exceeds_points(n: usize) -> bool
     ensures { λ r. ⌜ r ≡ ltb maxPoints n ⌝ }
 {

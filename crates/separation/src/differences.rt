@@ -42,7 +42,7 @@ pub fn write(a: &[i32], b: &[i32], top: usize, out: &mut [i32]) -> usize
     }
 }
 
-// Returns the number of corners of the shape, which is to be written to an output of so many numbers. Where the corners
+// Returns the number of corners of the shape, which is to be written to an output of `room` numbers. Where the corners
 // of both shapes together are few enough, their number is returned instead: no shape of differences has more.
 pub fn reckon(a: &[i32], b: &[i32], top: usize, room: usize) -> usize
     requires { ⌜ Valid (now a) × Valid (now b) × Peak (points (now b)) top ⌝ }
