@@ -119,7 +119,7 @@ fn swap(list: &mut List, k: usize, other: usize) {
     list.swap(k + 1, other + 1);
 }
 
-/// Puts the middle of an edge behind the corner that the edge leaves.
+/// Puts the middle of an edge after the corner that the edge leaves.
 fn between(list: &mut List, k: usize) {
     let next = if k + 2 < list.len() { k + 2 } else { 0 };
     let middle = |p: i32, q: i32| ((p as i64 + q as i64) / 2) as i32;

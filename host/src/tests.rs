@@ -64,7 +64,7 @@ fn every_number_is_some_refusal() {
     }
 }
 
-/// What is said of a refusal, behind its number.
+/// What is said of a refusal, after its number.
 fn words(number: u64, carried: [u64; 3]) -> String {
     let words = Refusal::of(number, carried).to_string();
     let (_, words) = words.split_once(": ").expect("the number comes first");

@@ -1,4 +1,4 @@
-//! One function for each question: from what its line gave to the words behind `ok`, or a refusal.
+//! One function for each question: from what its line gave to the words after `ok`, or a refusal.
 //! The shapes are judged first, in order, then their floors; then the question itself may refuse,
 //! then the room. A floor is the last of an answer's values.
 
@@ -212,7 +212,7 @@ pub fn host_relation(given: &Given) -> String {
     number(host::relation(a, f, b, g))
 }
 
-/// The number of a call, and behind a bar what it wrote, if it was answered.
+/// The number of a call, and after a bar what it wrote, if it was answered.
 fn with_output(given: &Given, call: host::Writes) -> String {
     let ([a, b], [f, g]) = (given.bytes(), given.floors());
     let mut out = vec![0; given.output()];

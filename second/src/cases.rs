@@ -1,5 +1,5 @@
 //! Document 01's "Cases to hold against", in its order, as questions with their stated answers, and
-//! behind them cases of document 02's requests, worked out by hand from its words.
+//! after them cases of document 02's requests, worked out by hand from its words.
 //! S and T stand for their numbers; positions that 01 leaves out with a 4 follow from its words.
 
 use crate::answer::answer;

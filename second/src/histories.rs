@@ -247,7 +247,7 @@ impl Walk<'_> {
     }
 }
 
-/// The state that a finished addition has to leave: the bytes before its record alone, all behind
+/// The state that a finished addition has to leave: the bytes before its record alone, all after
 /// it 0, and its shape read back.
 fn finished(before: &State, added: &Addition, log: &[u8]) -> Result<State, String> {
     let from = end(&before.log);

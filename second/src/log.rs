@@ -40,7 +40,7 @@ pub fn add(
     add_by(stores, log, name, floor, list, most)
 }
 
-/// The same by any rule that says which stores bring a record behind the end.
+/// The same by any rule that says which stores bring a record after the end.
 pub fn add_by(
     stores: fn(&[u8], usize, &[u8]) -> Vec<Store>,
     log: &mut [u8],
@@ -144,7 +144,7 @@ fn entry(counted: &[u8]) -> Option<Entry> {
     Some(Entry { name, floor, shape })
 }
 
-/// The number that the first two bytes hold, the low one first, and what stands behind them.
+/// The number that the first two bytes hold, the low one first, and what comes after them.
 fn two_bytes(bytes: &[u8]) -> Option<(u16, &[u8])> {
     let (number, behind) = bytes.split_first_chunk()?;
     Some((u16::from_le_bytes(*number), behind))

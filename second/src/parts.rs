@@ -45,7 +45,7 @@ fn parts_of(corner: Point, a: &[Point], b: &[Point]) -> (usize, usize) {
     found.expect("a corner of the sum is a sum of corners")
 }
 
-/// How many edges are passed at a corner, with so many passed before: behind the last comes the
+/// How many edges are passed at a corner, with so many passed before: after the last comes the
 /// first again.
 fn passed(shape: &[Point], before: usize, corner: usize) -> usize {
     if corner < before { shape.len() } else { corner }

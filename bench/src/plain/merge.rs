@@ -26,7 +26,7 @@ pub fn merged(a: Shape, b: Shape, hull: &mut Hull) {
     hull.close();
 }
 
-/// One side of a shape: the corners from a position to another, one behind the last being the first.
+/// One side of a shape: the corners from a position to another, one after the last being the first.
 struct Chain<'a> {
     corners: &'a [Corner],
     at: usize,

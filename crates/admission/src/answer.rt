@@ -49,7 +49,7 @@ pub enum Refusal {
     Damaged {
         place: usize,
     },
-    // 16: too little room behind the last whole record of a log
+    // 16: too little room after the last whole record of a log
     Full,
     // 19: a name that no record of a log has
     NoRecord,

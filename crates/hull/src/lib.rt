@@ -92,7 +92,7 @@ fn sweep_many(list: &[i32], buf: &mut [i32]) -> usize
     outline::outline(&sorted, n, buf)
 }
 
-// Writes the right-hand chain of both shapes, and behind it the left-hand one. The shapes' own tops are at positions i
+// Writes the right-hand chain of both shapes, and after it the left-hand one. The shapes' own tops are at positions i
 // and j. Every corner is in a row of one of the chains at most: so there is room for both.
 fn both_chains(
     a: &[i32],

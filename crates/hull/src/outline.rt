@@ -1,4 +1,4 @@
-// Inner functions: the outline of points that run up. Both chains are made by the scan, one behind the other.
+// Inner functions: the outline of points that run up. Both chains are made by the scan, one after the other.
 ghost use mathlib.Core.Path.{_≡_};
 ghost use mathlib.Core.Bool.{cond};
 ghost use Prim.Native.Nat.{_+_, _-_, _*_, _<_, _≤_};

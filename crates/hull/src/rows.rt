@@ -44,7 +44,7 @@ fn is_right(list: &[i32], i: usize, from: Point, to: Point) -> bool
     scan::turn(from, to, closed_at(list, i)) < 0
 }
 
-// The corner at a position on the way round: behind the last one stands the first again.
+// The corner at a position on the way round: after the last one comes the first again.
 pub fn closed_at(list: &[i32], i: usize) -> Point
     requires { ⌜ (i ≤ length (points (now list))) × (0 < length (points (now list))) ⌝ }
     ensures { λ r. ⌜ at r ≡ corner (closed (points (now (list .entry)))) i ⌝ }

@@ -13,7 +13,7 @@ use polygon::point;
 use polygon::point::Point;
 
 // Pushes a point on the first k corners of the buffer: those at which it does not turn left are dropped, and it is
-// written behind the others. Answers how many stand there then.
+// written after the others. Answers how many stand there then.
 pub fn push(buf: &mut [i32], k: usize, p: Point) -> usize
     requires { ⌜ (k < length (points (now buf))) × SmallTo (now buf) k × Small (2 ^ 21) (at p) ⌝ }
     ensures { λ r. ⌜ Scanned (now (buf .entry)) k (at p ∷ []) (now (buf .exit)) r ⌝ }

@@ -14,7 +14,7 @@ use crate::peak;
 use crate::point;
 use crate::rules;
 
-// Writes the mirror image of a shape, the shape of all (-x, -y), at the front of the output; all behind it is kept. It
+// Writes the mirror image of a shape, the shape of all (-x, -y), at the front of the output; all after it is kept. It
 // has as many corners as the shape. A point becomes a point and a segment a segment; the image begins at the opposite
 // of the highest, rightmost corner.
 // Ruled out: mirror begun at the old start; output left alone.

@@ -1,7 +1,7 @@
 // The questions of documents 01 and 02, two of our own, and all that callers need of this library. Each judges its own
 // lists, once each, gives its refusals in the order of the table, and asks one inner function. A shape is lent with its
 // floor, and every answer on shapes carries it: of two shapes, a on floor f and b on floor g, both have the same, or
-// are refused 13 behind 1 to 5 of the first and of the second.
+// are refused 13 after 1 to 5 of the first and of the second.
 pub mod answer;
 mod coordinate;
 mod merging;
@@ -112,7 +112,7 @@ pub fn furthest(list: &[i32], floor: u16, u: i32, v: i32) -> Furthest
 }
 
 // Writes the mirror image, the shape of all (-x, -y), at the front of the output, and answers how many corners it has:
-// as many as the list. All behind the image is kept. Refused, with the output as it was: 1 to 5, then an output that
+// as many as the list. All after the image is kept. Refused, with the output as it was: 1 to 5, then an output that
 // holds fewer numbers than the image.
 // Ruled out: mirror begun at the old start; output left alone; coordinates swapped; tail cleared.
 pub fn mirror(list: &[i32], floor: u16, out: &mut [i32]) -> Answer
@@ -135,7 +135,7 @@ pub fn mirror(list: &[i32], floor: u16, out: &mut [i32]) -> Answer
 // Writes the shape of all corner-plus-corner points at the front of the output, and answers how many corners it has.
 // Edges of equal direction make one step, so no three corners of the answer are in line. Refused, with the output as it
 // was: 1 to 5 of the first shape, then of the second; different floors; then an answer of too many corners, one out of
-// range, and too small an output. On success all behind the written numbers is kept.
+// range, and too small an output. On success all after the written numbers is kept.
 // Ruled out: parallel corners kept; segment passed once; origin for every sum; second shape judged first; sum written
 // in too small an output; far sum written; too large a sum written.
 pub fn sum(a: &[i32], f: u16, b: &[i32], g: u16, out: &mut [i32]) -> Answer
@@ -176,7 +176,7 @@ pub fn merge(a: &[i32], f: u16, b: &[i32], g: u16, out: &mut [i32]) -> Answer
 // shape of all obstacle-corner minus cart-corner points. The outline's corners are relative to the cart's own origin; a
 // cart whose origin stands at a place meets the obstacle exactly if that place is a point of the grown one. Either may
 // be a point or a segment. Refused, with the output as it was: 1 to 5 of the obstacle, then of the cart; different
-// floors; then an answer of too many corners, one out of range, and too small an output. On success all behind the
+// floors; then an answer of too many corners, one out of range, and too small an output. On success all after the
 // written numbers is kept.
 // Ruled out: cart not mirrored; obstacle mirrored.
 pub fn grow(obstacle: &[i32], f: u16, cart: &[i32], g: u16, out: &mut [i32]) -> Answer
@@ -492,7 +492,7 @@ pub fn tablet(x: Reading, y: Reading) -> Tablet
 }
 
 // Writes the corners of the latest record of a name at the front of the output, and answers how many they are, and the
-// floor of the record: 0 of one of kind 1, which says none. All behind them is kept. A log ends where no whole record
+// floor of the record: 0 of one of kind 1, which says none. All after them is kept. A log ends where no whole record
 // stands. Refused, with the output as it was: a log in which some record is of another kind, a wrong length, or no
 // shape (with the byte place of the first); a name that no record has; too small an output.
 // Ruled out: first record for the latest; record lost after another.
@@ -521,8 +521,8 @@ pub fn log_read(log: &[u8], name: u16, out: &mut [i32]) -> Answer
     }
 }
 
-// Adds a shape on a floor under a name behind the last whole record of a log, with at most so many stores of single
-// bytes as are allowed, and says whether it finished. What was torn there is cleared first, and the record's last byte
+// Adds a shape on a floor under a name after the last whole record of a log, with at most `allowed` stores of single
+// bytes, and says whether it finished. What was torn there is cleared first, and the record's last byte
 // is stored last: a cut addition changes no answer of `log_read`. Refused, with nothing stored: 1 to 5 of the list; a
 // log in which some record is bad; too little room.
 // Ruled out: full one byte early; cut called finished; last byte stored first; tail cleared from its front.
@@ -539,7 +539,7 @@ pub fn log_add(log: &mut [u8], name: u16, floor: u16, list: &[i32], allowed: usi
     }
 }
 
-// Adds a shape behind the last whole record, or refuses 16.
+// Adds a shape after the last whole record, or refuses 16.
 fn add_behind(
     log: &mut [u8],
     end: usize,

@@ -53,7 +53,7 @@ pub fn begin(a: &[i32], f: u16, b: &[i32], g: u16) -> Begun
 
 impl Walk {
     // Writes the next corners of the sum at the front of the output, k or what remains, whichever is less, and answers
-    // how many, with the walk after them; all behind them is kept. Of 0 corners, and of a walk that is over, there are
+    // how many, with the walk after them; all after them is kept. Of 0 corners, and of a walk that is over, there are
     // none, and the walk stays as it is. Refused, with the output as it was: 1 to 5 of the first shape, then of the
     // second; different floors; a walk that is at no place of their sum; then a sum of too many corners, and one out of
     // range; and an output too small for the corners of this call.

@@ -17,7 +17,7 @@ pub fn any(dice: &mut Dice) -> u16 {
     }
 }
 
-/// The texts of lists, each behind its floor.
+/// The texts of lists, each after its floor.
 pub fn texts(dice: &mut Dice, lists: &[List]) -> Vec<String> {
     let floor = any(dice);
     let differ = dice.one_in(10);
@@ -33,7 +33,7 @@ pub fn texts(dice: &mut Dice, lists: &[List]) -> Vec<String> {
     lists.iter().map(&mut text).collect()
 }
 
-/// The text of a list behind its floor, which is left out if it is 0.
+/// The text of a list after its floor, which is left out if it is 0.
 pub fn before(floor: u16, list: &str) -> String {
     match floor {
         0 => list.to_string(),

@@ -204,7 +204,7 @@ fn across_the_range(dice: &mut Dice) -> (Shape, Shape) {
     (a, b)
 }
 
-/// Two shapes whose sum ends at the range's end, one before it or one behind.
+/// Two shapes whose sum ends at the range's end, one before it or one after.
 fn at_the_range_end(dice: &mut Dice) -> (Shape, Shape) {
     let a = shapes::any(dice);
     let b = shapes::mostly_small(dice);

@@ -146,7 +146,7 @@ fn write_states(a: &[Point], b: &[Point], to: &mut impl Write) -> io::Result<()>
     Ok(())
 }
 
-/// A cut is a set of corners: a part ends behind each of them, and the last behind the last corner.
+/// A cut is a set of corners: a part ends after each of them, and the last after the last corner.
 fn write_cuts(a: &[Point], b: &[Point], to: &mut impl Write) -> io::Result<()> {
     let corners = places(a, b).len() - 1;
     for cut in 0..1u32 << (corners - 1) {

@@ -1,4 +1,4 @@
-//! What stands behind the shapes: directions with ties, past the limits, and some times their
+//! What comes after the shapes: directions with ties, past the limits, and some times their
 //! shortest, rooms around the need.
 
 use super::dice::Dice;

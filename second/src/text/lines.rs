@@ -14,7 +14,7 @@ pub fn is_passed_over(line: &[u8]) -> bool {
     line.starts_with(b"#") || line.iter().all(is_space)
 }
 
-/// Spaces behind the last other character do not count.
+/// Spaces after the last other character do not count.
 pub fn is_too_long(line: &[u8]) -> bool {
     line.iter()
         .skip(MOST_CHARACTERS)
