@@ -25,7 +25,8 @@ use Rattle.growth.specs.theory.Places.{point-shape}
 use Rattle.passage.specs.theory.Gaps.{gap→apart}
 use Rattle.passage.specs.Corridor.{widestOf}
 use Rattle.passage.specs.theory.Widest.{widest-some, widest-clearance, widest-positive, gap-clearance}
-use Rattle.excess.specs.Excess.{Fraction, over, beyond}
+use Rattle.plane.specs.Distance.{Fraction, over, distance}
+use Rattle.excess.specs.Excess.{beyond}
 
 -- how far a point is ahead of a list
 point-gap : (d c : Point) (O : List Point) → gapIn d (c ∷ []) O ≡ value d c -ℤ support d O
@@ -54,7 +55,7 @@ module _ (c : Point) (O : List Point) (s : IsShape O) where
   told t = cond t (over (top C O (nearest C O)) (bottom C O (nearest C O))) (over (pos 0) (pos 1))
 
   beyond-by : {t : Bool} → apart C O ≡ t → beyond c O ≡ told t
-  unfolding beyond
+  unfolding beyond distance
   beyond-by e = ap told e
 
   pub beyond-none : apart C O ≡ false → beyond c O ≡ over (pos 0) (pos 1)
