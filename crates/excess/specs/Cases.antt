@@ -66,6 +66,6 @@ cases =
 
 pub cases-hold : map (λ (c : Case). reply (askExcess (c .new) (c .old))) cases ≡ map (λ (c : Case). c .stated) cases
 unfolding maxCorners maxCoordinate samePoint turn breaks precedes badCount tooMany outside someOutside equalPair leftBroken
-    ruleBroken badStart value shapeOf squared edgeSquared inside apart falls top bottom noFurther nearest distance reply beyond noNearer outermost
-    excess rootAbove up
+    ruleBroken badStart value shapeOf squared edgeSquared inside apart falls top bottom noFurther nearest distance reply beyond noNearer
+    outermost excess rootAbove up
 cases-hold = refl

@@ -1,5 +1,5 @@
--- The squared distance of two shapes as one exact fraction, so that whole lists of shapes can be compared (document 02, W3: "distances compare
--- as exact fractions"). Our own: clearance answers it in parts.
+-- The squared distance of two shapes as one exact fraction, so that more than two shapes can be compared (document 02, W3: "distances
+-- compare as exact fractions"). Our own: clearance answers it in parts.
 --     Fraction, over n d     n over d
 --     noMore f g             f is at most g, for denominators above 0
 --     distance A B           that of clearance's nearest candidate; 0 over 1 if the shapes are not apart
