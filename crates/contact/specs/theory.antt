@@ -10,3 +10,5 @@ pub mod Edges
 pub mod Larger
 pub mod Safe
 pub mod Replies
+pub mod Found
+pub mod Words

@@ -1,1 +1,2 @@
-// Where a cart that drives straight first meets an obstacle: see specs/. There is no code here.
+// Inner functions: where a cart that drives straight first meets an obstacle.
+pub mod share;
