@@ -5,7 +5,7 @@ use mathlib.Core.Path.{_≡_, refl, sym, ap}
 use mathlib.Core.Bool.{true, false, cond}
 use Prim.Native.Nat.{_*_}
 use lib.Dec.{ltb}
-use lib.IntN.{ℤ, pos, _-ℤ_, _*ℤ_}
+use lib.IntN.{ℤ, pos, _-ℤ_}
 use lib.Signed.{_≤ℤ_, _<ℤ_}
 use Rattle.integer.specs.Order.{le-leZ, lt-leZ, ltZ-true, ltZ-false}
 use Rattle.plane.specs.Distance.{over}
@@ -29,10 +29,12 @@ module _ (a b : ℤ) where
 module _ (f g : Share) where
   pub later-first : ltb (f .numerator * g .denominator) (g .numerator * f .denominator) ≡ false
       → fraction f ≡ later (fraction f) (fraction g)
-  later-first h = ap (λ t. cond t (fraction f) (fraction g)) (sym (le-leZ {x = pos (g .numerator * f .denominator)} {y = pos (f .numerator * g .denominator)}
+  later-first h = ap (λ t. cond t (fraction f) (fraction g)) (sym (le-leZ
+      {x = pos (g .numerator * f .denominator)} {y = pos (f .numerator * g .denominator)}
       (ltZ-false {x = pos (f .numerator * g .denominator)} {y = pos (g .numerator * f .denominator)} h)))
 
   pub later-second : ltb (f .numerator * g .denominator) (g .numerator * f .denominator) ≡ true
       → fraction g ≡ later (fraction f) (fraction g)
-  later-second h = ap (λ t. cond t (fraction f) (fraction g)) (sym (lt-leZ {x = pos (g .numerator * f .denominator)} {y = pos (f .numerator * g .denominator)}
+  later-second h = ap (λ t. cond t (fraction f) (fraction g)) (sym (lt-leZ
+      {x = pos (g .numerator * f .denominator)} {y = pos (f .numerator * g .denominator)}
       (ltZ-true {x = pos (f .numerator * g .denominator)} {y = pos (g .numerator * f .denominator)} h)))

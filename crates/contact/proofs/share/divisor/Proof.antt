@@ -1,14 +1,12 @@
+-- `divisor` meets its contract. The invariant: the divisor of x and y is that of a and b; the measure is y.
 use mathlib.Core.Path.{_≡_, refl, sym, _∙_, ap}
 use native.Mathlib.Nat.{mod-lt}
 use native.Mathlib.Omega.{arith}
-use borrow.Author.Needs.{needs}
 use Rattle.divisor.specs.Divisor.{gcd}
 use Rattle.divisor.specs.Euclid.{gcd-zero}
 use Rattle.contact.specs.theory.Found.{gcd-step}
 use Rattle.contact.proofs.share.divisor.Statement.{statement}
 use Rattle.contact.proofs.share.divisor.Tie as tie
-use Rattle.contact.proofs.share.divisor.Reads as reads
-use Rattle.contact.proofs.share.divisor.Lts as lts
 
 abbrev Inv-loop : tie.InvT-loop
 Inv-loop a b x₀ y₀ x y = gcd x y ≡ gcd a b
@@ -16,23 +14,18 @@ Inv-loop a b x₀ y₀ x y = gcd x y ≡ gcd a b
 abbrev μ-loop : tie.MeasureT-loop
 μ-loop a b x₀ y₀ x y = y
 
--- src/share.rt:89:5
 loop-holds : tie.Need-loop-holds Inv-loop μ-loop
 loop-holds c = refl
 
--- src/share.rt:90:20
 rem-rest : tie.Need-rem-rest Inv-loop μ-loop
 rem-rest c = omega arith
 
--- src/share.rt:89:5
 loop-less : tie.Need-loop-less Inv-loop μ-loop
 loop-less c = mod-lt (c .before .loop .x) (rem-rest c)
 
--- src/share.rt:89:5
 loop-again : tie.Need-loop-again Inv-loop μ-loop
 loop-again c = gcd-step (c .before .loop .x) (c .before .loop .y) ∙ c .before .loop .inv
 
--- src/share.rt:84:1
 returns : tie.Need-returns Inv-loop μ-loop
 returns c =
     let none : c .before .loop .y ≡ 0 = omega arith in

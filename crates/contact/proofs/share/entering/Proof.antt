@@ -1,36 +1,29 @@
-use mathlib.Core.Path.{_≡_, refl, sym, _∙_, ap, ap₂}
+-- `entering` meets its contract, case by case; the difference of two bounded numbers fits.
+use mathlib.Core.Path.{_≡_, sym, _∙_, ap₂}
 use native.Mathlib.Omega.{arith}
-use borrow.Author.Needs.{needs}
 use mathlib.Core.List.{[], _∷_}
 use lib.IntN.{pos, _-ℤ_}
 use lib.Signed.{_≤ℤ_, _<ℤ_}
 use mir.Syntax.{w64}
 use mir.Val.{toZ, ofZ}
 use mir.Facts.{toZ-ofZ}
-use Rattle.integer.specs.Linear.{linear, lia, _&_}
+use Rattle.integer.specs.Linear.{linear, lia}
 use Rattle.integer.specs.Order.{weaken, leZ-true, leZ-false}
 use Rattle.integer.specs.Machine.{machine, bounded, machine-fits, machine-is}
 use Rattle.plane.specs.Distance.{over}
 use Rattle.contact.specs.theory.Words.{entering-begun, entering-inside, entering-never}
 use Rattle.contact.proofs.share.entering.Statement.{statement}
 use Rattle.contact.proofs.share.entering.Tie as tie
-use Rattle.contact.proofs.share.entering.Reads as reads
-use Rattle.contact.proofs.share.entering.Lts as lts
-use Rattle.measure.proofs.magnitude.magnitude.Reads as magnitude-reads
 
--- src/share.rt:30:9
 returns : tie.Need-returns
 returns c = entering-begun _ _ (leZ-true (rw (toZ-ofZ (c .before .fits .a)) at (c .if1 .taken)))
 
--- src/share.rt:37:24
 magnitude-requires : tie.Need-magnitude-requires
 magnitude-requires c κs = weaken (leZ-false (c .before .if1 .left))
 
--- src/share.rt:38:47
 sub-magnitude : tie.Need-sub-magnitude
 sub-magnitude c = machine-fits (search (machine, bounded) depth 40) tt
 
--- src/share.rt:38:26
 -- before it and not after it
 ends : (c : tie.Then2) → (pos 0 <ℤ c .before .before .args .a) × (c .before .before .args .b ≤ℤ pos 0)
 ends c = (
@@ -48,7 +41,6 @@ magnitude-requires-2 c κs =
     let args = c .before .before .before .args in
     rw (step c) (lia (args .a ∷ args .b ∷ []) (ends (c .before)) (search linear depth 40) (omega arith))
 
--- src/share.rt:36:9
 returns-2 : tie.Need-returns-2
 returns-2 c =
     let held = ends (c .before .before) in
@@ -56,7 +48,6 @@ returns-2 c =
     ap₂ over (sym (c .before .magnitude .ensures) ∙ toZ-ofZ (start .fits .a)) (sym (c .magnitude2 .ensures) ∙ step (c .before))
     ∙ entering-inside _ _ (held .0) (held .1)
 
--- src/share.rt:25:1
 returns-3 : tie.Need-returns-3
 returns-3 c = entering-never _ _ (leZ-false (rw (toZ-ofZ (c .before .before .fits .a)) at (c .before .if1 .left)))
     (leZ-false (rw (toZ-ofZ (c .before .before .fits .b)) at (c .if2 .left)))

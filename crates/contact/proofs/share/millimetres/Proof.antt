@@ -1,5 +1,6 @@
-use mathlib.Core.Path.{_≡_, refl, sym, _∙_, ap}
-use Prim.Native.Nat.{ℕ, _-_, _*_, _/_, _≤_}
+-- `millimetres` meets its contract. The invariant: low is reached and high + 1 is not; the measure is what lies between.
+use mathlib.Core.Path.{sym, _∙_}
+use Prim.Native.Nat.{ℕ, _-_, _*_, _≤_}
 use native.Mathlib.Nat.{mul-le-mul, mul-pos}
 use native.Mathlib.Omega.{arith}
 use borrow.Author.Needs.{needs}
@@ -8,9 +9,6 @@ use mir.Val.{Fits}
 use Rattle.contact.specs.theory.Found.{Spanned, spanned-start, spanned-down, spanned-up, spanned-end}
 use Rattle.contact.proofs.share.millimetres.Statement.{statement}
 use Rattle.contact.proofs.share.millimetres.Tie as tie
-use Rattle.contact.proofs.share.millimetres.Reads as reads
-use Rattle.contact.proofs.share.millimetres.Lts as lts
-use Rattle.wide.proofs.fraction_less.Reads as fraction-less-reads
 
 -- a square of at most 2^22
 square-fits : (m : ℕ) → m ≤ 4_194_304 → Fits w64 (m * m)
@@ -22,51 +20,40 @@ Inv-loop f length low₀ high₀ low high = Spanned (f .numerator * f .numerator
 abbrev μ-loop : tie.MeasureT-loop
 μ-loop f length low₀ high₀ low high = high - low
 
--- src/share.rt:104:5
 loop-holds : tie.Need-loop-holds Inv-loop μ-loop
 loop-holds c = let p = c .pre in spanned-start _ _ _ (p .0) (p .1) (p .2)
 
--- src/share.rt:105:30
 sub-middle : tie.Need-sub-middle Inv-loop μ-loop
 sub-middle c = search needs
 
--- src/share.rt:105:22
 sub-middle-2 : tie.Need-sub-middle-2 Inv-loop μ-loop
 sub-middle-2 c = search needs
 
--- src/share.rt:106:45
 mul-fraction-less : tie.Need-mul-fraction-less Inv-loop μ-loop
 mul-fraction-less c = square-fits _ (omega (arith, c .before .loop .inv .below))
 
--- src/share.rt:106:12
 fraction-less-requires : tie.Need-fraction-less-requires Inv-loop μ-loop
 fraction-less-requires c κs = search needs
 
--- src/share.rt:107:20
 sub-high : tie.Need-sub-high Inv-loop μ-loop
 sub-high c = omega arith
 
--- src/share.rt:104:5
 loop-less : tie.Need-loop-less Inv-loop μ-loop
 loop-less c = omega arith
 
--- src/share.rt:104:5
 loop-again : tie.Need-loop-again Inv-loop μ-loop
 loop-again c =
     let at-loop = c .before .before .before in
     spanned-down _ (at-loop .loop .inv) (omega arith) (omega arith) (sym (c .before .fraction-less .ensures) ∙ c .if1 .taken)
 
--- src/share.rt:104:5
 loop-less-2 : tie.Need-loop-less-2 Inv-loop μ-loop
 loop-less-2 c = omega arith
 
--- src/share.rt:104:5
 loop-again-2 : tie.Need-loop-again-2 Inv-loop μ-loop
 loop-again-2 c =
     let at-loop = c .before .before .before in
     spanned-up _ (at-loop .loop .inv) (omega arith) (sym (c .before .fraction-less .ensures) ∙ c .if1 .left)
 
--- src/share.rt:98:1
 returns : tie.Need-returns Inv-loop μ-loop
 returns c =
     let p = c .before .before .pre in
