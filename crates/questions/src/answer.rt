@@ -116,6 +116,41 @@ pub enum Clearance {
     No(Refusal),
 }
 
+// The name of the nearest shape of a floor, and what `Clearance` says of the asked shape and that one.
+pub enum Nearest {
+    Meets {
+        name: u16,
+        floor: u16,
+    },
+    Corners {
+        name: u16,
+        first: usize,
+        second: usize,
+        squared: u64,
+        rounded: u64,
+        floor: u16,
+    },
+    CornerEdge {
+        name: u16,
+        corner: usize,
+        edge: usize,
+        turn: u64,
+        squared: u64,
+        rounded: u64,
+        floor: u16,
+    },
+    EdgeCorner {
+        name: u16,
+        corner: usize,
+        edge: usize,
+        turn: u64,
+        squared: u64,
+        rounded: u64,
+        floor: u16,
+    },
+    No(Refusal),
+}
+
 // Blocked, or how a cart may pass straight between two obstacles: the direction across, from the right obstacle to the
 // left one, the values in it between which the cart's origin stays, and the width of that in millimetres, rounded down.
 pub enum Passage {
