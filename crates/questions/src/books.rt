@@ -17,9 +17,9 @@ use neighbours::Near;
 use neighbours::spacing::Spacing;
 
 // Answers which of the current shapes on a floor is nearest to a shape, and what clearance answers of the two: nothing
-// if they are not apart. The first in the log goes first on a tie, so of several that meet the shape too. The name `but`
-// is left out; 65,536 leaves out nobody. Refused: 1 to 5 of the list; a log in which some record is bad; 20 if no shape
-// is left.
+// if they are not apart. On a tie the first in the log is answered, and so it is of several that meet the shape. The
+// name `but` is left out; 65,536 leaves out nobody. Refused: 1 to 5 of the list; a log in which some record is bad; 20
+// if no shape is left.
 // Ruled out: later shape on a tie; rounded distances compared; the excepted name answered.
 pub fn log_nearest(log: &[u8], list: &[i32], floor: u16, but: usize) -> Nearest
     ensures { λ r. ⌜ ofNearest r ≡ reply (askNearest (now (log .entry)) (now (list .entry)) floor but) ⌝ }

@@ -4,6 +4,7 @@
 // are refused 13 after 1 to 5 of the first and of the second.
 pub mod answer;
 pub mod books;
+mod changes;
 mod coordinate;
 mod merging;
 pub mod separators;
@@ -54,6 +55,7 @@ use answer::Tablet;
 use answer::Tangents;
 use answer::Width;
 use calipers::size;
+pub use changes::excess;
 use clearance::measured::Distance;
 use coordinate::Coordinate;
 use journal::latest::Found;
