@@ -2,3 +2,4 @@
 pub mod Sums
 pub mod Mixed
 pub mod Compared
+pub mod Partial

@@ -167,7 +167,8 @@ along-later p (e ∷ E) =
     (along-later (p ⊕ e) E & cross-both p e (total E)) (search linear depth 40) (omega arith)
 
 -- what follows an edge in order is not before it, and the edge is before it
-led-first : (e : Point) (E : List Point) → All (Before e) E → (sumOf (λ f. led f e) E ≡ pos 0) × (sumOf (λ f. led e f) E ≡ cross e (total E))
+led-first : (e : Point) (E : List Point) → All (Before e) E
+    → (sumOf (λ f. led f e) E ≡ pos 0) × (sumOf (λ f. led e f) E ≡ cross e (total E))
 led-first e E a = (
   sumOf-same (λ f. led f e) (λ f. pos 0) E (none E a) ∙ sumOf-zero E,
   sumOf-same (λ f. led e f) (λ f. cross e f) E (all E a) ∙ sumOf-cross e E,
