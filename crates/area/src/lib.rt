@@ -12,7 +12,7 @@ use polygon::corners;
 use polygon::point;
 
 // Returns twice the area: the cross products of neighbouring corners, once round. No partial sum has more than 60 bits.
-// Ruled out: last edge left out; outline not closed.
+// Ruled out: first edge left out; outline not closed.
 pub fn twice_area(list: &[i32]) -> u64
     requires { ⌜ Valid (now list) ⌝ }
     ensures { λ r. ⌜ twiceArea (points (now (list .entry))) ≡ pos r ⌝ }
