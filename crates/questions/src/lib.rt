@@ -35,11 +35,13 @@ ghost use Rattle.journal.specs.Format.{records};
 ghost use Rattle.journal.specs.Reading.{damaged, askRead};
 ghost use Rattle.journal.specs.Adding.{added, end as Adding·end};
 ghost use Rattle.questions.specs.Answer.{ofRelation, ofInside, ofClearance, ofTangents, ofTablet, ofAddition};
-ghost use Rattle.questions.specs.Answer.{ofPassage};
+ghost use Rattle.area.specs.Area.{askArea};
+ghost use Rattle.questions.specs.Answer.{ofArea, ofPassage};
 use admission::Admission;
 use admission::deliver;
 use answer::Addition;
 use answer::Answer;
+use answer::Area;
 use answer::Clearance;
 use answer::Furthest;
 use answer::Inside;
@@ -233,6 +235,20 @@ pub fn length(list: &[i32], floor: u16) -> Length
         squared: found.squared,
         from: found.from,
         to: found.to,
+        floor,
+    }
+}
+
+// Returns twice the area, which is a whole number: 0 for a point and a segment. Refused: 1 to 5.
+// Ruled out: first edge left out; outline not closed.
+pub fn area(list: &[i32], floor: u16) -> Area
+    ensures { λ r. ⌜ ofArea r ≡ reply (askArea (on (now (list .entry)) floor)) ⌝ }
+{
+    if let Admission::No(refusal) = admission::admit(list, 1) {
+        return Area::No(refusal);
+    }
+    Area::Twice {
+        twice: area::twice_area(list),
         floor,
     }
 }
