@@ -17,6 +17,8 @@ use Rattle.questions.specs.declared.answer.Furthest.{Furthest}
 use Rattle.questions.specs.declared.answer.Furthest.the-variants as Furthest
 use Rattle.questions.specs.declared.answer.Length.{Length}
 use Rattle.questions.specs.declared.answer.Length.the-variants as Length
+use Rattle.questions.specs.declared.answer.Area.{Area}
+use Rattle.questions.specs.declared.answer.Area.the-variants as Area
 use Rattle.questions.specs.declared.answer.Width.{Width}
 use Rattle.questions.specs.declared.answer.Width.the-variants as Width
 use Rattle.questions.specs.declared.answer.Relation.{Relation}
@@ -61,6 +63,10 @@ ofFurthest (Furthest.No r) = ofRefusal r
 abbrev pub ofLength : Length → Reply
 ofLength (Length.Between squared from to floor) = answered (pos squared ∷ pos from ∷ pos to ∷ pos floor ∷ [])
 ofLength (Length.No r) = ofRefusal r
+
+abbrev pub ofArea : Area → Reply
+ofArea (Area.Twice twice floor) = answered (pos twice ∷ pos floor ∷ [])
+ofArea (Area.No r) = ofRefusal r
 
 abbrev pub ofWidth : Width → Reply
 ofWidth (Width.Across edge corner turn squared rounded floor) =

@@ -42,6 +42,12 @@ pub enum Length {
     No(Refusal),
 }
 
+// Twice the area.
+pub enum Area {
+    Twice { twice: u64, floor: u16 },
+    No(Refusal),
+}
+
 // The edge that the shape is narrowest across, the corner furthest from it, the turn of that corner against the edge,
 // the edge's squared length, and the width rounded down.
 pub enum Width {
