@@ -66,5 +66,6 @@ cases =
 pub cases-hold : map (λ (c : Case). c .given) cases ≡ map (λ (c : Case). c .stated) cases
 unfolding pair pairAt word words wordAt wordsAt fixedBytes recordedAs recorded size whole records kind name floor list wrongLength otherKind
     bad reply badCount tooMany outside someOutside equalPair leftBroken ruleBroken badStart breaks precedes maxCorners maxCoordinate turn
-    samePoint value greater support squared edgeSquared rootBelow shapeOf inside apart falls top bottom noFurther nearest distance isOther isAround around isAsNear
+    samePoint value greater support squared edgeSquared rootBelow shapeOf inside apart falls top bottom noFurther nearest distance
+    isOther isAround around isAsNear
 cases-hold = refl

@@ -4,8 +4,8 @@
 --     the table        the nearest shape is answered if there is a shape; else 20
 --     settled          an addition changes the answer exactly if the new shape is closer, and then it is the answer; one that was cut or
 --                      refused changes nothing; a history without a closer one changes nothing
--- A shape is around if it is current, on the floor f, and its name is not `but`. No record of the log is bad. What is refused before, 1 to 5
--- and 15, is said of every question at once (`Meaning.antt` of plane).
+-- A shape is around if it is current, on the floor f, and its name is not `but`. No record of the log is bad. What is refused before, 1 to
+-- 5 and 15, is said of every question at once (`Meaning.antt` of plane).
 use mathlib.Core.Path.{_≡_}
 use mathlib.Core.Bool.{true, false, cond}
 use mathlib.Core.List.{List, [], _∷_, _++_, List·Memᴰ}

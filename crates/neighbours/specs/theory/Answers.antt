@@ -82,7 +82,8 @@ module _ (b : List ℕ) (l : List ℤ) (f but : ℕ) (v : Valid l) (w : List ℕ
     pub finished-answer : reply (askNearest (added b n g S k .log) l f but)
         ≡ cond (isCloser A f but w n g S) (answered (pos n ∷ clearanceNumbers A (points S) ++ (pos f ∷ []))) (reply (askNearest b l f but))
     finished-answer =
-        nearest-answered (added b n g S k .log) l f but v (finished-sound b n g S k done) (cond (isCloser A f but w n g S) (recorded n g S) w)
+        nearest-answered (added b n g S k .log) l f but v (finished-sound b n g S k done)
+        (cond (isCloser A f but w n g S) (recorded n g S) w)
         (finished-nearest A (v .shape) f but b w near n g S k done name-fits floor-fits other)
         ∙ go (isCloser A f but w n g S)
       where

@@ -74,7 +74,8 @@ module _ (A : List Point) where
       none : (bs : List (List ℕ)) → [] ≡ bs ++ w ∷ f .after → ⊥
       none [] e = let z : _≡_ {A = ℕ} 0 1 = cc e in omega arith
       none (c ∷ bs) e = let z : _≡_ {A = ℕ} 0 1 = cc e in omega arith
-  first-numbers (x ∷ xs) w f = ap (λ (near : List ℕ). pos (name near) ∷ clearanceNumbers A (shapeOf near)) (leastOf-only (isAsNear A) x xs w f)
+  first-numbers (x ∷ xs) w f =
+      ap (λ (near : List ℕ). pos (name near) ∷ clearanceNumbers A (shapeOf near)) (leastOf-only (isAsNear A) x xs w f)
 
   first-some : (xs : List (List ℕ)) (w : List ℕ) → FirstLeast (isAsNear A) xs w → ltb (length xs) 1 ≡ false
   first-some [] w f = absurd (let z : _≡_ {A = ℕ} 0 1 = cc (first-numbers [] w f) in let k : ⊥ = omega arith in k)
@@ -94,7 +95,8 @@ module _ (A : List Point) where
         below e z m = either (List·Memᴰ·append-cases xs m)
           where
             either : List·Memᴰ z xs ⊎ List·Memᴰ z (y ∷ []) → isAsNear A y z ≡ true
-            either (inl k) = near-trans A s y w z good whole-w (all-in Whole xs all k) (near-total A s w y whole-w good e) (f .none-less z k)
+            either (inl k) =
+                near-trans A s y w z good whole-w (all-in Whole xs all k) (near-total A s w y whole-w good e) (f .none-less z k)
             either (inr k) =
                 subst (λ (x : List ℕ). isAsNear A y x ≡ true) (sym (List·Memᴰ·eq-of-singleton k)) (near-refl A s y good)
 
@@ -126,7 +128,8 @@ module _ (A : List Point) where
 -- ---- a log
 
 -- logs with the same records answer alike
-pub same-records : (b c : List ℕ) (l : List ℤ) (f but : ℕ) → records b ≡ records c → reply (askNearest b l f but) ≡ reply (askNearest c l f but)
+pub same-records : (b c : List ℕ) (l : List ℤ) (f but : ℕ) → records b ≡ records c
+    → reply (askNearest b l f but) ≡ reply (askNearest c l f but)
 same-records b c l f but e = ap (λ (rs : List (List ℕ)). reply (asks (oneShape (on l f))
     (row 15 (damaged rs) (badPlace rs ∷ []) ∷ tooFewRow 1 (around f but rs) ∷ []) (nearestNumbers (points l) (around f but rs)))) e
 
