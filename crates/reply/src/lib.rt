@@ -6,10 +6,11 @@ pub mod refusals;
 ghost use mathlib.Core.Path.{_≡_};
 ghost use Rattle.questions.specs.Answer.{ofAnswer, ofBegun, ofPart, ofFurthest, ofLength};
 ghost use Rattle.questions.specs.Answer.{ofWidth, ofRelation, ofInside, ofOffer, ofSeparator, ofClearance, ofTangents};
-ghost use Rattle.questions.specs.Answer.{ofPassage, ofTablet, ofAddition};
+ghost use Rattle.questions.specs.Answer.{ofArea, ofPassage, ofTablet, ofAddition};
 ghost use Rattle.reply.specs.Told.{crossed, numbers};
 use questions::answer::Addition;
 use questions::answer::Answer;
+use questions::answer::Area;
 use questions::answer::Begun;
 use questions::answer::Clearance;
 use questions::answer::Furthest;
@@ -109,6 +110,16 @@ pub fn of_length(answer: Length) -> Reply
             floor,
         } => numbers::answered4(squared, from as u64, to as u64, floor as u64),
         Length::No(refusal) => refusals::of_refusal(refusal),
+    }
+}
+
+// Returns twice the area.
+pub fn of_area(answer: Area) -> Reply
+    ensures { λ r. ⌜ numbers r ≡ crossed (ofArea answer) ⌝ }
+{
+    match answer {
+        Area::Twice { twice, floor } => numbers::answered2(twice, floor as u64),
+        Area::No(refusal) => refusals::of_refusal(refusal),
     }
 }
 
