@@ -155,15 +155,40 @@ impl<'a> Book<'a> {
         but: Option<u16>,
         allowed: usize,
     ) -> Result<Addition, Refusal> {
-        match archive::log_pack(self.bytes, new, but.map_or(NOBODY, u32::from), allowed).values()? {
-            [1, ..] => Ok(Addition::Finished),
-            _ => Ok(Addition::Cut),
-        }
+        log_pack(self.bytes, new, but, allowed)
     }
 }
 
 /// Names have 16 bits: this is nobody's.
 const NOBODY: u32 = 1 << 16;
+
+/// Packs a log into a second run of bytes, as [`Book::pack_into`] does. The old log may be read-only memory.
+///
+/// # Errors
+/// Refused, with the new run as it was: 15, 16.
+///
+/// ```
+/// use cocklesway::{Addition, Refusal, log_pack};
+///
+/// // Kind 1, name 7, the point 1 -1, and a torn end.
+/// let old = [13, 0, 1, 0, 7, 0, 1, 0, 0, 0, 255, 255, 255, 255, 0x5A, 13, 0];
+/// let mut new = [1; 16];
+/// assert_eq!(log_pack(&old, &mut new, None, 16), Ok(Addition::Finished));
+/// assert_eq!((&new[..15], new[15]), (&old[..15], 0));
+/// assert_eq!(log_pack(&old, &mut [0; 14], None, 14), Err(Refusal::Full));
+/// ```
+#[inline]
+pub fn log_pack(
+    old: &[u8],
+    new: &mut [u8],
+    but: Option<u16>,
+    allowed: usize,
+) -> Result<Addition, Refusal> {
+    match archive::log_pack(old, new, but.map_or(NOBODY, u32::from), allowed).values()? {
+        [1, ..] => Ok(Addition::Finished),
+        _ => Ok(Addition::Cut),
+    }
+}
 
 /// Writes the latest shape of a name in a log at the front of the output and returns it, on its own floor. The rest
 /// of the output is kept. The log may be read-only memory; one that is also added to is a [`Book`].

@@ -133,14 +133,22 @@ impl Walk<'_> {
         for stores in 0..=length {
             let before = runs[runs.len() - 1].clone();
             match self.pack(&old, &runs[0], but, stores)? {
-                Reply::Refused(_) => return holds(stores == 0, "refused at every allowance or at none"),
+                Reply::Refused(_) => {
+                    return holds(stores == 0, "refused at every allowance or at none");
+                }
                 Reply::Cut(run) => {
                     let most = usize::from(stores > 0);
-                    holds(changed(&before, &run)? == most, "a cut packing makes every store")?;
+                    holds(
+                        changed(&before, &run)? == most,
+                        "a cut packing makes every store",
+                    )?;
                     runs.push(run);
                 }
                 Reply::Finished(run) => {
-                    holds(changed(&before, &run)? <= 1, "one store more changes at most one byte")?;
+                    holds(
+                        changed(&before, &run)? <= 1,
+                        "one store more changes at most one byte",
+                    )?;
                     return self.packed_again(&old, but, &runs, stores, &run);
                 }
             }
@@ -148,8 +156,8 @@ impl Walk<'_> {
         Err("as many stores as the run has bytes are enough to finish".to_string())
     }
 
-    /// Each run that a cut left is finished by the stores that are still needed, and by no fewer; and every name reads as
-    /// it has to.
+    /// Each run that a cut left is finished by the stores that are still needed, and by no fewer;
+    /// and every name reads as it has to.
     fn packed_again(
         &mut self,
         old: &[u8],
@@ -164,7 +172,10 @@ impl Walk<'_> {
             let same = matches!(reply, Reply::Finished(run) if run == packed);
             holds(same, "a cut packing goes on where it was cut")?;
             let reply = self.pack(old, run, but, left - 1)?;
-            holds(matches!(reply, Reply::Cut(_)), "and needs all of its stores")?;
+            holds(
+                matches!(reply, Reply::Cut(_)),
+                "and needs all of its stores",
+            )?;
         }
         let reply = self.pack(old, packed, but, 0)?;
         let same = matches!(reply, Reply::Finished(run) if run == packed);
@@ -174,7 +185,10 @@ impl Walk<'_> {
                 Some(but) if but == name => "no 19".to_string(),
                 _ => self.reading(old, name)?,
             };
-            holds(self.reading(packed, name)? == due, "every other name reads as before")?;
+            holds(
+                self.reading(packed, name)? == due,
+                "every other name reads as before",
+            )?;
         }
         Ok(())
     }

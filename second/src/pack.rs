@@ -12,7 +12,11 @@ pub fn pack(old: &[u8], new: &mut [u8], but: Option<u16>, most: usize) -> Result
     kept.reverse();
     kept.retain(|&(name, _)| seen.insert(name));
     kept.reverse();
-    let mut wanted: Vec<u8> = kept.iter().flat_map(|&(_, record)| record).copied().collect();
+    let mut wanted: Vec<u8> = kept
+        .iter()
+        .flat_map(|&(_, record)| record)
+        .copied()
+        .collect();
     if wanted.len() > new.len() {
         return Err(Refusal::plain(16));
     }

@@ -6,8 +6,8 @@ use crate::make::dice::Dice;
 use crate::make::fields as make;
 use crate::make::{host, logs, parts, readings};
 use crate::text::fields::Field::{
-    self, But, Bytes, Call, Calls, Direction, Floor, Log, Name, Output, Reading, Room, Shape, Stores,
-    Walk,
+    self, But, Bytes, Call, Calls, Direction, Floor, Log, Name, Output, Reading, Room, Shape,
+    Stores, Walk,
 };
 use crate::text::given::Given;
 

@@ -236,9 +236,9 @@ fn book_add(mut fields: Fields) -> Answer {
 }
 
 fn pack(mut fields: Fields) -> Answer {
-    let (mut old, mut new, but) = (fields.bytes(), fields.bytes(), fields.but()?);
+    let (old, mut new, but) = (fields.bytes(), fields.bytes(), fields.but()?);
     let allowed = fields.count()?.unwrap_or(usize::MAX);
-    let word = stored(Book::new(&mut old).pack_into(&mut new, but, allowed)?);
+    let word = stored(cocklesway::log_pack(&old, &mut new, but, allowed)?);
     Ok(format!("ok {word} | {}", hexadecimal(&new)))
 }
 

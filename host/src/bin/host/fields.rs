@@ -126,7 +126,10 @@ impl Fields {
     pub fn but(&mut self) -> Result<Option<u16>, Unreadable> {
         let numbers = self.list().numbers;
         let [name] = numbers[..] else {
-            return numbers.is_empty().then_some(None).ok_or(Unreadable::WrongCount);
+            return numbers
+                .is_empty()
+                .then_some(None)
+                .ok_or(Unreadable::WrongCount);
         };
         name.try_into().map(Some).map_err(|_| Unreadable::NotAName)
     }
