@@ -66,7 +66,7 @@ the calls of a host, on bytes: both shapes of their sums have the column's corne
     },
 ];
 
-const QUESTIONS: [Row; 28] = [
+const QUESTIONS: [Row; 29] = [
     ("judge", JUDGE, single),
     ("furthest", FURTHEST, single),
     ("mirror", MIRROR, single),
@@ -95,6 +95,7 @@ const QUESTIONS: [Row; 28] = [
     ("tablet, a corner each", TABLET, single),
     ("log_read", LOG_READ, kept),
     ("log_add", LOG_ADD, kept),
+    ("log_pack", LOG_PACK, kept),
 ];
 
 const BYTES: [Row; 8] = [

@@ -109,6 +109,20 @@ pub const LOG_ADD: [Run; 2] = [
     },
 ];
 
+/// A log packed over a copy of itself.
+pub const LOG_PACK: [Run; 2] = [
+    |cases| {
+        block_logs(cases, |c, log| {
+            cocklesway::log_pack(&c.log, log, None, usize::MAX)
+        })
+    },
+    |cases| {
+        block_logs(cases, |c, log| {
+            plain::log_pack(&c.log, log, None, usize::MAX)
+        })
+    },
+];
+
 /// A corner of readings, for each corner of the list.
 pub const TABLET: [Run; 2] = [
     |cases| readings(cases, |x, y| cocklesway::tablet(x, y).is_ok()),

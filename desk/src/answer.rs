@@ -1,6 +1,6 @@
 //! Questions asked of the library, and what it answers.
 use crate::given::{Given, Pair, Trio};
-use crate::question::{Call, Making, OfOne, OfTwo, Question, Record};
+use crate::question::{Call, Making, OfOne, OfTwo, Packing, Question, Record};
 use cocklesway::{
     Addition, Area, Book, Clearance, Corners, Furthest, Inside, Length, Offer, Passage, Reading,
     Refusal, Relation, Separator, Standing, Tangents, Walk, Width,
@@ -21,6 +21,8 @@ pub enum Answer {
     Corner([Reading; 2], [i32; 2]),
     /// Whether an addition was finished, and the log afterwards.
     Added(Record, Addition, Vec<u8>),
+    /// Whether the stores of a packing sufficed, and the bytes afterwards.
+    Packed(Packing, Addition, Vec<u8>),
 }
 
 /// What is answered about one shape.
@@ -144,6 +146,7 @@ fn answered(question: &Question) -> Result<Answer, Refusal> {
         }
         Question::Tablet([x, y]) => Answer::Corner([*x, *y], cocklesway::tablet(*x, *y)?),
         Question::Add(record) => added(record)?,
+        Question::Pack(packing) => packed(packing)?,
     })
 }
 
@@ -240,6 +243,13 @@ fn added(record: &Record) -> Result<Answer, Refusal> {
     Ok(Answer::Added(record.clone(), addition, log))
 }
 
+fn packed(packing: &Packing) -> Result<Answer, Refusal> {
+    let mut new = packing.new.clone();
+    let allowed = packing.stores.unwrap_or(usize::MAX);
+    let addition = cocklesway::log_pack(&packing.old, &mut new, packing.but, allowed)?;
+    Ok(Answer::Packed(packing.clone(), addition, new))
+}
+
 impl Answer {
     /// Returns the word of its question.
     #[must_use]
@@ -251,6 +261,7 @@ impl Answer {
             Answer::Passage(..) => "passage",
             Answer::Corner(..) => "tablet",
             Answer::Added(..) => "bookadd",
+            Answer::Packed(..) => "pack",
         }
     }
 
@@ -263,7 +274,7 @@ impl Answer {
             Answer::Made(making, _) => making.shapes(),
             Answer::Passage(trio, _) => trio.shapes().to_vec(),
             Answer::Added(record, ..) => vec![&record.shape],
-            Answer::Corner(..) => Vec::new(),
+            Answer::Corner(..) | Answer::Packed(..) => Vec::new(),
         }
     }
 }

@@ -47,6 +47,7 @@ odd count of numbers has `numbers` instead. Corners are coordinates, edges are b
     grow, at, merge, sweep, sum, mirror, bookread   made
     parts         calls: corners or refused         part        corners, walk
     tablet        corner                            bookadd     finished, log
+    pack          but, or null; finished, log
 
 `turn` is t and `squared` is q of a distance t/√q; `squared` alone is the square of the distance.
 

@@ -138,6 +138,11 @@ fn answered(answer: &Answer) -> Members {
             ("finished", (*addition == Addition::Finished).into()),
             ("log", hexadecimal(log).into()),
         ],
+        Answer::Packed(packing, addition, log) => vec![
+            ("but", packing.but.map(u64::from).into()),
+            ("finished", (*addition == Addition::Finished).into()),
+            ("log", hexadecimal(log).into()),
+        ],
     }
 }
 

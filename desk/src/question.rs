@@ -17,6 +17,8 @@ pub enum Question {
     Tablet([Reading; 2]),
     /// A shape added to a log.
     Add(Record),
+    /// Packing a log into a second run of bytes.
+    Pack(Packing),
 }
 
 /// What is asked about one shape.
@@ -101,6 +103,19 @@ pub struct Record {
     pub stores: Option<usize>,
 }
 
+/// A packing of a log.
+#[derive(Clone, Debug, PartialEq, Eq)]
+pub struct Packing {
+    /// The bytes of the log.
+    pub old: Vec<u8>,
+    /// The bytes that it is packed into.
+    pub new: Vec<u8>,
+    /// The name that is left out.
+    pub but: Option<u16>,
+    /// How many stores it may make; as many as it needs if this is left out.
+    pub stores: Option<usize>,
+}
+
 impl Question {
     /// Returns the word that asks it.
     #[must_use]
@@ -112,6 +127,7 @@ impl Question {
             Question::Passage(_) => "passage",
             Question::Tablet(_) => "tablet",
             Question::Add(_) => "bookadd",
+            Question::Pack(_) => "pack",
         }
     }
 
@@ -123,7 +139,7 @@ impl Question {
             Question::Two(pair, _) => vec![&pair.a, &pair.b],
             Question::Make(making, _) => making.shapes(),
             Question::Passage(trio) => trio.shapes().to_vec(),
-            Question::Tablet(_) => Vec::new(),
+            Question::Tablet(_) | Question::Pack(_) => Vec::new(),
         }
     }
 }

@@ -3,7 +3,7 @@ use crate::answer::{AboutOne, AboutTwo, Answer, Written};
 use crate::distance::Distance;
 use crate::extent::Extent;
 use crate::given::{Corner, Given, Pair, Trio};
-use crate::question::{Making, Record};
+use crate::question::{Making, Packing, Record};
 use crate::refusal;
 use cocklesway::{
     Across, Addition, Clearance, Furthest, Line, Nearest, Offer, Passage, Reading, Relation,
@@ -20,6 +20,7 @@ pub fn sentence(answer: &Answer) -> String {
         Answer::Passage(trio, found) => passage(trio, *found),
         Answer::Corner(readings, corner) => tablet(*readings, *corner),
         Answer::Added(record, addition, log) => added(record, *addition, log),
+        Answer::Packed(packing, addition, log) => packed(packing, *addition, log),
     }
 }
 
@@ -325,6 +326,18 @@ fn added(Record { name, shape, .. }: &Record, addition: Addition, log: &[u8]) ->
         Addition::Cut => format!(
             "the stores ran out before {shape} was in the log as name {name}; \
              every name still reads as before; its bytes are {log}"
+        ),
+    }
+}
+
+fn packed(Packing { but, .. }: &Packing, addition: Addition, log: &[u8]) -> String {
+    let log = refusal::hexadecimal(log);
+    let without = but.map_or(String::new(), |name| format!(" without name {name}"));
+    match addition {
+        Addition::Finished => format!("the log is packed{without}; its bytes are {log}"),
+        Addition::Cut => format!(
+            "the stores ran out before the log was packed{without}; \
+             ask again with these bytes to go on; its bytes are {log}"
         ),
     }
 }

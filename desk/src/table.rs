@@ -2,7 +2,7 @@
 //! it: how it is asked, its sentence, its JSON.
 use crate::fields::{Fields, Part, Unread};
 use crate::given::Pair;
-use crate::question::{Making, OfOne, OfTwo, Question, Record};
+use crate::question::{Making, OfOne, OfTwo, Packing, Question, Record};
 
 /// A question: how its line is written, and what it asks.
 pub struct Row {
@@ -154,6 +154,16 @@ pub const TABLE: &[Row] = &[
         })),
         asks: "the log after the shape is added",
         example: "bookadd | 000000000000000000000000000000000000 | 7 | @2 1 -1",
+    },
+    Row {
+        word: "pack",
+        parts: &[part("log in hexadecimal"), part("bytes to pack it into"), part("name to leave out, or nothing"),
+            optional("stores")],
+        read: |f| Ok(Question::Pack(Packing {
+            old: f.bytes()?, new: f.bytes()?, but: f.but()?, stores: f.optional_count("stores")?,
+        })),
+        asks: "the latest records of a log alone, in a second run of bytes",
+        example: "pack | 0F0002000700020001000000FFFFFFFF5A | 0000000000000000000000000000000000 |",
     },
 ];
 

@@ -198,6 +198,13 @@ cocklesway_reply cocklesway_log_read(const uint8_t *log, size_t count, uint16_t 
 cocklesway_reply cocklesway_log_add(uint8_t *log, size_t count, uint16_t name, uint32_t floor, const int32_t *list,
                                     size_t n, size_t allowed);
 
+/* Packs a log into a second run of bytes: the current records in their order, without those of the name `but` (65536:
+ * nobody's), and zeros after them. At most as many stores of single bytes as are allowed are made, each where the byte
+ * differs. A packing that was cut is called again; until one finishes, the new run may read as anything. Values: 1 if
+ * the stores sufficed, else 0; no floor. Refused 15 of the old log, 16. */
+cocklesway_reply cocklesway_log_pack(const uint8_t *old, size_t count, uint8_t *fresh, size_t room, uint32_t but,
+                                     size_t allowed);
+
 /* Four calls on bytes: x and y of each corner, four bytes to a number, two's complement, the lowest byte first, at any
  * alignment. An output needs eight bytes to a corner. Each answers one number, from its low end:
  *     a byte      the refusal, or 0

@@ -81,6 +81,9 @@ unsafe extern "C" {
     fn cocklesway_log_add(
         log: BytesOutput, count: usize, name: u16, floor: u32, list: List, n: usize, allowed: usize,
     ) -> Reply;
+    fn cocklesway_log_pack(
+        old: Bytes, count: usize, new: BytesOutput, room: usize, but: u32, allowed: usize,
+    ) -> Reply;
     fn cocklesway_judge_bytes(list: Bytes, n: usize, floor: u32) -> u64;
     fn cocklesway_sum_bytes(
         a: Bytes, n: usize, f: u32, b: Bytes, m: usize, g: u32, out: BytesOutput, room: usize,
@@ -217,6 +220,12 @@ pub(crate) fn log_add(log: &mut [u8], name: u16, a: Shape<'_>, allowed: usize) -
     let (to, count) = (log.as_mut_ptr(), log.len());
     // SAFETY: log and list are live slices of these lengths, and no other reference reaches the log.
     unsafe { cocklesway_log_add(to, count, name, a.floor, a.list, a.n, allowed) }
+}
+
+pub(crate) fn log_pack(old: &[u8], new: &mut [u8], but: u32, allowed: usize) -> Reply {
+    let (to, room) = (new.as_mut_ptr(), new.len());
+    // SAFETY: both are live slices of these lengths, and no other reference reaches the new one.
+    unsafe { cocklesway_log_pack(old.as_ptr(), old.len(), to, room, but, allowed) }
 }
 
 pub(crate) fn judge_bytes(list: &[u8], floor: u32) -> u64 {

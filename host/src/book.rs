@@ -22,7 +22,7 @@ pub struct Book<'a> {
     bytes: &'a mut [u8],
 }
 
-/// Whether an addition made all of its stores. There is no third case.
+/// Whether an addition or a packing made all of its stores. There is no third case.
 ///
 /// ```
 /// use cocklesway::{Addition, Book, Shape};
@@ -36,9 +36,9 @@ pub struct Book<'a> {
 #[derive(Clone, Copy, Debug, PartialEq, Eq, Hash)]
 #[must_use]
 pub enum Addition {
-    /// The shape is in the log.
+    /// The shape is in the log, or the log is packed.
     Finished,
-    /// The allowance ran out. Every name still reads as before.
+    /// The allowance ran out. After an addition every name still reads as before; a packing is called again.
     Cut,
 }
 
@@ -115,6 +115,78 @@ impl<'a> Book<'a> {
             [1, ..] => Ok(Addition::Finished),
             _ => Ok(Addition::Cut),
         }
+    }
+
+    /// Packs the log into a second run of bytes, which may hold anything: the current records in their order, without
+    /// those of the name `but`, and zeros after them. Returns whether the allowed stores of single bytes sufficed. As
+    /// many as the new run has bytes always do. A packing that was cut is called again and goes on where it was cut;
+    /// until one finishes, the new run may read as anything. This is how a shape is taken off a log.
+    ///
+    /// # Errors
+    /// Refused, with the new run as it was: 15, 16.
+    ///
+    /// ```
+    /// use cocklesway::{Addition, Book, Refusal, Shape};
+    ///
+    /// let mut bytes = [0; 51];
+    /// let mut book = Book::new(&mut bytes);
+    /// for (name, x) in [(7, 1), (8, 2), (7, 3)] {
+    ///     assert_eq!(book.add(name, Shape::new(&[[x, 0]], 0), usize::MAX), Ok(Addition::Finished));
+    /// }
+    /// let mut fresh = [0; 51];
+    /// assert_eq!(book.pack_into(&mut fresh, None, 3), Ok(Addition::Cut));
+    /// assert_eq!(book.pack_into(&mut fresh, None, 51), Ok(Addition::Finished));
+    /// assert_eq!(book.pack_into(&mut fresh, None, 0), Ok(Addition::Finished));
+    ///
+    /// let mut out = [[0; 2]];
+    /// let packed = Book::new(&mut fresh);
+    /// assert_eq!(packed.read(7, &mut out), Ok(Shape::new(&[[3, 0]], 0)));
+    /// assert_eq!(packed.bytes()[34..], [0; 17]);
+    ///
+    /// let mut fresh = [0; 17];
+    /// assert_eq!(book.pack_into(&mut fresh, Some(7), 17), Ok(Addition::Finished));
+    /// assert_eq!(Book::new(&mut fresh).read(7, &mut out), Err(Refusal::NoRecord));
+    /// assert_eq!(book.pack_into(&mut fresh, None, 17), Err(Refusal::Full));
+    /// ```
+    #[inline]
+    pub fn pack_into(
+        &self,
+        new: &mut [u8],
+        but: Option<u16>,
+        allowed: usize,
+    ) -> Result<Addition, Refusal> {
+        log_pack(self.bytes, new, but, allowed)
+    }
+}
+
+/// Names have 16 bits: this is nobody's.
+const NOBODY: u32 = 1 << 16;
+
+/// Packs a log into a second run of bytes, as [`Book::pack_into`] does. The old log may be read-only memory.
+///
+/// # Errors
+/// Refused, with the new run as it was: 15, 16.
+///
+/// ```
+/// use cocklesway::{Addition, Refusal, log_pack};
+///
+/// // Kind 1, name 7, the point 1 -1, and a torn end.
+/// let old = [13, 0, 1, 0, 7, 0, 1, 0, 0, 0, 255, 255, 255, 255, 0x5A, 13, 0];
+/// let mut new = [1; 16];
+/// assert_eq!(log_pack(&old, &mut new, None, 16), Ok(Addition::Finished));
+/// assert_eq!((&new[..15], new[15]), (&old[..15], 0));
+/// assert_eq!(log_pack(&old, &mut [0; 14], None, 14), Err(Refusal::Full));
+/// ```
+#[inline]
+pub fn log_pack(
+    old: &[u8],
+    new: &mut [u8],
+    but: Option<u16>,
+    allowed: usize,
+) -> Result<Addition, Refusal> {
+    match archive::log_pack(old, new, but.map_or(NOBODY, u32::from), allowed).values()? {
+        [1, ..] => Ok(Addition::Finished),
+        _ => Ok(Addition::Cut),
     }
 }
 

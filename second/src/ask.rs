@@ -8,6 +8,7 @@ use crate::direction;
 use crate::host;
 use crate::log;
 use crate::measure;
+use crate::pack;
 use crate::parts::{self, State};
 use crate::passage;
 use crate::plane::{Point, Shape};
@@ -195,8 +196,21 @@ pub fn log_add(given: &Given) -> Answer {
     let mut log = given.log().to_vec();
     let (list, floor) = given.list();
     let finished = log::add(&mut log, given.name(), floor, list, given.stores())?;
+    Ok(stored(finished, &log))
+}
+
+/// The old log, then the new run.
+pub fn log_pack(given: &Given) -> Answer {
+    let [old, new] = given.bytes();
+    let mut new = new.to_vec();
+    let finished = pack::pack(old, &mut new, given.but(), given.stores())?;
+    Ok(stored(finished, &new))
+}
+
+/// Whether all stores were made, and the bytes afterwards.
+fn stored(finished: bool, bytes: &[u8]) -> String {
     let word = if finished { "finished" } else { "cut" };
-    Ok(format!("{word} | {}", log_text(&log)))
+    format!("{word} | {}", log_text(bytes))
 }
 
 pub fn host_judge(given: &Given) -> String {

@@ -15,6 +15,7 @@ pub mod judge;
 mod log;
 pub mod make;
 mod measure;
+mod pack;
 mod parts;
 mod passage;
 pub mod plane;

@@ -6,8 +6,8 @@ use crate::make::dice::Dice;
 use crate::make::fields as make;
 use crate::make::{host, logs, parts, readings};
 use crate::text::fields::Field::{
-    self, Bytes, Call, Calls, Direction, Floor, Log, Name, Output, Reading, Room, Shape, Stores,
-    Walk,
+    self, But, Bytes, Call, Calls, Direction, Floor, Log, Name, Output, Reading, Room, Shape,
+    Stores, Walk,
 };
 use crate::text::given::Given;
 
@@ -43,6 +43,7 @@ pub const TABLE: &[Row] = &[
     Row { word: "tablet", fields: &[Reading, Reading], ask: ask::tablet, make: readings::corner },
     Row { word: "bookread", fields: &[Log, Name, Room], ask: ask::log_read, make: logs::to_read },
     Row { word: "bookadd", fields: &[Log, Name, Shape, Stores], ask: ask::log_add, make: logs::to_add },
+    Row { word: "pack", fields: &[Bytes, Bytes, But, Stores], ask: ask::log_pack, make: logs::to_pack },
 ];
 
 /// The calls of a host, each of which tells its whole line. The query program knows none of them.

@@ -4,7 +4,7 @@ use std::cmp::Ordering;
 
 /// What must have been compared at least once: of each question answers by their first values, and
 /// refusals.
-pub const KINDS: [(&str, &str); 26] = [
+pub const KINDS: [(&str, &str); 27] = [
     ("judge", "ok; no 1; no 2; no 3; no 4; no 5; no 13"),
     (
         "furthest",
@@ -30,6 +30,7 @@ pub const KINDS: [(&str, &str); 26] = [
     ("tablet", "ok; no 3; no 17; no 18"),
     ("log_read", "ok; no 8; no 15; no 19"),
     ("log_add", "ok 0; ok 1; no 4; no 13; no 15; no 16"),
+    ("log_pack", "ok 0; ok 1; no 15; no 16"),
     ("judge_bytes", "ok; no 1; no 2; no 3; no 4; no 5; no 13"),
     ("sum_bytes", "ok; no 4; no 6; no 7; no 8; no 13"),
     ("merge_bytes", "ok; no 4; no 6; no 8; no 13"),
@@ -43,7 +44,7 @@ pub fn kind(word: &str, answer: Numbers) -> String {
         (
             0,
             "relation" | "relation_bytes" | "inside" | "clearance" | "passage" | "offer" | "find"
-            | "log_add",
+            | "log_add" | "log_pack",
         ) => {
             format!("ok {first}")
         }

@@ -37,7 +37,7 @@ pub use furthest::furthest;
 pub use inside::inside;
 pub use judge::{MOST, judge};
 pub use length::length;
-pub use log::{log_add, log_read};
+pub use log::{log_add, log_pack, log_read};
 pub use merge::merge;
 pub use mirror::mirror;
 pub use parts::{Place, begin, part};

@@ -2,6 +2,7 @@
 ghost use mathlib.Core.Path.{_≡_};
 ghost use Rattle.plane.specs.Question.{reply, output};
 ghost use Rattle.journal.specs.Reading.{askRead};
+ghost use Rattle.packing.specs.Packing.{remade};
 ghost use Rattle.reply.specs.Told.{crossed, numbers};
 ghost use Rattle.calls.specs.Calls.{addedLow};
 use crossing::floors;
@@ -36,4 +37,15 @@ pub extern "C" fn cocklesway_log_add(
         return floors::barred(list);
     }
     reply::of_addition(questions::log_add(log, name, floor as u16, list, allowed))
+}
+
+// Packs the old log into the new run with at most as many stores as are allowed, without the records of the name `but`;
+// 65,536 leaves out nobody. Answers 1 if it finished, 0 if it was cut.
+#[no_mangle]
+pub extern "C" fn cocklesway_log_pack(old: &[u8], new: &mut [u8], but: u32, allowed: usize) -> Reply
+    ensures { λ r. ⌜
+        (numbers r ≡ crossed (remade (now (old .entry)) but (now (new .entry)) allowed .reply))
+        × (now (new .exit) ≡ remade (now (old .entry)) but (now (new .entry)) allowed .log) ⌝ }
+{
+    reply::of_addition(questions::books::log_pack(old, new, but, allowed))
 }

@@ -26,6 +26,7 @@ pub enum Question {
     Tablet,
     LogRead,
     LogAdd,
+    LogPack,
 }
 
 // What a word asks: a question, and the kinds of its fields.
@@ -60,6 +61,11 @@ const NAMED: u64 = fields::BYTES + 16 * fields::NAME;
 const LOG_READ: u64 = NAMED + 256 * fields::ROOM;
 
 const LOG_ADDED: u64 = NAMED + 256 * fields::SHAPE + 4096 * fields::ROOM;
+
+const LOG_PACKED: u64 = fields::BYTES
+    + 16 * fields::BYTES
+    + 256 * fields::BUT
+    + 4096 * fields::ROOM;
 
 // Looks a word up. If it is not there the kinds are unknown, and nothing is asked.
 pub fn look_up(word: &[u8]) -> Entry {
@@ -108,7 +114,8 @@ fn others(mut found: Entry, word: &[u8]) -> Entry {
     found = row(found, word, b"sweep", Question::Sweep, WRITTEN);
     found = row(found, word, b"tablet", Question::Tablet, READINGS);
     found = row(found, word, b"bookread", Question::LogRead, LOG_READ);
-    row(found, word, b"bookadd", Question::LogAdd, LOG_ADDED)
+    found = row(found, word, b"bookadd", Question::LogAdd, LOG_ADDED);
+    row(found, word, b"pack", Question::LogPack, LOG_PACKED)
 }
 
 // Returns the row's question if the word is its own, else what was found before.
@@ -132,7 +139,7 @@ pub fn form_of(question: Question) -> Form {
         Question::Passage => Form::Passage,
         Question::Parts => Form::Begun,
         Question::Tablet => Form::Bits,
-        Question::LogAdd => Form::Addition,
+        Question::LogAdd | Question::LogPack => Form::Addition,
         _ => Form::Numbers,
     }
 }

@@ -4,5 +4,6 @@ pub mod Measures
 pub mod Lines
 pub mod Readings
 pub mod Logs
+pub mod Packing
 pub mod Books
 pub mod Parts

@@ -240,7 +240,7 @@ pub enum Tablet {
     No(Unread),
 }
 
-// Whether an addition to a log made all of its stores, or ran out of those that it was allowed.
+// Whether an addition to a log, or a packing of one, made all of its stores, or ran out of those that it was allowed.
 pub enum Addition {
     Finished,
     Cut,

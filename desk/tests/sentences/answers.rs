@@ -19,6 +19,7 @@ pub fn of_answer(case: &Case, answer: &str, said: &str) -> Result<Vec<i128>, Str
         "part" => Ok(part(case, &words, answer)),
         "tablet" => Ok(words.iter().map(|word| double(word) as i128).collect()),
         "bookadd" => added(case, answer, said),
+        "pack" => packed(case, answer, said),
         _ => Ok(made(case, number(words[0]), floor(&words), answer)),
     }
 }
@@ -237,6 +238,23 @@ fn added(case: &Case, answer: &str, said: &str) -> Result<Vec<i128>, String> {
     };
     needs(said, how)?;
     Ok([case.label(0), case.numbers_of_field(1)].concat())
+}
+
+fn packed(case: &Case, answer: &str, said: &str) -> Result<Vec<i128>, String> {
+    let (word, log) = answer
+        .split_once(" | ")
+        .unwrap_or((answer.trim_end_matches([' ', '|']), ""));
+    let told = said.split_once("its bytes are ").map_or("", |(_, log)| log);
+    if told != log.trim() {
+        return Err(format!("the log is told as {told}"));
+    }
+    let how = if word == "cut" {
+        "the stores ran out"
+    } else {
+        "the log is packed"
+    };
+    needs(said, how)?;
+    Ok(case.numbers_of_field(2))
 }
 
 /// Returns the double of its bits.

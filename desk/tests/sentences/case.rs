@@ -148,7 +148,7 @@ impl Case {
 /// The fields of a question that are lists.
 pub fn list_fields(word: &str) -> &'static [usize] {
     match word {
-        "tablet" | "bookread" => &[],
+        "tablet" | "bookread" | "pack" => &[],
         "bookadd" => &[2],
         "passage" => &[0, 1, 2],
         word if TWO.contains(&word) => &[0, 1],

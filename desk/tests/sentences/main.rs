@@ -88,6 +88,7 @@ fn numbers_of_lists_in_the_line() {
         "tablet",
         "bookread",
         "bookadd",
+        "pack",
     ] {
         assert!(
             seen.contains(&format!("{word} ok")),

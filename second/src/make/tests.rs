@@ -92,7 +92,7 @@ fn every_sort_of_answer_comes_up_often() {
                  width ok,relation apart,relation touching,\
                  relation overlapping,inside yes,inside no,offer yes,offer no,find ok,find none,\
                  clearance ok,clearance cc,clearance ce,clearance ec,tangents ok,passage ok,passage blocked,\
-                 tablet ok,bookread ok,bookadd finished,bookadd cut,\
+                 tablet ok,bookread ok,bookadd finished,bookadd cut,pack finished,pack cut,\
                  unreadable: line too long,unreadable: unknown word,unreadable: missing field,\
                  unreadable: too many fields,unreadable: not a number of 32 bits,\
                  unreadable: too many numbers,unreadable: wrong count of numbers,\

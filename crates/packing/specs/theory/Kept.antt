@@ -1,5 +1,5 @@
 -- The current records without those of a name.
---     current-held, current-latest       what each name has, by the current records alone
+--     current-latest                     what each name has, by the current records alone
 --     current-current                    they are all current
 --     kept-held, kept-latest             other names have what they had; the name itself has nothing (`kept-gone`)
 --     kept-current                       in whichever order: the current of the kept, or the kept of the current
@@ -21,25 +21,14 @@ use Rattle.journal.specs.Reading.{damaged, held, nothing, latest}
 use Rattle.journal.specs.Current.{current, keep, isOther}
 use Rattle.journal.specs.Adding.{joined}
 use Rattle.journal.specs.theory.Records.{Entries}
+use Rattle.journal.specs.theory.Current.{current-held}
 
 -- ---- current records
 
 -- a name that a later record has
 own-held : (r : List ℕ) (rs : List (List ℕ)) (n : ℕ) → held (name r) rs ≡ true → (eqb (name r) n || held n rs) ≡ held n rs
-own-held r rs n h = go (eqb (name r) n) refl
-  where
-    go : (t : Bool) → eqb (name r) n ≡ t → (t || held n rs) ≡ held n rs
-    go true e = sym h ∙ ap (λ (m : ℕ). held m rs) (eqb-true (name r) n e)
-    go false e = refl
-
-pub current-held : (n : ℕ) (rs : List (List ℕ)) → held n (current rs) ≡ held n rs
-current-held n [] = refl
-current-held n (r ∷ rs) = go (held (name r) rs) refl (current-held n rs)
-  where
-    go : (t : Bool) → held (name r) rs ≡ t → held n (current rs) ≡ held n rs
-        → held n (cond t (current rs) (r ∷ current rs)) ≡ (eqb (name r) n || held n rs)
-    go true h ih = ih ∙ sym (own-held r rs n h)
-    go false h ih = ap (λ (t : Bool). eqb (name r) n || t) ih
+own-held r rs n h =
+    sym (current-held n (r ∷ rs)) ∙ ap (λ (t : Bool). held n (cond t (current rs) (r ∷ current rs))) h ∙ current-held n rs
 
 -- what no record has
 none-latest : (n : ℕ) (rs : List (List ℕ)) → latest n rs ≡ cond (held n rs) (latest n rs) nothing

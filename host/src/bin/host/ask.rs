@@ -43,6 +43,7 @@ pub const TABLE: &[Row] = &[
     Row { word: "tablet", fields: &[Reading, Reading], ask: tablet },
     Row { word: "bookread", fields: &[Bytes, Numbers, Optional], ask: book_read },
     Row { word: "bookadd", fields: &[Bytes, Numbers, List, Optional], ask: book_add },
+    Row { word: "pack", fields: &[Bytes, Bytes, Numbers, Optional], ask: pack },
     Row { word: "hjudge", fields: &[Bytes, Floor], ask: judge_bytes },
     Row { word: "hsum", fields: &[Bytes, Floor, Bytes, Floor, Output], ask: |f| bytes_written(f, bytes::sum) },
     Row { word: "hmerge", fields: &[Bytes, Floor, Bytes, Floor, Output], ask: |f| bytes_written(f, bytes::merge) },
@@ -230,11 +231,22 @@ fn book_add(mut fields: Fields) -> Answer {
     let (mut log, name, list) = (fields.bytes(), fields.name()?, fields.list());
     let allowed = fields.count()?.unwrap_or(usize::MAX);
     let mut book = Book::new(&mut log);
-    let word = match book.add(name, list.shape(), allowed)? {
+    let word = stored(book.add(name, list.shape(), allowed)?);
+    Ok(format!("ok {word} | {}", hexadecimal(book.bytes())))
+}
+
+fn pack(mut fields: Fields) -> Answer {
+    let (old, mut new, but) = (fields.bytes(), fields.bytes(), fields.but()?);
+    let allowed = fields.count()?.unwrap_or(usize::MAX);
+    let word = stored(cocklesway::log_pack(&old, &mut new, but, allowed)?);
+    Ok(format!("ok {word} | {}", hexadecimal(&new)))
+}
+
+fn stored(addition: Addition) -> &'static str {
+    match addition {
         Addition::Finished => "finished",
         Addition::Cut => "cut",
-    };
-    Ok(format!("ok {word} | {}", hexadecimal(book.bytes())))
+    }
 }
 
 fn judge_bytes(mut fields: Fields) -> Answer {
