@@ -66,7 +66,7 @@ the calls of a host, on bytes: both shapes of their sums have the column's corne
     },
 ];
 
-const QUESTIONS: [Row; 27] = [
+const QUESTIONS: [Row; 29] = [
     ("judge", JUDGE, single),
     ("furthest", FURTHEST, single),
     ("mirror", MIRROR, single),
@@ -89,6 +89,8 @@ const QUESTIONS: [Row; 27] = [
     ("find, none", FIND, crossing),
     ("clearance, apart", CLEARANCE, apart),
     ("clearance, none", CLEARANCE, crossing),
+    ("excess", EXCESS, crossing),
+    ("excess, inside", EXCESS, nested),
     ("tangents", TANGENTS, apart),
     ("tangents, refused 9", TANGENTS, crossing),
     ("tablet, a corner each", TABLET, single),
@@ -137,7 +139,7 @@ const CARTS: [Row; 8] = [
 
 /// Every proved question, on a shape and the same one moved away (`moved_away`). It takes the whole walk to find that a
 /// shape overlaps one that it is inside of. A log has as many records as the shape has corners.
-pub const GROWTH: [(&str, Run, Make); 21] = [
+pub const GROWTH: [(&str, Run, Make); 22] = [
     ("judge", JUDGE[0], moved_away),
     ("furthest", FURTHEST[0], moved_away),
     ("mirror", MIRROR[0], moved_away),
@@ -155,6 +157,7 @@ pub const GROWTH: [(&str, Run, Make); 21] = [
     ("offer", OFFER[0], moved_away),
     ("find", FIND[0], twice),
     ("clearance", CLEARANCE[0], moved_away),
+    ("excess", EXCESS[0], moved_away),
     ("tangents", TANGENTS[0], moved_away),
     ("passage", PASSAGE[0], passing),
     ("log_read, records", LOG_READ[0], moved_away),

@@ -42,6 +42,7 @@ odd count of numbers has `numbers` instead. Corners are coordinates, edges are b
                   rounded                           find        direction, or null
     furthest      direction, first, last, value     tangents    left, right, crossing, reverse
     clearance     apart, rounded; first, second, squared or turn and squared
+    excess        inside, up; first, second, squared or turn and squared
     passage       passable; direction, low, high, rounded
     grow, at, merge, sweep, sum, mirror, bookread   made
     parts         calls: corners or refused         part        corners, walk

@@ -9,6 +9,7 @@ mod deliver;
 mod differences;
 mod direction;
 mod edges;
+mod excess;
 mod extent;
 mod furthest;
 mod inside;
@@ -31,6 +32,7 @@ mod width;
 
 pub use bytes::{judge_bytes, merge_bytes, relation_bytes, sum_bytes};
 pub use clearance::clearance;
+pub use excess::excess;
 pub use furthest::furthest;
 pub use inside::inside;
 pub use judge::{MOST, judge};

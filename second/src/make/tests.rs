@@ -91,7 +91,7 @@ fn every_sort_of_answer_comes_up_often() {
                  no 19,judge ok,furthest ok,mirror ok,sum ok,parts ok,part ok,merge ok,grow ok,sweep ok,length ok,\
                  width ok,relation apart,relation touching,\
                  relation overlapping,inside yes,inside no,offer yes,offer no,find ok,find none,\
-                 clearance ok,clearance cc,clearance ce,clearance ec,tangents ok,passage ok,passage blocked,\
+                 clearance ok,clearance cc,clearance ce,clearance ec,excess inside,excess cc,excess ce,tangents ok,passage ok,passage blocked,\
                  tablet ok,bookread ok,bookadd finished,bookadd cut,\
                  unreadable: line too long,unreadable: unknown word,unreadable: missing field,\
                  unreadable: too many fields,unreadable: not a number of 32 bits,\
