@@ -66,12 +66,13 @@ the calls of a host, on bytes: both shapes of their sums have the column's corne
     },
 ];
 
-const QUESTIONS: [Row; 29] = [
+const QUESTIONS: [Row; 30] = [
     ("judge", JUDGE, single),
     ("furthest", FURTHEST, single),
     ("mirror", MIRROR, single),
     ("length", LENGTH, single),
     ("width", WIDTH, single),
+    ("area", AREA, single),
     ("sum", SUM, summed),
     ("sum, refused 6 at 1,024", SUM, crossing),
     ("begin", BEGIN, summed),
@@ -152,6 +153,7 @@ pub const GROWTH: [(&str, Run, Make); 22] = [
     ("sweep", SWEEP[0], moved_away),
     ("length", LENGTH[0], moved_away),
     ("width", WIDTH[0], moved_away),
+    ("area", AREA[0], moved_away),
     ("relation", RELATION[0], twice),
     ("inside", INSIDE[0], twice),
     ("offer", OFFER[0], moved_away),

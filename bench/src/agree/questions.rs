@@ -5,7 +5,7 @@ use super::{Lent, on};
 use crate::plain;
 use crate::reply::Numbers;
 use cocklesway::{
-    Walk, clearance, excess, find, furthest, inside, judge, length, offer, passage, relation,
+    Walk, area, clearance, excess, find, furthest, inside, judge, length, offer, passage, relation,
     tangents, width,
 };
 
@@ -61,6 +61,7 @@ pub fn ask_one(tally: &mut Tally, lent: Lent) -> Result<(), String> {
         plain::length(a, f),
         Numbers::of(length(shape)),
     )?;
+    tally.add("area", lent, plain::area(a, f), Numbers::of(area(shape)))?;
     tally.add("width", lent, plain::width(a, f), Numbers::of(width(shape)))
 }
 

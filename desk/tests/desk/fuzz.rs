@@ -36,6 +36,7 @@ const WORDS: &[&str] = &[
     "shapes",
     "width",
     "length",
+    "area",
     "tangents",
     "offer",
     "find",
