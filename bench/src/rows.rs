@@ -140,7 +140,7 @@ const CARTS: [Row; 8] = [
 
 /// Every proved question, on a shape and the same one moved away (`moved_away`). It takes the whole walk to find that a
 /// shape overlaps one that it is inside of. A log has as many records as the shape has corners.
-pub const GROWTH: [(&str, Run, Make); 22] = [
+pub const GROWTH: [(&str, Run, Make); 23] = [
     ("judge", JUDGE[0], moved_away),
     ("furthest", FURTHEST[0], moved_away),
     ("mirror", MIRROR[0], moved_away),
