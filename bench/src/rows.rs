@@ -66,7 +66,7 @@ the calls of a host, on bytes: both shapes of their sums have the column's corne
     },
 ];
 
-const QUESTIONS: [Row; 29] = [
+const QUESTIONS: [Row; 31] = [
     ("judge", JUDGE, single),
     ("furthest", FURTHEST, single),
     ("mirror", MIRROR, single),
@@ -90,6 +90,8 @@ const QUESTIONS: [Row; 29] = [
     ("find, none", FIND, crossing),
     ("clearance, apart", CLEARANCE, apart),
     ("clearance, none", CLEARANCE, crossing),
+    ("excess", EXCESS, crossing),
+    ("excess, inside", EXCESS, nested),
     ("tangents", TANGENTS, apart),
     ("tangents, refused 9", TANGENTS, crossing),
     ("tablet, a corner each", TABLET, single),
@@ -139,7 +141,7 @@ const CARTS: [Row; 8] = [
 
 /// Every proved question, on a shape and the same one moved away (`moved_away`). It takes the whole walk to find that a
 /// shape overlaps one that it is inside of. A log has as many records as the shape has corners.
-pub const GROWTH: [(&str, Run, Make); 22] = [
+pub const GROWTH: [(&str, Run, Make); 23] = [
     ("judge", JUDGE[0], moved_away),
     ("furthest", FURTHEST[0], moved_away),
     ("mirror", MIRROR[0], moved_away),
@@ -158,6 +160,7 @@ pub const GROWTH: [(&str, Run, Make); 22] = [
     ("offer", OFFER[0], moved_away),
     ("find", FIND[0], twice),
     ("clearance", CLEARANCE[0], moved_away),
+    ("excess", EXCESS[0], moved_away),
     ("tangents", TANGENTS[0], moved_away),
     ("passage", PASSAGE[0], passing),
     ("log_read, records", LOG_READ[0], moved_away),

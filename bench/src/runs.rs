@@ -66,6 +66,7 @@ pub const INSIDE: [Run; 2] = both!(inside(a, b));
 pub const OFFER: [Run; 2] = both!(offer(a, b; 3, 1));
 pub const FIND: [Run; 2] = both!(find(a, b));
 pub const CLEARANCE: [Run; 2] = both!(clearance(a, b));
+pub const EXCESS: [Run; 2] = both!(excess(a, b));
 pub const TANGENTS: [Run; 2] = both!(tangents(a, b));
 pub const PASSAGE: [Run; 2] = both!(passage(a, b, cart));
 

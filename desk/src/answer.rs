@@ -2,8 +2,8 @@
 use crate::given::{Given, Pair, Trio};
 use crate::question::{Call, Making, OfOne, OfTwo, Packing, Question, Record};
 use cocklesway::{
-    Addition, Area, Book, Clearance, Corners, Furthest, Inside, Length, Offer, Passage, Reading,
-    Refusal, Relation, Separator, Standing, Tangents, Walk, Width,
+    Addition, Area, Book, Clearance, Corners, Excess, Furthest, Inside, Length, Offer, Passage,
+    Reading, Refusal, Relation, Separator, Standing, Tangents, Walk, Width,
 };
 
 /// A question with its answer.
@@ -53,6 +53,8 @@ pub enum AboutTwo {
     Find(Separator),
     /// Where they are nearest.
     Clearance(Clearance),
+    /// How far the first reaches beyond the second.
+    Excess(Excess),
     /// The lines that just touch both.
     Tangents(Tangents),
     /// What each call of a sum in parts wrote.
@@ -171,6 +173,7 @@ fn about_two(pair: &Pair, asked: &OfTwo) -> Result<AboutTwo, Refusal> {
         OfTwo::Offer(towards) => AboutTwo::Offer(*towards, cocklesway::offer(a, b, *towards)?),
         OfTwo::Find => AboutTwo::Find(cocklesway::find(a, b)?),
         OfTwo::Clearance => AboutTwo::Clearance(cocklesway::clearance(a, b)?),
+        OfTwo::Excess => AboutTwo::Excess(cocklesway::excess(a, b)?),
         OfTwo::Tangents => AboutTwo::Tangents(cocklesway::tangents(a, b)?),
         OfTwo::Parts(calls) => AboutTwo::Parts(parts(pair, calls)?),
         OfTwo::Part(walk, call) => {
@@ -299,6 +302,7 @@ impl AboutTwo {
             AboutTwo::Offer(..) => "offer",
             AboutTwo::Find(_) => "find",
             AboutTwo::Clearance(_) => "clearance",
+            AboutTwo::Excess(_) => "excess",
             AboutTwo::Tangents(_) => "tangents",
             AboutTwo::Parts(_) => "parts",
             AboutTwo::Part(..) => "part",

@@ -43,6 +43,7 @@ odd count of numbers has `numbers` instead. Corners are coordinates, edges are b
     furthest      direction, first, last, value     tangents    left, right, crossing, reverse
     area          twice, in mm²
     clearance     apart, rounded; first, second, squared or turn and squared
+    excess        inside, up; first, second, squared or turn and squared
     passage       passable; direction, low, high, rounded
     grow, at, merge, sweep, sum, mirror, bookread   made
     parts         calls: corners or refused         part        corners, walk

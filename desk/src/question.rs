@@ -49,6 +49,8 @@ pub enum OfTwo {
     Find,
     /// How near are they?
     Clearance,
+    /// How far does the first reach beyond the second?
+    Excess,
     /// Which lines just touch both?
     Tangents,
     /// Their sum in parts, from its beginning.
@@ -168,6 +170,7 @@ impl OfTwo {
             OfTwo::Offer(_) => "offer",
             OfTwo::Find => "find",
             OfTwo::Clearance => "clearance",
+            OfTwo::Excess => "excess",
             OfTwo::Tangents => "tangents",
             OfTwo::Parts(_) => "parts",
             OfTwo::Part(..) => "part",

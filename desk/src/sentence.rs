@@ -6,8 +6,8 @@ use crate::given::{Corner, Given, Pair, Trio};
 use crate::question::{Making, Packing, Record};
 use crate::refusal;
 use cocklesway::{
-    Across, Addition, Clearance, Furthest, Line, Nearest, Offer, Passage, Reading, Relation,
-    Separator, Tangents, Walk, Width,
+    Across, Addition, Beyond, Clearance, Excess, Furthest, Line, Nearest, Offer, Passage, Reading,
+    Relation, Separator, Tangents, Walk, Width,
 };
 
 /// Returns the sentence of an answer.
@@ -41,6 +41,7 @@ fn about_two(pair: &Pair, about: &AboutTwo) -> String {
         AboutTwo::Offer(towards, found) => offer(pair, *towards, *found),
         AboutTwo::Find(found) => find(pair, *found),
         AboutTwo::Clearance(found) => clearance(pair, *found),
+        AboutTwo::Excess(found) => excess(pair, *found),
         AboutTwo::Tangents(found) => tangents(pair, *found),
         AboutTwo::Parts(written) => parts(pair, written),
         AboutTwo::Part(corners, walk) => part(pair, corners, *walk),
@@ -222,6 +223,22 @@ fn corner_of(shape: &Given, position: usize) -> String {
         ([_], Some(name)) => format!("{name} at {corner}"),
         _ => format!("corner {corner} of {shape}"),
     }
+}
+
+/// Says how far a changed shape reaches beyond the old one, in whole millimetres rounded up, and where.
+fn excess(Pair { a, b }: &Pair, found: Excess) -> String {
+    let (corner, place) = match found.beyond {
+        None => return format!("{a} is inside {b}: it reaches nowhere further"),
+        Some(Beyond::Corners { corner, other, .. }) => (corner, corner_of(b, other)),
+        Some(Beyond::Edge { corner, edge, .. }) => {
+            (corner, format!("edge {} of {b}", b.edge(edge)))
+        }
+    };
+    format!(
+        "{a} reaches at most {} mm beyond {b}, rounded up, from {place} to {}",
+        found.up(),
+        corner_of(a, corner)
+    )
 }
 
 fn tangents(Pair { a, b }: &Pair, found: Tangents) -> String {

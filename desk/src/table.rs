@@ -53,6 +53,12 @@ pub const TABLE: &[Row] = &[
         asks: "how near are they, and where?", example: "clearance | linen-store | wall",
     },
     Row {
+        word: "excess", parts: &[part("changed shape"), part("shape before")],
+        read: |f| Ok(Question::Two(f.pair()?, OfTwo::Excess)),
+        asks: "how far does a changed shape reach beyond the old one?",
+        example: "excess | @2 3000 900 3700 900 3700 1800 3000 1800 | linen-store",
+    },
+    Row {
         word: "inside", parts: &[A, part("shape around it")], read: |f| Ok(Question::Two(f.pair()?, OfTwo::Inside)),
         asks: "is the first inside the second?", example: "inside | @2 3500 1200 | linen-store",
     },

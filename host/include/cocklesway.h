@@ -173,6 +173,16 @@ cocklesway_reply cocklesway_find(const int32_t *a, size_t n, uint32_t f, const i
  * t is the size of the corner's turn against the edge, q the edge's squared length. Refused 1 to 5, 13. */
 cocklesway_reply cocklesway_clearance(const int32_t *a, size_t n, uint32_t f, const int32_t *b, size_t m, uint32_t g);
 
+/* The first value of an excess is COCKLESWAY_INSIDE, COCKLESWAY_CORNERS or COCKLESWAY_CORNER_EDGE. */
+#define COCKLESWAY_INSIDE 0
+
+/* How far a new shape reaches beyond the old one. Values:
+ *     COCKLESWAY_INSIDE, floor
+ *     COCKLESWAY_CORNERS, corner of the new, of the old, squared distance, distance rounded up, floor
+ *     COCKLESWAY_CORNER_EDGE, corner of the new, edge of the old, t, q, t/sqrt(q) rounded up, floor
+ * The corner is the one that is furthest from the old shape. Refused 1 to 5, 13. */
+cocklesway_reply cocklesway_excess(const int32_t *now, size_t n, uint32_t f, const int32_t *old, size_t m, uint32_t g);
+
 /* The four lines that just touch both shapes: both on its left; both on its right; the first left and the second
  * right; the reverse. Values: of each its corner in the first and in the second; floor. Refused 1 to 5, 13, 9. */
 cocklesway_reply cocklesway_tangents(const int32_t *a, size_t n, uint32_t f, const int32_t *b, size_t m, uint32_t g);

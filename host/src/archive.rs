@@ -73,6 +73,7 @@ unsafe extern "C" {
     fn cocklesway_offer(a: List, n: usize, f: u32, b: List, m: usize, g: u32, u: i32, v: i32) -> Reply;
     fn cocklesway_find(a: List, n: usize, f: u32, b: List, m: usize, g: u32) -> Reply;
     fn cocklesway_clearance(a: List, n: usize, f: u32, b: List, m: usize, g: u32) -> Reply;
+    fn cocklesway_excess(a: List, n: usize, f: u32, b: List, m: usize, g: u32) -> Reply;
     fn cocklesway_tangents(a: List, n: usize, f: u32, b: List, m: usize, g: u32) -> Reply;
     fn cocklesway_passage(
         a: List, n: usize, f: u32, b: List, m: usize, g: u32, c: List, k: usize, h: u32,
@@ -193,6 +194,10 @@ pub(crate) fn find(a: Shape<'_>, b: Shape<'_>) -> Reply {
 
 pub(crate) fn clearance(a: Shape<'_>, b: Shape<'_>) -> Reply {
     two(cocklesway_clearance, a, b)
+}
+
+pub(crate) fn excess(new: Shape<'_>, old: Shape<'_>) -> Reply {
+    two(cocklesway_excess, new, old)
 }
 
 pub(crate) fn tangents(a: Shape<'_>, b: Shape<'_>) -> Reply {

@@ -117,7 +117,8 @@ static void pair(list a, list b) {
     static two_written *const writing[] = {cocklesway_sum, cocklesway_merge, cocklesway_grow, mirror,
                                            sweep,          part,             log_read};
     static two_lists *const reading[] = {cocklesway_begin, cocklesway_relation,  cocklesway_inside,
-                                         cocklesway_find,  cocklesway_clearance, cocklesway_tangents};
+                                         cocklesway_find,  cocklesway_clearance, cocklesway_tangents,
+                                         cocklesway_excess};
     for (size_t i = 0; i < sizeof writing / sizeof *writing; i++) {
         written(writing[i], a, b);
     }

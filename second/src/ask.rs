@@ -5,6 +5,7 @@
 use crate::clearance::{self, Against, Between};
 use crate::combine::{self, held_by};
 use crate::direction;
+use crate::excess::{self, Place};
 use crate::host;
 use crate::log;
 use crate::measure;
@@ -158,6 +159,19 @@ pub fn clearance(given: &Given) -> Answer {
         Between::EdgeCorner(found) => format!("ec {}", against(found)),
     };
     Ok(format!("{words} {w} @{floor}"))
+}
+
+/// The new shape, then the old one.
+pub fn excess(given: &Given) -> Answer {
+    let ([new, old], floor) = given.shapes()?;
+    let Some(found) = excess::excess(&new, &old) else {
+        return Ok(format!("inside @{floor}"));
+    };
+    let (c, up) = (found.corner, found.up);
+    Ok(match found.place {
+        Place::Corner { j, d } => format!("cc {c} {j} {d} {up} @{floor}"),
+        Place::Edge { e, t, q } => format!("ce {c} {e} {t} {q} {up} @{floor}"),
+    })
 }
 
 /// The left obstacle, the right one, then the cart's outline.

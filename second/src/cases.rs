@@ -9,6 +9,7 @@ use crate::make::{line, long, shape_text};
 use crate::plane::Shape;
 use std::io::{self, Write};
 
+mod changes;
 mod floors;
 mod growing;
 mod log;
@@ -300,6 +301,7 @@ pub fn groups() -> Vec<Group> {
     groups.extend(spelled(separating::SEPARATING));
     groups.extend(spelled(growing::GROWING));
     groups.extend(spelled(passing::PASSING));
+    groups.extend(spelled(changes::CHANGES));
     groups
 }
 

@@ -8,6 +8,7 @@ mod clearance;
 pub mod combine;
 pub mod compare;
 mod direction;
+mod excess;
 pub mod histories;
 pub mod host;
 mod hull;

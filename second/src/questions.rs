@@ -38,6 +38,7 @@ pub const TABLE: &[Row] = &[
     Row { word: "offer", fields: &[Shape, Shape, Direction], ask: ask::offer, make: make::offer },
     Row { word: "find", fields: &[Shape, Shape], ask: ask::find, make: make::find },
     Row { word: "clearance", fields: &[Shape, Shape], ask: ask::clearance, make: make::clearance },
+    Row { word: "excess", fields: &[Shape, Shape], ask: ask::excess, make: make::excess },
     Row { word: "tangents", fields: &[Shape, Shape], ask: ask::tangents, make: make::tangents },
     Row { word: "passage", fields: &[Shape, Shape, Shape], ask: ask::passage, make: make::passage },
     Row { word: "tablet", fields: &[Reading, Reading], ask: ask::tablet, make: readings::corner },

@@ -23,6 +23,7 @@ pub const KINDS: [(&str, &str); 27] = [
     ("relation", "ok 0; ok 1; ok 2; no 4; no 13"),
     ("inside", "ok 0; ok 1; no 4; no 13"),
     ("clearance", "ok 0; ok 1; ok 2; ok 3; no 4; no 13"),
+    ("excess", "ok 0; ok 1; ok 2; no 4; no 13"),
     ("tangents", "ok; no 4; no 9; no 13"),
     ("passage", "ok 0; ok 1; no 4; no 6; no 7; no 13"),
     ("offer", "ok 0; ok 1; no 4; no 11; no 12; no 13"),
@@ -43,8 +44,8 @@ pub fn kind(word: &str, answer: Numbers) -> String {
     match (answer.refusal, word) {
         (
             0,
-            "relation" | "relation_bytes" | "inside" | "clearance" | "passage" | "offer" | "find"
-            | "log_add" | "log_pack",
+            "relation" | "relation_bytes" | "inside" | "clearance" | "excess" | "passage" | "offer"
+            | "find" | "log_add" | "log_pack",
         ) => {
             format!("ok {first}")
         }

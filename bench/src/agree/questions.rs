@@ -5,7 +5,7 @@ use super::{Lent, on};
 use crate::plain;
 use crate::reply::Numbers;
 use cocklesway::{
-    Walk, area, clearance, find, furthest, inside, judge, length, offer, passage, relation,
+    Walk, area, clearance, excess, find, furthest, inside, judge, length, offer, passage, relation,
     tangents, width,
 };
 
@@ -13,7 +13,7 @@ use cocklesway::{
 type Two = fn(Lent, Lent) -> Numbers;
 
 /// Those of which the whole answer is fixed: word, plain and proved.
-const FIXED: [(&str, Two, Two); 5] = [
+const FIXED: [(&str, Two, Two); 6] = [
     (
         "relation",
         |(a, f), (b, g)| plain::relation(a, f, b, g),
@@ -28,6 +28,11 @@ const FIXED: [(&str, Two, Two); 5] = [
         "clearance",
         |(a, f), (b, g)| plain::clearance(a, f, b, g),
         |a, b| Numbers::of(clearance(on(a), on(b))),
+    ),
+    (
+        "excess",
+        |(a, f), (b, g)| plain::excess(a, f, b, g),
+        |a, b| Numbers::of(excess(on(a), on(b))),
     ),
     (
         "tangents",

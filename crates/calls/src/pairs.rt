@@ -5,6 +5,7 @@ ghost use Rattle.plane.specs.Point.{point};
 ghost use Rattle.plane.specs.Floor.{on};
 ghost use Rattle.plane.specs.Question.{reply, output, askSum, askMerge, askGrow, askRelation, askInside, askOffer};
 ghost use Rattle.plane.specs.Question.{askClearance, askTangents};
+ghost use Rattle.excess.specs.Excess.{askExcess};
 ghost use Rattle.reply.specs.Told.{crossed, numbers};
 ghost use Rattle.crossing.specs.LowFloor.{lowFloor};
 ghost use Rattle.calls.specs.Calls.{SeparatorTold};
@@ -117,6 +118,18 @@ pub extern "C" fn cocklesway_clearance(a: &[i32], f: u32, b: &[i32], g: u32) -> 
         return floors::barred_pair(a, b);
     }
     reply::of_clearance(questions::clearance(a, f as u16, b, g as u16))
+}
+
+// Answers how far the new shape a reaches beyond the old shape b.
+#[no_mangle]
+pub extern "C" fn cocklesway_excess(a: &[i32], f: u32, b: &[i32], g: u32) -> Reply
+    ensures { λ r. ⌜
+        numbers r ≡ crossed (reply (lowFloor (askExcess (on (now (a .entry)) f) (on (now (b .entry)) g)))) ⌝ }
+{
+    if floors::exceeds(f, g) {
+        return floors::barred_pair(a, b);
+    }
+    reply::of_excess(questions::excess(a, f as u16, b, g as u16))
 }
 
 // Answers the four lines that just touch both shapes.

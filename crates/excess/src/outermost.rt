@@ -36,7 +36,6 @@ pub fn outermost(new: &[i32], old: &[i32]) -> usize
 }
 
 // How far corner i is; 0 if it is not apart from the old shape.
-// Ruled out: old beyond new.
 fn distance_of(new: &[i32], i: usize, old: &[i32]) -> Far
     requires { ⌜ Valid (now new) × Valid (now old) × (i < length (points (now new))) ⌝ }
     ensures { λ r. ⌜ HasFar (points (now (new .entry))) (points (now (old .entry))) i r ⌝ }
@@ -76,7 +75,6 @@ fn measured(i: usize, found: Distance) -> Far
 }
 
 // The further of two corners, and the first of two that are as far.
-// Ruled out: later corner on a tie.
 fn further(best: Far, found: Far) -> Far
     ensures { λ r. ⌜ r ≡ cond (ltb (best .turn * best .turn * found .squared)
         (found .turn * found .turn * best .squared)) found best ⌝ }

@@ -21,6 +21,7 @@ pub enum Question {
     Offer,
     Find,
     Clearance,
+    Excess,
     Tangents,
     Passage,
     Tablet,
@@ -96,6 +97,7 @@ fn on_two(mut found: Entry, word: &[u8]) -> Entry {
     found = row(found, word, b"offer", Question::Offer, PAIR_AIMED);
     found = row(found, word, b"find", Question::Find, PAIR);
     found = row(found, word, b"clearance", Question::Clearance, PAIR);
+    found = row(found, word, b"excess", Question::Excess, PAIR);
     found = row(found, word, b"tangents", Question::Tangents, PAIR);
     row(found, word, b"passage", Question::Passage, THREE)
 }
@@ -136,6 +138,7 @@ pub fn form_of(question: Question) -> Form {
         Question::Inside | Question::Offer => Form::YesNo,
         Question::Find => Form::Direction,
         Question::Clearance => Form::Clearance,
+        Question::Excess => Form::Excess,
         Question::Passage => Form::Passage,
         Question::Parts => Form::Begun,
         Question::Tablet => Form::Bits,

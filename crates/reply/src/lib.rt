@@ -6,13 +6,14 @@ pub mod refusals;
 ghost use mathlib.Core.Path.{_≡_};
 ghost use Rattle.questions.specs.Answer.{ofAnswer, ofBegun, ofPart, ofFurthest, ofLength};
 ghost use Rattle.questions.specs.Answer.{ofWidth, ofRelation, ofInside, ofOffer, ofSeparator, ofClearance, ofTangents};
-ghost use Rattle.questions.specs.Answer.{ofArea, ofPassage, ofTablet, ofAddition};
+ghost use Rattle.questions.specs.Answer.{ofArea, ofExcess, ofPassage, ofTablet, ofAddition};
 ghost use Rattle.reply.specs.Told.{crossed, numbers};
 use questions::answer::Addition;
 use questions::answer::Answer;
 use questions::answer::Area;
 use questions::answer::Begun;
 use questions::answer::Clearance;
+use questions::answer::Excess;
 use questions::answer::Furthest;
 use questions::answer::Inside;
 use questions::answer::Length;
@@ -250,6 +251,40 @@ pub fn of_clearance(answer: Clearance) -> Reply
             floor as u64,
         ),
         Clearance::No(refusal) => refusals::of_refusal(refusal),
+    }
+}
+
+// Returns how far a changed shape reaches: 0 if it is inside the old one; 1 and two corners, or 2 and a corner and an
+// edge, with the distance rounded up.
+pub fn of_excess(answer: Excess) -> Reply
+    ensures { λ r. ⌜ numbers r ≡ crossed (ofExcess answer) ⌝ }
+{
+    match answer {
+        Excess::Inside { floor } => numbers::answered2(0, floor as u64),
+        Excess::Corners {
+            corner,
+            other,
+            squared,
+            up,
+            floor,
+        } => numbers::answered6(1, corner as u64, other as u64, squared, up, floor as u64),
+        Excess::Edge {
+            corner,
+            edge,
+            turn,
+            squared,
+            up,
+            floor,
+        } => numbers::answered7(
+            2,
+            corner as u64,
+            edge as u64,
+            turn,
+            squared,
+            up,
+            floor as u64,
+        ),
+        Excess::No(refusal) => refusals::of_refusal(refusal),
     }
 }
 

@@ -31,6 +31,7 @@ const WORDS: &[&str] = &[
     "mirror",
     "relation",
     "clearance",
+    "excess",
     "judge",
     "shapes",
     "width",

@@ -13,6 +13,7 @@ pub fn of_answer(case: &Case, answer: &str, said: &str) -> Result<Vec<i128>, Str
         "relation" | "inside" | "offer" => Ok(decided(case, words[0], said)?),
         "find" => found_direction(case, words[0], said),
         "clearance" => clearance(case, &words, said),
+        "excess" => excess(case, &words, said),
         "tangents" => Ok(tangents(case, &words)),
         "passage" => passage(case, &words, said),
         "parts" => Ok(parts(case, answer)),
@@ -192,6 +193,23 @@ fn clearance(case: &Case, words: &[&str], said: &str) -> Result<Vec<i128>, Strin
     let corner = case.corner(with_corner, position(1));
     let edge = case.lists[with_edge].edge(position(2));
     Ok([labels, vec![number(5)], corner, edge, case.label(with_edge)].concat())
+}
+
+fn excess(case: &Case, words: &[&str], said: &str) -> Result<Vec<i128>, String> {
+    let labels = [case.label(0), case.label(1)].concat();
+    if words[0] == "inside" {
+        needs(said, "is inside")?;
+        return Ok(labels);
+    }
+    needs(said, "rounded up")?;
+    let (place, up) = if words[0] == "cc" {
+        (case.corner(1, position(words[2])), number(words[4]))
+    } else {
+        let edge = case.lists[1].edge(position(words[2]));
+        ([edge, case.label(1)].concat(), number(words[5]))
+    };
+    let corner = case.corner(0, position(words[1]));
+    Ok([case.label(0), vec![up], case.label(1), place, corner].concat())
 }
 
 fn parts(case: &Case, answer: &str) -> Vec<i128> {

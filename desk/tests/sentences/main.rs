@@ -83,6 +83,7 @@ fn numbers_of_lists_in_the_line() {
         "offer",
         "find",
         "clearance",
+        "excess",
         "tangents",
         "passage",
         "tablet",

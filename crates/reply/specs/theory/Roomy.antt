@@ -24,6 +24,8 @@ use Rattle.questions.specs.declared.answer.Offer.{Offer}
 use Rattle.questions.specs.declared.answer.Offer.the-variants as Offer
 use Rattle.questions.specs.declared.answer.Separator.{Separator}
 use Rattle.questions.specs.declared.answer.Separator.the-variants as Separator
+use Rattle.questions.specs.declared.answer.Excess.{Excess}
+use Rattle.questions.specs.declared.answer.Excess.the-variants as Excess
 use Rattle.questions.specs.declared.answer.Passage.{Passage}
 use Rattle.questions.specs.declared.answer.Passage.the-variants as Passage
 use Rattle.questions.specs.declared.answer.Clearance.{Clearance}
@@ -35,7 +37,7 @@ use Rattle.questions.specs.declared.answer.Tablet.the-variants as Tablet
 use Rattle.questions.specs.declared.answer.Addition.{Addition}
 use Rattle.questions.specs.declared.answer.Addition.the-variants as Addition
 use Rattle.questions.specs.Answer.{ofRefusal, ofUnread, ofAnswer, ofBegun, ofPart, ofFurthest, ofLength, ofWidth, ofRelation}
-use Rattle.questions.specs.Answer.{ofInside, ofOffer, ofSeparator, ofClearance, ofPassage, ofTangents, ofTablet, ofAddition}
+use Rattle.questions.specs.Answer.{ofInside, ofOffer, ofSeparator, ofClearance, ofExcess, ofPassage, ofTangents, ofTablet, ofAddition}
 use Rattle.reply.specs.Heard.{Room}
 
 pub refusal-room : (x : Refusal) → Room (ofRefusal x)
@@ -117,6 +119,12 @@ clearance-room (Clearance.Corners i j d w f) = lit≤ tt
 clearance-room (Clearance.CornerEdge c e t q w f) = lit≤ tt
 clearance-room (Clearance.EdgeCorner c e t q w f) = lit≤ tt
 clearance-room (Clearance.No r) = refusal-room r
+
+pub excess-room : (x : Excess) → Room (ofExcess x)
+excess-room (Excess.Inside f) = lit≤ tt
+excess-room (Excess.Corners c j d u f) = lit≤ tt
+excess-room (Excess.Edge c e t q u f) = lit≤ tt
+excess-room (Excess.No r) = refusal-room r
 
 pub tangents-room : (x : Tangents) → Room (ofTangents x)
 tangents-room (Tangents.Lines p q r s f) = lit≤ tt

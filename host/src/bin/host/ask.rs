@@ -38,6 +38,7 @@ pub const TABLE: &[Row] = &[
     Row { word: "offer", fields: &[List, List, Numbers], ask: offer },
     Row { word: "find", fields: &[List, List], ask: find },
     Row { word: "clearance", fields: &[List, List], ask: clearance },
+    Row { word: "excess", fields: &[List, List], ask: excess },
     Row { word: "tangents", fields: &[List, List], ask: tangents },
     Row { word: "passage", fields: &[List, List, List], ask: passage },
     Row { word: "tablet", fields: &[Reading, Reading], ask: tablet },
@@ -191,6 +192,28 @@ fn clearance(mut fields: Fields) -> Answer {
         "ok {kind} {corner} {edge} {turn} {squared} {rounded} @{}",
         answer.floor
     ))
+}
+
+fn excess(mut fields: Fields) -> Answer {
+    let (new, old) = (fields.list(), fields.list());
+    let answer = cocklesway::excess(new.shape(), old.shape())?;
+    let words = match answer.beyond {
+        None => "inside".to_string(),
+        Some(Beyond::Corners {
+            corner,
+            other,
+            squared,
+            up,
+        }) => format!("cc {corner} {other} {squared} {up}"),
+        Some(Beyond::Edge {
+            corner,
+            edge,
+            turn,
+            squared,
+            up,
+        }) => format!("ce {corner} {edge} {turn} {squared} {up}"),
+    };
+    Ok(format!("ok {words} @{}", answer.floor))
 }
 
 fn tangents(mut fields: Fields) -> Answer {

@@ -61,8 +61,8 @@ returns c =
     let start = at-count .before in
     let all : c .before .loop .i ≡ length (points (start .args .new .now)) =
     omega (arith, c .before .loop .inv .0, c .loop-test .left, at-count .count .ensures) in
-    searched-done (subst (λ (k : ℕ). Searched (points (start .args .new .now)) (points (start .args .old .now)) k (c .before .loop .best)) all
-    (c .before .loop .inv .1))
+    searched-done (subst (λ (k : ℕ). Searched (points (start .args .new .now)) (points (start .args .old .now)) k (c .before .loop .best))
+    all (c .before .loop .inv .1))
 
 pub outermost-spec : {M : Type 1} → statement M
 outermost-spec =
