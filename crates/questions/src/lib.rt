@@ -3,6 +3,7 @@
 // floor, and every answer on shapes carries it: of two shapes, a on floor f and b on floor g, both have the same, or
 // are refused 13 after 1 to 5 of the first and of the second.
 pub mod answer;
+pub mod books;
 mod changes;
 mod coordinate;
 mod merging;
