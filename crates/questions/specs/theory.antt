@@ -5,4 +5,5 @@ pub mod Lines
 pub mod Readings
 pub mod Logs
 pub mod Entries
+pub mod Books
 pub mod Parts

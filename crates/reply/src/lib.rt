@@ -6,12 +6,14 @@ pub mod refusals;
 ghost use mathlib.Core.Path.{_≡_};
 ghost use Rattle.questions.specs.Answer.{ofAnswer, ofBegun, ofPart, ofFurthest, ofLength};
 ghost use Rattle.questions.specs.Answer.{ofWidth, ofRelation, ofInside, ofOffer, ofSeparator, ofClearance, ofTangents};
-ghost use Rattle.questions.specs.Answer.{ofPassage, ofTablet, ofAddition};
+ghost use Rattle.questions.specs.Answer.{ofArea, ofPassage, ofTablet, ofAddition, ofEntry};
 ghost use Rattle.reply.specs.Told.{crossed, numbers};
 use questions::answer::Addition;
 use questions::answer::Answer;
+use questions::answer::Area;
 use questions::answer::Begun;
 use questions::answer::Clearance;
+use questions::answer::Entry;
 use questions::answer::Furthest;
 use questions::answer::Inside;
 use questions::answer::Length;
@@ -112,6 +114,16 @@ pub fn of_length(answer: Length) -> Reply
     }
 }
 
+// Returns twice the area.
+pub fn of_area(answer: Area) -> Reply
+    ensures { λ r. ⌜ numbers r ≡ crossed (ofArea answer) ⌝ }
+{
+    match answer {
+        Area::Twice { twice, floor } => numbers::answered2(twice, floor as u64),
+        Area::No(refusal) => refusals::of_refusal(refusal),
+    }
+}
+
 // Returns edge, corner, turn, squared edge and rounded width.
 pub fn of_width(answer: Width) -> Reply
     ensures { λ r. ⌜ numbers r ≡ crossed (ofWidth answer) ⌝ }
@@ -170,7 +182,6 @@ pub fn of_offer(answer: Offer) -> Reply
 }
 
 // Returns 1 and a direction, whose parts may be below 0; or 0 if there is none.
-// Ruled out: parts of a direction exchanged.
 pub fn of_separator(answer: Separator) -> Reply
     ensures { λ r. ⌜ numbers r ≡ crossed (ofSeparator answer) ⌝ }
 {
@@ -317,5 +328,17 @@ pub fn of_addition(answer: Addition) -> Reply
         Addition::Finished => numbers::answered1(1),
         Addition::Cut => numbers::answered1(0),
         Addition::No(refusal) => refusals::of_refusal(refusal),
+    }
+}
+
+// Returns how many corners the current shape has, its name and its floor.
+pub fn of_entry(answer: Entry) -> Reply
+    ensures { λ r. ⌜ numbers r ≡ crossed (ofEntry answer) ⌝ }
+{
+    match answer {
+        Entry::Corners { count, name, floor } => {
+            numbers::answered3(count as u64, name as u64, floor as u64)
+        }
+        Entry::No(refusal) => refusals::of_refusal(refusal),
     }
 }
