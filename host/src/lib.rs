@@ -31,7 +31,7 @@
 //! | a sum in parts | [`Walk::begin`], [`Walk::part`] |
 //! | points in any order | [`sweep`] |
 //! | readings of a tablet | [`tablet`] |
-//! | a log of shapes by name | [`Book`], [`log_read`] |
+//! | a log of shapes by name | [`Book`], [`log_read`], [`log_entry`] |
 //! | corners as bytes | [`bytes`] |
 //!
 //! The package needs `core` alone. No call allocates, keeps anything, or panics.
@@ -70,7 +70,7 @@ pub use answers::{
     Across, Area, Clearance, Corners, Furthest, Inside, Length, Line, Nearest, Offer, Passage,
     Relation, Separator, Standing, Tangents, Way, Width,
 };
-pub use book::{Addition, Book, log_read};
+pub use book::{Addition, Book, log_entry, log_read};
 pub use limits::{Limits, limits, version};
 pub use questions::{
     area, clearance, find, furthest, grow, inside, judge, length, merge, mirror, offer, passage,
