@@ -203,6 +203,10 @@ cocklesway_reply cocklesway_tablet(bool x_eighths, double x, bool y_eighths, dou
 /* Writes the latest shape of a name in a log. Values: how many corners, floor. Refused 15, 19, 8. */
 cocklesway_reply cocklesway_log_read(const uint8_t *log, size_t count, uint16_t name, int32_t *out, size_t room);
 
+/* Writes the current shape at position k of a log: each name has one, where its latest record is. Values: how many
+ * corners, name, floor. Refused 15, 20, 8. */
+cocklesway_reply cocklesway_log_entry(const uint8_t *log, size_t count, size_t k, int32_t *out, size_t room);
+
 /* Adds a shape to a log with at most so many stores of single bytes. Values: 1 if they sufficed, else 0; no floor.
  * Refused 1 to 5, 13, 15, 16. */
 cocklesway_reply cocklesway_log_add(uint8_t *log, size_t count, uint16_t name, uint32_t floor, const int32_t *list,

@@ -79,6 +79,7 @@ unsafe extern "C" {
         a: List, n: usize, f: u32, b: List, m: usize, g: u32, c: List, k: usize, h: u32,
     ) -> Reply;
     fn cocklesway_log_read(log: Bytes, count: usize, name: u16, out: Output, room: usize) -> Reply;
+    fn cocklesway_log_entry(log: Bytes, count: usize, k: usize, out: Output, room: usize) -> Reply;
     fn cocklesway_log_add(
         log: BytesOutput, count: usize, name: u16, floor: u32, list: List, n: usize, allowed: usize,
     ) -> Reply;
@@ -218,6 +219,12 @@ pub(crate) fn log_read(log: &[u8], name: u16, out: &mut [i32]) -> Reply {
     let (to, room) = (out.as_mut_ptr(), out.len());
     // SAFETY: log and output are live slices of these lengths, and no other reference reaches the output.
     unsafe { cocklesway_log_read(log.as_ptr(), log.len(), name, to, room) }
+}
+
+pub(crate) fn log_entry(log: &[u8], k: usize, out: &mut [i32]) -> Reply {
+    let (to, room) = (out.as_mut_ptr(), out.len());
+    // SAFETY: log and output are live slices of these lengths, and no other reference reaches the output.
+    unsafe { cocklesway_log_entry(log.as_ptr(), log.len(), k, to, room) }
 }
 
 pub(crate) fn log_add(log: &mut [u8], name: u16, a: Shape<'_>, allowed: usize) -> Reply {

@@ -1,5 +1,6 @@
 //! The log of shapes by name.
 use crate::archive;
+use crate::reply::{front, narrow};
 use crate::{Refusal, Shape};
 
 /// A log of shapes by name, over lent bytes. It is new if all bytes are 0. A shape is added after the last whole
@@ -87,6 +88,60 @@ impl<'a> Book<'a> {
     #[inline]
     pub fn read<'o>(&self, name: u16, out: &'o mut [[i32; 2]]) -> Result<Shape<'o>, Refusal> {
         log_read(self.bytes, name, out)
+    }
+
+    /// Writes the current shape at a position at the front of the output and returns it with its name, as
+    /// [`log_entry`] does.
+    ///
+    /// # Errors
+    /// Refused, with the output as it was: 15, 20, 8.
+    ///
+    /// ```
+    /// use cocklesway::{Addition, Book, Refusal, Shape};
+    ///
+    /// let mut bytes = [0; 64];
+    /// let mut book = Book::new(&mut bytes);
+    /// let point = Shape::new(&[[1, -1]], 2);
+    /// assert_eq!(book.add(7, point, usize::MAX), Ok(Addition::Finished));
+    /// let mut out = [[0; 2]; 1];
+    /// assert_eq!(book.entry(0, &mut out), Ok((7, point)));
+    /// assert_eq!(book.entry(1, &mut out), Err(Refusal::TooFew));
+    /// ```
+    #[inline]
+    pub fn entry<'o>(
+        &self,
+        k: usize,
+        out: &'o mut [[i32; 2]],
+    ) -> Result<(u16, Shape<'o>), Refusal> {
+        log_entry(self.bytes, k, out)
+    }
+
+    /// Returns the names of all current shapes, in the order of the log. A refusal ends them.
+    ///
+    /// ```
+    /// use cocklesway::{Addition, Book, Shape};
+    ///
+    /// let mut bytes = [0; 64];
+    /// let mut book = Book::new(&mut bytes);
+    /// for name in [7, 5, 7] {
+    ///     let point = Shape::new(&[[1, -1]], 2);
+    ///     assert_eq!(book.add(name, point, usize::MAX), Ok(Addition::Finished));
+    /// }
+    /// assert!(book.entries(&mut [[0; 2]; 1]).eq([5, 7].map(Ok)));
+    /// ```
+    pub fn entries(&self, out: &mut [[i32; 2]]) -> impl Iterator<Item = Result<u16, Refusal>> {
+        let mut next = Some(0);
+        core::iter::from_fn(move || {
+            let k = next.take()?;
+            match log_entry(self.bytes, k, out) {
+                Ok((name, _)) => {
+                    next = k.checked_add(1);
+                    Some(Ok(name))
+                }
+                Err(Refusal::TooFew) => None,
+                Err(refusal) => Some(Err(refusal)),
+            }
+        })
     }
 
     /// Adds a shape under a name with at most so many stores of single bytes, and returns whether they sufficed.
@@ -208,4 +263,29 @@ pub fn log_pack(
 #[inline]
 pub fn log_read<'o>(log: &[u8], name: u16, out: &'o mut [[i32; 2]]) -> Result<Shape<'o>, Refusal> {
     archive::log_read(log, name, out.as_flattened_mut()).written(out)
+}
+
+/// Writes the current shape at a position of a log at the front of the output and returns it with its name. Positions
+/// count from 0, in the order of the log: each name has one, where its latest record is.
+///
+/// # Errors
+/// Refused, with the output as it was: 15, 20, 8.
+///
+/// ```
+/// use cocklesway::{Refusal, Shape, log_entry};
+///
+/// let log = [13, 0, 1, 0, 7, 0, 1, 0, 0, 0, 255, 255, 255, 255, 0x5A];
+/// let mut out = [[0; 2]; 1];
+/// assert_eq!(log_entry(&log, 0, &mut out), Ok((7, Shape::new(&[[1, -1]], 0))));
+/// assert_eq!(log_entry(&log, 1, &mut out), Err(Refusal::TooFew));
+/// ```
+#[inline]
+pub fn log_entry<'o>(
+    log: &[u8],
+    k: usize,
+    out: &'o mut [[i32; 2]],
+) -> Result<(u16, Shape<'o>), Refusal> {
+    let [count, name, floor, ..] = archive::log_entry(log, k, out.as_flattened_mut()).values()?;
+    let name = u16::try_from(name).unwrap_or(u16::MAX);
+    Ok((name, Shape::new(front(out, count), narrow(floor))))
 }

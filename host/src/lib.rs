@@ -32,7 +32,7 @@
 //! | a sum in parts | [`Walk::begin`], [`Walk::part`] |
 //! | points in any order | [`sweep`] |
 //! | readings of a tablet | [`tablet`] |
-//! | a log of shapes by name | [`Book`], [`log_read`], [`log_pack`] |
+//! | a log of shapes by name | [`Book`], [`log_read`], [`log_pack`], [`log_entry`] |
 //! | corners as bytes | [`bytes`] |
 //!
 //! The package needs `core` alone. No call allocates, keeps anything, or panics.
@@ -71,7 +71,7 @@ pub use answers::{
     Across, Area, Beyond, Clearance, Corners, Excess, Furthest, Inside, Length, Line, Nearest,
     Offer, Passage, Relation, Separator, Standing, Tangents, Way, Width,
 };
-pub use book::{Addition, Book, log_pack, log_read};
+pub use book::{Addition, Book, log_pack, log_read, log_entry};
 pub use limits::{Limits, limits, version};
 pub use questions::{
     area, clearance, excess, find, furthest, grow, inside, judge, length, merge, mirror, offer,

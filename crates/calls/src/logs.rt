@@ -3,6 +3,7 @@ ghost use mathlib.Core.Path.{_≡_};
 ghost use Rattle.plane.specs.Question.{reply, output};
 ghost use Rattle.journal.specs.Reading.{askRead};
 ghost use Rattle.packing.specs.Packing.{remade};
+ghost use Rattle.journal.specs.Current.{askEntry};
 ghost use Rattle.reply.specs.Told.{crossed, numbers};
 ghost use Rattle.calls.specs.Calls.{addedLow};
 use crossing::floors;
@@ -16,6 +17,15 @@ pub extern "C" fn cocklesway_log_read(log: &[u8], name: u16, out: &mut [i32]) ->
         × (now (out .exit) ≡ output (askRead (now (log .entry)) name (now (out .entry)))) ⌝ }
 {
     reply::of_answer(questions::log_read(log, name, out))
+}
+
+// Writes the corners of the current shape at a position, and answers how many, its name and its floor.
+#[no_mangle]
+pub extern "C" fn cocklesway_log_entry(log: &[u8], k: usize, out: &mut [i32]) -> Reply
+    ensures { λ r. ⌜ (numbers r ≡ crossed (reply (askEntry (now (log .entry)) k (now (out .entry)))))
+        × (now (out .exit) ≡ output (askEntry (now (log .entry)) k (now (out .entry)))) ⌝ }
+{
+    reply::of_entry(questions::books::log_entry(log, k, out))
 }
 
 // Adds the shape to the log with at most as many stores as are allowed. Answers 1 if it finished, 0 if it was cut.

@@ -6,19 +6,23 @@
 --     Stated b p h       h is what the record at place p says: its name, its floor, and where its numbers are and how many
 --     newer n h r        what is found once a record with this head is looked at: it replaces what was found if it has the name
 --     Latest n b r       this of the latest record of the name n, or nowhere
+--     Entered b k r      the head of the current record at position k, or that there are too few
 use mathlib.Core.Path.{_≡_}
 use mathlib.Core.Bool.{true, false, cond}
-use mathlib.Core.List.{List}
+use mathlib.Core.List.{List, []}
 use Prim.Native.Nat.{ℕ, _+_, _*_, _%_, _≤_, _<_}
 use lib.Dec.{eqb}
-use lib.ListN.{length, take, drop}
+use lib.ListN.{length, getD, take, drop}
 use Rattle.endian.specs.Bytes.{wordsAt}
 use Rattle.journal.specs.Format.{fixedBytes, size, whole, records, kind, name, floor, list}
 use Rattle.journal.specs.Reading.{damaged, badPlace, held, latest}
+use Rattle.journal.specs.Current.{current}
 use Rattle.journal.specs.Adding.{end}
 use Rattle.journal.specs.declared.survey.Surveyed.{Surveyed}
 use Rattle.journal.specs.declared.survey.Surveyed.the-variants as Surveyed
 use Rattle.journal.specs.declared.head.Head.{Head}
+use Rattle.journal.specs.declared.current.Listed.{Listed}
+use Rattle.journal.specs.declared.current.Listed.the-variants as Listed
 use Rattle.journal.specs.declared.latest.Found.{Found}
 use Rattle.journal.specs.declared.latest.Found.the-variants as Found
 
@@ -62,3 +66,13 @@ pub record LatestAt (n : ℕ) (b : List ℕ) (place count floor : ℕ) : Type 0 
 abbrev pub Latest : ℕ → List ℕ → Found → Type 0
 Latest n b Found.Nowhere = held n (records b) ≡ false
 Latest n b (Found.At place count floor) = LatestAt n b place count floor
+
+pub record EntryAt (b : List ℕ) (k : ℕ) (h : Head) : Type 0 where
+  pub place : ℕ
+  pub enough : k < length (current (records b))
+  pub is : getD (current (records b)) k [] ≡ recordAt b place
+  pub stated : Stated b place h
+
+abbrev pub Entered : List ℕ → ℕ → Listed → Type 0
+Entered b k Listed.Few = length (current (records b)) ≤ k
+Entered b k (Listed.At h) = EntryAt b k h

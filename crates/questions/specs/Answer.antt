@@ -46,6 +46,8 @@ use Rattle.questions.specs.declared.answer.Tablet.{Tablet}
 use Rattle.questions.specs.declared.answer.Tablet.the-variants as Tablet
 use Rattle.questions.specs.declared.answer.Addition.{Addition}
 use Rattle.questions.specs.declared.answer.Addition.the-variants as Addition
+use Rattle.questions.specs.declared.answer.Entry.{Entry}
+use Rattle.questions.specs.declared.answer.Entry.the-variants as Entry
 
 -- the edges passed of either shape, and 1 if the walk is over; a part has before them the count of its corners
 abbrev pub ofBegun : Begun → Reply
@@ -150,3 +152,8 @@ abbrev pub ofAddition : Addition → Reply
 ofAddition Addition.Finished = answered (pos 1 ∷ [])
 ofAddition Addition.Cut = answered (pos 0 ∷ [])
 ofAddition (Addition.No r) = ofRefusal r
+
+-- how many corners, the name, and the floor
+abbrev pub ofEntry : Entry → Reply
+ofEntry (Entry.Corners n name floor) = answered (pos n ∷ pos name ∷ pos floor ∷ [])
+ofEntry (Entry.No r) = ofRefusal r

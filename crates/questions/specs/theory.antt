@@ -5,5 +5,6 @@ pub mod Lines
 pub mod Readings
 pub mod Logs
 pub mod Packing
+pub mod Entries
 pub mod Books
 pub mod Parts

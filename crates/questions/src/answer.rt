@@ -246,3 +246,9 @@ pub enum Addition {
     Cut,
     No(Refusal),
 }
+
+// The current shape at a position of a log: how many corners it has, its name and its floor.
+pub enum Entry {
+    Corners { count: usize, name: u16, floor: u16 },
+    No(Refusal),
+}

@@ -4,22 +4,51 @@ ghost use mathlib.Core.Path.{_≡_};
 ghost use mathlib.Core.List.{[], _∷_, _++_};
 ghost use lib.IntN.{pos};
 ghost use Rattle.plane.specs.Reply.{answered};
-ghost use Rattle.plane.specs.Question.{reply};
+ghost use Rattle.plane.specs.Question.{reply, output};
 ghost use Rattle.clearance.specs.Answer.{valuesOf};
 ghost use Rattle.journal.specs.Format.{records};
 ghost use Rattle.journal.specs.Reading.{damaged};
 ghost use Rattle.packing.specs.Packing.{remade};
 ghost use Rattle.neighbours.specs.Nearest.{askNearest};
 ghost use Rattle.neighbours.specs.Spacing.{spacingNumbers};
-ghost use Rattle.questions.specs.Answer.{ofNearest, ofAddition};
+ghost use Rattle.questions.specs.Answer.{ofNearest, ofAddition, ofEntry};
 use crate::answer::Addition;
+ghost use Rattle.journal.specs.Current.{askEntry};
+use crate::answer::Entry;
 use crate::answer::Nearest;
 use crate::answer::Refusal;
 use admission::Admission;
 use clearance::measured::Distance;
+use journal::current::Listed;
 use journal::survey::Surveyed;
 use neighbours::Near;
 use neighbours::spacing::Spacing;
+
+// Writes the corners of the current shape at a position at the front of the output, and answers how many they are, the
+// name and the floor. All after them is kept. Positions count from 0, in the order of the log: each name once, where
+// its latest record is. Refused, with the output as it was: a log in which some record is bad; no such position; too
+// small an output.
+// Ruled out: older record of a name counted.
+pub fn log_entry(log: &[u8], k: usize, out: &mut [i32]) -> Entry
+    ensures { λ r. ⌜ (ofEntry r ≡ reply (askEntry (now (log .entry)) k (now (out .entry))))
+        × (now (out .exit) ≡ output (askEntry (now (log .entry)) k (now (out .entry)))) ⌝ }
+{
+    if let Surveyed::Bad(place) = journal::survey::survey(log) {
+        return Entry::No(Refusal::Damaged { place });
+    }
+    let Listed::At(head) = journal::current::entry(log, k) else {
+        return Entry::No(Refusal::TooFew);
+    };
+    if out.len() < head.count {
+        return Entry::No(Refusal::Room);
+    }
+    endian::decode(log, head.place, head.count, out);
+    Entry::Corners {
+        count: head.count / 2,
+        name: head.name,
+        floor: head.floor,
+    }
+}
 
 // Answers which of the current shapes on a floor is nearest to a shape, and what clearance answers of the two: nothing
 // if they are not apart. On a tie the first in the log is answered, and so it is of several that meet the shape. The

@@ -26,8 +26,9 @@ use Rattle.questions.specs.declared.answer.Clearance.{Clearance}
 use Rattle.questions.specs.declared.answer.Tangents.{Tangents}
 use Rattle.questions.specs.declared.answer.Tablet.{Tablet}
 use Rattle.questions.specs.declared.answer.Addition.{Addition}
+use Rattle.questions.specs.declared.answer.Entry.{Entry}
 use Rattle.questions.specs.Answer.{ofRefusal, ofUnread, ofAnswer, ofBegun, ofPart, ofFurthest, ofLength, ofWidth, ofRelation}
-use Rattle.questions.specs.Answer.{ofInside, ofOffer, ofSeparator, ofClearance, ofExcess, ofPassage, ofTangents, ofTablet, ofAddition}
+use Rattle.questions.specs.Answer.{ofInside, ofOffer, ofSeparator, ofClearance, ofExcess, ofPassage, ofTangents, ofTablet, ofAddition, ofEntry}
 use Rattle.reply.specs.Told.{bits, crossed}
 use Rattle.reply.specs.Heard.{numberOf, countOf, carriedOf, valuesOf, heard, Room, Signed}
 use Rattle.reply.specs.theory.ReadBack.{refused-back, answered-back, heard-back, same-reply}
@@ -113,3 +114,6 @@ tablet-has-room x = room.tablet-room x
 
 pub addition-has-room : (x : Addition) → Room (ofAddition x)
 addition-has-room x = room.addition-room x
+
+pub entry-has-room : (x : Entry) → Room (ofEntry x)
+entry-has-room x = room.entry-room x

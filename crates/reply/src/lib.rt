@@ -6,7 +6,7 @@ pub mod refusals;
 ghost use mathlib.Core.Path.{_≡_};
 ghost use Rattle.questions.specs.Answer.{ofAnswer, ofBegun, ofPart, ofFurthest, ofLength};
 ghost use Rattle.questions.specs.Answer.{ofWidth, ofRelation, ofInside, ofOffer, ofSeparator, ofClearance, ofTangents};
-ghost use Rattle.questions.specs.Answer.{ofArea, ofExcess, ofPassage, ofTablet, ofAddition};
+ghost use Rattle.questions.specs.Answer.{ofArea, ofExcess, ofPassage, ofTablet, ofAddition, ofEntry};
 ghost use Rattle.reply.specs.Told.{crossed, numbers};
 use questions::answer::Addition;
 use questions::answer::Answer;
@@ -14,6 +14,7 @@ use questions::answer::Area;
 use questions::answer::Begun;
 use questions::answer::Clearance;
 use questions::answer::Excess;
+use questions::answer::Entry;
 use questions::answer::Furthest;
 use questions::answer::Inside;
 use questions::answer::Length;
@@ -362,5 +363,17 @@ pub fn of_addition(answer: Addition) -> Reply
         Addition::Finished => numbers::answered1(1),
         Addition::Cut => numbers::answered1(0),
         Addition::No(refusal) => refusals::of_refusal(refusal),
+    }
+}
+
+// Returns how many corners the current shape has, its name and its floor.
+pub fn of_entry(answer: Entry) -> Reply
+    ensures { λ r. ⌜ numbers r ≡ crossed (ofEntry answer) ⌝ }
+{
+    match answer {
+        Entry::Corners { count, name, floor } => {
+            numbers::answered3(count as u64, name as u64, floor as u64)
+        }
+        Entry::No(refusal) => refusals::of_refusal(refusal),
     }
 }

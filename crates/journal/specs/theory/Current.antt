@@ -199,7 +199,8 @@ module _ (s : List ℕ) where
   unfolding isOther
   current-snoc [] = refl
   current-snoc (r ∷ rs) =
-      ap (λ (t : Bool). cond t more (r ∷ more)) (held-snoc s (name r) rs ∙ ap (λ (t : Bool). held (name r) rs || t) (eqb-swap (name s) (name r)))
+      ap (λ (t : Bool). cond t more (r ∷ more))
+      (held-snoc s (name r) rs ∙ ap (λ (t : Bool). held (name r) rs || t) (eqb-swap (name s) (name r)))
       ∙ go (held (name r) rs) (eqb (name r) (name s)) refl (current-snoc rs)
     where
       more : List (List ℕ)

@@ -36,8 +36,10 @@ use Rattle.questions.specs.declared.answer.Tablet.{Tablet}
 use Rattle.questions.specs.declared.answer.Tablet.the-variants as Tablet
 use Rattle.questions.specs.declared.answer.Addition.{Addition}
 use Rattle.questions.specs.declared.answer.Addition.the-variants as Addition
+use Rattle.questions.specs.declared.answer.Entry.{Entry}
+use Rattle.questions.specs.declared.answer.Entry.the-variants as Entry
 use Rattle.questions.specs.Answer.{ofRefusal, ofUnread, ofAnswer, ofBegun, ofPart, ofFurthest, ofLength, ofWidth, ofRelation}
-use Rattle.questions.specs.Answer.{ofInside, ofOffer, ofSeparator, ofClearance, ofExcess, ofPassage, ofTangents, ofTablet, ofAddition}
+use Rattle.questions.specs.Answer.{ofInside, ofOffer, ofSeparator, ofClearance, ofExcess, ofPassage, ofTangents, ofTablet, ofAddition, ofEntry}
 use Rattle.reply.specs.Heard.{Room}
 
 pub refusal-room : (x : Refusal) → Room (ofRefusal x)
@@ -138,3 +140,7 @@ pub addition-room : (x : Addition) → Room (ofAddition x)
 addition-room Addition.Finished = lit≤ tt
 addition-room Addition.Cut = lit≤ tt
 addition-room (Addition.No r) = refusal-room r
+
+pub entry-room : (x : Entry) → Room (ofEntry x)
+entry-room (Entry.Corners n name f) = lit≤ tt
+entry-room (Entry.No r) = refusal-room r
