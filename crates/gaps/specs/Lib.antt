@@ -1,0 +1,3 @@
+-- The narrowest gap of a floor: the definitions; what they mean; cases; then the theory.
+pub mod Gap
+pub mod theory

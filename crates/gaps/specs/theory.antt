@@ -1,0 +1,2 @@
+-- The theory of gaps, which only proves: the first of the least as the code keeps it.
+pub mod Least

@@ -1,0 +1,1 @@
+// Inner functions: the narrowest gap between the shapes of a floor. Callers ask the crate `questions`.
