@@ -6,7 +6,9 @@
 --     Added, History          one addition; any history of them
 -- Then what the code's loops stand on:
 --     Judging                 the numbers of a record are a shape or not
---     Survey, Latest          a pass that judges records, and one that keeps the latest of a name
+--     Survey                  a pass that judges records
+--     Stepping                any loop over the records of a log
+--     Latest, Ahead           the latest of a name; whether a name is held from a place on
 --     Storing                 stores made as far as they are allowed
 pub mod Records
 pub mod Kind
@@ -18,5 +20,7 @@ pub mod Added
 pub mod History
 pub mod Judging
 pub mod Survey
+pub mod Stepping
 pub mod Latest
+pub mod Ahead
 pub mod Storing
