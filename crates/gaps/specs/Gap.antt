@@ -5,7 +5,7 @@
 --     pairsOf xs        each with every later one: by the first, then by the second, in the list's order
 --     gapOf A p         the squared distance of a pair of records, both grown: 0 if they are not apart
 --     noWider A p q     the gap of p is at most that of q, as exact fractions
---     narrowest A ps    the first of the least; so the first pair that is not apart, if there is one
+--     narrowest A ps    the first of the least, if there is a pair; so the first pair that is not apart, if there is one
 --     sizeRowsOf A rs   6 and 7 shape by shape, in the log's order
 --     gapNumbers A rs   what is answered: both names, and clearance's numbers of both grown shapes
 --     askGap b cart     the question: refused 1 to 5 of the cart, 15, 20 for fewer than two shapes, then 6 and 7
@@ -43,10 +43,14 @@ gapOf A p = distance (grownOf A (p .0)) (grownOf A (p .1))
 abbrev pub noWider : List Point → Pair → Pair → Bool
 noWider A p q = noMore (gapOf A p) (gapOf A q)
 
--- two records that hold nothing if there is no pair, which is refused 20
-abbrev pub narrowest : List Point → List Pair → Pair
-narrowest A [] = ([], [])
-narrowest A (p ∷ ps) = leastOf (noWider A) p ps
+-- a pair, or none
+pub data Kept : Type 0 where
+  noPair : Kept
+  thePair : Pair → Kept
+
+abbrev pub narrowest : List Point → List Pair → Kept
+narrowest A [] = noPair
+narrowest A (p ∷ ps) = thePair (leastOf (noWider A) p ps)
 
 -- ---- the question
 
@@ -54,8 +58,10 @@ abbrev pub sizeRowsOf : List Point → List (List ℕ) → List Row
 sizeRowsOf A [] = []
 sizeRowsOf A (r ∷ rs) = sizeRows (grownOf A r) ++ sizeRowsOf A rs
 
-abbrev pub pairNumbers : List Point → Pair → List ℤ
-pairNumbers A p = pos (name (p .0)) ∷ pos (name (p .1)) ∷ clearanceNumbers (grownOf A (p .0)) (grownOf A (p .1))
+-- nothing is told of no pair, which is refused 20
+abbrev pub pairNumbers : List Point → Kept → List ℤ
+pairNumbers A noPair = []
+pairNumbers A (thePair p) = pos (name (p .0)) ∷ pos (name (p .1)) ∷ clearanceNumbers (grownOf A (p .0)) (grownOf A (p .1))
 
 -- 65,536 is nobody's name: none is left out
 abbrev pub onFloor : ℕ → List ℕ → List (List ℕ)
