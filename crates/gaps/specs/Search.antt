@@ -8,7 +8,8 @@
 --     Passed A b ps s r  once the pairs ps are passed, s has become r
 --     from f b p         the current shapes of the floor among the records from place p on
 --     isOn f b p         the record at place p is one of them
---     pairsAt f b p      its pairs with all later ones, if it is; `triedAt f b p q` its one pair with the record at q
+--     laterPairs f b p q the pairs of the record at p with those from place q on
+--     pairsAt f b p      its pairs with all later ones, if it is one; `triedAt f b p q` its one pair with the record at q
 --     Fits A r           6 and 7 let the grown shape of a record pass; `rowsAt A f b p` these rows of the record at place p, if it is on
 --     numbersOf g        what the inner function answers, as numbers
 --     Walk A b f p       what a loop knows at place p: no record from there on is bad, and the floor's shapes fit when they are grown
@@ -89,8 +90,11 @@ Fits A r = NoneApply (sizeRows (grownOf A r))
 abbrev pub rowsAt : List Point → ℕ → List ℕ → ℕ → List Row
 rowsAt A f b p = cond (isOn f b p) (sizeRows (grownOf A (recordAt b p))) []
 
+abbrev pub laterPairs : ℕ → List ℕ → ℕ → ℕ → List Pair
+laterPairs f b p q = map (λ s. (recordAt b p, s)) (from f b q)
+
 abbrev pub pairsAt : ℕ → List ℕ → ℕ → List Pair
-pairsAt f b p = cond (isOn f b p) (map (λ s. (recordAt b p, s)) (from f b (nextAt b p))) []
+pairsAt f b p = cond (isOn f b p) (laterPairs f b p (nextAt b p)) []
 
 abbrev pub triedAt : ℕ → List ℕ → ℕ → ℕ → List Pair
 triedAt f b p q = cond (isOn f b q) (pairAt b p q ∷ []) []

@@ -1,7 +1,5 @@
 // Inner functions: the search for the narrowest gap.
-ghost use mathlib.Core.Bool.{true, false};
 ghost use mathlib.Core.Path.{_≡_};
-ghost use mathlib.Core.List.{[], _∷_, map};
 ghost use Prim.Native.Nat.{_*_};
 ghost use lib.ListN.{length};
 ghost use Rattle.plane.specs.Limits.{maxCorners};
@@ -9,8 +7,8 @@ ghost use Rattle.plane.specs.Point.{points};
 ghost use Rattle.plane.specs.Refusal.{Valid};
 ghost use Rattle.journal.specs.Survey.{recordAt, nextAt, Sound};
 ghost use Rattle.gaps.specs.Gap.{pairsOf, onFloor, grownOf};
-ghost use Rattle.gaps.specs.Search.{from as Search·from, Walk, Told, Found, Passed, pairAt, pairsAt, triedAt, Comparable};
 ghost use Rattle.gaps.specs.Search.{nearer as Search·nearer};
+ghost use Rattle.gaps.specs.Search.{Walk, Told, Passed, Comparable, pairsAt, triedAt, laterPairs};
 ghost use Rattle.gaps.specs.declared.search.Best.the-variants as Best·variants;
 use crate::floor;
 use crate::growing;
@@ -28,7 +26,6 @@ pub enum Best {
     },
 }
 
-// What the search is lent: the record at a place as a first shape, and the floor's.
 // Returns the first pair of least gap, if the floor has two shapes.
 pub fn narrowest(
     log: &[u8],
@@ -93,8 +90,8 @@ fn later(
         × Told (points (now cart)) (now log) best × Valid (now grown)
         × (points (now grown) ≡ grownOf (points (now cart)) (recordAt (now log) p)) ⌝ }
     ensures { λ r. ⌜ Passed (points (now (cart .entry))) (now (log .entry))
-        (map (λ s. (recordAt (now (log .entry)) p, s)) (Search·from floor (now (log .entry)) (nextAt (now (log .entry)) p)))
-        best r × (length (now (shape .exit)) ≡ 2 * maxCorners) × (length (now (below .exit)) ≡ 2 * maxCorners) ⌝ }
+        (laterPairs floor (now (log .entry)) p (nextAt (now (log .entry)) p)) best r
+        × (length (now (shape .exit)) ≡ 2 * maxCorners) × (length (now (below .exit)) ≡ 2 * maxCorners) ⌝ }
 {
     let mut kept = best;
     let mut q = p + (2 + endian::pair_at(log, p));

@@ -1,6 +1,6 @@
 -- A walk along the records of a log, by what is still to come of a floor.
 --     from-step, from-end              how the current shapes from a place on go on, and end
---     rows-step, pairs-step, later-step, length-step     the same of their rows, of their pairs, of those with one record, and of their count
+--     rows-step, pairs-step, later-step, length-step     the same of their rows, pairs, pairs with one record, and count
 --     walk-start, walk-next            what a loop knows at a place
 --     judging-start, -next, -refused, -end     the moves of the loop that judges sizes
 --     counting-start, -next, -end      the moves of the loop that counts
@@ -160,8 +160,9 @@ module _ {A : List Point} {b : List ℕ} {f p : ℕ} (k : Judging A b f p) where
         (refuses-join (k .before) (k .pass) (refuses-append (sizeRowsOf A (from f b (nextAt b p))) h))
 
   pub judging-end : whole (drop p b) ≡ false → NoneApply Rows
-  judging-end w = subst NoneApply (sym (k .all ∙ ap (λ (rs : List (List ℕ)). k .before ++ sizeRowsOf A rs) (from-end f b p w) ∙ append-nil (k .before)))
-      (k .pass)
+  judging-end w =
+      let none = ap (λ (rs : List (List ℕ)). k .before ++ sizeRowsOf A rs) (from-end f b p w) in
+      subst NoneApply (sym (k .all ∙ none ∙ append-nil (k .before))) (k .pass)
 
 -- ---- counting
 
@@ -172,7 +173,9 @@ pub record Counting (b : List ℕ) (f n p : ℕ) : Type 0 where
   pub total : n + length (from f b p) ≡ length (from f b 0)
 
 pub counting-start : (b : List ℕ) (f : ℕ) → damaged (records b) ≡ false → Counting b f 0 0
-counting-start b f g = record { inside = omega arith; good = g; few = omega arith; total = let e : 0 + length (from f b 0) ≡ length (from f b 0) = omega arith in e }
+counting-start b f g =
+    let total : 0 + length (from f b 0) ≡ length (from f b 0) = omega arith in
+    record { inside = omega arith; good = g; few = omega arith; total = total }
 
 pub counting-next : {b : List ℕ} {f n p : ℕ} → Counting b f n p → whole (drop p b) ≡ true
     → Counting b f (cond (isOn f b p) (n + 1) n) (nextAt b p)

@@ -44,7 +44,6 @@ top-requires c κs = c .before .before .before .before .before .pre .1 .shape .s
 
 -- the grown shape has room
 room : (c : tie.After-write-arg2) → let start = c .before .before .before .before .before .before .before in
-    let l = c .before .before .before .before .read-at .ensures in
     2 * length (grownOf (points (start .args .cart .now)) (recordAt (start .args .log .now) (start .args .p)))
     ≤ length (start .args .out .now)
 room c =
@@ -63,8 +62,8 @@ write-requires c κs =
       subst Valid read (here-valid (pre .0)),
       pre .1,
       c .before .top .ensures,
-      subst (λ (l : List ℤ). 2 * length (shapeOf (differences (points l) (points (start .args .cart .now)))) ≤ length (start .args .out .now))
-          read (room c),
+      subst (λ (l : List ℤ). 2 * length (shapeOf (differences (points l) (points (start .args .cart .now))))
+          ≤ length (start .args .out .now)) read (room c),
     )
 
 -- the output is as long as it was

@@ -1,16 +1,16 @@
 -- `from` meets its contract: a record that is not on the floor makes no pair, and another is grown and tried with the later ones.
 use mathlib.Core.Path.{_≡_, sym, _∙_, ap, subst}
 use mathlib.Core.Bool.{Bool, true, cond}
-use mathlib.Core.List.{List, [], map}
+use mathlib.Core.List.{List, []}
 use borrow.Author.Needs.{needs}
 use borrow.Author.Tests.{not-true, not-false}
 use Rattle.plane.specs.Point.{points}
 use Rattle.plane.specs.Refusal.{Valid}
 use Rattle.polygon.specs.theory.Fronts.{front-points, front-length}
-use Rattle.journal.specs.Survey.{recordAt, nextAt}
+use Rattle.journal.specs.Survey.{nextAt}
 use Rattle.journal.specs.theory.Stepping.{here-valid}
 use Rattle.gaps.specs.Gap.{Pair}
-use Rattle.gaps.specs.Search.{from as Search·from, isOn, pairsAt, Passed}
+use Rattle.gaps.specs.Search.{isOn, laterPairs, pairsAt, Passed}
 use Rattle.gaps.specs.theory.Steps.{walk-fits}
 use Rattle.gaps.specs.theory.Read.{grownOf-valid}
 use Rattle.gaps.specs.theory.Passed.{passed-none}
@@ -19,12 +19,10 @@ use Rattle.gaps.proofs.search.from.Tie as tie
 
 -- the pairs, by whether the record is on the floor
 pairs-are : (c : tie.Start) {t : Bool} → let args = c .args in isOn (args .floor) (args .log .now) (args .p) ≡ t
-    → cond t (map (λ s. (recordAt (args .log .now) (args .p), s))
-    (Search·from (args .floor) (args .log .now) (nextAt (args .log .now) (args .p)))) []
+    → cond t (laterPairs (args .floor) (args .log .now) (args .p) (nextAt (args .log .now) (args .p))) []
     ≡ pairsAt (args .floor) (args .log .now) (args .p)
 pairs-are c e = let args = c .args in
-    ap (λ (t : Bool). cond t (map (λ s. (recordAt (args .log .now) (args .p), s))
-    (Search·from (args .floor) (args .log .now) (nextAt (args .log .now) (args .p)))) []) (sym e)
+    ap (λ (t : Bool). cond t (laterPairs (args .floor) (args .log .now) (args .p) (nextAt (args .log .now) (args .p))) []) (sym e)
 
 is-on : (c : tie.Else1) → let args = c .before .before .before .args in isOn (args .floor) (args .log .now) (args .p) ≡ true
 is-on c = sym (c .before .is-on .ensures) ∙ not-false _ (c .if1 .left)

@@ -1,7 +1,7 @@
 -- `later` meets its contract. The invariant: what is kept up to q, and the pairs still to come; the measure is what is left.
 use mathlib.Core.Path.{_≡_, sym, _∙_, ap, subst}
 use mathlib.Core.Bool.{true}
-use mathlib.Core.List.{List, map}
+use mathlib.Core.List.{map}
 use Prim.Native.Nat.{ℕ, _+_, _*_, _-_, _≤_}
 use native.Mathlib.Omega.{arith}
 use lib.ListN.{length, drop}
@@ -10,20 +10,15 @@ use Rattle.plane.specs.Point.{points}
 use Rattle.journal.specs.Format.{size, whole}
 use Rattle.journal.specs.Survey.{recordAt, nextAt}
 use Rattle.journal.specs.theory.Survey.{size-at, next-inside}
-use Rattle.gaps.specs.Gap.{Pair}
-use Rattle.gaps.specs.Search.{from, Walk}
+use Rattle.gaps.specs.Search.{laterPairs, Walk}
 use Rattle.gaps.specs.theory.Steps.{walk-sound, walk-next, later-step, from-end}
 use Rattle.gaps.specs.theory.Passed.{Along, along-start, along-next, along-end}
 use Rattle.gaps.proofs.search.later.Statement.{statement}
 use Rattle.gaps.proofs.search.later.Tie as tie
 
--- the pairs of the record at p with those from a place on
-abbrev pairs : ℕ → List ℕ → ℕ → ℕ → List Pair
-pairs f b p q = map (λ s. (recordAt b p, s)) (from f b q)
-
 abbrev Inv-loop : tie.InvT-loop
 Inv-loop log p floor cart grown shape₀ below₀ kept₀ q₀ shape below kept q =
-    Walk (points cart) log floor q × Along (points cart) log (pairs floor log p) (nextAt log p) kept₀ kept q
+    Walk (points cart) log floor q × Along (points cart) log (laterPairs floor log p) (nextAt log p) kept₀ kept q
     × (length shape ≡ 2 * maxCorners) × (length below ≡ 2 * maxCorners)
 
 abbrev μ-loop : tie.MeasureT-loop
@@ -72,8 +67,8 @@ loop-holds c =
     let b = args .log .now in
     let same = ap (λ (k : ℕ). args .p + (2 + k)) (sym (begin c .0)) in (
       subst (λ (q : ℕ). Walk A b (args .floor) q) same (walk-next A (pre .0) (pre .1 .here)),
-      subst (λ (q : ℕ). Along A b (pairs (args .floor) b (args .p)) (nextAt b (args .p)) (args .best) (args .best) q) same
-          (along-start A b (pairs (args .floor) b (args .p)) (nextAt b (args .p)) (args .best) (pre .5)),
+      subst (λ (q : ℕ). Along A b (laterPairs (args .floor) b (args .p)) (nextAt b (args .p)) (args .best) (args .best) q) same
+          (along-start A b (laterPairs (args .floor) b (args .p)) (nextAt b (args .p)) (args .best) (pre .5)),
       pre .3,
       pre .4,
     )
@@ -113,7 +108,7 @@ loop-again c =
     let b = args .log .now in
     let q = at-loop .loop .q in
     let inv = at-loop .loop .inv in
-    let ps = pairs (args .floor) b (args .p) in
+    let ps = laterPairs (args .floor) b (args .p) in
     let same = ap (λ (k : ℕ). q + (2 + k)) (sym (step c .0)) in (
       subst (λ (r : ℕ). Walk A b (args .floor) r) same (walk-next A (inv .0) (here at-then)),
       subst (λ (r : ℕ). Along A b ps (nextAt b (args .p)) (args .best) (at-tried .tried .result) r) same
@@ -135,7 +130,7 @@ returns c =
     let inv = at-loop .loop .inv in
     let b = args .log .now in
     let none = from-end (args .floor) b (at-loop .loop .q) (sym (c .before .whole-at .ensures) ∙ c .if1 .left) in (
-      along-end (points (args .cart .now)) b (pairs (args .floor) b (args .p)) (inv .1)
+      along-end (points (args .cart .now)) b (laterPairs (args .floor) b (args .p)) (inv .1)
           (ap (map (λ s. (recordAt b (args .p), s))) none),
       inv .2,
       inv .3,
