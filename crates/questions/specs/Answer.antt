@@ -33,6 +33,8 @@ use Rattle.questions.specs.declared.answer.Clearance.{Clearance}
 use Rattle.questions.specs.declared.answer.Clearance.the-variants as Clearance
 use Rattle.questions.specs.declared.answer.Nearest.{Nearest}
 use Rattle.questions.specs.declared.answer.Nearest.the-variants as Nearest
+use Rattle.questions.specs.declared.answer.Gap.{Gap}
+use Rattle.questions.specs.declared.answer.Gap.the-variants as Gap
 use Rattle.questions.specs.declared.answer.Excess.{Excess}
 use Rattle.questions.specs.declared.answer.Excess.the-variants as Excess
 use Rattle.questions.specs.declared.answer.Passage.{Passage}
@@ -115,6 +117,17 @@ ofNearest (Nearest.CornerEdge n c e t q w floor) =
 ofNearest (Nearest.EdgeCorner n c e t q w floor) =
     answered (pos n ∷ pos 3 ∷ pos c ∷ pos e ∷ pos t ∷ pos q ∷ pos w ∷ pos floor ∷ [])
 ofNearest (Nearest.No r) = ofRefusal r
+
+-- both names, then clearance's numbers of the two grown shapes
+abbrev pub ofGap : Gap → Reply
+ofGap (Gap.Meets n m floor) = answered (pos n ∷ pos m ∷ pos 0 ∷ pos floor ∷ [])
+ofGap (Gap.Corners n m i j d w floor) =
+    answered (pos n ∷ pos m ∷ pos 1 ∷ pos i ∷ pos j ∷ pos d ∷ pos w ∷ pos floor ∷ [])
+ofGap (Gap.CornerEdge n m c e t q w floor) =
+    answered (pos n ∷ pos m ∷ pos 2 ∷ pos c ∷ pos e ∷ pos t ∷ pos q ∷ pos w ∷ pos floor ∷ [])
+ofGap (Gap.EdgeCorner n m c e t q w floor) =
+    answered (pos n ∷ pos m ∷ pos 3 ∷ pos c ∷ pos e ∷ pos t ∷ pos q ∷ pos w ∷ pos floor ∷ [])
+ofGap (Gap.No r) = ofRefusal r
 
 -- 0 inside, 1 two corners, 2 a corner of the new shape and an edge of the old one
 abbrev pub ofExcess : Excess → Reply

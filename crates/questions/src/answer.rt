@@ -182,6 +182,45 @@ pub enum Nearest {
     No(Refusal),
 }
 
+// The names of the two shapes of a floor with the narrowest gap, and what `Clearance` says of both, grown by the cart.
+pub enum Gap {
+    Meets {
+        name: u16,
+        other: u16,
+        floor: u16,
+    },
+    Corners {
+        name: u16,
+        other: u16,
+        first: usize,
+        second: usize,
+        squared: u64,
+        rounded: u64,
+        floor: u16,
+    },
+    CornerEdge {
+        name: u16,
+        other: u16,
+        corner: usize,
+        edge: usize,
+        turn: u64,
+        squared: u64,
+        rounded: u64,
+        floor: u16,
+    },
+    EdgeCorner {
+        name: u16,
+        other: u16,
+        corner: usize,
+        edge: usize,
+        turn: u64,
+        squared: u64,
+        rounded: u64,
+        floor: u16,
+    },
+    No(Refusal),
+}
+
 // Blocked, or how a cart may pass straight between two obstacles: the direction across, from the right obstacle to the
 // left one, the values in it between which the cart's origin stays, and the width of that in millimetres, rounded down.
 pub enum Passage {

@@ -4,21 +4,25 @@ ghost use mathlib.Core.Path.{_≡_};
 ghost use mathlib.Core.List.{[], _∷_, _++_};
 ghost use lib.IntN.{pos};
 ghost use Rattle.plane.specs.Reply.{answered};
+ghost use Rattle.plane.specs.Floor.{on};
 ghost use Rattle.plane.specs.Question.{reply, output};
 ghost use Rattle.clearance.specs.Answer.{valuesOf};
 ghost use Rattle.journal.specs.Format.{records};
 ghost use Rattle.journal.specs.Reading.{damaged};
+ghost use Rattle.journal.specs.Current.{askEntry};
 ghost use Rattle.packing.specs.Packing.{remade};
 ghost use Rattle.neighbours.specs.Nearest.{askNearest};
 ghost use Rattle.neighbours.specs.Spacing.{spacingNumbers};
-ghost use Rattle.questions.specs.Answer.{ofNearest, ofAddition, ofEntry};
+ghost use Rattle.gaps.specs.Gap.{askGap};
+ghost use Rattle.questions.specs.Answer.{ofNearest, ofGap, ofAddition, ofEntry};
 use crate::answer::Addition;
-ghost use Rattle.journal.specs.Current.{askEntry};
 use crate::answer::Entry;
+use crate::answer::Gap;
 use crate::answer::Nearest;
 use crate::answer::Refusal;
 use admission::Admission;
 use clearance::measured::Distance;
+use gaps::Narrowest;
 use journal::current::Listed;
 use journal::survey::Surveyed;
 use neighbours::Near;
@@ -121,6 +125,103 @@ fn placed(name: u16, distance: Distance, floor: u16) -> Nearest
             rounded,
         } => Nearest::EdgeCorner {
             name,
+            corner,
+            edge,
+            turn,
+            squared,
+            rounded,
+            floor,
+        },
+    }
+}
+
+// Answers which two current shapes of a floor have the narrowest gap, both grown by a cart's outline, and what clearance
+// answers of the grown two: nothing if they are not apart. The point 0 0 asks the gap of the shapes as they are. On a
+// tie the first pair is answered, by the first shape in the log and then the second, and so it is of several pairs that
+// meet. Refused: 1 to 5 of the cart; a log in which some record is bad; 20 if fewer than two shapes are on the floor;
+// then 6 and 7, shape by shape in the log's order, before any pair is looked at.
+// Ruled out: pair with an older record counted; later pair on a tie; one shape of a pair grown only; large shape told
+// after the first meeting pair.
+pub fn log_gap(log: &[u8], cart: &[i32], floor: u16) -> Gap
+    ensures { λ r. ⌜ ofGap r ≡ reply (askGap (now (log .entry)) (on (now (cart .entry)) floor)) ⌝ }
+{
+    if let Admission::No(refusal) = admission::admit(cart, 1) {
+        return Gap::No(refusal);
+    }
+    if let Surveyed::Bad(place) = journal::survey::survey(log) {
+        return Gap::No(Refusal::Damaged { place });
+    }
+    if gaps::floor::count(log, floor) < 2 {
+        return Gap::No(Refusal::TooFew);
+    }
+    if let Admission::No(refusal) = gaps::sizes::admit_sizes(log, floor, cart) {
+        return Gap::No(refusal);
+    }
+    let Narrowest::Of {
+        first,
+        second,
+        spacing,
+    } = gaps::gap(log, floor, cart)
+    else {
+        return Gap::No(Refusal::TooFew);
+    };
+    paired(first, second, spacing, floor)
+}
+
+// Two names and how far apart the shapes are, as an answer.
+fn paired(name: u16, other: u16, spacing: Spacing, floor: u16) -> Gap
+    ensures { λ r. ⌜ ofGap r ≡ answered (pos name ∷ pos other ∷ spacingNumbers spacing ++ (pos floor ∷ [])) ⌝ }
+{
+    match spacing {
+        Spacing::Meets => Gap::Meets { name, other, floor },
+        Spacing::Apart(distance) => spaced(name, other, distance, floor),
+    }
+}
+
+// The same of shapes that are apart.
+fn spaced(name: u16, other: u16, distance: Distance, floor: u16) -> Gap
+    ensures { λ r. ⌜ ofGap r ≡ answered (pos name ∷ pos other ∷ valuesOf distance ++ (pos floor ∷ [])) ⌝ }
+{
+    match distance {
+        Distance::Corners {
+            first,
+            second,
+            squared,
+            rounded,
+        } => Gap::Corners {
+            name,
+            other,
+            first,
+            second,
+            squared,
+            rounded,
+            floor,
+        },
+        Distance::OnSecond {
+            corner,
+            edge,
+            turn,
+            squared,
+            rounded,
+        } => Gap::CornerEdge {
+            name,
+            other,
+            corner,
+            edge,
+            turn,
+            squared,
+            rounded,
+            floor,
+        },
+        Distance::OnFirst {
+            corner,
+            edge,
+            turn,
+            squared,
+            rounded,
+        } => Gap::EdgeCorner {
+            name,
+            other,
             corner,
             edge,
             turn,

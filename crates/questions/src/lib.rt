@@ -404,24 +404,13 @@ pub fn passage(left: &[i32], f: u16, right: &[i32], g: u16, cart: &[i32], h: u16
     if let Admission::No(refusal) = admission::admit_three(left, f, right, g, cart, h) {
         return Passage::No(refusal);
     }
-    if let Admission::No(refusal) = admit_grown(left, cart) {
+    if let Admission::No(refusal) = passage::admit_grown(left, cart) {
         return Passage::No(refusal);
     }
-    if let Admission::No(refusal) = admit_grown(right, cart) {
+    if let Admission::No(refusal) = passage::admit_grown(right, cart) {
         return Passage::No(refusal);
     }
     passed(passage::between(left, right, cart), f)
-}
-
-// Judges an obstacle grown by the cart by its size, before it is made: 6, then 7.
-fn admit_grown(obstacle: &[i32], cart: &[i32]) -> Admission
-    requires { ⌜ Valid (now obstacle) × Valid (now cart) ⌝ }
-    ensures { λ r. ⌜ Judged
-        (NoneApply (sizeRows (grown (points (now (obstacle .entry))) (points (now (cart .entry))))))
-        (sizeRows (grown (points (now (obstacle .entry))) (points (now (cart .entry))))) r ⌝ }
-{
-    let n = differences::reckon(obstacle, cart, peak::top(cart), SHAPE_NUMBERS);
-    deliver::sized(n, differences::is_far(obstacle, cart))
 }
 
 // A way with its floor.

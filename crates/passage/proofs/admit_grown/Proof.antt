@@ -2,8 +2,8 @@
 use borrow.Author.Needs.{needs}
 use Rattle.admission.specs.theory.Delivery.{sized-rows, judged-by}
 use Rattle.growth.specs.Grown.{grown}
-use Rattle.questions.proofs.admit_grown.Statement.{statement}
-use Rattle.questions.proofs.admit_grown.Tie as tie
+use Rattle.passage.proofs.admit_grown.Statement.{statement}
+use Rattle.passage.proofs.admit_grown.Tie as tie
 
 top-requires : tie.Need-top-requires
 top-requires c κs = c .pre .1 .shape .some
