@@ -66,8 +66,8 @@ fn stride(a: &[i32], b: &[i32], top: usize, s: Side, t: Side, out: &mut [i32]) -
     ensures { λ r. ⌜
         Walked (now (a .entry)) (image (now (b .entry))) begun (enough (now (a .entry)) (now (b .entry)))
         (r .count) (r .first) (r .second)
-        × (now (out .exit) ≡ overwritten (numbers (take (r .count) (nextCorners (now (a .entry)) (image (now (b .entry)))
-        begun (enough (now (a .entry)) (now (b .entry)))))) (now (out .entry))) ⌝ }
+        × (now (out .exit) ≡ overwritten (numbers (take (r .count) (nextCorners (now (a .entry))
+        (image (now (b .entry))) begun (enough (now (a .entry)) (now (b .entry)))))) (now (out .entry))) ⌝ }
 {
     let mut first = s;
     let mut second = t;

@@ -102,7 +102,8 @@ put-requires : tie.Need-put-requires Inv-loop μ-loop
 put-requires c κs = progress-room (written (c .before .before))
 
 -- not all corners are passed
-below : (c : tie.At-loop Inv-loop μ-loop) → let args = c .before .before .before .before .before .before .before .before .before .before .args in
+below : (c : tie.At-loop Inv-loop μ-loop) → let at-stride = c .before .before .before .before in
+    let args = at-stride .before .before .before .before .before .before .args in
     c .loop .count < length (points (args .a .now)) + length (points (args .b .now))
 below c =
     let start = c .before .before .before .before .before .before .before .before .before .before in
@@ -185,5 +186,5 @@ loop-again c = λ old p.
 pub write-spec : {M : Type 1} → statement M
 write-spec =
     tie.close
-    (tie.spec Inv-loop μ-loop side-at-requires side-at-requires-2 add-all stride-requires loop-holds here-requires put-requires add-count order-requires
-    next-requires next-requires-2 add-if1 same-length returns loop-less loop-again)
+    (tie.spec Inv-loop μ-loop side-at-requires side-at-requires-2 add-all stride-requires loop-holds here-requires put-requires
+    add-count order-requires next-requires next-requires-2 add-if1 same-length returns loop-less loop-again)
