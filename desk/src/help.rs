@@ -79,6 +79,7 @@ A refusal has a number, the same everywhere in Cocklesway:
     17  a reading is not finite
     18  its exact value in millimetres is not whole
     19  no record holds the name
+    20  fewer shapes are on the floor, or in the log, than the question compares
 ";
 
 /// Returns the page that `--help` shows.

@@ -87,6 +87,7 @@ static inline const char *cocklesway_refusal_text(uint64_t number) {
     case 17: return "a reading is not finite";
     case 18: return "a reading is no whole number of millimetres";
     case 19: return "no record of the log has the name";
+    case 20: return "fewer shapes are on the floor, or in the log, than the question compares";
     default: return "this header does not know the number";
     }
 }

@@ -4,7 +4,7 @@ ghost use Rattle.plane.specs.Question.{reply, output};
 ghost use Rattle.journal.specs.Reading.{askRead};
 ghost use Rattle.reply.specs.Told.{crossed, numbers};
 ghost use Rattle.calls.specs.Calls.{addedLow};
-use crate::floors;
+use crossing::floors;
 use polygon::limits;
 use reply::Reply;
 

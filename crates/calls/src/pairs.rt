@@ -6,9 +6,9 @@ ghost use Rattle.plane.specs.Floor.{on};
 ghost use Rattle.plane.specs.Question.{reply, output, askSum, askMerge, askGrow, askRelation, askInside, askOffer};
 ghost use Rattle.plane.specs.Question.{askClearance, askTangents};
 ghost use Rattle.reply.specs.Told.{crossed, numbers};
-ghost use Rattle.calls.specs.LowFloor.{lowFloor};
+ghost use Rattle.crossing.specs.LowFloor.{lowFloor};
 ghost use Rattle.calls.specs.Calls.{SeparatorTold};
-use crate::floors;
+use crossing::floors;
 use questions::separators;
 use reply::Reply;
 
@@ -98,7 +98,6 @@ pub extern "C" fn cocklesway_offer(a: &[i32], f: u32, b: &[i32], g: u32, u: i32,
 }
 
 // Answers 1 and a direction that is accepted, or 0 if there is none.
-// Ruled out: direction the other way round.
 #[no_mangle]
 pub extern "C" fn cocklesway_find(a: &[i32], f: u32, b: &[i32], g: u32) -> Reply
     ensures { λ r. ⌜ SeparatorTold (on (now (a .entry)) f) (on (now (b .entry)) g) (numbers r) ⌝ }

@@ -4,8 +4,8 @@ ghost use Rattle.plane.specs.Point.{point};
 ghost use Rattle.plane.specs.Floor.{on};
 ghost use Rattle.plane.specs.Question.{reply, output, askJudge, askFurthest, askMirror, askSweep, askLength, askWidth};
 ghost use Rattle.reply.specs.Told.{crossed, numbers};
-ghost use Rattle.calls.specs.LowFloor.{lowFloor};
-use crate::floors;
+ghost use Rattle.crossing.specs.LowFloor.{lowFloor};
+use crossing::floors;
 use polygon::limits;
 use reply::Reply;
 

@@ -29,6 +29,8 @@ use Rattle.questions.specs.declared.answer.Separator.{Separator}
 use Rattle.questions.specs.declared.answer.Separator.the-variants as Separator
 use Rattle.questions.specs.declared.answer.Clearance.{Clearance}
 use Rattle.questions.specs.declared.answer.Clearance.the-variants as Clearance
+use Rattle.questions.specs.declared.answer.Excess.{Excess}
+use Rattle.questions.specs.declared.answer.Excess.the-variants as Excess
 use Rattle.questions.specs.declared.answer.Passage.{Passage}
 use Rattle.questions.specs.declared.answer.Passage.the-variants as Passage
 use Rattle.questions.specs.declared.answer.Line.{Line}
@@ -93,6 +95,13 @@ ofClearance (Clearance.Corners i j d w floor) = answered (pos 1 ∷ pos i ∷ po
 ofClearance (Clearance.CornerEdge c e t q w floor) = answered (pos 2 ∷ pos c ∷ pos e ∷ pos t ∷ pos q ∷ pos w ∷ pos floor ∷ [])
 ofClearance (Clearance.EdgeCorner c e t q w floor) = answered (pos 3 ∷ pos c ∷ pos e ∷ pos t ∷ pos q ∷ pos w ∷ pos floor ∷ [])
 ofClearance (Clearance.No r) = ofRefusal r
+
+-- 0 inside, 1 two corners, 2 a corner of the new shape and an edge of the old one
+abbrev pub ofExcess : Excess → Reply
+ofExcess (Excess.Inside floor) = answered (pos 0 ∷ pos floor ∷ [])
+ofExcess (Excess.Corners c j d u floor) = answered (pos 1 ∷ pos c ∷ pos j ∷ pos d ∷ pos u ∷ pos floor ∷ [])
+ofExcess (Excess.Edge c e t q u floor) = answered (pos 2 ∷ pos c ∷ pos e ∷ pos t ∷ pos q ∷ pos u ∷ pos floor ∷ [])
+ofExcess (Excess.No r) = ofRefusal r
 
 -- 0 blocked; or 1, the direction, the two lines and the width
 abbrev pub ofPassage : Passage → Reply

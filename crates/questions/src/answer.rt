@@ -116,6 +116,31 @@ pub enum Clearance {
     No(Refusal),
 }
 
+// Inside; or the corner of the new shape that is furthest from the old one, where the old one is nearest to it, and the
+// distance in millimetres rounded up: a corner, with the squared distance; or an edge, with the size of the corner's
+// turn against it and the edge's squared length.
+pub enum Excess {
+    Inside {
+        floor: u16,
+    },
+    Corners {
+        corner: usize,
+        other: usize,
+        squared: u64,
+        up: u64,
+        floor: u16,
+    },
+    Edge {
+        corner: usize,
+        edge: usize,
+        turn: u64,
+        squared: u64,
+        up: u64,
+        floor: u16,
+    },
+    No(Refusal),
+}
+
 // Blocked, or how a cart may pass straight between two obstacles: the direction across, from the right obstacle to the
 // left one, the values in it between which the cart's origin stays, and the width of that in millimetres, rounded down.
 pub enum Passage {

@@ -3,6 +3,7 @@
 // floor, and every answer on shapes carries it: of two shapes, a on floor f and b on floor g, both have the same, or
 // are refused 13 after 1 to 5 of the first and of the second.
 pub mod answer;
+mod changes;
 mod coordinate;
 mod merging;
 pub mod separators;
@@ -55,6 +56,7 @@ use answer::Tablet;
 use answer::Tangents;
 use answer::Width;
 use calipers::size;
+pub use changes::excess;
 use clearance::measured::Distance;
 use coordinate::Coordinate;
 use journal::latest::Found;
