@@ -46,7 +46,8 @@ better-requires c κs =
     let at-settle = c .before in
     let at-loop = at-settle .before .before in
     let pre = at-loop .before .pre in
-    ready-end _ (at-loop .before .args .t) (pre .0) (pre .1) (pre .2) (at-loop .loop .inv .start) (below at-loop) (at-settle .before .corner-at .ensures) (at-settle .settle .ensures)
+    ready-end _ (at-loop .before .args .t) (pre .0) (pre .1) (pre .2) (at-loop .loop .inv .start) (below at-loop)
+    (at-settle .before .corner-at .ensures) (at-settle .settle .ensures)
     (c .corner-at2 .ensures)
 
 returns : tie.Need-returns Inv-loop μ-loop
@@ -55,7 +56,8 @@ returns c =
     let at-settle = at-end .before in
     let at-loop = at-settle .before .before in
     let pre = at-loop .before .pre in
-    both-rest _ _ (pre .0) (pre .1) (pre .2) (at-loop .loop .inv .start) (below at-loop) (at-settle .before .corner-at .ensures) (at-settle .settle .ensures)
+    both-rest _ _ (pre .0) (pre .1) (pre .2) (at-loop .loop .inv .start) (below at-loop)
+    (at-settle .before .corner-at .ensures) (at-settle .settle .ensures)
     (at-end .corner-at2 .ensures) (c .before .better .ensures .rests (c .if1 .taken))
 
 add-to : tie.Need-add-to Inv-loop μ-loop
@@ -72,7 +74,8 @@ loop-again c =
     let at-settle = at-end .before in
     let at-loop = at-settle .before .before in
     let pre = at-loop .before .pre in
-    search-more _ _ (pre .0) (pre .1) (pre .2) (at-loop .loop .inv .start) (below at-loop) (at-settle .before .corner-at .ensures) (at-settle .settle .ensures)
+    search-more _ _ (pre .0) (pre .1) (pre .2) (at-loop .loop .inv .start) (below at-loop)
+    (at-settle .before .corner-at .ensures) (at-settle .settle .ensures)
     (at-end .corner-at2 .ensures) (at-loop .loop .inv) (c .before .better .ensures) (c .if1 .left)
 
 pub searched-spec : {M : Type 1} → statement M
