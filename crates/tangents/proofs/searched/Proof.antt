@@ -36,7 +36,8 @@ settle-requires : tie.Need-settle-requires Inv-loop μ-loop
 settle-requires c κs =
     let start = c .before .before in
     let pre = start .pre in
-    ready-start (start .args .s) (start .args .t) (pre .0) (pre .1) (pre .2) (c .before .loop .inv .start) (below (c .before)) (c .corner-at .ensures)
+    ready-start (start .args .s) (start .args .t) (pre .0) (pre .1) (pre .2) (c .before .loop .inv .start) (below (c .before))
+    (c .corner-at .ensures)
 
 corner-at-requires-2 : tie.Need-corner-at-requires-2 Inv-loop μ-loop
 corner-at-requires-2 c κs = c .settle .ensures .within
