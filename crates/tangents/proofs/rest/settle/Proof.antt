@@ -23,7 +23,9 @@ loop-holds : tie.Need-loop-holds Inv-loop μ-loop
 loop-holds c = c .slid .ensures
 
 better-requires : tie.Need-better-requires Inv-loop μ-loop
-better-requires c κs = let r = c .before .before .pre in record { valid = r .valid; within = c .loop .inv; small = r .small; facing = r .facing }
+better-requires c κs =
+    let r = c .before .before .pre in
+    record { valid = r .valid; within = c .loop .inv; small = r .small; facing = r .facing }
 
 returns : tie.Need-returns Inv-loop μ-loop
 returns c = c .before .better .ensures .rests (c .if1 .taken)
