@@ -41,6 +41,7 @@ odd count of numbers has `numbers` instead. Corners are coordinates, edges are b
     width         corner, edge, turn, squared,      offer       direction, accepted
                   rounded                           find        direction, or null
     furthest      direction, first, last, value     tangents    left, right, crossing, reverse
+    area          twice, in mm²
     clearance     apart, rounded; first, second, squared or turn and squared
     passage       passable; direction, low, high, rounded
     grow, at, merge, sweep, sum, mirror, bookread   made

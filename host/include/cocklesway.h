@@ -132,6 +132,9 @@ cocklesway_reply cocklesway_part(const int32_t *a, size_t n, uint32_t f, const i
 /* Values: the greatest squared distance of two corners, their positions, floor. Refused 1 to 5, 13. */
 cocklesway_reply cocklesway_length(const int32_t *list, size_t n, uint32_t floor);
 
+/* Values: twice the area, floor. Refused 1 to 5, 13. */
+cocklesway_reply cocklesway_area(const int32_t *list, size_t n, uint32_t floor);
+
 /* Where the shape is narrowest. Values: edge, corner, the turn t of the corner against the edge, the edge's squared
  * length q, the width t/sqrt(q) rounded down, floor. Refused 1 to 5, 13, 10. */
 cocklesway_reply cocklesway_width(const int32_t *list, size_t n, uint32_t floor);
