@@ -13,7 +13,9 @@ pub mod walk;
 
 ghost use mathlib.Core.Path.{_≡_};
 ghost use mathlib.Core.List.{[], _∷_, _++_};
+ghost use Prim.Native.Nat.{_<_};
 ghost use lib.IntN.{pos};
+ghost use lib.ListN.{length};
 ghost use Rattle.plane.specs.Reply.{answered, NoneApply};
 ghost use Rattle.separation.specs.Answer.{numberOf};
 ghost use mathlib.Core.Bool.{true, false};
@@ -452,22 +454,30 @@ pub fn tangents(a: &[i32], f: u16, b: &[i32], g: u16) -> Tangents
     let separation::answer::Relation::Apart = place else {
         return Tangents::No(Refusal::NotApart);
     };
+    let left = line(a, b, Line { from: 0, to: 0 }, true, true);
+    let crossing = line(a, b, left, true, false);
+    let right = line(a, b, crossing, false, false);
+    let reverse = line(a, b, right, false, true);
     Tangents::Lines {
-        left: line(a, b, true, true),
-        right: line(a, b, false, false),
-        crossing: line(a, b, true, false),
-        reverse: line(a, b, false, true),
+        left,
+        right,
+        crossing,
+        reverse,
         floor: f,
     }
 }
 
-// The line that has the first shape on side s and the second on side t, true for the left.
-fn line(a: &[i32], b: &[i32], s: bool, t: bool) -> Line
-    requires { ⌜ Valid (now a) × Valid (now b) × (apart (points (now a)) (points (now b)) ≡ true) ⌝ }
+// The line that has the first shape on side s and the second on side t, true for the left. The search for it begins at
+// a line that is given.
+fn line(a: &[i32], b: &[i32], near: Line, s: bool, t: bool) -> Line
+    requires { ⌜ Valid (now a) × Valid (now b) × (apart (points (now a)) (points (now b)) ≡ true)
+        × (near .from < length (points (now a))) × (near .to < length (points (now b))) ⌝ }
     ensures { λ r. ⌜ (r .from ≡ tangentFrom s t (points (now (a .entry))) (points (now (b .entry))))
         × (r .to ≡ tangentTo s t (points (now (a .entry))) (points (now (b .entry)))) ⌝ }
 {
-    let found = tangents::tangent(a, b, s, t);
+    let from = near.from;
+    let to = near.to;
+    let found = tangents::tangent(a, b, tangents::Line { from, to }, s, t);
     Line {
         from: found.from,
         to: found.to,
