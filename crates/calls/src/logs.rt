@@ -4,7 +4,9 @@ ghost use Rattle.plane.specs.Question.{reply, output};
 ghost use Rattle.journal.specs.Reading.{askRead};
 ghost use Rattle.packing.specs.Packing.{remade};
 ghost use Rattle.journal.specs.Current.{askEntry};
+ghost use Rattle.neighbours.specs.Nearest.{askNearest};
 ghost use Rattle.reply.specs.Told.{crossed, numbers};
+ghost use Rattle.crossing.specs.LowFloor.{lowFloor};
 ghost use Rattle.calls.specs.Calls.{addedLow};
 use crossing::floors;
 use polygon::limits;
@@ -58,4 +60,17 @@ pub extern "C" fn cocklesway_log_pack(old: &[u8], new: &mut [u8], but: u32, allo
         × (now (new .exit) ≡ remade (now (old .entry)) but (now (new .entry)) allowed .log) ⌝ }
 {
     reply::of_addition(questions::books::log_pack(old, new, but, allowed))
+}
+
+// Answers the name of the nearest current shape on the floor, `but` left out, and what clearance answers of the two. A
+// floor above its limit is refused 13 after the list and before the log.
+#[no_mangle]
+pub extern "C" fn cocklesway_log_nearest(log: &[u8], list: &[i32], floor: u32, but: usize) -> Reply
+    ensures { λ r. ⌜ numbers r
+        ≡ crossed (reply (lowFloor (askNearest (now (log .entry)) (now (list .entry)) floor but))) ⌝ }
+{
+    if limits::exceeds_floor(floor) {
+        return floors::barred(list);
+    }
+    reply::of_nearest(questions::books::log_nearest(log, list, floor as u16, but))
 }

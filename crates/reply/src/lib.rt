@@ -6,7 +6,7 @@ pub mod refusals;
 ghost use mathlib.Core.Path.{_≡_};
 ghost use Rattle.questions.specs.Answer.{ofAnswer, ofBegun, ofPart, ofFurthest, ofLength};
 ghost use Rattle.questions.specs.Answer.{ofWidth, ofRelation, ofInside, ofOffer, ofSeparator, ofClearance, ofTangents};
-ghost use Rattle.questions.specs.Answer.{ofArea, ofExcess, ofPassage, ofTablet, ofAddition, ofEntry};
+ghost use Rattle.questions.specs.Answer.{ofArea, ofExcess, ofNearest, ofPassage, ofTablet, ofAddition, ofEntry};
 ghost use Rattle.reply.specs.Told.{crossed, numbers};
 use questions::answer::Addition;
 use questions::answer::Answer;
@@ -18,6 +18,7 @@ use questions::answer::Excess;
 use questions::answer::Furthest;
 use questions::answer::Inside;
 use questions::answer::Length;
+use questions::answer::Nearest;
 use questions::answer::Offer;
 use questions::answer::Part;
 use questions::answer::Passage;
@@ -252,6 +253,68 @@ pub fn of_clearance(answer: Clearance) -> Reply
             floor as u64,
         ),
         Clearance::No(refusal) => refusals::of_refusal(refusal),
+    }
+}
+
+// Returns the name of the nearest shape, and then the numbers of `of_clearance`.
+pub fn of_nearest(answer: Nearest) -> Reply
+    ensures { λ r. ⌜ numbers r ≡ crossed (ofNearest answer) ⌝ }
+{
+    match answer {
+        Nearest::Meets { name, floor } => numbers::answered3(name as u64, 0, floor as u64),
+        Nearest::Corners {
+            name,
+            first,
+            second,
+            squared,
+            rounded,
+            floor,
+        } => numbers::answered7(
+            name as u64,
+            1,
+            first as u64,
+            second as u64,
+            squared,
+            rounded,
+            floor as u64,
+        ),
+        Nearest::CornerEdge {
+            name,
+            corner,
+            edge,
+            turn,
+            squared,
+            rounded,
+            floor,
+        } => numbers::answered8(
+            name as u64,
+            2,
+            corner as u64,
+            edge as u64,
+            turn,
+            squared,
+            rounded,
+            floor as u64,
+        ),
+        Nearest::EdgeCorner {
+            name,
+            corner,
+            edge,
+            turn,
+            squared,
+            rounded,
+            floor,
+        } => numbers::answered8(
+            name as u64,
+            3,
+            corner as u64,
+            edge as u64,
+            turn,
+            squared,
+            rounded,
+            floor as u64,
+        ),
+        Nearest::No(refusal) => refusals::of_refusal(refusal),
     }
 }
 
