@@ -3,7 +3,6 @@ pub mod Places
 pub mod Walk
 pub mod Side
 pub mod Image
-pub mod Stretch
 pub mod Advance
 pub mod Size
 pub mod PlaceAfter

@@ -17,5 +17,3 @@ pub mod PlaceTest
 pub mod Parts
 pub mod PartAnswers
 pub mod Calls
-pub mod Stretches
-pub mod Convex

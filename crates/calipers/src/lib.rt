@@ -1,6 +1,5 @@
 // Inner functions for the vector sum of two shapes by the caliper walk (document 01, "Sum"). Callers ask the crate
 // `questions`.
-pub mod convex;
 pub mod edges;
 pub mod image;
 pub mod side;

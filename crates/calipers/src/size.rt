@@ -42,7 +42,6 @@ pub fn suffices(most: usize, room: usize) -> bool
 
 // Returns how many corners a walk would write that goes on from a place: k of them or what remains, whichever is less.
 // It writes none.
-// Ruled out: parallel corners counted twice.
 pub fn count_on(a: &[i32], b: &[i32], i: usize, j: usize, k: usize) -> usize
     requires { ⌜ At (now a) (now b) (state i j false) × (0 < k) ⌝ }
     ensures { λ r. ⌜ r ≡ length (nextCorners (now (a .entry)) (now (b .entry)) (state i j false) k) ⌝ }

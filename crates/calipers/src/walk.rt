@@ -30,7 +30,7 @@ pub struct Advance {
 // its way at the front of the output: k of them or what remains, whichever is less. All after them is kept. Edges of
 // equal direction make one step, so no three corners are in line. A point moves the other shape; a segment's edge is
 // passed twice.
-// Ruled out: parallel corners kept; made up count; one corner too few; everything in the first part.
+// Ruled out: parallel corners kept; made up count; everything in the first part.
 pub fn walk_on(a: &[i32], b: &[i32], i: usize, j: usize, k: usize, out: &mut [i32]) -> Advance
     requires { ⌜ At (now a) (now b) (state i j false) × (0 < k)
         × (2 * length (nextCorners (now a) (now b) (state i j false) k) ≤ length (now out)) ⌝ }
