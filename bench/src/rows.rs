@@ -66,12 +66,13 @@ the calls of a host, on bytes: both shapes of their sums have the column's corne
     },
 ];
 
-const QUESTIONS: [Row; 27] = [
+const QUESTIONS: [Row; 28] = [
     ("judge", JUDGE, single),
     ("furthest", FURTHEST, single),
     ("mirror", MIRROR, single),
     ("length", LENGTH, single),
     ("width", WIDTH, single),
+    ("area", AREA, single),
     ("sum", SUM, summed),
     ("sum, refused 6 at 1,024", SUM, crossing),
     ("begin", BEGIN, summed),
@@ -137,7 +138,7 @@ const CARTS: [Row; 8] = [
 
 /// Every proved question, on a shape and the same one moved away (`moved_away`). It takes the whole walk to find that a
 /// shape overlaps one that it is inside of. A log has as many records as the shape has corners.
-pub const GROWTH: [(&str, Run, Make); 21] = [
+pub const GROWTH: [(&str, Run, Make); 22] = [
     ("judge", JUDGE[0], moved_away),
     ("furthest", FURTHEST[0], moved_away),
     ("mirror", MIRROR[0], moved_away),
@@ -150,6 +151,7 @@ pub const GROWTH: [(&str, Run, Make); 21] = [
     ("sweep", SWEEP[0], moved_away),
     ("length", LENGTH[0], moved_away),
     ("width", WIDTH[0], moved_away),
+    ("area", AREA[0], moved_away),
     ("relation", RELATION[0], twice),
     ("inside", INSIDE[0], twice),
     ("offer", OFFER[0], moved_away),

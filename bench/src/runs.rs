@@ -60,6 +60,7 @@ pub const GROW: [Run; 2] = both!(grow(a, b; out));
 pub const SWEEP: [Run; 2] = both!(sweep(a; out));
 pub const LENGTH: [Run; 2] = both!(length(a));
 pub const WIDTH: [Run; 2] = both!(width(a));
+pub const AREA: [Run; 2] = both!(area(a));
 pub const RELATION: [Run; 2] = both!(relation(a, b));
 pub const INSIDE: [Run; 2] = both!(inside(a, b));
 pub const OFFER: [Run; 2] = both!(offer(a, b; 3, 1));

@@ -2,8 +2,8 @@
 use crate::given::{Given, Pair, Trio};
 use crate::question::{Call, Making, OfOne, OfTwo, Question, Record};
 use cocklesway::{
-    Addition, Book, Clearance, Corners, Furthest, Inside, Length, Offer, Passage, Reading, Refusal,
-    Relation, Separator, Standing, Tangents, Walk, Width,
+    Addition, Area, Book, Clearance, Corners, Furthest, Inside, Length, Offer, Passage, Reading,
+    Refusal, Relation, Separator, Standing, Tangents, Walk, Width,
 };
 
 /// A question with its answer.
@@ -34,6 +34,8 @@ pub enum AboutOne {
     Length(Length),
     /// How wide it is.
     Width(Width),
+    /// How large it is.
+    Area(Area),
 }
 
 /// What is answered about two shapes.
@@ -154,6 +156,7 @@ fn about_one(shape: &Given, asked: OfOne) -> Result<AboutOne, Refusal> {
         }
         OfOne::Length => AboutOne::Length(cocklesway::length(shape)?),
         OfOne::Width => AboutOne::Width(cocklesway::width(shape)?),
+        OfOne::Area => AboutOne::Area(cocklesway::area(shape)?),
     })
 }
 
@@ -272,6 +275,7 @@ impl AboutOne {
             AboutOne::Furthest(..) => "furthest",
             AboutOne::Length(_) => "length",
             AboutOne::Width(_) => "width",
+            AboutOne::Area(_) => "area",
         }
     }
 }

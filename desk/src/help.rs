@@ -41,6 +41,7 @@ odd count of numbers has `numbers` instead. Corners are coordinates, edges are b
     width         corner, edge, turn, squared,      offer       direction, accepted
                   rounded                           find        direction, or null
     furthest      direction, first, last, value     tangents    left, right, crossing, reverse
+    area          twice, in mm²
     clearance     apart, rounded; first, second, squared or turn and squared
     passage       passable; direction, low, high, rounded
     grow, at, merge, sweep, sum, mirror, bookread   made
@@ -79,6 +80,7 @@ A refusal has a number, the same everywhere in Cocklesway:
     17  a reading is not finite
     18  its exact value in millimetres is not whole
     19  no record holds the name
+    20  fewer shapes are on the floor, or in the log, than the question compares
 ";
 
 /// Returns the page that `--help` shows.

@@ -169,6 +169,7 @@ fn about_one(shape: &Given, about: &AboutOne) -> Members {
             ("to", shape.corner(found.to).0.into()),
         ],
         AboutOne::Width(found) => width(shape, *found),
+        AboutOne::Area(found) => vec![("twice", found.twice.into())],
     }
 }
 

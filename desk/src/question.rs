@@ -30,6 +30,8 @@ pub enum OfOne {
     Length,
     /// How wide is it?
     Width,
+    /// How large is it?
+    Area,
 }
 
 /// What is asked about two shapes.
@@ -135,6 +137,7 @@ impl OfOne {
             OfOne::Furthest(_) => "furthest",
             OfOne::Length => "length",
             OfOne::Width => "width",
+            OfOne::Area => "area",
         }
     }
 }

@@ -1,6 +1,7 @@
 //! Answers in plain words, made from the typed answer: shapes by their names, corners by their coordinates.
 use crate::answer::{AboutOne, AboutTwo, Answer, Written};
 use crate::distance::Distance;
+use crate::extent::Extent;
 use crate::given::{Corner, Given, Pair, Trio};
 use crate::question::{Making, Record};
 use crate::refusal;
@@ -28,6 +29,7 @@ fn about_one(shape: &Given, about: &AboutOne) -> String {
         AboutOne::Furthest(towards, found) => furthest(shape, *towards, *found),
         AboutOne::Length(found) => length(shape, found.squared, [found.from, found.to]),
         AboutOne::Width(found) => width(shape, *found),
+        AboutOne::Area(found) => area(shape, found.twice),
     }
 }
 
@@ -131,6 +133,10 @@ fn width(shape: &Given, found: Width) -> String {
     let distance = Distance::of_turn(found.turn, found.squared, found.rounded);
     let (corner, edge) = (shape.corner(found.corner), shape.edge(found.edge));
     format!("{shape} is {distance} wide, from {corner} to the line of its edge {edge}")
+}
+
+fn area(shape: &Given, twice: u64) -> String {
+    format!("{shape} has an area of {}", Extent::of_twice(twice))
 }
 
 fn relation(Pair { a, b }: &Pair, found: Relation) -> String {

@@ -65,6 +65,10 @@ pub const TABLE: &[Row] = &[
         asks: "how wide is it where it is narrowest?", example: "width | linen-store",
     },
     Row {
+        word: "area", parts: &[A], read: |f| Ok(Question::One(f.shape()?, OfOne::Area)),
+        asks: "how large is it?", example: "area | linen-store",
+    },
+    Row {
         word: "furthest", parts: &[A, TOWARDS],
         read: |f| Ok(Question::One(f.shape()?, OfOne::Furthest(f.direction()?))),
         asks: "which corners are furthest in a direction?", example: "furthest | linen-store | 1 0",

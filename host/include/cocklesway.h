@@ -87,6 +87,7 @@ static inline const char *cocklesway_refusal_text(uint64_t number) {
     case 17: return "a reading is not finite";
     case 18: return "a reading is no whole number of millimetres";
     case 19: return "no record of the log has the name";
+    case 20: return "fewer shapes are on the floor, or in the log, than the question compares";
     default: return "this header does not know the number";
     }
 }
@@ -130,6 +131,9 @@ cocklesway_reply cocklesway_part(const int32_t *a, size_t n, uint32_t f, const i
 
 /* Values: the greatest squared distance of two corners, their positions, floor. Refused 1 to 5, 13. */
 cocklesway_reply cocklesway_length(const int32_t *list, size_t n, uint32_t floor);
+
+/* Values: twice the area, floor. Refused 1 to 5, 13. */
+cocklesway_reply cocklesway_area(const int32_t *list, size_t n, uint32_t floor);
 
 /* Where the shape is narrowest. Values: edge, corner, the turn t of the corner against the edge, the edge's squared
  * length q, the width t/sqrt(q) rounded down, floor. Refused 1 to 5, 13, 10. */

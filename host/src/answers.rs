@@ -65,6 +65,25 @@ pub struct Length {
     pub floor: u32,
 }
 
+/// The area of a shape.
+///
+/// ```
+/// use cocklesway::{Shape, area};
+///
+/// let triangle = area(Shape::new(&[[0, 0], [1, 0], [0, 1]], 0))?;
+/// assert_eq!((triangle.twice, triangle.floor), (1, 0));
+/// # Ok::<(), cocklesway::Refusal>(())
+/// ```
+#[derive(Clone, Copy, Debug, PartialEq, Eq, Hash)]
+#[non_exhaustive]
+#[must_use]
+pub struct Area {
+    /// Twice the area, in square millimetres: a whole number, while the area may end in a half.
+    pub twice: u64,
+    /// The floor.
+    pub floor: u32,
+}
+
 /// Where a shape is narrowest: across an edge, to the corner furthest from it. The width is t/√q.
 ///
 /// ```

@@ -56,6 +56,7 @@ unsafe extern "C" {
     fn cocklesway_judge(list: List, n: usize, floor: u32) -> Reply;
     fn cocklesway_furthest(list: List, n: usize, floor: u32, u: i32, v: i32) -> Reply;
     fn cocklesway_length(list: List, n: usize, floor: u32) -> Reply;
+    fn cocklesway_area(list: List, n: usize, floor: u32) -> Reply;
     fn cocklesway_width(list: List, n: usize, floor: u32) -> Reply;
     fn cocklesway_mirror(list: List, n: usize, floor: u32, out: Output, room: usize) -> Reply;
     fn cocklesway_sweep(list: List, n: usize, floor: u32, out: Output, room: usize) -> Reply;
@@ -112,6 +113,10 @@ pub(crate) fn judge(a: Shape<'_>) -> Reply {
 
 pub(crate) fn length(a: Shape<'_>) -> Reply {
     one(cocklesway_length, a)
+}
+
+pub(crate) fn area(a: Shape<'_>) -> Reply {
+    one(cocklesway_area, a)
 }
 
 pub(crate) fn width(a: Shape<'_>) -> Reply {

@@ -24,7 +24,7 @@
 //!
 //! | question | function |
 //! |---|---|
-//! | one shape | [`judge`], [`furthest`], [`mirror`], [`length`], [`width`] |
+//! | one shape | [`judge`], [`furthest`], [`mirror`], [`length`], [`width`], [`area`] |
 //! | two shapes | [`sum`], [`merge`], [`grow`], [`relation`], [`inside`], [`clearance`], [`tangents`] |
 //! | two obstacles and a cart | [`passage`] |
 //! | why they are apart | [`offer`], [`find`] |
@@ -67,13 +67,13 @@ mod tests;
 mod walk;
 
 pub use answers::{
-    Across, Clearance, Corners, Furthest, Inside, Length, Line, Nearest, Offer, Passage, Relation,
-    Separator, Standing, Tangents, Way, Width,
+    Across, Area, Clearance, Corners, Furthest, Inside, Length, Line, Nearest, Offer, Passage,
+    Relation, Separator, Standing, Tangents, Way, Width,
 };
 pub use book::{Addition, Book, log_read};
 pub use limits::{Limits, limits, version};
 pub use questions::{
-    clearance, find, furthest, grow, inside, judge, length, merge, mirror, offer, passage,
+    area, clearance, find, furthest, grow, inside, judge, length, merge, mirror, offer, passage,
     relation, sum, sweep, tangents, width,
 };
 pub use refusal::{Axis, Refusal, Which};

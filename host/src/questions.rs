@@ -2,8 +2,8 @@
 use crate::archive;
 use crate::reply::{coordinate, narrow, position};
 use crate::{
-    Across, Clearance, Corners, Furthest, Inside, Length, Line, Nearest, Offer, Passage, Refusal,
-    Relation, Separator, Shape, Standing, Tangents, Way, Width,
+    Across, Area, Clearance, Corners, Furthest, Inside, Length, Line, Nearest, Offer, Passage,
+    Refusal, Relation, Separator, Shape, Standing, Tangents, Way, Width,
 };
 
 /// Returns how many corners the shape has.
@@ -190,6 +190,29 @@ pub fn length(shape: Shape<'_>) -> Result<Length, Refusal> {
         squared,
         from: position(from),
         to: position(to),
+        floor: narrow(floor),
+    })
+}
+
+/// Returns twice the area: 0 for a point and a segment. A shape that lost a corner has less.
+///
+/// # Errors
+/// Refused: 1 to 5, 13.
+///
+/// ```
+/// use cocklesway::{Shape, area};
+///
+/// let bed = Shape::new(&[[0, 0], [2000, 0], [2000, 900], [0, 900]], 3);
+/// let lost = Shape::new(&[[0, 0], [2000, 0], [0, 900]], 3);
+/// assert_eq!(area(bed)?.twice, 2 * 2000 * 900);
+/// assert!(area(lost)?.twice < area(bed)?.twice);
+/// # Ok::<(), cocklesway::Refusal>(())
+/// ```
+#[inline]
+pub fn area(shape: Shape<'_>) -> Result<Area, Refusal> {
+    let [twice, floor, ..] = archive::area(shape).values()?;
+    Ok(Area {
+        twice,
         floor: narrow(floor),
     })
 }

@@ -89,6 +89,11 @@ pub fn length(given: &Given) -> Answer {
     Ok(format!("{squared} {i} {j} @{floor}"))
 }
 
+pub fn area(given: &Given) -> Answer {
+    let ([a], floor) = given.shapes()?;
+    Ok(format!("{} @{floor}", measure::twice_area(&a)))
+}
+
 pub fn width(given: &Given) -> Answer {
     let ([a], floor) = given.shapes()?;
     let found = measure::width(&a)?;

@@ -31,6 +31,7 @@ pub const TABLE: &[Row] = &[
     Row { word: "grow", fields: &[Shape, Shape, Room], ask: ask::grow, make: make::grow },
     Row { word: "sweep", fields: &[Shape, Room], ask: ask::sweep, make: make::sweep },
     Row { word: "length", fields: &[Shape], ask: ask::length, make: make::one_shape },
+    Row { word: "area", fields: &[Shape], ask: ask::area, make: make::one_shape },
     Row { word: "width", fields: &[Shape], ask: ask::width, make: make::one_shape },
     Row { word: "relation", fields: &[Shape, Shape], ask: ask::relation, make: make::two_shapes },
     Row { word: "inside", fields: &[Shape, Shape], ask: ask::inside, make: make::two_shapes },

@@ -4,7 +4,7 @@ use std::cmp::Ordering;
 
 /// What must have been compared at least once: of each question answers by their first values, and
 /// refusals.
-pub const KINDS: [(&str, &str); 25] = [
+pub const KINDS: [(&str, &str); 26] = [
     ("judge", "ok; no 1; no 2; no 3; no 4; no 5; no 13"),
     (
         "furthest",
@@ -13,6 +13,7 @@ pub const KINDS: [(&str, &str); 25] = [
     ("mirror", "ok; no 4; no 8; no 13"),
     ("length", "ok; no 4; no 13"),
     ("width", "ok; no 4; no 10; no 13"),
+    ("area", "ok; no 4; no 13"),
     ("sum", "ok; no 4; no 6; no 7; no 8; no 13"),
     ("begin", "ok; no 4; no 6; no 7; no 13"),
     ("part", "ok; ok, over; no 4; no 6; no 7; no 8; no 13; no 14"),

@@ -5,8 +5,8 @@ use super::{Lent, on};
 use crate::plain;
 use crate::reply::Numbers;
 use cocklesway::{
-    Walk, clearance, find, furthest, inside, judge, length, offer, passage, relation, tangents,
-    width,
+    Walk, area, clearance, find, furthest, inside, judge, length, offer, passage, relation,
+    tangents, width,
 };
 
 /// A question of two shapes.
@@ -56,6 +56,7 @@ pub fn ask_one(tally: &mut Tally, lent: Lent) -> Result<(), String> {
         plain::length(a, f),
         Numbers::of(length(shape)),
     )?;
+    tally.add("area", lent, plain::area(a, f), Numbers::of(area(shape)))?;
     tally.add("width", lent, plain::width(a, f), Numbers::of(width(shape)))
 }
 

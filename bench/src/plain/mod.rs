@@ -1,5 +1,6 @@
 //! The questions of documents 01 and 02, written plainly and for speed: what the proved ones are
 //! measured against. Each judges its lists first, and compares the floors of two.
+mod area;
 mod blame;
 mod bytes;
 mod calipers;
@@ -29,6 +30,7 @@ mod tangents;
 mod walk;
 mod width;
 
+pub use area::area;
 pub use bytes::{judge_bytes, merge_bytes, relation_bytes, sum_bytes};
 pub use clearance::clearance;
 pub use furthest::furthest;

@@ -1,8 +1,8 @@
 //! What the package answers, as numbers.
 use super::{MOST_VALUES, Numbers};
 use cocklesway::{
-    Across, Addition, Clearance, Corners, Furthest, Inside, Length, Nearest, Offer, Part, Passage,
-    Refusal, Separator, Shape, Standing, Tangents, Walk, Width,
+    Across, Addition, Area, Clearance, Corners, Furthest, Inside, Length, Nearest, Offer, Part,
+    Passage, Refusal, Separator, Shape, Standing, Tangents, Walk, Width,
 };
 
 impl From<Refusal> for Numbers {
@@ -47,6 +47,12 @@ impl From<Furthest> for Numbers {
 impl From<Length> for Numbers {
     fn from(r: Length) -> Numbers {
         Numbers::all([r.squared, r.from as u64, r.to as u64, r.floor.into()])
+    }
+}
+
+impl From<Area> for Numbers {
+    fn from(r: Area) -> Numbers {
+        Numbers::all([r.twice, r.floor.into()])
     }
 }
 

@@ -6,13 +6,14 @@
 --                         another floor is no longer here
 --     tooFewRow n rs      20, ours: there are fewer than n shapes
 --     askEntry b k out    the current shape at position k: its name with its corners and floor; refused 15, 20 and 8
+--     withName n r        the reply r of a reading, with the name after the count of corners
 use mathlib.Core.Bool.{Bool, not, cond, _&&_}
 use mathlib.Core.List.{List, [], _∷_}
 use Prim.Native.Nat.{ℕ, _+_}
 use lib.Dec.{eqb, ltb}
 use lib.ListN.{length, getD}
 use lib.IntN.{ℤ, pos}
-use Rattle.plane.specs.Reply.{Row, row}
+use Rattle.plane.specs.Reply.{Reply, answered, refused, Row, row}
 use Rattle.plane.specs.Output.{roomRow}
 use Rattle.plane.specs.Floor.{corners, noShape}
 use Rattle.plane.specs.Question.{Question}
@@ -52,3 +53,9 @@ askEntry b k out =
       shape = shape;
       lent = out;
     }
+
+-- for what it means: `entry-is-read` of `Meaning.antt`
+abbrev pub withName : ℕ → Reply → Reply
+withName n (answered []) = answered []
+withName n (answered (v ∷ vs)) = answered (v ∷ pos n ∷ vs)
+withName n (refused m c) = refused m c

@@ -4,6 +4,7 @@
 --     Reading                 reading, by the records alone
 --     Parts, Stores           what stands behind the records after each store of an addition
 --     Added, History          one addition; any history of them
+--     Current                 the current records, by position and after an addition
 -- Then what the code's loops stand on:
 --     Judging                 the numbers of a record are a shape or not
 --     Survey                  a pass that judges records
@@ -18,6 +19,7 @@ pub mod Parts
 pub mod Stores
 pub mod Added
 pub mod History
+pub mod Current
 pub mod Judging
 pub mod Survey
 pub mod Stepping

@@ -107,6 +107,7 @@ fn told(
         Question::Grow => reply::of_answer(questions::grow(a, f, b, g, out)),
         Question::Sweep => reply::of_answer(questions::sweep(a, f, out)),
         Question::Length => reply::of_length(questions::length(a, f)),
+        Question::Area => reply::of_area(questions::area(a, f)),
         Question::Width => reply::of_width(questions::width(a, f)),
         Question::Relation => reply::of_relation(questions::relation(a, f, b, g)),
         Question::Inside => reply::of_inside(questions::inside(a, f, b, g)),

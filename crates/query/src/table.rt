@@ -14,6 +14,7 @@ pub enum Question {
     Grow,
     Sweep,
     Length,
+    Area,
     Width,
     Relation,
     Inside,
@@ -78,6 +79,7 @@ fn on_one(mut found: Entry, word: &[u8]) -> Entry {
     found = row(found, word, b"furthest", Question::Furthest, AIMED);
     found = row(found, word, b"mirror", Question::Mirror, WRITTEN);
     found = row(found, word, b"length", Question::Length, ONE);
+    found = row(found, word, b"area", Question::Area, ONE);
     row(found, word, b"width", Question::Width, ONE)
 }
 

@@ -17,6 +17,8 @@ use Rattle.questions.specs.declared.answer.Furthest.{Furthest}
 use Rattle.questions.specs.declared.answer.Furthest.the-variants as Furthest
 use Rattle.questions.specs.declared.answer.Length.{Length}
 use Rattle.questions.specs.declared.answer.Length.the-variants as Length
+use Rattle.questions.specs.declared.answer.Area.{Area}
+use Rattle.questions.specs.declared.answer.Area.the-variants as Area
 use Rattle.questions.specs.declared.answer.Width.{Width}
 use Rattle.questions.specs.declared.answer.Width.the-variants as Width
 use Rattle.questions.specs.declared.answer.Relation.{Relation}
@@ -29,6 +31,10 @@ use Rattle.questions.specs.declared.answer.Separator.{Separator}
 use Rattle.questions.specs.declared.answer.Separator.the-variants as Separator
 use Rattle.questions.specs.declared.answer.Clearance.{Clearance}
 use Rattle.questions.specs.declared.answer.Clearance.the-variants as Clearance
+use Rattle.questions.specs.declared.answer.Nearest.{Nearest}
+use Rattle.questions.specs.declared.answer.Nearest.the-variants as Nearest
+use Rattle.questions.specs.declared.answer.Excess.{Excess}
+use Rattle.questions.specs.declared.answer.Excess.the-variants as Excess
 use Rattle.questions.specs.declared.answer.Passage.{Passage}
 use Rattle.questions.specs.declared.answer.Passage.the-variants as Passage
 use Rattle.questions.specs.declared.answer.Line.{Line}
@@ -57,6 +63,10 @@ ofFurthest (Furthest.No r) = ofRefusal r
 abbrev pub ofLength : Length → Reply
 ofLength (Length.Between squared from to floor) = answered (pos squared ∷ pos from ∷ pos to ∷ pos floor ∷ [])
 ofLength (Length.No r) = ofRefusal r
+
+abbrev pub ofArea : Area → Reply
+ofArea (Area.Twice twice floor) = answered (pos twice ∷ pos floor ∷ [])
+ofArea (Area.No r) = ofRefusal r
 
 abbrev pub ofWidth : Width → Reply
 ofWidth (Width.Across edge corner turn squared rounded floor) =
@@ -93,6 +103,23 @@ ofClearance (Clearance.Corners i j d w floor) = answered (pos 1 ∷ pos i ∷ po
 ofClearance (Clearance.CornerEdge c e t q w floor) = answered (pos 2 ∷ pos c ∷ pos e ∷ pos t ∷ pos q ∷ pos w ∷ pos floor ∷ [])
 ofClearance (Clearance.EdgeCorner c e t q w floor) = answered (pos 3 ∷ pos c ∷ pos e ∷ pos t ∷ pos q ∷ pos w ∷ pos floor ∷ [])
 ofClearance (Clearance.No r) = ofRefusal r
+
+-- the name, then what `ofClearance` answers
+abbrev pub ofNearest : Nearest → Reply
+ofNearest (Nearest.Meets n floor) = answered (pos n ∷ pos 0 ∷ pos floor ∷ [])
+ofNearest (Nearest.Corners n i j d w floor) = answered (pos n ∷ pos 1 ∷ pos i ∷ pos j ∷ pos d ∷ pos w ∷ pos floor ∷ [])
+ofNearest (Nearest.CornerEdge n c e t q w floor) =
+    answered (pos n ∷ pos 2 ∷ pos c ∷ pos e ∷ pos t ∷ pos q ∷ pos w ∷ pos floor ∷ [])
+ofNearest (Nearest.EdgeCorner n c e t q w floor) =
+    answered (pos n ∷ pos 3 ∷ pos c ∷ pos e ∷ pos t ∷ pos q ∷ pos w ∷ pos floor ∷ [])
+ofNearest (Nearest.No r) = ofRefusal r
+
+-- 0 inside, 1 two corners, 2 a corner of the new shape and an edge of the old one
+abbrev pub ofExcess : Excess → Reply
+ofExcess (Excess.Inside floor) = answered (pos 0 ∷ pos floor ∷ [])
+ofExcess (Excess.Corners c j d u floor) = answered (pos 1 ∷ pos c ∷ pos j ∷ pos d ∷ pos u ∷ pos floor ∷ [])
+ofExcess (Excess.Edge c e t q u floor) = answered (pos 2 ∷ pos c ∷ pos e ∷ pos t ∷ pos q ∷ pos u ∷ pos floor ∷ [])
+ofExcess (Excess.No r) = ofRefusal r
 
 -- 0 blocked; or 1, the direction, the two lines and the width
 abbrev pub ofPassage : Passage → Reply

@@ -4,4 +4,5 @@ pub mod Measures
 pub mod Lines
 pub mod Readings
 pub mod Logs
+pub mod Books
 pub mod Parts

@@ -42,6 +42,12 @@ pub enum Length {
     No(Refusal),
 }
 
+// Twice the area.
+pub enum Area {
+    Twice { twice: u64, floor: u16 },
+    No(Refusal),
+}
+
 // The edge that the shape is narrowest across, the corner furthest from it, the turn of that corner against the edge,
 // the edge's squared length, and the width rounded down.
 pub enum Width {
@@ -106,6 +112,66 @@ pub enum Clearance {
         floor: u16,
     },
     EdgeCorner {
+        corner: usize,
+        edge: usize,
+        turn: u64,
+        squared: u64,
+        rounded: u64,
+        floor: u16,
+    },
+    No(Refusal),
+}
+
+// Inside; or the corner of the new shape that is furthest from the old one, where the old one is nearest to it, and the
+// distance in millimetres rounded up: a corner, with the squared distance; or an edge, with the size of the corner's
+// turn against it and the edge's squared length.
+pub enum Excess {
+    Inside {
+        floor: u16,
+    },
+    Corners {
+        corner: usize,
+        other: usize,
+        squared: u64,
+        up: u64,
+        floor: u16,
+    },
+    Edge {
+        corner: usize,
+        edge: usize,
+        turn: u64,
+        squared: u64,
+        up: u64,
+        floor: u16,
+    },
+    No(Refusal),
+}
+
+// The name of the nearest shape of a floor, and what `Clearance` says of the asked shape and that one.
+pub enum Nearest {
+    Meets {
+        name: u16,
+        floor: u16,
+    },
+    Corners {
+        name: u16,
+        first: usize,
+        second: usize,
+        squared: u64,
+        rounded: u64,
+        floor: u16,
+    },
+    CornerEdge {
+        name: u16,
+        corner: usize,
+        edge: usize,
+        turn: u64,
+        squared: u64,
+        rounded: u64,
+        floor: u16,
+    },
+    EdgeCorner {
+        name: u16,
         corner: usize,
         edge: usize,
         turn: u64,

@@ -3,6 +3,8 @@
 // floor, and every answer on shapes carries it: of two shapes, a on floor f and b on floor g, both have the same, or
 // are refused 13 after 1 to 5 of the first and of the second.
 pub mod answer;
+pub mod books;
+mod changes;
 mod coordinate;
 mod merging;
 pub mod separators;
@@ -35,11 +37,13 @@ ghost use Rattle.journal.specs.Format.{records};
 ghost use Rattle.journal.specs.Reading.{damaged, askRead};
 ghost use Rattle.journal.specs.Adding.{added, end as Adding·end};
 ghost use Rattle.questions.specs.Answer.{ofRelation, ofInside, ofClearance, ofTangents, ofTablet, ofAddition};
-ghost use Rattle.questions.specs.Answer.{ofPassage};
+ghost use Rattle.area.specs.Area.{askArea};
+ghost use Rattle.questions.specs.Answer.{ofArea, ofPassage};
 use admission::Admission;
 use admission::deliver;
 use answer::Addition;
 use answer::Answer;
+use answer::Area;
 use answer::Clearance;
 use answer::Furthest;
 use answer::Inside;
@@ -53,6 +57,7 @@ use answer::Tablet;
 use answer::Tangents;
 use answer::Width;
 use calipers::size;
+pub use changes::excess;
 use clearance::measured::Distance;
 use coordinate::Coordinate;
 use journal::latest::Found;
@@ -136,8 +141,8 @@ pub fn mirror(list: &[i32], floor: u16, out: &mut [i32]) -> Answer
 // Edges of equal direction make one step, so no three corners of the answer are in line. Refused, with the output as it
 // was: 1 to 5 of the first shape, then of the second; different floors; then an answer of too many corners, one out of
 // range, and too small an output. On success all after the written numbers is kept.
-// Ruled out: parallel corners kept; segment passed once; origin for every sum; second shape judged first; sum written
-// in too small an output; far sum written; too large a sum written.
+// Ruled out: parallel corners kept; segment passed once; origin for every sum; second shape judged first; far sum
+// written; too large a sum written.
 pub fn sum(a: &[i32], f: u16, b: &[i32], g: u16, out: &mut [i32]) -> Answer
     ensures { λ r. ⌜
         (ofAnswer r ≡ reply (askSum (on (now (a .entry)) f) (on (now (b .entry)) g) (now (out .entry))))
@@ -233,6 +238,20 @@ pub fn length(list: &[i32], floor: u16) -> Length
         squared: found.squared,
         from: found.from,
         to: found.to,
+        floor,
+    }
+}
+
+// Returns twice the area, which is a whole number: 0 for a point and a segment. Refused: 1 to 5.
+// Ruled out: first edge left out; outline not closed.
+pub fn area(list: &[i32], floor: u16) -> Area
+    ensures { λ r. ⌜ ofArea r ≡ reply (askArea (on (now (list .entry)) floor)) ⌝ }
+{
+    if let Admission::No(refusal) = admission::admit(list, 1) {
+        return Area::No(refusal);
+    }
+    Area::Twice {
+        twice: area::twice_area(list),
         floor,
     }
 }
@@ -378,7 +397,6 @@ fn measured(found: Distance, floor: u16) -> Clearance
 // of the three may be a point or a segment. Refused: 1 to 5 of the left obstacle, of the right one, of the cart;
 // different floors; then, of the left obstacle grown by the cart and then of the right one, too many corners and a
 // corner out of range.
-// Ruled out: right obstacle not judged when grown; obstacles exchanged.
 pub fn passage(left: &[i32], f: u16, right: &[i32], g: u16, cart: &[i32], h: u16) -> Passage
     ensures { λ r. ⌜ ofPassage r ≡ reply
         (askPassage (on (now (left .entry)) f) (on (now (right .entry)) g) (on (now (cart .entry)) h)) ⌝ }

@@ -6,10 +6,11 @@ pub mod refusals;
 ghost use mathlib.Core.Path.{_≡_};
 ghost use Rattle.questions.specs.Answer.{ofAnswer, ofBegun, ofPart, ofFurthest, ofLength};
 ghost use Rattle.questions.specs.Answer.{ofWidth, ofRelation, ofInside, ofOffer, ofSeparator, ofClearance, ofTangents};
-ghost use Rattle.questions.specs.Answer.{ofPassage, ofTablet, ofAddition};
+ghost use Rattle.questions.specs.Answer.{ofArea, ofPassage, ofTablet, ofAddition};
 ghost use Rattle.reply.specs.Told.{crossed, numbers};
 use questions::answer::Addition;
 use questions::answer::Answer;
+use questions::answer::Area;
 use questions::answer::Begun;
 use questions::answer::Clearance;
 use questions::answer::Furthest;
@@ -112,6 +113,16 @@ pub fn of_length(answer: Length) -> Reply
     }
 }
 
+// Returns twice the area.
+pub fn of_area(answer: Area) -> Reply
+    ensures { λ r. ⌜ numbers r ≡ crossed (ofArea answer) ⌝ }
+{
+    match answer {
+        Area::Twice { twice, floor } => numbers::answered2(twice, floor as u64),
+        Area::No(refusal) => refusals::of_refusal(refusal),
+    }
+}
+
 // Returns edge, corner, turn, squared edge and rounded width.
 pub fn of_width(answer: Width) -> Reply
     ensures { λ r. ⌜ numbers r ≡ crossed (ofWidth answer) ⌝ }
@@ -170,7 +181,6 @@ pub fn of_offer(answer: Offer) -> Reply
 }
 
 // Returns 1 and a direction, whose parts may be below 0; or 0 if there is none.
-// Ruled out: parts of a direction exchanged.
 pub fn of_separator(answer: Separator) -> Reply
     ensures { λ r. ⌜ numbers r ≡ crossed (ofSeparator answer) ⌝ }
 {

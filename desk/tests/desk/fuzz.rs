@@ -35,6 +35,7 @@ const WORDS: &[&str] = &[
     "shapes",
     "width",
     "length",
+    "area",
     "tangents",
     "offer",
     "find",

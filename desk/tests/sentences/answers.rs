@@ -9,7 +9,7 @@ use second::plane::point;
 pub fn of_answer(case: &Case, answer: &str, said: &str) -> Result<Vec<i128>, String> {
     let words: Vec<&str> = answer.split(' ').collect();
     match case.word.as_str() {
-        "judge" | "furthest" | "length" | "width" => about_one(case, &words, said),
+        "judge" | "furthest" | "length" | "width" | "area" => about_one(case, &words, said),
         "relation" | "inside" | "offer" => Ok(decided(case, words[0], said)?),
         "find" => found_direction(case, words[0], said),
         "clearance" => clearance(case, &words, said),
@@ -54,6 +54,7 @@ fn about_one(case: &Case, words: &[&str], said: &str) -> Result<Vec<i128>, Strin
             };
             [towards.clone(), label, corners, towards, value].concat()
         }
+        "area" => [label, vec![number(words[0])]].concat(),
         "length" if number(words[0]) == 0 => [label, vec![0]].concat(),
         "length" => {
             let squared = number(words[0]);

@@ -77,6 +77,7 @@ fn numbers_of_lists_in_the_line() {
         "sweep",
         "length",
         "width",
+        "area",
         "relation",
         "inside",
         "offer",

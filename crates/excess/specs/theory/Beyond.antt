@@ -1,5 +1,6 @@
 -- The distance of a point from a shape.
 --     beyond-whole         what its fraction is divided by is above 0; `beyond-nonneg`: it is not below 0
+--     beyond-positive      it is above 0 if the point is apart from the shape
 --     beyond-none          it is 0 if the point is not apart from the shape; `beyond-apart`: else the nearest candidate's
 --     beyond-least         in no direction is the point further ahead of the shape
 --     Ahead c O            and in some direction it is as far ahead, and ahead at all (`beyond-ahead`)
@@ -84,7 +85,7 @@ module _ (c : Point) (O : List Point) (s : IsShape O) where
       exact = rw (beyond-apart h, ← point-gap n c O) (widest-clearance C O (point-shape c) s h);
     }
 
-    beyond-positive : pos 0 <ℤ beyond c O .numerator
+    pub beyond-positive : pos 0 <ℤ beyond c O .numerator
     beyond-positive =
         let a = beyond-ahead in
         let d = a .direction in

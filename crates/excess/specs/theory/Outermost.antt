@@ -56,7 +56,7 @@ module _ (N O : List Point) where
   unfolding noNearer
   le-noNearer i j h = le-leZ h
 
-  lt-nearer : (i j : ℕ) → (far i .numerator *ℤ far j .denominator) <ℤ (far j .numerator *ℤ far i .denominator)
+  pub lt-nearer : (i j : ℕ) → (far i .numerator *ℤ far j .denominator) <ℤ (far j .numerator *ℤ far i .denominator)
       → noNearer N O i j ≡ false
   unfolding noNearer
   lt-nearer i j h = lt-leZ h

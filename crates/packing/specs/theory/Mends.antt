@@ -1,10 +1,10 @@
 -- The stores that make one run of bytes another, each only where the byte differs.
---     mends-append              a run in two parts
---     mends-few                 as many stores as the run has bytes are enough
+--     mends-empty, mends-append    no bytes; bytes one after the other
+--     mends-few                 as many stores as the run has bytes are enough; `mends-fewer`: as many as the wanted bytes
+--     mends-rest                bytes that come after the wanted ones stay
 --     left-to-mend              what is still to be stored after some of the stores
 --     mends-equal, mends-none   no store is needed exactly if the bytes are the wanted ones
 --     mends-all                 all of them made: the wanted bytes
---     made-length               a store keeps the length
 use mathlib.Core.Path.{_≡_, refl, sym, _∙_, ap, ap₂}
 use mathlib.Core.Bool.{Bool, true, false, cond}
 use mathlib.Core.List.{List, [], _∷_, _++_, append-assoc}
@@ -12,16 +12,13 @@ use Prim.Native.Nat.{ℕ, zero, suc, _+_, _≤_}
 use native.Mathlib.Omega.{arith}
 use borrow.Author.Tests.{eqb-true, eq-eqb}
 use lib.Dec.{eqb}
-use lib.ListN.{length, take, drop, set, length-append, length-drop, length-set}
-use lib.Seq.{append-snoc, set-at, take-nil, drop-nil}
+use lib.ListN.{length, take, drop, length-append, length-drop, take-append-drop}
+use lib.Seq.{append-snoc, set-at, take-nil, drop-nil, drop-at, drop-drop, length-take-le}
 use Rattle.journal.specs.Adding.{Store, store, made}
+use Rattle.journal.specs.theory.Storing.{made-length}
 use Rattle.packing.specs.Packing.{mending, mends}
 
 -- ---- lengths
-
-pub made-length : (ss : List Store) (b : List ℕ) → length (made ss b) ≡ length b
-made-length [] b = refl
-made-length (s ∷ ss) b = made-length ss (set b (s .place) (s .byte)) ∙ length-set b (s .place) (s .byte)
 
 mending-few : (p x y : ℕ) → length (mending p x y) ≤ 1
 mending-few p x y = go (eqb x y)
@@ -36,18 +33,29 @@ mends-few p (x ∷ t) [] = omega arith
 mends-few p (x ∷ t) (y ∷ u) =
     omega (arith, mends-few (1 + p) t u, length-append (mending p x y) (mends (1 + p) t u), mending-few p x y)
 
+pub mends-fewer : (p : ℕ) (t u : List ℕ) → length (mends p t u) ≤ length u
+mends-fewer p [] u = omega arith
+mends-fewer p (x ∷ t) [] = omega arith
+mends-fewer p (x ∷ t) (y ∷ u) =
+    omega (arith, mends-fewer (1 + p) t u, length-append (mending p x y) (mends (1 + p) t u), mending-few p x y)
+
 -- ---- parts
 
-pub mends-append : (p : ℕ) (t u s v : List ℕ) → length t ≡ length u
-    → mends p (t ++ s) (u ++ v) ≡ mends p t u ++ mends (p + length t) s v
-mends-append p [] [] s v e = ap (λ (q : ℕ). mends q s v) (let z : p ≡ p + 0 = omega arith in z)
-mends-append p [] (y ∷ u) s v e = absurd (let z : ⊥ = omega (arith, e) in z)
-mends-append p (x ∷ t) [] s v e = absurd (let z : ⊥ = omega (arith, e) in z)
-mends-append p (x ∷ t) (y ∷ u) s v e =
-    let q : 1 + p + length t ≡ p + suc (length t) = omega arith in
-    ap (λ (ss : List Store). mending p x y ++ ss) (mends-append (1 + p) t u s v (omega (arith, e))
-    ∙ ap (λ (i : ℕ). mends (1 + p) t u ++ mends i s v) q)
-    ∙ sym (append-assoc (mending p x y) (mends (1 + p) t u) (mends (p + suc (length t)) s v))
+pub mends-empty : (p : ℕ) (t : List ℕ) → mends p t [] ≡ []
+mends-empty p [] = refl
+mends-empty p (x ∷ t) = refl
+
+pub mends-append : (p : ℕ) (t u v : List ℕ) → length u ≤ length t
+    → mends p t (u ++ v) ≡ mends p t u ++ mends (p + length u) (drop (length u) t) v
+mends-append p [] [] v h = refl
+mends-append p [] (y ∷ u) v h = absurd (let z : ⊥ = omega (arith, h) in z)
+mends-append p (x ∷ t) [] v h = ap (λ (q : ℕ). mends q (x ∷ t) v) (let e : p ≡ p + 0 = omega arith in e)
+mends-append p (x ∷ t) (y ∷ u) v h =
+    let rest = drop (length u) t in
+    let q : 1 + p + length u ≡ p + suc (length u) = omega arith in
+    ap (λ (ss : List Store). mending p x y ++ ss)
+    (mends-append (1 + p) t u v (omega (arith, h)) ∙ ap (λ (i : ℕ). mends (1 + p) t u ++ mends i rest v) q)
+    ∙ sym (append-assoc (mending p x y) (mends (1 + p) t u) (mends (p + suc (length u)) rest v))
 
 -- ---- some of the stores made
 
@@ -89,6 +97,28 @@ mends-made f (x ∷ t) (y ∷ u) p (suc k) e =
         ap (made (take (suc k) rest)) (sym (append-snoc f x t)) ∙ ih x (suc k) ∙ append-snoc f x (mended t u (suc k))
     go false h ih =
         ap (made (take k rest)) (set-at f x t y p e ∙ sym (append-snoc f y t)) ∙ ih y k ∙ append-snoc f y (mended t u k)
+
+-- what comes after u stays
+mended-rest : (t u : List ℕ) (k : ℕ) → drop (length u) (mended t u k) ≡ drop (length u) t
+mended-rest [] u k = refl
+mended-rest (x ∷ t) [] k = refl
+mended-rest (x ∷ t) (y ∷ u) zero = refl
+mended-rest (x ∷ t) (y ∷ u) (suc k) = go (eqb x y) (mended-rest t u (suc k)) (mended-rest t u k)
+  where
+    go : (c : Bool) → drop (length u) (mended t u (suc k)) ≡ drop (length u) t → drop (length u) (mended t u k) ≡ drop (length u) t
+        → drop (suc (length u)) (cond c (x ∷ mended t u (suc k)) (y ∷ mended t u k)) ≡ drop (length u) t
+    go true more less = more
+    go false more less = less
+
+pub mends-rest : (b : List ℕ) (q : ℕ) (u : List ℕ) (k : ℕ) → q ≤ length b
+    → drop (q + length u) (made (take k (mends q (drop q b) u)) b) ≡ drop (q + length u) b
+mends-rest b q u k h =
+    let f = take q b in
+    let t = drop q b in
+    let count = length-take-le q b h in
+    ap (λ (c : List ℕ). drop (q + length u) (made (take k (mends q t u)) c)) (sym (take-append-drop q b))
+    ∙ ap (drop (q + length u)) (mends-made f t u q k count) ∙ sym (drop-drop (length u) q (f ++ mended t u k))
+    ∙ ap (drop (length u)) (drop-at f (mended t u k) q count) ∙ mended-rest t u k ∙ drop-drop (length u) q b
 
 mends-again : (p : ℕ) (t u : List ℕ) (k : ℕ) → mends p (mended t u k) u ≡ drop k (mends p t u)
 mends-again p [] u k = sym (drop-nil k)

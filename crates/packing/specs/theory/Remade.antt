@@ -5,9 +5,9 @@
 --     remade-again                   two calls are one with both allowances
 --     repeated-once, repeated-log, finished-after       any list of calls is one
 --     finished-latest                what other names have
-use mathlib.Core.Path.{_≡_, refl, sym, _∙_, ap, ap₂, subst}
+use mathlib.Core.Path.{_≡_, refl, sym, _∙_, ap, ap₂}
 use mathlib.Core.Bool.{Bool, true, false, cond, true≢false}
-use mathlib.Core.List.{List, [], _∷_, _++_}
+use mathlib.Core.List.{List, [], _∷_}
 use Prim.Native.Nat.{ℕ, suc, _+_, _-_, _≤_}
 use native.Mathlib.Omega.{arith}
 use borrow.Author.Tests.{ltb-false, leb-true, leb-false, le-leb, lt-leb}
@@ -22,8 +22,9 @@ use Rattle.journal.specs.Reading.{damaged, latest}
 use Rattle.journal.specs.Adding.{Store, made, unlessRefusal, Added}
 use Rattle.journal.specs.History.{isFinished}
 use Rattle.journal.specs.theory.Stores.{made-append, one-byte}
+use Rattle.journal.specs.theory.Storing.{made-length}
 use Rattle.packing.specs.Packing.{packed, wanted, mends, mendsAll, packRows, packReply, remade, repeated, total}
-use Rattle.packing.specs.theory.Mends.{made-length, mends-few, mends-equal, mends-none, mends-all, left-to-mend}
+use Rattle.packing.specs.theory.Mends.{mends-few, mends-equal, mends-all, left-to-mend}
 use Rattle.packing.specs.theory.Packed.{wanted-length, packed-latest}
 
 -- 1 where all stores are made

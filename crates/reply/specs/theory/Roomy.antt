@@ -56,6 +56,7 @@ refusal-room Refusal.NotAPlace = (lit< tt, lit≤ tt)
 refusal-room (Refusal.Damaged p) = (lit< tt, lit≤ tt)
 refusal-room Refusal.Full = (lit< tt, lit≤ tt)
 refusal-room Refusal.NoRecord = (lit< tt, lit≤ tt)
+refusal-room Refusal.TooFew = (lit< tt, lit≤ tt)
 
 pub unread-room : (x : Unread) → Room (ofUnread x)
 unread-room (Unread.NotFinite p) = (lit< tt, lit≤ tt)

@@ -31,6 +31,7 @@ pub const TABLE: &[Row] = &[
     Row { word: "grow", fields: &[List, List, Optional], ask: |f| two_written(f, cocklesway::grow) },
     Row { word: "sweep", fields: &[List, Optional], ask: |f| one_written(f, cocklesway::sweep) },
     Row { word: "length", fields: &[List], ask: length },
+    Row { word: "area", fields: &[List], ask: area },
     Row { word: "width", fields: &[List], ask: width },
     Row { word: "relation", fields: &[List, List], ask: relation },
     Row { word: "inside", fields: &[List, List], ask: inside },
@@ -111,6 +112,11 @@ fn length(mut fields: Fields) -> Answer {
     let answer = cocklesway::length(fields.list().shape())?;
     let (squared, from, to) = (answer.squared, answer.from, answer.to);
     Ok(format!("ok {squared} {from} {to} @{}", answer.floor))
+}
+
+fn area(mut fields: Fields) -> Answer {
+    let answer = cocklesway::area(fields.list().shape())?;
+    Ok(format!("ok {} @{}", answer.twice, answer.floor))
 }
 
 fn width(mut fields: Fields) -> Answer {

@@ -1,0 +1,5 @@
+-- The theory of the nearest shape, which only proves.
+pub mod Least
+pub mod Near
+pub mod Spacings
+pub mod Search
