@@ -95,7 +95,6 @@ fn blamed_pair(a: &[i32], f: u16, b: &[i32], g: u16) -> Admission
 }
 
 // Judges three lists, one after the other, and then whether all are on one floor.
-// Ruled out: third floor not compared; second shape blamed for the third.
 pub fn admit_three(a: &[i32], f: u16, b: &[i32], g: u16, c: &[i32], h: u16) -> Admission
     ensures { λ r. ⌜ Judged
         (SameThree (on (now (a .entry)) f) (on (now (b .entry)) g) (on (now (c .entry)) h))

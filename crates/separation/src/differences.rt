@@ -10,13 +10,13 @@ ghost use Rattle.plane.specs.Corner.{shapeOf};
 ghost use Rattle.plane.specs.Separation.{differences};
 ghost use Rattle.plane.specs.Output.{overwritten};
 ghost use Rattle.polygon.specs.Peak.{Peak};
-ghost use Rattle.calipers.specs.Size.{Reckoned};
+ghost use Rattle.sums.specs.Size.{Reckoned};
 use calipers::image;
 use calipers::side;
-use calipers::size;
 use polygon::corners;
 use polygon::extent;
 use polygon::extent::Extent;
+use sums::size;
 
 // Writes the shape at the front of the output, keeps all after it, and returns how many corners it has.
 pub fn write(a: &[i32], b: &[i32], top: usize, out: &mut [i32]) -> usize
