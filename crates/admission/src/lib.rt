@@ -14,7 +14,6 @@ ghost use Rattle.plane.specs.Floor.{on, pairRows, floorRow, Same};
 ghost use Rattle.admission.specs.Admission.{Judged};
 ghost use Rattle.admission.specs.Three.{threeRows, SameThree};
 use answer::Refusal;
-use polygon::direction;
 use polygon::rules;
 use polygon::rules::Broken;
 

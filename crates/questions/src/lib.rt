@@ -64,7 +64,6 @@ use journal::storing;
 use journal::survey::Surveyed;
 use passage::corridor::Way;
 use polygon::corners;
-use polygon::direction;
 use polygon::limits;
 pub use polygon::limits::SHAPE_NUMBERS;
 use polygon::opposite;

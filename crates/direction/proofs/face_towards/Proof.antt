@@ -16,10 +16,10 @@ use Rattle.plane.specs.Point.{points, corner}
 use Rattle.plane.specs.Direction.{value as Direction·value, support}
 use Rattle.plane.specs.Face.{isFurthest}
 use Rattle.plane.specs.theory.face.FirstFurthest.{furthest-greatest}
 use Rattle.polygon.specs.Point.{at}
-use Rattle.polygon.specs.theory.Face.{face-over-end, face-onward, face-alone}
-use Rattle.polygon.proofs.direction.face_towards.Statement.{statement}
-use Rattle.polygon.proofs.direction.face_towards.Tie as tie
+use Rattle.direction.specs.theory.Face.{face-over-end, face-onward, face-alone}
+use Rattle.direction.proofs.face_towards.Statement.{statement}
+use Rattle.direction.proofs.face_towards.Tie as tie
 
 first-furthest-requires : tie.Need-first-furthest-requires
 first-furthest-requires c κs = let pre = c .pre in (pre .1 .some, pre .0, pre .2)

@@ -7,8 +7,8 @@ use lib.IntN.{natAbs}
 use mir.Facts.{toZ-ofZ}
 use Rattle.divisor.specs.Divisor.{gcd}
 use Rattle.plane.specs.Furthest.{commonDivisor}
-use Rattle.polygon.proofs.direction.common_divisor.Statement.{statement}
-use Rattle.polygon.proofs.direction.common_divisor.Tie as tie
+use Rattle.direction.proofs.common_divisor.Statement.{statement}
+use Rattle.direction.proofs.common_divisor.Tie as tie
 
 magnitude-requires : tie.Need-magnitude-requires
 magnitude-requires c κs = search needs

@@ -8,8 +8,8 @@ use lib.Dec.{eqb}
 use lib.IntN.{ℤ, pos, negsuc, natAbs}
 use mir.Syntax.{w32}
 use mir.Val.{SFits, ofZ}
-use Rattle.polygon.proofs.direction.zero.Statement.{statement}
-use Rattle.polygon.proofs.direction.zero.Tie as tie
+use Rattle.direction.proofs.zero.Statement.{statement}
+use Rattle.direction.proofs.zero.Tie as tie
 
 bits : (z : ℤ) → SFits w32 z → eqb (ofZ w32 z) 0 ≡ eqb (natAbs z) 0
 bits (pos n) f = refl

@@ -5,8 +5,8 @@ use lib.Signed.{leZ}
 use mir.Syntax.{w64}
 use mir.Facts.{toZ-ofZ}
 use Rattle.integer.specs.Machine.{result-is}
-use Rattle.polygon.proofs.direction.reaches.Statement.{statement}
-use Rattle.polygon.proofs.direction.reaches.Tie as tie
+use Rattle.direction.proofs.reaches.Statement.{statement}
+use Rattle.direction.proofs.reaches.Tie as tie
 
 value-at-requires : tie.Need-value-at-requires
 value-at-requires c κs = search needs

@@ -3,8 +3,8 @@ use borrow.Author.Needs.{needs}
 use mir.Syntax.{w32}
 use mir.Facts.{toZ-ofZ}
 use Rattle.integer.specs.Size.{Below, below-zero, from-zero}
-use Rattle.polygon.proofs.direction.magnitude.Statement.{statement}
-use Rattle.polygon.proofs.direction.magnitude.Tie as tie
+use Rattle.direction.proofs.magnitude.Statement.{statement}
+use Rattle.direction.proofs.magnitude.Tie as tie
 
 below : (c : tie.Then1) → Below w32 (c .before .args .z)
 below c = let f = c .before .fits .z in below-zero _ tt f (rw (toZ-ofZ f) at (c .if1 .taken))

@@ -12,11 +12,11 @@ use Rattle.integer.specs.Machine.{result-is}
 use Rattle.integer.specs.Order.{ltZ-true, ltZ-false}
 use Rattle.plane.specs.Point.{points, corner}
 use Rattle.plane.specs.Direction.{value as Direction·value}
 use Rattle.polygon.specs.Point.{at}
 use Rattle.plane.specs.theory.face.FirstFurthest.{Greatest}
-use Rattle.polygon.specs.theory.Furthest.{greatest-start, greatest-keep, greatest-rise, greatest-furthest}
-use Rattle.polygon.proofs.direction.first_furthest.Statement.{statement}
-use Rattle.polygon.proofs.direction.first_furthest.Tie as tie
+use Rattle.direction.specs.theory.Furthest.{greatest-start, greatest-keep, greatest-rise, greatest-furthest}
+use Rattle.direction.proofs.first_furthest.Statement.{statement}
+use Rattle.direction.proofs.first_furthest.Tie as tie
 
 abbrev Inv-loop : tie.InvT-loop
 Inv-loop list d n position₀ value₀ i₀ position value i =

@@ -13,11 +13,11 @@ ghost use Rattle.plane.specs.Refusal.{InRange};
 ghost use Rattle.plane.specs.Direction.{value, support, furthest};
 ghost use Rattle.plane.specs.Face.{faceFirst, faceLast};
 ghost use Rattle.plane.specs.Furthest.{badDirection, commonDivisor};
 ghost use Rattle.polygon.specs.Point.{at, Small};
-use crate::corners;
-use crate::limits;
-use crate::point;
-use crate::point::Point;
+use polygon::corners;
+use polygon::limits;
+use polygon::point;
+use polygon::point::Point;
 
 // Refusal 11: direction (0, 0), or a part of it out of range.
 // Ruled out: upright direction refused.
@@ -68,7 +68,7 @@ pub struct Face {
 
 // The face of a shape in a direction other than (0, 0). Over the end of the list it begins with the last corner; of a
 // segment across the direction it is always 0 and 1.
-// Ruled out: first and last exchanged; segment taken over the end; smallest position over the end.
+// Ruled out: segment taken over the end; smallest position over the end.
 pub fn face_towards(list: &[i32], d: Point) -> Face
     requires { ⌜ InRange (now list) × IsShape (points (now list)) × Small (2 ^ 22) (at d) × NonZero (at d) ⌝ }
     ensures { λ r. ⌜ r .first ≡ faceFirst (at d) (points (now (list .entry))) ⌝ }

@@ -6,8 +6,8 @@ use lib.IntN.{ℤ, natAbs}
 use mir.Facts.{toZ-ofZ}
 use Rattle.plane.specs.Limits.{maxPart}
 use Rattle.plane.specs.Furthest.{badDirection}
-use Rattle.polygon.proofs.direction.bad_direction.Statement.{statement}
-use Rattle.polygon.proofs.direction.bad_direction.Tie as tie
+use Rattle.direction.proofs.bad_direction.Statement.{statement}
+use Rattle.direction.proofs.bad_direction.Tie as tie
 
 -- the two tests, each where it is known, said of the parts themselves
 zero-is : (c : tie.After-zero) → c .zero .result ≡ (eqb (natAbs (c .before .args .u)) 0 && eqb (natAbs (c .before .args .v)) 0)

@@ -11,11 +11,11 @@ use Rattle.integer.specs.Machine.{result-is}
 use Rattle.integer.specs.Order.{ltZ-true, ltZ-false}
 use Rattle.plane.specs.Point.{points, corner}
 use Rattle.plane.specs.Direction.{value as Direction·value}
 use Rattle.polygon.specs.Point.{at}
 use Rattle.plane.specs.theory.face.FirstFurthest.{Greatest}
-use Rattle.polygon.specs.theory.Furthest.{greatest-start, greatest-keep, greatest-rise, greatest-support}
-use Rattle.polygon.proofs.direction.reach.Statement.{statement}
-use Rattle.polygon.proofs.direction.reach.Tie as tie
+use Rattle.direction.specs.theory.Furthest.{greatest-start, greatest-keep, greatest-rise, greatest-support}
+use Rattle.direction.proofs.reach.Statement.{statement}
+use Rattle.direction.proofs.reach.Tie as tie
 
 abbrev Inv-loop : tie.InvT-loop
 Inv-loop list d n greatest₀ i₀ greatest i =

@@ -4,10 +4,10 @@ use borrow.Author.Needs.{needs}
 use mir.Syntax.{w64}
 use Rattle.integer.specs.Machine.{result-is}
 use Rattle.plane.specs.Direction.{value}
 use Rattle.polygon.specs.Point.{at}
 use Rattle.polygon.specs.theory.Small.{small-corner, small-wide}
-use Rattle.polygon.proofs.direction.value_at.Statement.{statement}
-use Rattle.polygon.proofs.direction.value_at.Tie as tie
+use Rattle.direction.proofs.value_at.Statement.{statement}
+use Rattle.direction.proofs.value_at.Tie as tie
 
 corner-at-requires : tie.Need-corner-at-requires
 corner-at-requires c κs = search needs
