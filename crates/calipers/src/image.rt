@@ -20,7 +20,7 @@ use polygon::point;
 use polygon::point::Point;
 
 // The side of the image with i edges passed. The peak of the shape is at position top.
-// Ruled out: image begun at the first corner; image stuck at the first corner.
+// Ruled out: image begun at the first corner.
 pub fn side_at(list: &[i32], top: usize, i: usize) -> Side
     requires { ⌜ Valid (now list) × Peak (points (now list)) top
         × (i ≤ length (Forms·edges (points (image (now list))))) ⌝ }

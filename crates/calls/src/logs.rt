@@ -32,7 +32,7 @@ pub extern "C" fn cocklesway_log_entry(log: &[u8], k: usize, out: &mut [i32]) ->
 
 // Adds the shape to the log with at most as many stores as are allowed. Answers 1 if it finished, 0 if it was cut.
 // A floor above its limit is refused 13 after the list and before the log, with nothing stored.
-// Ruled out: floor above the limit stored; name and floor exchanged.
+// Ruled out: name and floor exchanged.
 #[no_mangle]
 pub extern "C" fn cocklesway_log_add(
     log: &mut [u8],

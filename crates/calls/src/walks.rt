@@ -2,8 +2,8 @@
 ghost use mathlib.Core.Path.{_≡_};
 ghost use Rattle.plane.specs.Floor.{on};
 ghost use Rattle.plane.specs.Question.{reply, output};
-ghost use Rattle.calipers.specs.Advance.{state};
-ghost use Rattle.calipers.specs.Part.{askBegin, askPart};
+ghost use Rattle.sums.specs.Advance.{state};
+ghost use Rattle.sums.specs.Part.{askBegin, askPart};
 ghost use Rattle.reply.specs.Told.{crossed, numbers};
 ghost use Rattle.crossing.specs.LowFloor.{lowFloor};
 use crossing::floors;

@@ -13,7 +13,6 @@ ghost use Rattle.contact.specs.Share.{fraction, Places};
 use crate::share;
 use crate::share::Share;
 use polygon::corners;
-use polygon::direction;
 use polygon::point;
 use polygon::point::Point;
 use polygon::rules;

@@ -58,7 +58,6 @@ use answer::Sent;
 use answer::Tablet;
 use answer::Tangents;
 use answer::Width;
-use calipers::size;
 pub use changes::excess;
 use clearance::measured::Distance;
 use coordinate::Coordinate;
@@ -67,13 +66,13 @@ use journal::storing;
 use journal::survey::Surveyed;
 use passage::corridor::Way;
 use polygon::corners;
-use polygon::direction;
 use polygon::limits;
 pub use polygon::limits::SHAPE_NUMBERS;
 use polygon::opposite;
 use polygon::peak;
 use polygon::point::Point;
 use separation::differences;
+use sums::size;
 pub use tablet::reading::Reading;
 
 // Whether the list is a shape, and how many corners it has. A point and a segment are shapes. Refused: an empty or odd
@@ -98,8 +97,8 @@ pub fn judge(list: &[i32], floor: u16) -> Answer
 // point always is, it is given twice; the last and the first of the list are given in this order; of a segment that
 // lies across the direction 0 and 1. Refused: 1 to 5, then the direction (0, 0) and one with a part out of range, then
 // one whose parts have a common divisor above 1: of directions that point the same way one is answered.
-// Ruled out: first and last exchanged; segment taken over the end; smallest position over the end; last position on a
-// tie; upright direction refused; eleven and twelve exchanged.
+// Ruled out: segment taken over the end; smallest position over the end; last position on a tie; upright direction
+// refused; eleven and twelve exchanged.
 pub fn furthest(list: &[i32], floor: u16, u: i32, v: i32) -> Furthest
     ensures { λ r. ⌜ ofFurthest r ≡ reply (askFurthest (on (now (list .entry)) floor) (point u v)) ⌝ }
 {
@@ -158,7 +157,7 @@ pub fn sum(a: &[i32], f: u16, b: &[i32], g: u16, out: &mut [i32]) -> Answer
         return Answer::No(refusal);
     }
     Answer::Corners {
-        count: calipers::sum(a, b, out),
+        count: sums::sum(a, b, out),
         floor: f,
     }
 }
@@ -167,7 +166,7 @@ pub fn sum(a: &[i32], f: u16, b: &[i32], g: u16, out: &mut [i32]) -> Answer
 // The shapes may overlap, lie one in the other, share corners or edges. Refused, with the output as it was: 1 to 5 of
 // the first shape, then of the second; different floors; then an answer of too many corners, and too small an output.
 // No corner of the answer is out of range, since each is a corner of one of the two.
-// Ruled out: points in line kept; second shape forgotten; count one more; output written on thirteen.
+// Ruled out: points in line kept; second shape forgotten; output written on thirteen.
 pub fn merge(a: &[i32], f: u16, b: &[i32], g: u16, out: &mut [i32]) -> Answer
     ensures { λ r. ⌜
         (ofAnswer r ≡ reply (askMerge (on (now (a .entry)) f) (on (now (b .entry)) g) (now (out .entry))))
@@ -488,7 +487,7 @@ fn line(a: &[i32], b: &[i32], near: Line, s: bool, t: bool) -> Line
 // numbers that they hold exactly, from which a shape may be listed. Minus zero is 0 and goes back as plus zero. Nothing
 // is rounded. Refused, with the part that it was: x, then y, each if it is not finite, then if it is not whole, then if
 // it is out of range.
-// Ruled out: y judged first; x blamed for y; whole after range; minus zero sent back; scaled before the test.
+// Ruled out: y judged first; whole after range; minus zero sent back; scaled before the test.
 pub fn tablet(x: Reading, y: Reading) -> Tablet
     ensures { λ r. ⌜ ofTablet r ≡ tabletSent x y ⌝ }
 {

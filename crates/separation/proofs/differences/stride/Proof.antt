@@ -8,14 +8,14 @@ use Rattle.integer.specs.Machine.{result-is}
 use Rattle.plane.specs.Point.{points}
 use Rattle.plane.specs.theory.lists.Flat.{points-length}
 use Rattle.plane.specs.theory.sum.Positions.{edges-at-most}
-use Rattle.calipers.specs.Advance.{nextCorners}
+use Rattle.sums.specs.Advance.{nextCorners}
 use Rattle.calipers.specs.Image.{image}
 use Rattle.calipers.specs.Walk.{begun}
 use Rattle.calipers.specs.theory.Carry.{first-next, corners-fit, edges-fit}
 use Rattle.calipers.specs.theory.Image.{image-count, image-edges}
-use Rattle.calipers.specs.theory.Summed.{next-few}
-use Rattle.calipers.proofs.Walked.{walked-at, walked-below, walked-inside}
-use Rattle.calipers.proofs.Progress.{Progress, progress-start, progress-part, progress-room, progress-length, progress-more}
+use Rattle.sums.specs.theory.Summed.{next-few}
+use Rattle.sums.proofs.Walked.{walked-at, walked-below, walked-inside}
+use Rattle.sums.proofs.Progress.{Progress, progress-start, progress-part, progress-room, progress-length, progress-more}
 use Rattle.separation.specs.Differences.{enough}
 use Rattle.separation.specs.theory.Image.{image-begun}
 use Rattle.separation.proofs.differences.stride.Statement.{statement}

@@ -13,15 +13,15 @@ use Rattle.plane.specs.Point.{Point, points, numbers}
 use Rattle.plane.specs.Forms.{edges}
 use Rattle.plane.specs.theory.lists.Flat.{points-length}
 use Rattle.plane.specs.theory.sum.Positions.{edges-at-most}
-use Rattle.calipers.specs.Advance.{nextCorners}
+use Rattle.sums.specs.Advance.{nextCorners}
 use Rattle.calipers.specs.Image.{image}
 use Rattle.calipers.specs.Walk.{begun}
 use Rattle.calipers.specs.theory.Carry.{first-next, corners-fit, edges-fit}
 use Rattle.calipers.specs.theory.Image.{image-count}
-use Rattle.calipers.specs.theory.Summed.{next-few}
+use Rattle.sums.specs.theory.Summed.{next-few}
 use Rattle.plane.specs.Output.{overwritten}
-use Rattle.calipers.proofs.Walked.{walked-start, walked-at, walked-below, walked-more, walked-over}
-use Rattle.calipers.proofs.Progress.{Progress, part-progress, progress-room, progress-kept, progress-more, progress-done}
+use Rattle.sums.proofs.Walked.{walked-start, walked-at, walked-below, walked-more, walked-over}
+use Rattle.sums.proofs.Progress.{Progress, part-progress, progress-room, progress-kept, progress-more, progress-done}
 use Rattle.separation.specs.Differences.{enough}
 use Rattle.separation.specs.theory.Image.{image-begun, image-all}
 use Rattle.separation.proofs.differences.write.Statement.{statement}
