@@ -18,10 +18,10 @@ ghost use Rattle.separation.specs.Differences.{enough};
 use calipers::image;
 use calipers::side;
 use calipers::side::Side;
-use sums::size;
 use polygon::corners;
 use polygon::extent;
 use polygon::extent::Extent;
+use sums::size;
 use sums::size;
 
 // Writes the shape at the front of the output, keeps all after it, and returns how many corners it has.
