@@ -27,6 +27,10 @@ use Rattle.questions.specs.declared.answer.Tangents.{Tangents}
 use Rattle.questions.specs.declared.answer.Tablet.{Tablet}
 use Rattle.questions.specs.declared.answer.Addition.{Addition}
 use Rattle.questions.specs.declared.answer.Entry.{Entry}
+use Rattle.questions.specs.declared.answer.Area.{Area}
+use Rattle.questions.specs.declared.answer.Nearest.{Nearest}
+use Rattle.questions.specs.declared.answer.Gap.{Gap}
+use Rattle.questions.specs.Answer.{ofArea, ofNearest, ofGap}
 use Rattle.questions.specs.Answer.{ofRefusal, ofUnread, ofAnswer, ofBegun, ofPart, ofFurthest, ofLength, ofWidth, ofRelation}
 use Rattle.questions.specs.Answer.{ofInside, ofOffer, ofSeparator, ofClearance, ofExcess, ofPassage, ofTangents, ofTablet, ofAddition, ofEntry}
 use Rattle.reply.specs.Told.{bits, crossed}
@@ -82,6 +86,9 @@ furthest-has-room x = room.furthest-room x
 pub length-has-room : (x : Length) → Room (ofLength x)
 length-has-room x = room.length-room x
 
+pub area-has-room : (x : Area) → Room (ofArea x)
+area-has-room x = room.area-room x
+
 pub width-has-room : (x : Width) → Room (ofWidth x)
 width-has-room x = room.width-room x
 
@@ -99,6 +106,12 @@ separator-has-room x = room.separator-room x
 
 pub clearance-has-room : (x : Clearance) → Room (ofClearance x)
 clearance-has-room x = room.clearance-room x
+
+pub nearest-has-room : (x : Nearest) → Room (ofNearest x)
+nearest-has-room x = room.nearest-room x
+
+pub gap-has-room : (x : Gap) → Room (ofGap x)
+gap-has-room x = room.gap-room x
 
 pub excess-has-room : (x : Excess) → Room (ofExcess x)
 excess-has-room x = room.excess-room x

@@ -12,6 +12,12 @@ use Rattle.questions.specs.declared.answer.Part.{Part}
 use Rattle.questions.specs.declared.answer.Part.the-variants as Part
 use Rattle.questions.specs.declared.answer.Furthest.{Furthest}
 use Rattle.questions.specs.declared.answer.Furthest.the-variants as Furthest
+use Rattle.questions.specs.declared.answer.Area.{Area}
+use Rattle.questions.specs.declared.answer.Area.the-variants as Area
+use Rattle.questions.specs.declared.answer.Nearest.{Nearest}
+use Rattle.questions.specs.declared.answer.Nearest.the-variants as Nearest
+use Rattle.questions.specs.declared.answer.Gap.{Gap}
+use Rattle.questions.specs.declared.answer.Gap.the-variants as Gap
 use Rattle.questions.specs.declared.answer.Length.{Length}
 use Rattle.questions.specs.declared.answer.Length.the-variants as Length
 use Rattle.questions.specs.declared.answer.Width.{Width}
@@ -38,6 +44,7 @@ use Rattle.questions.specs.declared.answer.Addition.{Addition}
 use Rattle.questions.specs.declared.answer.Addition.the-variants as Addition
 use Rattle.questions.specs.declared.answer.Entry.{Entry}
 use Rattle.questions.specs.declared.answer.Entry.the-variants as Entry
+use Rattle.questions.specs.Answer.{ofArea, ofNearest, ofGap}
 use Rattle.questions.specs.Answer.{ofRefusal, ofUnread, ofAnswer, ofBegun, ofPart, ofFurthest, ofLength, ofWidth, ofRelation}
 use Rattle.questions.specs.Answer.{ofInside, ofOffer, ofSeparator, ofClearance, ofExcess, ofPassage, ofTangents, ofTablet, ofAddition, ofEntry}
 use Rattle.reply.specs.Heard.{Room}
@@ -86,6 +93,24 @@ furthest-room (Furthest.No r) = refusal-room r
 pub length-room : (x : Length) → Room (ofLength x)
 length-room (Length.Between q i j f) = lit≤ tt
 length-room (Length.No r) = refusal-room r
+
+pub area-room : (x : Area) → Room (ofArea x)
+area-room (Area.Twice t f) = lit≤ tt
+area-room (Area.No r) = refusal-room r
+
+pub nearest-room : (x : Nearest) → Room (ofNearest x)
+nearest-room (Nearest.Meets n f) = lit≤ tt
+nearest-room (Nearest.Corners n i j d w f) = lit≤ tt
+nearest-room (Nearest.CornerEdge n i e t q w f) = lit≤ tt
+nearest-room (Nearest.EdgeCorner n j e t q w f) = lit≤ tt
+nearest-room (Nearest.No r) = refusal-room r
+
+pub gap-room : (x : Gap) → Room (ofGap x)
+gap-room (Gap.Meets n m f) = lit≤ tt
+gap-room (Gap.Corners n m i j d w f) = lit≤ tt
+gap-room (Gap.CornerEdge n m i e t q w f) = lit≤ tt
+gap-room (Gap.EdgeCorner n m j e t q w f) = lit≤ tt
+gap-room (Gap.No r) = refusal-room r
 
 pub width-room : (x : Width) → Room (ofWidth x)
 width-room (Width.Across e c t q w f) = lit≤ tt
