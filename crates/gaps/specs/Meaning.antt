@@ -23,7 +23,7 @@ use Rattle.growth.specs.Grown.{driven}
 use Rattle.passage.specs.Passage.{passable}
 use Rattle.journal.specs.Format.{records, content}
 use Rattle.journal.specs.Reading.{damaged}
-use Rattle.neighbours.specs.theory.Least.{FirstLeast}
+use Rattle.neighbours.specs.Settled.{FirstLeast}
 use Rattle.gaps.specs.Gap.{Pair, thePair, grownOf, pairsOf, gapOf, noWider, narrowest, onFloor, sizeRowsOf, gapNumbers, askGap}
 use Rattle.gaps.specs.theory.Pairs.{floor-first, none-nearer, earlier-further, floor-apart, floor-passes, plain-shape, drive-clear}
 use Rattle.gaps.specs.theory.Replies.{gap-found}

@@ -38,7 +38,6 @@ fn add(n: usize, one: bool) -> usize
 }
 
 // Returns whether the record at a place is on the floor and the latest of its name.
-// Ruled out: older record counted.
 pub fn is_on(log: &[u8], p: usize, floor: u16) -> bool
     requires { ⌜ Sound (now log) p ⌝ }
     ensures { λ r. ⌜ r ≡ isOn floor (now (log .entry)) p ⌝ }

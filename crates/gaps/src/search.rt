@@ -130,7 +130,6 @@ fn tried(
 }
 
 // The pair at p and q if it is nearer than what is kept, or nothing is; else what is kept.
-// Ruled out: later pair on a tie.
 fn nearer(p: usize, q: usize, spacing: Spacing, best: Best) -> Best
     requires { ⌜ Comparable spacing best ⌝ }
     ensures { λ r. ⌜ r ≡ Search·nearer p q spacing best ⌝ }

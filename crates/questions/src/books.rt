@@ -135,13 +135,11 @@ fn placed(name: u16, distance: Distance, floor: u16) -> Nearest
     }
 }
 
-// Answers which two current shapes of a floor have the narrowest gap, both grown by a cart's outline, and what clearance
-// answers of the grown two: nothing if they are not apart. The point 0 0 asks the gap of the shapes as they are. On a
-// tie the first pair is answered, by the first shape in the log and then the second, and so it is of several pairs that
-// meet. Refused: 1 to 5 of the cart; a log in which some record is bad; 20 if fewer than two shapes are on the floor;
-// then 6 and 7, shape by shape in the log's order, before any pair is looked at.
-// Ruled out: pair with an older record counted; later pair on a tie; one shape of a pair grown only; large shape told
-// after the first meeting pair.
+// Answers which two current shapes of a floor have the narrowest gap, both grown by a cart's outline, and what
+// clearance answers of the grown two: nothing if they are not apart. The point 0 0 asks the gap of the shapes as they
+// are. On a tie the first pair is answered, by the first shape in the log and then the second, and so it is of several
+// pairs that meet. Refused: 1 to 5 of the cart; a log in which some record is bad; 20 if fewer than two shapes are on
+// the floor; then 6 and 7, shape by shape in the log's order, before any pair is looked at.
 pub fn log_gap(log: &[u8], cart: &[i32], floor: u16) -> Gap
     ensures { λ r. ⌜ ofGap r ≡ reply (askGap (now (log .entry)) (on (now (cart .entry)) floor)) ⌝ }
 {

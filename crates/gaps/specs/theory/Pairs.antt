@@ -31,7 +31,8 @@ use Rattle.journal.specs.Format.{records}
 use Rattle.journal.specs.Reading.{damaged}
 use Rattle.growth.specs.theory.Places.{grown-shape, grown-known}
 use Rattle.neighbours.specs.Nearest.{shapeOf}
-use Rattle.neighbours.specs.theory.Least.{All, all-in, FirstLeast, leastOf-first}
+use Rattle.neighbours.specs.Settled.{FirstLeast}
+use Rattle.neighbours.specs.theory.Least.{All, all-in, leastOf-first}
 use Rattle.neighbours.specs.theory.Near.{Whole, around-whole}
 use Rattle.gaps.specs.Gap.{Pair, thePair, grownOf, pairsOf, gapOf, noWider, narrowest, onFloor}
 use Rattle.gaps.specs.Search.{HasGap}

@@ -116,7 +116,8 @@ returns-5 c =
     let at-gap = c .before .before in
     let at-else = at-gap .before .before .before .before in
     let args = at-else .before .before .before .before .before .before .before .before .before .args in
-    absurd (some-pair (points (args .cart .now)) (onFloor (args .floor) (args .log .now)) (two at-else) (ap numbersOf (sym (c .enum-told4 .given .1)) ∙ at-gap .gap .ensures))
+    absurd (some-pair (points (args .cart .now)) (onFloor (args .floor) (args .log .now)) (two at-else)
+    (ap numbersOf (sym (c .enum-told4 .given .1)) ∙ at-gap .gap .ensures))
 
 paired-requires : tie.Need-paired-requires
 paired-requires c κs = search needs

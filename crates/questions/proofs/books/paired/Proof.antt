@@ -21,7 +21,8 @@ spaced-requires c κs = search needs
 returns : tie.Need-returns
 returns c =
     let args = c .before .before .args in
-    ap (λ (w : Spacing). answered (pos (args .name) ∷ pos (args .other) ∷ spacingNumbers w ++ (pos (args .floor) ∷ []))) (sym (c .enum-told .given .1))
+    ap (λ (w : Spacing). answered (pos (args .name) ∷ pos (args .other) ∷ spacingNumbers w ++ (pos (args .floor) ∷ [])))
+    (sym (c .enum-told .given .1))
 
 returns-2 : tie.Need-returns-2
 returns-2 c =

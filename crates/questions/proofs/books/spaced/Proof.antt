@@ -21,17 +21,20 @@ enum-known-distance-3 c = search needs
 returns : tie.Need-returns
 returns c =
     let args = c .before .before .before .args in
-    ap (λ (d : Distance). answered (pos (args .name) ∷ pos (args .other) ∷ valuesOf d ++ (pos (args .floor) ∷ []))) (sym (c .before .distance .given .1))
+    ap (λ (d : Distance). answered (pos (args .name) ∷ pos (args .other) ∷ valuesOf d ++ (pos (args .floor) ∷ [])))
+    (sym (c .before .distance .given .1))
 
 returns-2 : tie.Need-returns-2
 returns-2 c =
     let args = c .before .before .before .args in
-    ap (λ (d : Distance). answered (pos (args .name) ∷ pos (args .other) ∷ valuesOf d ++ (pos (args .floor) ∷ []))) (sym (c .before .distance2 .given .1))
+    ap (λ (d : Distance). answered (pos (args .name) ∷ pos (args .other) ∷ valuesOf d ++ (pos (args .floor) ∷ [])))
+    (sym (c .before .distance2 .given .1))
 
 returns-3 : tie.Need-returns-3
 returns-3 c =
     let args = c .before .before .before .args in
-    ap (λ (d : Distance). answered (pos (args .name) ∷ pos (args .other) ∷ valuesOf d ++ (pos (args .floor) ∷ []))) (sym (c .before .distance3 .given .1))
+    ap (λ (d : Distance). answered (pos (args .name) ∷ pos (args .other) ∷ valuesOf d ++ (pos (args .floor) ∷ [])))
+    (sym (c .before .distance3 .given .1))
 
 pub spaced-spec : {M : Type 1} → statement M
 spaced-spec =
