@@ -71,7 +71,7 @@ pub use answers::{
     Across, Area, Beyond, Clearance, Corners, Excess, Furthest, Inside, Length, Line, Nearest,
     Offer, Passage, Relation, Separator, Standing, Tangents, Way, Width,
 };
-pub use book::{Addition, Book, log_pack, log_read, log_entry};
+pub use book::{Addition, Book, log_entry, log_pack, log_read};
 pub use limits::{Limits, limits, version};
 pub use questions::{
     area, clearance, excess, find, furthest, grow, inside, judge, length, merge, mirror, offer,

@@ -4,7 +4,7 @@ use std::cmp::Ordering;
 
 /// What must have been compared at least once: of each question answers by their first values, and
 /// refusals.
-pub const KINDS: [(&str, &str); 27] = [
+pub const KINDS: [(&str, &str); 28] = [
     ("judge", "ok; no 1; no 2; no 3; no 4; no 5; no 13"),
     (
         "furthest",
