@@ -9,7 +9,6 @@ use crate::pairs;
 use crate::shapes;
 use crate::writing;
 use crossing::decoding;
-use crossing::packing;
 
 // Judges the list.
 pub fn judge(list: &[u8], floor: u32, numbers: &mut [i32]) -> u64
@@ -17,7 +16,7 @@ pub fn judge(list: &[u8], floor: u32, numbers: &mut [i32]) -> u64
     ensures { λ r. ⌜ r ≡ packed (reply (askJudgeBytes (now (list .entry)) floor)) ⌝ }
 {
     let n = decoding::read(list, numbers);
-    packing::packed_reply(shapes::cocklesway_judge(&numbers[..n], floor))
+    crossing::packing::packed_reply(shapes::cocklesway_judge(&numbers[..n], floor))
 }
 
 // Asks how the shapes are to each other.
@@ -27,7 +26,7 @@ pub fn relation(a: &[u8], f: u32, b: &[u8], g: u32, first: &mut [i32], second: &
 {
     let m = decoding::read(a, first);
     let n = decoding::read(b, second);
-    packing::packed_reply(pairs::cocklesway_relation(&first[..m], f, &second[..n], g))
+    crossing::packing::packed_reply(pairs::cocklesway_relation(&first[..m], f, &second[..n], g))
 }
 
 // Asks for the merge of the shapes, or for their sum.

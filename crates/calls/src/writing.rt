@@ -8,7 +8,6 @@ ghost use Rattle.crossing.specs.Packing.{packed};
 ghost use Rattle.crossing.specs.Bytes.{wordsIn, bytesAfter};
 ghost use Rattle.crossing.specs.Passing.{Holds, combined, asked};
 use crate::pairs;
-use crossing::packing;
 use crossing::writing;
 use reply::Reply;
 
@@ -34,7 +33,7 @@ pub fn combine(
     let n = writing::room(out.len(), shape.len());
     let reply = ask(merged, a, f, b, g, &mut shape[..n]);
     endian::encode(shape, 2 * reply.values[0] as usize, out);
-    packing::packed_reply(reply)
+    crossing::packing::packed_reply(reply)
 }
 
 // Asks for the merge of two lists, or for their sum.
