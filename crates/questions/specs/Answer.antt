@@ -37,6 +37,8 @@ use Rattle.questions.specs.declared.answer.Gap.{Gap}
 use Rattle.questions.specs.declared.answer.Gap.the-variants as Gap
 use Rattle.questions.specs.declared.answer.Excess.{Excess}
 use Rattle.questions.specs.declared.answer.Excess.the-variants as Excess
+use Rattle.questions.specs.declared.answer.Contact.{Contact}
+use Rattle.questions.specs.declared.answer.Contact.the-variants as Contact
 use Rattle.questions.specs.declared.answer.Passage.{Passage}
 use Rattle.questions.specs.declared.answer.Passage.the-variants as Passage
 use Rattle.questions.specs.declared.answer.Line.{Line}
@@ -135,6 +137,12 @@ ofExcess (Excess.Inside floor) = answered (pos 0 ∷ pos floor ∷ [])
 ofExcess (Excess.Corners c j d u floor) = answered (pos 1 ∷ pos c ∷ pos j ∷ pos d ∷ pos u ∷ pos floor ∷ [])
 ofExcess (Excess.Edge c e t q u floor) = answered (pos 2 ∷ pos c ∷ pos e ∷ pos t ∷ pos q ∷ pos u ∷ pos floor ∷ [])
 ofExcess (Excess.No r) = ofRefusal r
+
+-- 0 never; or 1, the fraction and the safe millimetres
+abbrev pub ofContact : Contact → Reply
+ofContact (Contact.Never floor) = answered (pos 0 ∷ pos floor ∷ [])
+ofContact (Contact.At n d safe floor) = answered (pos 1 ∷ pos n ∷ pos d ∷ pos safe ∷ pos floor ∷ [])
+ofContact (Contact.No r) = ofRefusal r
 
 -- 0 blocked; or 1, the direction, the two lines and the width
 abbrev pub ofPassage : Passage → Reply

@@ -22,7 +22,6 @@ use polygon::corners;
 use polygon::extent;
 use polygon::extent::Extent;
 use sums::size;
-use sums::size;
 
 // Writes the shape at the front of the output, keeps all after it, and returns how many corners it has.
 pub fn write(a: &[i32], b: &[i32], top: usize, out: &mut [i32]) -> usize
