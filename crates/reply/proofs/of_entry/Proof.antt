@@ -37,4 +37,5 @@ returns-2 c = c .of-refusal .ensures ∙ told (c .before .before .answer2 .given
 pub of-entry-spec : {M : Type 1} → statement M
 of-entry-spec =
     tie.close
-    (tie.spec enum-known-answer cast-answered3 cast-answered3-2 answered3-requires enum-known-answer-2 of-refusal-requires returns returns-2)
+    (tie.spec enum-known-answer cast-answered3 cast-answered3-2 answered3-requires enum-known-answer-2 of-refusal-requires returns
+    returns-2)
