@@ -16,6 +16,9 @@ enum-known-answer c = search needs
 cast-answered3 : tie.Need-cast-answered3
 cast-answered3 c = search needs
 
+cast-answered3-2 : tie.Need-cast-answered3-2
+cast-answered3-2 c = search needs
+
 answered3-requires : tie.Need-answered3-requires
 answered3-requires c κs = search needs
 
@@ -34,4 +37,5 @@ returns-2 c = c .of-refusal .ensures ∙ told (c .before .before .answer2 .given
 pub of-entry-spec : {M : Type 1} → statement M
 of-entry-spec =
     tie.close
-    (tie.spec enum-known-answer cast-answered3 answered3-requires enum-known-answer-2 of-refusal-requires returns returns-2)
+    (tie.spec enum-known-answer cast-answered3 cast-answered3-2 answered3-requires enum-known-answer-2 of-refusal-requires returns
+    returns-2)
