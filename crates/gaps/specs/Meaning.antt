@@ -4,6 +4,7 @@
 --     apart               all shapes of the floor are apart from each other exactly if the answered two are
 --     the cart            it passes straight between two shapes exactly if they are apart once both are grown; the point 0 0 grows nothing
 --     a straight drive    is clear of every shape of the floor exactly if its segment is apart from every grown one
+--     settled             an addition that was cut or refused changes no gap; one on another floor only takes its own name away
 --     the replies         what is answered, and when
 -- A is the cart's outline, which has a corner (0 < length), b the log, in which no record is bad, and f the floor.
 use mathlib.Core.Path.{_≡_, refl}
@@ -23,9 +24,13 @@ use Rattle.growth.specs.Grown.{driven}
 use Rattle.passage.specs.Passage.{passable}
 use Rattle.journal.specs.Format.{records, content}
 use Rattle.journal.specs.Reading.{damaged}
+use Rattle.journal.specs.Adding.{added}
+use Rattle.journal.specs.History.{isFinished}
+use Rattle.journal.specs.Current.{keep, isOther}
 use Rattle.neighbours.specs.Settled.{FirstLeast}
 use Rattle.gaps.specs.Gap.{Pair, thePair, grownOf, pairsOf, gapOf, noWider, narrowest, onFloor, sizeRowsOf, gapNumbers, askGap}
 use Rattle.gaps.specs.theory.Pairs.{floor-first, none-nearer, earlier-further, floor-apart, floor-passes, plain-shape, drive-clear}
+use Rattle.gaps.specs.theory.Additions.{unfinished-gap, elsewhere-gap}
 use Rattle.gaps.specs.theory.Replies.{gap-found}
 
 module _ (A : List Point) (a : 0 < length A) (b : List ℕ) (f : ℕ) (sound : damaged (records b) ≡ false) where
@@ -71,6 +76,19 @@ module _ (A : List Point) (a : 0 < length A) (b : List ℕ) (f : ℕ) (sound : d
 pub point-asks-the-plain-gap : (b : List ℕ) (f : ℕ) → damaged (records b) ≡ false → (r : List ℕ) → List·Memᴰ r (onFloor f b)
     → grownOf (origin ∷ []) r ≡ corners (content r)
 point-asks-the-plain-gap b f sound r m = plain-shape b f sound r m
+
+-- ---- settled
+
+module _ (A : List Point) (b : List ℕ) (n g : ℕ) (l : List ℤ) (k f : ℕ) where
+  -- cut or refused
+  pub unfinished-addition-changes-no-gap : isFinished (added b n g l k .reply) ≡ false
+      → narrowest A (pairsOf (onFloor f (added b n g l k .log))) ≡ narrowest A (pairsOf (onFloor f b))
+  unfinished-addition-changes-no-gap stopped = unfinished-gap A b n g l k f stopped
+
+  -- finished on another floor: the shapes of this one are those that were here, without the name
+  pub addition-elsewhere-only-takes-its-name : isFinished (added b n g l k .reply) ≡ true → n < 65536 → g < 65536 → (g ≡ f → ⊥)
+      → narrowest A (pairsOf (onFloor f (added b n g l k .log))) ≡ narrowest A (pairsOf (keep (isOther n) (onFloor f b)))
+  addition-elsewhere-only-takes-its-name done fits floor-fits other = elsewhere-gap A b n g l k f done fits floor-fits other
 
 -- ---- the replies
 

@@ -27,6 +27,7 @@ pub enum Best {
 }
 
 // Returns the first pair of least gap, if the floor has two shapes.
+// Ruled out: pair with itself counted; one shape of a pair grown only.
 pub fn narrowest(
     log: &[u8],
     floor: u16,
@@ -130,6 +131,7 @@ fn tried(
 }
 
 // The pair at p and q if it is nearer than what is kept, or nothing is; else what is kept.
+// Ruled out: wider pair kept.
 fn nearer(p: usize, q: usize, spacing: Spacing, best: Best) -> Best
     requires { ⌜ Comparable spacing best ⌝ }
     ensures { λ r. ⌜ r ≡ Search·nearer p q spacing best ⌝ }

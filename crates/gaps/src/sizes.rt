@@ -22,6 +22,7 @@ use journal::records;
 use polygon::limits;
 
 // Judges all shapes of the floor, grown by the cart, by their size.
+// Ruled out: sizes told from the last shape.
 pub fn admit_sizes(log: &[u8], floor: u16, cart: &[i32]) -> Admission
     requires { ⌜ (damaged (records (now log)) ≡ false) × Valid (now cart) ⌝ }
     ensures { λ r. ⌜ Judged
