@@ -22,11 +22,12 @@ use Rattle.questions.specs.declared.answer.Offer.{Offer}
 use Rattle.questions.specs.declared.answer.Separator.{Separator}
 use Rattle.questions.specs.declared.answer.Passage.{Passage}
 use Rattle.questions.specs.declared.answer.Clearance.{Clearance}
+use Rattle.questions.specs.declared.answer.Nearest.{Nearest}
 use Rattle.questions.specs.declared.answer.Tangents.{Tangents}
 use Rattle.questions.specs.declared.answer.Tablet.{Tablet}
 use Rattle.questions.specs.declared.answer.Addition.{Addition}
 use Rattle.questions.specs.Answer.{ofRefusal, ofUnread, ofAnswer, ofBegun, ofPart, ofFurthest, ofLength, ofWidth, ofRelation}
-use Rattle.questions.specs.Answer.{ofInside, ofOffer, ofSeparator, ofClearance, ofPassage, ofTangents, ofTablet, ofAddition}
+use Rattle.questions.specs.Answer.{ofInside, ofOffer, ofSeparator, ofClearance, ofNearest, ofPassage, ofTangents, ofTablet, ofAddition}
 use Rattle.reply.specs.Told.{bits, crossed}
 use Rattle.reply.specs.Heard.{numberOf, countOf, carriedOf, valuesOf, heard, Room, Signed}
 use Rattle.reply.specs.theory.ReadBack.{refused-back, answered-back, heard-back, same-reply}
@@ -97,6 +98,9 @@ separator-has-room x = room.separator-room x
 
 pub clearance-has-room : (x : Clearance) → Room (ofClearance x)
 clearance-has-room x = room.clearance-room x
+
+pub nearest-has-room : (x : Nearest) → Room (ofNearest x)
+nearest-has-room x = room.nearest-room x
 
 pub passage-has-room : (x : Passage) → Room (ofPassage x)
 passage-has-room x = room.passage-room x

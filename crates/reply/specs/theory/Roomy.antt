@@ -28,6 +28,8 @@ use Rattle.questions.specs.declared.answer.Passage.{Passage}
 use Rattle.questions.specs.declared.answer.Passage.the-variants as Passage
 use Rattle.questions.specs.declared.answer.Clearance.{Clearance}
 use Rattle.questions.specs.declared.answer.Clearance.the-variants as Clearance
+use Rattle.questions.specs.declared.answer.Nearest.{Nearest}
+use Rattle.questions.specs.declared.answer.Nearest.the-variants as Nearest
 use Rattle.questions.specs.declared.answer.Tangents.{Tangents}
 use Rattle.questions.specs.declared.answer.Tangents.the-variants as Tangents
 use Rattle.questions.specs.declared.answer.Tablet.{Tablet}
@@ -35,7 +37,7 @@ use Rattle.questions.specs.declared.answer.Tablet.the-variants as Tablet
 use Rattle.questions.specs.declared.answer.Addition.{Addition}
 use Rattle.questions.specs.declared.answer.Addition.the-variants as Addition
 use Rattle.questions.specs.Answer.{ofRefusal, ofUnread, ofAnswer, ofBegun, ofPart, ofFurthest, ofLength, ofWidth, ofRelation}
-use Rattle.questions.specs.Answer.{ofInside, ofOffer, ofSeparator, ofClearance, ofPassage, ofTangents, ofTablet, ofAddition}
+use Rattle.questions.specs.Answer.{ofInside, ofOffer, ofSeparator, ofClearance, ofNearest, ofPassage, ofTangents, ofTablet, ofAddition}
 use Rattle.reply.specs.Heard.{Room}
 
 pub refusal-room : (x : Refusal) → Room (ofRefusal x)
@@ -117,6 +119,13 @@ clearance-room (Clearance.Corners i j d w f) = lit≤ tt
 clearance-room (Clearance.CornerEdge c e t q w f) = lit≤ tt
 clearance-room (Clearance.EdgeCorner c e t q w f) = lit≤ tt
 clearance-room (Clearance.No r) = refusal-room r
+
+pub nearest-room : (x : Nearest) → Room (ofNearest x)
+nearest-room (Nearest.Meets n f) = lit≤ tt
+nearest-room (Nearest.Corners n i j d w f) = lit≤ tt
+nearest-room (Nearest.CornerEdge n c e t q w f) = lit≤ tt
+nearest-room (Nearest.EdgeCorner n c e t q w f) = lit≤ tt
+nearest-room (Nearest.No r) = refusal-room r
 
 pub tangents-room : (x : Tangents) → Room (ofTangents x)
 tangents-room (Tangents.Lines p q r s f) = lit≤ tt
