@@ -219,6 +219,11 @@ cocklesway_reply cocklesway_log_add(uint8_t *log, size_t count, uint16_t name, u
 cocklesway_reply cocklesway_log_pack(const uint8_t *old, size_t count, uint8_t *fresh, size_t room, uint32_t but,
                                      size_t allowed);
 
+/* Finds the nearest to a shape of the current shapes on its floor in a log, the name `but` left out; 65536 leaves out
+ * nobody. Values: the name, then those of cocklesway_clearance of the shape and that one. Refused 1 to 5, 13, 15, 20. */
+cocklesway_reply cocklesway_log_nearest(const uint8_t *log, size_t count, const int32_t *list, size_t n,
+                                        uint32_t floor, size_t but);
+
 /* Four calls on bytes: x and y of each corner, four bytes to a number, two's complement, the lowest byte first, at any
  * alignment. An output needs eight bytes to a corner. Each answers one number, from its low end:
  *     a byte      the refusal, or 0

@@ -14,8 +14,6 @@ use Rattle.questions.specs.declared.answer.Furthest.{Furthest}
 use Rattle.questions.specs.declared.answer.Furthest.the-variants as Furthest
 use Rattle.questions.specs.declared.answer.Area.{Area}
 use Rattle.questions.specs.declared.answer.Area.the-variants as Area
-use Rattle.questions.specs.declared.answer.Nearest.{Nearest}
-use Rattle.questions.specs.declared.answer.Nearest.the-variants as Nearest
 use Rattle.questions.specs.declared.answer.Gap.{Gap}
 use Rattle.questions.specs.declared.answer.Gap.the-variants as Gap
 use Rattle.questions.specs.declared.answer.Length.{Length}
@@ -36,6 +34,8 @@ use Rattle.questions.specs.declared.answer.Passage.{Passage}
 use Rattle.questions.specs.declared.answer.Passage.the-variants as Passage
 use Rattle.questions.specs.declared.answer.Clearance.{Clearance}
 use Rattle.questions.specs.declared.answer.Clearance.the-variants as Clearance
+use Rattle.questions.specs.declared.answer.Nearest.{Nearest}
+use Rattle.questions.specs.declared.answer.Nearest.the-variants as Nearest
 use Rattle.questions.specs.declared.answer.Tangents.{Tangents}
 use Rattle.questions.specs.declared.answer.Tangents.the-variants as Tangents
 use Rattle.questions.specs.declared.answer.Tablet.{Tablet}

@@ -10,7 +10,7 @@ use Rattle.calls.proofs.logs.cocklesway_log_nearest.Statement.{statemen
 use Rattle.calls.proofs.logs.cocklesway_log_nearest.Tie as tie
 
 -- past the test the floor is within its limit
-low : (c : tie.Else1) → ltb maxFloor (c .before .before .args .floor) ≡ false
+low : (c : tie.Else1) → ltb maxFloor (c .before .before .before .args .floor) ≡ false
 low c = sym (c .before .exceeds-floor .ensures) ∙ c .if1 .left
 
 exceeds-floor-requires : tie.Need-exceeds-floor-requires
