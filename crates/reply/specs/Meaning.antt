@@ -30,9 +30,9 @@ use Rattle.questions.specs.declared.answer.Addition.{Addition}
 use Rattle.questions.specs.declared.answer.Entry.{Entry}
 use Rattle.questions.specs.declared.answer.Area.{Area}
 use Rattle.questions.specs.declared.answer.Gap.{Gap}
-use Rattle.questions.specs.Answer.{ofArea, ofNearest, ofGap}
+use Rattle.questions.specs.Answer.{ofArea, ofNearest, ofGap, ofEntry}
 use Rattle.questions.specs.Answer.{ofRefusal, ofUnread, ofAnswer, ofBegun, ofPart, ofFurthest, ofLength, ofWidth, ofRelation}
-use Rattle.questions.specs.Answer.{ofInside, ofOffer, ofSeparator, ofClearance, ofExcess, ofPassage, ofTangents, ofTablet, ofAddition, ofEntry}
+use Rattle.questions.specs.Answer.{ofInside, ofOffer, ofSeparator, ofClearance, ofExcess, ofPassage, ofTangents, ofTablet, ofAddition}
 use Rattle.reply.specs.Told.{bits, crossed}
 use Rattle.reply.specs.Heard.{numberOf, countOf, carriedOf, valuesOf, heard, Room, Signed}
 use Rattle.reply.specs.theory.ReadBack.{refused-back, answered-back, heard-back, same-reply}
