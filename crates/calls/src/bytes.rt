@@ -71,7 +71,6 @@ fn combine(merged: bool, a: &[u8], f: u32, b: &[u8], g: u32, out: &mut [u8]) -> 
 }
 
 // The same of two small lists: what is made of them has no more numbers than both.
-// Ruled out: large sum refused 8.
 fn combine_small(merged: bool, a: &[u8], f: u32, b: &[u8], g: u32, out: &mut [u8]) -> u64
     requires { ⌜ (length (now a) ≤ smallBytes) × (length (now b) ≤ smallBytes) ⌝ }
     ensures { λ r. ⌜

@@ -41,7 +41,6 @@ pub extern "C" fn cocklesway_merge(a: &[i32], f: u32, b: &[i32], g: u32, out: &m
 }
 
 // Writes the obstacle grown by the cart's outline, and answers how many corners it has.
-// Ruled out: cart grown by the obstacle.
 #[no_mangle]
 pub extern "C" fn cocklesway_grow(
     obstacle: &[i32],

@@ -3,3 +3,5 @@ pub mod Least
 pub mod Near
 pub mod Spacings
 pub mod Search
+pub mod Settled
+pub mod Answers

@@ -141,8 +141,8 @@ pub fn mirror(list: &[i32], floor: u16, out: &mut [i32]) -> Answer
 // Edges of equal direction make one step, so no three corners of the answer are in line. Refused, with the output as it
 // was: 1 to 5 of the first shape, then of the second; different floors; then an answer of too many corners, one out of
 // range, and too small an output. On success all after the written numbers is kept.
-// Ruled out: parallel corners kept; segment passed once; origin for every sum; second shape judged first; sum written
-// in too small an output; far sum written; too large a sum written.
+// Ruled out: parallel corners kept; segment passed once; origin for every sum; second shape judged first; far sum
+// written; too large a sum written.
 pub fn sum(a: &[i32], f: u16, b: &[i32], g: u16, out: &mut [i32]) -> Answer
     ensures { λ r. ⌜
         (ofAnswer r ≡ reply (askSum (on (now (a .entry)) f) (on (now (b .entry)) g) (now (out .entry))))
@@ -397,7 +397,6 @@ fn measured(found: Distance, floor: u16) -> Clearance
 // of the three may be a point or a segment. Refused: 1 to 5 of the left obstacle, of the right one, of the cart;
 // different floors; then, of the left obstacle grown by the cart and then of the right one, too many corners and a
 // corner out of range.
-// Ruled out: right obstacle not judged when grown; obstacles exchanged.
 pub fn passage(left: &[i32], f: u16, right: &[i32], g: u16, cart: &[i32], h: u16) -> Passage
     ensures { λ r. ⌜ ofPassage r ≡ reply
         (askPassage (on (now (left .entry)) f) (on (now (right .entry)) g) (on (now (cart .entry)) h)) ⌝ }

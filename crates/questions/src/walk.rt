@@ -31,7 +31,7 @@ pub struct Walk {
 // Begins a sum in parts, of a on floor f and b on floor g: the walk for the first of them. Refused as the sum is: 1 to
 // 5 of the first shape, then of the second; different floors; then a sum of too many corners, and one out of range. No
 // output is asked for yet.
-// Ruled out: walk over when begun; too large a sum begun.
+// Ruled out: too large a sum begun.
 pub fn begin(a: &[i32], f: u16, b: &[i32], g: u16) -> Begun
     ensures { λ r. ⌜ ofBegun r ≡ reply (askBegin (on (now (a .entry)) f) (on (now (b .entry)) g)) ⌝ }
 {
@@ -57,8 +57,8 @@ impl Walk {
     // none, and the walk stays as it is. Refused, with the output as it was: 1 to 5 of the first shape, then of the
     // second; different floors; a walk that is at no place of their sum; then a sum of too many corners, and one out of
     // range; and an output too small for the corners of this call.
-    // Ruled out: fourteen after six; fourteen before thirteen; thirteen after fourteen; one corner too few; walk handed
-    // back unmoved; room asked for the whole sum.
+    // Ruled out: fourteen after six; thirteen after fourteen; one corner too few; walk handed back unmoved; room asked
+    // for the whole sum.
     pub fn part(self, a: &[i32], f: u16, b: &[i32], g: u16, k: usize, out: &mut [i32]) -> Part
         ensures { λ r. ⌜
             (ofPart r

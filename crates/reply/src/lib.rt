@@ -181,7 +181,6 @@ pub fn of_offer(answer: Offer) -> Reply
 }
 
 // Returns 1 and a direction, whose parts may be below 0; or 0 if there is none.
-// Ruled out: parts of a direction exchanged.
 pub fn of_separator(answer: Separator) -> Reply
     ensures { λ r. ⌜ numbers r ≡ crossed (ofSeparator answer) ⌝ }
 {

@@ -11,6 +11,7 @@ use mathlib.Core.List.{List, [], _∷_, _++_, List·Memᴰ, List·Memᴰ·head, 
 use Prim.Native.Nat.{ℕ}
 use native.Mathlib.Omega.{arith}
 use Rattle.plane.specs.Clearance.{leastOf}
+use Rattle.neighbours.specs.Settled.{FirstLeast}
 
 abbrev pub All : {X : Type 0} → (X → Type 0) → List X → Type 0
 All Good [] = Unit {0}
@@ -24,14 +25,6 @@ all-in Good (y ∷ xs) a (List·Memᴰ·tail m) = all-in Good xs (a .1) m
 pub in-all : {X : Type 0} (Good : X → Type 0) (xs : List X) → ((x : X) → List·Memᴰ x xs → Good x) → All Good xs
 in-all Good [] f = tt
 in-all Good (y ∷ xs) f = (f y (List·Memᴰ·head refl), in-all Good xs (λ x m. f x (List·Memᴰ·tail m)))
-
--- w is one of xs, none is less, and each before it is greater
-pub record FirstLeast {X : Type 0} (le : X → X → Bool) (xs : List X) (w : X) : Type 0 where
-  pub before : List X
-  pub after : List X
-  pub is : xs ≡ before ++ w ∷ after
-  pub none-less : (y : X) → List·Memᴰ y xs → le w y ≡ true
-  pub earlier-more : (y : X) → List·Memᴰ y before → le y w ≡ false
 
 -- ---- any test
 

@@ -1,7 +1,7 @@
 -- Records compared by their distance from a shape A.
 --     Whole r                      the record holds a shape
 --     near-refl, near-total, near-trans     the comparison orders them
---     nearest-step, nearest-first, nearest-only, nearest-snoc      the laws of `Least.antt` for them
+--     nearest-step, nearest-first, nearest-snoc      the laws of `Least.antt` for them
 --     sound-whole, around-whole    no record is bad: each that is around holds a shape
 use mathlib.Core.Path.{_≡_, refl, sym, _∙_, ap, subst}
 use mathlib.Core.Bool.{Bool, true, false, cond, _||_}
@@ -19,21 +19,22 @@ use Rattle.journal.specs.Reading.{damaged, held}
 use Rattle.journal.specs.Current.{current, keep, isAround, around}
 use Rattle.journal.specs.theory.Kind.{good→facts}
 use Rattle.neighbours.specs.Nearest.{shapeOf, isAsNear, nearestOf}
-use Rattle.neighbours.specs.theory.Least.{All, FirstLeast, leastOf-step, leastOf-first, leastOf-only, leastOf-snoc}
+use Rattle.neighbours.specs.theory.Least.{All, leastOf-step, leastOf-first, leastOf-snoc}
+use Rattle.neighbours.specs.Settled.{FirstLeast}
 
 abbrev pub Whole : List ℕ → Type 0
 Whole r = IsShape (shapeOf r)
 
 module _ (A : List Point) (s : IsShape A) where
-  near-refl : (x : List ℕ) → Whole x → isAsNear A x x ≡ true
+  pub near-refl : (x : List ℕ) → Whole x → isAsNear A x x ≡ true
   unfolding isAsNear
   near-refl x w = noMore-refl (distance A (shapeOf x))
 
-  near-total : (x y : List ℕ) → Whole x → Whole y → isAsNear A x y ≡ false → isAsNear A y x ≡ true
+  pub near-total : (x y : List ℕ) → Whole x → Whole y → isAsNear A x y ≡ false → isAsNear A y x ≡ true
   unfolding isAsNear
   near-total x y w v h = more-noMore (distance A (shapeOf x)) (distance A (shapeOf y)) h
 
-  near-trans : (x y z : List ℕ) → Whole x → Whole y → Whole z → isAsNear A x y ≡ true → isAsNear A y z ≡ true → isAsNear A x z ≡ true
+  pub near-trans : (x y z : List ℕ) → Whole x → Whole y → Whole z → isAsNear A x y ≡ true → isAsNear A y z ≡ true → isAsNear A x z ≡ true
   unfolding isAsNear
   near-trans x y z w v u h k = noMore-trans (distance A (shapeOf x)) (distance A (shapeOf y)) (distance A (shapeOf z))
       (distance-whole A (shapeOf x) s w) (distance-whole A (shapeOf y) s v) (distance-whole A (shapeOf z) s u) h k
@@ -58,7 +59,7 @@ pub sound-whole : (rs : List (List ℕ)) → damaged rs ≡ false → All Whole 
 sound-whole [] d = tt
 sound-whole (r ∷ rs) d = let parts = either-false (bad r) (damaged rs) d in (good-whole r (parts .0), sound-whole rs (parts .1))
 
-keep-all : (p : List ℕ → Bool) (rs : List (List ℕ)) → All Whole rs → All Whole (keep p rs)
+pub keep-all : (p : List ℕ → Bool) (rs : List (List ℕ)) → All Whole rs → All Whole (keep p rs)
 keep-all p [] a = tt
 keep-all p (r ∷ rs) a = go (p r) (keep p rs) (keep-all p rs (a .1))
   where
