@@ -16,7 +16,7 @@ same-length c = search needs
 
 returns : tie.Need-returns
 returns c =
-    let asked = c .before .before .log-pack .ensures in
+    let asked = c .before .before .before .log-pack .ensures in
     (c .of-addition .ensures ∙ ap crossed (asked .0), asked .1)
 
 pub cocklesway-log-pack-spec : {M : Type 1} → statement M
