@@ -47,7 +47,7 @@ module _ (A : List Point) (a : 0 < length A) (b : List ℕ) (f : ℕ) (sound : d
     no-pair-is-nearer q m = none-nearer A a b f sound p answer q m
 
     -- and every earlier pair is further
-    pub earlier-pairs-are-further : (q : Pair) → List·Memᴰ q (floor-first A a b f sound p answer .before)
+    pub earlier-pairs-are-further : (q : Pair) → List·Memᴰ q (answer-is-first-of-least .before)
         → (gapOf A p .numerator *ℤ gapOf A q .denominator) <ℤ (gapOf A q .numerator *ℤ gapOf A p .denominator)
     earlier-pairs-are-further q m = earlier-further A a b f sound p answer q m
 

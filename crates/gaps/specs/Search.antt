@@ -31,7 +31,7 @@ use Rattle.journal.specs.Current.{isAround, around}
 use Rattle.journal.specs.Survey.{recordAt, nextAt, Sound}
 use Rattle.neighbours.specs.Spacing.{spacingNumbers, fractionOf, Sized}
 use Rattle.neighbours.specs.declared.spacing.Spacing.{Spacing}
-use Rattle.neighbours.specs.theory.Least.{All}
+use Rattle.neighbours.specs.All.{All}
 use Rattle.gaps.specs.Gap.{Pair, Kept, noPair, thePair, grownOf, gapOf, noWider, narrowest, sizeRowsOf}
 use Rattle.gaps.specs.declared.Narrowest.{Narrowest}
 use Rattle.gaps.specs.declared.Narrowest.the-variants as Narrowest

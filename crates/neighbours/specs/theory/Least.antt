@@ -12,10 +12,7 @@ use Prim.Native.Nat.{ℕ}
 use native.Mathlib.Omega.{arith}
 use Rattle.plane.specs.Clearance.{leastOf}
 use Rattle.neighbours.specs.Settled.{FirstLeast}
-
-abbrev pub All : {X : Type 0} → (X → Type 0) → List X → Type 0
-All Good [] = Unit {0}
-All Good (x ∷ xs) = Good x × All Good xs
+pub use Rattle.neighbours.specs.All.{All}
 
 pub all-in : {X : Type 0} (Good : X → Type 0) (xs : List X) {x : X} → All Good xs → List·Memᴰ x xs → Good x
 all-in Good [] a m = absurd (List·Memᴰ·not-nil m)
