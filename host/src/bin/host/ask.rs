@@ -3,7 +3,7 @@ use crate::fault::Fault;
 use crate::fields::Kind::{self, Bytes, Calls, Floor, List, Numbers, Optional, Output, Reading};
 use crate::fields::{Call, Fields};
 use cocklesway::bytes::{self, Packed};
-use cocklesway::{Addition, Book, Nearest, Refusal, Relation, Shape, Walk};
+use cocklesway::{Addition, Beyond, Book, Nearest, Refusal, Relation, Shape, Walk};
 
 pub struct Row {
     pub word: &'static str,
