@@ -47,9 +47,9 @@ module _ (A : List Point) (a : 0 < length A) (b : List ℕ) (f : ℕ) (sound : d
     no-pair-is-nearer q m = none-nearer A a b f sound p answer q m
 
     -- and every earlier pair is further
-    pub earlier-pairs-are-further : (q : Pair) → List·Memᴰ q (answer-is-first-of-least .before)
+    pub earlier-pairs-are-further : (first : FirstLeast (noWider A) (pairsOf (onFloor f b)) p) (q : Pair) → List·Memᴰ q (first .before)
         → (gapOf A p .numerator *ℤ gapOf A q .denominator) <ℤ (gapOf A q .numerator *ℤ gapOf A p .denominator)
-    earlier-pairs-are-further q m = earlier-further A a b f sound p answer q m
+    earlier-pairs-are-further first q m = earlier-further A a b f sound p answer first q m
 
     -- ---- apart
 

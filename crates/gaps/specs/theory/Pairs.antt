@@ -136,9 +136,9 @@ module _ (A : List Point) (a : 0 < length A) (b : List ℕ) (f : ℕ) (sound : d
         → (gapOf A p .numerator *ℤ gapOf A q .denominator) ≤ℤ (gapOf A q .numerator *ℤ gapOf A p .denominator)
     none-nearer q m = noMore-le (gapOf A p) (gapOf A q) (floor-first .none-less q m)
 
-    pub earlier-further : (q : Pair) → List·Memᴰ q (floor-first .before)
+    pub earlier-further : (first : FirstLeast (noWider A) (pairsOf (onFloor f b)) p) (q : Pair) → List·Memᴰ q (first .before)
         → (gapOf A p .numerator *ℤ gapOf A q .denominator) <ℤ (gapOf A q .numerator *ℤ gapOf A p .denominator)
-    earlier-further q m = more-lt (gapOf A q) (gapOf A p) (floor-first .earlier-more q m)
+    earlier-further first q m = more-lt (gapOf A q) (gapOf A p) (first .earlier-more q m)
 
     pub floor-apart : apart (grownOf A (p .0)) (grownOf A (p .1)) ≡ true → (q : Pair) → List·Memᴰ q (pairsOf (onFloor f b))
         → apart (grownOf A (q .0)) (grownOf A (q .1)) ≡ true
