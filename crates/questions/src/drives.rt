@@ -55,7 +55,7 @@ fn driven(obstacle: &[i32], f: u16, cart: &[i32], g: u16, from: Point, to: Point
     if let Admission::No(refusal) = admit_place(to, 4) {
         return Contact::No(refusal);
     }
-    if let Admission::No(refusal) = crate::admit_grown(obstacle, cart) {
+    if let Admission::No(refusal) = passage::admit_grown(obstacle, cart) {
         return Contact::No(refusal);
     }
     met(contact::first(obstacle, cart, from, to), f)
