@@ -18,8 +18,13 @@ pub fn shape(random: &mut Random) -> List {
         12 => some(random, 1, 1_000_000, 0, 0),
         13 => sized(random, 3, 40, x, y),
         14 => sized(random, 40, 300, x, y),
-        _ => sized(random, MOST as i32 - 22, MOST as i32 + 3, 0, 0),
+        _ => large(random),
     }
+}
+
+/// A shape of about as many corners as are allowed.
+fn large(random: &mut Random) -> List {
+    sized(random, MOST as i32 - 22, MOST as i32 + 3, 0, 0)
 }
 
 /// A shape of at most so many parts.
@@ -40,6 +45,8 @@ pub fn beside(random: &mut Random, a: &[i32]) -> List {
     let b = match random.below(4) {
         0 => a.to_vec(),
         1 => turned(a),
+        // Only the merge of two large shapes has too many corners.
+        2 if a.len() > MOST => large(random),
         _ => shape(random),
     };
     if a.len() < 2 || b.len() < 2 {

@@ -66,12 +66,13 @@ the calls of a host, on bytes: both shapes of their sums have the column's corne
     },
 ];
 
-const QUESTIONS: [Row; 27] = [
+const QUESTIONS: [Row; 31] = [
     ("judge", JUDGE, single),
     ("furthest", FURTHEST, single),
     ("mirror", MIRROR, single),
     ("length", LENGTH, single),
     ("width", WIDTH, single),
+    ("area", AREA, single),
     ("sum", SUM, summed),
     ("sum, refused 6 at 1,024", SUM, crossing),
     ("begin", BEGIN, summed),
@@ -89,11 +90,14 @@ const QUESTIONS: [Row; 27] = [
     ("find, none", FIND, crossing),
     ("clearance, apart", CLEARANCE, apart),
     ("clearance, none", CLEARANCE, crossing),
+    ("excess", EXCESS, crossing),
+    ("excess, inside", EXCESS, nested),
     ("tangents", TANGENTS, apart),
     ("tangents, refused 9", TANGENTS, crossing),
     ("tablet, a corner each", TABLET, single),
     ("log_read", LOG_READ, kept),
     ("log_add", LOG_ADD, kept),
+    ("log_pack", LOG_PACK, kept),
 ];
 
 const BYTES: [Row; 8] = [
@@ -137,7 +141,7 @@ const CARTS: [Row; 8] = [
 
 /// Every proved question, on a shape and the same one moved away (`moved_away`). It takes the whole walk to find that a
 /// shape overlaps one that it is inside of. A log has as many records as the shape has corners.
-pub const GROWTH: [(&str, Run, Make); 21] = [
+pub const GROWTH: [(&str, Run, Make); 23] = [
     ("judge", JUDGE[0], moved_away),
     ("furthest", FURTHEST[0], moved_away),
     ("mirror", MIRROR[0], moved_away),
@@ -150,11 +154,13 @@ pub const GROWTH: [(&str, Run, Make); 21] = [
     ("sweep", SWEEP[0], moved_away),
     ("length", LENGTH[0], moved_away),
     ("width", WIDTH[0], moved_away),
+    ("area", AREA[0], moved_away),
     ("relation", RELATION[0], twice),
     ("inside", INSIDE[0], twice),
     ("offer", OFFER[0], moved_away),
     ("find", FIND[0], twice),
     ("clearance", CLEARANCE[0], moved_away),
+    ("excess", EXCESS[0], moved_away),
     ("tangents", TANGENTS[0], moved_away),
     ("passage", PASSAGE[0], passing),
     ("log_read, records", LOG_READ[0], moved_away),

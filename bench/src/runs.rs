@@ -60,11 +60,13 @@ pub const GROW: [Run; 2] = both!(grow(a, b; out));
 pub const SWEEP: [Run; 2] = both!(sweep(a; out));
 pub const LENGTH: [Run; 2] = both!(length(a));
 pub const WIDTH: [Run; 2] = both!(width(a));
+pub const AREA: [Run; 2] = both!(area(a));
 pub const RELATION: [Run; 2] = both!(relation(a, b));
 pub const INSIDE: [Run; 2] = both!(inside(a, b));
 pub const OFFER: [Run; 2] = both!(offer(a, b; 3, 1));
 pub const FIND: [Run; 2] = both!(find(a, b));
 pub const CLEARANCE: [Run; 2] = both!(clearance(a, b));
+pub const EXCESS: [Run; 2] = both!(excess(a, b));
 pub const TANGENTS: [Run; 2] = both!(tangents(a, b));
 pub const PASSAGE: [Run; 2] = both!(passage(a, b, cart));
 
@@ -104,6 +106,20 @@ pub const LOG_ADD: [Run; 2] = [
     |cases| {
         block_logs(cases, |c, log| {
             plain::log_add(log, NAME, &c.a, FLOOR, usize::MAX)
+        })
+    },
+];
+
+/// A log packed over a copy of itself.
+pub const LOG_PACK: [Run; 2] = [
+    |cases| {
+        block_logs(cases, |c, log| {
+            cocklesway::log_pack(&c.log, log, None, usize::MAX)
+        })
+    },
+    |cases| {
+        block_logs(cases, |c, log| {
+            plain::log_pack(&c.log, log, None, usize::MAX)
         })
     },
 ];

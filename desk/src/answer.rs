@@ -1,9 +1,9 @@
 //! Questions asked of the library, and what it answers.
 use crate::given::{Given, Pair, Trio};
-use crate::question::{Call, Making, OfOne, OfTwo, Question, Record};
+use crate::question::{Call, Making, OfOne, OfTwo, Packing, Question, Record};
 use cocklesway::{
-    Addition, Book, Clearance, Corners, Furthest, Inside, Length, Offer, Passage, Reading, Refusal,
-    Relation, Separator, Standing, Tangents, Walk, Width,
+    Addition, Area, Book, Clearance, Corners, Excess, Furthest, Inside, Length, Offer, Passage,
+    Reading, Refusal, Relation, Separator, Standing, Tangents, Walk, Width,
 };
 
 /// A question with its answer.
@@ -21,6 +21,8 @@ pub enum Answer {
     Corner([Reading; 2], [i32; 2]),
     /// Whether an addition was finished, and the log afterwards.
     Added(Record, Addition, Vec<u8>),
+    /// Whether the stores of a packing sufficed, and the bytes afterwards.
+    Packed(Packing, Addition, Vec<u8>),
 }
 
 /// What is answered about one shape.
@@ -34,6 +36,8 @@ pub enum AboutOne {
     Length(Length),
     /// How wide it is.
     Width(Width),
+    /// How large it is.
+    Area(Area),
 }
 
 /// What is answered about two shapes.
@@ -49,6 +53,8 @@ pub enum AboutTwo {
     Find(Separator),
     /// Where they are nearest.
     Clearance(Clearance),
+    /// How far the first reaches beyond the second.
+    Excess(Excess),
     /// The lines that just touch both.
     Tangents(Tangents),
     /// What each call of a sum in parts wrote.
@@ -142,6 +148,7 @@ fn answered(question: &Question) -> Result<Answer, Refusal> {
         }
         Question::Tablet([x, y]) => Answer::Corner([*x, *y], cocklesway::tablet(*x, *y)?),
         Question::Add(record) => added(record)?,
+        Question::Pack(packing) => packed(packing)?,
     })
 }
 
@@ -154,6 +161,7 @@ fn about_one(shape: &Given, asked: OfOne) -> Result<AboutOne, Refusal> {
         }
         OfOne::Length => AboutOne::Length(cocklesway::length(shape)?),
         OfOne::Width => AboutOne::Width(cocklesway::width(shape)?),
+        OfOne::Area => AboutOne::Area(cocklesway::area(shape)?),
     })
 }
 
@@ -165,6 +173,7 @@ fn about_two(pair: &Pair, asked: &OfTwo) -> Result<AboutTwo, Refusal> {
         OfTwo::Offer(towards) => AboutTwo::Offer(*towards, cocklesway::offer(a, b, *towards)?),
         OfTwo::Find => AboutTwo::Find(cocklesway::find(a, b)?),
         OfTwo::Clearance => AboutTwo::Clearance(cocklesway::clearance(a, b)?),
+        OfTwo::Excess => AboutTwo::Excess(cocklesway::excess(a, b)?),
         OfTwo::Tangents => AboutTwo::Tangents(cocklesway::tangents(a, b)?),
         OfTwo::Parts(calls) => AboutTwo::Parts(parts(pair, calls)?),
         OfTwo::Part(walk, call) => {
@@ -237,6 +246,13 @@ fn added(record: &Record) -> Result<Answer, Refusal> {
     Ok(Answer::Added(record.clone(), addition, log))
 }
 
+fn packed(packing: &Packing) -> Result<Answer, Refusal> {
+    let mut new = packing.new.clone();
+    let allowed = packing.stores.unwrap_or(usize::MAX);
+    let addition = cocklesway::log_pack(&packing.old, &mut new, packing.but, allowed)?;
+    Ok(Answer::Packed(packing.clone(), addition, new))
+}
+
 impl Answer {
     /// Returns the word of its question.
     #[must_use]
@@ -248,6 +264,7 @@ impl Answer {
             Answer::Passage(..) => "passage",
             Answer::Corner(..) => "tablet",
             Answer::Added(..) => "bookadd",
+            Answer::Packed(..) => "pack",
         }
     }
 
@@ -260,7 +277,7 @@ impl Answer {
             Answer::Made(making, _) => making.shapes(),
             Answer::Passage(trio, _) => trio.shapes().to_vec(),
             Answer::Added(record, ..) => vec![&record.shape],
-            Answer::Corner(..) => Vec::new(),
+            Answer::Corner(..) | Answer::Packed(..) => Vec::new(),
         }
     }
 }
@@ -272,6 +289,7 @@ impl AboutOne {
             AboutOne::Furthest(..) => "furthest",
             AboutOne::Length(_) => "length",
             AboutOne::Width(_) => "width",
+            AboutOne::Area(_) => "area",
         }
     }
 }
@@ -284,6 +302,7 @@ impl AboutTwo {
             AboutTwo::Offer(..) => "offer",
             AboutTwo::Find(_) => "find",
             AboutTwo::Clearance(_) => "clearance",
+            AboutTwo::Excess(_) => "excess",
             AboutTwo::Tangents(_) => "tangents",
             AboutTwo::Parts(_) => "parts",
             AboutTwo::Part(..) => "part",

@@ -213,6 +213,19 @@ impl<'a> Fields<'a> {
         name.ok_or_else(|| Unread::at(&word, Fault::not_a(wanted, word.text)))
     }
 
+    /// Reads the name of a record to leave out, or nothing.
+    ///
+    /// # Errors
+    /// It is neither.
+    pub fn but(&mut self) -> Result<Option<u16>, Unread> {
+        let empty = self.left.as_slice().first();
+        if empty.is_some_and(|field| field.words.is_empty()) {
+            self.next();
+            return Ok(None);
+        }
+        self.record_name().map(Some)
+    }
+
     /// Reads the bytes of a log: pairs of hexadecimal digits.
     ///
     /// # Errors

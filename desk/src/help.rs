@@ -41,11 +41,14 @@ odd count of numbers has `numbers` instead. Corners are coordinates, edges are b
     width         corner, edge, turn, squared,      offer       direction, accepted
                   rounded                           find        direction, or null
     furthest      direction, first, last, value     tangents    left, right, crossing, reverse
+    area          twice, in mm²
     clearance     apart, rounded; first, second, squared or turn and squared
+    excess        inside, up; first, second, squared or turn and squared
     passage       passable; direction, low, high, rounded
     grow, at, merge, sweep, sum, mirror, bookread   made
     parts         calls: corners or refused         part        corners, walk
     tablet        corner                            bookadd     finished, log
+    pack          but, or null; finished, log
 
 `turn` is t and `squared` is q of a distance t/√q; `squared` alone is the square of the distance.
 
@@ -79,6 +82,7 @@ A refusal has a number, the same everywhere in Cocklesway:
     17  a reading is not finite
     18  its exact value in millimetres is not whole
     19  no record holds the name
+    20  fewer shapes are on the floor, or in the log, than the question compares
 ";
 
 /// Returns the page that `--help` shows.

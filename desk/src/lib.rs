@@ -8,7 +8,7 @@
 //! | [`name`], [`given`], [`map`] | names, shapes as they are given, and the shapes of the names |
 //! | [`table`], [`question`], [`answer`] | the questions; the library asked |
 //! | [`session`] | lines in their order: definitions, questions, and what came of each |
-//! | [`sentence`], [`refusal`], [`distance`], [`report`] | answers and refusals in words |
+//! | [`sentence`], [`refusal`], [`distance`], [`extent`], [`report`] | answers and refusals in words |
 //! | [`json`], [`object`] | answers as JSON |
 //! | [`picture`] | pictures |
 //! | [`options`], [`command`], [`commands`], [`help`] | the program |
@@ -28,6 +28,7 @@ pub mod command;
 pub mod commands;
 pub mod distance;
 pub mod escape;
+pub mod extent;
 pub mod fault;
 pub mod fields;
 pub mod given;

@@ -8,8 +8,8 @@ use crate::refusal::{hexadecimal, reason};
 use crate::report;
 use crate::session::{Event, Outcome};
 use cocklesway::{
-    Across, Addition, Axis, Clearance, Line, Nearest, Passage, Refusal, Relation, Tangents, Which,
-    Width,
+    Across, Addition, Axis, Beyond, Clearance, Excess, Line, Nearest, Passage, Refusal, Relation,
+    Tangents, Which, Width,
 };
 
 type Members = Vec<(&'static str, Json)>;
@@ -138,6 +138,11 @@ fn answered(answer: &Answer) -> Members {
             ("finished", (*addition == Addition::Finished).into()),
             ("log", hexadecimal(log).into()),
         ],
+        Answer::Packed(packing, addition, log) => vec![
+            ("but", packing.but.map(u64::from).into()),
+            ("finished", (*addition == Addition::Finished).into()),
+            ("log", hexadecimal(log).into()),
+        ],
     }
 }
 
@@ -169,6 +174,7 @@ fn about_one(shape: &Given, about: &AboutOne) -> Members {
             ("to", shape.corner(found.to).0.into()),
         ],
         AboutOne::Width(found) => width(shape, *found),
+        AboutOne::Area(found) => vec![("twice", found.twice.into())],
     }
 }
 
@@ -194,6 +200,7 @@ fn about_two(pair: &Pair, about: &AboutTwo) -> Members {
         }
         AboutTwo::Find(found) => vec![("direction", found.direction.into())],
         AboutTwo::Clearance(found) => clearance(pair, *found),
+        AboutTwo::Excess(found) => excess(pair, *found),
         AboutTwo::Tangents(found) => tangents(pair, *found),
         AboutTwo::Parts(written) => vec![("calls", Json::List(written.iter().map(call).collect()))],
         AboutTwo::Part(corners, walk) => {
@@ -237,6 +244,39 @@ fn clearance(Pair { a, b }: &Pair, found: Clearance) -> Members {
         Some(Nearest::EdgeCorner(found)) => {
             members.extend(across(["second", "first"], b, a, found));
         }
+    }
+    members
+}
+
+fn excess(Pair { a, b }: &Pair, found: Excess) -> Members {
+    let mut members = vec![
+        ("inside", found.beyond.is_none().into()),
+        ("up", found.up().into()),
+    ];
+    match found.beyond {
+        None => {}
+        Some(Beyond::Corners {
+            corner,
+            other,
+            squared,
+            ..
+        }) => members.extend([
+            ("first", a.corner(corner).0.into()),
+            ("second", b.corner(other).0.into()),
+            ("squared", squared.into()),
+        ]),
+        Some(Beyond::Edge {
+            corner,
+            edge: position,
+            turn,
+            squared,
+            ..
+        }) => members.extend([
+            ("first", a.corner(corner).0.into()),
+            ("second", edge(b, position)),
+            ("turn", turn.into()),
+            ("squared", squared.into()),
+        ]),
     }
     members
 }

@@ -17,6 +17,8 @@ pub enum Question {
     Tablet([Reading; 2]),
     /// A shape added to a log.
     Add(Record),
+    /// Packing a log into a second run of bytes.
+    Pack(Packing),
 }
 
 /// What is asked about one shape.
@@ -30,6 +32,8 @@ pub enum OfOne {
     Length,
     /// How wide is it?
     Width,
+    /// How large is it?
+    Area,
 }
 
 /// What is asked about two shapes.
@@ -45,6 +49,8 @@ pub enum OfTwo {
     Find,
     /// How near are they?
     Clearance,
+    /// How far does the first reach beyond the second?
+    Excess,
     /// Which lines just touch both?
     Tangents,
     /// Their sum in parts, from its beginning.
@@ -99,6 +105,19 @@ pub struct Record {
     pub stores: Option<usize>,
 }
 
+/// A packing of a log.
+#[derive(Clone, Debug, PartialEq, Eq)]
+pub struct Packing {
+    /// The bytes of the log.
+    pub old: Vec<u8>,
+    /// The bytes that it is packed into.
+    pub new: Vec<u8>,
+    /// The name that is left out.
+    pub but: Option<u16>,
+    /// How many stores it may make; as many as it needs if this is left out.
+    pub stores: Option<usize>,
+}
+
 impl Question {
     /// Returns the word that asks it.
     #[must_use]
@@ -110,6 +129,7 @@ impl Question {
             Question::Passage(_) => "passage",
             Question::Tablet(_) => "tablet",
             Question::Add(_) => "bookadd",
+            Question::Pack(_) => "pack",
         }
     }
 
@@ -121,7 +141,7 @@ impl Question {
             Question::Two(pair, _) => vec![&pair.a, &pair.b],
             Question::Make(making, _) => making.shapes(),
             Question::Passage(trio) => trio.shapes().to_vec(),
-            Question::Tablet(_) => Vec::new(),
+            Question::Tablet(_) | Question::Pack(_) => Vec::new(),
         }
     }
 }
@@ -135,6 +155,7 @@ impl OfOne {
             OfOne::Furthest(_) => "furthest",
             OfOne::Length => "length",
             OfOne::Width => "width",
+            OfOne::Area => "area",
         }
     }
 }
@@ -149,6 +170,7 @@ impl OfTwo {
             OfTwo::Offer(_) => "offer",
             OfTwo::Find => "find",
             OfTwo::Clearance => "clearance",
+            OfTwo::Excess => "excess",
             OfTwo::Tangents => "tangents",
             OfTwo::Parts(_) => "parts",
             OfTwo::Part(..) => "part",

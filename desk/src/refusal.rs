@@ -307,6 +307,9 @@ fn of_question(question: &Question, refusal: Refusal) -> String {
             format!("the record at byte {place} of the log is damaged")
         }
         (Refusal::Full, _, Question::Add(record)) => full(record),
+        (Refusal::Full, _, Question::Pack(packing)) => {
+            format!("the packed log is longer than {} bytes", packing.new.len())
+        }
         (Refusal::NoRecord, _, Question::Make(Making::Read { name, .. }, _)) => {
             format!("no record of the log has the name {name}")
         }

@@ -1,12 +1,13 @@
 //! Answers in plain words, made from the typed answer: shapes by their names, corners by their coordinates.
 use crate::answer::{AboutOne, AboutTwo, Answer, Written};
 use crate::distance::Distance;
+use crate::extent::Extent;
 use crate::given::{Corner, Given, Pair, Trio};
-use crate::question::{Making, Record};
+use crate::question::{Making, Packing, Record};
 use crate::refusal;
 use cocklesway::{
-    Across, Addition, Clearance, Furthest, Line, Nearest, Offer, Passage, Reading, Relation,
-    Separator, Tangents, Walk, Width,
+    Across, Addition, Beyond, Clearance, Excess, Furthest, Line, Nearest, Offer, Passage, Reading,
+    Relation, Separator, Tangents, Walk, Width,
 };
 
 /// Returns the sentence of an answer.
@@ -19,6 +20,7 @@ pub fn sentence(answer: &Answer) -> String {
         Answer::Passage(trio, found) => passage(trio, *found),
         Answer::Corner(readings, corner) => tablet(*readings, *corner),
         Answer::Added(record, addition, log) => added(record, *addition, log),
+        Answer::Packed(packing, addition, log) => packed(packing, *addition, log),
     }
 }
 
@@ -28,6 +30,7 @@ fn about_one(shape: &Given, about: &AboutOne) -> String {
         AboutOne::Furthest(towards, found) => furthest(shape, *towards, *found),
         AboutOne::Length(found) => length(shape, found.squared, [found.from, found.to]),
         AboutOne::Width(found) => width(shape, *found),
+        AboutOne::Area(found) => area(shape, found.twice),
     }
 }
 
@@ -38,6 +41,7 @@ fn about_two(pair: &Pair, about: &AboutTwo) -> String {
         AboutTwo::Offer(towards, found) => offer(pair, *towards, *found),
         AboutTwo::Find(found) => find(pair, *found),
         AboutTwo::Clearance(found) => clearance(pair, *found),
+        AboutTwo::Excess(found) => excess(pair, *found),
         AboutTwo::Tangents(found) => tangents(pair, *found),
         AboutTwo::Parts(written) => parts(pair, written),
         AboutTwo::Part(corners, walk) => part(pair, corners, *walk),
@@ -133,6 +137,10 @@ fn width(shape: &Given, found: Width) -> String {
     format!("{shape} is {distance} wide, from {corner} to the line of its edge {edge}")
 }
 
+fn area(shape: &Given, twice: u64) -> String {
+    format!("{shape} has an area of {}", Extent::of_twice(twice))
+}
+
 fn relation(Pair { a, b }: &Pair, found: Relation) -> String {
     match found {
         Relation::Apart => format!("{a} and {b} are apart: no point is in both"),
@@ -215,6 +223,22 @@ fn corner_of(shape: &Given, position: usize) -> String {
         ([_], Some(name)) => format!("{name} at {corner}"),
         _ => format!("corner {corner} of {shape}"),
     }
+}
+
+/// Says how far a changed shape reaches beyond the old one, in whole millimetres rounded up, and where.
+fn excess(Pair { a, b }: &Pair, found: Excess) -> String {
+    let (corner, place) = match found.beyond {
+        None => return format!("{a} is inside {b}: it reaches nowhere further"),
+        Some(Beyond::Corners { corner, other, .. }) => (corner, corner_of(b, other)),
+        Some(Beyond::Edge { corner, edge, .. }) => {
+            (corner, format!("edge {} of {b}", b.edge(edge)))
+        }
+    };
+    format!(
+        "{a} reaches at most {} mm beyond {b}, rounded up, from {place} to {}",
+        found.up(),
+        corner_of(a, corner)
+    )
 }
 
 fn tangents(Pair { a, b }: &Pair, found: Tangents) -> String {
@@ -319,6 +343,18 @@ fn added(Record { name, shape, .. }: &Record, addition: Addition, log: &[u8]) ->
         Addition::Cut => format!(
             "the stores ran out before {shape} was in the log as name {name}; \
              every name still reads as before; its bytes are {log}"
+        ),
+    }
+}
+
+fn packed(Packing { but, .. }: &Packing, addition: Addition, log: &[u8]) -> String {
+    let log = refusal::hexadecimal(log);
+    let without = but.map_or(String::new(), |name| format!(" without name {name}"));
+    match addition {
+        Addition::Finished => format!("the log is packed{without}; its bytes are {log}"),
+        Addition::Cut => format!(
+            "the stores ran out before the log was packed{without}; \
+             ask again with these bytes to go on; its bytes are {log}"
         ),
     }
 }

@@ -2,7 +2,7 @@
 //! it: how it is asked, its sentence, its JSON.
 use crate::fields::{Fields, Part, Unread};
 use crate::given::Pair;
-use crate::question::{Making, OfOne, OfTwo, Question, Record};
+use crate::question::{Making, OfOne, OfTwo, Packing, Question, Record};
 
 /// A question: how its line is written, and what it asks.
 pub struct Row {
@@ -53,6 +53,12 @@ pub const TABLE: &[Row] = &[
         asks: "how near are they, and where?", example: "clearance | linen-store | wall",
     },
     Row {
+        word: "excess", parts: &[part("changed shape"), part("shape before")],
+        read: |f| Ok(Question::Two(f.pair()?, OfTwo::Excess)),
+        asks: "how far does a changed shape reach beyond the old one?",
+        example: "excess | @2 3000 900 3700 900 3700 1800 3000 1800 | linen-store",
+    },
+    Row {
         word: "inside", parts: &[A, part("shape around it")], read: |f| Ok(Question::Two(f.pair()?, OfTwo::Inside)),
         asks: "is the first inside the second?", example: "inside | @2 3500 1200 | linen-store",
     },
@@ -63,6 +69,10 @@ pub const TABLE: &[Row] = &[
     Row {
         word: "width", parts: &[A], read: |f| Ok(Question::One(f.shape()?, OfOne::Width)),
         asks: "how wide is it where it is narrowest?", example: "width | linen-store",
+    },
+    Row {
+        word: "area", parts: &[A], read: |f| Ok(Question::One(f.shape()?, OfOne::Area)),
+        asks: "how large is it?", example: "area | linen-store",
     },
     Row {
         word: "furthest", parts: &[A, TOWARDS],
@@ -150,6 +160,16 @@ pub const TABLE: &[Row] = &[
         })),
         asks: "the log after the shape is added",
         example: "bookadd | 000000000000000000000000000000000000 | 7 | @2 1 -1",
+    },
+    Row {
+        word: "pack",
+        parts: &[part("log in hexadecimal"), part("bytes to pack it into"), part("name to leave out, or nothing"),
+            optional("stores")],
+        read: |f| Ok(Question::Pack(Packing {
+            old: f.bytes()?, new: f.bytes()?, but: f.but()?, stores: f.optional_count("stores")?,
+        })),
+        asks: "the latest records of a log alone, in a second run of bytes",
+        example: "pack | 0F0002000700020001000000FFFFFFFF5A | 0000000000000000000000000000000000 |",
     },
 ];
 

@@ -31,13 +31,14 @@ pub fn list(words: &[Word<'_>], unsaid: Option<u16>) -> Result<Given, Unread> {
     })
 }
 
-/// A floor, with its sign.
+/// A floor, with its sign: digits, with a minus before them or none, as `query` reads it. So `@-0` is floor 0.
 fn floor(word: &Word<'_>) -> Result<u16, Unread> {
-    let digits = word.text.strip_prefix('@').unwrap_or_default();
-    let all_digits = !digits.is_empty() && digits.bytes().all(|byte| byte.is_ascii_digit());
-    let number = digits.parse().ok().filter(|_| all_digits);
+    let text = word.text.strip_prefix('@').unwrap_or_default();
+    let number = text.parse::<i32>().ok().filter(|_| !text.starts_with('+'));
     let found = || word.text.to_string();
-    number.ok_or_else(|| Unread::at(word, Fault::NotAFloor { found: found() }))
+    number
+        .and_then(|number| u16::try_from(number).ok())
+        .ok_or_else(|| Unread::at(word, Fault::NotAFloor { found: found() }))
 }
 
 /// Reads a whole number of 32 bits, with a minus or without.

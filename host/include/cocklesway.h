@@ -87,6 +87,7 @@ static inline const char *cocklesway_refusal_text(uint64_t number) {
     case 17: return "a reading is not finite";
     case 18: return "a reading is no whole number of millimetres";
     case 19: return "no record of the log has the name";
+    case 20: return "fewer shapes are on the floor, or in the log, than the question compares";
     default: return "this header does not know the number";
     }
 }
@@ -131,6 +132,9 @@ cocklesway_reply cocklesway_part(const int32_t *a, size_t n, uint32_t f, const i
 /* Values: the greatest squared distance of two corners, their positions, floor. Refused 1 to 5, 13. */
 cocklesway_reply cocklesway_length(const int32_t *list, size_t n, uint32_t floor);
 
+/* Values: twice the area, floor. Refused 1 to 5, 13. */
+cocklesway_reply cocklesway_area(const int32_t *list, size_t n, uint32_t floor);
+
 /* Where the shape is narrowest. Values: edge, corner, the turn t of the corner against the edge, the edge's squared
  * length q, the width t/sqrt(q) rounded down, floor. Refused 1 to 5, 13, 10. */
 cocklesway_reply cocklesway_width(const int32_t *list, size_t n, uint32_t floor);
@@ -169,6 +173,16 @@ cocklesway_reply cocklesway_find(const int32_t *a, size_t n, uint32_t f, const i
  * t is the size of the corner's turn against the edge, q the edge's squared length. Refused 1 to 5, 13. */
 cocklesway_reply cocklesway_clearance(const int32_t *a, size_t n, uint32_t f, const int32_t *b, size_t m, uint32_t g);
 
+/* The first value of an excess is COCKLESWAY_INSIDE, COCKLESWAY_CORNERS or COCKLESWAY_CORNER_EDGE. */
+#define COCKLESWAY_INSIDE 0
+
+/* How far a new shape reaches beyond the old one. Values:
+ *     COCKLESWAY_INSIDE, floor
+ *     COCKLESWAY_CORNERS, corner of the new, of the old, squared distance, distance rounded up, floor
+ *     COCKLESWAY_CORNER_EDGE, corner of the new, edge of the old, t, q, t/sqrt(q) rounded up, floor
+ * The corner is the one that is furthest from the old shape. Refused 1 to 5, 13. */
+cocklesway_reply cocklesway_excess(const int32_t *now, size_t n, uint32_t f, const int32_t *old, size_t m, uint32_t g);
+
 /* The four lines that just touch both shapes: both on its left; both on its right; the first left and the second
  * right; the reverse. Values: of each its corner in the first and in the second; floor. Refused 1 to 5, 13, 9. */
 cocklesway_reply cocklesway_tangents(const int32_t *a, size_t n, uint32_t f, const int32_t *b, size_t m, uint32_t g);
@@ -189,10 +203,26 @@ cocklesway_reply cocklesway_tablet(bool x_eighths, double x, bool y_eighths, dou
 /* Writes the latest shape of a name in a log. Values: how many corners, floor. Refused 15, 19, 8. */
 cocklesway_reply cocklesway_log_read(const uint8_t *log, size_t count, uint16_t name, int32_t *out, size_t room);
 
+/* Writes the current shape at position k of a log: each name has one, where its latest record is. Values: how many
+ * corners, name, floor. Refused 15, 20, 8. */
+cocklesway_reply cocklesway_log_entry(const uint8_t *log, size_t count, size_t k, int32_t *out, size_t room);
+
 /* Adds a shape to a log with at most so many stores of single bytes. Values: 1 if they sufficed, else 0; no floor.
  * Refused 1 to 5, 13, 15, 16. */
 cocklesway_reply cocklesway_log_add(uint8_t *log, size_t count, uint16_t name, uint32_t floor, const int32_t *list,
                                     size_t n, size_t allowed);
+
+/* Packs a log into a second run of bytes: the current records in their order, without those of the name `but` (65536:
+ * nobody's), and zeros after them. At most as many stores of single bytes as are allowed are made, each where the byte
+ * differs. A packing that was cut is called again; until one finishes, the new run may read as anything. Values: 1 if
+ * the stores sufficed, else 0; no floor. Refused 15 of the old log, 16. */
+cocklesway_reply cocklesway_log_pack(const uint8_t *old, size_t count, uint8_t *fresh, size_t room, uint32_t but,
+                                     size_t allowed);
+
+/* Finds the nearest to a shape of the current shapes on its floor in a log, the name `but` left out; 65536 leaves out
+ * nobody. Values: the name, then those of cocklesway_clearance of the shape and that one. Refused 1 to 5, 13, 15, 20. */
+cocklesway_reply cocklesway_log_nearest(const uint8_t *log, size_t count, const int32_t *list, size_t n,
+                                        uint32_t floor, size_t but);
 
 /* Four calls on bytes: x and y of each corner, four bytes to a number, two's complement, the lowest byte first, at any
  * alignment. An output needs eight bytes to a corner. Each answers one number, from its low end:

@@ -65,6 +65,25 @@ pub struct Length {
     pub floor: u32,
 }
 
+/// The area of a shape.
+///
+/// ```
+/// use cocklesway::{Shape, area};
+///
+/// let triangle = area(Shape::new(&[[0, 0], [1, 0], [0, 1]], 0))?;
+/// assert_eq!((triangle.twice, triangle.floor), (1, 0));
+/// # Ok::<(), cocklesway::Refusal>(())
+/// ```
+#[derive(Clone, Copy, Debug, PartialEq, Eq, Hash)]
+#[non_exhaustive]
+#[must_use]
+pub struct Area {
+    /// Twice the area, in square millimetres: a whole number, while the area may end in a half.
+    pub twice: u64,
+    /// The floor.
+    pub floor: u32,
+}
+
 /// Where a shape is narrowest: across an edge, to the corner furthest from it. The width is t/√q.
 ///
 /// ```
@@ -304,6 +323,89 @@ pub struct Across {
     pub squared: u64,
     /// The distance, rounded down to whole millimetres.
     pub rounded: u64,
+}
+
+/// How far a changed shape reaches beyond the old one.
+///
+/// ```
+/// use cocklesway::{Shape, excess};
+///
+/// let old = Shape::new(&[[0, 0], [10, 0], [10, 10], [0, 10]], 0);
+/// let inner = Shape::new(&[[2, 2], [8, 2], [8, 8], [2, 8]], 0);
+/// assert_eq!(excess(inner, old)?.beyond, None);
+/// assert_eq!(excess(old, inner)?.up(), 3);
+/// # Ok::<(), cocklesway::Refusal>(())
+/// ```
+#[derive(Clone, Copy, Debug, PartialEq, Eq, Hash)]
+#[non_exhaustive]
+#[must_use]
+pub struct Excess {
+    /// Where the new shape reaches furthest, or nothing if it is inside the old one.
+    pub beyond: Option<Beyond>,
+    /// The floor.
+    pub floor: u32,
+}
+
+impl Excess {
+    /// Returns how far the new shape reaches, rounded up to whole millimetres; 0 if it is inside the old one. No
+    /// clearance of the old shape is more than this greater than that of the new one.
+    ///
+    /// ```
+    /// use cocklesway::{Shape, clearance, excess};
+    ///
+    /// let (old, new) = (Shape::new(&[[0, 0]], 0), Shape::new(&[[1, 1]], 0));
+    /// let post = Shape::new(&[[4, 4]], 0);
+    /// let (was, up) = (clearance(old, post)?.rounded(), excess(new, old)?.up());
+    /// assert_eq!((was, up), (5, 2));
+    /// assert!(clearance(new, post)?.rounded() >= was - up);
+    /// # Ok::<(), cocklesway::Refusal>(())
+    /// ```
+    #[must_use]
+    pub const fn up(self) -> u64 {
+        match self.beyond {
+            None => 0,
+            Some(Beyond::Corners { up, .. } | Beyond::Edge { up, .. }) => up,
+        }
+    }
+}
+
+/// The corner of a changed shape that is furthest from the old one, and where the old one is nearest to it. There is no
+/// third case.
+///
+/// ```
+/// use cocklesway::{Beyond, Shape, excess};
+///
+/// let triangle = Shape::new(&[[0, 0], [4, 0], [0, 3]], 0);
+/// let edge = Beyond::Edge { corner: 0, edge: 1, turn: 9, squared: 25, up: 2 };
+/// assert_eq!(excess(Shape::new(&[[3, 3]], 0), triangle)?.beyond, Some(edge));
+/// # Ok::<(), cocklesway::Refusal>(())
+/// ```
+#[derive(Clone, Copy, Debug, PartialEq, Eq, Hash)]
+pub enum Beyond {
+    /// A corner of the old shape is nearest.
+    Corners {
+        /// The position in the new shape.
+        corner: usize,
+        /// The position in the old one.
+        other: usize,
+        /// Their squared distance, in square millimetres.
+        squared: u64,
+        /// Their distance, rounded up to whole millimetres.
+        up: u64,
+    },
+    /// A point inside an edge of the old shape is nearest. The distance is t/√q.
+    Edge {
+        /// The position in the new shape.
+        corner: usize,
+        /// The position of the edge's first corner.
+        edge: usize,
+        /// t: the size of the corner's turn against the edge, in square millimetres.
+        turn: u64,
+        /// q: the squared length of the edge, in square millimetres.
+        squared: u64,
+        /// The distance, rounded up to whole millimetres.
+        up: u64,
+    },
 }
 
 /// Whether a cart may pass straight between two obstacles.

@@ -56,6 +56,7 @@ unsafe extern "C" {
     fn cocklesway_judge(list: List, n: usize, floor: u32) -> Reply;
     fn cocklesway_furthest(list: List, n: usize, floor: u32, u: i32, v: i32) -> Reply;
     fn cocklesway_length(list: List, n: usize, floor: u32) -> Reply;
+    fn cocklesway_area(list: List, n: usize, floor: u32) -> Reply;
     fn cocklesway_width(list: List, n: usize, floor: u32) -> Reply;
     fn cocklesway_mirror(list: List, n: usize, floor: u32, out: Output, room: usize) -> Reply;
     fn cocklesway_sweep(list: List, n: usize, floor: u32, out: Output, room: usize) -> Reply;
@@ -72,13 +73,18 @@ unsafe extern "C" {
     fn cocklesway_offer(a: List, n: usize, f: u32, b: List, m: usize, g: u32, u: i32, v: i32) -> Reply;
     fn cocklesway_find(a: List, n: usize, f: u32, b: List, m: usize, g: u32) -> Reply;
     fn cocklesway_clearance(a: List, n: usize, f: u32, b: List, m: usize, g: u32) -> Reply;
+    fn cocklesway_excess(a: List, n: usize, f: u32, b: List, m: usize, g: u32) -> Reply;
     fn cocklesway_tangents(a: List, n: usize, f: u32, b: List, m: usize, g: u32) -> Reply;
     fn cocklesway_passage(
         a: List, n: usize, f: u32, b: List, m: usize, g: u32, c: List, k: usize, h: u32,
     ) -> Reply;
     fn cocklesway_log_read(log: Bytes, count: usize, name: u16, out: Output, room: usize) -> Reply;
+    fn cocklesway_log_entry(log: Bytes, count: usize, k: usize, out: Output, room: usize) -> Reply;
     fn cocklesway_log_add(
         log: BytesOutput, count: usize, name: u16, floor: u32, list: List, n: usize, allowed: usize,
+    ) -> Reply;
+    fn cocklesway_log_pack(
+        old: Bytes, count: usize, new: BytesOutput, room: usize, but: u32, allowed: usize,
     ) -> Reply;
     fn cocklesway_judge_bytes(list: Bytes, n: usize, floor: u32) -> u64;
     fn cocklesway_sum_bytes(
@@ -112,6 +118,10 @@ pub(crate) fn judge(a: Shape<'_>) -> Reply {
 
 pub(crate) fn length(a: Shape<'_>) -> Reply {
     one(cocklesway_length, a)
+}
+
+pub(crate) fn area(a: Shape<'_>) -> Reply {
+    one(cocklesway_area, a)
 }
 
 pub(crate) fn width(a: Shape<'_>) -> Reply {
@@ -187,6 +197,10 @@ pub(crate) fn clearance(a: Shape<'_>, b: Shape<'_>) -> Reply {
     two(cocklesway_clearance, a, b)
 }
 
+pub(crate) fn excess(new: Shape<'_>, old: Shape<'_>) -> Reply {
+    two(cocklesway_excess, new, old)
+}
+
 pub(crate) fn tangents(a: Shape<'_>, b: Shape<'_>) -> Reply {
     two(cocklesway_tangents, a, b)
 }
@@ -207,11 +221,23 @@ pub(crate) fn log_read(log: &[u8], name: u16, out: &mut [i32]) -> Reply {
     unsafe { cocklesway_log_read(log.as_ptr(), log.len(), name, to, room) }
 }
 
+pub(crate) fn log_entry(log: &[u8], k: usize, out: &mut [i32]) -> Reply {
+    let (to, room) = (out.as_mut_ptr(), out.len());
+    // SAFETY: log and output are live slices of these lengths, and no other reference reaches the output.
+    unsafe { cocklesway_log_entry(log.as_ptr(), log.len(), k, to, room) }
+}
+
 pub(crate) fn log_add(log: &mut [u8], name: u16, a: Shape<'_>, allowed: usize) -> Reply {
     let a = lent(a);
     let (to, count) = (log.as_mut_ptr(), log.len());
     // SAFETY: log and list are live slices of these lengths, and no other reference reaches the log.
     unsafe { cocklesway_log_add(to, count, name, a.floor, a.list, a.n, allowed) }
+}
+
+pub(crate) fn log_pack(old: &[u8], new: &mut [u8], but: u32, allowed: usize) -> Reply {
+    let (to, room) = (new.as_mut_ptr(), new.len());
+    // SAFETY: both are live slices of these lengths, and no other reference reaches the new one.
+    unsafe { cocklesway_log_pack(old.as_ptr(), old.len(), to, room, but, allowed) }
 }
 
 pub(crate) fn judge_bytes(list: &[u8], floor: u32) -> u64 {

@@ -1,5 +1,6 @@
 //! The log of shapes by name.
 use crate::archive;
+use crate::reply::{front, narrow};
 use crate::{Refusal, Shape};
 
 /// A log of shapes by name, over lent bytes. It is new if all bytes are 0. A shape is added after the last whole
@@ -22,7 +23,7 @@ pub struct Book<'a> {
     bytes: &'a mut [u8],
 }
 
-/// Whether an addition made all of its stores. There is no third case.
+/// Whether an addition or a packing made all of its stores. There is no third case.
 ///
 /// ```
 /// use cocklesway::{Addition, Book, Shape};
@@ -36,9 +37,9 @@ pub struct Book<'a> {
 #[derive(Clone, Copy, Debug, PartialEq, Eq, Hash)]
 #[must_use]
 pub enum Addition {
-    /// The shape is in the log.
+    /// The shape is in the log, or the log is packed.
     Finished,
-    /// The allowance ran out. Every name still reads as before.
+    /// The allowance ran out. After an addition every name still reads as before; a packing is called again.
     Cut,
 }
 
@@ -89,6 +90,60 @@ impl<'a> Book<'a> {
         log_read(self.bytes, name, out)
     }
 
+    /// Writes the current shape at a position at the front of the output and returns it with its name, as
+    /// [`log_entry`] does.
+    ///
+    /// # Errors
+    /// Refused, with the output as it was: 15, 20, 8.
+    ///
+    /// ```
+    /// use cocklesway::{Addition, Book, Refusal, Shape};
+    ///
+    /// let mut bytes = [0; 64];
+    /// let mut book = Book::new(&mut bytes);
+    /// let point = Shape::new(&[[1, -1]], 2);
+    /// assert_eq!(book.add(7, point, usize::MAX), Ok(Addition::Finished));
+    /// let mut out = [[0; 2]; 1];
+    /// assert_eq!(book.entry(0, &mut out), Ok((7, point)));
+    /// assert_eq!(book.entry(1, &mut out), Err(Refusal::TooFew));
+    /// ```
+    #[inline]
+    pub fn entry<'o>(
+        &self,
+        k: usize,
+        out: &'o mut [[i32; 2]],
+    ) -> Result<(u16, Shape<'o>), Refusal> {
+        log_entry(self.bytes, k, out)
+    }
+
+    /// Returns the names of all current shapes, in the order of the log. A refusal ends them.
+    ///
+    /// ```
+    /// use cocklesway::{Addition, Book, Shape};
+    ///
+    /// let mut bytes = [0; 64];
+    /// let mut book = Book::new(&mut bytes);
+    /// for name in [7, 5, 7] {
+    ///     let point = Shape::new(&[[1, -1]], 2);
+    ///     assert_eq!(book.add(name, point, usize::MAX), Ok(Addition::Finished));
+    /// }
+    /// assert!(book.entries(&mut [[0; 2]; 1]).eq([5, 7].map(Ok)));
+    /// ```
+    pub fn entries(&self, out: &mut [[i32; 2]]) -> impl Iterator<Item = Result<u16, Refusal>> {
+        let mut next = Some(0);
+        core::iter::from_fn(move || {
+            let k = next.take()?;
+            match log_entry(self.bytes, k, out) {
+                Ok((name, _)) => {
+                    next = k.checked_add(1);
+                    Some(Ok(name))
+                }
+                Err(Refusal::TooFew) => None,
+                Err(refusal) => Some(Err(refusal)),
+            }
+        })
+    }
+
     /// Adds a shape under a name with at most so many stores of single bytes, and returns whether they sufficed.
     /// With `usize::MAX` they always do. Whenever it is stopped, every name reads as before or as afterwards.
     ///
@@ -116,6 +171,78 @@ impl<'a> Book<'a> {
             _ => Ok(Addition::Cut),
         }
     }
+
+    /// Packs the log into a second run of bytes, which may hold anything: the current records in their order, without
+    /// those of the name `but`, and zeros after them. Returns whether the allowed stores of single bytes sufficed. As
+    /// many as the new run has bytes always do. A packing that was cut is called again and goes on where it was cut;
+    /// until one finishes, the new run may read as anything. This is how a shape is taken off a log.
+    ///
+    /// # Errors
+    /// Refused, with the new run as it was: 15, 16.
+    ///
+    /// ```
+    /// use cocklesway::{Addition, Book, Refusal, Shape};
+    ///
+    /// let mut bytes = [0; 51];
+    /// let mut book = Book::new(&mut bytes);
+    /// for (name, x) in [(7, 1), (8, 2), (7, 3)] {
+    ///     assert_eq!(book.add(name, Shape::new(&[[x, 0]], 0), usize::MAX), Ok(Addition::Finished));
+    /// }
+    /// let mut fresh = [0; 51];
+    /// assert_eq!(book.pack_into(&mut fresh, None, 3), Ok(Addition::Cut));
+    /// assert_eq!(book.pack_into(&mut fresh, None, 51), Ok(Addition::Finished));
+    /// assert_eq!(book.pack_into(&mut fresh, None, 0), Ok(Addition::Finished));
+    ///
+    /// let mut out = [[0; 2]];
+    /// let packed = Book::new(&mut fresh);
+    /// assert_eq!(packed.read(7, &mut out), Ok(Shape::new(&[[3, 0]], 0)));
+    /// assert_eq!(packed.bytes()[34..], [0; 17]);
+    ///
+    /// let mut fresh = [0; 17];
+    /// assert_eq!(book.pack_into(&mut fresh, Some(7), 17), Ok(Addition::Finished));
+    /// assert_eq!(Book::new(&mut fresh).read(7, &mut out), Err(Refusal::NoRecord));
+    /// assert_eq!(book.pack_into(&mut fresh, None, 17), Err(Refusal::Full));
+    /// ```
+    #[inline]
+    pub fn pack_into(
+        &self,
+        new: &mut [u8],
+        but: Option<u16>,
+        allowed: usize,
+    ) -> Result<Addition, Refusal> {
+        log_pack(self.bytes, new, but, allowed)
+    }
+}
+
+/// Names have 16 bits: this is nobody's.
+const NOBODY: u32 = 1 << 16;
+
+/// Packs a log into a second run of bytes, as [`Book::pack_into`] does. The old log may be read-only memory.
+///
+/// # Errors
+/// Refused, with the new run as it was: 15, 16.
+///
+/// ```
+/// use cocklesway::{Addition, Refusal, log_pack};
+///
+/// // Kind 1, name 7, the point 1 -1, and a torn end.
+/// let old = [13, 0, 1, 0, 7, 0, 1, 0, 0, 0, 255, 255, 255, 255, 0x5A, 13, 0];
+/// let mut new = [1; 16];
+/// assert_eq!(log_pack(&old, &mut new, None, 16), Ok(Addition::Finished));
+/// assert_eq!((&new[..15], new[15]), (&old[..15], 0));
+/// assert_eq!(log_pack(&old, &mut [0; 14], None, 14), Err(Refusal::Full));
+/// ```
+#[inline]
+pub fn log_pack(
+    old: &[u8],
+    new: &mut [u8],
+    but: Option<u16>,
+    allowed: usize,
+) -> Result<Addition, Refusal> {
+    match archive::log_pack(old, new, but.map_or(NOBODY, u32::from), allowed).values()? {
+        [1, ..] => Ok(Addition::Finished),
+        _ => Ok(Addition::Cut),
+    }
 }
 
 /// Writes the latest shape of a name in a log at the front of the output and returns it, on its own floor. The rest
@@ -136,4 +263,29 @@ impl<'a> Book<'a> {
 #[inline]
 pub fn log_read<'o>(log: &[u8], name: u16, out: &'o mut [[i32; 2]]) -> Result<Shape<'o>, Refusal> {
     archive::log_read(log, name, out.as_flattened_mut()).written(out)
+}
+
+/// Writes the current shape at a position of a log at the front of the output and returns it with its name. Positions
+/// count from 0, in the order of the log: each name has one, where its latest record is.
+///
+/// # Errors
+/// Refused, with the output as it was: 15, 20, 8.
+///
+/// ```
+/// use cocklesway::{Refusal, Shape, log_entry};
+///
+/// let log = [13, 0, 1, 0, 7, 0, 1, 0, 0, 0, 255, 255, 255, 255, 0x5A];
+/// let mut out = [[0; 2]; 1];
+/// assert_eq!(log_entry(&log, 0, &mut out), Ok((7, Shape::new(&[[1, -1]], 0))));
+/// assert_eq!(log_entry(&log, 1, &mut out), Err(Refusal::TooFew));
+/// ```
+#[inline]
+pub fn log_entry<'o>(
+    log: &[u8],
+    k: usize,
+    out: &'o mut [[i32; 2]],
+) -> Result<(u16, Shape<'o>), Refusal> {
+    let [count, name, floor, ..] = archive::log_entry(log, k, out.as_flattened_mut()).values()?;
+    let name = u16::try_from(name).unwrap_or(u16::MAX);
+    Ok((name, Shape::new(front(out, count), narrow(floor))))
 }

@@ -24,14 +24,15 @@
 //!
 //! | question | function |
 //! |---|---|
-//! | one shape | [`judge`], [`furthest`], [`mirror`], [`length`], [`width`] |
+//! | one shape | [`judge`], [`furthest`], [`mirror`], [`length`], [`width`], [`area`] |
 //! | two shapes | [`sum`], [`merge`], [`grow`], [`relation`], [`inside`], [`clearance`], [`tangents`] |
+//! | a changed shape and the old one | [`excess`] |
 //! | two obstacles and a cart | [`passage`] |
 //! | why they are apart | [`offer`], [`find`] |
 //! | a sum in parts | [`Walk::begin`], [`Walk::part`] |
 //! | points in any order | [`sweep`] |
 //! | readings of a tablet | [`tablet`] |
-//! | a log of shapes by name | [`Book`], [`log_read`] |
+//! | a log of shapes by name | [`Book`], [`log_read`], [`log_pack`], [`log_entry`] |
 //! | corners as bytes | [`bytes`] |
 //!
 //! The package needs `core` alone. No call allocates, keeps anything, or panics.
@@ -67,14 +68,14 @@ mod tests;
 mod walk;
 
 pub use answers::{
-    Across, Clearance, Corners, Furthest, Inside, Length, Line, Nearest, Offer, Passage, Relation,
-    Separator, Standing, Tangents, Way, Width,
+    Across, Area, Beyond, Clearance, Corners, Excess, Furthest, Inside, Length, Line, Nearest,
+    Offer, Passage, Relation, Separator, Standing, Tangents, Way, Width,
 };
-pub use book::{Addition, Book, log_read};
+pub use book::{Addition, Book, log_entry, log_pack, log_read};
 pub use limits::{Limits, limits, version};
 pub use questions::{
-    clearance, find, furthest, grow, inside, judge, length, merge, mirror, offer, passage,
-    relation, sum, sweep, tangents, width,
+    area, clearance, excess, find, furthest, grow, inside, judge, length, merge, mirror, offer,
+    passage, relation, sum, sweep, tangents, width,
 };
 pub use refusal::{Axis, Refusal, Which};
 pub use shape::Shape;

@@ -2,8 +2,8 @@
 use crate::archive;
 use crate::reply::{coordinate, narrow, position};
 use crate::{
-    Across, Clearance, Corners, Furthest, Inside, Length, Line, Nearest, Offer, Passage, Refusal,
-    Relation, Separator, Shape, Standing, Tangents, Way, Width,
+    Across, Area, Beyond, Clearance, Corners, Excess, Furthest, Inside, Length, Line, Nearest,
+    Offer, Passage, Refusal, Relation, Separator, Shape, Standing, Tangents, Way, Width,
 };
 
 /// Returns how many corners the shape has.
@@ -194,6 +194,29 @@ pub fn length(shape: Shape<'_>) -> Result<Length, Refusal> {
     })
 }
 
+/// Returns twice the area: 0 for a point and a segment. A shape that lost a corner has less.
+///
+/// # Errors
+/// Refused: 1 to 5, 13.
+///
+/// ```
+/// use cocklesway::{Shape, area};
+///
+/// let bed = Shape::new(&[[0, 0], [2000, 0], [2000, 900], [0, 900]], 3);
+/// let lost = Shape::new(&[[0, 0], [2000, 0], [0, 900]], 3);
+/// assert_eq!(area(bed)?.twice, 2 * 2000 * 900);
+/// assert!(area(lost)?.twice < area(bed)?.twice);
+/// # Ok::<(), cocklesway::Refusal>(())
+/// ```
+#[inline]
+pub fn area(shape: Shape<'_>) -> Result<Area, Refusal> {
+    let [twice, floor, ..] = archive::area(shape).values()?;
+    Ok(Area {
+        twice,
+        floor: narrow(floor),
+    })
+}
+
 /// Returns where the shape is narrowest, and how wide it is there.
 ///
 /// # Errors
@@ -365,6 +388,49 @@ pub fn clearance(a: Shape<'_>, b: Shape<'_>) -> Result<Clearance, Refusal> {
     };
     let floor = narrow(floor);
     Ok(Clearance { nearest, floor })
+}
+
+/// Returns how far the new shape reaches beyond the old one: the corner that is furthest from the old shape, the
+/// smallest position of several, and the distance rounded up.
+///
+/// # Errors
+/// Refused: 1 to 5 of the new list, then of the old one, 13.
+///
+/// ```
+/// use cocklesway::{Beyond, Shape, excess};
+///
+/// let old = Shape::new(&[[0, 0], [10, 0], [10, 10], [0, 10]], 3);
+/// let new = Shape::new(&[[3, 0], [13, 0], [13, 10], [3, 10]], 3);
+/// let corners = Beyond::Corners { corner: 1, other: 1, squared: 9, up: 3 };
+/// assert_eq!(excess(new, old)?.beyond, Some(corners));
+/// # Ok::<(), cocklesway::Refusal>(())
+/// ```
+#[inline]
+pub fn excess(new: Shape<'_>, old: Shape<'_>) -> Result<Excess, Refusal> {
+    let (beyond, floor) = match archive::excess(new, old).values()? {
+        [0, floor, ..] => (None, floor),
+        [1, corner, other, squared, up, floor, ..] => {
+            let corners = Beyond::Corners {
+                corner: position(corner),
+                other: position(other),
+                squared,
+                up,
+            };
+            (Some(corners), floor)
+        }
+        [_, corner, edge, turn, squared, up, floor, ..] => {
+            let edge = Beyond::Edge {
+                corner: position(corner),
+                edge: position(edge),
+                turn,
+                squared,
+                up,
+            };
+            (Some(edge), floor)
+        }
+    };
+    let floor = narrow(floor);
+    Ok(Excess { beyond, floor })
 }
 
 /// Returns whether a cart may pass straight between two obstacles, without turning, and how. The corners of its outline

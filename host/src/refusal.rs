@@ -124,6 +124,8 @@ pub enum Refusal {
     },
     /// 19: no record of the log has the name.
     NoRecord,
+    /// 20: fewer shapes are on the floor, or in the log, than the question compares.
+    TooFew,
     /// A number that this package does not know. The archive that it is made for gives none.
     Other {
         /// The number.
@@ -166,6 +168,7 @@ impl Refusal {
             14 => Refusal::NotAPlace,
             16 => Refusal::Full,
             19 => Refusal::NoRecord,
+            20 => Refusal::TooFew,
             _ => Refusal::Other { number },
         }
     }
@@ -195,6 +198,9 @@ impl Refusal {
             Refusal::NotAPlace => "the walk is at no place of the sum of these shapes",
             Refusal::Full => "there is too little room after the last whole record of the log",
             Refusal::NoRecord => "no record of the log has the name",
+            Refusal::TooFew => {
+                "fewer shapes are on the floor, or in the log, than the question compares"
+            }
             _ => "this package does not know the number",
         }
     }
@@ -229,6 +235,7 @@ impl Refusal {
             Refusal::NotFinite { .. } => 17,
             Refusal::NotWhole { .. } => 18,
             Refusal::NoRecord => 19,
+            Refusal::TooFew => 20,
             Refusal::Other { number } => number,
         }
     }

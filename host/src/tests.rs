@@ -87,7 +87,7 @@ fn words_say_what_is_carried() {
         "the second list is empty, or its last corner is not whole"
     );
     assert_eq!(words(8, none), "the output is too small for the answer");
-    assert_eq!(words(20, none), "this package does not know the number");
+    assert_eq!(words(21, none), "this package does not know the number");
     let far = Refusal::FarReading { axis: Axis::Y }.to_string();
     assert_eq!(far, "refused 3: the reading of y is out of range");
     let damaged = Refusal::Damaged { place: 17 }.to_string();
@@ -103,13 +103,13 @@ fn words_are_those_of_the_header() {
         let (_, rest) = header.split_once(&case)?;
         rest.split_once('"').map(|(words, _)| words)
     };
-    for number in [6, 7, 8, 9, 10, 11, 12, 13, 14, 16, 19] {
+    for number in [6, 7, 8, 9, 10, 11, 12, 13, 14, 16, 19, 20] {
         assert_eq!(said(number), Some(&*words(number, [0; 3])), "{number}");
     }
-    for number in 0..20 {
+    for number in 0..21 {
         assert!(said(number).is_some(), "{number}");
     }
-    assert_eq!(said(20), None);
+    assert_eq!(said(21), None);
 }
 
 #[test]

@@ -79,14 +79,17 @@ static cocklesway_reply part(const int32_t *a, size_t n, uint32_t f, const int32
     return cocklesway_part(a, n, f, b, m, g, 0, 0, false, 3, out, room);
 }
 
-/* Adds the shape to a log that just holds it, and reads it. */
+/* Adds the shape to a log that just holds it, packs that into another that does, and reads it there. */
 static cocklesway_reply log_read(const int32_t *a, size_t n, uint32_t f, const int32_t *b, size_t m, uint32_t g,
                                  int32_t *out, size_t room) {
     (void)b, (void)m, (void)g;
-    uint8_t *log = (uint8_t *)calloc(4 * n + 9, 1);
-    cocklesway_log_add(log, 4 * n + 9, 7, f, a, n, SIZE_MAX);
-    cocklesway_reply reply = cocklesway_log_read(log, 4 * n + 9, 7, out, room);
+    size_t count = 4 * n + 9;
+    uint8_t *log = (uint8_t *)calloc(count, 1), *packed = (uint8_t *)calloc(count, 1);
+    cocklesway_log_add(log, count, 7, f, a, n, SIZE_MAX);
+    cocklesway_log_pack(log, count, packed, count, 65536, SIZE_MAX);
+    cocklesway_reply reply = cocklesway_log_read(packed, count, 7, out, room);
     free(log);
+    free(packed);
     return reply;
 }
 
@@ -114,7 +117,8 @@ static void pair(list a, list b) {
     static two_written *const writing[] = {cocklesway_sum, cocklesway_merge, cocklesway_grow, mirror,
                                            sweep,          part,             log_read};
     static two_lists *const reading[] = {cocklesway_begin, cocklesway_relation,  cocklesway_inside,
-                                         cocklesway_find,  cocklesway_clearance, cocklesway_tangents};
+                                         cocklesway_find,  cocklesway_clearance, cocklesway_tangents,
+                                         cocklesway_excess};
     for (size_t i = 0; i < sizeof writing / sizeof *writing; i++) {
         written(writing[i], a, b);
     }

@@ -1,8 +1,8 @@
 //! Floors of every question: which are one, and where refusal 13 has its place. The lines of the program have floors
 //! up to 65,535 only.
 use cocklesway::{
-    Book, Refusal, Shape, Walk, clearance, find, furthest, grow, inside, judge, length, limits,
-    merge, mirror, offer, passage, relation, sum, sweep, tangents, width,
+    Book, Refusal, Shape, Walk, clearance, excess, find, furthest, grow, inside, judge, length,
+    limits, merge, mirror, offer, passage, relation, sum, sweep, tangents, width,
 };
 use second::make::dice::Dice;
 use second::make::pairs;
@@ -21,7 +21,7 @@ const ONE: [Asked; 7] = [
     |a, _, _, _| width(a).err(),
     |a, _, _, log| Book::new(log).add(7, a, 99).err(),
 ];
-const TWO: [Asked; 13] = [
+const TWO: [Asked; 14] = [
     |a, b, out, _| sum(a, b, out).err(),
     |a, b, out, _| merge(a, b, out).err(),
     |a, b, out, _| grow(a, b, out).err(),
@@ -32,6 +32,7 @@ const TWO: [Asked; 13] = [
     |a, b, _, _| offer(a, b, [0, 0]).err(),
     |a, b, _, _| find(a, b).err(),
     |a, b, _, _| clearance(a, b).err(),
+    |a, b, _, _| excess(a, b).err(),
     |a, b, _, _| tangents(a, b).err(),
     |a, b, _, _| passage(a, b, a).err(),
     |a, b, _, _| passage(a, a, b).err(),

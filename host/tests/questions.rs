@@ -1,8 +1,8 @@
 //! The exchange of the README, asked of the package.
 use cocklesway::{
     Addition, Axis, Book, Nearest, Reading, Refusal, Relation, Shape, Walk, Which, clearance, find,
-    furthest, grow, inside, judge, length, log_read, merge, mirror, offer, passage, relation, sum,
-    sweep, tablet, tangents, width,
+    furthest, grow, inside, judge, length, log_pack, log_read, merge, mirror, offer, passage,
+    relation, sum, sweep, tablet, tangents, width,
 };
 
 const SQUARE: Shape = on(2, &[[0, 0], [2, 0], [2, 2], [0, 2]]);
@@ -266,6 +266,26 @@ fn log_is_added_to_and_read() {
         log_read(&log, 7, &mut out),
         Err(Refusal::Damaged { place: 0 })
     );
+}
+
+#[test]
+fn log_is_packed() {
+    let old = [&RECORD[..], &OLD, &[13, 0, 1]].concat();
+    let mut new = [9; 16];
+    assert_eq!(log_pack(&old, &mut new, None, 15), Ok(Addition::Cut));
+    assert_eq!(log_pack(&old, &mut new, None, 1), Ok(Addition::Finished));
+    assert_eq!(new, [&OLD[..], &[0]].concat()[..]);
+    assert_eq!(log_pack(&old, &mut new, None, 0), Ok(Addition::Finished));
+    assert_eq!(log_pack(&old, &mut new[..14], None, 14), Err(Refusal::Full));
+    assert_eq!(
+        log_pack(&old, &mut new, Some(7), 16),
+        Ok(Addition::Finished)
+    );
+    assert_eq!(new, [0; 16]);
+    let mut bad = old;
+    bad[17 + 2] = 3;
+    let refused = Err(Refusal::Damaged { place: 17 });
+    assert_eq!(log_pack(&bad, &mut [], None, 0), refused);
 }
 
 #[test]

@@ -5,9 +5,11 @@
 use crate::clearance::{self, Against, Between};
 use crate::combine::{self, held_by};
 use crate::direction;
+use crate::excess::{self, Place};
 use crate::host;
 use crate::log;
 use crate::measure;
+use crate::pack;
 use crate::parts::{self, State};
 use crate::passage;
 use crate::plane::{Point, Shape};
@@ -89,6 +91,11 @@ pub fn length(given: &Given) -> Answer {
     Ok(format!("{squared} {i} {j} @{floor}"))
 }
 
+pub fn area(given: &Given) -> Answer {
+    let ([a], floor) = given.shapes()?;
+    Ok(format!("{} @{floor}", measure::twice_area(&a)))
+}
+
 pub fn width(given: &Given) -> Answer {
     let ([a], floor) = given.shapes()?;
     let found = measure::width(&a)?;
@@ -154,6 +161,19 @@ pub fn clearance(given: &Given) -> Answer {
     Ok(format!("{words} {w} @{floor}"))
 }
 
+/// The new shape, then the old one.
+pub fn excess(given: &Given) -> Answer {
+    let ([new, old], floor) = given.shapes()?;
+    let Some(found) = excess::excess(&new, &old) else {
+        return Ok(format!("inside @{floor}"));
+    };
+    let (c, up) = (found.corner, found.up);
+    Ok(match found.place {
+        Place::Corner { j, d } => format!("cc {c} {j} {d} {up} @{floor}"),
+        Place::Edge { e, t, q } => format!("ce {c} {e} {t} {q} {up} @{floor}"),
+    })
+}
+
 /// The left obstacle, the right one, then the cart's outline.
 pub fn passage(given: &Given) -> Answer {
     let ([left, right, cart], floor) = given.shapes()?;
@@ -190,8 +210,21 @@ pub fn log_add(given: &Given) -> Answer {
     let mut log = given.log().to_vec();
     let (list, floor) = given.list();
     let finished = log::add(&mut log, given.name(), floor, list, given.stores())?;
+    Ok(stored(finished, &log))
+}
+
+/// The old log, then the new run.
+pub fn log_pack(given: &Given) -> Answer {
+    let [old, new] = given.bytes();
+    let mut new = new.to_vec();
+    let finished = pack::pack(old, &mut new, given.but(), given.stores())?;
+    Ok(stored(finished, &new))
+}
+
+/// Whether all stores were made, and the bytes afterwards.
+fn stored(finished: bool, bytes: &[u8]) -> String {
     let word = if finished { "finished" } else { "cut" };
-    Ok(format!("{word} | {}", log_text(&log)))
+    format!("{word} | {}", log_text(bytes))
 }
 
 pub fn host_judge(given: &Given) -> String {

@@ -9,6 +9,7 @@ use crate::make::{line, long, shape_text};
 use crate::plane::Shape;
 use std::io::{self, Write};
 
+mod changes;
 mod floors;
 mod growing;
 mod log;
@@ -38,6 +39,14 @@ const STARRED: &[Stated] = &[
     ("* Length", &[
         ("length | S", "ok 8 0 2 @0"),
         ("length | 0 0 4 0 0 3", "ok 25 1 2 @0"),
+    ]),
+    ("Area, twice", &[
+        ("area | S", "ok 8 @0"),
+        ("area | @7 0 0 1 0 0 1", "ok 1 @7"),
+        ("area | 5 -5", "ok 0 @0"),
+        ("area | 0 0 8 3", "ok 0 @0"),
+        ("area | 0 0 0 1 1 0", "no 4 shape 1 edge 0 corner 2"),
+        ("area | -1000000 -1000000 1000000 -1000000 1000000 1000000 -1000000 1000000", "ok 8000000000000 @0"),
     ]),
     ("* Width", &[
         ("width | S", "ok 0 2 4 4 2 @0"),
@@ -292,6 +301,7 @@ pub fn groups() -> Vec<Group> {
     groups.extend(spelled(separating::SEPARATING));
     groups.extend(spelled(growing::GROWING));
     groups.extend(spelled(passing::PASSING));
+    groups.extend(spelled(changes::CHANGES));
     groups
 }
 

@@ -1,4 +1,4 @@
-//! Histories of logs: additions cut after every store, from every log that cuts leave. Each answer
+//! Histories of logs: additions and packings cut after every store, from every log that cuts leave. Each answer
 //! is held against document 02's sentences (W5, and W11 on floors) from outside: nothing here knows
 //! in which order an addition makes its stores.
 //!
@@ -73,6 +73,7 @@ pub fn walk<'a>(seed: u64, rounds: usize, ask: &'a mut Ask<'a>) -> Result<(), St
             6 => walk.torn(dice, false_record)?,
             _ => walk.torn(dice, logs::any)?,
         }
+        walk.packed(dice)?;
     }
     Ok(())
 }
@@ -120,6 +121,89 @@ impl Walk<'_> {
         let again = addition(dice, &names, logs::small_shape);
         self.left_by(&left[dice.below(left.len())], &again)
             .map(drop)
+    }
+
+    /// A log packed at every allowance into a run that may hold anything; then again from every run that a cut leaves.
+    fn packed(&mut self, dice: &mut Dice) -> Result<(), String> {
+        let mut old = logs::any(dice);
+        old.truncate(SHORT);
+        let but = dice.one_in(2).then(|| logs::name(dice));
+        let length = old.len() + dice.below(4);
+        let mut runs = vec![logs::any_run(dice, length)];
+        for stores in 0..=length {
+            let before = runs[runs.len() - 1].clone();
+            match self.pack(&old, &runs[0], but, stores)? {
+                Reply::Refused(_) => {
+                    return holds(stores == 0, "refused at every allowance or at none");
+                }
+                Reply::Cut(run) => {
+                    let most = usize::from(stores > 0);
+                    holds(
+                        changed(&before, &run)? == most,
+                        "a cut packing makes every store",
+                    )?;
+                    runs.push(run);
+                }
+                Reply::Finished(run) => {
+                    holds(
+                        changed(&before, &run)? <= 1,
+                        "one store more changes at most one byte",
+                    )?;
+                    return self.packed_again(&old, but, &runs, stores, &run);
+                }
+            }
+        }
+        Err("as many stores as the run has bytes are enough to finish".to_string())
+    }
+
+    /// Each run that a cut left is finished by the stores that are still needed, and by no fewer;
+    /// and every name reads as it has to.
+    fn packed_again(
+        &mut self,
+        old: &[u8],
+        but: Option<u16>,
+        runs: &[Vec<u8>],
+        enough: usize,
+        packed: &[u8],
+    ) -> Result<(), String> {
+        for (made, run) in runs[1..].iter().enumerate() {
+            let left = enough - made;
+            let reply = self.pack(old, run, but, left)?;
+            let same = matches!(reply, Reply::Finished(run) if run == packed);
+            holds(same, "a cut packing goes on where it was cut")?;
+            let reply = self.pack(old, run, but, left - 1)?;
+            holds(
+                matches!(reply, Reply::Cut(_)),
+                "and needs all of its stores",
+            )?;
+        }
+        let reply = self.pack(old, packed, but, 0)?;
+        let same = matches!(reply, Reply::Finished(run) if run == packed);
+        holds(same, "a packed run needs no store")?;
+        for name in logs::NAMES {
+            let due = match but {
+                Some(but) if but == name => "no 19".to_string(),
+                _ => self.reading(old, name)?,
+            };
+            holds(
+                self.reading(packed, name)? == due,
+                "every other name reads as before",
+            )?;
+        }
+        Ok(())
+    }
+
+    fn pack(
+        &mut self,
+        old: &[u8],
+        new: &[u8],
+        but: Option<u16>,
+        stores: usize,
+    ) -> Result<Reply, String> {
+        let but = but.map_or(String::new(), |name| name.to_string());
+        let fields = [log_text(old), log_text(new), but, stores.to_string()];
+        let question = line("pack", &fields);
+        reply((self.ask)(&question)?).ok_or(format!("{question}: no answer of a packing"))
     }
 
     /// A log that no history need have left.

@@ -113,6 +113,20 @@ fn entries(log: &[u8]) -> Result<(Vec<Entry>, usize), Refusal> {
     Ok((held, place))
 }
 
+/// The name and the bytes of every whole record, or 15.
+pub fn records(log: &[u8]) -> Result<Vec<(u16, &[u8])>, Refusal> {
+    let (held, end) = entries(log)?;
+    let mut rest = &log[..end];
+    let mut named = Vec::new();
+    for entry in held {
+        let counted = whole(rest).expect("a record that was read");
+        let (record, behind) = rest.split_at(2 + counted.len());
+        named.push((entry.name, record));
+        rest = behind;
+    }
+    Ok(named)
+}
+
 /// What the length at the front counts, if a record stands whole there: a length of 0 counts no
 /// last byte.
 fn whole(rest: &[u8]) -> Option<&[u8]> {

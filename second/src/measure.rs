@@ -1,4 +1,4 @@
-//! Furthest corner, length and width of one shape (document 01): every corner, pair and edge tried.
+//! Furthest corner, length, area and width of one shape: every corner, pair and edge tried.
 
 use crate::direction;
 use crate::plane::{Point, edge_ends, squared_distance, turn, value};
@@ -28,6 +28,12 @@ pub fn length(shape: &[Point]) -> (i128, usize, usize) {
         }
     }
     best
+}
+
+/// Twice the area: of the triangles that the first corner makes with each edge.
+pub fn twice_area(shape: &[Point]) -> i128 {
+    let edges = shape.windows(2);
+    edges.map(|edge| turn(shape[0], edge[0], edge[1])).sum()
 }
 
 #[derive(Clone, Copy, Debug, PartialEq, Eq)]

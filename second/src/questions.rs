@@ -6,8 +6,8 @@ use crate::make::dice::Dice;
 use crate::make::fields as make;
 use crate::make::{host, logs, parts, readings};
 use crate::text::fields::Field::{
-    self, Bytes, Call, Calls, Direction, Floor, Log, Name, Output, Reading, Room, Shape, Stores,
-    Walk,
+    self, But, Bytes, Call, Calls, Direction, Floor, Log, Name, Output, Reading, Room, Shape,
+    Stores, Walk,
 };
 use crate::text::given::Given;
 
@@ -31,17 +31,20 @@ pub const TABLE: &[Row] = &[
     Row { word: "grow", fields: &[Shape, Shape, Room], ask: ask::grow, make: make::grow },
     Row { word: "sweep", fields: &[Shape, Room], ask: ask::sweep, make: make::sweep },
     Row { word: "length", fields: &[Shape], ask: ask::length, make: make::one_shape },
+    Row { word: "area", fields: &[Shape], ask: ask::area, make: make::one_shape },
     Row { word: "width", fields: &[Shape], ask: ask::width, make: make::one_shape },
     Row { word: "relation", fields: &[Shape, Shape], ask: ask::relation, make: make::two_shapes },
     Row { word: "inside", fields: &[Shape, Shape], ask: ask::inside, make: make::two_shapes },
     Row { word: "offer", fields: &[Shape, Shape, Direction], ask: ask::offer, make: make::offer },
     Row { word: "find", fields: &[Shape, Shape], ask: ask::find, make: make::find },
     Row { word: "clearance", fields: &[Shape, Shape], ask: ask::clearance, make: make::clearance },
+    Row { word: "excess", fields: &[Shape, Shape], ask: ask::excess, make: make::excess },
     Row { word: "tangents", fields: &[Shape, Shape], ask: ask::tangents, make: make::tangents },
     Row { word: "passage", fields: &[Shape, Shape, Shape], ask: ask::passage, make: make::passage },
     Row { word: "tablet", fields: &[Reading, Reading], ask: ask::tablet, make: readings::corner },
     Row { word: "bookread", fields: &[Log, Name, Room], ask: ask::log_read, make: logs::to_read },
     Row { word: "bookadd", fields: &[Log, Name, Shape, Stores], ask: ask::log_add, make: logs::to_add },
+    Row { word: "pack", fields: &[Bytes, Bytes, But, Stores], ask: ask::log_pack, make: logs::to_pack },
 ];
 
 /// The calls of a host, each of which tells its whole line. The query program knows none of them.

@@ -4,7 +4,7 @@ use std::cmp::Ordering;
 
 /// What must have been compared at least once: of each question answers by their first values, and
 /// refusals.
-pub const KINDS: [(&str, &str); 25] = [
+pub const KINDS: [(&str, &str); 28] = [
     ("judge", "ok; no 1; no 2; no 3; no 4; no 5; no 13"),
     (
         "furthest",
@@ -13,6 +13,7 @@ pub const KINDS: [(&str, &str); 25] = [
     ("mirror", "ok; no 4; no 8; no 13"),
     ("length", "ok; no 4; no 13"),
     ("width", "ok; no 4; no 10; no 13"),
+    ("area", "ok; no 4; no 13"),
     ("sum", "ok; no 4; no 6; no 7; no 8; no 13"),
     ("begin", "ok; no 4; no 6; no 7; no 13"),
     ("part", "ok; ok, over; no 4; no 6; no 7; no 8; no 13; no 14"),
@@ -22,6 +23,7 @@ pub const KINDS: [(&str, &str); 25] = [
     ("relation", "ok 0; ok 1; ok 2; no 4; no 13"),
     ("inside", "ok 0; ok 1; no 4; no 13"),
     ("clearance", "ok 0; ok 1; ok 2; ok 3; no 4; no 13"),
+    ("excess", "ok 0; ok 1; ok 2; no 4; no 13"),
     ("tangents", "ok; no 4; no 9; no 13"),
     ("passage", "ok 0; ok 1; no 4; no 6; no 7; no 13"),
     ("offer", "ok 0; ok 1; no 4; no 11; no 12; no 13"),
@@ -29,6 +31,7 @@ pub const KINDS: [(&str, &str); 25] = [
     ("tablet", "ok; no 3; no 17; no 18"),
     ("log_read", "ok; no 8; no 15; no 19"),
     ("log_add", "ok 0; ok 1; no 4; no 13; no 15; no 16"),
+    ("log_pack", "ok 0; ok 1; no 15; no 16"),
     ("judge_bytes", "ok; no 1; no 2; no 3; no 4; no 5; no 13"),
     ("sum_bytes", "ok; no 4; no 6; no 7; no 8; no 13"),
     ("merge_bytes", "ok; no 4; no 6; no 8; no 13"),
@@ -41,8 +44,8 @@ pub fn kind(word: &str, answer: Numbers) -> String {
     match (answer.refusal, word) {
         (
             0,
-            "relation" | "relation_bytes" | "inside" | "clearance" | "passage" | "offer" | "find"
-            | "log_add",
+            "relation" | "relation_bytes" | "inside" | "clearance" | "excess" | "passage" | "offer"
+            | "find" | "log_add" | "log_pack",
         ) => {
             format!("ok {first}")
         }

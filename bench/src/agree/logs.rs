@@ -7,14 +7,36 @@ use crate::logs::NAMES;
 use crate::plain::{self, MOST};
 use crate::random::Random;
 use crate::reply::Numbers;
-use cocklesway::{Book, log_read};
+use cocklesway::{Book, log_pack, log_read};
 
 /// Reads names of a log, adds a shape, and reads again.
 pub fn ask(tally: &mut Tally, random: &mut Random, log: &[u8], shape: Lent) -> Result<(), String> {
     let name = random.below(NAMES) as u16;
     ask_read(tally, random, log, name)?;
     let added = ask_add(tally, random, log, name, shape)?;
-    ask_read(tally, random, &added, name)
+    ask_read(tally, random, &added, name)?;
+    ask_pack(tally, random, &added, name)
+}
+
+/// Packs a log into a run that may hold anything, at times without a name.
+fn ask_pack(tally: &mut Tally, random: &mut Random, log: &[u8], name: u16) -> Result<(), String> {
+    let but = (random.below(2) == 0).then_some(name);
+    let length = random.below(log.len() as u64 + 20) as usize;
+    let mut ours: Vec<u8> = log.iter().copied().chain([0; 20]).take(length).collect();
+    let mut theirs = ours.clone();
+    let allowed = match random.below(3) {
+        0 => random.below(40) as usize,
+        1 => random.below(length as u64 + 1) as usize,
+        _ => usize::MAX,
+    };
+    let asked = (log, length, but, allowed);
+    let by_hand = plain::log_pack(log, &mut ours, but, allowed);
+    let by_proof = Numbers::of(log_pack(log, &mut theirs, but, allowed));
+    tally.add("log_pack", asked, by_hand, by_proof)?;
+    if ours != theirs {
+        return Err(format!("log_pack of {asked:?}: the runs differ"));
+    }
+    Ok(())
 }
 
 /// Reads a name into an output of any room.

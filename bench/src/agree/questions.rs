@@ -5,15 +5,15 @@ use super::{Lent, on};
 use crate::plain;
 use crate::reply::Numbers;
 use cocklesway::{
-    Walk, clearance, find, furthest, inside, judge, length, offer, passage, relation, tangents,
-    width,
+    Walk, area, clearance, excess, find, furthest, inside, judge, length, offer, passage, relation,
+    tangents, width,
 };
 
 /// A question of two shapes.
 type Two = fn(Lent, Lent) -> Numbers;
 
 /// Those of which the whole answer is fixed: word, plain and proved.
-const FIXED: [(&str, Two, Two); 5] = [
+const FIXED: [(&str, Two, Two); 6] = [
     (
         "relation",
         |(a, f), (b, g)| plain::relation(a, f, b, g),
@@ -28,6 +28,11 @@ const FIXED: [(&str, Two, Two); 5] = [
         "clearance",
         |(a, f), (b, g)| plain::clearance(a, f, b, g),
         |a, b| Numbers::of(clearance(on(a), on(b))),
+    ),
+    (
+        "excess",
+        |(a, f), (b, g)| plain::excess(a, f, b, g),
+        |a, b| Numbers::of(excess(on(a), on(b))),
     ),
     (
         "tangents",
@@ -56,6 +61,7 @@ pub fn ask_one(tally: &mut Tally, lent: Lent) -> Result<(), String> {
         plain::length(a, f),
         Numbers::of(length(shape)),
     )?;
+    tally.add("area", lent, plain::area(a, f), Numbers::of(area(shape)))?;
     tally.add("width", lent, plain::width(a, f), Numbers::of(width(shape)))
 }
 

@@ -36,7 +36,7 @@ pub fn towards(a: Shape, b: Shape) -> Option<Corner> {
 
 /// The place of the differences nearest to the origin: the corner that is made of these corners of the two shapes, or
 /// inside the edge that leaves it, which is an edge of one shape or of both.
-struct Place {
+pub struct Place {
     first: usize,
     second: usize,
     edge: Option<Next>,
@@ -46,7 +46,7 @@ struct Place {
 /// an edge that has the origin to its right and the origin's foot strictly inside, tell that it is outside. What comes
 /// before the first corner is known at the end of the walk.
 #[inline(always)]
-fn place(a: Shape, b: Shape) -> Option<Place> {
+pub fn place(a: Shape, b: Shape) -> Option<Place> {
     let mut nearer = false;
     let mut walk = Walk::<Corner, true>::of(a, b);
     let walked = walk.pass(|walk, next| {
@@ -94,7 +94,7 @@ fn begun(a: Shape, b: Shape, nearer: bool) -> Option<Place> {
 
 impl Place {
     /// The answer: two corners, or a corner and an edge.
-    fn told(&self, a: &[Corner], b: &[Corner], floor: u64) -> Numbers {
+    pub fn told(&self, a: &[Corner], b: &[Corner], floor: u64) -> Numbers {
         match self.edge {
             None => between(a, self.first, b, self.second, floor),
             Some(Next::First) => across(3, b, self.second, a, self.first, floor),

@@ -15,7 +15,7 @@ pub fn inside(a: &[i32], f: u32, b: &[i32], g: u32) -> Numbers {
 
 /// Inside a point or a segment is what lies on it.
 #[inline(always)]
-fn is_inside(a: &[Corner], b: &[Corner]) -> bool {
+pub fn is_inside(a: &[Corner], b: &[Corner]) -> bool {
     match b {
         [point] => a == [*point],
         [from, to] => a.iter().all(|&p| on_segment(p, *from, *to)),

@@ -49,6 +49,60 @@ pub fn log_add(log: &mut [u8], name: u16, list: &[i32], floor: u32, allowed: usi
     }
 }
 
+/// Packs the latest records of a log into a second run of bytes, without those of a name, with at most so many stores
+/// of single bytes. 1 if it finished, 0 if it was cut.
+#[inline(never)]
+pub fn log_pack(old: &[u8], new: &mut [u8], but: Option<u16>, allowed: usize) -> Numbers {
+    let mut records = Vec::new();
+    if let Err(refusal) = survey(old, |record| records.push(record.name)) {
+        return refusal;
+    }
+    let mut seen = [0u64; 1024];
+    if let Some(name) = but {
+        is_first(&mut seen, name);
+    }
+    let mut kept = vec![false; records.len()];
+    for (kept, &name) in kept.iter_mut().zip(&records).rev() {
+        *kept = is_first(&mut seen, name);
+    }
+    let current = || kept_parts(old, &kept);
+    let count: usize = current().map(<[u8]>::len).sum();
+    if new.len() < count {
+        return Numbers::refused(16);
+    }
+    let wanted = current().flatten().copied().chain(std::iter::repeat(0));
+    let mut need = 0;
+    for (to, byte) in new.iter_mut().zip(wanted) {
+        if *to != byte {
+            if need < allowed {
+                *to = byte;
+            }
+            need += 1;
+        }
+    }
+    Numbers::all([u64::from(need <= allowed)])
+}
+
+/// Marks a name, and returns whether it was not marked before.
+#[inline(always)]
+fn is_first(seen: &mut [u64; 1024], name: u16) -> bool {
+    let (word, bit) = (usize::from(name / 64), 1 << (name % 64));
+    let first = seen[word] & bit == 0;
+    seen[word] |= bit;
+    first
+}
+
+/// The bytes of the records that are kept.
+#[inline(always)]
+fn kept_parts<'a>(log: &'a [u8], kept: &[bool]) -> impl Iterator<Item = &'a [u8]> {
+    let mut rest = log;
+    kept.iter().filter_map(move |&kept| {
+        let (part, behind) = rest.split_at(2 + whole(rest)?.len());
+        rest = behind;
+        kept.then_some(part)
+    })
+}
+
 /// What a record says.
 struct Record<'a> {
     name: u16,

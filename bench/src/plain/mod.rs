@@ -1,5 +1,6 @@
 //! The questions of documents 01 and 02, written plainly and for speed: what the proved ones are
 //! measured against. Each judges its lists first, and compares the floors of two.
+mod area;
 mod blame;
 mod bytes;
 mod calipers;
@@ -9,6 +10,7 @@ mod deliver;
 mod differences;
 mod direction;
 mod edges;
+mod excess;
 mod extent;
 mod furthest;
 mod inside;
@@ -29,13 +31,15 @@ mod tangents;
 mod walk;
 mod width;
 
+pub use area::area;
 pub use bytes::{judge_bytes, merge_bytes, relation_bytes, sum_bytes};
 pub use clearance::clearance;
+pub use excess::excess;
 pub use furthest::furthest;
 pub use inside::inside;
 pub use judge::{MOST, judge};
 pub use length::length;
-pub use log::{log_add, log_read};
+pub use log::{log_add, log_pack, log_read};
 pub use merge::merge;
 pub use mirror::mirror;
 pub use parts::{Place, begin, part};

@@ -1,8 +1,8 @@
 //! What the package answers, as numbers.
 use super::{MOST_VALUES, Numbers};
 use cocklesway::{
-    Across, Addition, Clearance, Corners, Furthest, Inside, Length, Nearest, Offer, Part, Passage,
-    Refusal, Separator, Shape, Standing, Tangents, Walk, Width,
+    Across, Addition, Area, Beyond, Clearance, Corners, Excess, Furthest, Inside, Length, Nearest,
+    Offer, Part, Passage, Refusal, Separator, Shape, Standing, Tangents, Walk, Width,
 };
 
 impl From<Refusal> for Numbers {
@@ -47,6 +47,12 @@ impl From<Furthest> for Numbers {
 impl From<Length> for Numbers {
     fn from(r: Length) -> Numbers {
         Numbers::all([r.squared, r.from as u64, r.to as u64, r.floor.into()])
+    }
+}
+
+impl From<Area> for Numbers {
+    fn from(r: Area) -> Numbers {
+        Numbers::all([r.twice, r.floor.into()])
     }
 }
 
@@ -114,6 +120,28 @@ impl Numbers {
     fn across(kind: u64, r: Across, floor: u64) -> Numbers {
         let (corner, edge) = (r.corner as u64, r.edge as u64);
         Numbers::all([kind, corner, edge, r.turn, r.squared, r.rounded, floor])
+    }
+}
+
+impl From<Excess> for Numbers {
+    fn from(r: Excess) -> Numbers {
+        let floor = r.floor.into();
+        match r.beyond {
+            None => Numbers::one(0, r.floor),
+            Some(Beyond::Corners {
+                corner,
+                other,
+                squared,
+                up,
+            }) => Numbers::all([1, corner as u64, other as u64, squared, up, floor]),
+            Some(Beyond::Edge {
+                corner,
+                edge,
+                turn,
+                squared,
+                up,
+            }) => Numbers::all([2, corner as u64, edge as u64, turn, squared, up, floor]),
+        }
     }
 }
 

@@ -29,6 +29,7 @@ ofRefusal Refusal.NotAPlace = refused 14 []
 ofRefusal (Refusal.Damaged place) = refused 15 (place ∷ [])
 ofRefusal Refusal.Full = refused 16 []
 ofRefusal Refusal.NoRecord = refused 19 []
+ofRefusal Refusal.TooFew = refused 20 []
 
 abbrev pub ofAnswer : Answer → Reply
 ofAnswer (Answer.Corners n floor) = answered (pos n ∷ pos floor ∷ [])

@@ -53,6 +53,8 @@ pub enum Refusal {
     Full,
     // 19: a name that no record of a log has
     NoRecord,
+    // 20: fewer shapes on the floor, or in the log, than the question compares
+    TooFew,
 }
 
 // How many corners a shape has that was judged or written.

@@ -14,8 +14,6 @@ ghost use Rattle.plane.specs.Floor.{on, pairRows, floorRow, Same};
 ghost use Rattle.admission.specs.Admission.{Judged};
 ghost use Rattle.admission.specs.Three.{threeRows, SameThree};
 use answer::Refusal;
-use calipers::convex;
-use polygon::direction;
 use polygon::rules;
 use polygon::rules::Broken;
 
@@ -32,7 +30,7 @@ pub enum Admission {
 pub fn admit(list: &[i32], shape: usize) -> Admission
     ensures { λ r. ⌜ Judged (Valid (now (list .entry))) (shapeRows shape (now (list .entry))) r ⌝ }
 {
-    if convex::passes(list) {
+    if convexity::passes(list) {
         return Admission::Valid;
     }
     blamed(list, shape)
@@ -72,10 +70,10 @@ pub fn admit_pair(a: &[i32], f: u16, b: &[i32], g: u16) -> Admission
     ensures { λ r. ⌜ Judged (Same (on (now (a .entry)) f) (on (now (b .entry)) g))
         (pairRows (on (now (a .entry)) f) (on (now (b .entry)) g)) r ⌝ }
 {
-    if !convex::passes(a) {
+    if !convexity::passes(a) {
         return blamed_pair(a, f, b, g);
     }
-    if !convex::passes(b) {
+    if !convexity::passes(b) {
         return blamed_pair(a, f, b, g);
     }
     admit_floors(f, g)
@@ -96,7 +94,6 @@ fn blamed_pair(a: &[i32], f: u16, b: &[i32], g: u16) -> Admission
 }
 
 // Judges three lists, one after the other, and then whether all are on one floor.
-// Ruled out: third floor not compared; second shape blamed for the third.
 pub fn admit_three(a: &[i32], f: u16, b: &[i32], g: u16, c: &[i32], h: u16) -> Admission
     ensures { λ r. ⌜ Judged
         (SameThree (on (now (a .entry)) f) (on (now (b .entry)) g) (on (now (c .entry)) h))

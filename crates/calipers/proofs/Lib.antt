@@ -1,4 +1,2 @@
 -- Lemmas that function proofs share.
 pub mod Tests
-pub mod Walked
-pub mod Progress

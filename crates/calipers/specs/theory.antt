@@ -11,11 +11,3 @@ pub mod Steps
 pub mod Carry
 pub mod Directions
 pub mod Visits
-pub mod Summed
-pub mod Reached
-pub mod PlaceTest
-pub mod Parts
-pub mod PartAnswers
-pub mod Calls
-pub mod Stretches
-pub mod Convex

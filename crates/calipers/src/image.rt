@@ -2,7 +2,7 @@
 // shape's, from the peak on.
 ghost use mathlib.Core.Bool.{cond};
 ghost use mathlib.Core.Path.{_≡_};
-ghost use Prim.Native.Nat.{_<_, _≤_};
+ghost use Prim.Native.Nat.{_+_, _<_, _≤_};
 ghost use lib.ListN.{length};
 ghost use Rattle.plane.specs.Point.{points};
 ghost use Rattle.plane.specs.Refusal.{Valid};
@@ -20,7 +20,7 @@ use polygon::point;
 use polygon::point::Point;
 
 // The side of the image with i edges passed. The peak of the shape is at position top.
-// Ruled out: image begun at the first corner; image stuck at the first corner.
+// Ruled out: image begun at the first corner.
 pub fn side_at(list: &[i32], top: usize, i: usize) -> Side
     requires { ⌜ Valid (now list) × Peak (points (now list)) top
         × (i ≤ length (Forms·edges (points (image (now list))))) ⌝ }
@@ -39,10 +39,35 @@ pub fn next(list: &[i32], top: usize, s: Side, waits: bool) -> Side
     if waits {
         return s;
     }
+    if s.at + 2 < s.end {
+        return ahead(list, top, s, false);
+    }
+    late(list, top, s)
+}
+
+// One edge on, unless none is left. It is apart from `next`, which seldom comes here.
+fn late(list: &[i32], top: usize, s: Side) -> Side
+    requires { ⌜ Valid (now list) × Peak (points (now list)) top × Carried (image (now list)) s ⌝ }
+    ensures { λ r. ⌜ (r .at ≡ onward (points (image (now (list .entry)))) (s .at))
+        × Carried (image (now (list .entry))) r ⌝ }
+{
     if s.at == s.end {
         return s;
     }
     onto(list, top, side::arrived(s))
+}
+
+// The same where at least three edges are left: no test of the end is needed.
+pub fn ahead(list: &[i32], top: usize, s: Side, waits: bool) -> Side
+    requires { ⌜ Valid (now list) × Peak (points (now list)) top × Carried (image (now list)) s
+        × (s .at + 2 < s .end) ⌝ }
+    ensures { λ r. ⌜ (r .at ≡ cond waits (s .at) (onward (points (image (now (list .entry)))) (s .at)))
+        × Carried (image (now (list .entry))) r ⌝ }
+{
+    if waits {
+        return s;
+    }
+    side::facing(side::arrived(s), corner_at(list, top, s.at + 2))
 }
 
 // A side that stands at a corner and knows no edge yet, with its next edge.

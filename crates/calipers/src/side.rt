@@ -1,6 +1,6 @@
 // Inner functions: one shape on a walk. What the walk compares is carried along, so that a step reads the list only for
 // the corner that comes next.
-ghost use mathlib.Core.Bool.{cond};
+ghost use mathlib.Core.Bool.{true, cond};
 ghost use mathlib.Core.Path.{_≡_};
 ghost use Prim.Native.Nat.{_+_, _^_, _<_, _≤_};
 ghost use lib.IntN.{_-ℤ_};
@@ -157,6 +157,17 @@ pub fn order(s: Side, t: Side) -> i64
     ensures { λ r. ⌜ r ≡ cross (nextOf s) (nextOf t) ⌝ }
 {
     s.run * t.rise - s.rise * t.run
+}
+
+// Whether both sides have three edges left.
+pub fn are_inside(s: Side, t: Side) -> bool
+    requires { ⌜ (s .at < 2 ^ 63) × (t .at < 2 ^ 63) ⌝ }
+    ensures { λ r. ⌜ (r ≡ true → (s .at + 2 < s .end) × (t .at + 2 < t .end)) ⌝ }
+{
+    if s.end <= s.at + 2 {
+        return false;
+    }
+    t.at + 2 < t.end
 }
 
 // Whether the next edge of the first side is before that of the other by direction, from level to the right all the way

@@ -16,9 +16,9 @@ use Rattle.plane.specs.Corner.{shapeOf}
 use Rattle.plane.specs.Separation.{inside, apart, notLeft, onRim, touching, relationNumber}
 use Rattle.plane.specs.Question.{Question, reply}
 use Rattle.endian.specs.Bytes.{pair, pairAt, word, wordAt, words, wordsAt}
-use Rattle.calls.specs.LowFloor.{lowFloor}
-use Rattle.calls.specs.Bytes.{listOf, askJudgeBytes, askRelationBytes, askSumBytes, askMergeBytes, bytesAfter}
-use Rattle.calls.specs.Packing.{fields, packed}
+use Rattle.crossing.specs.LowFloor.{lowFloor}
+use Rattle.crossing.specs.Bytes.{listOf, askJudgeBytes, askRelationBytes, askSumBytes, askMergeBytes, bytesAfter}
+use Rattle.crossing.specs.Packing.{fields, packed}
 
 -- the number that is answered, and the output bytes afterwards
 pub record Told : Type 0 where

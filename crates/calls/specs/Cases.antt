@@ -16,7 +16,7 @@ use Rattle.plane.specs.Separation.{inside, apart, notLeft, onRim, touching, rel
 use Rattle.plane.specs.Floor.{on}
 use Rattle.plane.specs.Question.{Question, reply, output, askJudge, askMirror, askRelation, askSum, askWidth}
 use Rattle.reply.specs.Told.{padded, crossed}
-use Rattle.calls.specs.LowFloor.{lowFloor}
+use Rattle.crossing.specs.LowFloor.{lowFloor}
 
 -- the numbers that are told and the output afterwards, and those that are stated
 pub record Case : Type 0 where

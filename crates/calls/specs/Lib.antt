@@ -1,10 +1,6 @@
--- The calls of a host: floors that are any numbers, and what each call answers besides the question's own reply; then the calls on bytes;
+-- The calls of a host: what some answer besides the question's own reply; cases of the calls on lists and on bytes; what it all means;
 -- then the theory.
-pub mod LowFloor
 pub mod Calls
-pub mod Bytes
-pub mod Packing
-pub mod Passing
 pub mod Cases
 pub mod BytesCases
 pub mod Meaning

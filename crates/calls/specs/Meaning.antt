@@ -22,13 +22,13 @@ use Rattle.journal.specs.Adding.{added}
 use Rattle.reply.specs.Told.{bits, crossed}
 use Rattle.reply.specs.Heard.{numberOf, valuesOf}
 use Rattle.passage.specs.Passage.{askPassage}
-use Rattle.calls.specs.LowFloor.{lowFloor, lowPassage, Numbered}
+use Rattle.crossing.specs.LowFloor.{lowFloor, lowPassage, Numbered}
 use Rattle.calls.specs.Calls.{SeparatorTold, addedLow}
-use Rattle.calls.specs.Bytes.{wordsIn, askJudgeBytes, askRelationBytes, askSumBytes, askMergeBytes, bytesAfter}
-use Rattle.calls.specs.Packing.{packed, Unpacked, packed-back}
-use Rattle.calls.specs.Passing.{Room}
-use Rattle.calls.specs.theory.Low.{within}
-use Rattle.calls.specs.theory.Passages as passages
+use Rattle.crossing.specs.Bytes.{wordsIn, askJudgeBytes, askRelationBytes, askSumBytes, askMergeBytes, bytesAfter}
+use Rattle.crossing.specs.Packing.{packed, Unpacked, packed-back}
+use Rattle.crossing.specs.Passing.{Room}
+use Rattle.crossing.specs.theory.Low.{within}
+use Rattle.crossing.specs.theory.Passages as passages
 use Rattle.calls.specs.theory.Thirteen as thirteen
 use Rattle.calls.specs.theory.Fits.{judged-fits, relation-fits, made-fits}
 use Rattle.calls.specs.theory.Stored.{kept-bytes, wrote-bytes, room-words, few-numbers, room-same, made-read-back}

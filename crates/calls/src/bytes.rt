@@ -7,16 +7,16 @@ ghost use mathlib.Core.Path.{_≡_};
 ghost use Prim.Native.Nat.{_≤_};
 ghost use lib.ListN.{length};
 ghost use Rattle.plane.specs.Question.{reply};
-ghost use Rattle.calls.specs.Packing.{packed};
-ghost use Rattle.calls.specs.Bytes.{askJudgeBytes, askRelationBytes, askSumBytes, askMergeBytes, bytesAfter};
-ghost use Rattle.calls.specs.Passing.{askBytes, smallBytes};
-use crate::decoding;
+ghost use Rattle.crossing.specs.Packing.{packed};
+ghost use Rattle.crossing.specs.Bytes.{askJudgeBytes, askRelationBytes, askSumBytes, askMergeBytes, bytesAfter};
+ghost use Rattle.crossing.specs.Passing.{askBytes, smallBytes};
 use crate::lent;
+use crossing::decoding;
 use polygon::limits;
 
 // Judges whether the bytes hold a shape, and returns how many corners it has. Refused: 1 to 5, where a count of bytes
 // that is no multiple of four is 1; then 13 if the floor is above its limit.
-// Ruled out: floor above the limit answered; edge and corner exchanged; long odd list refused 2.
+// Ruled out: edge and corner exchanged; long odd list refused 2.
 #[no_mangle]
 pub extern "C" fn cocklesway_judge_bytes(list: &[u8], floor: u32) -> u64
     ensures { λ r. ⌜ r ≡ packed (reply (askJudgeBytes (now (list .entry)) floor)) ⌝ }
@@ -71,7 +71,6 @@ fn combine(merged: bool, a: &[u8], f: u32, b: &[u8], g: u32, out: &mut [u8]) -> 
 }
 
 // The same of two small lists: what is made of them has no more numbers than both.
-// Ruled out: large sum refused 8.
 fn combine_small(merged: bool, a: &[u8], f: u32, b: &[u8], g: u32, out: &mut [u8]) -> u64
     requires { ⌜ (length (now a) ≤ smallBytes) × (length (now b) ≤ smallBytes) ⌝ }
     ensures { λ r. ⌜
@@ -100,7 +99,6 @@ fn combine_large(merged: bool, a: &[u8], f: u32, b: &[u8], g: u32, out: &mut [u8
 
 // Returns whether the shapes are apart, touching or overlapping. Refused: 1 to 5 of the first list, then of the second;
 // 13 if the floors differ or one is above its limit.
-// Ruled out: different floors answered; touching called apart.
 #[no_mangle]
 pub extern "C" fn cocklesway_relation_bytes(a: &[u8], f: u32, b: &[u8], g: u32) -> u64
     ensures { λ r. ⌜ r ≡ packed (reply (askRelationBytes (now (a .entry)) f (now (b .entry)) g)) ⌝ }

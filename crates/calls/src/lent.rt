@@ -2,34 +2,31 @@
 ghost use mathlib.Core.Path.{_≡_};
 ghost use lib.ListN.{length};
 ghost use Rattle.plane.specs.Question.{reply};
-ghost use Rattle.calls.specs.Packing.{packed};
-ghost use Rattle.calls.specs.Bytes.{askJudgeBytes, askRelationBytes, bytesAfter};
-ghost use Rattle.calls.specs.Passing.{Enough, Spacious, askBytes};
-use crate::decoding;
-use crate::packing;
+ghost use Rattle.crossing.specs.Packing.{packed};
+ghost use Rattle.crossing.specs.Bytes.{askJudgeBytes, askRelationBytes, bytesAfter};
+ghost use Rattle.crossing.specs.Passing.{Enough, Spacious, askBytes};
 use crate::pairs;
 use crate::shapes;
 use crate::writing;
+use crossing::decoding;
 
 // Judges the list.
-// Ruled out: floor above the limit answered.
 pub fn judge(list: &[u8], floor: u32, numbers: &mut [i32]) -> u64
     requires { ⌜ Enough (length (now list)) (length (now numbers)) ⌝ }
     ensures { λ r. ⌜ r ≡ packed (reply (askJudgeBytes (now (list .entry)) floor)) ⌝ }
 {
     let n = decoding::read(list, numbers);
-    packing::packed_reply(shapes::cocklesway_judge(&numbers[..n], floor))
+    crossing::packing::packed_reply(shapes::cocklesway_judge(&numbers[..n], floor))
 }
 
 // Asks how the shapes are to each other.
-// Ruled out: different floors answered.
 pub fn relation(a: &[u8], f: u32, b: &[u8], g: u32, first: &mut [i32], second: &mut [i32]) -> u64
     requires { ⌜ Enough (length (now a)) (length (now first)) × Enough (length (now b)) (length (now second)) ⌝ }
     ensures { λ r. ⌜ r ≡ packed (reply (askRelationBytes (now (a .entry)) f (now (b .entry)) g)) ⌝ }
 {
     let m = decoding::read(a, first);
     let n = decoding::read(b, second);
-    packing::packed_reply(pairs::cocklesway_relation(&first[..m], f, &second[..n], g))
+    crossing::packing::packed_reply(pairs::cocklesway_relation(&first[..m], f, &second[..n], g))
 }
 
 // Asks for the merge of the shapes, or for their sum.

@@ -3,11 +3,8 @@
 // itself refuses. Each call answers a `Reply`: the numbers of the reply that the question's definition states. Four
 // questions can be asked on plain bytes too; each of these calls answers one number.
 mod bytes;
-mod decoding;
-mod floors;
 mod lent;
 mod logs;
-mod packing;
 mod pairs;
 mod passages;
 mod readings;
@@ -39,7 +36,7 @@ pub struct Limits {
 }
 
 // Returns the limits, so that a host copies none.
-// Ruled out: numbers told for corners; part told for the coordinate.
+// Ruled out: numbers told for corners.
 #[no_mangle]
 pub extern "C" fn cocklesway_limits() -> Limits
     ensures { λ r. ⌜ (r .corners ≡ maxCorners) × (r .points ≡ maxPoints) × (r .coordinate ≡ maxCoordinate)

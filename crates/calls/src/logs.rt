@@ -2,9 +2,13 @@
 ghost use mathlib.Core.Path.{_≡_};
 ghost use Rattle.plane.specs.Question.{reply, output};
 ghost use Rattle.journal.specs.Reading.{askRead};
+ghost use Rattle.packing.specs.Packing.{remade};
+ghost use Rattle.journal.specs.Current.{askEntry};
+ghost use Rattle.neighbours.specs.Nearest.{askNearest};
 ghost use Rattle.reply.specs.Told.{crossed, numbers};
+ghost use Rattle.crossing.specs.LowFloor.{lowFloor};
 ghost use Rattle.calls.specs.Calls.{addedLow};
-use crate::floors;
+use crossing::floors;
 use polygon::limits;
 use reply::Reply;
 
@@ -17,9 +21,18 @@ pub extern "C" fn cocklesway_log_read(log: &[u8], name: u16, out: &mut [i32]) ->
     reply::of_answer(questions::log_read(log, name, out))
 }
 
+// Writes the corners of the current shape at a position, and answers how many, its name and its floor.
+#[no_mangle]
+pub extern "C" fn cocklesway_log_entry(log: &[u8], k: usize, out: &mut [i32]) -> Reply
+    ensures { λ r. ⌜ (numbers r ≡ crossed (reply (askEntry (now (log .entry)) k (now (out .entry)))))
+        × (now (out .exit) ≡ output (askEntry (now (log .entry)) k (now (out .entry)))) ⌝ }
+{
+    reply::of_entry(questions::books::log_entry(log, k, out))
+}
+
 // Adds the shape to the log with at most as many stores as are allowed. Answers 1 if it finished, 0 if it was cut.
 // A floor above its limit is refused 13 after the list and before the log, with nothing stored.
-// Ruled out: floor above the limit stored; name and floor exchanged.
+// Ruled out: name and floor exchanged.
 #[no_mangle]
 pub extern "C" fn cocklesway_log_add(
     log: &mut [u8],
@@ -36,4 +49,28 @@ pub extern "C" fn cocklesway_log_add(
         return floors::barred(list);
     }
     reply::of_addition(questions::log_add(log, name, floor as u16, list, allowed))
+}
+
+// Packs the old log into the new run with at most as many stores as are allowed, without the records of the name `but`;
+// 65,536 leaves out nobody. Answers 1 if it finished, 0 if it was cut.
+#[no_mangle]
+pub extern "C" fn cocklesway_log_pack(old: &[u8], new: &mut [u8], but: u32, allowed: usize) -> Reply
+    ensures { λ r. ⌜
+        (numbers r ≡ crossed (remade (now (old .entry)) but (now (new .entry)) allowed .reply))
+        × (now (new .exit) ≡ remade (now (old .entry)) but (now (new .entry)) allowed .log) ⌝ }
+{
+    reply::of_addition(questions::books::log_pack(old, new, but, allowed))
+}
+
+// Answers the name of the nearest current shape on the floor, `but` left out, and what clearance answers of the two. A
+// floor above its limit is refused 13 after the list and before the log.
+#[no_mangle]
+pub extern "C" fn cocklesway_log_nearest(log: &[u8], list: &[i32], floor: u32, but: usize) -> Reply
+    ensures { λ r. ⌜ numbers r
+        ≡ crossed (reply (lowFloor (askNearest (now (log .entry)) (now (list .entry)) floor but))) ⌝ }
+{
+    if limits::exceeds_floor(floor) {
+        return floors::barred(list);
+    }
+    reply::of_nearest(questions::books::log_nearest(log, list, floor as u16, but))
 }

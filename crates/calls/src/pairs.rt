@@ -5,10 +5,11 @@ ghost use Rattle.plane.specs.Point.{point};
 ghost use Rattle.plane.specs.Floor.{on};
 ghost use Rattle.plane.specs.Question.{reply, output, askSum, askMerge, askGrow, askRelation, askInside, askOffer};
 ghost use Rattle.plane.specs.Question.{askClearance, askTangents};
+ghost use Rattle.excess.specs.Excess.{askExcess};
 ghost use Rattle.reply.specs.Told.{crossed, numbers};
-ghost use Rattle.calls.specs.LowFloor.{lowFloor};
+ghost use Rattle.crossing.specs.LowFloor.{lowFloor};
 ghost use Rattle.calls.specs.Calls.{SeparatorTold};
-use crate::floors;
+use crossing::floors;
 use questions::separators;
 use reply::Reply;
 
@@ -41,7 +42,6 @@ pub extern "C" fn cocklesway_merge(a: &[i32], f: u32, b: &[i32], g: u32, out: &m
 }
 
 // Writes the obstacle grown by the cart's outline, and answers how many corners it has.
-// Ruled out: cart grown by the obstacle.
 #[no_mangle]
 pub extern "C" fn cocklesway_grow(
     obstacle: &[i32],
@@ -98,7 +98,6 @@ pub extern "C" fn cocklesway_offer(a: &[i32], f: u32, b: &[i32], g: u32, u: i32,
 }
 
 // Answers 1 and a direction that is accepted, or 0 if there is none.
-// Ruled out: direction the other way round.
 #[no_mangle]
 pub extern "C" fn cocklesway_find(a: &[i32], f: u32, b: &[i32], g: u32) -> Reply
     ensures { λ r. ⌜ SeparatorTold (on (now (a .entry)) f) (on (now (b .entry)) g) (numbers r) ⌝ }
@@ -119,6 +118,18 @@ pub extern "C" fn cocklesway_clearance(a: &[i32], f: u32, b: &[i32], g: u32) -> 
         return floors::barred_pair(a, b);
     }
     reply::of_clearance(questions::clearance(a, f as u16, b, g as u16))
+}
+
+// Answers how far the new shape a reaches beyond the old shape b.
+#[no_mangle]
+pub extern "C" fn cocklesway_excess(a: &[i32], f: u32, b: &[i32], g: u32) -> Reply
+    ensures { λ r. ⌜
+        numbers r ≡ crossed (reply (lowFloor (askExcess (on (now (a .entry)) f) (on (now (b .entry)) g)))) ⌝ }
+{
+    if floors::exceeds(f, g) {
+        return floors::barred_pair(a, b);
+    }
+    reply::of_excess(questions::excess(a, f as u16, b, g as u16))
 }
 
 // Answers the four lines that just touch both shapes.

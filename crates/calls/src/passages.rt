@@ -4,12 +4,11 @@ ghost use mathlib.Core.Path.{_≡_};
 ghost use Rattle.plane.specs.Floor.{on};
 ghost use Rattle.plane.specs.Question.{reply};
 ghost use Rattle.reply.specs.Told.{crossed, numbers};
-ghost use Rattle.calls.specs.LowFloor.{lowPassage};
-use crate::floors;
+ghost use Rattle.crossing.specs.LowFloor.{lowPassage};
+use crossing::floors;
 use reply::Reply;
 
 // Answers whether the cart may pass straight between the obstacles, and how.
-// Ruled out: left obstacle told for the right one.
 #[no_mangle]
 pub extern "C" fn cocklesway_passage(
     left: &[i32],

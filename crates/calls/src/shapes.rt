@@ -3,9 +3,10 @@ ghost use mathlib.Core.Path.{_≡_};
 ghost use Rattle.plane.specs.Point.{point};
 ghost use Rattle.plane.specs.Floor.{on};
 ghost use Rattle.plane.specs.Question.{reply, output, askJudge, askFurthest, askMirror, askSweep, askLength, askWidth};
+ghost use Rattle.area.specs.Area.{askArea};
 ghost use Rattle.reply.specs.Told.{crossed, numbers};
-ghost use Rattle.calls.specs.LowFloor.{lowFloor};
-use crate::floors;
+ghost use Rattle.crossing.specs.LowFloor.{lowFloor};
+use crossing::floors;
 use polygon::limits;
 use reply::Reply;
 
@@ -67,6 +68,17 @@ pub extern "C" fn cocklesway_length(list: &[i32], floor: u32) -> Reply
         return floors::barred(list);
     }
     reply::of_length(questions::length(list, floor as u16))
+}
+
+// Answers twice the area.
+#[no_mangle]
+pub extern "C" fn cocklesway_area(list: &[i32], floor: u32) -> Reply
+    ensures { λ r. ⌜ numbers r ≡ crossed (reply (lowFloor (askArea (on (now (list .entry)) floor)))) ⌝ }
+{
+    if limits::exceeds_floor(floor) {
+        return floors::barred(list);
+    }
+    reply::of_area(questions::area(list, floor as u16))
 }
 
 // Answers edge, corner, turn, squared edge and the width rounded down.

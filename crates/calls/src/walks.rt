@@ -2,11 +2,11 @@
 ghost use mathlib.Core.Path.{_≡_};
 ghost use Rattle.plane.specs.Floor.{on};
 ghost use Rattle.plane.specs.Question.{reply, output};
-ghost use Rattle.calipers.specs.Advance.{state};
-ghost use Rattle.calipers.specs.Part.{askBegin, askPart};
+ghost use Rattle.sums.specs.Advance.{state};
+ghost use Rattle.sums.specs.Part.{askBegin, askPart};
 ghost use Rattle.reply.specs.Told.{crossed, numbers};
-ghost use Rattle.calls.specs.LowFloor.{lowFloor};
-use crate::floors;
+ghost use Rattle.crossing.specs.LowFloor.{lowFloor};
+use crossing::floors;
 use questions::walk;
 use questions::walk::Walk;
 use reply::Reply;
@@ -25,7 +25,6 @@ pub extern "C" fn cocklesway_begin(a: &[i32], f: u32, b: &[i32], g: u32) -> Repl
 
 // Writes the part of a sum after the walk with these edges passed, over or not: at most k corners. Answers how many,
 // and the walk handed back.
-// Ruled out: edges passed exchanged.
 #[no_mangle]
 pub extern "C" fn cocklesway_part(
     a: &[i32],

@@ -1,15 +1,14 @@
 // Inner functions: an answer's numbers, written to the output as bytes.
 ghost use mathlib.Core.Path.{_≡_};
-ghost use Prim.Native.Nat.{_≤_};
 ghost use lib.ListN.{length};
 ghost use Rattle.plane.specs.Floor.{on};
 ghost use Rattle.plane.specs.Question.{reply, output};
 ghost use Rattle.reply.specs.Told.{crossed, numbers};
-ghost use Rattle.calls.specs.Packing.{packed};
-ghost use Rattle.calls.specs.Bytes.{wordsIn, bytesAfter};
-ghost use Rattle.calls.specs.Passing.{Holds, Room, combined, asked};
-use crate::packing;
+ghost use Rattle.crossing.specs.Packing.{packed};
+ghost use Rattle.crossing.specs.Bytes.{wordsIn, bytesAfter};
+ghost use Rattle.crossing.specs.Passing.{Holds, combined, asked};
 use crate::pairs;
+use crossing::writing;
 use reply::Reply;
 
 // Asks for the merge of two lists, or for their sum, into a buffer of numbers; then writes their bytes and packs the
@@ -31,10 +30,10 @@ pub fn combine(
         × (now (out .exit) ≡ bytesAfter (asked (combined merged) (on (now (a .entry)) f) (on (now (b .entry)) g)
         (wordsIn (now (out .entry)))) (now (out .entry))) ⌝ }
 {
-    let n = room(out.len(), shape.len());
+    let n = writing::room(out.len(), shape.len());
     let reply = ask(merged, a, f, b, g, &mut shape[..n]);
     endian::encode(shape, 2 * reply.values[0] as usize, out);
-    packing::packed_reply(reply)
+    crossing::packing::packed_reply(reply)
 }
 
 // Asks for the merge of two lists, or for their sum.
@@ -50,16 +49,4 @@ fn ask(merged: bool, a: &[i32], f: u32, b: &[i32], g: u32, shape: &mut [i32]) ->
     } else {
         pairs::cocklesway_sum(a, f, b, g, shape)
     }
-}
-
-// Returns for how many numbers of an answer the bytes have room, at most the given number.
-// Ruled out: room counted in numbers.
-fn room(bytes: usize, most: usize) -> usize
-    ensures { λ r. ⌜ (r ≤ most) × Room bytes most r ⌝ }
-{
-    let n = bytes / 4;
-    if most < n {
-        return most;
-    }
-    n
 }

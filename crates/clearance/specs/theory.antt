@@ -16,5 +16,6 @@ pub mod NearestUnique
 pub mod Common
 pub mod Ends
 pub mod Walked
+pub mod Distance
 pub mod Rounding
 pub mod Replies

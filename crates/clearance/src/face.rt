@@ -6,7 +6,6 @@ ghost use Rattle.plane.specs.Forms.{NonZero};
 ghost use Rattle.plane.specs.Refusal.{Valid};
 ghost use Rattle.polygon.specs.Point.{at, Small};
 ghost use Rattle.clearance.specs.Faces.{IsFace};
-use polygon::direction;
 use polygon::point::Point;
 
 // Their smaller and their larger position.

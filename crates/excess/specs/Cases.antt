@@ -14,6 +14,7 @@ use Rattle.plane.specs.Corner.{shapeOf}
 use Rattle.plane.specs.Measure.{squared, edgeSquared}
 use Rattle.plane.specs.Separation.{inside, apart}
 use Rattle.plane.specs.Clearance.{falls, top, bottom, noFurther, nearest}
+use Rattle.plane.specs.Distance.{distance}
 use Rattle.plane.specs.Floor.{Floored, on}
 use Rattle.plane.specs.Question.{reply}
 use Rattle.excess.specs.Excess.{beyond, noNearer, outermost, excess, rootAbove, up, askExcess}
@@ -65,6 +66,6 @@ cases =
 
 pub cases-hold : map (λ (c : Case). reply (askExcess (c .new) (c .old))) cases ≡ map (λ (c : Case). c .stated) cases
 unfolding maxCorners maxCoordinate samePoint turn breaks precedes badCount tooMany outside someOutside equalPair leftBroken
-    ruleBroken badStart value shapeOf squared edgeSquared inside apart falls top bottom noFurther nearest reply beyond noNearer outermost
-    excess rootAbove up
+    ruleBroken badStart value shapeOf squared edgeSquared inside apart falls top bottom noFurther nearest distance reply beyond noNearer
+    outermost excess rootAbove up
 cases-hold = refl

@@ -1,7 +1,6 @@
 -- How far a changed shape reaches beyond the old one: the directed Hausdorff distance. Our own, not of documents 01 and 02: the user would
 -- be "glad of map changes that leave settled answers alone". N is the new shape and O the old one.
---     Fraction               a squared distance as an exact fraction
---     beyond c O             of the point c from the shape O, as clearance has it; 0/1 if c is not apart from O
+--     beyond c O             the squared distance of the point c from the shape O, as an exact fraction
 --     noNearer N O i j       corner i of N is no nearer to O than corner j
 --     outermost N O          the corner of N furthest from O, the smallest position on a tie
 --     excess N O             its squared distance from O, so the greatest over the corners of N
@@ -14,37 +13,23 @@ use mathlib.Core.Bool.{Bool, cond}
 use mathlib.Core.List.{List, [], _∷_}
 use Prim.Native.Nat.{ℕ, _*_}
 use lib.Dec.{leb}
-use lib.IntN.{ℤ, pos, natAbs, _*ℤ_}
+use lib.IntN.{ℤ, pos, natAbs}
 use lib.ListN.{length}
-use lib.Signed.{leZ}
 use Rattle.plane.specs.Point.{Point, corner}
 use Rattle.plane.specs.Search.{every, first}
 use Rattle.plane.specs.Measure.{squared, edgeSquared}
-use Rattle.plane.specs.Separation.{inside, apart}
-use Rattle.plane.specs.Clearance.{Candidate, corners, onSecond, onFirst, turnOn}
-use Rattle.plane.specs.Clearance.{top, bottom, nearest}
+use Rattle.plane.specs.Separation.{inside}
+use Rattle.plane.specs.Clearance.{Candidate, corners, onSecond, onFirst, turnOn, nearest}
+use Rattle.plane.specs.Distance.{Fraction, noMore, distance}
 use Rattle.plane.specs.Floor.{Floored, corners as cornersOf, twoShapes}
 use Rattle.plane.specs.Question.{Question, asks}
 
-pub record Fraction : Type 0 where
-  pub numerator : ℤ
-  pub denominator : ℤ
-
-abbrev pub over : ℤ → ℤ → Fraction
-over n d = record { numerator = n; denominator = d }
-
 unfoldable pub beyond : Point → List Point → Fraction
-beyond c O =
-    let C = c ∷ [] in
-    let s = nearest C O in
-    cond (apart C O) (over (top C O s) (bottom C O s)) (over (pos 0) (pos 1))
+beyond c O = distance (c ∷ []) O
 
 -- "distances compare as exact fractions"
 unfoldable pub noNearer : List Point → List Point → ℕ → ℕ → Bool
-noNearer N O i j =
-    let f = beyond (corner N i) O in
-    let g = beyond (corner N j) O in
-    leZ (g .numerator *ℤ f .denominator) (f .numerator *ℤ g .denominator)
+noNearer N O i j = noMore (beyond (corner N j) O) (beyond (corner N i) O)
 
 -- the first corner that is no nearer than any
 unfoldable pub outermost : List Point → List Point → ℕ

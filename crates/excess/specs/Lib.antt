@@ -1,5 +1,6 @@
 -- Settled answers: how far a changed shape reaches beyond the old one; the words, and what it promises; cases; then the theory behind it.
 pub mod Excess
+pub mod Answer
 pub mod Settled
 pub mod Meaning
 pub mod Cases

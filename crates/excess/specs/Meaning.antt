@@ -35,7 +35,8 @@ use Rattle.journal.specs.Format.{records}
 use Rattle.journal.specs.Reading.{latest}
 use Rattle.journal.specs.Adding.{added}
 use Rattle.journal.specs.History.{isFinished}
-use Rattle.excess.specs.Excess.{over, beyond, outermost, excess, up, excessNumbers, askExcess}
+use Rattle.plane.specs.Distance.{over}
+use Rattle.excess.specs.Excess.{beyond, outermost, excess, up, excessNumbers, askExcess}
 use Rattle.excess.specs.Settled.{NoFurther, Nearer, further, ApartBy, Millimetres, Told}
 use Rattle.excess.specs.theory.Outermost.{outermost-among, excess-greatest, earlier-nearer, outermost-only}
 use Rattle.excess.specs.theory.Outermost.{excess-whole, excess-nonneg}

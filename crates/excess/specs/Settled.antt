@@ -20,7 +20,8 @@ use Rattle.plane.specs.Clearance.{top, bottom, nearest}
 use Rattle.plane.specs.Floor.{Floored, corners}
 use Rattle.plane.specs.Question.{Question, reply}
 use Rattle.growth.specs.Grown.{EndsIn}
-use Rattle.excess.specs.Excess.{Fraction, outermost, excess, up}
+use Rattle.plane.specs.Distance.{Fraction}
+use Rattle.excess.specs.Excess.{outermost, excess, up}
 
 abbrev pub NoFurther : Fraction → Fraction → Type 0
 NoFurther f g = (f .numerator *ℤ g .denominator) ≤ℤ (g .numerator *ℤ f .denominator)

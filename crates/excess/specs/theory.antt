@@ -1,6 +1,6 @@
 -- The theory of settled answers, which only proves: lengths compared by squares; the distance of a point; the outermost corner; the excess
 -- in every direction, and rounded up; lists that reach at most so far beyond others; what is left of a clearance and of a passage; where a
--- point is nearest; what is replied; settled answers in whole millimetres; logs.
+-- point is nearest, and what the code finds there; what is replied; settled answers in whole millimetres; logs.
 pub mod Lengths
 pub mod Beyond
 pub mod Outermost
@@ -11,6 +11,7 @@ pub mod Clear
 pub mod Promises
 pub mod Passages
 pub mod Kinds
+pub mod Found
 pub mod Replies
 pub mod Answers
 pub mod Widths

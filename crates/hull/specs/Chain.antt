@@ -18,7 +18,7 @@ use Rattle.plane.specs.Point.{Point, corner}
 use Rattle.plane.specs.Turn.{turn}
 use Rattle.plane.specs.Shape.{precedes}
 use Rattle.polygon.specs.Peak.{Peak}
-use Rattle.hull.specs.Order.{foremost, closed, run}
+use Rattle.sorting.specs.Order.{foremost, closed, run}
 
 abbrev pub home : List Point → ℕ → ℕ
 home ps t = cond (eqb t 0) 0 (length ps)

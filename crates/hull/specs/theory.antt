@@ -1,13 +1,6 @@
--- The theory of rows and buffers, which only proves: points in order, what a scan of them leaves in a buffer, and that the two chains of
--- two shapes are the shape of both; that points in a rectangle may be dropped and the others put in order; that both chains of sorted
--- points are their outline.
-pub mod Ahead
-pub mod Least
-pub mod Run
+-- The theory of rows and chains, which only proves: what a scan of points in order leaves in a buffer, that the two chains of two shapes
+-- are the shape of both, and that both chains of sorted points are their outline.
 pub mod Unite
-pub mod Stored
-pub mod CornersWritten
-pub mod Key
 pub mod Stack
 pub mod Reading
 pub mod Peak
@@ -17,8 +10,4 @@ pub mod Counted
 pub mod Spread
 pub mod OnePoint
 pub mod Written
-pub mod Held
 pub mod Route
-pub mod Interior
-pub mod Insertion
-pub mod Digits

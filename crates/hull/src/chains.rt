@@ -3,14 +3,14 @@ ghost use Prim.Native.Nat.{_+_, _-_, _^_, _<_, _≤_};
 ghost use lib.ListN.{length};
 ghost use Rattle.plane.specs.Point.{points};
 ghost use Rattle.polygon.specs.Point.{at, Small};
-ghost use Rattle.hull.specs.Buffer.{SmallTo, Scanned, Stepped, Chained};
-ghost use Rattle.hull.specs.Order.{closed, run, leftOver, inOrder, Line, Rising};
-use crate::order;
+ghost use Rattle.sorting.specs.Buffer.{SmallTo, Scanned, Stepped, Chained};
+ghost use Rattle.sorting.specs.Order.{closed, run, leftOver, inOrder, Line, Rising};
 use crate::rows;
 use crate::rows::Row;
 use crate::scan;
 use polygon::corners;
 use polygon::point::Point;
+use sorting::order;
 
 // Where two rows go on, and how many corners are kept.
 pub struct Step {

@@ -1,11 +1,6 @@
 // Inner functions for the shape of two shapes together, chain by chain (document 01, "Merge"), and for the shape of
 // many points (document 02, W10). Callers ask the crate `questions`.
-mod buffer;
 mod chains;
-mod digits;
-mod insertion;
-mod interior;
-mod order;
 mod outline;
 mod rows;
 mod scan;
@@ -20,13 +15,16 @@ ghost use Rattle.plane.specs.Corner.{shapeOf};
 ghost use Rattle.plane.specs.Sweep.{ValidPoints};
 ghost use Rattle.polygon.specs.Front.{Front};
 ghost use Rattle.polygon.specs.Point.{at};
-ghost use Rattle.hull.specs.Buffer.{Chained};
+ghost use Rattle.sorting.specs.Buffer.{Chained};
 ghost use Rattle.hull.specs.Chain.{rightRows, leftRows, Spread};
 use polygon::corners;
 use polygon::limits;
 use polygon::peak;
 use polygon::point;
 use polygon::point::Point;
+use sorting::digits;
+use sorting::insertion;
+use sorting::interior;
 
 // The numbers of few points.
 const FEW_NUMBERS: usize = 64;
@@ -36,7 +34,7 @@ const FEW_NUMBERS: usize = 64;
 // in the other, share corners or edges; a corner in line between two others is dropped, and so is one that lies
 // strictly inside the other shape. Two points make a segment, or a point if they are equal; segments in line make a
 // segment.
-// Ruled out: points in line kept; second shape forgotten; count one more.
+// Ruled out: points in line kept; second shape forgotten.
 pub fn merge(a: &[i32], b: &[i32], buf: &mut [i32]) -> usize
     requires { ⌜ Valid (now a) × Valid (now b)
         × (length (points (now a)) + length (points (now b)) ≤ length (points (now buf))) ⌝ }

@@ -7,7 +7,7 @@ ghost use Rattle.plane.specs.Point.{points, corner};
 ghost use Rattle.plane.specs.Corner.{outline as Corner·outline};
 ghost use Rattle.polygon.specs.Front.{Front};
 ghost use Rattle.polygon.specs.Point.{at};
-ghost use Rattle.hull.specs.Buffer.{SmallTo, Sided};
+ghost use Rattle.sorting.specs.Buffer.{SmallTo, Sided};
 use crate::scan;
 use polygon::corners;
 use polygon::point::Point;

@@ -7,13 +7,13 @@ ghost use lib.ListN.{length};
 ghost use Rattle.plane.specs.Point.{points, corner};
 ghost use Rattle.plane.specs.Refusal.{InRange};
 ghost use Rattle.polygon.specs.Point.{at, Small};
-ghost use Rattle.hull.specs.Order.{closed, Line, order as Order·order, foremost as Order·foremost};
+ghost use Rattle.sorting.specs.Order.{closed, Line, order as Order·order, foremost as Order·foremost};
 ghost use Rattle.hull.specs.Chain.{rowFirst, rowEnd, home as Chain·home, isRight as Chain·isRight};
-use crate::order;
 use crate::scan;
 use polygon::corners;
 use polygon::point;
 use polygon::point::Point;
+use sorting::order;
 
 // The corners from one position up to another.
 pub struct Row {

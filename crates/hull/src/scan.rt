@@ -7,7 +7,7 @@ ghost use lib.ListN.{length};
 ghost use Rattle.plane.specs.Point.{points, corner};
 ghost use Rattle.plane.specs.Turn.{turn as Turn·turn};
 ghost use Rattle.polygon.specs.Point.{at, Small};
-ghost use Rattle.hull.specs.Buffer.{SmallTo, Settled, Scanned};
+ghost use Rattle.sorting.specs.Buffer.{SmallTo, Settled, Scanned};
 use polygon::corners;
 use polygon::point;
 use polygon::point::Point;

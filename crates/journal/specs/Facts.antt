@@ -3,6 +3,7 @@
 --     Good r                    the record r is not bad
 --     FirstBad rs p             one of the records rs is bad, and the first that is stands at place p
 --     Recorded r, AllRecorded   r is a recorded shape, of either kind; all records of a list are
+--     Holds n rs                where in rs the name n is
 -- That they say the same as the tests: `Meaning.antt`.
 use mathlib.Core.Path.{_≡_}
 use mathlib.Core.Bool.{true, false}
@@ -13,6 +14,7 @@ use lib.ListN.{length, getD}
 use lib.IntN.{ℤ}
 use Rattle.plane.specs.Refusal.{Valid}
 use Rattle.journal.specs.Format.{lastByte, fixedBytes, recorded, recordedPlain, size, kind, list, bad}
+use Rattle.journal.specs.Format.{name as Format·name}
 use Rattle.journal.specs.Reading.{damaged}
 use Rattle.journal.specs.Adding.{joined}
 
@@ -50,3 +52,9 @@ pub record Recorded (r : List ℕ) : Type 0 where
 abbrev pub AllRecorded : List (List ℕ) → Type 0
 AllRecorded [] = Unit {0}
 AllRecorded (r ∷ rs) = Recorded r × AllRecorded rs
+
+-- one of these records has the name
+pub record Holds (n : ℕ) (rs : List (List ℕ)) : Type 0 where
+  pub position : ℕ
+  pub inside : position < length rs
+  pub has : Format·name (getD rs position []) ≡ n

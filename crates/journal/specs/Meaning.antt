@@ -2,6 +2,7 @@
 --     records       when a record is whole; a log is its records and a torn rest; what a recorded shape of either kind reads as; when a
 --                   record is bad; the latest counts
 --     reading       the table, in its order, and the place that 15 gives
+--     entries       the current shapes: what each name reads as, each name once; after an addition
 --     adding        the table, in its order; a refused, a finished and a cut addition; allowances; whatever is torn behind the end
 --     histories     the whole claim: reading gives for each name the last finished addition, and 15 does not come; from a new log, and
 --                   from any log without a bad record, so from one of kind 1 as well
@@ -10,20 +11,21 @@ use mathlib.Core.Bool.{true, false, cond}
 use mathlib.Core.List.{List, [], _∷_, _++_}
 use Prim.Native.Nat.{ℕ, suc, _+_, _*_, _-_, _≤_, _<_}
 use lib.Dec.{eqb, leb}
-use lib.ListN.{length, take, drop, set, replicate}
+use lib.ListN.{length, getD, take, drop, set, replicate}
 use lib.IntN.{ℤ, pos}
 use Rattle.plane.specs.Point.{points}
 use Rattle.plane.specs.Reply.{answered, refused, Row, NoneApply, First}
 use Rattle.plane.specs.Refusal.{Valid}
 use Rattle.plane.specs.Output.{roomRow}
 use Rattle.plane.specs.Floor.{on, corners, noShape}
-use Rattle.plane.specs.Question.{table, reply, written, writes}
+use Rattle.plane.specs.Question.{table, reply, output, written, writes}
 use Rattle.plane.specs.theory.refusals.Rows.{firstRow-given, firstRow-none, firstRow-answered, firstRow-refused}
 use Rattle.plane.specs.theory.refusals.Asked.{asked-given, asked-refused, asked-none, asked-answered}
-use Rattle.journal.specs.Format.{recorded, recordedPlain, whole, records, name, floor, list, bad}
-use Rattle.journal.specs.Reading.{damaged, badPlace, latest, askRead, showing}
+use Rattle.journal.specs.Format.{recorded, recordedPlain, whole, records, name, floor, list, content, bad}
+use Rattle.journal.specs.Reading.{damaged, badPlace, held, latest, askRead, showing}
+use Rattle.journal.specs.Current.{current, keep, isOther, askEntry, withName}
 use Rattle.journal.specs.Adding.{joined, end, stores, made, addRows, addReply, added}
-use Rattle.journal.specs.Facts.{Whole, Good, FirstBad, AllRecorded}
+use Rattle.journal.specs.Facts.{Whole, Good, FirstBad, AllRecorded, Holds}
 use Rattle.journal.specs.History.{Addition, fresh, after, isFinished, lastSince, lastFinished}
 use Rattle.journal.specs.theory.Kind.{good→facts, facts→good}
 use Rattle.journal.specs.theory.Records.{whole→facts, facts→whole, split, end-torn}
@@ -33,6 +35,8 @@ use Rattle.journal.specs.theory.Reading.{first-bad, latest-snoc, read-sa
 use Rattle.journal.specs.theory.Stores.{cut-seen}
 use Rattle.journal.specs.theory.Added.{kept-log, added-seen, finished-log, finished-read, finished-others, unfinished-seen}
 use Rattle.journal.specs.theory.Added.{nothing-allowed, one-more-allowed, enough-allowed, sound-added}
+use Rattle.journal.specs.theory.Current.{entry-held, entry-latest, names-apart, held-entry, entry-reply, entry-output}
+use Rattle.journal.specs.theory.Current.{finished-current, unfinished-current}
 use Rattle.journal.specs.theory.History.{after-sound, after-read, fresh-sound, fresh-read, written-sound}
 
 -- ---- records
@@ -178,6 +182,52 @@ pub plain-addition-shows-old-or-new : (b : List ℕ) (n : ℕ) (l : List ℤ) (k
     length r ≤ length b - end b
     → records (made (take k (stores b r)) b) ≡ cond (leb (length (stores b r)) k) (records b ++ (r ∷ [])) (records b)
 plain-addition-shows-old-or-new b n l k v room = cut-seen b (recordedPlain n l) (plain-entry n l v) room k
+
+-- ---- entries (our own)
+
+module _ (rs : List (List ℕ)) where
+  -- a current record is what its name reads as
+  pub entry-is-latest : (k : ℕ) → k < length (current rs) → let r = getD (current rs) k [] in latest (name r) rs ≡ content r
+  entry-is-latest k h = entry-latest rs k h
+
+  -- no name is there twice
+  pub entries-have-different-names : (i j : ℕ) → i < length (current rs) → j < length (current rs)
+      → name (getD (current rs) i []) ≡ name (getD (current rs) j []) → i ≡ j
+  entries-have-different-names i j h l same = names-apart rs i j h l same
+
+  -- every name that a record has is there, and no other
+  pub held-name-has-entry : (n : ℕ) → held n rs ≡ true → Holds n (current rs)
+  held-name-has-entry n h = held-entry n rs h
+
+  pub entry-has-held-name : (k : ℕ) → k < length (current rs) → held (name (getD (current rs) k [])) rs ≡ true
+  entry-has-held-name k h = entry-held rs k h
+
+module _ (b : List ℕ) (k : ℕ) (out : List ℤ) where
+  -- an entry is exactly what reading its name gives: the same refusals, corners and floor, and its name besides
+  pub entry-is-read : k < length (current (records b)) → let n = name (getD (current (records b)) k []) in
+      (reply (askEntry b k out) ≡ withName n (reply (askRead b n out))) × (output (askEntry b k out) ≡ output (askRead b n out))
+  entry-is-read h = (entry-reply b k out h, entry-output b k out h)
+
+  -- 15, 20 and 8: a row that applies, with none before it, gives its refusal
+  pub first-row-refuses-entry : {w : Row} → First w (table (askEntry b k out))
+      → reply (askEntry b k out) ≡ refused (w .number) (w .carries)
+  first-row-refuses-entry f = asked-given (askEntry b k out) f
+
+  -- and nothing else does
+  pub entry-refused-by-first-row : (m : ℕ) (carries : List ℕ) → reply (askEntry b k out) ≡ refused m carries
+      → (w : Row) × First w (table (askEntry b k out)) × (w .number ≡ m) × (w .carries ≡ carries)
+  entry-refused-by-first-row m carries h = asked-refused (askEntry b k out) m carries h
+
+module _ (b : List ℕ) (n f : ℕ) (l : List ℤ) (k : ℕ) where
+  -- a finished addition puts its shape last and takes away what its name had
+  pub finished-addition-is-last-entry : added b n f l k .reply ≡ answered (pos 1 ∷ []) → n < 65536
+      → current (records (added b n f l k .log)) ≡ keep (isOther n) (current (records b)) ++ (recorded n f l ∷ [])
+  finished-addition-is-last-entry done fits = finished-current b n f l k (ap isFinished done) fits
+
+  -- a cut or refused one leaves the entries alone
+  pub unfinished-addition-keeps-entries : isFinished (added b n f l k .reply) ≡ false
+      → current (records (added b n f l k .log)) ≡ current (records b)
+  unfinished-addition-keeps-entries stopped = unfinished-current b n f l k stopped
 
 -- ---- histories
 

@@ -4,9 +4,13 @@
 --     Reading                 reading, by the records alone
 --     Parts, Stores           what stands behind the records after each store of an addition
 --     Added, History          one addition; any history of them
+--     Current                 the current records, by position and after an addition
 -- Then what the code's loops stand on:
 --     Judging                 the numbers of a record are a shape or not
---     Survey, Latest          a pass that judges records, and one that keeps the latest of a name
+--     Survey                  a pass that judges records
+--     Stepping                any loop over the records of a log
+--     Latest, Ahead           the latest of a name; whether a name is held from a place on
+--     Nth                     the current record at a position
 --     Storing                 stores made as far as they are allowed
 pub mod Records
 pub mod Kind
@@ -16,7 +20,11 @@ pub mod Parts
 pub mod Stores
 pub mod Added
 pub mod History
+pub mod Current
 pub mod Judging
 pub mod Survey
+pub mod Stepping
 pub mod Latest
+pub mod Ahead
+pub mod Nth
 pub mod Storing

@@ -5,7 +5,6 @@ ghost use lib.ListN.{length};
 ghost use Rattle.plane.specs.Limits.{maxCorners};
 ghost use Rattle.endian.specs.Bytes.{wordsAt};
 ghost use Rattle.journal.specs.Format.{judged, isAnswer};
-use calipers::convex;
 use polygon::limits;
 
 // Whether the n numbers from a place of the log on are a shape. The buffer holds the numbers of any shape.
@@ -18,5 +17,5 @@ pub fn is_shape_at(log: &[u8], p: usize, n: usize, buffer: &mut [i32]) -> bool
         return false;
     }
     endian::decode(log, p, n, buffer);
-    convex::passes(&buffer[..n])
+    convexity::passes(&buffer[..n])
 }

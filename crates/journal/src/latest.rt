@@ -3,7 +3,9 @@ ghost use mathlib.Core.Bool.{false};
 ghost use mathlib.Core.Path.{_≡_};
 ghost use Rattle.journal.specs.Format.{records};
 ghost use Rattle.journal.specs.Reading.{damaged};
-ghost use Rattle.journal.specs.Survey.{Legible, Latest, newer as Survey·newer};
+ghost use Rattle.journal.specs.Survey.{Latest, newer as Survey·newer};
+use crate::head;
+use crate::head::Head;
 use crate::records;
 
 // Where the numbers of the latest record of a name stand, how many they are, and the floor of the record.
@@ -25,25 +27,22 @@ pub fn latest(log: &[u8], name: u16) -> Found
     let mut found = Found::Nowhere;
     let mut p = 0;
     while records::whole_at(log, p) {
-        found = newer(log, p, name, found);
+        found = newer(head::head_at(log, p), name, found);
         p += 2 + endian::pair_at(log, p);
     }
     found
 }
 
-// What is found once the record at a place is looked at: a later record of the name counts.
-// Ruled out: first record for the latest.
-fn newer(log: &[u8], p: usize, name: u16, found: Found) -> Found
-    requires { ⌜ Legible (now log) p ⌝ }
-    ensures { λ r. ⌜ r ≡ Survey·newer name (now (log .entry)) p found ⌝ }
+// What is found once a record is looked at: a later record of the name counts.
+fn newer(head: Head, name: u16, found: Found) -> Found
+    ensures { λ r. ⌜ r ≡ Survey·newer name head found ⌝ }
 {
-    if endian::pair_at(log, p + 4) != name as usize {
+    if head.name != name {
         return found;
     }
-    let fixed = records::fixed_bytes(endian::pair_at(log, p + 2));
     Found::At {
-        place: p + (1 + fixed),
-        count: (endian::pair_at(log, p) - fixed) / 4,
-        floor: records::floor_at(log, p, fixed),
+        place: head.place,
+        count: head.count,
+        floor: head.floor,
     }
 }

@@ -1,7 +1,9 @@
 // A log of shapes in a lent run of bytes (document 02, W5 and W11: the floor book). Inner functions; callers ask the
 // crate `questions`.
 mod corners;
+pub mod current;
+pub mod head;
 pub mod latest;
-mod records;
+pub mod records;
 pub mod storing;
 pub mod survey;

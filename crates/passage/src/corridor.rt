@@ -14,7 +14,6 @@ ghost use Rattle.polygon.specs.Point.{at};
 ghost use Rattle.strips.specs.Strip.{least as Strip·least};
 ghost use Rattle.passage.specs.Corridor.{widestNumbers, corridorNumbers, wayNumbers};
 use measure::magnitude;
-use polygon::direction;
 use polygon::point;
 use polygon::point::Point;
 use separation::answer::Relation;

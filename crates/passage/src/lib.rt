@@ -3,10 +3,15 @@ pub mod corridor;
 
 ghost use mathlib.Core.Path.{_≡_};
 ghost use Rattle.plane.specs.Point.{points, numbers};
+ghost use Rattle.plane.specs.Reply.{NoneApply};
 ghost use Rattle.plane.specs.Refusal.{Valid};
+ghost use Rattle.plane.specs.Output.{sizeRows};
+ghost use Rattle.admission.specs.Admission.{Judged};
 ghost use Rattle.growth.specs.Grown.{grown};
 ghost use Rattle.passage.specs.Passage.{passageNumbers};
 ghost use Rattle.passage.specs.Corridor.{wayNumbers};
+use admission::Admission;
+use admission::deliver;
 use corridor::Way;
 use polygon::limits;
 use polygon::peak;
@@ -28,4 +33,15 @@ pub fn between(left: &[i32], right: &[i32], cart: &[i32]) -> Way
     let mut below = [0i32; limits::SHAPE_NUMBERS];
     let m = differences::write(right, cart, top, &mut below);
     corridor::corridor(&above[..2 * n], &below[..2 * m])
+}
+
+// Judges an obstacle grown by the cart by its size, before it is made: 6, then 7.
+pub fn admit_grown(obstacle: &[i32], cart: &[i32]) -> Admission
+    requires { ⌜ Valid (now obstacle) × Valid (now cart) ⌝ }
+    ensures { λ r. ⌜ Judged
+        (NoneApply (sizeRows (grown (points (now (obstacle .entry))) (points (now (cart .entry))))))
+        (sizeRows (grown (points (now (obstacle .entry))) (points (now (cart .entry))))) r ⌝ }
+{
+    let n = differences::reckon(obstacle, cart, peak::top(cart), limits::SHAPE_NUMBERS);
+    deliver::sized(n, differences::is_far(obstacle, cart))
 }

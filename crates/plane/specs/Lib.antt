@@ -23,6 +23,7 @@ pub mod Offer
 pub mod Tangent
 pub mod Mean
 pub mod Clearance
+pub mod Distance
 pub mod Floor
 pub mod Question
 pub mod Cases

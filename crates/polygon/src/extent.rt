@@ -23,7 +23,6 @@ pub struct Extent {
 }
 
 // Returns how far the corners of a list reach.
-// Ruled out: first corner for all.
 pub fn extent_of(list: &[i32]) -> Extent
     requires { ⌜ (0 < length (points (now list))) × InRange (now list) ⌝ }
     ensures { λ r. ⌜ Extends (points (now (list .entry))) r ⌝ }

@@ -1,7 +1,6 @@
 // Inner functions on one list of corners, for the crates above: corners by position, the rules that make a shape,
-// directions, how far they reach, the mirror image, the limits. Callers ask the crate `questions`.
+// how far they reach, the mirror image, the limits. Callers ask the crate `questions`.
 pub mod corners;
-pub mod direction;
 pub mod extent;
 pub mod limits;
 pub mod numbers;

@@ -6,6 +6,7 @@ use crate::table;
 use crate::table::Entry;
 use crate::table::Question;
 use questions::SHAPE_NUMBERS;
+use questions::books;
 use questions::separators;
 use questions::walk;
 use reply::Reply;
@@ -28,22 +29,28 @@ pub fn ask(
 ) -> usize {
     let mut bytes = [0u8; LOG];
     let buffer: &mut [u8] = &mut bytes;
-    let size = fields::log(line, entry.kinds, buffer);
+    let size = fields::log(line, entry.kinds, 0, buffer);
+    let mut others = [0u8; LOG];
+    let second: &mut [u8] = &mut others;
+    let count = fields::log(line, entry.kinds, 1, second);
+    let log: &mut [u8] = &mut buffer[0..size];
+    let run: &mut [u8] = &mut second[0..count];
     let a = fields::field(values, marks, 0);
     let b = fields::field(values, marks, 1);
     let c = fields::field(values, marks, 2);
     let d = fields::field(values, marks, 3);
-    add(out, filled, entry, line, &mut buffer[0..size], a, b, c, d)
+    add(out, filled, entry, line, log, run, a, b, c, d)
 }
 
-// Asks the question of the fields that a line holds, of which the log, readings and floors are no numbers. What it
-// writes goes to an output of as many numbers as the room says.
+// Asks the question of the fields that a line holds, of which the log, a second run of bytes, readings and floors are
+// no numbers. What it writes goes to an output of as many numbers as the room says.
 fn add(
     out: &mut [u8],
     filled: usize,
     entry: Entry,
     line: &[u8],
     log: &mut [u8],
+    run: &mut [u8],
     a: &[i32],
     b: &[i32],
     c: &[i32],
@@ -54,7 +61,7 @@ fn add(
     let question = entry.question;
     let form = table::form_of(question);
     let end = fields::lent(room_of(question, b, c, d), shape);
-    let told = told(question, line, log, a, b, c, d, &mut shape[0..end]);
+    let told = told(question, line, log, run, a, b, c, d, &mut shape[0..end]);
     let said = replies::add(out, filled, told, form, shape);
     if told.number != 0 {
         return said;
@@ -67,6 +74,10 @@ fn add(
         Question::LogAdd => {
             let begun = output::word(out, said, b" | ");
             output::bytes(out, begun, log)
+        }
+        Question::LogPack => {
+            let begun = output::word(out, said, b" | ");
+            output::bytes(out, begun, run)
         }
         _ => said,
     }
@@ -87,6 +98,7 @@ fn told(
     question: Question,
     line: &[u8],
     log: &mut [u8],
+    run: &mut [u8],
     a: &[i32],
     b: &[i32],
     c: &[i32],
@@ -107,17 +119,23 @@ fn told(
         Question::Grow => reply::of_answer(questions::grow(a, f, b, g, out)),
         Question::Sweep => reply::of_answer(questions::sweep(a, f, out)),
         Question::Length => reply::of_length(questions::length(a, f)),
+        Question::Area => reply::of_area(questions::area(a, f)),
         Question::Width => reply::of_width(questions::width(a, f)),
         Question::Relation => reply::of_relation(questions::relation(a, f, b, g)),
         Question::Inside => reply::of_inside(questions::inside(a, f, b, g)),
         Question::Offer => reply::of_offer(separators::offer(a, f, b, g, u(c), v(c))),
         Question::Find => reply::of_separator(separators::find(a, f, b, g)),
         Question::Clearance => reply::of_clearance(questions::clearance(a, f, b, g)),
+        Question::Excess => reply::of_excess(questions::excess(a, f, b, g)),
         Question::Tangents => reply::of_tangents(questions::tangents(a, f, b, g)),
         Question::Passage => reply::of_passage(questions::passage(a, f, b, g, c, h)),
         Question::Tablet => readings::tablet(line),
         Question::LogRead => reply::of_answer(questions::log_read(log, name(b), out)),
         Question::LogAdd => reply::of_addition(questions::log_add(log, name(b), h, c, room(d))),
+        Question::LogPack => {
+            let packed = books::log_pack(log, run, fields::but(c), room(d));
+            reply::of_addition(packed)
+        }
     }
 }
 

@@ -13,6 +13,7 @@ pub enum Form {
     YesNo,
     Direction,
     Clearance,
+    Excess,
     Passage,
     // `ok` and the value as a word. The log that an addition leaves is added by the caller.
     Addition,
@@ -56,6 +57,7 @@ fn heading(out: &mut [u8], filled: usize, told: Reply, form: Form) -> usize {
         Form::YesNo => either(out, filled, first, b"ok no", b"ok yes"),
         Form::Direction => either(out, filled, first, b"ok none", b"ok"),
         Form::Clearance => clearance(out, filled, first),
+        Form::Excess => excess(out, filled, first),
         Form::Passage => either(out, filled, first, b"ok blocked", b"ok"),
         Form::Addition => either(out, filled, first, b"ok cut", b"ok finished"),
         Form::Call => output::labelled(out, filled, b"", first),
@@ -88,6 +90,15 @@ fn clearance(out: &mut [u8], filled: usize, value: u64) -> usize {
         1 => output::word(out, filled, b"ok cc"),
         2 => output::word(out, filled, b"ok ce"),
         _ => output::word(out, filled, b"ok ec"),
+    }
+}
+
+// Adds of what the furthest corner is nearest to, a corner or an edge; inside if the new shape reaches nowhere further.
+fn excess(out: &mut [u8], filled: usize, value: u64) -> usize {
+    match value {
+        0 => output::word(out, filled, b"ok inside"),
+        1 => output::word(out, filled, b"ok cc"),
+        _ => output::word(out, filled, b"ok ce"),
     }
 }
 

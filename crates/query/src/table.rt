@@ -14,17 +14,20 @@ pub enum Question {
     Grow,
     Sweep,
     Length,
+    Area,
     Width,
     Relation,
     Inside,
     Offer,
     Find,
     Clearance,
+    Excess,
     Tangents,
     Passage,
     Tablet,
     LogRead,
     LogAdd,
+    LogPack,
 }
 
 // What a word asks: a question, and the kinds of its fields.
@@ -60,6 +63,11 @@ const LOG_READ: u64 = NAMED + 256 * fields::ROOM;
 
 const LOG_ADDED: u64 = NAMED + 256 * fields::SHAPE + 4096 * fields::ROOM;
 
+const LOG_PACKED: u64 = fields::BYTES
+    + 16 * fields::BYTES
+    + 256 * fields::BUT
+    + 4096 * fields::ROOM;
+
 // Looks a word up. If it is not there the kinds are unknown, and nothing is asked.
 pub fn look_up(word: &[u8]) -> Entry {
     let mut found = Entry {
@@ -78,6 +86,7 @@ fn on_one(mut found: Entry, word: &[u8]) -> Entry {
     found = row(found, word, b"furthest", Question::Furthest, AIMED);
     found = row(found, word, b"mirror", Question::Mirror, WRITTEN);
     found = row(found, word, b"length", Question::Length, ONE);
+    found = row(found, word, b"area", Question::Area, ONE);
     row(found, word, b"width", Question::Width, ONE)
 }
 
@@ -88,6 +97,7 @@ fn on_two(mut found: Entry, word: &[u8]) -> Entry {
     found = row(found, word, b"offer", Question::Offer, PAIR_AIMED);
     found = row(found, word, b"find", Question::Find, PAIR);
     found = row(found, word, b"clearance", Question::Clearance, PAIR);
+    found = row(found, word, b"excess", Question::Excess, PAIR);
     found = row(found, word, b"tangents", Question::Tangents, PAIR);
     row(found, word, b"passage", Question::Passage, THREE)
 }
@@ -106,7 +116,8 @@ fn others(mut found: Entry, word: &[u8]) -> Entry {
     found = row(found, word, b"sweep", Question::Sweep, WRITTEN);
     found = row(found, word, b"tablet", Question::Tablet, READINGS);
     found = row(found, word, b"bookread", Question::LogRead, LOG_READ);
-    row(found, word, b"bookadd", Question::LogAdd, LOG_ADDED)
+    found = row(found, word, b"bookadd", Question::LogAdd, LOG_ADDED);
+    row(found, word, b"pack", Question::LogPack, LOG_PACKED)
 }
 
 // Returns the row's question if the word is its own, else what was found before.
@@ -127,10 +138,11 @@ pub fn form_of(question: Question) -> Form {
         Question::Inside | Question::Offer => Form::YesNo,
         Question::Find => Form::Direction,
         Question::Clearance => Form::Clearance,
+        Question::Excess => Form::Excess,
         Question::Passage => Form::Passage,
         Question::Parts => Form::Begun,
         Question::Tablet => Form::Bits,
-        Question::LogAdd => Form::Addition,
+        Question::LogAdd | Question::LogPack => Form::Addition,
         _ => Form::Numbers,
     }
 }

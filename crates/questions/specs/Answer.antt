@@ -6,7 +6,7 @@ use mathlib.Core.List.{[], _∷_, _++_}
 use lib.IntN.{pos}
 use Rattle.plane.specs.Reply.{Reply, answered, refused}
 use Rattle.tablet.specs.Reading.{Sent}
-use Rattle.calipers.specs.Part.{walkNumbers}
+use Rattle.sums.specs.Part.{walkNumbers}
 pub use Rattle.admission.specs.Answer.{ofRefusal, ofAnswer}
 use Rattle.questions.specs.Walk.{stateOf}
 use Rattle.questions.specs.declared.answer.Begun.{Begun}
@@ -17,6 +17,8 @@ use Rattle.questions.specs.declared.answer.Furthest.{Furthest}
 use Rattle.questions.specs.declared.answer.Furthest.the-variants as Furthest
 use Rattle.questions.specs.declared.answer.Length.{Length}
 use Rattle.questions.specs.declared.answer.Length.the-variants as Length
+use Rattle.questions.specs.declared.answer.Area.{Area}
+use Rattle.questions.specs.declared.answer.Area.the-variants as Area
 use Rattle.questions.specs.declared.answer.Width.{Width}
 use Rattle.questions.specs.declared.answer.Width.the-variants as Width
 use Rattle.questions.specs.declared.answer.Relation.{Relation}
@@ -29,6 +31,14 @@ use Rattle.questions.specs.declared.answer.Separator.{Separator}
 use Rattle.questions.specs.declared.answer.Separator.the-variants as Separator
 use Rattle.questions.specs.declared.answer.Clearance.{Clearance}
 use Rattle.questions.specs.declared.answer.Clearance.the-variants as Clearance
+use Rattle.questions.specs.declared.answer.Nearest.{Nearest}
+use Rattle.questions.specs.declared.answer.Nearest.the-variants as Nearest
+use Rattle.questions.specs.declared.answer.Gap.{Gap}
+use Rattle.questions.specs.declared.answer.Gap.the-variants as Gap
+use Rattle.questions.specs.declared.answer.Excess.{Excess}
+use Rattle.questions.specs.declared.answer.Excess.the-variants as Excess
+use Rattle.questions.specs.declared.answer.Contact.{Contact}
+use Rattle.questions.specs.declared.answer.Contact.the-variants as Contact
 use Rattle.questions.specs.declared.answer.Passage.{Passage}
 use Rattle.questions.specs.declared.answer.Passage.the-variants as Passage
 use Rattle.questions.specs.declared.answer.Line.{Line}
@@ -40,6 +50,8 @@ use Rattle.questions.specs.declared.answer.Tablet.{Tablet}
 use Rattle.questions.specs.declared.answer.Tablet.the-variants as Tablet
 use Rattle.questions.specs.declared.answer.Addition.{Addition}
 use Rattle.questions.specs.declared.answer.Addition.the-variants as Addition
+use Rattle.questions.specs.declared.answer.Entry.{Entry}
+use Rattle.questions.specs.declared.answer.Entry.the-variants as Entry
 
 -- the edges passed of either shape, and 1 if the walk is over; a part has before them the count of its corners
 abbrev pub ofBegun : Begun → Reply
@@ -57,6 +69,10 @@ ofFurthest (Furthest.No r) = ofRefusal r
 abbrev pub ofLength : Length → Reply
 ofLength (Length.Between squared from to floor) = answered (pos squared ∷ pos from ∷ pos to ∷ pos floor ∷ [])
 ofLength (Length.No r) = ofRefusal r
+
+abbrev pub ofArea : Area → Reply
+ofArea (Area.Twice twice floor) = answered (pos twice ∷ pos floor ∷ [])
+ofArea (Area.No r) = ofRefusal r
 
 abbrev pub ofWidth : Width → Reply
 ofWidth (Width.Across edge corner turn squared rounded floor) =
@@ -94,6 +110,40 @@ ofClearance (Clearance.CornerEdge c e t q w floor) = answered (pos 2 ∷ pos c �
 ofClearance (Clearance.EdgeCorner c e t q w floor) = answered (pos 3 ∷ pos c ∷ pos e ∷ pos t ∷ pos q ∷ pos w ∷ pos floor ∷ [])
 ofClearance (Clearance.No r) = ofRefusal r
 
+-- the name, then what `ofClearance` answers
+abbrev pub ofNearest : Nearest → Reply
+ofNearest (Nearest.Meets n floor) = answered (pos n ∷ pos 0 ∷ pos floor ∷ [])
+ofNearest (Nearest.Corners n i j d w floor) = answered (pos n ∷ pos 1 ∷ pos i ∷ pos j ∷ pos d ∷ pos w ∷ pos floor ∷ [])
+ofNearest (Nearest.CornerEdge n c e t q w floor) =
+    answered (pos n ∷ pos 2 ∷ pos c ∷ pos e ∷ pos t ∷ pos q ∷ pos w ∷ pos floor ∷ [])
+ofNearest (Nearest.EdgeCorner n c e t q w floor) =
+    answered (pos n ∷ pos 3 ∷ pos c ∷ pos e ∷ pos t ∷ pos q ∷ pos w ∷ pos floor ∷ [])
+ofNearest (Nearest.No r) = ofRefusal r
+
+-- both names, then clearance's numbers of the two grown shapes
+abbrev pub ofGap : Gap → Reply
+ofGap (Gap.Meets n m floor) = answered (pos n ∷ pos m ∷ pos 0 ∷ pos floor ∷ [])
+ofGap (Gap.Corners n m i j d w floor) =
+    answered (pos n ∷ pos m ∷ pos 1 ∷ pos i ∷ pos j ∷ pos d ∷ pos w ∷ pos floor ∷ [])
+ofGap (Gap.CornerEdge n m c e t q w floor) =
+    answered (pos n ∷ pos m ∷ pos 2 ∷ pos c ∷ pos e ∷ pos t ∷ pos q ∷ pos w ∷ pos floor ∷ [])
+ofGap (Gap.EdgeCorner n m c e t q w floor) =
+    answered (pos n ∷ pos m ∷ pos 3 ∷ pos c ∷ pos e ∷ pos t ∷ pos q ∷ pos w ∷ pos floor ∷ [])
+ofGap (Gap.No r) = ofRefusal r
+
+-- 0 inside, 1 two corners, 2 a corner of the new shape and an edge of the old one
+abbrev pub ofExcess : Excess → Reply
+ofExcess (Excess.Inside floor) = answered (pos 0 ∷ pos floor ∷ [])
+ofExcess (Excess.Corners c j d u floor) = answered (pos 1 ∷ pos c ∷ pos j ∷ pos d ∷ pos u ∷ pos floor ∷ [])
+ofExcess (Excess.Edge c e t q u floor) = answered (pos 2 ∷ pos c ∷ pos e ∷ pos t ∷ pos q ∷ pos u ∷ pos floor ∷ [])
+ofExcess (Excess.No r) = ofRefusal r
+
+-- 0 never; or 1, the fraction and the safe millimetres
+abbrev pub ofContact : Contact → Reply
+ofContact (Contact.Never floor) = answered (pos 0 ∷ pos floor ∷ [])
+ofContact (Contact.At n d safe floor) = answered (pos 1 ∷ pos n ∷ pos d ∷ pos safe ∷ pos floor ∷ [])
+ofContact (Contact.No r) = ofRefusal r
+
 -- 0 blocked; or 1, the direction, the two lines and the width
 abbrev pub ofPassage : Passage → Reply
 ofPassage (Passage.Blocked floor) = answered (pos 0 ∷ pos floor ∷ [])
@@ -123,3 +173,8 @@ abbrev pub ofAddition : Addition → Reply
 ofAddition Addition.Finished = answered (pos 1 ∷ [])
 ofAddition Addition.Cut = answered (pos 0 ∷ [])
 ofAddition (Addition.No r) = ofRefusal r
+
+-- how many corners, the name, and the floor
+abbrev pub ofEntry : Entry → Reply
+ofEntry (Entry.Corners n name floor) = answered (pos n ∷ pos name ∷ pos floor ∷ [])
+ofEntry (Entry.No r) = ofRefusal r

@@ -1,6 +1,6 @@
 -- The walk of a caller as a state of the walk round two shapes (document 02, request W6).
 use Rattle.calipers.specs.Walk.{Walk as State}
-use Rattle.calipers.specs.Advance.{state}
+use Rattle.sums.specs.Advance.{state}
 use Rattle.questions.specs.declared.walk.Walk.{Walk}
 
 abbrev pub stateOf : Walk → State

@@ -4,4 +4,7 @@ pub mod Measures
 pub mod Lines
 pub mod Readings
 pub mod Logs
+pub mod Packing
+pub mod Entries
+pub mod Books
 pub mod Parts

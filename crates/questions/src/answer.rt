@@ -42,6 +42,12 @@ pub enum Length {
     No(Refusal),
 }
 
+// Twice the area.
+pub enum Area {
+    Twice { twice: u64, floor: u16 },
+    No(Refusal),
+}
+
 // The edge that the shape is narrowest across, the corner furthest from it, the turn of that corner against the edge,
 // the edge's squared length, and the width rounded down.
 pub enum Width {
@@ -116,6 +122,120 @@ pub enum Clearance {
     No(Refusal),
 }
 
+// Inside; or the corner of the new shape that is furthest from the old one, where the old one is nearest to it, and the
+// distance in millimetres rounded up: a corner, with the squared distance; or an edge, with the size of the corner's
+// turn against it and the edge's squared length.
+pub enum Excess {
+    Inside {
+        floor: u16,
+    },
+    Corners {
+        corner: usize,
+        other: usize,
+        squared: u64,
+        up: u64,
+        floor: u16,
+    },
+    Edge {
+        corner: usize,
+        edge: usize,
+        turn: u64,
+        squared: u64,
+        up: u64,
+        floor: u16,
+    },
+    No(Refusal),
+}
+
+// The name of the nearest shape of a floor, and what `Clearance` says of the asked shape and that one.
+pub enum Nearest {
+    Meets {
+        name: u16,
+        floor: u16,
+    },
+    Corners {
+        name: u16,
+        first: usize,
+        second: usize,
+        squared: u64,
+        rounded: u64,
+        floor: u16,
+    },
+    CornerEdge {
+        name: u16,
+        corner: usize,
+        edge: usize,
+        turn: u64,
+        squared: u64,
+        rounded: u64,
+        floor: u16,
+    },
+    EdgeCorner {
+        name: u16,
+        corner: usize,
+        edge: usize,
+        turn: u64,
+        squared: u64,
+        rounded: u64,
+        floor: u16,
+    },
+    No(Refusal),
+}
+
+// The names of the two shapes of a floor with the narrowest gap, and what `Clearance` says of both, grown by the cart.
+pub enum Gap {
+    Meets {
+        name: u16,
+        other: u16,
+        floor: u16,
+    },
+    Corners {
+        name: u16,
+        other: u16,
+        first: usize,
+        second: usize,
+        squared: u64,
+        rounded: u64,
+        floor: u16,
+    },
+    CornerEdge {
+        name: u16,
+        other: u16,
+        corner: usize,
+        edge: usize,
+        turn: u64,
+        squared: u64,
+        rounded: u64,
+        floor: u16,
+    },
+    EdgeCorner {
+        name: u16,
+        other: u16,
+        corner: usize,
+        edge: usize,
+        turn: u64,
+        squared: u64,
+        rounded: u64,
+        floor: u16,
+    },
+    No(Refusal),
+}
+
+// Never, or where a drive first meets an obstacle: the fraction of the way, and the millimetres before it, rounded
+// down.
+pub enum Contact {
+    Never {
+        floor: u16,
+    },
+    At {
+        numerator: u64,
+        denominator: u64,
+        safe: u64,
+        floor: u16,
+    },
+    No(Refusal),
+}
+
 // Blocked, or how a cart may pass straight between two obstacles: the direction across, from the right obstacle to the
 // left one, the values in it between which the cart's origin stays, and the width of that in millimetres, rounded down.
 pub enum Passage {
@@ -174,9 +294,15 @@ pub enum Tablet {
     No(Unread),
 }
 
-// Whether an addition to a log made all of its stores, or ran out of those that it was allowed.
+// Whether an addition to a log, or a packing of one, made all of its stores, or ran out of those that it was allowed.
 pub enum Addition {
     Finished,
     Cut,
+    No(Refusal),
+}
+
+// The current shape at a position of a log: how many corners it has, its name and its floor.
+pub enum Entry {
+    Corners { count: usize, name: u16, floor: u16 },
     No(Refusal),
 }

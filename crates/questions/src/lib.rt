@@ -3,7 +3,10 @@
 // floor, and every answer on shapes carries it: of two shapes, a on floor f and b on floor g, both have the same, or
 // are refused 13 after 1 to 5 of the first and of the second.
 pub mod answer;
+pub mod books;
+mod changes;
 mod coordinate;
+mod drives;
 mod merging;
 pub mod separators;
 mod sweeping;
@@ -11,7 +14,9 @@ pub mod walk;
 
 ghost use mathlib.Core.Path.{_≡_};
 ghost use mathlib.Core.List.{[], _∷_, _++_};
+ghost use Prim.Native.Nat.{_<_};
 ghost use lib.IntN.{pos};
+ghost use lib.ListN.{length};
 ghost use Rattle.plane.specs.Reply.{answered, NoneApply};
 ghost use Rattle.separation.specs.Answer.{numberOf};
 ghost use mathlib.Core.Bool.{true, false};
@@ -35,11 +40,13 @@ ghost use Rattle.journal.specs.Format.{records};
 ghost use Rattle.journal.specs.Reading.{damaged, askRead};
 ghost use Rattle.journal.specs.Adding.{added, end as Adding·end};
 ghost use Rattle.questions.specs.Answer.{ofRelation, ofInside, ofClearance, ofTangents, ofTablet, ofAddition};
-ghost use Rattle.questions.specs.Answer.{ofPassage};
+ghost use Rattle.area.specs.Area.{askArea};
+ghost use Rattle.questions.specs.Answer.{ofArea, ofPassage};
 use admission::Admission;
 use admission::deliver;
 use answer::Addition;
 use answer::Answer;
+use answer::Area;
 use answer::Clearance;
 use answer::Furthest;
 use answer::Inside;
@@ -52,21 +59,22 @@ use answer::Sent;
 use answer::Tablet;
 use answer::Tangents;
 use answer::Width;
-use calipers::size;
+pub use changes::excess;
 use clearance::measured::Distance;
 use coordinate::Coordinate;
+pub use drives::contact;
 use journal::latest::Found;
 use journal::storing;
 use journal::survey::Surveyed;
 use passage::corridor::Way;
 use polygon::corners;
-use polygon::direction;
 use polygon::limits;
 pub use polygon::limits::SHAPE_NUMBERS;
 use polygon::opposite;
 use polygon::peak;
 use polygon::point::Point;
 use separation::differences;
+use sums::size;
 pub use tablet::reading::Reading;
 
 // Whether the list is a shape, and how many corners it has. A point and a segment are shapes. Refused: an empty or odd
@@ -91,8 +99,8 @@ pub fn judge(list: &[i32], floor: u16) -> Answer
 // point always is, it is given twice; the last and the first of the list are given in this order; of a segment that
 // lies across the direction 0 and 1. Refused: 1 to 5, then the direction (0, 0) and one with a part out of range, then
 // one whose parts have a common divisor above 1: of directions that point the same way one is answered.
-// Ruled out: first and last exchanged; segment taken over the end; smallest position over the end; last position on a
-// tie; upright direction refused; eleven and twelve exchanged.
+// Ruled out: segment taken over the end; smallest position over the end; last position on a tie; upright direction
+// refused; eleven and twelve exchanged.
 pub fn furthest(list: &[i32], floor: u16, u: i32, v: i32) -> Furthest
     ensures { λ r. ⌜ ofFurthest r ≡ reply (askFurthest (on (now (list .entry)) floor) (point u v)) ⌝ }
 {
@@ -136,8 +144,8 @@ pub fn mirror(list: &[i32], floor: u16, out: &mut [i32]) -> Answer
 // Edges of equal direction make one step, so no three corners of the answer are in line. Refused, with the output as it
 // was: 1 to 5 of the first shape, then of the second; different floors; then an answer of too many corners, one out of
 // range, and too small an output. On success all after the written numbers is kept.
-// Ruled out: parallel corners kept; segment passed once; origin for every sum; second shape judged first; sum written
-// in too small an output; far sum written; too large a sum written.
+// Ruled out: parallel corners kept; segment passed once; origin for every sum; second shape judged first; far sum
+// written; too large a sum written.
 pub fn sum(a: &[i32], f: u16, b: &[i32], g: u16, out: &mut [i32]) -> Answer
     ensures { λ r. ⌜
         (ofAnswer r ≡ reply (askSum (on (now (a .entry)) f) (on (now (b .entry)) g) (now (out .entry))))
@@ -151,7 +159,7 @@ pub fn sum(a: &[i32], f: u16, b: &[i32], g: u16, out: &mut [i32]) -> Answer
         return Answer::No(refusal);
     }
     Answer::Corners {
-        count: calipers::sum(a, b, out),
+        count: sums::sum(a, b, out),
         floor: f,
     }
 }
@@ -160,7 +168,7 @@ pub fn sum(a: &[i32], f: u16, b: &[i32], g: u16, out: &mut [i32]) -> Answer
 // The shapes may overlap, lie one in the other, share corners or edges. Refused, with the output as it was: 1 to 5 of
 // the first shape, then of the second; different floors; then an answer of too many corners, and too small an output.
 // No corner of the answer is out of range, since each is a corner of one of the two.
-// Ruled out: points in line kept; second shape forgotten; count one more; output written on thirteen.
+// Ruled out: points in line kept; second shape forgotten; output written on thirteen.
 pub fn merge(a: &[i32], f: u16, b: &[i32], g: u16, out: &mut [i32]) -> Answer
     ensures { λ r. ⌜
         (ofAnswer r ≡ reply (askMerge (on (now (a .entry)) f) (on (now (b .entry)) g) (now (out .entry))))
@@ -233,6 +241,20 @@ pub fn length(list: &[i32], floor: u16) -> Length
         squared: found.squared,
         from: found.from,
         to: found.to,
+        floor,
+    }
+}
+
+// Returns twice the area, which is a whole number: 0 for a point and a segment. Refused: 1 to 5.
+// Ruled out: first edge left out; outline not closed.
+pub fn area(list: &[i32], floor: u16) -> Area
+    ensures { λ r. ⌜ ofArea r ≡ reply (askArea (on (now (list .entry)) floor)) ⌝ }
+{
+    if let Admission::No(refusal) = admission::admit(list, 1) {
+        return Area::No(refusal);
+    }
+    Area::Twice {
+        twice: area::twice_area(list),
         floor,
     }
 }
@@ -378,7 +400,6 @@ fn measured(found: Distance, floor: u16) -> Clearance
 // of the three may be a point or a segment. Refused: 1 to 5 of the left obstacle, of the right one, of the cart;
 // different floors; then, of the left obstacle grown by the cart and then of the right one, too many corners and a
 // corner out of range.
-// Ruled out: right obstacle not judged when grown; obstacles exchanged.
 pub fn passage(left: &[i32], f: u16, right: &[i32], g: u16, cart: &[i32], h: u16) -> Passage
     ensures { λ r. ⌜ ofPassage r ≡ reply
         (askPassage (on (now (left .entry)) f) (on (now (right .entry)) g) (on (now (cart .entry)) h)) ⌝ }
@@ -386,24 +407,13 @@ pub fn passage(left: &[i32], f: u16, right: &[i32], g: u16, cart: &[i32], h: u16
     if let Admission::No(refusal) = admission::admit_three(left, f, right, g, cart, h) {
         return Passage::No(refusal);
     }
-    if let Admission::No(refusal) = admit_grown(left, cart) {
+    if let Admission::No(refusal) = passage::admit_grown(left, cart) {
         return Passage::No(refusal);
     }
-    if let Admission::No(refusal) = admit_grown(right, cart) {
+    if let Admission::No(refusal) = passage::admit_grown(right, cart) {
         return Passage::No(refusal);
     }
     passed(passage::between(left, right, cart), f)
-}
-
-// Judges an obstacle grown by the cart by its size, before it is made: 6, then 7.
-fn admit_grown(obstacle: &[i32], cart: &[i32]) -> Admission
-    requires { ⌜ Valid (now obstacle) × Valid (now cart) ⌝ }
-    ensures { λ r. ⌜ Judged
-        (NoneApply (sizeRows (grown (points (now (obstacle .entry))) (points (now (cart .entry))))))
-        (sizeRows (grown (points (now (obstacle .entry))) (points (now (cart .entry))))) r ⌝ }
-{
-    let n = differences::reckon(obstacle, cart, peak::top(cart), SHAPE_NUMBERS);
-    deliver::sized(n, differences::is_far(obstacle, cart))
 }
 
 // A way with its floor.
@@ -445,22 +455,30 @@ pub fn tangents(a: &[i32], f: u16, b: &[i32], g: u16) -> Tangents
     let separation::answer::Relation::Apart = place else {
         return Tangents::No(Refusal::NotApart);
     };
+    let left = line(a, b, Line { from: 0, to: 0 }, true, true);
+    let crossing = line(a, b, left, true, false);
+    let right = line(a, b, crossing, false, false);
+    let reverse = line(a, b, right, false, true);
     Tangents::Lines {
-        left: line(a, b, true, true),
-        right: line(a, b, false, false),
-        crossing: line(a, b, true, false),
-        reverse: line(a, b, false, true),
+        left,
+        right,
+        crossing,
+        reverse,
         floor: f,
     }
 }
 
-// The line that has the first shape on side s and the second on side t, true for the left.
-fn line(a: &[i32], b: &[i32], s: bool, t: bool) -> Line
-    requires { ⌜ Valid (now a) × Valid (now b) × (apart (points (now a)) (points (now b)) ≡ true) ⌝ }
+// The line that has the first shape on side s and the second on side t, true for the left. The search for it begins at
+// a line that is given.
+fn line(a: &[i32], b: &[i32], near: Line, s: bool, t: bool) -> Line
+    requires { ⌜ Valid (now a) × Valid (now b) × (apart (points (now a)) (points (now b)) ≡ true)
+        × (near .from < length (points (now a))) × (near .to < length (points (now b))) ⌝ }
     ensures { λ r. ⌜ (r .from ≡ tangentFrom s t (points (now (a .entry))) (points (now (b .entry))))
         × (r .to ≡ tangentTo s t (points (now (a .entry))) (points (now (b .entry)))) ⌝ }
 {
-    let found = tangents::tangent(a, b, s, t);
+    let from = near.from;
+    let to = near.to;
+    let found = tangents::tangent(a, b, tangents::Line { from, to }, s, t);
     Line {
         from: found.from,
         to: found.to,
@@ -471,7 +489,7 @@ fn line(a: &[i32], b: &[i32], s: bool, t: bool) -> Line
 // numbers that they hold exactly, from which a shape may be listed. Minus zero is 0 and goes back as plus zero. Nothing
 // is rounded. Refused, with the part that it was: x, then y, each if it is not finite, then if it is not whole, then if
 // it is out of range.
-// Ruled out: y judged first; x blamed for y; whole after range; minus zero sent back; scaled before the test.
+// Ruled out: y judged first; whole after range; minus zero sent back; scaled before the test.
 pub fn tablet(x: Reading, y: Reading) -> Tablet
     ensures { λ r. ⌜ ofTablet r ≡ tabletSent x y ⌝ }
 {

@@ -18,7 +18,7 @@ use polygon::point::Point;
 // offered the direction, the shapes are apart if it is accepted; if it is not, they may be apart all the same. Refused:
 // 1 to 5 of the first shape, then of the second; different floors; then the direction (0, 0) and one with a part out of
 // range, and one whose parts have a common divisor above 1, even if the shapes are not apart.
-// Ruled out: less or equal for less; twelve before thirteen; floor zero in an offer.
+// Ruled out: less or equal for less; twelve before thirteen.
 pub fn offer(a: &[i32], f: u16, b: &[i32], g: u16, u: i32, v: i32) -> Offer
     ensures { λ r. ⌜ ofOffer r ≡ reply (askOffer (on (now (a .entry)) f) (on (now (b .entry)) g) (point u v)) ⌝ }
 {

@@ -6,8 +6,8 @@ ghost use Rattle.plane.specs.Refusal.{Valid};
 ghost use Rattle.plane.specs.Output.{sizeRows};
 ghost use Rattle.plane.specs.Floor.{on, Same};
 ghost use Rattle.plane.specs.Question.{reply, output};
-ghost use Rattle.calipers.specs.PlaceAfter.{wholeSum, isPlace};
-ghost use Rattle.calipers.specs.Part.{askBegin, askPart};
+ghost use Rattle.sums.specs.PlaceAfter.{wholeSum, isPlace};
+ghost use Rattle.sums.specs.Part.{askBegin, askPart};
 ghost use Rattle.admission.specs.Admission.{Judged};
 ghost use Rattle.questions.specs.Answer.{ofBegun, ofPart};
 ghost use Rattle.questions.specs.Walk.{stateOf};
@@ -16,8 +16,8 @@ use crate::answer::Part;
 use crate::answer::Refusal;
 use admission::Admission;
 use admission::deliver;
-use calipers::size;
 use polygon::limits;
+use sums::size;
 
 // How far the walk round two shapes is: so many edges of the first and of the second are passed, and over if all
 // corners of their sum are written. It is a plain value, which a caller may keep, copy or make up: one that is at no
@@ -31,7 +31,7 @@ pub struct Walk {
 // Begins a sum in parts, of a on floor f and b on floor g: the walk for the first of them. Refused as the sum is: 1 to
 // 5 of the first shape, then of the second; different floors; then a sum of too many corners, and one out of range. No
 // output is asked for yet.
-// Ruled out: walk over when begun; too large a sum begun.
+// Ruled out: too large a sum begun.
 pub fn begin(a: &[i32], f: u16, b: &[i32], g: u16) -> Begun
     ensures { λ r. ⌜ ofBegun r ≡ reply (askBegin (on (now (a .entry)) f) (on (now (b .entry)) g)) ⌝ }
 {
@@ -57,8 +57,8 @@ impl Walk {
     // none, and the walk stays as it is. Refused, with the output as it was: 1 to 5 of the first shape, then of the
     // second; different floors; a walk that is at no place of their sum; then a sum of too many corners, and one out of
     // range; and an output too small for the corners of this call.
-    // Ruled out: fourteen after six; fourteen before thirteen; thirteen after fourteen; one corner too few; walk handed
-    // back unmoved; room asked for the whole sum.
+    // Ruled out: fourteen after six; thirteen after fourteen; walk handed back unmoved; room asked for the
+    // whole sum.
     pub fn part(self, a: &[i32], f: u16, b: &[i32], g: u16, k: usize, out: &mut [i32]) -> Part
         ensures { λ r. ⌜
             (ofPart r
@@ -69,7 +69,7 @@ impl Walk {
         if let Admission::No(refusal) = admission::admit_pair(a, f, b, g) {
             return Part::No(refusal);
         }
-        if !calipers::walk::is_place(a, b, self.first, self.second, self.over) {
+        if !sums::walk::is_place(a, b, self.first, self.second, self.over) {
             return Part::No(Refusal::NotAPlace);
         }
         if let Admission::No(whole) = survey(a, b) {
@@ -105,7 +105,7 @@ impl Walk {
         if !size::has_room(a, b, self.first, self.second, k, out.len()) {
             return Part::No(Refusal::Room);
         }
-        let went = calipers::walk::walk_on(a, b, self.first, self.second, k, out);
+        let went = sums::walk::walk_on(a, b, self.first, self.second, k, out);
         Part::Corners {
             count: went.count,
             walk: Walk {

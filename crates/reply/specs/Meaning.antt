@@ -20,13 +20,19 @@ use Rattle.questions.specs.declared.answer.Relation.{Relation}
 use Rattle.questions.specs.declared.answer.Inside.{Inside}
 use Rattle.questions.specs.declared.answer.Offer.{Offer}
 use Rattle.questions.specs.declared.answer.Separator.{Separator}
+use Rattle.questions.specs.declared.answer.Excess.{Excess}
 use Rattle.questions.specs.declared.answer.Passage.{Passage}
 use Rattle.questions.specs.declared.answer.Clearance.{Clearance}
+use Rattle.questions.specs.declared.answer.Nearest.{Nearest}
 use Rattle.questions.specs.declared.answer.Tangents.{Tangents}
 use Rattle.questions.specs.declared.answer.Tablet.{Tablet}
 use Rattle.questions.specs.declared.answer.Addition.{Addition}
+use Rattle.questions.specs.declared.answer.Entry.{Entry}
+use Rattle.questions.specs.declared.answer.Area.{Area}
+use Rattle.questions.specs.declared.answer.Gap.{Gap}
+use Rattle.questions.specs.Answer.{ofArea, ofNearest, ofGap, ofEntry}
 use Rattle.questions.specs.Answer.{ofRefusal, ofUnread, ofAnswer, ofBegun, ofPart, ofFurthest, ofLength, ofWidth, ofRelation}
-use Rattle.questions.specs.Answer.{ofInside, ofOffer, ofSeparator, ofClearance, ofPassage, ofTangents, ofTablet, ofAddition}
+use Rattle.questions.specs.Answer.{ofInside, ofOffer, ofSeparator, ofClearance, ofExcess, ofPassage, ofTangents, ofTablet, ofAddition}
 use Rattle.reply.specs.Told.{bits, crossed}
 use Rattle.reply.specs.Heard.{numberOf, countOf, carriedOf, valuesOf, heard, Room, Signed}
 use Rattle.reply.specs.theory.ReadBack.{refused-back, answered-back, heard-back, same-reply}
@@ -80,6 +86,9 @@ furthest-has-room x = room.furthest-room x
 pub length-has-room : (x : Length) → Room (ofLength x)
 length-has-room x = room.length-room x
 
+pub area-has-room : (x : Area) → Room (ofArea x)
+area-has-room x = room.area-room x
+
 pub width-has-room : (x : Width) → Room (ofWidth x)
 width-has-room x = room.width-room x
 
@@ -98,6 +107,15 @@ separator-has-room x = room.separator-room x
 pub clearance-has-room : (x : Clearance) → Room (ofClearance x)
 clearance-has-room x = room.clearance-room x
 
+pub nearest-has-room : (x : Nearest) → Room (ofNearest x)
+nearest-has-room x = room.nearest-room x
+
+pub gap-has-room : (x : Gap) → Room (ofGap x)
+gap-has-room x = room.gap-room x
+
+pub excess-has-room : (x : Excess) → Room (ofExcess x)
+excess-has-room x = room.excess-room x
+
 pub passage-has-room : (x : Passage) → Room (ofPassage x)
 passage-has-room x = room.passage-room x
 
@@ -109,3 +127,6 @@ tablet-has-room x = room.tablet-room x
 
 pub addition-has-room : (x : Addition) → Room (ofAddition x)
 addition-has-room x = room.addition-room x
+
+pub entry-has-room : (x : Entry) → Room (ofEntry x)
+entry-has-room x = room.entry-room x

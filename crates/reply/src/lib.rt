@@ -6,15 +6,19 @@ pub mod refusals;
 ghost use mathlib.Core.Path.{_≡_};
 ghost use Rattle.questions.specs.Answer.{ofAnswer, ofBegun, ofPart, ofFurthest, ofLength};
 ghost use Rattle.questions.specs.Answer.{ofWidth, ofRelation, ofInside, ofOffer, ofSeparator, ofClearance, ofTangents};
-ghost use Rattle.questions.specs.Answer.{ofPassage, ofTablet, ofAddition};
+ghost use Rattle.questions.specs.Answer.{ofArea, ofExcess, ofNearest, ofPassage, ofTablet, ofAddition, ofEntry};
 ghost use Rattle.reply.specs.Told.{crossed, numbers};
 use questions::answer::Addition;
 use questions::answer::Answer;
+use questions::answer::Area;
 use questions::answer::Begun;
 use questions::answer::Clearance;
+use questions::answer::Entry;
+use questions::answer::Excess;
 use questions::answer::Furthest;
 use questions::answer::Inside;
 use questions::answer::Length;
+use questions::answer::Nearest;
 use questions::answer::Offer;
 use questions::answer::Part;
 use questions::answer::Passage;
@@ -112,6 +116,16 @@ pub fn of_length(answer: Length) -> Reply
     }
 }
 
+// Returns twice the area.
+pub fn of_area(answer: Area) -> Reply
+    ensures { λ r. ⌜ numbers r ≡ crossed (ofArea answer) ⌝ }
+{
+    match answer {
+        Area::Twice { twice, floor } => numbers::answered2(twice, floor as u64),
+        Area::No(refusal) => refusals::of_refusal(refusal),
+    }
+}
+
 // Returns edge, corner, turn, squared edge and rounded width.
 pub fn of_width(answer: Width) -> Reply
     ensures { λ r. ⌜ numbers r ≡ crossed (ofWidth answer) ⌝ }
@@ -170,7 +184,6 @@ pub fn of_offer(answer: Offer) -> Reply
 }
 
 // Returns 1 and a direction, whose parts may be below 0; or 0 if there is none.
-// Ruled out: parts of a direction exchanged.
 pub fn of_separator(answer: Separator) -> Reply
     ensures { λ r. ⌜ numbers r ≡ crossed (ofSeparator answer) ⌝ }
 {
@@ -240,6 +253,102 @@ pub fn of_clearance(answer: Clearance) -> Reply
             floor as u64,
         ),
         Clearance::No(refusal) => refusals::of_refusal(refusal),
+    }
+}
+
+// Returns the name of the nearest shape, and then the numbers of `of_clearance`.
+pub fn of_nearest(answer: Nearest) -> Reply
+    ensures { λ r. ⌜ numbers r ≡ crossed (ofNearest answer) ⌝ }
+{
+    match answer {
+        Nearest::Meets { name, floor } => numbers::answered3(name as u64, 0, floor as u64),
+        Nearest::Corners {
+            name,
+            first,
+            second,
+            squared,
+            rounded,
+            floor,
+        } => numbers::answered7(
+            name as u64,
+            1,
+            first as u64,
+            second as u64,
+            squared,
+            rounded,
+            floor as u64,
+        ),
+        Nearest::CornerEdge {
+            name,
+            corner,
+            edge,
+            turn,
+            squared,
+            rounded,
+            floor,
+        } => numbers::answered8(
+            name as u64,
+            2,
+            corner as u64,
+            edge as u64,
+            turn,
+            squared,
+            rounded,
+            floor as u64,
+        ),
+        Nearest::EdgeCorner {
+            name,
+            corner,
+            edge,
+            turn,
+            squared,
+            rounded,
+            floor,
+        } => numbers::answered8(
+            name as u64,
+            3,
+            corner as u64,
+            edge as u64,
+            turn,
+            squared,
+            rounded,
+            floor as u64,
+        ),
+        Nearest::No(refusal) => refusals::of_refusal(refusal),
+    }
+}
+
+// Returns how far a changed shape reaches: 0 if it is inside the old one; 1 and two corners, or 2 and a corner and an
+// edge, with the distance rounded up.
+pub fn of_excess(answer: Excess) -> Reply
+    ensures { λ r. ⌜ numbers r ≡ crossed (ofExcess answer) ⌝ }
+{
+    match answer {
+        Excess::Inside { floor } => numbers::answered2(0, floor as u64),
+        Excess::Corners {
+            corner,
+            other,
+            squared,
+            up,
+            floor,
+        } => numbers::answered6(1, corner as u64, other as u64, squared, up, floor as u64),
+        Excess::Edge {
+            corner,
+            edge,
+            turn,
+            squared,
+            up,
+            floor,
+        } => numbers::answered7(
+            2,
+            corner as u64,
+            edge as u64,
+            turn,
+            squared,
+            up,
+            floor as u64,
+        ),
+        Excess::No(refusal) => refusals::of_refusal(refusal),
     }
 }
 
@@ -317,5 +426,17 @@ pub fn of_addition(answer: Addition) -> Reply
         Addition::Finished => numbers::answered1(1),
         Addition::Cut => numbers::answered1(0),
         Addition::No(refusal) => refusals::of_refusal(refusal),
+    }
+}
+
+// Returns how many corners the current shape has, its name and its floor.
+pub fn of_entry(answer: Entry) -> Reply
+    ensures { λ r. ⌜ numbers r ≡ crossed (ofEntry answer) ⌝ }
+{
+    match answer {
+        Entry::Corners { count, name, floor } => {
+            numbers::answered3(count as u64, name as u64, floor as u64)
+        }
+        Entry::No(refusal) => refusals::of_refusal(refusal),
     }
 }

@@ -41,7 +41,7 @@ pub fn refused3(number: u64, a: u64, b: u64, c: u64) -> Reply
     }
 }
 
-// Answers of 1, 2, 4, 5, 6, 7 and 9 values.
+// Answers of 1 to 9 values.
 pub fn answered1(a: u64) -> Reply
     ensures { λ r. ⌜ numbers r ≡ crossed (answered (pos a ∷ [])) ⌝ }
 {
@@ -61,6 +61,17 @@ pub fn answered2(a: u64, b: u64) -> Reply
         carried: [0, 0, 0],
         count: 2,
         values: [a, b, 0, 0, 0, 0, 0, 0, 0],
+    }
+}
+
+pub fn answered3(a: u64, b: u64, c: u64) -> Reply
+    ensures { λ r. ⌜ numbers r ≡ crossed (answered (pos a ∷ pos b ∷ pos c ∷ [])) ⌝ }
+{
+    Reply {
+        number: 0,
+        carried: [0, 0, 0],
+        count: 3,
+        values: [a, b, c, 0, 0, 0, 0, 0, 0],
     }
 }
 
@@ -105,6 +116,18 @@ pub fn answered7(a: u64, b: u64, c: u64, d: u64, e: u64, f: u64, g: u64) -> Repl
         carried: [0, 0, 0],
         count: 7,
         values: [a, b, c, d, e, f, g, 0, 0],
+    }
+}
+
+pub fn answered8(a: u64, b: u64, c: u64, d: u64, e: u64, f: u64, g: u64, h: u64) -> Reply
+    ensures { λ r. ⌜ numbers r
+        ≡ crossed (answered (pos a ∷ pos b ∷ pos c ∷ pos d ∷ pos e ∷ pos f ∷ pos g ∷ pos h ∷ [])) ⌝ }
+{
+    Reply {
+        number: 0,
+        carried: [0, 0, 0],
+        count: 8,
+        values: [a, b, c, d, e, f, g, h, 0],
     }
 }
 

@@ -35,6 +35,7 @@ pub fn of_refusal(refusal: Refusal) -> Reply
         Refusal::Damaged { place } => numbers::refused1(15, place as u64),
         Refusal::Full => numbers::refused0(16),
         Refusal::NoRecord => numbers::refused0(19),
+        Refusal::TooFew => numbers::refused0(20),
     }
 }
 

@@ -3,5 +3,6 @@ pub mod Answer
 pub mod Outward
 pub mod Around
 pub mod Directions
+pub mod Differences
 pub mod Meaning
 pub mod theory

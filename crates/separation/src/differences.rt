@@ -3,20 +3,25 @@
 // second, whose peak is at position top.
 ghost use mathlib.Core.Path.{_≡_};
 ghost use Prim.Native.Nat.{_*_, _≤_};
-ghost use lib.ListN.{length};
+ghost use lib.ListN.{length, take};
 ghost use Rattle.plane.specs.Point.{points, numbers};
 ghost use Rattle.plane.specs.Refusal.{Valid, someOutside};
 ghost use Rattle.plane.specs.Corner.{shapeOf};
 ghost use Rattle.plane.specs.Separation.{differences};
 ghost use Rattle.plane.specs.Output.{overwritten};
 ghost use Rattle.polygon.specs.Peak.{Peak};
-ghost use Rattle.calipers.specs.Size.{Reckoned};
+ghost use Rattle.calipers.specs.Image.{image};
+ghost use Rattle.calipers.specs.Walk.{begun};
+ghost use Rattle.sums.specs.Advance.{nextCorners, Walked};
+ghost use Rattle.sums.specs.Size.{Reckoned};
+ghost use Rattle.separation.specs.Differences.{enough};
 use calipers::image;
 use calipers::side;
-use calipers::size;
+use calipers::side::Side;
 use polygon::corners;
 use polygon::extent;
 use polygon::extent::Extent;
+use sums::size;
 
 // Writes the shape at the front of the output, keeps all after it, and returns how many corners it has.
 pub fn write(a: &[i32], b: &[i32], top: usize, out: &mut [i32]) -> usize
@@ -26,10 +31,13 @@ pub fn write(a: &[i32], b: &[i32], top: usize, out: &mut [i32]) -> usize
         × (now (out .exit) ≡ overwritten
         (numbers (shapeOf (differences (points (now (a .entry))) (points (now (b .entry)))))) (now (out .entry))) ⌝ }
 {
-    let mut s = side::side_at(a, 0);
-    let mut t = image::side_at(b, top, 0);
-    let all = s.end + t.end;
-    let mut count = 0;
+    let first = side::side_at(a, 0);
+    let second = image::side_at(b, top, 0);
+    let all = first.end + second.end;
+    let far = stride(a, b, top, first, second, out);
+    let mut s = far.first;
+    let mut t = far.second;
+    let mut count = far.count;
     loop {
         corners::put(out, count, side::here(s, t));
         count += 1;
@@ -39,6 +47,42 @@ pub fn write(a: &[i32], b: &[i32], top: usize, out: &mut [i32]) -> usize
         if s.at + t.at == all {
             return count;
         }
+    }
+}
+
+// The sides to which a walk came, and the corners that were written.
+struct Partway {
+    count: usize,
+    first: Side,
+    second: Side,
+}
+
+// Writes corners at the front of the output as long as both shapes have three edges left. No step tests for the end of
+// a shape: that is quicker.
+fn stride(a: &[i32], b: &[i32], top: usize, s: Side, t: Side, out: &mut [i32]) -> Partway
+    requires { ⌜ Valid (now a) × Valid (now b) × Peak (points (now b)) top
+        × Walked (now a) (image (now b)) begun (enough (now a) (now b)) 0 s t
+        × (2 * length (nextCorners (now a) (image (now b)) begun (enough (now a) (now b))) ≤ length (now out)) ⌝ }
+    ensures { λ r. ⌜
+        Walked (now (a .entry)) (image (now (b .entry))) begun (enough (now (a .entry)) (now (b .entry)))
+        (r .count) (r .first) (r .second)
+        × (now (out .exit) ≡ overwritten (numbers (take (r .count) (nextCorners (now (a .entry))
+        (image (now (b .entry))) begun (enough (now (a .entry)) (now (b .entry)))))) (now (out .entry))) ⌝ }
+{
+    let mut first = s;
+    let mut second = t;
+    let mut count = 0;
+    while side::are_inside(first, second) {
+        corners::put(out, count, side::here(first, second));
+        count += 1;
+        let c = side::order(first, second);
+        first = side::ahead(a, first, c < 0);
+        second = image::ahead(b, top, second, 0 < c);
+    }
+    Partway {
+        count,
+        first,
+        second,
     }
 }
 

@@ -12,7 +12,6 @@ ghost use Rattle.plane.specs.Primitive.{primitive};
 ghost use Rattle.polygon.specs.Point.{at};
 ghost use Rattle.separator.specs.declared.Separator.the-variants.{Direction};
 ghost use Rattle.separator.specs.Separator.{Finds};
-use polygon::direction;
 use polygon::peak;
 use polygon::point;
 use polygon::point::Point;

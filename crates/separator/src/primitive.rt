@@ -4,7 +4,6 @@ ghost use Prim.Native.Nat.{_^_};
 ghost use Rattle.plane.specs.Forms.{NonZero};
 ghost use Rattle.plane.specs.Primitive.{primitive as Primitive·primitive};
 ghost use Rattle.polygon.specs.Point.{at, Small};
-use polygon::direction;
 use polygon::point::Point;
 
 // Both parts over their greatest common divisor. A direction between shapes may be longer than one that a caller gives.

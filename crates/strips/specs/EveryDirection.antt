@@ -2,9 +2,10 @@
 -- only cited. Fractions are compared by products: a/b ≤ c/d says a·d ≤ c·b.
 --     ground       what least and spread are
 --     width        no direction is narrower than the edge that width answers; that edge's own direction is as narrow
+--     length       no direction is longer than the pair that length answers; that pair's own direction is as long
 --     corridor     no strip between two shapes is wider than their clearance; across the step between the nearest points one is so wide
--- A direction d is any two whole numbers, without bound; its squared length is value d d. t and q, and the fraction answerTop over
--- answerBottom, are of the replies that the contracts of width and clearance cite, to shapes with their floors.
+-- A direction d is any two whole numbers, without bound; its squared length is value d d. t and q, the squared length D, and the fraction
+-- answerTop over answerBottom, are of the replies that the contracts of width, length and clearance cite, to shapes with their floors.
 use mathlib.Core.Path.{_≡_}
 use mathlib.Core.Bool.{true}
 use mathlib.Core.List.{List, [], _∷_}
@@ -12,20 +13,21 @@ use Prim.Native.Nat.{ℕ, _<_}
 use lib.IntN.{ℤ, pos, _-ℤ_, _*ℤ_}
 use lib.ListN.{length}
 use lib.Signed.{_≤ℤ_, _<ℤ_}
-use Rattle.plane.specs.Point.{Point, origin, _∈_}
+use Rattle.plane.specs.Point.{Point, origin, corner, _∈_, _⊖_}
 use Rattle.plane.specs.Direction.{value, support}
 use Rattle.plane.specs.Reply.{answered}
 use Rattle.plane.specs.Refusal.{Valid}
 use Rattle.plane.specs.Separation.{apart}
 use Rattle.plane.specs.Clearance.{nearest}
 use Rattle.plane.specs.Floor.{Floored, corners}
-use Rattle.plane.specs.Question.{reply, askWidth, askClearance}
+use Rattle.plane.specs.Question.{reply, askLength, askWidth, askClearance}
 use Rattle.plane.specs.theory.forms.Vector.{square-positive}
 use Rattle.strips.specs.Strip.{least, spread, gapIn, Corridor}
 use Rattle.strips.specs.OwnDirection.{outOf, towards, answerTop, answerBottom}
 use Rattle.strips.specs.theory.Spread.{least-le-value, least-attained, spread-above, spread-attained}
 use Rattle.strips.specs.theory.Answers.{three-answered, answered-no-narrower, answered-attains, answered-fraction}
 use Rattle.strips.specs.theory.Answers.{answered-no-wider, answered-gap-no-wider, answered-bottom, answered-corridor, answered-wide}
+use Rattle.strips.specs.theory.LengthBound.{answered-no-longer, answered-longest}
 
 -- ---- ground
 
@@ -69,6 +71,18 @@ direction-has-length d n = square-positive d (record { non-zero = n })
 pub three-corners-are-answered : (a : Floored) → Valid (a .list) → 2 < length (corners a)
     → (e : ℕ) × (c : ℤ) × (t : ℤ) × (q : ℤ) × (w : ℤ) × (reply (askWidth a) ≡ answered (pos e ∷ c ∷ t ∷ q ∷ w ∷ pos (a .floor) ∷ []))
 three-corners-are-answered a v three = (_, _, _, _, _, three-answered a v three)
+
+-- ---- length: 000, theorem 2.1.1, "The diameter of a convex polygon P is the greatest distance between parallel lines of support of P"
+
+module _ (a : Floored) (D : ℤ) (i j : ℕ) (h : reply (askLength a) ≡ answered (D ∷ pos i ∷ pos j ∷ pos (a .floor) ∷ [])) where
+  -- no whole-number direction gives a greater length: the spread of the shape's values in it, squared, over the direction's squared length,
+  -- is never above D
+  pub no-direction-is-longer : (d : Point) → (spread d (corners a) *ℤ spread d (corners a)) ≤ℤ (D *ℤ value d d)
+  no-direction-is-longer d = answered-no-longer a D i j h d
+
+  -- and the direction from the one answered corner to the other has exactly it: its spread and its squared length are D
+  pub own-pair-is-as-long : let n = corner (corners a) j ⊖ corner (corners a) i in (spread n (corners a) ≡ D) × (value n n ≡ D)
+  own-pair-is-as-long = answered-longest a D i j h
 
 -- ---- corridor
 

@@ -5,4 +5,5 @@ pub mod Parallel
 pub mod Edges
 pub mod WidthBound
 pub mod Corridors
+pub mod LengthBound
 pub mod Answers

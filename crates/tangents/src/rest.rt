@@ -12,12 +12,13 @@ use polygon::corners;
 use polygon::point::Point;
 use polygon::rules;
 
-// The position where the start of the line to q rests, found by walking from a position of the list.
-pub fn settle(list: &[i32], from: usize, q: Point, s: bool) -> usize
+// The position where the start of the line to q rests, found by walking from a position of the list, at first one way
+// round.
+pub fn settle(list: &[i32], from: usize, q: Point, s: bool, forward: bool) -> usize
     requires { ⌜ Ready (now list) from (at q) ⌝ }
     ensures { λ r. ⌜ Rests s (points (now (list .entry))) r (at q) ⌝ }
 {
-    let mut i = from;
+    let mut i = slid(list, from, q, s, forward);
     loop {
         let k = better(list, i, q, s);
         if k == i {
@@ -25,6 +26,33 @@ pub fn settle(list: &[i32], from: usize, q: Point, s: bool) -> usize
         }
         i = k;
     }
+}
+
+// The position that the start of the line to q comes to by walking one way round, as long as the next corner draws it.
+fn slid(list: &[i32], from: usize, q: Point, s: bool, forward: bool) -> usize
+    requires { ⌜ Ready (now list) from (at q) ⌝ }
+    ensures { λ r. ⌜ r < length (points (now (list .entry))) ⌝ }
+{
+    let n = corners::count(list);
+    let mut i = from;
+    loop {
+        let k = beside(n, i, forward);
+        if !drawn(list, i, k, q, s) {
+            return i;
+        }
+        i = k;
+    }
+}
+
+// The position after i on the way round n corners, or the one before it.
+fn beside(n: usize, i: usize, forward: bool) -> usize
+    requires { ⌜ i < n ⌝ }
+    ensures { λ r. ⌜ r < n ⌝ }
+{
+    if forward {
+        return rules::next(n, i);
+    }
+    previous(n, i)
 }
 
 // A neighbour of corner i that draws the start of the line to q away from it; i itself where it rests.

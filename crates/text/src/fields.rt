@@ -20,6 +20,9 @@ pub const MARKS: usize = 5;
 // Names have 16 bits.
 const GREATEST_NAME: i32 = 65535;
 
+// Nobody's name.
+const NOBODY: u32 = 65536;
+
 // The kinds of fields. A question's kinds are the digits of one number in base 16, the first field's lowest.
 const NOTHING: u64 = 0;
 
@@ -36,7 +39,7 @@ pub const ROOM: u64 = 3;
 // A reading of the tablet, which holds no numbers: it is read again when it is asked for.
 pub const READING: u64 = 4;
 
-// Bytes, likewise. The first field.
+// Bytes, likewise.
 pub const BYTES: u64 = 5;
 
 // One number from 0 to 65,535.
@@ -50,6 +53,9 @@ pub const CALL: u64 = 8;
 
 // Any calls, each as one word with a colon.
 pub const CALLS: u64 = 9;
+
+// A name that is left out, one number from 0 to 65,535; nothing if nobody is.
+pub const BUT: u64 = 10;
 
 // The kinds of a word that is not known.
 pub const UNKNOWN: u64 = u64::MAX;
@@ -168,6 +174,7 @@ fn fit(kind: u64, field: &[i32]) -> Reason {
         NAME => of_counts(field, 1, GREATEST_NAME, Reason::NotAName),
         WALK => of_walk(field),
         CALL => of_counts(field, 2, i32::MAX, Reason::NotACount),
+        BUT => of_but(field),
         _ => Reason::Nothing,
     }
 }
@@ -187,6 +194,14 @@ fn of_counts(field: &[i32], count: usize, greatest: i32, reason: Reason) -> Reas
         return of_count(field, count);
     }
     earlier(of_count(field, count), reason)
+}
+
+// A name is wanted, or nothing.
+fn of_but(field: &[i32]) -> Reason {
+    if field.len() == 0 {
+        return Reason::Nothing;
+    }
+    of_counts(field, 1, GREATEST_NAME, Reason::NotAName)
 }
 
 // The state of a walk is wanted.
@@ -251,6 +266,14 @@ pub fn name(field: &[i32]) -> u16 {
     (size(field, 0) % 65536) as u16
 }
 
+// Returns the name that a field leaves out, or nobody's.
+pub fn but(field: &[i32]) -> u32 {
+    if field.len() == 0 {
+        return NOBODY;
+    }
+    name(field) as u32
+}
+
 // Returns what a room says; more than any output holds if it is left out.
 pub fn room(field: &[i32]) -> usize {
     if field.len() == 0 {
@@ -283,15 +306,15 @@ pub fn reading(line: &[u8], k: usize) -> Reading {
     readings::read(text_of(line, k))
 }
 
-// Reads the bytes of a line's first field to the front of a buffer, and returns how many they are; 0 if the field is of
+// Reads the bytes of field k of a line to the front of a buffer, and returns how many they are; 0 if the field is of
 // another kind.
-pub fn log(line: &[u8], kinds: u64, buffer: &mut [u8]) -> usize
+pub fn log(line: &[u8], kinds: u64, k: usize, buffer: &mut [u8]) -> usize
     ensures { λ r. ⌜ r ≤ length (now (buffer .entry)) ⌝ }
 {
-    if kind_at(kinds, 0) != BYTES {
+    if kind_at(kinds, k) != BYTES {
         return 0;
     }
-    match bytes::read(text_of(line, 0), buffer) {
+    match bytes::read(text_of(line, k), buffer) {
         Pairs::Bytes(count) => {
             if count <= buffer.len() {
                 count

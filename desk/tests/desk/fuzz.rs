@@ -14,7 +14,7 @@ const GOOD: &[&str] = &[
     "shape | Wäsche | @1 0 0 1 0 0 1\nx = mirror | Wäsche\ny = sum | x | Wäsche\nwidth | y\nlength | y | 4\n",
     "parts | 0 0 2 0 2 2 0 2 | 0 0 1 0 0 1 | 2:4 9:6\npart | 0 0 2 0 | 0 0 1 0 | 1 1 0 | 9 9\n\
      tablet | mm 0x4008000000000000 | e8 0xc030000000000000\nbookread | 0F0002000700020001000000FFFFFFFF5A | 7\n\
-     bookadd | 00 00 00 | 7 | @2 1 -1 | 3\n",
+     bookadd | 00 00 00 | 7 | @2 1 -1 | 3\npack | 0F0002000700020001000000FFFFFFFF5A | 00 00 | 7 | 1\n",
     "p = sweep | @3 9 9 1 1 4 2 8 8\nq = at | p | 1000 -1000\nr = merge | p | q\noffer | p | q | 1 0\n\
      inside | p | r\nfurthest | r | -1 0\njudge | r\n0 0 1 1\n+ 2 2\n",
 ];
@@ -31,10 +31,12 @@ const WORDS: &[&str] = &[
     "mirror",
     "relation",
     "clearance",
+    "excess",
     "judge",
     "shapes",
     "width",
     "length",
+    "area",
     "tangents",
     "offer",
     "find",
@@ -45,6 +47,7 @@ const WORDS: &[&str] = &[
     "tablet",
     "bookread",
     "bookadd",
+    "pack",
     "a",
     "b",
     "cart",

@@ -9,16 +9,18 @@ use second::plane::point;
 pub fn of_answer(case: &Case, answer: &str, said: &str) -> Result<Vec<i128>, String> {
     let words: Vec<&str> = answer.split(' ').collect();
     match case.word.as_str() {
-        "judge" | "furthest" | "length" | "width" => about_one(case, &words, said),
+        "judge" | "furthest" | "length" | "width" | "area" => about_one(case, &words, said),
         "relation" | "inside" | "offer" => Ok(decided(case, words[0], said)?),
         "find" => found_direction(case, words[0], said),
         "clearance" => clearance(case, &words, said),
+        "excess" => excess(case, &words, said),
         "tangents" => Ok(tangents(case, &words)),
         "passage" => passage(case, &words, said),
         "parts" => Ok(parts(case, answer)),
         "part" => Ok(part(case, &words, answer)),
         "tablet" => Ok(words.iter().map(|word| double(word) as i128).collect()),
         "bookadd" => added(case, answer, said),
+        "pack" => packed(case, answer, said),
         _ => Ok(made(case, number(words[0]), floor(&words), answer)),
     }
 }
@@ -54,6 +56,7 @@ fn about_one(case: &Case, words: &[&str], said: &str) -> Result<Vec<i128>, Strin
             };
             [towards.clone(), label, corners, towards, value].concat()
         }
+        "area" => [label, vec![number(words[0])]].concat(),
         "length" if number(words[0]) == 0 => [label, vec![0]].concat(),
         "length" => {
             let squared = number(words[0]);
@@ -192,6 +195,23 @@ fn clearance(case: &Case, words: &[&str], said: &str) -> Result<Vec<i128>, Strin
     Ok([labels, vec![number(5)], corner, edge, case.label(with_edge)].concat())
 }
 
+fn excess(case: &Case, words: &[&str], said: &str) -> Result<Vec<i128>, String> {
+    let labels = [case.label(0), case.label(1)].concat();
+    if words[0] == "inside" {
+        needs(said, "is inside")?;
+        return Ok(labels);
+    }
+    needs(said, "rounded up")?;
+    let (place, up) = if words[0] == "cc" {
+        (case.corner(1, position(words[2])), number(words[4]))
+    } else {
+        let edge = case.lists[1].edge(position(words[2]));
+        ([edge, case.label(1)].concat(), number(words[5]))
+    };
+    let corner = case.corner(0, position(words[1]));
+    Ok([case.label(0), vec![up], case.label(1), place, corner].concat())
+}
+
 fn parts(case: &Case, answer: &str) -> Vec<i128> {
     let rooms = case.fields[2].split_ascii_whitespace();
     let rooms: Vec<i128> = rooms
@@ -236,6 +256,23 @@ fn added(case: &Case, answer: &str, said: &str) -> Result<Vec<i128>, String> {
     };
     needs(said, how)?;
     Ok([case.label(0), case.numbers_of_field(1)].concat())
+}
+
+fn packed(case: &Case, answer: &str, said: &str) -> Result<Vec<i128>, String> {
+    let (word, log) = answer
+        .split_once(" | ")
+        .unwrap_or((answer.trim_end_matches([' ', '|']), ""));
+    let told = said.split_once("its bytes are ").map_or("", |(_, log)| log);
+    if told != log.trim() {
+        return Err(format!("the log is told as {told}"));
+    }
+    let how = if word == "cut" {
+        "the stores ran out"
+    } else {
+        "the log is packed"
+    };
+    needs(said, how)?;
+    Ok(case.numbers_of_field(2))
 }
 
 /// Returns the double of its bits.

@@ -21,7 +21,7 @@ pub struct List {
 }
 
 /// Questions on two lists; `passage` has three, `bookadd` one as its third field, all others one as their first.
-const TWO: [&str; 11] = [
+const TWO: [&str; 12] = [
     "sum",
     "parts",
     "part",
@@ -32,6 +32,7 @@ const TWO: [&str; 11] = [
     "offer",
     "find",
     "clearance",
+    "excess",
     "tangents",
 ];
 
@@ -148,7 +149,7 @@ impl Case {
 /// The fields of a question that are lists.
 pub fn list_fields(word: &str) -> &'static [usize] {
     match word {
-        "tablet" | "bookread" => &[],
+        "tablet" | "bookread" | "pack" => &[],
         "bookadd" => &[2],
         "passage" => &[0, 1, 2],
         word if TWO.contains(&word) => &[0, 1],

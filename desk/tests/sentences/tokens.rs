@@ -1,6 +1,6 @@
 //! The numbers of a sentence.
 
-/// Returns the numbers of a sentence in order; metres as millimetres.
+/// Returns the numbers of a sentence in order; metres as millimetres, areas as twice their square millimetres.
 pub fn numbers(sentence: &str) -> Vec<i128> {
     let bytes = sentence.as_bytes();
     let mut numbers = Vec::new();
@@ -28,8 +28,14 @@ fn is_point(bytes: &[u8], at: usize) -> bool {
 }
 
 fn value(text: &str, after: &str, is_negative: bool) -> i128 {
-    let in_metres = after.starts_with(" m") && !after.starts_with(" mm");
     let (whole, decimals) = text.split_once('.').unwrap_or((text, ""));
+    if after.starts_with(" m²") {
+        return halves(whole, decimals, 7) / 5;
+    }
+    if after.starts_with(" mm²") {
+        return halves(whole, decimals, 1) / 5;
+    }
+    let in_metres = after.starts_with(" m") && !after.starts_with(" mm");
     assert!(
         decimals.len() <= 3 && (in_metres || decimals.is_empty()),
         "decimals of {text}"
@@ -42,4 +48,12 @@ fn value(text: &str, after: &str, is_negative: bool) -> i128 {
         whole
     };
     if is_negative { -size } else { size }
+}
+
+/// The number without its point, with so many decimals.
+fn halves(whole: &str, decimals: &str, places: usize) -> i128 {
+    assert!(decimals.len() <= places, "decimals of {whole}.{decimals}");
+    format!("{whole}{decimals:0<places$}")
+        .parse()
+        .expect("digits")
 }

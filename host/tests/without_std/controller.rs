@@ -56,6 +56,7 @@ fn ask_of_two(a: Shape, b: Shape) {
     let _ = black_box(cocklesway::offer(a, b, black_box([1, 0])));
     let _ = black_box(cocklesway::find(a, b));
     let _ = black_box(cocklesway::clearance(a, b)).map(|answer| black_box(answer.rounded()));
+    let _ = black_box(cocklesway::excess(a, b)).map(|answer| black_box(answer.up()));
     let _ = black_box(cocklesway::passage(a, b, a)).map(|answer| black_box(answer.way));
     let _ = black_box(cocklesway::tangents(a, b));
     let _ = black_box(Walk::begin(a, b));

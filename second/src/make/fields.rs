@@ -36,6 +36,17 @@ pub fn clearance(dice: &mut Dice) -> Vec<String> {
     texts(dice, &lists)
 }
 
+/// A change is any two shapes, or two that are near.
+pub fn excess(dice: &mut Dice) -> Vec<String> {
+    let pair = if dice.one_in(3) {
+        apart::near
+    } else {
+        pairs::any
+    };
+    let lists = two_lists(dice, pair);
+    texts(dice, &lists)
+}
+
 pub fn tangents(dice: &mut Dice) -> Vec<String> {
     let lists = two_lists(dice, apart::mostly);
     texts(dice, &lists)

@@ -5,6 +5,7 @@ use super::{List, damage, floors, line, long, numbers, shapes, tails};
 use crate::answer::answer;
 use crate::ask::log_text;
 use crate::log::{old_record, record};
+use crate::pack::pack;
 use crate::plane::{Shape, point};
 
 /// Few, so that they come back; some hold the last byte of a record.
@@ -44,6 +45,40 @@ pub fn to_add(dice: &mut Dice) -> Vec<String> {
     fields.extend(floors::texts(dice, &[list]));
     fields.extend(stores.map(|stores| stores.to_string()));
     fields
+}
+
+/// A log, a run that is packed in part, mostly, a name to leave out or nobody's, and how many stores, or none.
+pub fn to_pack(dice: &mut Dice) -> Vec<String> {
+    let log = any(dice);
+    let but = dice.one_in(3).then(|| name(dice));
+    let length = dice.below(log.len() + 8);
+    let mut run = any_run(dice, length);
+    if dice.one_in(2) {
+        // A run that is too short stays as it is.
+        pack(&log, &mut run, but, dice.below(length + 2)).ok();
+    }
+    let stores = match dice.below(6) {
+        0 => None,
+        1 => Some(0),
+        2 => Some(length),
+        _ => Some(dice.below(length + 2)),
+    };
+    let but = match but {
+        Some(_) if dice.one_in(12) => name_text(dice),
+        Some(name) => name.to_string(),
+        None => String::new(),
+    };
+    let mut fields = vec![written(dice, &log), written(dice, &run), but];
+    fields.extend(stores.map(|stores| stores.to_string()));
+    fields
+}
+
+/// A run that is all 0, or holds anything.
+pub fn any_run(dice: &mut Dice, length: usize) -> Vec<u8> {
+    if dice.one_in(2) {
+        return vec![0; length];
+    }
+    noise(dice, length)
 }
 
 /// Some records and a torn end; at times with one byte changed.

@@ -89,10 +89,11 @@ fn every_sort_of_answer_comes_up_often() {
     }
     let often = "no 1,no 2,no 3,no 4,no 5,no 6,no 7,no 8,no 9,no 10,no 11,no 12,no 13,no 14,no 15,no 16,no 17,no 18,\
                  no 19,judge ok,furthest ok,mirror ok,sum ok,parts ok,part ok,merge ok,grow ok,sweep ok,length ok,\
-                 width ok,relation apart,relation touching,\
+                 area ok,width ok,relation apart,relation touching,\
                  relation overlapping,inside yes,inside no,offer yes,offer no,find ok,find none,\
-                 clearance ok,clearance cc,clearance ce,clearance ec,tangents ok,passage ok,passage blocked,\
-                 tablet ok,bookread ok,bookadd finished,bookadd cut,\
+                 clearance ok,clearance cc,clearance ce,clearance ec,\
+                 excess inside,excess cc,excess ce,tangents ok,passage ok,passage blocked,\
+                 tablet ok,bookread ok,bookadd finished,bookadd cut,pack finished,pack cut,\
                  unreadable: line too long,unreadable: unknown word,unreadable: missing field,\
                  unreadable: too many fields,unreadable: not a number of 32 bits,\
                  unreadable: too many numbers,unreadable: wrong count of numbers,\

@@ -38,6 +38,8 @@ pub enum Field {
     Output,
     /// Any calls, each as one word: the two numbers with a colon between them.
     Calls,
+    /// A name that is left out; nothing if nobody is.
+    But,
 }
 
 #[derive(Clone, Debug, PartialEq, Eq)]
@@ -55,6 +57,7 @@ pub enum Value {
     Bytes(Vec<u8>),
     Floor(u32),
     Output(usize),
+    But(Option<u16>),
 }
 
 impl Field {
@@ -69,7 +72,8 @@ impl Field {
             Field::Room => count(&numbers.read(text)?).map(Value::Room),
             Field::Reading => reading(text).ok_or(Unreadable::NotAReading),
             Field::Log => bytes(text).map(Value::Log).ok_or(Unreadable::NotBytes),
-            Field::Name => name(&numbers.read(text)?),
+            Field::Name => name(&numbers.read(text)?).map(Value::Name),
+            Field::But => but(&numbers.read(text)?).map(Value::But),
             Field::Stores => count(&numbers.read(text)?).map(Value::Stores),
             Field::Walk => walk(&numbers.read(text)?),
             Field::Call => call(&numbers.read(text)?).map(|call| Value::Calls(vec![call])),
@@ -118,14 +122,18 @@ fn count(list: &[i32]) -> Result<usize, Unreadable> {
     }
 }
 
-fn name(list: &[i32]) -> Result<Value, Unreadable> {
+fn name(list: &[i32]) -> Result<u16, Unreadable> {
     match *list {
-        [name] => match u16::try_from(name) {
-            Ok(name) => Ok(Value::Name(name)),
-            Err(_) => Err(Unreadable::NotAName),
-        },
+        [name] => u16::try_from(name).map_err(|_| Unreadable::NotAName),
         _ => Err(Unreadable::WrongCount),
     }
+}
+
+fn but(list: &[i32]) -> Result<Option<u16>, Unreadable> {
+    if list.is_empty() {
+        return Ok(None);
+    }
+    name(list).map(Some)
 }
 
 /// Pairs of hexadecimal digits; spaces may stand between pairs.

@@ -125,7 +125,16 @@ impl Given {
         found.expect("the row has a name")
     }
 
-    /// The most stores of an addition; any number if the line names none.
+    /// The name that is left out.
+    pub fn but(&self) -> Option<u16> {
+        let found = self.0.iter().find_map(|value| match value {
+            Value::But(name) => Some(*name),
+            _ => None,
+        });
+        found.expect("the row has a name to leave out, or nobody's")
+    }
+
+    /// The most stores of an addition or a packing; any number if the line names none.
     pub fn stores(&self) -> usize {
         let found = self.0.iter().find_map(|value| match value {
             Value::Stores(stores) => Some(*stores),

@@ -30,7 +30,7 @@ use Rattle.plane.specs.theory.refusals.Asked.{admitted→none}
 use Rattle.plane.specs.theory.sweep.SweepSize.{sweep-size}
 use Rattle.polygon.specs.Front.{Front}
 use Rattle.polygon.specs.theory.Fronts.{front-points, front-length}
-use Rattle.calipers.specs.Size.{Reckoned, exact, enough, many}
+use Rattle.sums.specs.Size.{Reckoned, exact, enough, many}
 use Rattle.admission.specs.declared.Admission.{Admission}
 use Rattle.admission.specs.Admission.{Refuses, Judged}
 use Rattle.admission.specs.Fit.{sizedRows, fitRows}

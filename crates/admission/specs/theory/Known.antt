@@ -22,7 +22,8 @@ abbrev bare : ℕ → Refusal → Refusal
 bare n other =
     cond (eqb n 6) Refusal.LargeAnswer (cond (eqb n 7) Refusal.FarAnswer (cond (eqb n 8) Refusal.Room (cond (eqb n 9) Refusal.NotApart
     (cond (eqb n 10) Refusal.Flat (cond (eqb n 11) Refusal.Direction (cond (eqb n 12) Refusal.NotPrimitive
-    (cond (eqb n 13) Refusal.Floors (cond (eqb n 14) Refusal.NotAPlace (cond (eqb n 16) Refusal.Full other)))))))))
+    (cond (eqb n 13) Refusal.Floors (cond (eqb n 14) Refusal.NotAPlace (cond (eqb n 16) Refusal.Full
+    (cond (eqb n 20) Refusal.TooFew other))))))))))
 
 abbrev pub known : Reply → Refusal
 known (answered v) = Refusal.NoRecord
@@ -46,3 +47,4 @@ refusal-back Refusal.NotAPlace = refl
 refusal-back (Refusal.Damaged place) = refl
 refusal-back Refusal.Full = refl
 refusal-back Refusal.NoRecord = refl
+refusal-back Refusal.TooFew = refl

@@ -20,8 +20,8 @@ use Rattle.plane.specs.Floor.{Floored, corners, twoShapes, floorRow, pairRows}
 use Rattle.plane.specs.Question.{reply, makes, askJudge, askRelation}
 use Rattle.plane.specs.theory.lists.Sought.{first-le}
 use Rattle.plane.specs.theory.refusals.Accept.{few-corners}
-use Rattle.calls.specs.LowFloor.{lowFloor}
-use Rattle.calls.specs.Packing.{Fits}
+use Rattle.crossing.specs.LowFloor.{lowFloor}
+use Rattle.crossing.specs.Packing.{Fits}
 
 -- ---- the fields
 

@@ -17,10 +17,10 @@ use Rattle.plane.specs.theory.refusals.Asked.{asked-none}
 use Rattle.separator.specs.Separator.{SeparatorBetween, askSeparator}
 use Rattle.separator.specs.declared.Separator.the-variants.{Nothing}
 use Rattle.reply.specs.Told.{crossed}
-use Rattle.calls.specs.LowFloor.{lowFloor, barred}
+use Rattle.crossing.specs.LowFloor.{lowFloor, barred}
 use Rattle.calls.specs.Calls.{SeparatorTold}
-use Rattle.calls.specs.theory.Low.{within-told}
-use Rattle.calls.specs.theory.High.{pair-reply, above-pair}
+use Rattle.crossing.specs.theory.Low.{within-told}
+use Rattle.crossing.specs.theory.High.{pair-reply, above-pair}
 
 -- a question that is refused so has a row that applies
 barred-not-none : (q : Question) (rows : List Row) → barred rows ≡ reply q → NoneApply (table q) → ⊥

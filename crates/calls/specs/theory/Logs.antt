@@ -11,7 +11,7 @@ use Rattle.plane.specs.Reply.{Reply}
 use Rattle.plane.specs.Refusal.{shapeRows}
 use Rattle.journal.specs.Adding.{added}
 use Rattle.reply.specs.Told.{crossed}
-use Rattle.calls.specs.LowFloor.{barred}
+use Rattle.crossing.specs.LowFloor.{barred}
 use Rattle.calls.specs.Calls.{addedLow}
 
 module _ (b : List ℕ) (n f : ℕ) (l : List ℤ) (k : ℕ) where

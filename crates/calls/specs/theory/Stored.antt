@@ -33,11 +33,11 @@ use Rattle.plane.specs.theory.refusals.Asked.{asked-given, asked-none, asked-re
 use Rattle.endian.specs.Bytes.{words, wordsAt}
 use Rattle.endian.specs.theory.Bytes.{words-length, wordsAt-length, wordsAt-words}
 use Rattle.reply.specs.Told.{crossed}
-use Rattle.calls.specs.LowFloor.{lowFloor}
-use Rattle.calls.specs.Bytes.{wordsIn, bytesAfter}
-use Rattle.calls.specs.Packing.{packed}
-use Rattle.calls.specs.Passing.{Room}
-use Rattle.calls.specs.theory.Agree.{Agree, agree-same, agree-row, agree-join, same-reply, same-bytes}
+use Rattle.crossing.specs.LowFloor.{lowFloor}
+use Rattle.crossing.specs.Bytes.{wordsIn, bytesAfter}
+use Rattle.crossing.specs.Packing.{packed}
+use Rattle.crossing.specs.Passing.{Room}
+use Rattle.crossing.specs.theory.Agree.{Agree, agree-same, agree-row, agree-join, same-reply, same-bytes}
 
 -- ---- every question
 

@@ -27,9 +27,9 @@ use Rattle.journal.specs.Adding.{added}
 use Rattle.reply.specs.Told.{bits, crossed}
 use Rattle.reply.specs.Heard.{numberOf, valuesOf}
 use Rattle.reply.specs.theory.ReadBack.{answered-back}
-use Rattle.calls.specs.LowFloor.{lowFloor, Numbered}
+use Rattle.crossing.specs.LowFloor.{lowFloor, Numbered}
 use Rattle.calls.specs.Calls.{SeparatorTold, addedLow}
-use Rattle.calls.specs.theory.High.{barred-shape, barred-shapes, barred-kept, high-reply, pair-reply}
+use Rattle.crossing.specs.theory.High.{barred-shape, barred-shapes, barred-kept, high-reply, pair-reply}
 
 module _ (q : Question) where
   pub shapes-first : {w : Row} → First w (rowsOf (q .shapes)) → reply (lowFloor q) ≡ refused (w .number) (w .carries)

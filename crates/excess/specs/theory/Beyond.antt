@@ -1,5 +1,6 @@
 -- The distance of a point from a shape.
 --     beyond-whole         what its fraction is divided by is above 0; `beyond-nonneg`: it is not below 0
+--     beyond-positive      it is above 0 if the point is apart from the shape
 --     beyond-none          it is 0 if the point is not apart from the shape; `beyond-apart`: else the nearest candidate's
 --     beyond-least         in no direction is the point further ahead of the shape
 --     Ahead c O            and in some direction it is as far ahead, and ahead at all (`beyond-ahead`)
@@ -25,7 +26,8 @@ use Rattle.growth.specs.theory.Places.{point-shape}
 use Rattle.passage.specs.theory.Gaps.{gap→apart}
 use Rattle.passage.specs.Corridor.{widestOf}
 use Rattle.passage.specs.theory.Widest.{widest-some, widest-clearance, widest-positive, gap-clearance}
-use Rattle.excess.specs.Excess.{Fraction, over, beyond}
+use Rattle.plane.specs.Distance.{Fraction, over, distance}
+use Rattle.excess.specs.Excess.{beyond}
 
 -- how far a point is ahead of a list
 point-gap : (d c : Point) (O : List Point) → gapIn d (c ∷ []) O ≡ value d c -ℤ support d O
@@ -54,7 +56,7 @@ module _ (c : Point) (O : List Point) (s : IsShape O) where
   told t = cond t (over (top C O (nearest C O)) (bottom C O (nearest C O))) (over (pos 0) (pos 1))
 
   beyond-by : {t : Bool} → apart C O ≡ t → beyond c O ≡ told t
-  unfolding beyond
+  unfolding beyond distance
   beyond-by e = ap told e
 
   pub beyond-none : apart C O ≡ false → beyond c O ≡ over (pos 0) (pos 1)
@@ -83,7 +85,7 @@ module _ (c : Point) (O : List Point) (s : IsShape O) where
       exact = rw (beyond-apart h, ← point-gap n c O) (widest-clearance C O (point-shape c) s h);
     }
 
-    beyond-positive : pos 0 <ℤ beyond c O .numerator
+    pub beyond-positive : pos 0 <ℤ beyond c O .numerator
     beyond-positive =
         let a = beyond-ahead in
         let d = a .direction in

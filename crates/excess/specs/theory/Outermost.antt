@@ -21,7 +21,8 @@ use Rattle.plane.specs.Point.{Point, corner}
 use Rattle.plane.specs.Search.{every}
 use Rattle.plane.specs.Shape.{IsShape}
 use Rattle.plane.specs.theory.lists.Sought.{first-unique, all-every, not-every, true-not-false}
-use Rattle.excess.specs.Excess.{Fraction, beyond, noNearer, outermost, excess}
+use Rattle.plane.specs.Distance.{Fraction}
+use Rattle.excess.specs.Excess.{beyond, noNearer, outermost, excess}
 use Rattle.excess.specs.theory.Beyond.{beyond-whole, beyond-nonneg}
 
 -- s/p ≥ t/q and t/q ≥ u/r: bring all to the denominator p·q·r
@@ -55,7 +56,7 @@ module _ (N O : List Point) where
   unfolding noNearer
   le-noNearer i j h = le-leZ h
 
-  lt-nearer : (i j : ℕ) → (far i .numerator *ℤ far j .denominator) <ℤ (far j .numerator *ℤ far i .denominator)
+  pub lt-nearer : (i j : ℕ) → (far i .numerator *ℤ far j .denominator) <ℤ (far j .numerator *ℤ far i .denominator)
       → noNearer N O i j ≡ false
   unfolding noNearer
   lt-nearer i j h = lt-leZ h

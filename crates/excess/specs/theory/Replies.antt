@@ -25,7 +25,8 @@ use Rattle.plane.specs.Floor.{Floored, corners as cornersOf, Same}
 use Rattle.plane.specs.Question.{reply}
 use Rattle.plane.specs.theory.refusals.Asked.{asked-none, asked-values, asked-shapes, asked-floors, rest-none}
 use Rattle.growth.specs.Grown.{EndsIn}
-use Rattle.excess.specs.Excess.{over, outermost, excess, up, cornerNumbers, excessNumbers, askExcess}
+use Rattle.plane.specs.Distance.{over}
+use Rattle.excess.specs.Excess.{outermost, excess, up, cornerNumbers, excessNumbers, askExcess}
 use Rattle.excess.specs.Settled.{Told}
 use Rattle.excess.specs.theory.Beyond.{beyond-apart}
 use Rattle.excess.specs.theory.Reach.{outermost-apart}

@@ -2,15 +2,17 @@
 --     rootAbove-enough     its square is at least the fraction, where the fraction is divided by something
 --     rootAbove-least      and that of nothing less is
 --     rootAbove-from-below      it is the root rounded down, and one more unless that is exact
+--     above-next, above-exact, above-le     the same as the code compares; one more is at most t
+--     rootAbove-square-over     the root of d·d/d is that of d
 --     bounded-above        a number whose square is at most a fraction is at most the root rounded down
 --     up-enough, up-least  the excess, rounded up
-use mathlib.Core.Path.{_≡_, refl, sym, subst}
+use mathlib.Core.Path.{_≡_, refl, sym, _∙_, ap, subst}
 use mathlib.Core.Bool.{Bool, true, false, cond}
 use mathlib.Core.List.{List, [], _∷_}
 use Prim.Native.Nat.{ℕ, zero, suc, _+_, _*_, _≤_, _<_, zero-le}
-use native.Mathlib.Nat.{mul-le-mul, mul-le-mul-right, mul-lt-mul-of-pos-right, le-mul-of-pos-right, zero-lt-suc}
+use native.Mathlib.Nat.{mul-one, mul-le-mul, mul-le-mul-right, mul-lt-mul-of-pos-right, le-mul-of-pos-right, zero-lt-suc}
 use native.Mathlib.Omega.{arith}
-use borrow.Author.Tests.{ltb-true, ltb-false, leb-true, leb-false, le-leb}
+use borrow.Author.Tests.{ltb-true, ltb-false, leb-true, leb-false, le-leb, lt-leb}
 use lib.Dec.{leb, ltb, le→leb, leb→le}
 use lib.IntN.{ℤ, pos, natAbs, _+ℤ_, _*ℤ_}
 use lib.ListN.{length}
@@ -83,6 +85,46 @@ module _ (n q : ℕ) (some : 0 < q) where
           more : (t : Bool) → leb e w ≡ t → w < e
           more false k = leb-false e w k
           more true k = absurd (omega (arith, squares-le q (leb-true e w k), leb-false n (w * w * q) h, rootAbove-enough))
+
+-- as the code compares: with the fraction t·t/q
+module _ (t q : ℕ) (some : 0 < q) {w : ℕ} (root : w ≡ rootBelow (t * t) q) where
+  above-is : (b : Bool) → leb (t * t) (w * w * q) ≡ b → rootAbove (t * t) q ≡ cond b w (w + 1)
+  above-is b e = rootAbove-from-below (t * t) q some
+      ∙ subst (λ v. cond (leb (t * t) (v * v * q)) v (v + 1) ≡ cond b w (w + 1)) root (ap (λ b. cond b w (w + 1)) e)
+
+  pub above-next : ltb (w * w * q) (t * t * 1) ≡ true → w + 1 ≡ rootAbove (t * t) q
+  above-next h = sym (above-is false (lt-leb (t * t) (w * w * q) (omega (arith, ltb-true (w * w * q) (t * t * 1) h))))
+
+  pub above-exact : ltb (w * w * q) (t * t * 1) ≡ false → w ≡ rootAbove (t * t) q
+  above-exact h = sym (above-is true (le-leb (t * t) (w * w * q) (omega (arith, ltb-false (w * w * q) (t * t * 1) h))))
+
+  -- so one more is still at most t
+  pub above-le : ltb (w * w * q) (t * t * 1) ≡ true → w < t
+  above-le h = go (ltb w t) refl
+    where
+      go : (b : Bool) → ltb w t ≡ b → w < t
+      go true e = ltb-true w t e
+      go false e = absurd (omega (
+        arith,
+        ltb-true (w * w * q) (t * t * 1) h,
+        mul-le-mul (ltb-false w t e) (ltb-false w t e),
+        le-mul-of-pos-right (w * w) some,
+      ))
+
+pub rootAbove-square-over : (d : ℕ) → 0 < d → rootAbove (d * d) d ≡ rootAbove d 1
+rootAbove-square-over d some =
+    let one : 0 < 1 = omega arith in
+    let e = rootAbove d 1 in
+    let f = rootAbove (d * d) d in
+    let enough : d ≤ e * e = rw mul-one at (rootAbove-enough d 1 one) in
+    omega (arith, rootAbove-least (d * d) d some e (mul-le-mul-right d enough), rootAbove-least d 1 one f (go (ltb (f * f) d) refl))
+  where
+    f₀ : ℕ
+    f₀ = rootAbove (d * d) d
+
+    go : (t : Bool) → ltb (f₀ * f₀) d ≡ t → d ≤ f₀ * f₀ * 1
+    go true h = absurd (omega (arith, mul-lt-mul-of-pos-right (ltb-true (f₀ * f₀) d h) some, rootAbove-enough (d * d) d some))
+    go false h = omega (arith, ltb-false (f₀ * f₀) d h)
 
 -- ---- rounded down
 

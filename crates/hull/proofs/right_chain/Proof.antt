@@ -7,8 +7,8 @@ use borrow.Author.Needs.{needs}
 use lib.ListN.{length}
 use Rattle.plane.specs.Point.{Point, points}
 use Rattle.polygon.specs.Point.{at}
-use Rattle.hull.specs.Buffer.{Chained}
-use Rattle.hull.specs.Order.{closed, leftOver}
+use Rattle.sorting.specs.Buffer.{Chained}
+use Rattle.sorting.specs.Order.{closed, leftOver}
 use Rattle.hull.specs.Chain.{rightRows}
 use Rattle.hull.specs.theory.Unite.{leftOver-length}
 use Rattle.hull.specs.theory.Spread.{first-right, second-right, row-line, row-rising, rows-as, spread-small}

@@ -9,9 +9,9 @@ use Rattle.plane.specs.Point.{Point, points}
 use Rattle.plane.specs.theory.lists.Flat.{points-length}
 use Rattle.plane.specs.Corner.{ascending, outline, shapeOf}
 use Rattle.polygon.specs.Front.{Front}
-use Rattle.hull.specs.Buffer.{Holds, SmallTo}
-use Rattle.hull.specs.theory.Least.{ascending-length}
-use Rattle.hull.specs.theory.Held.{held-count, held-some, held-front, held-part, part-small}
+use Rattle.sorting.specs.Buffer.{Holds, SmallTo}
+use Rattle.sorting.specs.theory.Least.{ascending-length}
+use Rattle.sorting.specs.theory.Held.{held-count, held-some, held-front, held-part, part-small}
 use Rattle.hull.proofs.sweep_few.Statement.{statement}
 use Rattle.hull.proofs.sweep_few.Tie as tie
 

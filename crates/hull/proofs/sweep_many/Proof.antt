@@ -10,11 +10,11 @@ use Rattle.plane.specs.Point.{Point, points}
 use Rattle.plane.specs.theory.lists.Flat.{points-length}
 use Rattle.plane.specs.Corner.{ascending, outline, shapeOf}
 use Rattle.polygon.specs.Front.{Front}
-use Rattle.hull.specs.Buffer.{Holds, SmallTo}
-use Rattle.hull.specs.Interior.{Reduced}
-use Rattle.hull.specs.theory.Least.{ascending-length}
-use Rattle.hull.specs.theory.Held.{held-count, held-some, held-front, held-part, part-small}
-use Rattle.hull.specs.theory.Digits.{reduced-rearranged}
+use Rattle.sorting.specs.Buffer.{Holds, SmallTo}
+use Rattle.sorting.specs.Interior.{Reduced}
+use Rattle.sorting.specs.theory.Least.{ascending-length}
+use Rattle.sorting.specs.theory.Held.{held-count, held-some, held-front, held-part, part-small}
+use Rattle.sorting.specs.theory.Digits.{reduced-rearranged}
 use Rattle.hull.proofs.sweep_many.Statement.{statement}
 use Rattle.hull.proofs.sweep_many.Tie as tie
 

@@ -23,10 +23,10 @@ use Rattle.plane.specs.theory.hull.Ascending.{Runs, ends}
 use Rattle.plane.specs.theory.hull.Scan.{Bounds, Kept, scanned}
 use Rattle.plane.specs.theory.hull.Hull.{circuit, circuit-sorted, circuit-member, circuit-bound-right, circuit-bound-left}
 use Rattle.plane.specs.theory.hull.ShapeOf.{shape-known}
-use Rattle.hull.specs.Order.{Ahead, inOrder, closed}
+use Rattle.sorting.specs.Order.{Ahead, inOrder, closed}
 use Rattle.hull.specs.Chain.{taken}
-use Rattle.hull.specs.theory.Ahead.{ahead→onward}
-use Rattle.hull.specs.theory.Least.{inOrder-runs, inOrder-member, member-inOrder}
+use Rattle.sorting.specs.theory.Ahead.{ahead→onward}
+use Rattle.sorting.specs.theory.Least.{inOrder-runs, inOrder-member, member-inOrder}
 use Rattle.hull.specs.theory.Trimmed.{Spans, row-between, row-bound}
 
 -- ---- a list with a point before it and one behind it

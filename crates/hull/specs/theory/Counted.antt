@@ -16,10 +16,10 @@ use Rattle.integer.specs.Order.{ltZ-true}
 use Rattle.plane.specs.Point.{Point, corner}
 use Rattle.plane.specs.Turn.{turn}
 use Rattle.plane.specs.Shape.{IsShape}
-use Rattle.hull.specs.Order.{closed}
+use Rattle.sorting.specs.Order.{closed}
 use Rattle.polygon.specs.Peak.{Peak}
 use Rattle.hull.specs.Chain.{home, isRight, one, rowFirst, rowEnd, taken}
-use Rattle.hull.specs.theory.Run.{run-length}
+use Rattle.sorting.specs.theory.Run.{run-length}
 use Rattle.hull.specs.theory.Peak.{closed-within, home-behind, home-corner}
 use Rattle.hull.specs.theory.Trimmed.{right-first, right-last, one-most}
 

@@ -12,9 +12,9 @@ use Rattle.plane.specs.Corner.{shapeOf}
 use Rattle.plane.specs.theory.lists.Members.{position-member}
 use Rattle.plane.specs.theory.forms.Standard.{sorted→shape}
 use Rattle.plane.specs.theory.hull.ShapeOf.{shapeOf-same, shape-own}
-use Rattle.hull.specs.Order.{Ahead, foremost}
+use Rattle.sorting.specs.Order.{Ahead, foremost}
 use Rattle.polygon.specs.Peak.{Peak}
-use Rattle.hull.specs.theory.Ahead.{NotBehind, reaches-on, reaches-to, turned-up, foremost-le}
+use Rattle.sorting.specs.theory.Ahead.{NotBehind, reaches-on, reaches-to, turned-up, foremost-le}
 use Rattle.hull.specs.theory.Peak.{peak-between}
 
 module _ {A B : List Point} {a b : ℕ} {s t : Point} (shape : IsShape A) (other : IsShape B)

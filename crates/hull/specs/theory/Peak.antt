@@ -30,9 +30,9 @@ use Rattle.polygon.specs.Peak.{Peak}
 use Rattle.polygon.specs.theory.Peak.{least, left, rise, behind-peak, fall}
 use Rattle.polygon.specs.Point.{Small}
 use Rattle.polygon.specs.theory.Small.{small-corner}
-use Rattle.hull.specs.Order.{Ahead, closed, Rises}
+use Rattle.sorting.specs.Order.{Ahead, closed, Rises}
 use Rattle.hull.specs.Chain.{home}
-use Rattle.hull.specs.theory.Ahead.{NotBehind, up-ahead, down-ahead}
+use Rattle.sorting.specs.theory.Ahead.{NotBehind, up-ahead, down-ahead}
 
 -- ---- the way round
 

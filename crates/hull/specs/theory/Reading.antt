@@ -16,9 +16,9 @@ use lib.ListN.{length}
 use lib.Signed.{leZ}
 use Rattle.integer.specs.Order.{weaken, leZ-false, le-leZ}
 use Rattle.plane.specs.Point.{Point, points, corner}
-use Rattle.hull.specs.Order.{order, inOrder, run, leftOver, Line, Rises}
-use Rattle.hull.specs.Buffer.{SmallTo, Scanned, Stepped}
-use Rattle.hull.specs.theory.Least.{inOrder-length}
+use Rattle.sorting.specs.Order.{order, inOrder, run, leftOver, Line, Rises}
+use Rattle.sorting.specs.Buffer.{SmallTo, Scanned, Stepped}
+use Rattle.sorting.specs.theory.Least.{inOrder-length}
 use Rattle.hull.specs.theory.Unite.{leftOver-length, first-left, second-left, Read, read-as, rows-step}
 use Rattle.hull.specs.theory.Stack.{Scanning, scanning-start, scanning-as, scanning-room, scanning-one}
 

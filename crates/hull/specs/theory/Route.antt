@@ -15,9 +15,9 @@ use lib.Seq.{length-take-le}
 use Rattle.plane.specs.Point.{Point, points, corner}
 use Rattle.plane.specs.Corner.{scan, side, outline}
 use Rattle.polygon.specs.Point.{Small}
-use Rattle.hull.specs.Order.{run}
-use Rattle.hull.specs.Buffer.{stack, SmallTo, Settled, route, Sided}
-use Rattle.hull.specs.theory.Run.{run-length, run-more, run-take}
+use Rattle.sorting.specs.Order.{run}
+use Rattle.sorting.specs.Buffer.{stack, SmallTo, Settled, route, Sided}
+use Rattle.sorting.specs.theory.Run.{run-length, run-more, run-take}
 use Rattle.hull.specs.theory.Stack.{stack-length, stack-reverse, take-stack, Scanning}
 
 pub route-more : (half : Bool) (ps : List Point) (n i : ℕ) → i < n

@@ -22,10 +22,10 @@ use Rattle.plane.specs.theory.forms.Precedes.{precedes-different}
 use Rattle.plane.specs.theory.hull.Hull.{circuit}
 use Rattle.polygon.specs.Point.{Small}
 use Rattle.polygon.specs.theory.Small.{small-corner}
-use Rattle.hull.specs.Order.{closed, inOrder, leftOver, Line, Rising, foremost}
+use Rattle.sorting.specs.Order.{closed, inOrder, leftOver, Line, Rising, foremost}
 use Rattle.polygon.specs.Peak.{Peak}
 use Rattle.hull.specs.Chain.{home, rowFirst, rowEnd, taken, rightRows, leftRows, Spread}
-use Rattle.hull.specs.theory.Ahead.{NotBehind, turned-up, turned-down, foremost-le, foremost-one}
+use Rattle.sorting.specs.theory.Ahead.{NotBehind, turned-up, turned-down, foremost-le, foremost-one}
 use Rattle.hull.specs.theory.Peak.{closed-within, home-corner, right-half, left-half}
 use Rattle.hull.specs.theory.Trimmed.{Spans, row-rises, row-within}
 use Rattle.hull.specs.theory.Counted.{counts, counts-few}

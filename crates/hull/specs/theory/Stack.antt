@@ -21,10 +21,10 @@ use Rattle.plane.specs.Turn.{turn}
 use Rattle.plane.specs.Corner.{push, scan}
 use Rattle.plane.specs.theory.lists.Flat.{points-length}
 use Rattle.polygon.specs.Point.{Small, stored}
-use Rattle.hull.specs.Order.{inOrder}
-use Rattle.hull.specs.Buffer.{stack, SmallTo, Settled, Scanned, Chained}
-use Rattle.hull.specs.theory.Least.{inOrder-length}
-use Rattle.hull.specs.theory.Stored.{stored-points, stored-length}
+use Rattle.sorting.specs.Order.{inOrder}
+use Rattle.sorting.specs.Buffer.{stack, SmallTo, Settled, Scanned, Chained}
+use Rattle.sorting.specs.theory.Least.{inOrder-length}
+use Rattle.sorting.specs.theory.Stored.{stored-points, stored-length}
 
 -- ---- stacks
 

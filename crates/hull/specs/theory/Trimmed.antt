@@ -20,10 +20,10 @@ use Rattle.plane.specs.Point.{Point, corner, _∈_}
 use Rattle.plane.specs.Turn.{turn}
 use Rattle.plane.specs.Direction.{value}
 use Rattle.plane.specs.theory.hull.Halves.{Sideways, value-between}
-use Rattle.hull.specs.Order.{Ahead, closed, Rises}
+use Rattle.sorting.specs.Order.{Ahead, closed, Rises}
 use Rattle.hull.specs.Chain.{isRight, one, rowFirst, rowEnd, taken}
-use Rattle.hull.specs.theory.Ahead.{NotBehind, reaches-on, reaches-to, ahead→onward}
-use Rattle.hull.specs.theory.Run.{Position, run-member, member-run}
+use Rattle.sorting.specs.theory.Ahead.{NotBehind, reaches-on, reaches-to, ahead→onward}
+use Rattle.sorting.specs.theory.Run.{Position, run-member, member-run}
 use Rattle.hull.specs.theory.Peak.{Half, closed-member}
 
 pub record Spans (half : Bool) (A : List Point) (low high : ℕ) (s t : Point) : Type 0 where

@@ -19,7 +19,7 @@ use Rattle.plane.specs.theory.lists.Flat.{points-length, numbers-append}
 use Rattle.plane.specs.theory.hull.Hull.{circuit}
 use Rattle.polygon.specs.Front.{Front}
 use Rattle.polygon.specs.Point.{stored}
-use Rattle.hull.specs.Buffer.{Chained}
+use Rattle.sorting.specs.Buffer.{Chained}
 use Rattle.hull.specs.Chain.{rightRows, leftRows, Spread}
 use Rattle.hull.specs.theory.Spread.{spread-shape}
 use Rattle.hull.specs.theory.Stack.{take-stack}

@@ -1,29 +1,25 @@
 -- A pass over the records of a log that keeps the latest of a name.
 --     SoFar n b p r          what is found up to place p of b, and what is still to come
 --     so-far-start, so-far-next, so-far-end     the moves of the pass
---     legible                the record where it stands can be read
-use mathlib.Core.Path.{_≡_, refl, sym, _∙_, ap}
+--     so-far-sound           the record at p can be read
+use mathlib.Core.Path.{_≡_, refl, _∙_, ap, ap₂}
 use mathlib.Core.Bool.{Bool, true, false, cond, _||_, or-true}
 use mathlib.Core.List.{List, [], _∷_}
-use Prim.Native.Nat.{ℕ, _+_, _*_, _-_, _/_, _%_, _≤_}
+use Prim.Native.Nat.{ℕ, _+_, _*_, _%_, _≤_}
 use native.Mathlib.Omega.{arith}
 use lib.Dec.{eqb}
-use lib.ListN.{length, take, drop}
-use lib.Seq.{drop-drop}
+use lib.ListN.{length, drop}
 use Rattle.plane.specs.Floor.{Floored, on}
-use Rattle.plane.specs.theory.lists.Sought.{either-false}
 use Rattle.endian.specs.Bytes.{wordsAt}
-use Rattle.endian.specs.theory.Bytes.{wordsAt-drop}
-use Rattle.journal.specs.Format.{fixedBytes, size, whole, records, kind, name, floor, list, content}
-use Rattle.journal.specs.Format.{bad}
+use Rattle.journal.specs.Format.{whole, records, name, content}
 use Rattle.journal.specs.Reading.{damaged, held, nothing, latest}
-use Rattle.journal.specs.Survey.{Legible, foundAt, newer, Latest}
+use Rattle.journal.specs.Survey.{recordAt, nextAt, Sound, Stated, newer, Latest}
+use Rattle.journal.specs.declared.head.Head.{Head}
 use Rattle.journal.specs.declared.latest.Found.{Found}
 use Rattle.journal.specs.declared.latest.Found.the-variants as Found
-use Rattle.journal.specs.theory.Records.{records-none, records-front}
-use Rattle.journal.specs.theory.Kind.{fixed-least, good→facts}
-use Rattle.journal.specs.theory.Survey.{next-inside, eighth}
-use Rattle.journal.specs.theory.Read.{size-front, kind-front, name-front, content-front}
+use Rattle.journal.specs.theory.Records.{records-none}
+use Rattle.journal.specs.theory.Survey.{next-inside}
+use Rattle.journal.specs.theory.Stepping.{records-step, later-good}
 
 -- ---- what is found
 
@@ -67,80 +63,54 @@ so-far-start n b g = record { inside = omega arith; good = g; has = refl; latest
     none (r ∷ rs) = cond-own (eqb (name r) n) (held n rs) (latest n rs) (content r)
 
 module _ {n : ℕ} {b : List ℕ} {p : ℕ} {r : Found} (f : SoFar n b p r) (w : whole (drop p b) ≡ true) where
-  abbrev at : List ℕ
-  at = drop p b
+  -- the record here is good, as all from here on
+  pub so-far-sound : Sound b p
+  so-far-sound = record { here = w; good = f .good }
 
   abbrev front : List ℕ
-  front = take (2 + size at) at
+  front = recordAt b p
 
   abbrev rest : List ℕ
-  rest = drop (p + (2 + size at)) b
+  rest = drop (nextAt b p) b
 
-  split : records at ≡ front ∷ records rest
-  split = records-front at w ∙ ap (λ (t : List ℕ). front ∷ records t) (drop-drop (2 + size at) p b)
+  split : records (drop p b) ≡ front ∷ records rest
+  split = records-step b p w
 
-  both-good : (bad front ≡ false) × (damaged (records rest) ≡ false)
-  both-good = either-false (bad front) (damaged (records rest)) (sym (ap damaged split) ∙ f .good)
+  module _ {h : Head} (s : Stated b p h) where
+    content-here : content front ≡ on (wordsAt (h .count) b (h .place)) (h .floor)
+    content-here = ap₂ on (s .list-is) (s .floor-is)
 
-  abbrev fixed : ℕ
-  fixed = fixedBytes (kind at)
+    named : (e : Bool) → eqb (h .name) n ≡ e → eqb (name front) n ≡ e
+    named e g = ap (λ (k : ℕ). eqb k n) (s .name-is) ∙ g
 
-  length-good : (5 ≤ size at) × (fixed ≤ size at) × ((size at - fixed) % 8 ≡ 0)
-  length-good =
-      let good = good→facts front (both-good .0) .length-is in
-      let same = size-front at in
-      let least : 5 ≤ size at = omega (arith, fixed-least (kind front)) in
-      let kinds = ap fixedBytes (kind-front at least) in
-      (least, omega arith, omega arith)
+    held-at : (e : Bool) → eqb (h .name) n ≡ e → held n (records b) ≡ (isAt r || (e || held n (records rest)))
+    held-at e g = f .has ∙ ap (λ (x : Bool). isAt r || x) (ap (held n) split ∙ ap (λ (x : Bool). x || held n (records rest)) (named e g))
 
-  pub legible : Legible b p
-  legible = record { inside = next-inside b p w; long = length-good .1 }
+    latest-at : (e : Bool) → eqb (h .name) n ≡ e
+        → latest n (records b) ≡ cond (e || held n (records rest))
+        (cond (held n (records rest)) (latest n (records rest)) (cond e (content front) nothing)) (shapeOf b r)
+    latest-at e g = f .latest-is ∙ ap (λ (rs : List (List ℕ)). cond (held n rs) (latest n rs) (shapeOf b r)) split
+        ∙ ap (λ (x : Bool). cond (x || held n (records rest))
+        (cond (held n (records rest)) (latest n (records rest)) (cond x (content front) nothing)) (shapeOf b r)) (named e g)
 
-  abbrev count : ℕ
-  count = (size at - fixed) / 4
-
-  placed-here : (p + (1 + fixed) + 4 * count ≤ length b) × (count % 2 ≡ 0)
-  placed-here =
-      let fits = next-inside b p w in
-      let long = legible .long in
-      (omega arith, eighth (size at - fixed) (length-good .2))
-
-  content-here : content front ≡ on (wordsAt count b (p + (1 + fixed))) (floor at)
-  unfolding list
-  content-here = content-front at (legible .long) ∙ ap (λ l. on l (floor at)) (wordsAt-drop b count p (1 + fixed))
-
-  named : (e : Bool) → eqb (name at) n ≡ e → eqb (name front) n ≡ e
-  named e h = ap (λ (k : ℕ). eqb k n) (name-front at (length-good .0)) ∙ h
-
-  held-at : (e : Bool) → eqb (name at) n ≡ e → held n (records b) ≡ (isAt r || (e || held n (records rest)))
-  held-at e h = f .has ∙ ap (λ (x : Bool). isAt r || x) (ap (held n) split ∙ ap (λ (x : Bool). x || held n (records rest)) (named e h))
-
-  latest-at : (e : Bool) → eqb (name at) n ≡ e
-      → latest n (records b) ≡ cond (e || held n (records rest))
-      (cond (held n (records rest)) (latest n (records rest)) (cond e (content front) nothing)) (shapeOf b r)
-  latest-at e h = f .latest-is ∙ ap (λ (rs : List (List ℕ)). cond (held n rs) (latest n rs) (shapeOf b r)) split
-      ∙ ap (λ (x : Bool). cond (x || held n (records rest))
-      (cond (held n (records rest)) (latest n (records rest)) (cond x (content front) nothing)) (shapeOf b r)) (named e h)
-
-  pub so-far-next : SoFar n b (p + (2 + size at)) (newer n b p r)
-  so-far-next = go (eqb (name at) n) refl
-    where
-      go : (e : Bool) → eqb (name at) n ≡ e
-          → SoFar n b (p + (2 + size at)) (cond e (foundAt b p) r)
-      go true h = record {
-        inside = next-inside b p w;
-        good = both-good .1;
-        has = held-at true h ∙ or-true (isAt r);
-        latest-is = latest-at true h ∙ ap (cond (held n (records rest)) (latest n (records rest))) content-here;
-        placed = placed-here;
-      }
-      go false h = record {
-        inside = next-inside b p w;
-        good = both-good .1;
-        has = held-at false h;
-        latest-is = latest-at false h ∙ cond-same (held n (records rest)) (latest n (records rest)) nothing (shapeOf b r);
-        placed = f .placed;
-      }
+    pub so-far-next : SoFar n b (nextAt b p) (newer n h r)
+    so-far-next = go (eqb (h .name) n) refl
+      where
+        go : (e : Bool) → eqb (h .name) n ≡ e → SoFar n b (nextAt b p) (cond e (Found.At (h .place) (h .count) (h .floor)) r)
+        go true g = record {
+          inside = next-inside b p w;
+          good = later-good so-far-sound;
+          has = held-at true g ∙ or-true (isAt r);
+          latest-is = latest-at true g ∙ ap (cond (held n (records rest)) (latest n (records rest))) content-here;
+          placed = (s .inside, s .paired);
+        }
+        go false g = record {
+          inside = next-inside b p w;
+          good = later-good so-far-sound;
+          has = held-at false g;
+          latest-is = latest-at false g ∙ cond-same (held n (records rest)) (latest n (records rest)) nothing (shapeOf b r);
+          placed = f .placed;
+        }
 
 pub so-far-end : (n : ℕ) (b : List ℕ) (p : ℕ) (r : Found) → SoFar n b p r → whole (drop p b) ≡ false → Latest n b r
 so-far-end n b p Found.Nowhere f w = f .has ∙ ap (held n) (records-none (drop p b) w)

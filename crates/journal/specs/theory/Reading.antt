@@ -3,7 +3,7 @@
 --     read-same                  logs with the same records read alike
 --     showing-some               what is read where a name has a shape; `valid-some`: then it has a number
 --     read-sound                 a log with no bad record is read so
---     sound-snoc, latest-snoc    one record more
+--     sound-snoc, held-snoc, latest-snoc    one record more
 use mathlib.Core.Path.{_≡_, refl, sym, _∙_, ap, ap₂}
 use mathlib.Core.Bool.{Bool, true, false, not, cond, _||_, true≢false, or-false, or-assoc}
 use mathlib.Core.List.{List, [], _∷_, _++_}
@@ -64,7 +64,7 @@ module _ (r : List ℕ) where
       ap₂ (λ (a b : Bool). a || b) (parts .0) (sound-snoc rs (parts .1) g)
 
   module _ (n : ℕ) where
-    held-snoc : (rs : List (List ℕ)) → held n (rs ++ (r ∷ [])) ≡ (held n rs || eqb (name r) n)
+    pub held-snoc : (rs : List (List ℕ)) → held n (rs ++ (r ∷ [])) ≡ (held n rs || eqb (name r) n)
     held-snoc [] = or-false (eqb (name r) n)
     held-snoc (s ∷ rs) =
         ap (λ (b : Bool). eqb (name s) n || b) (held-snoc rs) ∙ sym (or-assoc (eqb (name s) n) (held n rs) (eqb (name r) n))

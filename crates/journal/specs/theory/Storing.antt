@@ -1,4 +1,5 @@
 -- Stores made as far as they are allowed, in parts.
+--     take-append, made-length            the first of two lists of stores, one after the other; a store keeps the length
 --     ran-byte, ran-length                one store; the log stays as long as it is
 --     ran-kept, ran-cleared               a byte that is 0, and one that is cleared
 --     Cleared, cleared-start, -next       the bytes from a place on are cleared; one byte more
@@ -29,7 +30,7 @@ use Rattle.journal.specs.theory.Stores.{made-append, writes-length}
 
 -- ---- parts
 
-take-append : (k : ℕ) (ss ts : List Store) → take k (ss ++ ts) ≡ take k ss ++ take (k - length ss) ts
+pub take-append : (k : ℕ) (ss ts : List Store) → take k (ss ++ ts) ≡ take k ss ++ take (k - length ss) ts
 take-append k [] ts = ap₂ (λ (n : ℕ) (us : List Store). us ++ take n ts) (let e : k ≡ k - 0 = omega arith in e) (sym (take-nil k))
 take-append zero (s ∷ ss) ts = ap (λ (n : ℕ). take n ts) (let e : 0 ≡ 0 - suc (length ss) = omega arith in e)
 take-append (suc k) (s ∷ ss) ts =
@@ -51,7 +52,7 @@ pub ran-byte : (k p x : ℕ) (b : List ℕ) → 0 < k → Ran k (writes p (x ∷
 ran-byte zero p x b h = absurd (not-suc-le-zero h)
 ran-byte (suc k) p x b h = record { left-is = refl; log-is = sym (ap (λ ss. made ss (set b p x)) (take-nil k)) }
 
-made-length : (ss : List Store) (b : List ℕ) → length (made ss b) ≡ length b
+pub made-length : (ss : List Store) (b : List ℕ) → length (made ss b) ≡ length b
 made-length [] b = refl
 made-length (s ∷ ss) b = made-length ss (set b (s .place) (s .byte)) ∙ length-set b (s .place) (s .byte)
 

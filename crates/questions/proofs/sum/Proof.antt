@@ -7,7 +7,7 @@ use Rattle.plane.specs.Reply.{NoneApply}
 use Rattle.plane.specs.Output.{answerRows}
 use Rattle.plane.specs.Floor.{Floored, on, Same}
 use Rattle.plane.specs.Question.{Question, askSum}
-use Rattle.calipers.specs.PlaceAfter.{wholeSum}
+use Rattle.sums.specs.PlaceAfter.{wholeSum}
 use Rattle.admission.specs.Admission.{Judged}
 use Rattle.admission.specs.theory.Door.{shapes-refused, rest-refused, all-written}
 use Rattle.admission.specs.theory.Delivery.{fit-judged, room-there}

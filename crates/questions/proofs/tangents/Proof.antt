@@ -1,15 +1,20 @@
 -- `tangents` meets its contract: a list is refused, or the shapes are not apart, or the four lines are sought.
 use mathlib.Core.Path.{_≡_, sym, _∙_, ap}
-use mathlib.Core.Bool.{true, not}
+use mathlib.Core.Bool.{Bool, true, false, not}
+use Prim.Native.Nat.{ℕ, _<_}
+use native.Mathlib.Omega.{arith}
 use borrow.Author.Needs.{needs}
+use lib.ListN.{length}
 use Rattle.plane.specs.Point.{points}
 use Rattle.plane.specs.Reply.{here}
 use Rattle.plane.specs.Refusal.{Valid}
 use Rattle.plane.specs.Separation.{apart}
+use Rattle.plane.specs.Tangent.{tangentFrom, tangentTo}
 use Rattle.plane.specs.Floor.{Floored, on, Same}
 use Rattle.plane.specs.Question.{askTangents}
 use Rattle.separation.specs.Answer.{numberOf}
 use Rattle.separation.specs.theory.Around.{related-apart}
+use Rattle.tangents.specs.theory.TangentSearch.{tangent-within}
 use Rattle.admission.specs.theory.Judged.{refuses}
 use Rattle.admission.specs.theory.Door.{shapes-refused, rest-refused, all-answered}
 use Rattle.questions.specs.theory.Lines.{tangents-values}
@@ -66,25 +71,44 @@ ready c =
     let apart-is = related-apart _ _ (ap numberOf (sym (c .enum-told2 .given .1)) ∙ at-place .relation .ensures) in
     (both .first-valid, both .second-valid, apart-is)
 
+-- the ends of a line that was found are positions of the two lists
+found : (c : tie.After-enum-told2) (s t : Bool) {i j : ℕ} → let args = c .before .before .before .before .before .before .args in
+    let A = points (args .a .now) in
+    let B = points (args .b .now) in
+    (i ≡ tangentFrom s t A B) × (j ≡ tangentTo s t A B) → (i < length A) × (j < length B)
+found c s t e =
+    let r = ready c in
+    let within = tangent-within s t (r .0) (r .1) (r .2) in
+    (omega (arith, e .0, within .0), omega (arith, e .1, within .1))
+
 line-requires : tie.Need-line-requires
-line-requires c κs = ready c
+line-requires c κs = let r = ready c in (r .0, r .1, r .2, r .0 .shape .some, r .1 .shape .some)
 
 line-requires-2 : tie.Need-line-requires-2
-line-requires-2 c κs = ready (c .before)
+line-requires-2 c κs =
+    let r = ready (c .before) in
+    let near = found (c .before) true true (c .line .ensures) in
+    (r .0, r .1, r .2, near .0, near .1)
 
 line-requires-3 : tie.Need-line-requires-3
-line-requires-3 c κs = ready (c .before .before)
+line-requires-3 c κs =
+    let r = ready (c .before .before) in
+    let near = found (c .before .before) true false (c .line2 .ensures) in
+    (r .0, r .1, r .2, near .0, near .1)
 
 line-requires-4 : tie.Need-line-requires-4
-line-requires-4 c κs = ready (c .before .before .before)
+line-requires-4 c κs =
+    let r = ready (c .before .before .before) in
+    let near = found (c .before .before .before) false false (c .line3 .ensures) in
+    (r .0, r .1, r .2, near .0, near .1)
 
 returns-3 : tie.Need-returns-3
 returns-3 c =
     let at-told = c .before .before .before .before in
     let start = at-told .before .before .before .before .before .before in
     all-answered (askTangents (one start) (other start)) (shapes (at-told .before .before .before)) (ap not (ready at-told .2), tt)
-    (tangents-values (one start) (other start) (c .before .before .before .line .ensures) (c .before .before .line2 .ensures)
-    (c .before .line3 .ensures) (c .line4 .ensures))
+    (tangents-values (one start) (other start) (c .before .before .before .line .ensures) (c .before .line3 .ensures)
+    (c .before .before .line2 .ensures) (c .line4 .ensures))
 
 pub tangents-spec : {M : Type 1} → statement M
 tangents-spec =

@@ -18,9 +18,9 @@ use Rattle.plane.specs.Question.{Question, reply, output}
 use Rattle.plane.specs.theory.lists.Flat.{numbers-length}
 use Rattle.plane.specs.theory.refusals.Rows.{none-join}
 use Rattle.calipers.specs.Walk.{Walk}
-use Rattle.calipers.specs.PlaceAfter.{wholeSum, isPlace}
-use Rattle.calipers.specs.Part.{partCorners, handedBack, walkNumbers, askPart}
-use Rattle.calipers.specs.theory.Parts.{part-none}
+use Rattle.sums.specs.PlaceAfter.{wholeSum, isPlace}
+use Rattle.sums.specs.Part.{partCorners, handedBack, walkNumbers, askPart}
+use Rattle.sums.specs.theory.Parts.{part-none}
 use Rattle.admission.specs.Admission.{Refuses}
 use Rattle.admission.specs.theory.Judged.{refuses, refuses-append, refuses-join}
 use Rattle.admission.specs.theory.Door.{rest-refused, all-written}

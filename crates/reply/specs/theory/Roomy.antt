@@ -12,6 +12,10 @@ use Rattle.questions.specs.declared.answer.Part.{Part}
 use Rattle.questions.specs.declared.answer.Part.the-variants as Part
 use Rattle.questions.specs.declared.answer.Furthest.{Furthest}
 use Rattle.questions.specs.declared.answer.Furthest.the-variants as Furthest
+use Rattle.questions.specs.declared.answer.Area.{Area}
+use Rattle.questions.specs.declared.answer.Area.the-variants as Area
+use Rattle.questions.specs.declared.answer.Gap.{Gap}
+use Rattle.questions.specs.declared.answer.Gap.the-variants as Gap
 use Rattle.questions.specs.declared.answer.Length.{Length}
 use Rattle.questions.specs.declared.answer.Length.the-variants as Length
 use Rattle.questions.specs.declared.answer.Width.{Width}
@@ -24,18 +28,25 @@ use Rattle.questions.specs.declared.answer.Offer.{Offer}
 use Rattle.questions.specs.declared.answer.Offer.the-variants as Offer
 use Rattle.questions.specs.declared.answer.Separator.{Separator}
 use Rattle.questions.specs.declared.answer.Separator.the-variants as Separator
+use Rattle.questions.specs.declared.answer.Excess.{Excess}
+use Rattle.questions.specs.declared.answer.Excess.the-variants as Excess
 use Rattle.questions.specs.declared.answer.Passage.{Passage}
 use Rattle.questions.specs.declared.answer.Passage.the-variants as Passage
 use Rattle.questions.specs.declared.answer.Clearance.{Clearance}
 use Rattle.questions.specs.declared.answer.Clearance.the-variants as Clearance
+use Rattle.questions.specs.declared.answer.Nearest.{Nearest}
+use Rattle.questions.specs.declared.answer.Nearest.the-variants as Nearest
 use Rattle.questions.specs.declared.answer.Tangents.{Tangents}
 use Rattle.questions.specs.declared.answer.Tangents.the-variants as Tangents
 use Rattle.questions.specs.declared.answer.Tablet.{Tablet}
 use Rattle.questions.specs.declared.answer.Tablet.the-variants as Tablet
 use Rattle.questions.specs.declared.answer.Addition.{Addition}
 use Rattle.questions.specs.declared.answer.Addition.the-variants as Addition
+use Rattle.questions.specs.declared.answer.Entry.{Entry}
+use Rattle.questions.specs.declared.answer.Entry.the-variants as Entry
+use Rattle.questions.specs.Answer.{ofArea, ofNearest, ofGap, ofEntry}
 use Rattle.questions.specs.Answer.{ofRefusal, ofUnread, ofAnswer, ofBegun, ofPart, ofFurthest, ofLength, ofWidth, ofRelation}
-use Rattle.questions.specs.Answer.{ofInside, ofOffer, ofSeparator, ofClearance, ofPassage, ofTangents, ofTablet, ofAddition}
+use Rattle.questions.specs.Answer.{ofInside, ofOffer, ofSeparator, ofClearance, ofExcess, ofPassage, ofTangents, ofTablet, ofAddition}
 use Rattle.reply.specs.Heard.{Room}
 
 pub refusal-room : (x : Refusal) → Room (ofRefusal x)
@@ -56,6 +67,7 @@ refusal-room Refusal.NotAPlace = (lit< tt, lit≤ tt)
 refusal-room (Refusal.Damaged p) = (lit< tt, lit≤ tt)
 refusal-room Refusal.Full = (lit< tt, lit≤ tt)
 refusal-room Refusal.NoRecord = (lit< tt, lit≤ tt)
+refusal-room Refusal.TooFew = (lit< tt, lit≤ tt)
 
 pub unread-room : (x : Unread) → Room (ofUnread x)
 unread-room (Unread.NotFinite p) = (lit< tt, lit≤ tt)
@@ -81,6 +93,24 @@ furthest-room (Furthest.No r) = refusal-room r
 pub length-room : (x : Length) → Room (ofLength x)
 length-room (Length.Between q i j f) = lit≤ tt
 length-room (Length.No r) = refusal-room r
+
+pub area-room : (x : Area) → Room (ofArea x)
+area-room (Area.Twice t f) = lit≤ tt
+area-room (Area.No r) = refusal-room r
+
+pub nearest-room : (x : Nearest) → Room (ofNearest x)
+nearest-room (Nearest.Meets n f) = lit≤ tt
+nearest-room (Nearest.Corners n i j d w f) = lit≤ tt
+nearest-room (Nearest.CornerEdge n i e t q w f) = lit≤ tt
+nearest-room (Nearest.EdgeCorner n j e t q w f) = lit≤ tt
+nearest-room (Nearest.No r) = refusal-room r
+
+pub gap-room : (x : Gap) → Room (ofGap x)
+gap-room (Gap.Meets n m f) = lit≤ tt
+gap-room (Gap.Corners n m i j d w f) = lit≤ tt
+gap-room (Gap.CornerEdge n m i e t q w f) = lit≤ tt
+gap-room (Gap.EdgeCorner n m j e t q w f) = lit≤ tt
+gap-room (Gap.No r) = refusal-room r
 
 pub width-room : (x : Width) → Room (ofWidth x)
 width-room (Width.Across e c t q w f) = lit≤ tt
@@ -117,6 +147,12 @@ clearance-room (Clearance.CornerEdge c e t q w f) = lit≤ tt
 clearance-room (Clearance.EdgeCorner c e t q w f) = lit≤ tt
 clearance-room (Clearance.No r) = refusal-room r
 
+pub excess-room : (x : Excess) → Room (ofExcess x)
+excess-room (Excess.Inside f) = lit≤ tt
+excess-room (Excess.Corners c j d u f) = lit≤ tt
+excess-room (Excess.Edge c e t q u f) = lit≤ tt
+excess-room (Excess.No r) = refusal-room r
+
 pub tangents-room : (x : Tangents) → Room (ofTangents x)
 tangents-room (Tangents.Lines p q r s f) = lit≤ tt
 tangents-room (Tangents.No r) = refusal-room r
@@ -129,3 +165,7 @@ pub addition-room : (x : Addition) → Room (ofAddition x)
 addition-room Addition.Finished = lit≤ tt
 addition-room Addition.Cut = lit≤ tt
 addition-room (Addition.No r) = refusal-room r
+
+pub entry-room : (x : Entry) → Room (ofEntry x)
+entry-room (Entry.Corners n name f) = lit≤ tt
+entry-room (Entry.No r) = refusal-room r

@@ -19,12 +19,12 @@ use Rattle.plane.specs.theory.forms.Vector.{opposite-opposite}
 use Rattle.plane.specs.theory.sum.EdgeSum.{vectorSum-shape}
 use Rattle.polygon.specs.declared.extent.Extent.{Extent}
 use Rattle.polygon.specs.Extent.{highest, Extends}
-use Rattle.calipers.specs.Advance.{nextCorners}
+use Rattle.sums.specs.Advance.{nextCorners}
 use Rattle.calipers.specs.Image.{image}
 use Rattle.calipers.specs.Walk.{begun, At}
 use Rattle.calipers.specs.theory.Image.{image-points, image-valid, image-count}
 use Rattle.calipers.specs.theory.Steps.{at-begin}
-use Rattle.calipers.specs.theory.Summed.{next-all, sum-few}
+use Rattle.sums.specs.theory.Summed.{next-all, sum-few}
 use Rattle.separation.specs.Around.{originIn}
 use Rattle.separation.specs.theory.Apart.{differences-shape}
 use Rattle.separation.specs.theory.Around.{originIn-relation}

@@ -3,7 +3,7 @@ use crate::fault::Fault;
 use crate::fields::Kind::{self, Bytes, Calls, Floor, List, Numbers, Optional, Output, Reading};
 use crate::fields::{Call, Fields};
 use cocklesway::bytes::{self, Packed};
-use cocklesway::{Addition, Book, Nearest, Refusal, Relation, Shape, Walk};
+use cocklesway::{Addition, Beyond, Book, Nearest, Refusal, Relation, Shape, Walk};
 
 pub struct Row {
     pub word: &'static str,
@@ -31,17 +31,20 @@ pub const TABLE: &[Row] = &[
     Row { word: "grow", fields: &[List, List, Optional], ask: |f| two_written(f, cocklesway::grow) },
     Row { word: "sweep", fields: &[List, Optional], ask: |f| one_written(f, cocklesway::sweep) },
     Row { word: "length", fields: &[List], ask: length },
+    Row { word: "area", fields: &[List], ask: area },
     Row { word: "width", fields: &[List], ask: width },
     Row { word: "relation", fields: &[List, List], ask: relation },
     Row { word: "inside", fields: &[List, List], ask: inside },
     Row { word: "offer", fields: &[List, List, Numbers], ask: offer },
     Row { word: "find", fields: &[List, List], ask: find },
     Row { word: "clearance", fields: &[List, List], ask: clearance },
+    Row { word: "excess", fields: &[List, List], ask: excess },
     Row { word: "tangents", fields: &[List, List], ask: tangents },
     Row { word: "passage", fields: &[List, List, List], ask: passage },
     Row { word: "tablet", fields: &[Reading, Reading], ask: tablet },
     Row { word: "bookread", fields: &[Bytes, Numbers, Optional], ask: book_read },
     Row { word: "bookadd", fields: &[Bytes, Numbers, List, Optional], ask: book_add },
+    Row { word: "pack", fields: &[Bytes, Bytes, Numbers, Optional], ask: pack },
     Row { word: "hjudge", fields: &[Bytes, Floor], ask: judge_bytes },
     Row { word: "hsum", fields: &[Bytes, Floor, Bytes, Floor, Output], ask: |f| bytes_written(f, bytes::sum) },
     Row { word: "hmerge", fields: &[Bytes, Floor, Bytes, Floor, Output], ask: |f| bytes_written(f, bytes::merge) },
@@ -111,6 +114,11 @@ fn length(mut fields: Fields) -> Answer {
     let answer = cocklesway::length(fields.list().shape())?;
     let (squared, from, to) = (answer.squared, answer.from, answer.to);
     Ok(format!("ok {squared} {from} {to} @{}", answer.floor))
+}
+
+fn area(mut fields: Fields) -> Answer {
+    let answer = cocklesway::area(fields.list().shape())?;
+    Ok(format!("ok {} @{}", answer.twice, answer.floor))
 }
 
 fn width(mut fields: Fields) -> Answer {
@@ -186,6 +194,28 @@ fn clearance(mut fields: Fields) -> Answer {
     ))
 }
 
+fn excess(mut fields: Fields) -> Answer {
+    let (new, old) = (fields.list(), fields.list());
+    let answer = cocklesway::excess(new.shape(), old.shape())?;
+    let words = match answer.beyond {
+        None => "inside".to_string(),
+        Some(Beyond::Corners {
+            corner,
+            other,
+            squared,
+            up,
+        }) => format!("cc {corner} {other} {squared} {up}"),
+        Some(Beyond::Edge {
+            corner,
+            edge,
+            turn,
+            squared,
+            up,
+        }) => format!("ce {corner} {edge} {turn} {squared} {up}"),
+    };
+    Ok(format!("ok {words} @{}", answer.floor))
+}
+
 fn tangents(mut fields: Fields) -> Answer {
     let (a, b) = (fields.list(), fields.list());
     let answer = cocklesway::tangents(a.shape(), b.shape())?;
@@ -224,11 +254,22 @@ fn book_add(mut fields: Fields) -> Answer {
     let (mut log, name, list) = (fields.bytes(), fields.name()?, fields.list());
     let allowed = fields.count()?.unwrap_or(usize::MAX);
     let mut book = Book::new(&mut log);
-    let word = match book.add(name, list.shape(), allowed)? {
+    let word = stored(book.add(name, list.shape(), allowed)?);
+    Ok(format!("ok {word} | {}", hexadecimal(book.bytes())))
+}
+
+fn pack(mut fields: Fields) -> Answer {
+    let (old, mut new, but) = (fields.bytes(), fields.bytes(), fields.but()?);
+    let allowed = fields.count()?.unwrap_or(usize::MAX);
+    let word = stored(cocklesway::log_pack(&old, &mut new, but, allowed)?);
+    Ok(format!("ok {word} | {}", hexadecimal(&new)))
+}
+
+fn stored(addition: Addition) -> &'static str {
+    match addition {
         Addition::Finished => "finished",
         Addition::Cut => "cut",
-    };
-    Ok(format!("ok {word} | {}", hexadecimal(book.bytes())))
+    }
 }
 
 fn judge_bytes(mut fields: Fields) -> Answer {

@@ -122,6 +122,18 @@ impl Fields {
         name.try_into().map_err(|_| Unreadable::NotAName)
     }
 
+    /// A name, or nobody's.
+    pub fn but(&mut self) -> Result<Option<u16>, Unreadable> {
+        let numbers = self.list().numbers;
+        let [name] = numbers[..] else {
+            return numbers
+                .is_empty()
+                .then_some(None)
+                .ok_or(Unreadable::WrongCount);
+        };
+        name.try_into().map(Some).map_err(|_| Unreadable::NotAName)
+    }
+
     /// A count, if the field was not left out.
     pub fn count(&mut self) -> Result<Option<usize>, Unreadable> {
         if self.0.as_slice().is_empty() {

@@ -12,7 +12,7 @@ use Rattle.plane.specs.Output.{answerRows}
 use Rattle.plane.specs.Floor.{noShape}
 use Rattle.plane.specs.Question.{makes}
 use Rattle.plane.specs.theory.lists.Flat.{points-length}
-use Rattle.calipers.specs.Size.{exact}
+use Rattle.sums.specs.Size.{exact}
 use Rattle.admission.specs.Admission.{Judged}
 use Rattle.admission.specs.theory.Door.{rest-refused, all-written}
 use Rattle.admission.specs.theory.Delivery.{fit-judged, room-there, numbers-outside, copied}

@@ -1,72 +1,34 @@
 -- `next` meets its contract.
-use mathlib.Core.Path.{sym, _∙_, ap}
-use Prim.Native.Nat.{_<_}
-use borrow.Author.Needs.{needs}
 use native.Mathlib.Omega.{arith}
-use lib.ListN.{length}
+use borrow.Author.Needs.{needs}
 use Rattle.plane.specs.Point.{points}
-use Rattle.plane.specs.Forms.{edges}
-use Rattle.plane.specs.Cycle.{cornerRound}
 use Rattle.plane.specs.theory.lists.Flat.{points-length}
 use Rattle.plane.specs.theory.sum.Positions.{edges-at-most}
-use Rattle.calipers.specs.Image.{image}
-use Rattle.calipers.specs.theory.Image.{image-edges, image-valid}
-use Rattle.calipers.specs.theory.Sides.{onward-end, onward-inner, corner-fits, edge-adds, along-edge}
+use Rattle.calipers.specs.theory.Image.{image-edges}
 use Rattle.calipers.proofs.image.next.Statement.{statement}
 use Rattle.calipers.proofs.image.next.Tie as tie
 
 returns : tie.Need-returns
 returns c = search needs
 
-returns-2 : tie.Need-returns-2
-returns-2 c =
-    let start = c .before .before .before in
-    let side = start .pre .2 in (
-      rw (c .before .before .if1 .left) (sym (onward-end (points (image (start .args .list .now))) (start .args .s .at)
-          (omega (arith, c .if2 .taken, side .end-is)))),
-      side,
-    )
-
--- an edge is left
-left : (c : tie.Else2) → let start = c .before .before .before in
-    start .args .s .at < length (edges (points (image (start .args .list .now))))
-left c = let side = c .before .before .before .pre .2 in omega (arith, c .if2 .left, side .end-is, side .at-in)
-
-arrived-requires : tie.Need-arrived-requires
-arrived-requires c κs =
-    let start = c .before .before .before in
+add-if2 : tie.Need-add-if2
+add-if2 c =
+    let start = c .before .before in
     let l = start .args .list .now in
-    let v = image-valid l (start .pre .0) in
-    let few = edges-at-most (points l) in (
-      omega (arith, left c, image-edges l (start .pre .0), points-length l),
-      corner-fits (v .inRange) (v .shape .some) (start .pre .2),
-      edge-adds (v .inRange) (v .shape .some) (start .pre .2),
-    )
+    let side = start .pre .2 in
+    omega (arith, side .at-in, image-edges l (start .pre .0), edges-at-most (points l), points-length l)
 
-onto-requires : tie.Need-onto-requires
-onto-requires c κs =
-    let at-else = c .before in
-    let start = at-else .before .before .before in
-    let made = c .arrived .ensures in (
-      start .pre .0,
-      start .pre .1,
-      record {
-        at-in = omega (arith, made .0, left at-else);
-        end-is = made .1 ∙ start .pre .2 .end-is;
-        corner-is = made .2 ∙ along-edge (start .pre .2) (left at-else)
-            ∙ ap (cornerRound (points (image (start .args .list .now)))) (sym (made .0));
-        no-edge = made .3;
-      },
-    )
+ahead-requires : tie.Need-ahead-requires
+ahead-requires c κs = let pre = c .before .before .before .before .pre in (pre .0, pre .1, pre .2, c .if2 .taken)
+
+returns-2 : tie.Need-returns-2
+returns-2 c = rw (c .before .before .before .before .if1 .left) (c .ahead .ensures)
+
+late-requires : tie.Need-late-requires
+late-requires c κs = c .before .before .before .before .pre
 
 returns-3 : tie.Need-returns-3
-returns-3 c =
-    let at-else = c .before .before in
-    let start = at-else .before .before .before in (
-      rw (at-else .before .before .if1 .left) (c .onto .ensures .0 ∙ c .before .arrived .ensures .0
-          ∙ sym (onward-inner (points (image (start .args .list .now))) (start .args .s .at) (left at-else))),
-      c .onto .ensures .1,
-    )
+returns-3 c = rw (c .before .before .before .before .if1 .left) (c .late .ensures)
 
 pub next-spec : {M : Type 1} → statement M
-next-spec = tie.close (tie.spec returns returns-2 arrived-requires onto-requires returns-3)
+next-spec = tie.close (tie.spec returns add-if2 ahead-requires returns-2 late-requires returns-3)

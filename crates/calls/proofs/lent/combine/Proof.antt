@@ -8,11 +8,11 @@ use lib.ListN.{length, take}
 use lib.Seq.{length-take-le}
 use Rattle.plane.specs.Floor.{on}
 use Rattle.plane.specs.Question.{Question}
-use Rattle.calls.specs.LowFloor.{lowFloor}
-use Rattle.calls.specs.Bytes.{wordsIn}
-use Rattle.calls.specs.Packing.{packed}
-use Rattle.calls.specs.Passing.{combined, asked}
-use Rattle.calls.specs.theory.Alike.{pair-reply, pair-bytes}
+use Rattle.crossing.specs.LowFloor.{lowFloor}
+use Rattle.crossing.specs.Bytes.{wordsIn}
+use Rattle.crossing.specs.Packing.{packed}
+use Rattle.crossing.specs.Passing.{combined, asked}
+use Rattle.crossing.specs.theory.Alike.{pair-reply, pair-bytes}
 use Rattle.calls.specs.theory.Few.{combined-holds}
 use borrow.Author.Needs.{needs}
 use Rattle.calls.proofs.lent.combine.Statement.{statement}

@@ -5,10 +5,10 @@ use lib.IntN.{ℤ}
 use lib.Seq.{length-take-le}
 use Rattle.plane.specs.Floor.{on}
 use Rattle.plane.specs.Question.{askJudge}
-use Rattle.calls.specs.LowFloor.{lowFloor}
+use Rattle.crossing.specs.LowFloor.{lowFloor}
 use Rattle.calls.specs.theory.Fits.{judged-fits}
-use Rattle.calls.specs.theory.Packed.{narrow}
-use Rattle.calls.specs.theory.Alike.{one-packed}
+use Rattle.crossing.specs.theory.Packed.{narrow}
+use Rattle.crossing.specs.theory.Alike.{one-packed}
 use borrow.Author.Needs.{needs}
 use Rattle.calls.proofs.lent.judge.Statement.{statement}
 use Rattle.calls.proofs.lent.judge.Tie as tie

@@ -5,10 +5,10 @@ use lib.IntN.{ℤ}
 use lib.Seq.{length-take-le}
 use Rattle.plane.specs.Floor.{on}
 use Rattle.plane.specs.Question.{askRelation}
-use Rattle.calls.specs.LowFloor.{lowFloor}
+use Rattle.crossing.specs.LowFloor.{lowFloor}
 use Rattle.calls.specs.theory.Fits.{relation-fits}
-use Rattle.calls.specs.theory.Packed.{narrow}
-use Rattle.calls.specs.theory.Alike.{pair-packed}
+use Rattle.crossing.specs.theory.Packed.{narrow}
+use Rattle.crossing.specs.theory.Alike.{pair-packed}
 use borrow.Author.Needs.{needs}
 use Rattle.calls.proofs.lent.relation.Statement.{statement}
 use Rattle.calls.proofs.lent.relation.Tie as tie

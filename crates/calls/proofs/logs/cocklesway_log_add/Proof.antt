@@ -3,7 +3,7 @@ use mathlib.Core.Path.{_≡_, sym, _∙_}
 use mathlib.Core.Bool.{false}
 use lib.Dec.{ltb}
 use Rattle.plane.specs.Limits.{maxFloor}
-use Rattle.calls.specs.theory.Low.{low-fits}
+use Rattle.crossing.specs.theory.Low.{low-fits}
 use Rattle.calls.specs.theory.Logs.{added-above, added-within}
 use borrow.Author.Needs.{needs}
 use Rattle.calls.proofs.logs.cocklesway_log_add.Statement.{statement}

@@ -3,7 +3,7 @@ use mathlib.Core.Path.{_≡_, sym, _∙_}
 use mathlib.Core.Bool.{false}
 use lib.Dec.{ltb}
 use Rattle.plane.specs.Limits.{maxFloor}
-use Rattle.calls.specs.theory.Low.{low-fits, both-low}
+use Rattle.crossing.specs.theory.Low.{low-fits, both-low}
 use Rattle.calls.specs.theory.Found.{found-above, found-within}
 use borrow.Author.Needs.{needs}
 use Rattle.calls.proofs.pairs.cocklesway_find.Statement.{statement}

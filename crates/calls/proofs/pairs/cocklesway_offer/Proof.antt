@@ -7,8 +7,8 @@ use Rattle.plane.specs.Limits.{maxFloor}
 use Rattle.plane.specs.Point.{Point, point}
 use Rattle.plane.specs.Floor.{on}
 use Rattle.plane.specs.Question.{reply, askOffer}
-use Rattle.calls.specs.theory.Low.{low-fits, both-low, within-told}
-use Rattle.calls.specs.theory.High.{above-pair}
+use Rattle.crossing.specs.theory.Low.{low-fits, both-low, within-told}
+use Rattle.crossing.specs.theory.High.{above-pair}
 use borrow.Author.Needs.{needs}
 use Rattle.calls.proofs.pairs.cocklesway_offer.Statement.{statement}
 use Rattle.calls.proofs.pairs.cocklesway_offer.Tie as tie

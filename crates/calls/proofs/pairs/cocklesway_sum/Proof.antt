@@ -3,8 +3,8 @@ use mathlib.Core.Path.{_≡_, refl, sym, _∙_}
 use mathlib.Core.Bool.{false}
 use lib.Dec.{ltb}
 use Rattle.plane.specs.Limits.{maxFloor}
-use Rattle.calls.specs.theory.Low.{low-fits, both-low, within-written}
-use Rattle.calls.specs.theory.High.{above-pair}
+use Rattle.crossing.specs.theory.Low.{low-fits, both-low, within-written}
+use Rattle.crossing.specs.theory.High.{above-pair}
 use borrow.Author.Needs.{needs}
 use Rattle.calls.proofs.pairs.cocklesway_sum.Statement.{statement}
 use Rattle.calls.proofs.pairs.cocklesway_sum.Tie as tie

@@ -4,8 +4,8 @@ use mathlib.Core.Bool.{false}
 use lib.Dec.{ltb}
 use Rattle.plane.specs.Limits.{maxFloor}
 use Rattle.reply.specs.Told.{crossed}
-use Rattle.calls.specs.theory.Low.{low-fits}
-use Rattle.calls.specs.theory.Passages.{all-low, passage-within, passage-above}
+use Rattle.crossing.specs.theory.Low.{low-fits}
+use Rattle.crossing.specs.theory.Passages.{all-low, passage-within, passage-above}
 use borrow.Author.Needs.{needs}
 use Rattle.calls.proofs.passages.cocklesway_passage.Statement.{statement}
 use Rattle.calls.proofs.passages.cocklesway_passage.Tie as tie

@@ -7,8 +7,8 @@ use Rattle.plane.specs.Limits.{maxFloor}
 use Rattle.plane.specs.Point.{Point, point}
 use Rattle.plane.specs.Floor.{on}
 use Rattle.plane.specs.Question.{reply, askFurthest}
-use Rattle.calls.specs.theory.Low.{low-fits, within-told}
-use Rattle.calls.specs.theory.High.{above}
+use Rattle.crossing.specs.theory.Low.{low-fits, within-told}
+use Rattle.crossing.specs.theory.High.{above}
 use borrow.Author.Needs.{needs}
 use Rattle.calls.proofs.shapes.cocklesway_furthest.Statement.{statement}
 use Rattle.calls.proofs.shapes.cocklesway_furthest.Tie as tie

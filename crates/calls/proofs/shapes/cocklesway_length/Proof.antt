@@ -3,8 +3,8 @@ use mathlib.Core.Path.{_≡_, sym, _∙_}
 use mathlib.Core.Bool.{false}
 use lib.Dec.{ltb}
 use Rattle.plane.specs.Limits.{maxFloor}
-use Rattle.calls.specs.theory.Low.{low-fits, within-told}
-use Rattle.calls.specs.theory.High.{above}
+use Rattle.crossing.specs.theory.Low.{low-fits, within-told}
+use Rattle.crossing.specs.theory.High.{above}
 use borrow.Author.Needs.{needs}
 use Rattle.calls.proofs.shapes.cocklesway_length.Statement.{statement}
 use Rattle.calls.proofs.shapes.cocklesway_length.Tie as tie

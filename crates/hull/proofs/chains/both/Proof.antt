@@ -3,8 +3,8 @@
 use Prim.Native.Nat.{_+_, _-_}
 use native.Mathlib.Omega.{arith}
 use Rattle.plane.specs.Point.{points}
-use Rattle.hull.specs.Order.{closed}
-use Rattle.hull.specs.theory.Run.{run-length}
+use Rattle.sorting.specs.Order.{closed}
+use Rattle.sorting.specs.theory.Run.{run-length}
 use Rattle.hull.specs.theory.Reading.{line-to, Reading, reading-start, reading-room, reading-more, reading-less}
 use Rattle.hull.specs.theory.Reading.{first-rest, second-rest}
 use Rattle.hull.specs.theory.Stack.{scanning-rest}

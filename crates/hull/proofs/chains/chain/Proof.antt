@@ -7,8 +7,8 @@ use lib.ListN.{length}
 use Rattle.plane.specs.Point.{points}
 use Rattle.plane.specs.theory.lists.Flat.{points-length}
 use Rattle.polygon.specs.Point.{at}
-use Rattle.hull.specs.Buffer.{Scanned}
-use Rattle.hull.specs.Order.{closed}
+use Rattle.sorting.specs.Buffer.{Scanned}
+use Rattle.sorting.specs.Order.{closed}
 use Rattle.hull.specs.theory.Reading.{left-few}
 use Rattle.hull.specs.theory.Stack.{first-scanned, chained}
 use Rattle.hull.proofs.chains.chain.Statement.{statement}

@@ -9,7 +9,7 @@ use Rattle.integer.specs.Machine.{result-is}
 use Rattle.plane.specs.Point.{points, corner}
 use Rattle.plane.specs.theory.lists.Flat.{points-length}
 use Rattle.polygon.specs.Point.{Small}
-use Rattle.hull.specs.Order.{order, closed}
+use Rattle.sorting.specs.Order.{order, closed}
 use Rattle.hull.specs.theory.Peak.{closed-small}
 use Rattle.hull.specs.theory.Reading.{stepped-first, stepped-second}
 use Rattle.hull.proofs.chains.push_next.Statement.{statement}

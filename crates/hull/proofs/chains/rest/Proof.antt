@@ -7,9 +7,9 @@ use native.Mathlib.Numerals.{add-one}
 use native.Mathlib.Omega.{arith}
 use Rattle.plane.specs.Point.{points}
 use Rattle.polygon.specs.Point.{at, Small}
-use Rattle.hull.specs.Order.{closed, run}
+use Rattle.sorting.specs.Order.{closed, run}
 use Rattle.hull.specs.theory.Peak.{closed-small}
-use Rattle.hull.specs.theory.Run.{run-length, run-more}
+use Rattle.sorting.specs.theory.Run.{run-length, run-more}
 use Rattle.hull.specs.theory.Stack.{Scanning, scanning-start, scanning-room, scanning-one, scanning-end}
 use Rattle.hull.proofs.chains.rest.Statement.{statement}
 use Rattle.hull.proofs.chains.rest.Tie as tie

@@ -7,7 +7,7 @@ use native.Mathlib.Omega.{arith}
 use Rattle.plane.specs.Point.{points}
 use Rattle.plane.specs.theory.lists.Flat.{points-length}
 use Rattle.polygon.specs.Point.{at}
-use Rattle.hull.specs.Buffer.{Settled, route}
+use Rattle.sorting.specs.Buffer.{Settled, route}
 use Rattle.hull.specs.theory.Stack.{Scanning, scanning-start, scanning-room, scanning-one}
 use Rattle.hull.specs.theory.Route.{route-more, route-length, route-small, sided}
 use Rattle.hull.proofs.outline.side.Statement.{statement}

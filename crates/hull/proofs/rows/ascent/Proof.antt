@@ -1,7 +1,7 @@
 -- `ascent` meets its contract: both tests in turn.
 use mathlib.Core.Path.{sym, _∙_}
 use borrow.Author.Needs.{needs}
-use Rattle.hull.specs.Order.{order}
+use Rattle.sorting.specs.Order.{order}
 use Rattle.hull.proofs.rows.ascent.Statement.{statement}
 use Rattle.hull.proofs.rows.ascent.Tie as tie
 

@@ -4,7 +4,7 @@ use native.Mathlib.Omega.{arith}
 use borrow.Author.Needs.{needs}
 use lib.ListN.{length}
 use Rattle.plane.specs.Point.{points, corner}
-use Rattle.hull.specs.Order.{closed}
+use Rattle.sorting.specs.Order.{closed}
 use Rattle.hull.specs.theory.Peak.{closed-within, closed-last}
 use Rattle.hull.proofs.rows.closed_at.Statement.{statement}
 use Rattle.hull.proofs.rows.closed_at.Tie as tie

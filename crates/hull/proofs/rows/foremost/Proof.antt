@@ -9,8 +9,8 @@ use mir.Val.{toZ, ofZ}
 use Rattle.integer.specs.Machine.{result-is}
 use Rattle.plane.specs.Point.{points, corner}
 use Rattle.polygon.specs.Point.{at}
-use Rattle.hull.specs.Order.{foremost}
-use Rattle.hull.specs.theory.Ahead.{order-foremost}
+use Rattle.sorting.specs.Order.{foremost}
+use Rattle.sorting.specs.theory.Ahead.{order-foremost}
 use Rattle.hull.proofs.rows.foremost.Statement.{statement}
 use Rattle.hull.proofs.rows.foremost.Tie as tie
 

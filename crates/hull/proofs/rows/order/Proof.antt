@@ -2,7 +2,7 @@
 use borrow.Author.Needs.{needs}
 use mir.Syntax.{w32}
 use Rattle.integer.specs.Machine.{result-is}
-use Rattle.hull.specs.Order.{order}
+use Rattle.sorting.specs.Order.{order}
 use Rattle.hull.proofs.rows.order.Statement.{statement}
 use Rattle.hull.proofs.rows.order.Tie as tie
 

@@ -6,7 +6,7 @@ use native.Mathlib.Omega.{arith}
 use Rattle.plane.specs.Point.{points, corner}
 use Rattle.plane.specs.theory.lists.Flat.{points-length}
 use Rattle.polygon.specs.Point.{at}
-use Rattle.hull.specs.Order.{closed}
+use Rattle.sorting.specs.Order.{closed}
 use Rattle.hull.specs.Chain.{isRight, one}
 use Rattle.hull.proofs.rows.trimmed.Statement.{statement}
 use Rattle.hull.proofs.rows.trimmed.Tie as tie

@@ -1,6 +1,6 @@
 -- `survey` meets its contract: the sum is judged by its size.
 use borrow.Author.Needs.{needs}
-use Rattle.calipers.specs.PlaceAfter.{wholeSum}
+use Rattle.sums.specs.PlaceAfter.{wholeSum}
 use Rattle.admission.specs.theory.Delivery.{sized-rows, judged-by}
 use Rattle.questions.proofs.walk.survey.Statement.{statement}
 use Rattle.questions.proofs.walk.survey.Tie as tie

@@ -112,6 +112,12 @@ enum-told-11 c = search needs
 refused0-requires-11 : tie.Need-refused0-requires-11
 refused0-requires-11 c κs = search needs
 
+enum-told-12 : tie.Need-enum-told-12
+enum-told-12 c = search needs
+
+refused0-requires-12 : tie.Need-refused0-requires-12
+refused0-requires-12 c κs = search needs
+
 returns : tie.Need-returns
 returns c = c .refused1 .ensures ∙ told (c .before .before .refusal .given .1)
 
@@ -163,6 +169,9 @@ returns-16 c = c .refused010 .ensures ∙ told (c .before .enum-told10 .given .1
 returns-17 : tie.Need-returns-17
 returns-17 c = c .refused011 .ensures ∙ told (c .before .enum-told11 .given .1)
 
+returns-18 : tie.Need-returns-18
+returns-18 c = c .refused012 .ensures ∙ told (c .before .enum-told12 .given .1)
+
 pub of-refusal-spec : {M : Type 1} → statement M
 of-refusal-spec =
     tie.close
@@ -171,5 +180,6 @@ of-refusal-spec =
     refused0-requires enum-told-2 refused0-requires-2 enum-told-3 refused0-requires-3 enum-told-4 refused0-requires-4
     enum-told-5 refused0-requires-5 enum-told-6 refused0-requires-6 enum-told-7 refused0-requires-7 enum-told-8
     refused0-requires-8 enum-told-9 refused0-requires-9 enum-known-refusal-6 refused1-requires-5 enum-told-10
-    refused0-requires-10 enum-told-11 refused0-requires-11 returns returns-2 returns-3 returns-4 returns-5 returns-6 returns-7
-    returns-8 returns-9 returns-10 returns-11 returns-12 returns-13 returns-14 returns-15 returns-16 returns-17)
+    refused0-requires-10 enum-told-11 refused0-requires-11 enum-told-12 refused0-requires-12 returns returns-2
+    returns-3 returns-4 returns-5 returns-6 returns-7 returns-8 returns-9 returns-10 returns-11 returns-12 returns-13
+    returns-14 returns-15 returns-16 returns-17 returns-18)

@@ -11,13 +11,13 @@ use Rattle.plane.specs.Point.{points}
 use Rattle.plane.specs.Forms.{edges}
 use Rattle.plane.specs.theory.lists.Flat.{points-length}
 use Rattle.plane.specs.theory.sum.Positions.{edges-at-most}
-use Rattle.calipers.specs.Advance.{nextCorners, Walked}
+use Rattle.sums.specs.Advance.{nextCorners, Walked}
 use Rattle.calipers.specs.Image.{image}
 use Rattle.calipers.specs.Walk.{begun}
 use Rattle.calipers.specs.theory.Carry.{first-next, edges-fit}
 use Rattle.calipers.specs.theory.Image.{image-count}
-use Rattle.calipers.specs.theory.Summed.{next-few}
-use Rattle.calipers.proofs.Walked.{walked-start, walked-at, walked-below, walked-more, walked-over}
+use Rattle.sums.specs.theory.Summed.{next-few}
+use Rattle.sums.proofs.Walked.{walked-start, walked-at, walked-below, walked-more, walked-over}
 use Rattle.separation.specs.theory.Image.{image-begun, image-all}
 use Rattle.separation.proofs.differences.count.Statement.{statement}
 use Rattle.separation.proofs.differences.count.Tie as tie

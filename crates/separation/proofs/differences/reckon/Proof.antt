@@ -5,7 +5,7 @@ use borrow.Author.Needs.{needs}
 use lib.ListN.{length}
 use Rattle.plane.specs.Point.{points}
 use Rattle.plane.specs.theory.lists.Flat.{points-length}
-use Rattle.calipers.specs.Size.{exact, enough}
+use Rattle.sums.specs.Size.{exact, enough}
 use Rattle.separation.specs.theory.Image.{differences-few}
 use Rattle.separation.proofs.differences.reckon.Statement.{statement}
 use Rattle.separation.proofs.differences.reckon.Tie as tie

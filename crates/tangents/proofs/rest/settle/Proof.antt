@@ -11,16 +11,21 @@ use Rattle.tangents.proofs.rest.settle.Statement.{statement}
 use Rattle.tangents.proofs.rest.settle.Tie as tie
 
 abbrev Inv-loop : tie.InvT-loop
-Inv-loop list from q s i₀ i = i < length (points list)
+Inv-loop list from q s forward i₀ i = i < length (points list)
 
 abbrev μ-loop : tie.MeasureT-loop
-μ-loop list from q s i₀ i = counted (λ k. draws s (corner (points list) i) (at q) (corner (points list) k)) (length (points list))
+μ-loop list from q s forward i₀ i = counted (λ k. draws s (corner (points list) i) (at q) (corner (points list) k)) (length (points list))
+
+slid-requires : tie.Need-slid-requires Inv-loop μ-loop
+slid-requires c κs = c .pre
 
 loop-holds : tie.Need-loop-holds Inv-loop μ-loop
-loop-holds c = c .pre .within
+loop-holds c = c .slid .ensures
 
 better-requires : tie.Need-better-requires Inv-loop μ-loop
-better-requires c κs = let r = c .before .pre in record { valid = r .valid; within = c .loop .inv; small = r .small; facing = r .facing }
+better-requires c κs =
+    let r = c .before .before .pre in
+    record { valid = r .valid; within = c .loop .inv; small = r .small; facing = r .facing }
 
 returns : tie.Need-returns Inv-loop μ-loop
 returns c = c .before .better .ensures .rests (c .if1 .taken)
@@ -28,7 +33,7 @@ returns c = c .before .better .ensures .rests (c .if1 .taken)
 loop-less : tie.Need-loop-less Inv-loop μ-loop
 loop-less c =
     let at-loop = c .before .before in
-    let start = at-loop .before in
+    let start = at-loop .before .before in
     let ps = points (start .args .list .now) in
     let found = c .before .better .ensures in
     counted-after (λ i k. draws (start .args .s) (corner ps i) (at (start .args .q)) (corner ps k)) (length ps)
@@ -39,4 +44,4 @@ loop-again c = c .before .better .ensures .within
 
 pub settle-spec : {M : Type 1} → statement M
 settle-spec =
-    tie.close (tie.spec Inv-loop μ-loop loop-holds better-requires returns loop-less loop-again)
+    tie.close (tie.spec Inv-loop μ-loop slid-requires loop-holds better-requires returns loop-less loop-again)

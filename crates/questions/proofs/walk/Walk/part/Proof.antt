@@ -4,8 +4,8 @@ use mathlib.Core.Bool.{Bool}
 use borrow.Author.Needs.{needs}
 use borrow.Author.Tests.{not-true, not-false}
 use Rattle.plane.specs.Floor.{Floored, on, Same}
-use Rattle.calipers.specs.PlaceAfter.{isPlace}
-use Rattle.calipers.specs.Part.{askPart}
+use Rattle.sums.specs.PlaceAfter.{isPlace}
+use Rattle.sums.specs.Part.{askPart}
 use Rattle.admission.specs.theory.Door.{shapes-refused}
 use Rattle.questions.specs.Walk.{stateOf}
 use Rattle.questions.specs.theory.Parts.{part-off-place, part-surveyed}

@@ -1,0 +1,2 @@
+-- What several function proofs share.
+pub mod Places

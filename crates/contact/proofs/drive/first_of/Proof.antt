@@ -1,0 +1,83 @@
+-- `first_of` meets its contract: the arrival in lowest terms, unless the way is apart.
+use borrow.Author.Needs.{needs}
+use mathlib.Core.Path.{_≡_, sym, _∙_, ap, subst}
+use mathlib.Core.List.{[], _∷_}
+use Prim.Native.Nat.{ℕ}
+use native.Mathlib.Omega.{arith}
+use lib.IntN.{ℤ, pos}
+use mir.Syntax.{w64}
+use Rattle.integer.specs.Bound.{Within}
+use Rattle.integer.specs.Machine.{result-is}
+use Rattle.plane.specs.Point.{points}
+use Rattle.plane.specs.Measure.{squared}
+use Rattle.plane.specs.theory.forms.Squared.{squared-nonneg}
+use Rattle.polygon.specs.Point.{at}
+use Rattle.contact.specs.Contact.{OnWay, lowest, contact}
+use Rattle.contact.specs.Share.{fraction}
+use Rattle.contact.specs.theory.Meeting.{arrival-on-way, first-on-way}
+use Rattle.contact.specs.theory.Sides.{small-place}
+use Rattle.contact.specs.theory.Told.{whole-words, length-bounded, never-told, at-told}
+use Rattle.contact.proofs.drive.first_of.Statement.{statement}
+use Rattle.contact.proofs.drive.first_of.Tie as tie
+
+is-apart-requires : tie.Need-is-apart-requires
+is-apart-requires c κs = search needs
+
+returns : tie.Need-returns
+returns c = never-told _ _ _ (sym (c .before .is-apart .ensures) ∙ c .if1 .taken)
+
+arrival-requires : tie.Need-arrival-requires
+arrival-requires c κs = search needs
+
+lowest-requires : tie.Need-lowest-requires
+lowest-requires c κs =
+    let args = c .before .before .before .args in
+    whole-words _ _ (subst OnWay (sym (c .arrival .ensures)) (arrival-on-way (at (args .t)) (at (args .u)) (points (args .list .now)))) .1
+
+squared-requires : tie.Need-squared-requires
+squared-requires c κs =
+    let places = c .before .before .before .before .pre .1 in
+    (small-place (places .from-near), small-place (places .to-near))
+
+magnitude-requires : tie.Need-magnitude-requires
+magnitude-requires c κs = rw (result-is w64 (c .squared .ok) (c .squared .ensures)) (squared-nonneg _ _)
+
+-- the contact, and the squared length of the way
+told : (c : tie.After-lowest) → let args = c .before .before .before .before .args in
+    fraction (c .lowest .result) ≡ contact (at (args .t)) (at (args .u)) (points (args .list .now))
+told c = c .lowest .ensures ∙ ap lowest (c .before .arrival .ensures)
+
+length-is : (c : tie.After-magnitude) → let args = c .before .before .before .before .before .before .args in
+    pos (c .magnitude .result) ≡ squared (at (args .t)) (at (args .u))
+length-is c = sym (c .magnitude .ensures) ∙ result-is w64 (c .before .squared .ok) (c .before .squared .ensures)
+
+millimetres-requires : tie.Need-millimetres-requires
+millimetres-requires c κs =
+    let at-lowest = c .before .before in
+    let args = at-lowest .before .before .before .before .args in
+    let w = whole-words _ _ (subst OnWay (sym (told at-lowest)) (first-on-way (at (args .t)) (at (args .u)) (points (args .list .now)))) in
+    let near = subst (λ (z : ℤ). Within 8_000_000_000_000 z) (sym (length-is c))
+    (length-bounded (at-lowest .before .before .before .before .pre .1)) in
+    (w .0, w .1, omega (arith, near .size))
+
+returns-2 : tie.Need-returns-2
+returns-2 c =
+    let at-length = c .before in
+    let at-lowest = at-length .before .before in
+    let f = at-lowest .lowest .result in
+    ap (λ (w : ℕ). pos 1 ∷ pos (f .numerator) ∷ pos (f .denominator) ∷ pos w ∷ []) (c .millimetres .ensures)
+    ∙ at-told _ _ _ (sym (at-lowest .before .before .before .is-apart .ensures) ∙ at-lowest .before .before .if1 .left)
+    (f .numerator) (f .denominator) (at-length .magnitude .result) (told at-lowest) (length-is at-length)
+
+pub first-of-spec : {M : Type 1} → statement M
+first-of-spec =
+    tie.close
+    (tie.spec
+    is-apart-requires
+    returns
+    arrival-requires
+    lowest-requires
+    squared-requires
+    magnitude-requires
+    millimetres-requires
+    returns-2)

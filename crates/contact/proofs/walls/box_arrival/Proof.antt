@@ -1,0 +1,55 @@
+-- `box_arrival` meets its contract: the four sides, one after the other.
+use borrow.Author.Needs.{needs}
+use mathlib.Core.Path.{_∙_, ap, ap₂}
+use lib.IntN.{pos}
+use Rattle.plane.specs.Distance.{over}
+use Rattle.contact.specs.Contact.{later}
+use Rattle.contact.proofs.walls.box_arrival.Statement.{statement}
+use Rattle.contact.proofs.walls.box_arrival.Tie as tie
+
+side-entry-requires : tie.Need-side-entry-requires
+side-entry-requires c κs = search needs
+
+side-entry-requires-2 : tie.Need-side-entry-requires-2
+side-entry-requires-2 c κs = search needs
+
+side-entry-requires-3 : tie.Need-side-entry-requires-3
+side-entry-requires-3 c κs = search needs
+
+side-entry-requires-4 : tie.Need-side-entry-requires-4
+side-entry-requires-4 c κs = search needs
+
+later-requires : tie.Need-later-requires
+later-requires c κs = search needs
+
+later-requires-2 : tie.Need-later-requires-2
+later-requires-2 c κs = search needs
+
+later-requires-3 : tie.Need-later-requires-3
+later-requires-3 c κs = search needs
+
+later-requires-4 : tie.Need-later-requires-4
+later-requires-4 c κs = search needs
+
+returns : tie.Need-returns
+returns c =
+    let entries = c .before .before .before .before in
+    let first = entries .before .before .before .side-entry .ensures in
+    let second = entries .before .before .side-entry2 .ensures in
+    c .later4 .ensures ∙ ap₂ later (c .before .later3 .ensures ∙ ap₂ later (c .before .before .later2 .ensures
+    ∙ ap₂ later (c .before .before .before .later .ensures ∙ ap (later (over (pos 0) (pos 1))) first) second)
+    (entries .before .side-entry3 .ensures)) (entries .side-entry4 .ensures)
+
+pub box-arrival-spec : {M : Type 1} → statement M
+box-arrival-spec =
+    tie.close
+    (tie.spec
+    side-entry-requires
+    side-entry-requires-2
+    side-entry-requires-3
+    side-entry-requires-4
+    later-requires
+    later-requires-2
+    later-requires-3
+    later-requires-4
+    returns)

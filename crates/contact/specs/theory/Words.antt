@@ -1,0 +1,40 @@
+-- The definitions of fractions at words.
+--     entering-begun, -inside, -never      the three cases of an entry
+--     later-first, later-second            the later of two, by comparing products
+use mathlib.Core.Path.{_≡_, refl, sym, ap}
+use mathlib.Core.Bool.{true, false, cond}
+use Prim.Native.Nat.{_*_}
+use lib.Dec.{ltb}
+use lib.IntN.{ℤ, pos, _-ℤ_}
+use lib.Signed.{_≤ℤ_, _<ℤ_}
+use Rattle.integer.specs.Order.{le-leZ, lt-leZ, ltZ-true, ltZ-false}
+use Rattle.plane.specs.Distance.{over}
+use Rattle.contact.specs.declared.share.Share.{Share}
+use Rattle.contact.specs.Contact.{entering, later}
+use Rattle.contact.specs.Share.{fraction}
+
+module _ (a b : ℤ) where
+  pub entering-begun : a ≤ℤ pos 0 → over (pos 0) (pos 1) ≡ entering a b
+  unfolding entering
+  entering-begun h = rw (le-leZ h) refl
+
+  pub entering-inside : pos 0 <ℤ a → b ≤ℤ pos 0 → over a (a -ℤ b) ≡ entering a b
+  unfolding entering
+  entering-inside h k = rw (lt-leZ h, le-leZ k) refl
+
+  pub entering-never : pos 0 <ℤ a → pos 0 <ℤ b → over (pos 1) (pos 1) ≡ entering a b
+  unfolding entering
+  entering-never h k = rw (lt-leZ h, lt-leZ k) refl
+
+module _ (f g : Share) where
+  pub later-first : ltb (f .numerator * g .denominator) (g .numerator * f .denominator) ≡ false
+      → fraction f ≡ later (fraction f) (fraction g)
+  later-first h = ap (λ t. cond t (fraction f) (fraction g)) (sym (le-leZ
+      {x = pos (g .numerator * f .denominator)} {y = pos (f .numerator * g .denominator)}
+      (ltZ-false {x = pos (f .numerator * g .denominator)} {y = pos (g .numerator * f .denominator)} h)))
+
+  pub later-second : ltb (f .numerator * g .denominator) (g .numerator * f .denominator) ≡ true
+      → fraction g ≡ later (fraction f) (fraction g)
+  later-second h = ap (λ t. cond t (fraction f) (fraction g)) (sym (lt-leZ
+      {x = pos (g .numerator * f .denominator)} {y = pos (f .numerator * g .denominator)}
+      (ltZ-true {x = pos (f .numerator * g .denominator)} {y = pos (g .numerator * f .denominator)} h)))

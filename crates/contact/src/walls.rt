@@ -1,0 +1,81 @@
+// Inner functions: where a way enters the walls of a shape.
+ghost use mathlib.Core.Path.{_≡_};
+ghost use Prim.Native.Nat.{_+_, _<_, _^_};
+ghost use lib.IntN.{negℤ};
+ghost use lib.ListN.{length};
+ghost use Rattle.plane.specs.Point.{points};
+ghost use Rattle.plane.specs.Turn.{turn};
+ghost use Rattle.plane.specs.Refusal.{Valid};
+ghost use Rattle.polygon.specs.Point.{at, Small};
+ghost use Rattle.contact.specs.Contact.{arrival as Contact·arrival, past as Contact·past};
+ghost use Rattle.contact.specs.Contact.{entering, entry, lastEntry};
+ghost use Rattle.contact.specs.Share.{fraction, Places};
+use crate::share;
+use crate::share::Share;
+use polygon::corners;
+use polygon::point;
+use polygon::point::Point;
+use polygon::rules;
+
+// The last entry of a way through the walls of a shape.
+// Ruled out: last edge left out; upper side of the box left out; last contact for first.
+pub fn arrival(list: &[i32], t: Point, u: Point) -> Share
+    requires { ⌜ Valid (now list) × Places (at t) (at u) ⌝ }
+    ensures { λ r. ⌜ fraction r ≡ Contact·arrival (at t) (at u) (points (now (list .entry))) ⌝ }
+{
+    let n = corners::count(list);
+    let mut last = box_arrival(list, t, u);
+    let mut i = 0;
+    while i < n {
+        last = share::later(last, edge_entry(list, i, t, u));
+        i += 1;
+    }
+    last
+}
+
+// The last entry through the four sides of the box about a shape.
+fn box_arrival(list: &[i32], t: Point, u: Point) -> Share
+    requires { ⌜ Valid (now list) × Places (at t) (at u) ⌝ }
+    ensures { λ r. ⌜ fraction r ≡ lastEntry (entry (at t) (at u) (points (now (list .entry)))) 4 ⌝ }
+{
+    let start = Share {
+        numerator: 0,
+        denominator: 1,
+    };
+    let right = side_entry(list, Point { x: 1, y: 0 }, t, u);
+    let left = side_entry(list, Point { x: -1, y: 0 }, t, u);
+    let up = side_entry(list, Point { x: 0, y: 1 }, t, u);
+    let down = side_entry(list, Point { x: 0, y: -1 }, t, u);
+    share::later(
+        share::later(share::later(share::later(start, right), left), up),
+        down,
+    )
+}
+
+// The entry through the wall with an outward direction.
+fn side_entry(list: &[i32], d: Point, t: Point, u: Point) -> Share
+    requires { ⌜ Valid (now list) × Small 1 (at d) × Places (at t) (at u) ⌝ }
+    ensures { λ r. ⌜ fraction r ≡ entering (Contact·past (points (now (list .entry))) (at d) (at t))
+        (Contact·past (points (now (list .entry))) (at d) (at u)) ⌝ }
+{
+    let far = direction::reach(list, d);
+    share::entering(point::dot(d, t) - far, point::dot(d, u) - far)
+}
+
+// The entry through the edge that leaves corner i.
+fn edge_entry(list: &[i32], i: usize, t: Point, u: Point) -> Share
+    requires { ⌜ Valid (now list) × (i < length (points (now list))) × Places (at t) (at u) ⌝ }
+    ensures { λ r. ⌜ fraction r ≡ entry (at t) (at u) (points (now (list .entry))) (4 + i) ⌝ }
+{
+    let a = corners::corner_at(list, i);
+    let b = corners::corner_at(list, rules::next(corners::count(list), i));
+    share::entering(past(a, b, t), past(a, b, u))
+}
+
+// How far p is to the right of the edge from a to b, times its length.
+fn past(a: Point, b: Point, p: Point) -> i64
+    requires { ⌜ Small (2 ^ 21) (at a) × Small (2 ^ 21) (at b) × Small (2 ^ 21) (at p) ⌝ }
+    ensures { λ r. ⌜ r ≡ negℤ (turn (at a) (at b) (at p)) ⌝ }
+{
+    point::cross(point::step(a, p), point::step(a, b))
+}

@@ -1,0 +1,2 @@
+-- The theory of directions. The definitions are in `plane`.
+pub mod theory

@@ -1,0 +1,3 @@
+-- What the proofs of functions share.
+pub mod Reading
+pub mod Search

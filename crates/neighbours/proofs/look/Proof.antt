@@ -1,0 +1,146 @@
+-- `look` meets its contract: the record is not asked for, or a later one has its name, or it is compared.
+use mathlib.Core.Path.{_≡_, sym, _∙_, ap, subst}
+use mathlib.Core.Bool.{Bool, true, false, not}
+use mathlib.Core.List.{List}
+use Prim.Native.Nat.{_*_, _≤_}
+use native.Mathlib.Omega.{arith}
+use borrow.Author.Needs.{needs}
+use borrow.Author.Tests.{not-true, not-false}
+use lib.ListN.{length, take}
+use lib.IntN.{ℤ}
+use lib.Seq.{length-take-le}
+use Rattle.plane.specs.Limits.{maxCorners}
+use Rattle.plane.specs.Point.{points}
+use Rattle.plane.specs.Refusal.{Valid}
+use Rattle.plane.specs.Clearance.{clearanceNumbers}
+use Rattle.endian.specs.Bytes.{wordsAt}
+use Rattle.endian.specs.theory.Bytes.{wordsAt-length}
+use Rattle.endian.specs.theory.Coded.{front-is, front-length}
+use Rattle.journal.specs.Survey.{Stated}
+use Rattle.neighbours.specs.Search.{Onward}
+use Rattle.neighbours.specs.theory.Spacings.{spacing-sized}
+use Rattle.neighbours.specs.theory.Search.{here-numbers, count-fits, onward-other, onward-held, onward-kept}
+use Rattle.neighbours.proofs.look.Statement.{statement}
+use Rattle.neighbours.proofs.look.Tie as tie
+
+head-at-requires : tie.Need-head-at-requires
+head-at-requires c κs = search needs
+
+is-asked-requires : tie.Need-is-asked-requires
+is-asked-requires c κs = search needs
+
+returns : tie.Need-returns
+returns c =
+    let at-head = c .before .before in
+    let start = at-head .before .before in
+    let args = start .args in (
+      onward-other (start .pre .0) (at-head .head-at .ensures) (args .floor) (args .but) (points (args .list .now)) (args .best)
+          (sym (c .before .is-asked .ensures) ∙ not-true _ (c .if1 .taken)),
+      start .pre .3,
+    )
+
+is-current-requires : tie.Need-is-current-requires
+is-current-requires c κs = search needs
+
+returns-2 : tie.Need-returns-2
+returns-2 c =
+    let at-head = c .before .before .before .before in
+    let start = at-head .before .before in
+    let args = start .args in (
+      onward-held (start .pre .0) (at-head .head-at .ensures) (args .floor) (args .but) (points (args .list .now)) (args .best)
+          (not-false _ (sym (c .before .is-current .ensures) ∙ not-true _ (c .if2 .taken))),
+      start .pre .3,
+    )
+
+-- what the record says, and that it is good
+stated-here : (c : tie.After-decode-arg) → let at-head = c .before .before .before .before .before in
+    let args = at-head .before .before .args in Stated (args .log .now) (args .p) (at-head .head-at .result)
+stated-here c = c .before .before .before .before .before .head-at .ensures
+
+decode-requires : tie.Need-decode-requires
+decode-requires c κs =
+    let start = c .before .before .before .before .before .before .before in
+    let few = count-fits (start .pre .0) (stated-here c) in
+    (stated-here c .inside, omega (arith, start .pre .3))
+
+-- the buffer is as long as it was, and begins with the record's numbers
+module _ (c : tie.After-buffer) where
+  abbrev at-head : tie.After-head-at
+  at-head = c .before .before .before .before .before .before .before
+
+  abbrev start : tie.Start
+  start = at-head .before .before
+
+  abbrev numbers : List ℤ
+  numbers = wordsAt (at-head .head-at .result .count) (start .args .log .now) (at-head .head-at .result .place)
+
+  few : at-head .head-at .result .count ≤ 2 * maxCorners
+  few = count-fits (start .pre .0) (stated-here (c .before .before))
+
+  numbers-length : length numbers ≡ at-head .head-at .result .count
+  numbers-length = wordsAt-length (start .args .log .now) (at-head .head-at .result .count) (at-head .head-at .result .place)
+
+  decoded-length : length (c .before .decode .last .1 .1 .1 .0) ≡ 2 * maxCorners
+  decoded-length =
+      front-length numbers (start .args .buffer .now) _ (c .before .decode .ensures) (omega (arith, numbers-length, few, start .pre .3))
+      ∙ start .pre .3
+
+  decoded : take (at-head .head-at .result .count) (c .before .decode .last .1 .1 .1 .0) ≡ numbers
+  decoded = front-is numbers (start .args .buffer .now) _ (c .before .decode .ensures) (at-head .head-at .result .count) numbers-length
+
+  decoded-valid : Valid (take (at-head .head-at .result .count) (c .before .decode .last .1 .1 .1 .0))
+  decoded-valid = subst Valid (sym decoded) (here-numbers (start .pre .0) (stated-here (c .before .before)))
+
+slice-reshare-prefix-between : tie.Need-slice-reshare-prefix-between
+slice-reshare-prefix-between c = omega (arith, decoded-length c, few c)
+
+slice-aggregate-between : tie.Need-slice-aggregate-between
+slice-aggregate-between c =
+    let at-buffer = c .before in
+    sym (length-take-le _ (at-buffer .before .decode .last .1 .1 .1 .0) (omega (arith, decoded-length at-buffer, few at-buffer)))
+
+between-requires : tie.Need-between-requires
+between-requires c κs = (start (c .before) .pre .1, decoded-valid (c .before))
+
+kept-requires : tie.Need-kept-requires
+kept-requires c κs =
+    let at-buffer = c .before .before in
+    let pre = start at-buffer .pre in
+    (pre .2, spacing-sized _ _ (pre .1 .shape) (decoded-valid at-buffer .shape) (c .between .result) (c .between .ensures))
+
+same-length : tie.Need-same-length
+same-length c = search needs
+
+returns-3 : tie.Need-returns-3
+returns-3 c =
+    let at-buffer = c .before .before .before in
+    let at-current = at-buffer .before .before .before .before in
+    let args = start at-buffer .args in
+    let pre = start at-buffer .pre in
+    let spaced = c .before .between .ensures ∙ ap (λ l. clearanceNumbers (points (args .list .now)) (points l)) (decoded at-buffer) in (
+      subst (Onward (points (args .list .now)) (args .floor) (args .but) (args .log .now) (args .p) (args .best))
+          (sym (c .kept .ensures))
+          (onward-kept (pre .0) (stated-here (at-buffer .before .before)) (args .floor) (args .but) (points (args .list .now))
+          (args .best) (pre .1 .shape)
+          (sym (at-current .before .before .is-asked .ensures) ∙ not-false _ (at-current .before .if1 .left))
+          (not-true _ (sym (at-current .is-current .ensures) ∙ not-false _ (at-buffer .before .before .before .if2 .left)))
+          (c .before .between .result) spaced),
+      decoded-length at-buffer,
+    )
+
+pub look-spec : {M : Type 1} → statement M
+look-spec =
+    tie.close
+    (tie.spec
+    head-at-requires
+    is-asked-requires
+    returns
+    is-current-requires
+    returns-2
+    decode-requires
+    slice-reshare-prefix-between
+    slice-aggregate-between
+    between-requires
+    kept-requires
+    same-length
+    returns-3)

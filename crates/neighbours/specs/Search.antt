@@ -1,0 +1,53 @@
+-- The search for the nearest shape, as the code goes along the records. Our own, not of document 02.
+--     nearNumbers n            what is answered of what is found
+--     keptOf best n s          what is found once a shape under the name n at the distance s is looked at: the earlier one stays on a tie
+--     NearSized best           what its distance is divided by is not 0
+--     Best A all n s rest      a record with the name n is at the distance s from A, and of all records the first of the least is that of
+--                              this one and the rest
+--     Still A all best rest    the same of what is found
+--     Onward A f but b p best r    looking at the record at place p turns `best` into r, whatever the records are
+use mathlib.Core.Path.{_≡_}
+use mathlib.Core.Bool.{cond}
+use mathlib.Core.List.{List, [], _∷_}
+use Prim.Native.Nat.{ℕ}
+use lib.IntN.{ℤ, pos}
+use lib.ListN.{drop}
+use Rattle.plane.specs.Point.{Point}
+use Rattle.plane.specs.Shape.{IsShape}
+use Rattle.plane.specs.Clearance.{clearanceNumbers}
+use Rattle.plane.specs.Distance.{noMore}
+use Rattle.journal.specs.Format.{records, name}
+use Rattle.journal.specs.Current.{around}
+use Rattle.journal.specs.Survey.{nextAt}
+use Rattle.neighbours.specs.Nearest.{shapeOf, nearestOf, nearestNumbers}
+use Rattle.neighbours.specs.Spacing.{spacingNumbers, fractionOf, Sized}
+use Rattle.neighbours.specs.declared.spacing.Spacing.{Spacing}
+use Rattle.neighbours.specs.declared.Near.{Near}
+use Rattle.neighbours.specs.declared.Near.the-variants as Near
+
+abbrev pub nearNumbers : Near → List ℤ
+nearNumbers Near.Nobody = []
+nearNumbers (Near.Of n s) = pos n ∷ spacingNumbers s
+
+abbrev pub keptOf : Near → ℕ → Spacing → Near
+keptOf Near.Nobody n s = Near.Of n s
+keptOf (Near.Of m t) n s = cond (noMore (fractionOf t) (fractionOf s)) (Near.Of m t) (Near.Of n s)
+
+abbrev pub NearSized : Near → Type 0
+NearSized Near.Nobody = Unit {0}
+NearSized (Near.Of n s) = Sized s
+
+pub record Best (A : List Point) (all : List (List ℕ)) (n : ℕ) (s : Spacing) (rest : List (List ℕ)) : Type 0 where
+  pub one : List ℕ
+  pub shape : IsShape (shapeOf one)
+  pub name-is : name one ≡ n
+  pub spacing-is : spacingNumbers s ≡ clearanceNumbers A (shapeOf one)
+  pub still : let near = nearestOf A one rest in nearestNumbers A all ≡ pos (name near) ∷ clearanceNumbers A (shapeOf near)
+
+abbrev pub Still : List Point → List (List ℕ) → Near → List (List ℕ) → Type 0
+Still A all Near.Nobody rest = all ≡ rest
+Still A all (Near.Of n s) rest = Best A all n s rest
+
+abbrev pub Onward : List Point → ℕ → ℕ → List ℕ → ℕ → Near → Near → Type 0
+Onward A f but b p best r = (all : List (List ℕ)) → Still A all best (around f but (records (drop p b)))
+    → Still A all r (around f but (records (drop (nextAt b p) b)))

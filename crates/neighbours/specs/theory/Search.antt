@@ -1,0 +1,188 @@
+-- The search for the nearest shape, record by record.
+--     around-held, around-other, around-here    the records around, by the first record
+--     still-sized                  what is found can be compared
+--     still-kept                   a record that is around is looked at; `still-end`: none is left
+--     here-numbers, count-fits     the shape at a place
+--     onward-other, onward-held, onward-kept     the record at a place is looked at
+--     Searched, searched-start, searched-next, searched-end      the loop over a log
+use mathlib.Core.Path.{_≡_, refl, sym, _∙_, ap, ap₂, subst}
+use mathlib.Core.Bool.{Bool, true, false, not, cond, _&&_}
+use mathlib.Core.List.{List, [], _∷_}
+use Prim.Native.Nat.{ℕ, _*_, _≤_}
+use native.Mathlib.Omega.{arith}
+use lib.Dec.{eqb}
+use lib.ListN.{length, drop}
+use lib.IntN.{ℤ, pos}
+use Rattle.plane.specs.Limits.{maxCorners}
+use Rattle.plane.specs.Point.{Point, points}
+use Rattle.plane.specs.Shape.{IsShape}
+use Rattle.plane.specs.Refusal.{Valid}
+use Rattle.plane.specs.Clearance.{clearanceNumbers}
+use Rattle.plane.specs.Distance.{Fraction, noMore, distance}
+use Rattle.plane.specs.theory.lists.Flat.{points-length}
+use Rattle.endian.specs.Bytes.{wordsAt}
+use Rattle.endian.specs.theory.Bytes.{wordsAt-length}
+use Rattle.journal.specs.Format.{whole, records, name, floor}
+use Rattle.journal.specs.Reading.{damaged, held}
+use Rattle.journal.specs.Current.{current, keep, isOther, isAround, around}
+use Rattle.journal.specs.Survey.{recordAt, nextAt, Sound, Stated}
+use Rattle.journal.specs.declared.head.Head.{Head}
+use Rattle.journal.specs.theory.Survey.{next-inside}
+use Rattle.journal.specs.theory.Stepping.{records-step, records-end, here-good, later-good, here-valid}
+use Rattle.neighbours.specs.Nearest.{shapeOf, isAsNear, nearestOf, nearestNumbers}
+use Rattle.neighbours.specs.Spacing.{spacingNumbers, fractionOf, Sized}
+use Rattle.neighbours.specs.Search.{nearNumbers, keptOf, NearSized, Best, Still, Onward}
+use Rattle.neighbours.specs.declared.spacing.Spacing.{Spacing}
+use Rattle.neighbours.specs.declared.Near.{Near}
+use Rattle.neighbours.specs.declared.Near.the-variants as Near
+use Rattle.neighbours.specs.theory.Least.{All}
+use Rattle.neighbours.specs.theory.Spacings.{spacing-fraction, spacing-sized}
+use Rattle.neighbours.specs.theory.Near.{Whole, nearest-step, good-whole, around-whole}
+
+-- ---- the records around
+
+module _ (f but : ℕ) (r : List ℕ) (rs : List (List ℕ)) where
+  pub around-held : held (name r) rs ≡ true → around f but (r ∷ rs) ≡ around f but rs
+  unfolding around
+  around-held h = ap (λ (t : Bool). keep (isAround f but) (cond t (current rs) (r ∷ current rs))) h
+
+  around-kept : held (name r) rs ≡ false → {t : Bool} → isAround f but r ≡ t
+      → around f but (r ∷ rs) ≡ cond t (r ∷ around f but rs) (around f but rs)
+  unfolding around
+  around-kept h e = ap (λ (t : Bool). keep (isAround f but) (cond t (current rs) (r ∷ current rs))) h
+      ∙ ap (λ (t : Bool). cond t (r ∷ keep (isAround f but) (current rs)) (keep (isAround f but) (current rs))) e
+
+  pub around-here : held (name r) rs ≡ false → isAround f but r ≡ true → around f but (r ∷ rs) ≡ r ∷ around f but rs
+  around-here h e = around-kept h e
+
+  pub around-other : isAround f but r ≡ false → around f but (r ∷ rs) ≡ around f but rs
+  around-other e = go (held (name r) rs) refl
+    where
+      go : (t : Bool) → held (name r) rs ≡ t → around f but (r ∷ rs) ≡ around f but rs
+      go true h = around-held h
+      go false h = around-kept h e
+
+-- ---- what is found
+
+module _ (A : List Point) (s : IsShape A) where
+  pub still-sized : (all rest : List (List ℕ)) (best : Near) → Still A all best rest → NearSized best
+  still-sized all rest Near.Nobody b = tt
+  still-sized all rest (Near.Of n t) b = spacing-sized A (shapeOf (b .one)) s (b .shape) t (b .spacing-is)
+
+  near-fractions : (x y : List ℕ) (t u : Spacing) → spacingNumbers t ≡ clearanceNumbers A (shapeOf x)
+      → spacingNumbers u ≡ clearanceNumbers A (shapeOf y) → isAsNear A x y ≡ noMore (fractionOf t) (fractionOf u)
+  unfolding isAsNear
+  near-fractions x y t u h k =
+      sym (ap₂ noMore (spacing-fraction A (shapeOf x) t h) (spacing-fraction A (shapeOf y) u k))
+
+  -- a record y is looked at
+  module _ (all rest : List (List ℕ)) (y : List ℕ) (n : ℕ) (u : Spacing) (w : Whole y) (whole-rest : All Whole rest) (named : name y ≡ n)
+      (spaced : spacingNumbers u ≡ clearanceNumbers A (shapeOf y)) where
+    pub still-kept : (best : Near) → Still A all best (y ∷ rest) → Still A all (keptOf best n u) rest
+    still-kept Near.Nobody b = record {
+      one = y;
+      shape = w;
+      name-is = named;
+      spacing-is = spaced;
+      still = ap (nearestNumbers A) b;
+    }
+    still-kept (Near.Of m t) b = go (noMore (fractionOf t) (fractionOf u)) (near-fractions (b .one) y t u (b .spacing-is) spaced)
+      where
+        next : {x : Bool} → isAsNear A (b .one) y ≡ x → nearestOf A (b .one) (y ∷ rest) ≡ nearestOf A (cond x (b .one) y) rest
+        next e = nearest-step A s (b .one) y rest (b .shape, (w, whole-rest)) ∙ ap (λ (x : Bool). nearestOf A (cond x (b .one) y) rest) e
+
+        go : (x : Bool) → isAsNear A (b .one) y ≡ x → Still A all (cond x (Near.Of m t) (Near.Of n u)) rest
+        go true e = record {
+          one = b .one;
+          shape = b .shape;
+          name-is = b .name-is;
+          spacing-is = b .spacing-is;
+          still = b .still ∙ ap (λ (near : List ℕ). pos (name near) ∷ clearanceNumbers A (shapeOf near)) (next e);
+        }
+        go false e = record {
+          one = y;
+          shape = w;
+          name-is = named;
+          spacing-is = spaced;
+          still = b .still ∙ ap (λ (near : List ℕ). pos (name near) ∷ clearanceNumbers A (shapeOf near)) (next e);
+        }
+
+  pub still-end : (all : List (List ℕ)) (best : Near) → Still A all best [] → nearNumbers best ≡ nearestNumbers A all
+  still-end all Near.Nobody b = sym (ap (nearestNumbers A) b)
+  still-end all (Near.Of n t) b =
+      ap₂ (λ (m : ℕ) (l : List ℤ). pos m ∷ l) (sym (b .name-is)) (b .spacing-is) ∙ sym (b .still)
+
+-- ---- at a place of a log
+
+-- the numbers of the record at a place, where its head says, are a shape that a buffer for any shape holds
+module _ {b : List ℕ} {p : ℕ} (sound : Sound b p) {h : Head} (st : Stated b p h) where
+  pub here-numbers : Valid (wordsAt (h .count) b (h .place))
+  here-numbers = subst Valid (st .list-is) (here-valid sound)
+
+  pub count-fits : h .count ≤ 2 * maxCorners
+  count-fits =
+      let l = wordsAt (h .count) b (h .place) in
+      omega (arith, here-numbers .few, points-length l, wordsAt-length b (h .count) (h .place), st .paired)
+
+module _ {b : List ℕ} {p : ℕ} (sound : Sound b p) {h : Head} (st : Stated b p h) (f but : ℕ) where
+  abbrev here : List ℕ
+  here = recordAt b p
+
+  abbrev later : List (List ℕ)
+  later = records (drop (nextAt b p) b)
+
+  asked-is : isAround f but here ≡ (eqb (h .floor) f && not (eqb (h .name) but))
+  unfolding isAround isOther
+  asked-is = ap₂ (λ (g n : ℕ). eqb g f && not (eqb n but)) (st .floor-is) (st .name-is)
+
+  -- the records around from here on, by what they are from the next place on
+  around-at : {ss : List (List ℕ)} → around f but (here ∷ later) ≡ ss → around f but (records (drop p b)) ≡ ss
+  around-at e = ap (around f but) (records-step b p (sound .here)) ∙ e
+
+  module _ (A : List Point) (best : Near) where
+    same : around f but (here ∷ later) ≡ around f but later → Onward A f but b p best best
+    same e all x = subst (Still A all best) (around-at e) x
+
+    pub onward-other : (eqb (h .floor) f && not (eqb (h .name) but)) ≡ false → Onward A f but b p best best
+    onward-other e = same (around-other f but here later (asked-is ∙ e))
+
+    pub onward-held : held (name here) later ≡ true → Onward A f but b p best best
+    onward-held e = same (around-held f but here later e)
+
+    pub onward-kept : IsShape A → (eqb (h .floor) f && not (eqb (h .name) but)) ≡ true → held (name here) later ≡ false → (u : Spacing)
+        → spacingNumbers u ≡ clearanceNumbers A (points (wordsAt (h .count) b (h .place)))
+        → Onward A f but b p best (keptOf best (h .name) u)
+    onward-kept s asked first u spaced all x =
+        still-kept A s all (around f but later) here (h .name) u (good-whole here (here-good sound))
+        (around-whole f but later (later-good sound)) (st .name-is)
+        (spaced ∙ ap (λ l. clearanceNumbers A (points l)) (sym (st .list-is))) best
+        (subst (Still A all best) (around-at (around-here f but here later first (asked-is ∙ asked))) x)
+
+-- ---- the loop
+
+pub record Searched (A : List Point) (f but : ℕ) (b : List ℕ) (p : ℕ) (best : Near) : Type 0 where
+  pub inside : p ≤ length b
+  pub good : damaged (records (drop p b)) ≡ false
+  pub still : Still A (around f but (records b)) best (around f but (records (drop p b)))
+
+pub searched-start : (A : List Point) (f but : ℕ) (b : List ℕ) → damaged (records b) ≡ false → Searched A f but b 0 Near.Nobody
+searched-start A f but b g = record { inside = omega arith; good = g; still = refl }
+
+module _ {A : List Point} {f but : ℕ} {b : List ℕ} {p : ℕ} {best : Near} (x : Searched A f but b p best) where
+  pub searched-sized : IsShape A → NearSized best
+  searched-sized s = still-sized A s (around f but (records b)) (around f but (records (drop p b))) best (x .still)
+
+  pub searched-sound : whole (drop p b) ≡ true → Sound b p
+  searched-sound w = record { here = w; good = x .good }
+
+  pub searched-next : whole (drop p b) ≡ true → {r : Near} → Onward A f but b p best r → Searched A f but b (nextAt b p) r
+  searched-next w on = record {
+    inside = next-inside b p w;
+    good = later-good (searched-sound w);
+    still = on (around f but (records b)) (x .still);
+  }
+
+  pub searched-end : IsShape A → whole (drop p b) ≡ false → nearNumbers best ≡ nearestNumbers A (around f but (records b))
+  unfolding around
+  searched-end s w = still-end A s (around f but (records b)) best
+      (subst (Still A (around f but (records b)) best) (ap (around f but) (records-end b p w)) (x .still))

@@ -1,0 +1,117 @@
+// The nearest current shape of a floor. Inner functions; callers ask the crate `questions`.
+pub mod spacing;
+
+ghost use mathlib.Core.Bool.{false, not, _&&_};
+ghost use mathlib.Core.Path.{_≡_};
+ghost use Prim.Native.Nat.{_*_};
+ghost use lib.Dec.{eqb};
+ghost use lib.ListN.{length};
+ghost use Rattle.plane.specs.Limits.{maxCorners};
+ghost use Rattle.plane.specs.Point.{points};
+ghost use Rattle.plane.specs.Refusal.{Valid};
+ghost use Rattle.journal.specs.Format.{records};
+ghost use Rattle.journal.specs.Reading.{damaged};
+ghost use Rattle.journal.specs.Current.{around};
+ghost use Rattle.journal.specs.Survey.{Sound};
+ghost use Rattle.neighbours.specs.Nearest.{nearestNumbers};
+ghost use Rattle.neighbours.specs.Spacing.{Sized};
+ghost use Rattle.neighbours.specs.Search.{nearNumbers, keptOf, NearSized, Onward};
+use journal::current;
+use journal::head;
+use journal::head::Head;
+use journal::records;
+use polygon::limits;
+use spacing::Spacing;
+
+// The name of a shape and how far it is; or no shape.
+pub enum Near {
+    Nobody,
+    Of { name: u16, spacing: Spacing },
+}
+
+// Returns the nearest to a shape of the current shapes on a floor, the name `but` left out: the first in the log on a
+// tie. No record of the log is bad.
+// Ruled out: later shape on a tie; the excepted name answered.
+pub fn nearest(log: &[u8], list: &[i32], floor: u16, but: usize) -> Near
+    requires { ⌜ (damaged (records (now log)) ≡ false) × Valid (now list) ⌝ }
+    ensures { λ r. ⌜ nearNumbers r
+        ≡ nearestNumbers (points (now (list .entry))) (around floor but (records (now (log .entry)))) ⌝ }
+{
+    let mut buffer = [0i32; limits::SHAPE_NUMBERS];
+    pass(log, list, floor, but, &mut buffer)
+}
+
+// The same, with a buffer that holds the numbers of any shape.
+fn pass(log: &[u8], list: &[i32], floor: u16, but: usize, buffer: &mut [i32]) -> Near
+    requires { ⌜ (damaged (records (now log)) ≡ false) × Valid (now list) × (length (now buffer) ≡ 2 * maxCorners) ⌝ }
+    ensures { λ r. ⌜ nearNumbers r
+        ≡ nearestNumbers (points (now (list .entry))) (around floor but (records (now (log .entry)))) ⌝ }
+{
+    let mut best = Near::Nobody;
+    let mut p = 0;
+    while records::whole_at(log, p) {
+        best = look(log, p, list, floor, but, best, buffer);
+        p += 2 + endian::pair_at(log, p);
+    }
+    best
+}
+
+// Returns what is found once the record at a place is looked at.
+fn look(
+    log: &[u8],
+    p: usize,
+    list: &[i32],
+    floor: u16,
+    but: usize,
+    best: Near,
+    buffer: &mut [i32],
+) -> Near
+    requires { ⌜ Sound (now log) p × Valid (now list) × NearSized best × (length (now buffer) ≡ 2 * maxCorners) ⌝ }
+    ensures { λ r. ⌜ Onward (points (now (list .entry))) floor but (now (log .entry)) p best r
+        × (length (now (buffer .exit)) ≡ 2 * maxCorners) ⌝ }
+{
+    let head = head::head_at(log, p);
+    if !is_asked(head, floor, but) {
+        return best;
+    }
+    if !current::is_current(log, p) {
+        return best;
+    }
+    endian::decode(log, head.place, head.count, buffer);
+    kept(
+        best,
+        head.name,
+        spacing::between(list, &buffer[..head.count]),
+    )
+}
+
+// Returns whether a record is on the floor and has another name than `but`.
+fn is_asked(head: Head, floor: u16, but: usize) -> bool
+    ensures { λ r. ⌜ r ≡ (eqb (head .floor) floor && not (eqb (head .name) but)) ⌝ }
+{
+    if head.floor != floor {
+        return false;
+    }
+    head.name as usize != but
+}
+
+// Returns the nearer of what was found and another shape. On a tie the first stays.
+fn kept(best: Near, name: u16, spacing: Spacing) -> Near
+    requires { ⌜ NearSized best × Sized spacing ⌝ }
+    ensures { λ r. ⌜ r ≡ keptOf best name spacing ⌝ }
+{
+    let Near::Of {
+        name: first,
+        spacing: held,
+    } = best
+    else {
+        return Near::Of { name, spacing };
+    };
+    if spacing::is_less(spacing, held) {
+        return Near::Of { name, spacing };
+    }
+    Near::Of {
+        name: first,
+        spacing: held,
+    }
+}

@@ -1,0 +1,36 @@
+-- `log_pack` meets its contract: a record is bad, or the log is packed.
+use mathlib.Core.Path.{sym, _∙_}
+use borrow.Author.Needs.{needs}
+use Rattle.journal.specs.theory.Survey.{surveyed-ends}
+use Rattle.questions.specs.theory.Packing.{pack-damaged}
+use Rattle.questions.proofs.books.log_pack.Statement.{statement}
+use Rattle.questions.proofs.books.log_pack.Tie as tie
+
+survey-requires : tie.Need-survey-requires
+survey-requires c κs = search needs
+
+enum-known-place : tie.Need-enum-known-place
+enum-known-place c = search needs
+
+enum-told : tie.Need-enum-told
+enum-told c = search needs
+
+pack-sound-requires : tie.Need-pack-sound-requires
+pack-sound-requires c κs =
+    let at-end = c .before in
+    surveyed-ends _ (at-end .enum-told .given .0 .0) (sym (at-end .before .before .survey .ensures) ∙ at-end .enum-told .given .1) .0
+
+returns : tie.Need-returns
+returns c =
+    let at-place = c .before in
+    pack-damaged _ _ _ _ _ (sym (at-place .before .before .survey .ensures) ∙ at-place .place .given .1)
+
+same-length : tie.Need-same-length
+same-length c = search needs
+
+returns-2 : tie.Need-returns-2
+returns-2 c = search needs
+
+pub log-pack-spec : {M : Type 1} → statement M
+log-pack-spec =
+    tie.close (tie.spec survey-requires enum-known-place enum-told pack-sound-requires returns same-length returns-2)

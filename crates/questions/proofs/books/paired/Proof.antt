@@ -1,0 +1,35 @@
+-- `paired` meets its contract: the shapes meet, or are apart.
+use mathlib.Core.Path.{sym, _∙_, ap}
+use mathlib.Core.List.{[], _∷_, _++_}
+use borrow.Author.Needs.{needs}
+use lib.IntN.{pos}
+use Rattle.plane.specs.Reply.{answered}
+use Rattle.neighbours.specs.Spacing.{spacingNumbers}
+use Rattle.neighbours.specs.declared.spacing.Spacing.{Spacing}
+use Rattle.questions.proofs.books.paired.Statement.{statement}
+use Rattle.questions.proofs.books.paired.Tie as tie
+
+enum-told : tie.Need-enum-told
+enum-told c = search needs
+
+enum-known-spacing : tie.Need-enum-known-spacing
+enum-known-spacing c = search needs
+
+spaced-requires : tie.Need-spaced-requires
+spaced-requires c κs = search needs
+
+returns : tie.Need-returns
+returns c =
+    let args = c .before .before .args in
+    ap (λ (w : Spacing). answered (pos (args .name) ∷ pos (args .other) ∷ spacingNumbers w ++ (pos (args .floor) ∷ [])))
+    (sym (c .enum-told .given .1))
+
+returns-2 : tie.Need-returns-2
+returns-2 c =
+    let args = c .before .before .before .before .args in
+    c .spaced .ensures
+    ∙ ap (λ (w : Spacing). answered (pos (args .name) ∷ pos (args .other) ∷ spacingNumbers w ++ (pos (args .floor) ∷ [])))
+    (sym (c .before .before .spacing .given .1))
+
+pub paired-spec : {M : Type 1} → statement M
+paired-spec = tie.close (tie.spec enum-told enum-known-spacing spaced-requires returns returns-2)

@@ -1,0 +1,45 @@
+-- `placed` meets its contract, a case for each kind.
+use mathlib.Core.Path.{sym, ap}
+use mathlib.Core.List.{[], _∷_, _++_}
+use borrow.Author.Needs.{needs}
+use lib.IntN.{pos}
+use Rattle.plane.specs.Reply.{answered}
+use Rattle.clearance.specs.Answer.{valuesOf}
+use Rattle.clearance.specs.declared.measured.Distance.{Distance}
+use Rattle.questions.proofs.books.placed.Statement.{statement}
+use Rattle.questions.proofs.books.placed.Tie as tie
+
+enum-known-distance : tie.Need-enum-known-distance
+enum-known-distance c = search needs
+
+enum-known-distance-2 : tie.Need-enum-known-distance-2
+enum-known-distance-2 c = search needs
+
+enum-known-distance-3 : tie.Need-enum-known-distance-3
+enum-known-distance-3 c = search needs
+
+returns : tie.Need-returns
+returns c =
+    let args = c .before .before .before .args in
+    ap (λ (d : Distance). answered (pos (args .name) ∷ valuesOf d ++ (pos (args .floor) ∷ []))) (sym (c .before .distance .given .1))
+
+returns-2 : tie.Need-returns-2
+returns-2 c =
+    let args = c .before .before .before .args in
+    ap (λ (d : Distance). answered (pos (args .name) ∷ valuesOf d ++ (pos (args .floor) ∷ []))) (sym (c .before .distance2 .given .1))
+
+returns-3 : tie.Need-returns-3
+returns-3 c =
+    let args = c .before .before .before .args in
+    ap (λ (d : Distance). answered (pos (args .name) ∷ valuesOf d ++ (pos (args .floor) ∷ []))) (sym (c .before .distance3 .given .1))
+
+pub placed-spec : {M : Type 1} → statement M
+placed-spec =
+    tie.close
+    (tie.spec
+    enum-known-distance
+    enum-known-distance-2
+    enum-known-distance-3
+    returns
+    returns-2
+    returns-3)
