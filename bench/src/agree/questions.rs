@@ -5,8 +5,8 @@ use super::{Lent, on};
 use crate::plain;
 use crate::reply::Numbers;
 use cocklesway::{
-    Walk, area, clearance, excess, find, furthest, inside, judge, length, offer, passage, relation,
-    tangents, width,
+    Walk, area, clearance, contact, excess, find, furthest, inside, judge, length, offer, passage,
+    relation, tangents, width,
 };
 
 /// A question of two shapes.
@@ -74,8 +74,33 @@ pub fn ask_two(tally: &mut Tally, a: Lent, b: Lent) -> Result<(), String> {
         let by_hand = plain::passage(a.0, a.1, b.0, b.1, cart.0, cart.1);
         let by_proof = Numbers::of(passage(on(a), on(b), on(cart)));
         tally.add("passage", [a, b, cart], by_hand, by_proof)?;
+        for way in ways(a.0, b.0) {
+            ask_contact(tally, a, cart, way)?;
+        }
     }
     ask_directions(tally, a, b)
+}
+
+/// From a corner of the second list to one of the first, and along the second.
+fn ways(a: &[i32], b: &[i32]) -> [[[i32; 2]; 2]; 2] {
+    let corner = |list: &[i32], k: usize| match list.as_chunks().0.get(k) {
+        Some(corner) => *corner,
+        None => [0, 0],
+    };
+    let [start, middle] = [0, b.len() / 4].map(|k| corner(b, k));
+    [[start, corner(a, a.len() / 4)], [start, middle]]
+}
+
+fn ask_contact(
+    tally: &mut Tally,
+    obstacle: Lent,
+    cart: Lent,
+    way: [[i32; 2]; 2],
+) -> Result<(), String> {
+    let [from, to] = way;
+    let by_hand = plain::contact(obstacle.0, obstacle.1, cart.0, cart.1, from, to);
+    let by_proof = Numbers::of(contact(on(obstacle), on(cart), from, to));
+    tally.add("contact", (obstacle, cart, way), by_hand, by_proof)
 }
 
 /// Directions of two shapes: which is found is left open, so each is offered.
