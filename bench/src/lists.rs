@@ -18,7 +18,7 @@ pub fn shape(random: &mut Random) -> List {
         12 => some(random, 1, 1_000_000, 0, 0),
         13 => sized(random, 3, 40, x, y),
         14 => sized(random, 40, 300, x, y),
-        _ => sized(random, MOST as i32 - 22, MOST as i32 + 3, 0, 0),
+        _ => sized(random, MOST as i32 - 8, MOST as i32 + 2, 0, 0),
     }
 }
 

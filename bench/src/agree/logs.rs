@@ -62,9 +62,10 @@ fn ask_nearest(
     Ok(())
 }
 
-/// Asks for the narrowest gap, of small carts and of a shape.
+/// Asks for the narrowest gap, of a cart that may be far from its origin, of a small one, and of a shape.
 fn ask_gap(tally: &mut Tally, random: &mut Random, log: &[u8], shape: Lent) -> Result<(), String> {
-    let point = [random.between(-9, 9), random.between(-9, 9)];
+    let reach = [9, 900_000][random.below(2) as usize];
+    let point = [0; 2].map(|_: i32| random.between(-reach, reach));
     for cart in [(&point[..], shape.1), (&[0, 0, 3, 1, 1, 2], shape.1), shape] {
         let by_hand = plain::log_gap(log, cart.0, cart.1);
         let by_proof = Numbers::of(log_gap(log, on(cart)));

@@ -74,11 +74,21 @@ pub fn ask_two(tally: &mut Tally, a: Lent, b: Lent) -> Result<(), String> {
         let by_hand = plain::passage(a.0, a.1, b.0, b.1, cart.0, cart.1);
         let by_proof = Numbers::of(passage(on(a), on(b), on(cart)));
         tally.add("passage", [a, b, cart], by_hand, by_proof)?;
-        for way in ways(a.0, b.0) {
-            ask_contact(tally, a, cart, way)?;
-        }
     }
     ask_directions(tally, a, b)
+}
+
+/// Drives of small carts and of the second shape up to the first one.
+pub fn ask_drives(tally: &mut Tally, a: Lent, b: Lent) -> Result<(), String> {
+    for cart in [(&[1, -1][..], a.1), (&[0, 0, 3, 1, 1, 2], a.1), b] {
+        for way in ways(a.0, b.0) {
+            let [from, to] = way;
+            let by_hand = plain::contact(a.0, a.1, cart.0, cart.1, from, to);
+            let by_proof = Numbers::of(contact(on(a), on(cart), from, to));
+            tally.add("contact", (a, cart, way), by_hand, by_proof)?;
+        }
+    }
+    Ok(())
 }
 
 /// From a corner of the second list to one of the first, and along the second.
@@ -89,18 +99,6 @@ fn ways(a: &[i32], b: &[i32]) -> [[[i32; 2]; 2]; 2] {
     };
     let [start, middle] = [0, b.len() / 4].map(|k| corner(b, k));
     [[start, corner(a, a.len() / 4)], [start, middle]]
-}
-
-fn ask_contact(
-    tally: &mut Tally,
-    obstacle: Lent,
-    cart: Lent,
-    way: [[i32; 2]; 2],
-) -> Result<(), String> {
-    let [from, to] = way;
-    let by_hand = plain::contact(obstacle.0, obstacle.1, cart.0, cart.1, from, to);
-    let by_proof = Numbers::of(contact(on(obstacle), on(cart), from, to));
-    tally.add("contact", (obstacle, cart, way), by_hand, by_proof)
 }
 
 /// Directions of two shapes: which is found is left open, so each is offered.

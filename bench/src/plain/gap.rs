@@ -1,5 +1,5 @@
-//! The narrowest gap of a floor: all its shapes are grown once, and a pair is walked if its boxes are nearer than what was
-//! found.
+//! The narrowest gap of a floor: all its shapes are grown once, and a pair is walked if its boxes are nearer than what
+//! was found.
 use super::clearance::{between_shapes, distance};
 use super::corner::Corner;
 use super::extent::{apart, extent};
