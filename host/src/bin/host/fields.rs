@@ -126,11 +126,8 @@ impl Fields {
         name.try_into().map_err(|_| Unreadable::NotAName)
     }
 
-    /// A name, or nobody's: no number, or the field was left out.
+    /// A name, or nobody's.
     pub fn but(&mut self) -> Result<Option<u16>, Unreadable> {
-        if self.0.as_slice().is_empty() {
-            return Ok(None);
-        }
         let numbers = self.list().numbers;
         let [name] = numbers[..] else {
             return numbers
