@@ -9,7 +9,9 @@ use crate::make::{line, long, shape_text};
 use crate::plane::Shape;
 use std::io::{self, Write};
 
+mod around;
 mod changes;
+mod driving;
 mod floors;
 mod growing;
 mod log;
@@ -45,7 +47,7 @@ const STARRED: &[Stated] = &[
         ("area | @7 0 0 1 0 0 1", "ok 1 @7"),
         ("area | 5 -5", "ok 0 @0"),
         ("area | 0 0 8 3", "ok 0 @0"),
-        ("area | 0 0 0 1 1 0", "no 4 1 0 2"),
+        ("area | 0 0 0 1 1 0", "no 4 shape 1 edge 0 corner 2"),
         ("area | -1000000 -1000000 1000000 -1000000 1000000 1000000 -1000000 1000000", "ok 8000000000000 @0"),
     ]),
     ("* Width", &[
@@ -302,6 +304,8 @@ pub fn groups() -> Vec<Group> {
     groups.extend(spelled(growing::GROWING));
     groups.extend(spelled(passing::PASSING));
     groups.extend(spelled(changes::CHANGES));
+    groups.extend(spelled(driving::DRIVING));
+    groups.extend(spelled(around::AROUND));
     groups
 }
 

@@ -148,7 +148,8 @@ fn with_spot(dice: &mut Dice) -> (Shape, Shape) {
     (a, hull_of(spots))
 }
 
-fn spot(dice: &mut Dice, shape: &[Point]) -> Point {
+/// A corner, a point of an edge or of its line, or one near or across.
+pub fn spot(dice: &mut Dice, shape: &[Point]) -> Point {
     let at = dice.below(shape.len());
     let (a, b) = crate::plane::edge_ends(shape, at);
     let between = b - a;
