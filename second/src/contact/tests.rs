@@ -89,5 +89,5 @@ fn products_have_all_their_bits() {
     let (a, b) = (0x1234_5678_9ABC_DEF0_u128, 0xFEDC_BA98_7654_3210_u128);
     assert_eq!(product(a, b), (0, a * b));
     let (high, low) = product(a << 60, b << 60);
-    assert_eq!((high, low), (a * b >> 8, (a * b) << 120));
+    assert_eq!((high, low), ((a * b) >> 8, (a * b) << 120));
 }

@@ -158,7 +158,7 @@ fn with_room(dice: &mut Dice) -> (Shape, Vec<Shape>) {
 
 /// A shape that has, grown, about as many corners as a shape may have, or ends about where the range does.
 fn large(dice: &mut Dice) -> (Shape, Vec<Shape>) {
-    let (shape, image) = pairs::for_sum(dice);
+    let (shape, image) = pairs::for_large_sum(dice);
     let mut others = vec![shapes::small(dice), shape];
     if dice.one_in(2) {
         others.reverse();

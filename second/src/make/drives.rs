@@ -15,7 +15,8 @@ use crate::refusal::MOST_COORDINATE;
 
 pub fn contact(dice: &mut Dice) -> Vec<String> {
     let (obstacle, image) = match dice.below(12) {
-        0..2 => pairs::for_sum(dice),
+        0 => pairs::for_large_sum(dice),
+        1 => pairs::for_sum(dice),
         2 => (shapes::any(dice), shapes::mostly_small(dice)),
         3..6 => (shapes::mostly_small(dice), shapes::small(dice)),
         6 => (shapes::small(dice), vec![point(0, 0)]),
@@ -40,7 +41,7 @@ fn drive(dice: &mut Dice, grown: &Shape) -> (Point, Point) {
         5..9 => beside_an_edge(dice, grown),
         _ => through(dice, grown),
     };
-    let (from, to) = if dice.one_in(4) {
+    let (from, to) = if dice.one_in(3) {
         (to, from)
     } else {
         (from, to)
