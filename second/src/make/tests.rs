@@ -97,8 +97,8 @@ fn every_sort_of_answer_comes_up_often() {
         *seen.entry(sort_of(line, &answer(line))).or_default() += 1;
     }
     let often = "no 1,no 2,no 3,no 4,no 5,no 6,no 7,no 8,no 9,no 10,no 11,no 12,no 13,no 14,no 15,no 16,no 17,no 18,\
-                 no 19,no 20,judge ok,furthest ok,mirror ok,sum ok,parts ok,part ok,merge ok,grow ok,sweep ok,length ok,\
-                 area ok,width ok,relation apart,relation touching,\
+                 no 19,no 20,judge ok,furthest ok,mirror ok,sum ok,parts ok,part ok,merge ok,grow ok,sweep ok,\
+                 length ok,area ok,width ok,relation apart,relation touching,\
                  relation overlapping,inside yes,inside no,offer yes,offer no,find ok,find none,\
                  clearance ok,clearance cc,clearance ce,clearance ec,\
                  excess inside,excess cc,excess ce,tangents ok,passage ok,passage blocked,\
