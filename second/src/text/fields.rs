@@ -40,6 +40,8 @@ pub enum Field {
     Calls,
     /// A name that is left out; nothing if nobody is.
     But,
+    /// A position, which is a count.
+    Position,
 }
 
 #[derive(Clone, Debug, PartialEq, Eq)]
@@ -58,6 +60,7 @@ pub enum Value {
     Floor(u32),
     Output(usize),
     But(Option<u16>),
+    Position(usize),
 }
 
 impl Field {
@@ -74,6 +77,7 @@ impl Field {
             Field::Log => bytes(text).map(Value::Log).ok_or(Unreadable::NotBytes),
             Field::Name => name(&numbers.read(text)?).map(Value::Name),
             Field::But => but(&numbers.read(text)?).map(Value::But),
+            Field::Position => count(&numbers.read(text)?).map(Value::Position),
             Field::Stores => count(&numbers.read(text)?).map(Value::Stores),
             Field::Walk => walk(&numbers.read(text)?),
             Field::Call => call(&numbers.read(text)?).map(|call| Value::Calls(vec![call])),
