@@ -31,13 +31,18 @@ pub fn list(words: &[Word<'_>], unsaid: Option<u16>) -> Result<Given, Unread> {
     })
 }
 
-/// A floor, with its sign.
-fn floor(word: &Word<'_>) -> Result<u16, Unread> {
-    let digits = word.text.strip_prefix('@').unwrap_or_default();
-    let all_digits = !digits.is_empty() && digits.bytes().all(|byte| byte.is_ascii_digit());
-    let number = digits.parse().ok().filter(|_| all_digits);
+/// Reads a floor: its sign, and a number from 0 to 65,535 as corners are written, so `@-0` is floor 0.
+///
+/// # Errors
+/// It is none.
+pub fn floor(word: &Word<'_>) -> Result<u16, Unread> {
+    let text = word.text.strip_prefix('@').unwrap_or_default();
+    let line = word.line;
+    let floor = number(&Word { text, line }).ok();
     let found = || word.text.to_string();
-    number.ok_or_else(|| Unread::at(word, Fault::NotAFloor { found: found() }))
+    floor
+        .and_then(|floor| floor.try_into().ok())
+        .ok_or_else(|| Unread::at(word, Fault::NotAFloor { found: found() }))
 }
 
 /// Reads a whole number of 32 bits, with a minus or without.
