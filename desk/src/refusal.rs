@@ -95,7 +95,7 @@ fn far(shape: &Given, noun: &str) -> String {
         shape
             .corners()
             .iter()
-            .find(|corner| is_far(corner))
+            .find(|corner| is_far(**corner))
             .copied()
             .unwrap_or_default(),
     );
@@ -104,7 +104,7 @@ fn far(shape: &Given, noun: &str) -> String {
 
 /// The place of departure, or the destination if only that is out of range.
 fn far_place(drive: &Drive) -> String {
-    let place = if is_far(&drive.from) {
+    let place = if is_far(drive.from) {
         drive.from
     } else {
         drive.to
@@ -113,7 +113,7 @@ fn far_place(drive: &Drive) -> String {
 }
 
 /// Whether a coordinate is out of range.
-fn is_far(corner: &[i32; 2]) -> bool {
+fn is_far(corner: [i32; 2]) -> bool {
     corner
         .iter()
         .any(|part| part.unsigned_abs() > limits().coordinate)

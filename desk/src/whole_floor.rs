@@ -76,27 +76,15 @@ pub fn too_few(question: &Question) -> Option<String> {
 #[must_use]
 pub fn refused_when_grown(asked: &Narrowest, refusal: Refusal) -> Option<(u16, Pair)> {
     let mut out = vec![[0; 2]; cocklesway::limits().corners];
-    let records = (0..).map_while(|at| {
-        let (name, shape) = cocklesway::log_entry(&asked.log, at, &mut out).ok()?;
-        Some((
-            name,
-            shape.corners.as_flattened().into(),
-            shape.floor.try_into().ok(),
-        ))
-    });
-    let pairs = records.map(|(name, numbers, floor)| {
+    let pairs = (0..).map_while(|position| {
+        let (name, shape) = cocklesway::log_entry(&asked.log, position, &mut out).ok()?;
         let a = Given {
             name: None,
-            numbers,
-            floor,
+            numbers: shape.corners.as_flattened().into(),
+            floor: shape.floor.try_into().ok(),
         };
-        (
-            name,
-            Pair {
-                a,
-                b: asked.cart.clone(),
-            },
-        )
+        let b = asked.cart.clone();
+        Some((name, Pair { a, b }))
     });
     let is_refused = |(_, pair): &(u16, Pair)| {
         pair.a.floor == pair.b.floor && shape_of(&Making::Grow(pair.clone()), None) == Err(refusal)
