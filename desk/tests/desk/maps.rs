@@ -50,7 +50,8 @@ fn an_outline_is_asked_on_any_floor_of_a_log() {
             "-:5: refused (20): the log has no shape on floor 0",
         ],
         &[
-            "cocklesway: -:6: `store` is not a number; a name must be alone in its field, and it brings its floor along",
+            "cocklesway: -:6: `store` is not a number; a name must be alone in its field, \
+             and it brings its floor along",
         ],
     );
 }
