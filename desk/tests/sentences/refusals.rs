@@ -45,16 +45,19 @@ pub fn of_refusal(case: &Case, said: &str) -> Result<Vec<i128>, String> {
         }
         14 => [case.numbers_of_field(2), both()].concat(),
         15 => vec![after("place").expect("a place") as i128],
-        16 => {
-            let digits = case.fields[0].bytes().filter(u8::is_ascii_hexdigit).count();
-            [vec![digits as i128 / 2], case.label(0)].concat()
-        }
+        16 if case.word == "pack" => vec![bytes_of(&case.fields[1])],
+        16 => [vec![bytes_of(&case.fields[0])], case.label(0)].concat(),
         19 => case.numbers_of_field(1),
         20 => too_few(case),
         other => return Err(format!("refusal {other} is not known")),
     };
     needs(said, &format!("refused ({number}): "))?;
     Ok([vec![number], reason].concat())
+}
+
+/// How many bytes a field holds, as pairs of hexadecimal digits.
+fn bytes_of(field: &str) -> i128 {
+    field.bytes().filter(u8::is_ascii_hexdigit).count() as i128 / 2
 }
 
 /// A point or a segment, which has no width.
