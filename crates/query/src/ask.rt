@@ -138,8 +138,7 @@ fn told(
     }
 }
 
-// Asks the library about a log. The position of an entry is a count, as a room is; if it is left out, it is past the
-// end of every log.
+// Asks the library about a log.
 fn of_log(
     question: Question,
     line: &[u8],
@@ -155,7 +154,7 @@ fn of_log(
     match question {
         Question::LogRead => reply::of_answer(questions::log_read(log, name(b), out)),
         Question::LogAdd => reply::of_addition(questions::log_add(log, name(b), h, c, room(d))),
-        Question::LogEntry => reply::of_entry(books::log_entry(log, room(b), out)),
+        Question::LogEntry => reply::of_entry(books::log_entry(log, fields::count(b, 0), out)),
         Question::LogNearest => {
             let near = books::log_nearest(log, b, g, fields::but(c) as usize);
             reply::of_nearest(near)

@@ -69,7 +69,7 @@ const LOG_READ: u64 = NAMED + 256 * fields::ROOM;
 
 const LOG_ADDED: u64 = NAMED + 256 * fields::SHAPE + 4096 * fields::ROOM;
 
-const LOG_LISTED: u64 = fields::BYTES + 16 * fields::ROOM + 256 * fields::ROOM;
+const LOG_LISTED: u64 = fields::BYTES + 16 * fields::POSITION + 256 * fields::ROOM;
 
 const LOG_AROUND: u64 = fields::BYTES + 16 * fields::SHAPE;
 
