@@ -57,6 +57,9 @@ pub const CALLS: u64 = 9;
 // A name that is left out, one number from 0 to 65,535; nothing if nobody is.
 pub const BUT: u64 = 10;
 
+// A position: one number, not below 0, which may not be left out.
+pub const POSITION: u64 = 11;
+
 // The kinds of a word that is not known.
 pub const UNKNOWN: u64 = u64::MAX;
 
@@ -175,6 +178,7 @@ fn fit(kind: u64, field: &[i32]) -> Reason {
         WALK => of_walk(field),
         CALL => of_counts(field, 2, i32::MAX, Reason::NotACount),
         BUT => of_but(field),
+        POSITION => of_counts(field, 1, i32::MAX, Reason::NotACount),
         _ => Reason::Nothing,
     }
 }
