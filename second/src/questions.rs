@@ -6,7 +6,7 @@ use crate::make::dice::Dice;
 use crate::make::fields as make;
 use crate::make::{around, drives, host, logs, parts, readings};
 use crate::text::fields::Field::{
-    self, But, Bytes, Call, Calls, Direction, Floor, Log, Name, Output, Position, Reading, Room,
+    self, But, Bytes, Call, Calls, Direction, Excepted, Floor, Log, Name, Output, Position, Reading, Room,
     Shape, Stores, Walk,
 };
 use crate::text::given::Given;
@@ -47,7 +47,7 @@ pub const TABLE: &[Row] = &[
     Row { word: "bookadd", fields: &[Log, Name, Shape, Stores], ask: ask::log_add, make: logs::to_add },
     Row { word: "pack", fields: &[Bytes, Bytes, But, Stores], ask: ask::log_pack, make: logs::to_pack },
     Row { word: "entry", fields: &[Log, Position, Room], ask: ask::entry, make: around::entry },
-    Row { word: "nearest", fields: &[Log, Shape, But], ask: ask::nearest, make: around::nearest },
+    Row { word: "nearest", fields: &[Log, Shape, Excepted], ask: ask::nearest, make: around::nearest },
     Row { word: "gap", fields: &[Log, Shape], ask: ask::gap, make: around::gap },
 ];
 

@@ -31,8 +31,8 @@ use Rattle.journal.specs.History.{isFinished}
 use Rattle.journal.specs.Current.{keep, isOther}
 use Rattle.neighbours.specs.Settled.{FirstLeast, IsNearest}
 use Rattle.gaps.specs.Gap.{Pair, thePair, grownOf, pairsOf, gapOf, noWider, narrowest, onFloor, sizeRowsOf, gapNumbers, askGap}
-use Rattle.gaps.specs.theory.Pairs.{floor-first, none-nearer, earlier-further, floor-apart, floor-passes, floor-in, plain-shape, drive-clear}
-use Rattle.gaps.specs.theory.Pairs.{floor-drive}
+use Rattle.gaps.specs.theory.Pairs.{floor-first, none-nearer, earlier-further, floor-apart, floor-passes, floor-in, plain-shape}
+use Rattle.gaps.specs.theory.Pairs.{drive-clear, floor-drive}
 use Rattle.gaps.specs.theory.Additions.{unfinished-gap, elsewhere-gap}
 use Rattle.gaps.specs.theory.Replies.{gap-found}
 

@@ -73,7 +73,7 @@ const LOG_LISTED: u64 = fields::BYTES + 16 * fields::POSITION + 256 * fields::RO
 
 const LOG_AROUND: u64 = fields::BYTES + 16 * fields::SHAPE;
 
-const LOG_NEAREST: u64 = LOG_AROUND + 256 * fields::BUT;
+const LOG_NEAREST: u64 = LOG_AROUND + 256 * fields::EXCEPTED;
 
 const LOG_PACKED: u64 = fields::BYTES
     + 16 * fields::BYTES

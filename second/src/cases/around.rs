@@ -72,7 +72,7 @@ pub const AROUND: &[Stated] = &[
         ("nearest | | 0 0 | 65536", "unreadable: not a name"),
         ("nearest | | 0 0 | 1 2", "unreadable: wrong count of numbers"),
         ("nearest | | @65536 0 0 | ", "unreadable: not a floor"),
-        ("nearest | | 0 0", "unreadable: missing field"),
+        ("nearest | | 0 0", "no 20"),
     ]),
     ("Ours: the narrowest gap between three posts, as they are and grown by a cart of 1 mm, 3 mm and 10 mm", &[
         ("gap | 0D000100070000000000000000005A0D00010008000A000000000000005A0D00010009000D000000000000005A \

@@ -148,7 +148,7 @@ impl Given {
             Value::But(name) => Some(*name),
             _ => None,
         });
-        found.expect("the row has a name to leave out, or nobody's")
+        found.flatten()
     }
 
     /// The most stores of an addition or a packing; any number if the line names none.

@@ -47,7 +47,7 @@ pub const TABLE: &[Row] = &[
     Row { word: "bookadd", fields: &[Bytes, Numbers, List, Optional], ask: book_add },
     Row { word: "pack", fields: &[Bytes, Bytes, Numbers, Optional], ask: pack },
     Row { word: "entry", fields: &[Bytes, Numbers, Optional], ask: entry },
-    Row { word: "nearest", fields: &[Bytes, List, Numbers], ask: nearest },
+    Row { word: "nearest", fields: &[Bytes, List, Optional], ask: nearest },
     Row { word: "gap", fields: &[Bytes, List], ask: gap },
     Row { word: "hjudge", fields: &[Bytes, Floor], ask: judge_bytes },
     Row { word: "hsum", fields: &[Bytes, Floor, Bytes, Floor, Output], ask: |f| bytes_written(f, bytes::sum) },

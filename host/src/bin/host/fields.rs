@@ -128,6 +128,9 @@ impl Fields {
 
     /// A name, or nobody's.
     pub fn but(&mut self) -> Result<Option<u16>, Unreadable> {
+        if self.0.as_slice().is_empty() {
+            return Ok(None);
+        }
         let numbers = self.list().numbers;
         let [name] = numbers[..] else {
             return numbers
