@@ -6,8 +6,8 @@ use crate::make::dice::Dice;
 use crate::make::fields as make;
 use crate::make::{around, drives, host, logs, parts, readings};
 use crate::text::fields::Field::{
-    self, But, Bytes, Call, Calls, Direction, Excepted, Floor, Log, Name, Output, Position, Reading, Room,
-    Shape, Stores, Walk,
+    self, But, Bytes, Call, Calls, Direction, Excepted, Floor, Log, Name, Output, Position,
+    Reading, Room, Shape, Stores, Walk,
 };
 use crate::text::given::Given;
 
