@@ -51,6 +51,8 @@ fn ask(tally: &mut Tally, random: &mut Random) -> Result<(), String> {
     questions::ask_one(tally, a)?;
     questions::ask_two(tally, a, b)?;
     questions::ask_two(tally, b, a)?;
+    questions::ask_drives(tally, a, b)?;
+    questions::ask_drives(tally, b, a)?;
     parts::ask(tally, random, a, b)?;
     for question in written::QUESTIONS {
         written::ask(tally, random, question, a, b)?;

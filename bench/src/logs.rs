@@ -6,6 +6,9 @@ use crate::shapes::bytes_of;
 /// Names are below it.
 pub const NAMES: u64 = 4;
 
+/// The floors that most records are on.
+pub const FLOORS: [u16; 2] = [0, 3];
+
 /// The most records.
 const RECORDS: u64 = 6;
 
@@ -21,7 +24,11 @@ pub fn log(random: &mut Random) -> Vec<u8> {
             _ => small(random),
         };
         let name = random.below(NAMES) as u16;
-        let floor = (random.below(2) == 0).then(|| random.bits() as u16);
+        let floor = match random.below(4) {
+            0 | 1 => None,
+            2 => Some(FLOORS[1]),
+            _ => Some(random.bits() as u16),
+        };
         log.extend(record(name, floor, &list));
     }
     if random.below(16) == 0 && !log.is_empty() {

@@ -134,6 +134,46 @@ pub fn stuck(random: &mut Random, n: usize, outline: Outline) -> Case {
     Case { cart, ..case }
 }
 
+/// An obstacle of n corners about the origin, and a cart of 8 that drives into it, in any direction.
+pub fn driving_in(random: &mut Random, n: usize, outline: Outline) -> Case {
+    let (x, y) = off(random, 700_000);
+    let to = [0; 2].map(|_: i32| random.between(-100_000, 100_000));
+    with_way(random, n, [[x, y], to], outline)
+}
+
+/// The same, but the cart drives past a corner of the box about the obstacle.
+pub fn driving_past(random: &mut Random, n: usize, outline: Outline) -> Case {
+    let (x, y) = off(random, 920_000);
+    with_way(random, n, [[x, y], [-y, x]], outline)
+}
+
+fn with_way(random: &mut Random, n: usize, way: [[i32; 2]; 2], outline: Outline) -> Case {
+    let case = with_cart(random, n, [0, 0], outline);
+    Case { way, ..case }
+}
+
+/// A shape of 8 corners, a log of n records of 8 corners each, under names of their own, and the middle one of them.
+pub fn stocked(random: &mut Random, n: usize, outline: Outline) -> Case {
+    let room = |random: &mut Random| {
+        let [x, y] = [0; 2].map(|_: i32| random.between(-900_000, 900_000));
+        outline(random, 8, 2000, x, y)
+    };
+    let records = (0..n as u16).flat_map(|name| record(name, Some(3), &room(random)));
+    let log = records.collect();
+    Case {
+        log,
+        position: n / 2,
+        ..Case::new(room(random), List::new())
+    }
+}
+
+/// The same with a cart about the origin.
+pub fn stocked_for_cart(random: &mut Random, n: usize, outline: Outline) -> Case {
+    let case = stocked(random, n, outline);
+    let a = outline(random, 8, 1200, 0, 0);
+    Case { a, ..case }
+}
+
 /// A shape, and the same again: each overlaps the other and is inside it.
 pub fn twice(random: &mut Random, n: usize, outline: Outline) -> Case {
     let case = moved_away(random, n, outline);
@@ -219,6 +259,28 @@ mod tests {
             assert_eq!(relation(beside_cart, n - 8, polygon), 0);
             assert_eq!(relation(under_cart, n - 8, polygon), 2);
         }
+    }
+
+    #[test]
+    fn carts_drive_as_their_rows_say() {
+        for n in SIZES {
+            for (make, meets) in [(driving_in as Make, 1), (driving_past, 0)] {
+                let case = make(&mut Random::new(7), n - 8, polygon);
+                let [from, to] = case.way;
+                let answer = plain::contact(&case.a, 3, &case.b, 3, from, to);
+                assert_eq!((answer.refusal, answer.values[0]), (0, meets));
+            }
+        }
+    }
+
+    #[test]
+    fn floors_have_neighbours_and_gaps() {
+        let case = stocked(&mut Random::new(7), 40, polygon);
+        let entry = plain::log_entry(&case.log, case.position, &mut [0; 2 * MOST]);
+        assert_eq!(entry.values[..3], [8, 20, 3]);
+        assert_eq!(plain::log_nearest(&case.log, &case.a, 3, None).refusal, 0);
+        let case = stocked_for_cart(&mut Random::new(7), 40, polygon);
+        assert_eq!(plain::log_gap(&case.log, &case.a, 3).refusal, 0);
     }
 
     #[test]

@@ -47,6 +47,14 @@ impl Numbers {
         }
     }
 
+    /// An answer with names before its values. It has at most 7 values.
+    #[inline]
+    pub fn named<const K: usize>(mut self, names: [u16; K]) -> Numbers {
+        self.values.rotate_right(K);
+        self.values[..K].copy_from_slice(&names.map(u64::from));
+        self
+    }
+
     /// A refusal that blames no shape.
     #[inline]
     pub fn refused(refusal: u64) -> Numbers {

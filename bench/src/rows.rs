@@ -1,7 +1,8 @@
 //! The rows of the tables: a question, and cases for which it does its work.
 use crate::pairs::{
-    Make, alike, apart, beside_cart, crossing, far, kept, large, merged, moved_away, nested,
-    passing, scattered, shuffled, single, stuck, summed, twice, under_cart,
+    Make, alike, apart, beside_cart, crossing, driving_in, driving_past, far, kept, large, merged,
+    moved_away, nested, passing, scattered, shuffled, single, stocked, stocked_for_cart, stuck,
+    summed, twice, under_cart,
 };
 use crate::plain::MOST;
 use crate::runs::*;
@@ -15,20 +16,50 @@ pub type Row = (&'static str, [Run; 2], Make);
 pub struct Table {
     pub legend: &'static str,
     pub sizes: &'static [usize],
+    /// what the sizes count
+    pub counted: Counted,
     pub outline: Outline,
     /// how the cases are lent
     pub form: fn(Case) -> Case,
     pub rows: &'static [Row],
 }
 
+/// Corners of a shape, or records of a log.
+#[derive(Clone, Copy)]
+pub enum Counted {
+    Corners,
+    Records,
+}
+
+impl Counted {
+    pub fn word(self) -> &'static str {
+        match self {
+            Counted::Corners => "corners",
+            Counted::Records => "records",
+        }
+    }
+
+    /// How many corners so many have together: a record has 8.
+    pub fn corners(self, n: usize) -> usize {
+        match self {
+            Counted::Corners => n,
+            Counted::Records => 8 * n,
+        }
+    }
+}
+
 /// How many corners the shapes have.
 const SIZES: &[usize] = &[32, 100, 500, MOST];
 
 /// Corners of the obstacles that a cart of 8 is asked against. With the last they are as many as a shape may have.
-const OBSTACLES: &[usize] = &[100, 500, MOST - 8];
+const OBSTACLES: &[usize] = &[32, 100, 500, MOST - 8];
 
-/// Every question on shapes in general position, calls on bytes, regular shapes, and carts.
-pub const TABLES: [Table; 4] = [
+/// How many records a log has, and how many where every pair of them is compared.
+const RECORDS: &[usize] = &[100, 1000];
+const PAIRED: &[usize] = &[40];
+
+/// Every question on shapes in general position, calls on bytes, regular shapes, carts, and floors.
+pub const TABLES: [Table; 6] = [
     Table {
         legend: "\
 microseconds a call, proved and plain, and their ratio; of two shapes one has 4 corners less, and at 1,024 those of
@@ -36,6 +67,7 @@ microseconds a call, proved and plain, and their ratio; of two shapes one has 4 
 a quarter of the corners each, and the added shape has all
 ",
         sizes: SIZES,
+        counted: Counted::Corners,
         outline: polygon,
         form: Case::in_numbers,
         rows: &QUESTIONS,
@@ -46,6 +78,7 @@ the calls of a host, on bytes: both shapes of their sums have the column's corne
 6 the second has 1,024
 ",
         sizes: SIZES,
+        counted: Counted::Corners,
         outline: polygon,
         form: Case::in_bytes,
         rows: &BYTES,
@@ -53,6 +86,7 @@ the calls of a host, on bytes: both shapes of their sums have the column's corne
     Table {
         legend: "regular polygons\n",
         sizes: SIZES,
+        counted: Counted::Corners,
         outline: regular,
         form: Case::in_numbers,
         rows: &REGULAR,
@@ -60,9 +94,26 @@ the calls of a host, on bytes: both shapes of their sums have the column's corne
     Table {
         legend: "an obstacle of the column's corner count, of a passage two, and a cart of 8 corners\n",
         sizes: OBSTACLES,
+        counted: Counted::Corners,
         outline: polygon,
         form: Case::in_numbers,
         rows: &CARTS,
+    },
+    Table {
+        legend: "a log of the column's count of records, each of 8 corners and under its own name, on one floor\n",
+        sizes: RECORDS,
+        counted: Counted::Records,
+        outline: polygon,
+        form: Case::in_numbers,
+        rows: &FLOORS,
+    },
+    Table {
+        legend: "the same, of which every two are compared once grown by a cart of 8 corners\n",
+        sizes: PAIRED,
+        counted: Counted::Records,
+        outline: polygon,
+        form: Case::in_numbers,
+        rows: &GAPS,
     },
 ];
 
@@ -128,7 +179,7 @@ const REGULAR: [Row; 14] = [
     ("tangents", TANGENTS, apart),
 ];
 
-const CARTS: [Row; 8] = [
+const CARTS: [Row; 10] = [
     ("sum", SUM, under_cart),
     ("grow", GROW, under_cart),
     ("relation, apart", RELATION, beside_cart),
@@ -137,11 +188,20 @@ const CARTS: [Row; 8] = [
     ("clearance, none", CLEARANCE, under_cart),
     ("passage, free", PASSAGE, passing),
     ("passage, blocked", PASSAGE, stuck),
+    ("contact, met", CONTACT, driving_in),
+    ("contact, never", CONTACT, driving_past),
 ];
 
+const FLOORS: [Row; 2] = [
+    ("log_entry", LOG_ENTRY, stocked),
+    ("log_nearest", LOG_NEAREST, stocked),
+];
+
+const GAPS: [Row; 1] = [("log_gap", LOG_GAP, stocked_for_cart)];
+
 /// Every proved question, on a shape and the same one moved away (`moved_away`). It takes the whole walk to find that a
-/// shape overlaps one that it is inside of. A log has as many records as the shape has corners.
-pub const GROWTH: [(&str, Run, Make); 23] = [
+/// shape overlaps one that it is inside of. A log has as many records as the column says corners.
+pub const GROWTH: [(&str, Run, Make); 26] = [
     ("judge", JUDGE[0], moved_away),
     ("furthest", FURTHEST[0], moved_away),
     ("mirror", MIRROR[0], moved_away),
@@ -163,6 +223,9 @@ pub const GROWTH: [(&str, Run, Make); 23] = [
     ("excess", EXCESS[0], moved_away),
     ("tangents", TANGENTS[0], moved_away),
     ("passage", PASSAGE[0], passing),
+    ("contact", CONTACT[0], driving_in),
     ("log_read, records", LOG_READ[0], moved_away),
     ("log_add, records", LOG_ADD[0], moved_away),
+    ("log_entry, records", LOG_ENTRY[0], stocked),
+    ("log_nearest, records", LOG_NEAREST[0], stocked),
 ];

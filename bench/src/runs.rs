@@ -70,6 +70,22 @@ pub const EXCESS: [Run; 2] = both!(excess(a, b));
 pub const TANGENTS: [Run; 2] = both!(tangents(a, b));
 pub const PASSAGE: [Run; 2] = both!(passage(a, b, cart));
 
+/// The second list is the cart.
+pub const CONTACT: [Run; 2] = [
+    |cases| {
+        block(cases, |c, _| {
+            let [from, to] = c.way;
+            cocklesway::contact(on(&c.a), on(&c.b), from, to)
+        })
+    },
+    |cases| {
+        block(cases, |c, _| {
+            let [from, to] = c.way;
+            plain::contact(&c.a, FLOOR, &c.b, FLOOR, from, to)
+        })
+    },
+];
+
 pub const BEGIN: [Run; 2] = [
     |cases| block(cases, |c, _| Walk::begin(on(&c.a), on(&c.b))),
     |cases| block(cases, |c, _| plain::begin(&c.a, FLOOR, &c.b, FLOOR)),
@@ -95,6 +111,31 @@ pub const LOG_READ: [Run; 2] = [
         })
     },
     |cases| block(cases, |c, out| plain::log_read(&c.log, NAME, out)),
+];
+
+pub const LOG_ENTRY: [Run; 2] = [
+    |cases| {
+        block(cases, |c, out| {
+            let entry = cocklesway::log_entry(&c.log, c.position, corners(out));
+            entry.map(|(name, shape)| (name, shape.corners.len()))
+        })
+    },
+    |cases| block(cases, |c, out| plain::log_entry(&c.log, c.position, out)),
+];
+
+pub const LOG_NEAREST: [Run; 2] = [
+    |cases| {
+        block(cases, |c, _| {
+            cocklesway::log_nearest(&c.log, on(&c.a), None)
+        })
+    },
+    |cases| block(cases, |c, _| plain::log_nearest(&c.log, &c.a, FLOOR, None)),
+];
+
+/// The first list is the cart.
+pub const LOG_GAP: [Run; 2] = [
+    |cases| block(cases, |c, _| cocklesway::log_gap(&c.log, on(&c.a))),
+    |cases| block(cases, |c, _| plain::log_gap(&c.log, &c.a, FLOOR)),
 ];
 
 pub const LOG_ADD: [Run; 2] = [

@@ -14,10 +14,14 @@ pub struct Case {
     pub cart: List,
     pub bytes: [Vec<u8>; 2],
     pub log: Vec<u8>,
+    /// where the way of a cart begins and ends
+    pub way: [[i32; 2]; 2],
+    /// the position of a shape in the log
+    pub position: usize,
 }
 
 impl Case {
-    /// One shape or two, and no log.
+    /// One shape or two, no log and no way.
     pub fn new(a: List, b: List) -> Case {
         Case {
             a,

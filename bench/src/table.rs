@@ -50,7 +50,7 @@ fn print(table: &Table, chosen: &Chosen, rounds: usize) {
         return;
     }
     let meter_of = |&(_, runs, make): &Row, n| {
-        meter(n, &runs, |random| {
+        meter(table.counted.corners(n), &runs, |random| {
             (table.form)(make(random, n, table.outline))
         })
     };
@@ -58,7 +58,8 @@ fn print(table: &Table, chosen: &Chosen, rounds: usize) {
         .iter()
         .map(|row| table.sizes.iter().map(|&n| meter_of(row, n)).collect());
     let times = measured(meters.collect(), rounds);
-    let heads = table.sizes.iter().map(|n| format!("{n:>19} corners"));
+    let word = table.counted.word();
+    let heads = table.sizes.iter().map(|n| format!("{n:>19} {word}"));
     println!("{}", table.legend);
     println!("{:24}{}", "", heads.collect::<String>());
     for ((name, ..), times) in rows.iter().zip(times) {

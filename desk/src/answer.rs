@@ -1,9 +1,12 @@
 //! Questions asked of the library, and what it answers.
 use crate::given::{Given, Pair, Trio};
-use crate::question::{Call, Making, OfOne, OfTwo, Packing, Question, Record};
+use crate::question::{
+    Around, Call, Drive, Making, Narrowest, OfOne, OfTwo, Packing, Question, Record,
+};
 use cocklesway::{
-    Addition, Area, Book, Clearance, Corners, Excess, Furthest, Inside, Length, Offer, Passage,
-    Reading, Refusal, Relation, Separator, Standing, Tangents, Walk, Width,
+    Addition, Area, Book, Clearance, Contact, Corners, Excess, Furthest, Gap, Inside, Length,
+    Neighbour, Offer, Passage, Reading, Refusal, Relation, Separator, Standing, Tangents, Walk,
+    Width,
 };
 
 /// A question with its answer.
@@ -14,7 +17,7 @@ pub enum Answer {
     /// About two shapes.
     Two(Pair, AboutTwo),
     /// The shape that was made.
-    Made(Making, Given),
+    Made(Making, Made),
     /// Whether a cart may pass between two obstacles, and where.
     Passage(Trio, Passage),
     /// The corner of two readings.
@@ -23,6 +26,21 @@ pub enum Answer {
     Added(Record, Addition, Vec<u8>),
     /// Whether the stores of a packing sufficed, and the bytes afterwards.
     Packed(Packing, Addition, Vec<u8>),
+    /// Which shape of a log is nearest, and that shape.
+    Nearest(Around, Neighbour, Given),
+    /// Which two shapes of a log have the narrowest gap, and both grown by the cart.
+    Gap(Narrowest, Gap, [Given; 2]),
+    /// Where a cart first meets an obstacle.
+    Contact(Drive, Contact),
+}
+
+/// A shape that was made.
+#[derive(Clone, Debug, PartialEq, Eq)]
+pub struct Made {
+    /// The shape.
+    pub shape: Given,
+    /// The name of its record, if a position of a log was asked for.
+    pub record: Option<u16>,
 }
 
 /// What is answered about one shape.
@@ -141,7 +159,7 @@ fn answered(question: &Question) -> Result<Answer, Refusal> {
     Ok(match question {
         Question::One(shape, asked) => Answer::One(shape.clone(), about_one(shape, *asked)?),
         Question::Two(pair, asked) => Answer::Two(pair.clone(), about_two(pair, asked)?),
-        Question::Make(making, room) => Answer::Made(making.clone(), shape_of(making, *room)?),
+        Question::Make(making, room) => Answer::Made(making.clone(), made_of(making, *room)?),
         Question::Passage(trio) => {
             let [left, right, cart] = trio.lent();
             Answer::Passage(trio.clone(), cocklesway::passage(left, right, cart)?)
@@ -149,6 +167,13 @@ fn answered(question: &Question) -> Result<Answer, Refusal> {
         Question::Tablet([x, y]) => Answer::Corner([*x, *y], cocklesway::tablet(*x, *y)?),
         Question::Add(record) => added(record)?,
         Question::Pack(packing) => packed(packing)?,
+        Question::Nearest(around) => nearest(around)?,
+        Question::Gap(asked) => gap(asked)?,
+        Question::Contact(drive) => {
+            let (obstacle, cart) = drive.pair.lent();
+            let found = cocklesway::contact(obstacle, cart, drive.from, drive.to)?;
+            Answer::Contact(drive.clone(), found)
+        }
     })
 }
 
@@ -190,11 +215,22 @@ fn about_two(pair: &Pair, asked: &OfTwo) -> Result<AboutTwo, Refusal> {
 /// # Errors
 /// The library's refusal.
 pub fn shape_of(making: &Making, room: Option<usize>) -> Result<Given, Refusal> {
+    made_of(making, room).map(|made| made.shape)
+}
+
+/// The same, with the name of its record.
+fn made_of(making: &Making, room: Option<usize>) -> Result<Made, Refusal> {
     let mut out = output(room);
+    let mut record = None;
     let shape = match making {
         Making::Mirror(shape) => cocklesway::mirror(shape.alone(), &mut out)?,
         Making::Sweep(points) => cocklesway::sweep(points.alone(), &mut out)?,
         Making::Read { log, name } => cocklesway::log_read(log, *name, &mut out)?,
+        Making::Entry { log, position } => {
+            let (name, shape) = cocklesway::log_entry(log, *position, &mut out)?;
+            record = Some(name);
+            shape
+        }
         Making::Merge(pair) => {
             let (a, b) = pair.lent();
             cocklesway::merge(a, b, &mut out)?
@@ -209,13 +245,15 @@ pub fn shape_of(making: &Making, room: Option<usize>) -> Result<Given, Refusal> 
             cocklesway::sum(a, b, &mut out)?
         }
     };
-    let own = matches!(making, Making::Read { .. }).then_some(shape.floor);
+    let is_own = matches!(making, Making::Read { .. } | Making::Entry { .. });
+    let own = is_own.then_some(shape.floor);
     let floor = own.and_then(|floor| floor.try_into().ok());
-    Ok(Given {
+    let shape = Given {
         name: None,
         numbers: shape.corners.as_flattened().into(),
         floor: floor.or(making.floor()),
-    })
+    };
+    Ok(Made { shape, record })
 }
 
 /// Returns an output for `room` numbers; without it for every answer.
@@ -253,6 +291,29 @@ fn packed(packing: &Packing) -> Result<Answer, Refusal> {
     Ok(Answer::Packed(packing.clone(), addition, new))
 }
 
+fn nearest(around: &Around) -> Result<Answer, Refusal> {
+    let found = cocklesway::log_nearest(&around.log, around.shape.alone(), around.but)?;
+    let near = latest(&around.log, found.name)?;
+    Ok(Answer::Nearest(around.clone(), found, near))
+}
+
+/// The answer's positions are those of the grown shapes, so these are made as well.
+fn gap(asked: &Narrowest) -> Result<Answer, Refusal> {
+    let found = cocklesway::log_gap(&asked.log, asked.cart.alone())?;
+    let grown = |name| {
+        let (a, b) = (latest(&asked.log, name)?, asked.cart.clone());
+        shape_of(&Making::Grow(Pair { a, b }), None)
+    };
+    let [one, other] = found.names.map(grown);
+    Ok(Answer::Gap(asked.clone(), found, [one?, other?]))
+}
+
+/// The latest shape of a name in a log.
+fn latest(log: &[u8], name: u16) -> Result<Given, Refusal> {
+    let log = log.to_vec();
+    shape_of(&Making::Read { log, name }, None)
+}
+
 impl Answer {
     /// Returns the word of its question.
     #[must_use]
@@ -265,6 +326,9 @@ impl Answer {
             Answer::Corner(..) => "tablet",
             Answer::Added(..) => "bookadd",
             Answer::Packed(..) => "pack",
+            Answer::Nearest(..) => "nearest",
+            Answer::Gap(..) => "gap",
+            Answer::Contact(..) => "contact",
         }
     }
 
@@ -273,10 +337,14 @@ impl Answer {
     pub fn shapes(&self) -> Vec<&Given> {
         match self {
             Answer::One(shape, _) => vec![shape],
-            Answer::Two(pair, _) => vec![&pair.a, &pair.b],
+            Answer::Two(pair, _) | Answer::Contact(Drive { pair, .. }, _) => {
+                vec![&pair.a, &pair.b]
+            }
             Answer::Made(making, _) => making.shapes(),
             Answer::Passage(trio, _) => trio.shapes().to_vec(),
             Answer::Added(record, ..) => vec![&record.shape],
+            Answer::Nearest(around, ..) => vec![&around.shape],
+            Answer::Gap(asked, ..) => vec![&asked.cart],
             Answer::Corner(..) | Answer::Packed(..) => Vec::new(),
         }
     }

@@ -45,6 +45,25 @@ impl Distance {
             exact: wide(turn).pow(2) == wide(rounded).pow(2) * wide(squared),
         }
     }
+
+    /// Returns the length of a fraction n/d, in lowest terms, of a way, which is so long rounded down.
+    ///
+    /// ```
+    /// use desk::distance::Distance;
+    ///
+    /// assert_eq!(Distance::of_part([3, 5], 25, 3).to_string(), "3 mm");
+    /// assert_eq!(Distance::of_part([1, 2], 25, 2).to_string(), "2 mm (rounded down)");
+    /// ```
+    #[must_use]
+    pub fn of_part([n, d]: [u64; 2], squared: u64, rounded: u64) -> Distance {
+        // n/d of a root is whole only if d·d divides the square, as n and d have no common divisor. n is at most d.
+        let [n, d, squared, whole] = [n, d, squared, rounded].map(u128::from);
+        let times = squared.checked_div(d * d).unwrap_or(0);
+        Distance {
+            millimetres: rounded,
+            exact: times * d * d == squared && n * n * times == whole * whole,
+        }
+    }
 }
 
 /// Millimetres below a metre, metres from there on, always exactly.

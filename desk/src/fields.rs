@@ -6,7 +6,7 @@ use crate::map::{Entry, Map};
 use crate::name::Name;
 use crate::place::Place;
 use crate::question::Call;
-use crate::words::{byte, call, count, double, is_numeric, list, number};
+use crate::words::{byte, call, count, double, floor, is_numeric, list, number};
 use cocklesway::{Reading, Walk};
 
 /// Why a line is not asked.
@@ -140,6 +140,37 @@ impl<'a> Fields<'a> {
         Ok(Pair { a, b })
     }
 
+    /// Reads a shape, or an outline after a floor, as `@2 cart`. An outline alone is on floor 0.
+    ///
+    /// # Errors
+    /// It is neither.
+    pub fn shape_on_floor(&mut self) -> Result<Given, Unread> {
+        let given = match self.next() {
+            [sign, word] if sign.text.starts_with('@') && !is_numeric(word.text) => {
+                self.outline_on(sign, word)?
+            }
+            [word] if !is_numeric(word.text) => self.named(word)?,
+            words => list(words, Some(0))?,
+        };
+        Ok(Given {
+            floor: given.floor.or(Some(0)),
+            ..given
+        })
+    }
+
+    /// The outline of a name, on a floor.
+    fn outline_on(&self, sign: &Word<'_>, word: &Word<'_>) -> Result<Given, Unread> {
+        let given = self.named(word)?;
+        if given.floor.is_some() {
+            let found = word.text.to_string();
+            return Err(Unread::at(word, Fault::NameAmongNumbers { found }));
+        }
+        Ok(Given {
+            floor: Some(floor(sign)?),
+            ..given
+        })
+    }
+
     /// Reads two obstacles and a cart.
     ///
     /// # Errors
@@ -188,6 +219,24 @@ impl<'a> Fields<'a> {
         Ok([number(&u)?, number(&v)?])
     }
 
+    /// Reads an end of a drive, which is on the floor of the question.
+    ///
+    /// # Errors
+    /// It is not two numbers.
+    pub fn end(&mut self) -> Result<[i32; 2], Unread> {
+        let [x, y] = self.exactly("a place: x and y")?;
+        Ok([number(&x)?, number(&y)?])
+    }
+
+    /// Reads a position, counted from 0.
+    ///
+    /// # Errors
+    /// It is no count.
+    pub fn position(&mut self) -> Result<usize, Unread> {
+        let [word] = self.exactly("a position: a number from 0")?;
+        count(&word)
+    }
+
     /// Reads a count that may be left out.
     ///
     /// # Errors
@@ -218,8 +267,8 @@ impl<'a> Fields<'a> {
     /// # Errors
     /// It is neither.
     pub fn but(&mut self) -> Result<Option<u16>, Unread> {
-        let empty = self.left.as_slice().first();
-        if empty.is_some_and(|field| field.words.is_empty()) {
+        let next = self.left.as_slice().first();
+        if next.is_none_or(|field| field.words.is_empty()) {
             self.next();
             return Ok(None);
         }

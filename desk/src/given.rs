@@ -123,6 +123,18 @@ impl Trio {
     }
 }
 
+impl Edge {
+    /// Returns the square of its length, in square millimetres.
+    #[must_use]
+    pub fn squared(&self) -> u64 {
+        let Edge(Corner([x, y]), Corner([u, v])) = *self;
+        let parts = [x.abs_diff(u), y.abs_diff(v)].map(u64::from);
+        parts
+            .into_iter()
+            .fold(0, |sum, part| sum.saturating_add(part * part))
+    }
+}
+
 impl fmt::Display for Corner {
     fn fmt(&self, f: &mut fmt::Formatter<'_>) -> fmt::Result {
         let Corner([x, y]) = self;

@@ -15,7 +15,7 @@ shape     a name, then the corners: the floor after @, and x y of each corner in
           leftmost of several. One corner is a point, two are a segment. Without @ the floor is 0.
 outline   a shape without a floor, such as a cart around its origin 0 0. It takes the floor of the
           question.
-NAME =    keeps the shape that a question answers: grow, at, merge, sweep, sum, mirror, bookread.
+NAME =    keeps the shape that a question answers: grow, at, merge, sweep, sum, mirror, bookread, entry.
 shapes    lists all names.
 
 Fields are separated by |, numbers by blanks. # begins a comment, anywhere on a line. A line that
@@ -45,14 +45,17 @@ odd count of numbers has `numbers` instead. Corners are coordinates, edges are b
     clearance     apart, rounded; first, second, squared or turn and squared
     excess        inside, up; first, second, squared or turn and squared
     passage       passable; direction, low, high, rounded
+    contact       from, to, meets; numerator, denominator, safe
     grow, at, merge, sweep, sum, mirror, bookread   made
     parts         calls: corners or refused         part        corners, walk
     tablet        corner                            bookadd     finished, log
-    pack          but, or null; finished, log
+    pack          but, or null; finished, log       entry       made, record
+    nearest       but, or null; record; then as clearance, of the shape and that of the record
+    gap           records; then as clearance, of both shapes after they are grown
 
 `turn` is t and `squared` is q of a distance t/√q; `squared` alone is the square of the distance.
 
-    refused       number, reason; shape (0 to 2), edge and corner by their positions, place, axis
+    refused       number, reason; shape (0 to 3), edge and corner by their positions, place, axis
     not_asked     name and at: a shape of the question was refused there
     replaces      where the earlier shape of the name is
 

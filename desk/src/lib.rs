@@ -8,7 +8,8 @@
 //! | [`name`], [`given`], [`map`] | names, shapes as they are given, and the shapes of the names |
 //! | [`table`], [`question`], [`answer`] | the questions; the library asked |
 //! | [`session`] | lines in their order: definitions, questions, and what came of each |
-//! | [`sentence`], [`refusal`], [`distance`], [`extent`], [`report`] | answers and refusals in words |
+//! | [`sentence`], [`refusal`], [`whole_floor`], [`report`] | answers and refusals in words |
+//! | [`called`], [`distance`], [`extent`] | what sentences call shapes, places, distances and areas |
 //! | [`json`], [`object`] | answers as JSON |
 //! | [`picture`] | pictures |
 //! | [`options`], [`command`], [`commands`], [`help`] | the program |
@@ -24,6 +25,7 @@
 #![allow(clippy::format_push_string)]
 
 pub mod answer;
+pub mod called;
 pub mod command;
 pub mod commands;
 pub mod distance;
@@ -48,4 +50,5 @@ pub mod sentence;
 pub mod session;
 pub mod source;
 pub mod table;
+pub mod whole_floor;
 pub mod words;

@@ -4,11 +4,12 @@ use crate::given::{Given, Pair};
 use crate::json::Json;
 use crate::name::Name;
 use crate::place::Place;
+use crate::question::Drive;
 use crate::refusal::{hexadecimal, reason};
 use crate::report;
 use crate::session::{Event, Outcome};
 use cocklesway::{
-    Across, Addition, Axis, Beyond, Clearance, Excess, Line, Nearest, Passage, Refusal, Relation,
+    Across, Addition, Axis, Beyond, Contact, Excess, Line, Nearest, Passage, Refusal, Relation,
     Tangents, Which, Width,
 };
 
@@ -117,11 +118,12 @@ fn refusal(refusal: Refusal, reason: String) -> Json {
     Json::Object(members)
 }
 
-/// The position of a shape among those of its question.
+/// The position of a shape, or of a place of a drive, among those of its question.
 fn position_of(which: Which) -> usize {
     match which {
         Which::Second => 1,
         Which::Third => 2,
+        Which::Fourth => 3,
         _ => 0,
     }
 }
@@ -131,7 +133,11 @@ fn answered(answer: &Answer) -> Members {
     match answer {
         Answer::One(shape, about) => about_one(shape, about),
         Answer::Two(pair, about) => about_two(pair, about),
-        Answer::Made(_, shape) => vec![("made", shape_of(shape))],
+        Answer::Made(_, made) => {
+            let record = made.record.map(|name| ("record", u64::from(name).into()));
+            let shape = ("made", shape_of(&made.shape));
+            [shape].into_iter().chain(record).collect()
+        }
         Answer::Passage(_, found) => passage(*found),
         Answer::Corner(_, corner) => vec![("corner", (*corner).into())],
         Answer::Added(_, addition, log) => vec![
@@ -143,7 +149,36 @@ fn answered(answer: &Answer) -> Members {
             ("finished", (*addition == Addition::Finished).into()),
             ("log", hexadecimal(log).into()),
         ],
+        Answer::Nearest(around, found, near) => {
+            let but = ("but", around.but.map(u64::from).into());
+            let members = [but, ("record", u64::from(found.name).into())];
+            let places = clearance([&around.shape, near], found.nearest, found.rounded());
+            members.into_iter().chain(places).collect()
+        }
+        Answer::Gap(_, found, [one, other]) => {
+            let names = found.names.map(|name| u64::from(name).into());
+            let records = ("records", Json::List(names.to_vec()));
+            let places = clearance([one, other], found.nearest, found.rounded());
+            [records].into_iter().chain(places).collect()
+        }
+        Answer::Contact(drive, found) => contact(drive, *found),
     }
+}
+
+fn contact(drive: &Drive, found: Contact) -> Members {
+    let mut members = vec![
+        ("from", drive.from.into()),
+        ("to", drive.to.into()),
+        ("meets", found.meeting.is_some().into()),
+    ];
+    members.extend(found.meeting.into_iter().flat_map(|meeting| {
+        [
+            ("numerator", meeting.numerator.into()),
+            ("denominator", meeting.denominator.into()),
+            ("safe", meeting.safe.into()),
+        ]
+    }));
+    members
 }
 
 fn passage(found: Passage) -> Members {
@@ -199,7 +234,7 @@ fn about_two(pair: &Pair, about: &AboutTwo) -> Members {
             ]
         }
         AboutTwo::Find(found) => vec![("direction", found.direction.into())],
-        AboutTwo::Clearance(found) => clearance(pair, *found),
+        AboutTwo::Clearance(found) => clearance([&pair.a, &pair.b], found.nearest, found.rounded()),
         AboutTwo::Excess(found) => excess(pair, *found),
         AboutTwo::Tangents(found) => tangents(pair, *found),
         AboutTwo::Parts(written) => vec![("calls", Json::List(written.iter().map(call).collect()))],
@@ -221,12 +256,12 @@ fn relation(found: Relation) -> &'static str {
     }
 }
 
-fn clearance(Pair { a, b }: &Pair, found: Clearance) -> Members {
+fn clearance([a, b]: [&Given; 2], nearest: Option<Nearest>, rounded: u64) -> Members {
     let mut members = vec![
-        ("apart", found.nearest.is_some().into()),
-        ("rounded", found.rounded().into()),
+        ("apart", nearest.is_some().into()),
+        ("rounded", rounded.into()),
     ];
-    match found.nearest {
+    match nearest {
         None => {}
         Some(Nearest::Corners {
             first,

@@ -19,6 +19,12 @@ pub enum Question {
     Add(Record),
     /// Packing a log into a second run of bytes.
     Pack(Packing),
+    /// The nearest current shape of a log.
+    Nearest(Around),
+    /// The two current shapes of a log with the narrowest gap.
+    Gap(Narrowest),
+    /// Where a cart first meets an obstacle.
+    Contact(Drive),
 }
 
 /// What is asked about one shape.
@@ -81,6 +87,13 @@ pub enum Making {
         /// The name.
         name: u16,
     },
+    /// The current shape at a position of a log.
+    Entry {
+        /// The bytes of the log.
+        log: Vec<u8>,
+        /// The position, from 0.
+        position: usize,
+    },
 }
 
 /// A call of a sum in parts: how many corners it may write, and how many numbers its output holds.
@@ -118,6 +131,37 @@ pub struct Packing {
     pub stores: Option<usize>,
 }
 
+/// A shape among those of a log.
+#[derive(Clone, Debug, PartialEq, Eq)]
+pub struct Around {
+    /// The bytes of the log.
+    pub log: Vec<u8>,
+    /// The shape, on its floor.
+    pub shape: Given,
+    /// The name that is left out.
+    pub but: Option<u16>,
+}
+
+/// The shapes of a log on a floor, and the cart between them.
+#[derive(Clone, Debug, PartialEq, Eq)]
+pub struct Narrowest {
+    /// The bytes of the log.
+    pub log: Vec<u8>,
+    /// The cart's outline, on the floor.
+    pub cart: Given,
+}
+
+/// A straight drive past an obstacle.
+#[derive(Clone, Debug, PartialEq, Eq)]
+pub struct Drive {
+    /// The obstacle, and the cart's outline.
+    pub pair: Pair,
+    /// The place of departure.
+    pub from: [i32; 2],
+    /// The destination.
+    pub to: [i32; 2],
+}
+
 impl Question {
     /// Returns the word that asks it.
     #[must_use]
@@ -130,6 +174,9 @@ impl Question {
             Question::Tablet(_) => "tablet",
             Question::Add(_) => "bookadd",
             Question::Pack(_) => "pack",
+            Question::Nearest(_) => "nearest",
+            Question::Gap(_) => "gap",
+            Question::Contact(_) => "contact",
         }
     }
 
@@ -137,8 +184,13 @@ impl Question {
     #[must_use]
     pub fn shapes(&self) -> Vec<&Given> {
         match self {
-            Question::One(shape, _) | Question::Add(Record { shape, .. }) => vec![shape],
-            Question::Two(pair, _) => vec![&pair.a, &pair.b],
+            Question::One(shape, _)
+            | Question::Add(Record { shape, .. })
+            | Question::Nearest(Around { shape, .. })
+            | Question::Gap(Narrowest { cart: shape, .. }) => vec![shape],
+            Question::Two(pair, _) | Question::Contact(Drive { pair, .. }) => {
+                vec![&pair.a, &pair.b]
+            }
             Question::Make(making, _) => making.shapes(),
             Question::Passage(trio) => trio.shapes().to_vec(),
             Question::Tablet(_) | Question::Pack(_) => Vec::new(),
@@ -190,6 +242,7 @@ impl Making {
             Making::Sweep(_) => "sweep",
             Making::At(_) => "at",
             Making::Read { .. } => "bookread",
+            Making::Entry { .. } => "entry",
         }
     }
 
@@ -201,7 +254,7 @@ impl Making {
             Making::Sum(pair) | Making::Merge(pair) | Making::Grow(pair) | Making::At(pair) => {
                 vec![&pair.a, &pair.b]
             }
-            Making::Read { .. } => Vec::new(),
+            Making::Read { .. } | Making::Entry { .. } => Vec::new(),
         }
     }
 

@@ -1,7 +1,8 @@
 //! Refusals in plain words: which shape, which corner, and what to do about it.
 use crate::answer::{Refused, shape_of};
 use crate::given::{Corner, Given, Pair, Trio};
-use crate::question::{Call, Making, OfOne, OfTwo, Question, Record};
+use crate::question::{Call, Drive, Making, Narrowest, OfOne, OfTwo, Question, Record};
+use crate::whole_floor;
 use cocklesway::{Axis, Reading, Refusal, Which, judge, limits};
 use std::fmt::Write;
 
@@ -50,6 +51,11 @@ pub fn hexadecimal(bytes: &[u8]) -> String {
 /// The refusals that blame a list.
 fn of_list(question: &Question, refusal: Refusal) -> String {
     let shapes = question.shapes();
+    if let (Question::Contact(drive), Some(Which::Third | Which::Fourth)) =
+        (question, refusal.shape())
+    {
+        return far_place(drive);
+    }
     let blamed = match refusal.shape() {
         Some(Which::Second) => shapes.get(1),
         Some(Which::Third) => shapes.get(2),
@@ -85,19 +91,37 @@ fn many(shape: &Given, noun: &str) -> String {
 }
 
 fn far(shape: &Given, noun: &str) -> String {
-    let most = limits().coordinate;
-    let is_far = |c: &&[i32; 2]| c.iter().any(|part| part.unsigned_abs() > most);
     let corner = Corner(
         shape
             .corners()
             .iter()
-            .find(is_far)
+            .find(|corner| is_far(**corner))
             .copied()
             .unwrap_or_default(),
     );
-    format!(
-        "the {noun} {corner} of {shape} is out of range: coordinates go from -{most} to {most} mm"
-    )
+    out_of_range(&format!("the {noun} {corner} of {shape}"))
+}
+
+/// The place of departure, or the destination if only that is out of range.
+fn far_place(drive: &Drive) -> String {
+    let place = if is_far(drive.from) {
+        drive.from
+    } else {
+        drive.to
+    };
+    out_of_range(&format!("the place {}", Corner(place)))
+}
+
+/// Whether a coordinate is out of range.
+fn is_far(corner: [i32; 2]) -> bool {
+    corner
+        .iter()
+        .any(|part| part.unsigned_abs() > limits().coordinate)
+}
+
+fn out_of_range(what: &str) -> String {
+    let most = limits().coordinate;
+    format!("{what} is out of range: coordinates go from -{most} to {most} mm")
 }
 
 fn side(shape: &Given, edge: usize, corner: usize) -> String {
@@ -154,8 +178,11 @@ fn start(shape: &Given) -> String {
 
 /// The refusals of the answer's size.
 fn of_answer(question: &Question, refusal: Refusal) -> String {
-    if let Question::Passage(trio) = question {
-        return of_grown(trio, refusal);
+    match question {
+        Question::Passage(trio) => return of_grown(&trio.grown(), refusal),
+        Question::Contact(drive) => return of_grown(std::slice::from_ref(&drive.pair), refusal),
+        Question::Gap(asked) => return of_gap(asked, refusal),
+        _ => {}
     }
     match refusal {
         Refusal::LargeAnswer => large("the answer"),
@@ -165,15 +192,28 @@ fn of_answer(question: &Question, refusal: Refusal) -> String {
 }
 
 /// The obstacle that is too large or too far when it is grown. The library judges the left one first.
-fn of_grown(trio: &Trio, refusal: Refusal) -> String {
-    let refused = |pair: &Pair| shape_of(&Making::Grow(pair.clone()), None) == Err(refusal);
-    let Some(pair) = trio.grown().into_iter().find(refused) else {
-        return refusal.to_string();
-    };
-    let grown = format!("{} grown by {}", pair.a, pair.b);
+fn of_grown(pairs: &[Pair], refusal: Refusal) -> String {
+    let refused = |pair: &&Pair| shape_of(&Making::Grow((*pair).clone()), None) == Err(refusal);
+    match pairs.iter().find(refused) {
+        Some(pair) => grown(&pair.a.to_string(), pair, refusal),
+        None => refusal.to_string(),
+    }
+}
+
+/// The record that is too large or too far when it is grown.
+fn of_gap(asked: &Narrowest, refusal: Refusal) -> String {
+    match whole_floor::refused_when_grown(asked, refusal) {
+        Some((name, pair)) => grown(&format!("record {name}"), &pair, refusal),
+        None => refusal.to_string(),
+    }
+}
+
+/// What is wrong with an obstacle, called so, that is grown by a cart.
+fn grown(label: &str, pair: &Pair, refusal: Refusal) -> String {
+    let grown = format!("{label} grown by {}", pair.b);
     match refusal {
         Refusal::LargeAnswer => large(&grown),
-        _ => far_answer(&grown, reach_of(&pair, -1)),
+        _ => far_answer(&grown, reach_of(pair, -1)),
     }
 }
 
@@ -312,6 +352,9 @@ fn of_question(question: &Question, refusal: Refusal) -> String {
         }
         (Refusal::NoRecord, _, Question::Make(Making::Read { name, .. }, _)) => {
             format!("no record of the log has the name {name}")
+        }
+        (Refusal::TooFew, ..) => {
+            whole_floor::too_few(question).unwrap_or_else(|| refusal.to_string())
         }
         _ => refusal.to_string(),
     }

@@ -1,12 +1,14 @@
 //! Answers in plain words, made from the typed answer: shapes by their names, corners by their coordinates.
-use crate::answer::{AboutOne, AboutTwo, Answer, Written};
+use crate::answer::{AboutOne, AboutTwo, Answer, Made, Written};
+use crate::called::{Called, between};
 use crate::distance::Distance;
 use crate::extent::Extent;
-use crate::given::{Corner, Given, Pair, Trio};
-use crate::question::{Making, Packing, Record};
+use crate::given::{Corner, Edge, Given, Pair, Trio};
+use crate::question::{Drive, Making, Packing, Record};
 use crate::refusal;
+use crate::whole_floor::{gap, neighbour};
 use cocklesway::{
-    Across, Addition, Beyond, Clearance, Excess, Furthest, Line, Nearest, Offer, Passage, Reading,
+    Addition, Beyond, Clearance, Contact, Excess, Furthest, Line, Offer, Passage, Reading,
     Relation, Separator, Tangents, Walk, Width,
 };
 
@@ -16,11 +18,14 @@ pub fn sentence(answer: &Answer) -> String {
     match answer {
         Answer::One(shape, about) => about_one(shape, about),
         Answer::Two(pair, about) => about_two(pair, about),
-        Answer::Made(making, shape) => made(making, shape),
+        Answer::Made(making, found) => made(making, found),
         Answer::Passage(trio, found) => passage(trio, *found),
         Answer::Corner(readings, corner) => tablet(*readings, *corner),
         Answer::Added(record, addition, log) => added(record, *addition, log),
         Answer::Packed(packing, addition, log) => packed(packing, *addition, log),
+        Answer::Nearest(around, found, near) => neighbour(around, *found, near),
+        Answer::Gap(asked, found, grown) => gap(asked, *found, grown),
+        Answer::Contact(drive, found) => contact(drive, *found),
     }
 }
 
@@ -189,55 +194,41 @@ pub fn clearance(pair: &Pair, found: Clearance) -> String {
 /// Returns how near two shapes are, and between which corners and edges; nothing if they are not apart.
 #[must_use]
 pub fn nearest(Pair { a, b }: &Pair, found: Clearance) -> Option<(Distance, String)> {
-    match found.nearest? {
-        Nearest::Corners {
-            first,
-            second,
-            squared,
-            ..
-        } => {
-            let places = format!("{} and {}", corner_of(a, first), corner_of(b, second));
-            Some((Distance::of_square(squared), places))
-        }
-        Nearest::CornerEdge(across) => Some(across_edge(a, b, across)),
-        Nearest::EdgeCorner(across) => Some(across_edge(b, a, across)),
-    }
+    let where_it_is = found.nearest?;
+    Some(between([&Called::own(a), &Called::own(b)], where_it_is))
 }
 
-/// Between a corner of the one and an edge of the other.
-fn across_edge(with_corner: &Given, with_edge: &Given, across: Across) -> (Distance, String) {
-    let distance = Distance::of_turn(across.turn, across.squared, across.rounded);
-    let (corner, edge) = (
-        corner_of(with_corner, across.corner),
-        with_edge.edge(across.edge),
-    );
-    let places = format!("{corner} and edge {edge} of {with_edge}");
-    (distance, places)
-}
-
-/// A corner of a shape. Of a point it is the point itself.
-fn corner_of(shape: &Given, position: usize) -> String {
-    let corner = shape.corner(position);
-    match (shape.corners(), &shape.name) {
-        ([_], None) => shape.to_string(),
-        ([_], Some(name)) => format!("{name} at {corner}"),
-        _ => format!("corner {corner} of {shape}"),
+/// Says where a cart that drives straight first meets an obstacle.
+fn contact(Drive { pair, from, to }: &Drive, found: Contact) -> String {
+    let (
+        Pair {
+            a: obstacle,
+            b: cart,
+        },
+        way,
+    ) = (pair, Edge(Corner(*from), Corner(*to)));
+    let Some(meeting) = found.meeting else {
+        return format!("{cart} is clear of {obstacle} all the way from {way}");
+    };
+    let (n, d) = (meeting.numerator, meeting.denominator);
+    if n == 0 {
+        return format!("{cart} meets {obstacle} where it begins its way from {way}");
     }
+    let distance = Distance::of_part([n, d], way.squared(), meeting.safe);
+    format!("{cart} meets {obstacle} after {distance}, at {n}/{d} of the way from {way}")
 }
 
 /// Says how far a changed shape reaches beyond the old one, in whole millimetres rounded up, and where.
 fn excess(Pair { a, b }: &Pair, found: Excess) -> String {
     let (corner, place) = match found.beyond {
         None => return format!("{a} is inside {b}: it reaches nowhere further"),
-        Some(Beyond::Corners { corner, other, .. }) => (corner, corner_of(b, other)),
-        Some(Beyond::Edge { corner, edge, .. }) => {
-            (corner, format!("edge {} of {b}", b.edge(edge)))
-        }
+        Some(Beyond::Corners { corner, other, .. }) => (corner, Called::own(b).corner(other)),
+        Some(Beyond::Edge { corner, edge, .. }) => (corner, Called::own(b).edge(edge)),
     };
     format!(
         "{a} reaches at most {} mm beyond {b}, rounded up, from {place} to {}",
         found.up(),
-        corner_of(a, corner)
+        Called::own(a).corner(corner)
     )
 }
 
@@ -266,7 +257,7 @@ fn passage(Trio { left, right, cart }: &Trio, found: Passage) -> String {
     )
 }
 
-fn made(making: &Making, shape: &Given) -> String {
+fn made(making: &Making, Made { shape, record }: &Made) -> String {
     let what = described(shape);
     let subject = match (&shape.name, making) {
         (Some(name), _) => name.to_string(),
@@ -277,8 +268,10 @@ fn made(making: &Making, shape: &Given) -> String {
         (None, Making::Sweep(_)) => "the shape of these points".to_string(),
         (None, Making::At(Pair { a, b })) => format!("{a} at {}", b.corner(0)),
         (None, Making::Read { name, .. }) => format!("name {name} of the log"),
+        (None, Making::Entry { position, .. }) => format!("entry {position} of the log"),
     };
-    format!("{subject} is {what}")
+    let record = record.map_or(String::new(), |name| format!("record {name}, "));
+    format!("{subject} is {record}{what}")
 }
 
 fn parts(Pair { a, b }: &Pair, written: &[Written]) -> String {

@@ -2,7 +2,7 @@
 //!
 //! Every line of a file gives exactly one event. A definition that is refused or cannot be read removes its name, so
 //! that no later question is answered with a shape from before it.
-use crate::answer::{Answer, Refused, ask};
+use crate::answer::{Answer, Made, Refused, ask};
 use crate::fault::Fault;
 use crate::fields::{Fields, Unread, name_of};
 use crate::given::Given;
@@ -254,10 +254,10 @@ impl Session {
     /// Asks a question; a shape that it makes is kept under its name.
     fn asked(&mut self, place: &Place, name: Option<Name>, question: Question) -> Outcome {
         match ask(question) {
-            Ok(Answer::Made(making, shape)) => {
+            Ok(Answer::Made(making, Made { shape, record })) => {
                 let shape = Given { name, ..shape };
                 let earlier = self.keep(place, &shape, Origin::Made(making.clone()));
-                let answer = Answer::Made(making, shape);
+                let answer = Answer::Made(making, Made { shape, record });
                 Outcome::Answered { answer, earlier }
             }
             Ok(answer) => Outcome::Answered {

@@ -2,7 +2,7 @@
 //! it: how it is asked, its sentence, its JSON.
 use crate::fields::{Fields, Part, Unread};
 use crate::given::Pair;
-use crate::question::{Making, OfOne, OfTwo, Packing, Question, Record};
+use crate::question::{Around, Drive, Making, Narrowest, OfOne, OfTwo, Packing, Question, Record};
 
 /// A question: how its line is written, and what it asks.
 pub struct Row {
@@ -36,6 +36,7 @@ const A: Part = part("shape");
 const B: Part = part("another shape");
 const TOWARDS: Part = part("direction u v");
 const ROOM: Part = optional("room in numbers");
+const LOG: Part = part("log in hexadecimal");
 
 /// The questions, in the order of the help.
 #[rustfmt::skip]
@@ -104,6 +105,13 @@ pub const TABLE: &[Row] = &[
         example: "passage | wall | linen-store | cart",
     },
     Row {
+        word: "contact",
+        parts: &[part("obstacle"), part("cart's outline"), part("place x y"), part("place u v")],
+        read: |f| Ok(Question::Contact(Drive { pair: f.pair()?, from: f.end()?, to: f.end()? })),
+        asks: "driven straight from one place to another, where does the cart first meet the obstacle?",
+        example: "contact | linen-store | cart | 0 0 | 6000 1500",
+    },
+    Row {
         word: "at", parts: &[part("shape or outline"), part("place x y")],
         read: |f| Ok(Question::Make(Making::At(Pair { a: f.shape()?, b: f.place()? }), None)),
         asks: "the shape with its origin at the place", example: "there = at | cart | @2 3500 0",
@@ -145,7 +153,7 @@ pub const TABLE: &[Row] = &[
         example: "tablet | mm 0x4008000000000000 | e8 0xc030000000000000",
     },
     Row {
-        word: "bookread", parts: &[part("log in hexadecimal"), part("name of a record"), ROOM],
+        word: "bookread", parts: &[LOG, part("name of a record"), ROOM],
         read: |f| {
             let making = Making::Read { log: f.bytes()?, name: f.record_name()? };
             Ok(Question::Make(making, f.optional_count("room")?))
@@ -154,7 +162,7 @@ pub const TABLE: &[Row] = &[
     },
     Row {
         word: "bookadd",
-        parts: &[part("log in hexadecimal"), part("name of a record"), part("shape"), optional("stores")],
+        parts: &[LOG, part("name of a record"), part("shape"), optional("stores")],
         read: |f| Ok(Question::Add(Record {
             log: f.bytes()?, name: f.record_name()?, shape: f.shape()?, stores: f.optional_count("stores")?,
         })),
@@ -163,13 +171,33 @@ pub const TABLE: &[Row] = &[
     },
     Row {
         word: "pack",
-        parts: &[part("log in hexadecimal"), part("bytes to pack it into"), part("name to leave out, or nothing"),
-            optional("stores")],
+        parts: &[LOG, part("bytes to pack it into"), part("name to leave out, or nothing"), optional("stores")],
         read: |f| Ok(Question::Pack(Packing {
             old: f.bytes()?, new: f.bytes()?, but: f.but()?, stores: f.optional_count("stores")?,
         })),
         asks: "the latest records of a log alone, in a second run of bytes",
         example: "pack | 0F0002000700020001000000FFFFFFFF5A | 0000000000000000000000000000000000 |",
+    },
+    Row {
+        word: "entry", parts: &[LOG, part("position from 0"), ROOM],
+        read: |f| {
+            let making = Making::Entry { log: f.bytes()?, position: f.position()? };
+            Ok(Question::Make(making, f.optional_count("room")?))
+        },
+        asks: "the current shape at a position of a log, with its name",
+        example: "entry | 0F0002000700020001000000FFFFFFFF5A | 0",
+    },
+    Row {
+        word: "nearest", parts: &[LOG, part("shape, or @FLOOR and an outline"), optional("name to leave out")],
+        read: |f| Ok(Question::Nearest(Around { log: f.bytes()?, shape: f.shape_on_floor()?, but: f.but()? })),
+        asks: "which current shape of a log is nearest on the floor?",
+        example: "nearest | 0F0002000700020001000000FFFFFFFF5A | linen-store",
+    },
+    Row {
+        word: "gap", parts: &[LOG, part("cart's outline, after @FLOOR")],
+        read: |f| Ok(Question::Gap(Narrowest { log: f.bytes()?, cart: f.shape_on_floor()? })),
+        asks: "which two current shapes of a log on the floor leave the narrowest gap for the cart?",
+        example: "gap | 0F0002000700020001000000FFFFFFFF5A0F0002000800020009000000FFFFFFFF5A | @2 0 0",
     },
 ];
 

@@ -31,13 +31,17 @@ pub fn list(words: &[Word<'_>], unsaid: Option<u16>) -> Result<Given, Unread> {
     })
 }
 
-/// A floor, with its sign: digits, with a minus before them or none, as `query` reads it. So `@-0` is floor 0.
-fn floor(word: &Word<'_>) -> Result<u16, Unread> {
+/// Reads a floor: its sign, and a number from 0 to 65,535 as corners are written, so `@-0` is floor 0.
+///
+/// # Errors
+/// It is none.
+pub fn floor(word: &Word<'_>) -> Result<u16, Unread> {
     let text = word.text.strip_prefix('@').unwrap_or_default();
-    let number = text.parse::<i32>().ok().filter(|_| !text.starts_with('+'));
+    let line = word.line;
+    let floor = number(&Word { text, line }).ok();
     let found = || word.text.to_string();
-    number
-        .and_then(|number| u16::try_from(number).ok())
+    floor
+        .and_then(|floor| floor.try_into().ok())
         .ok_or_else(|| Unread::at(word, Fault::NotAFloor { found: found() }))
 }
 

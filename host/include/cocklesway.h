@@ -196,6 +196,14 @@ cocklesway_reply cocklesway_tangents(const int32_t *a, size_t n, uint32_t f, con
 cocklesway_reply cocklesway_passage(const int32_t *left, size_t n, uint32_t f, const int32_t *right, size_t m,
                                     uint32_t g, const int32_t *cart, size_t k, uint32_t h);
 
+/* Where a cart that drives straight from (x, y) to (u, v), without turning, first meets an obstacle. The corners of its
+ * outline are relative to its own origin, whose places these are; both may be the same. Values: 0, floor if it never
+ * does; or 1, n, d, safe, floor: the fraction n/d of the way in lowest terms, 0/1 if it begins there, and the
+ * millimetres of the way before it, rounded down. Touching is meeting. Refused 1 to 5 of each list, 13, 3 of the places
+ * as of lists 3 and 4, then 6, 7 of the obstacle grown by the cart. */
+cocklesway_reply cocklesway_contact(const int32_t *obstacle, size_t n, uint32_t f, const int32_t *cart, size_t m,
+                                    uint32_t g, int32_t x, int32_t y, int32_t u, int32_t v);
+
 /* The corner of two readings, each in millimetres or in eighths of one. Values: x, y (may be below 0); no floor.
  * Refused 17, 18 or 3 of x, then of y. */
 cocklesway_reply cocklesway_tablet(bool x_eighths, double x, bool y_eighths, double y);
@@ -223,6 +231,11 @@ cocklesway_reply cocklesway_log_pack(const uint8_t *old, size_t count, uint8_t *
  * nobody. Values: the name, then those of cocklesway_clearance of the shape and that one. Refused 1 to 5, 13, 15, 20. */
 cocklesway_reply cocklesway_log_nearest(const uint8_t *log, size_t count, const int32_t *list, size_t n,
                                         uint32_t floor, size_t but);
+
+/* Finds the two current shapes on a floor of a log with the narrowest gap, both grown by a cart's outline; the point
+ * 0 0 asks the gap of the shapes as they are. Values: both names, then those of cocklesway_clearance of the grown two.
+ * Refused 1 to 5, 13, 15, 20, then 6, 7 of the grown shapes, one after the other. */
+cocklesway_reply cocklesway_log_gap(const uint8_t *log, size_t count, const int32_t *cart, size_t n, uint32_t floor);
 
 /* Four calls on bytes: x and y of each corner, four bytes to a number, two's complement, the lowest byte first, at any
  * alignment. An output needs eight bytes to a corner. Each answers one number, from its low end:

@@ -1,4 +1,5 @@
 //! What the questions answer. Every answer on shapes carries their floor. Positions count from 0.
+use crate::reply::{narrow, position};
 
 /// How many corners a shape has.
 ///
@@ -260,11 +261,15 @@ impl Clearance {
     /// ```
     #[must_use]
     pub const fn rounded(self) -> u64 {
-        match self.nearest {
-            None => 0,
-            Some(Nearest::Corners { rounded, .. }) => rounded,
-            Some(Nearest::CornerEdge(across) | Nearest::EdgeCorner(across)) => across.rounded,
-        }
+        rounded(self.nearest)
+    }
+}
+
+const fn rounded(nearest: Option<Nearest>) -> u64 {
+    match nearest {
+        None => 0,
+        Some(Nearest::Corners { rounded, .. }) => rounded,
+        Some(Nearest::CornerEdge(across) | Nearest::EdgeCorner(across)) => across.rounded,
     }
 }
 
@@ -323,6 +328,136 @@ pub struct Across {
     pub squared: u64,
     /// The distance, rounded down to whole millimetres.
     pub rounded: u64,
+}
+
+impl Nearest {
+    /// The kind and its numbers, as the archive answers them, with the floor: 0 not apart, 1 two corners, 2 a corner
+    /// of the first and an edge of the second, 3 a corner of the second and an edge of the first.
+    #[inline]
+    pub(crate) fn of(values: [u64; 7]) -> (Option<Nearest>, u32) {
+        let (nearest, floor) = match values {
+            [0, floor, ..] => (None, floor),
+            [1, first, second, squared, rounded, floor, ..] => {
+                let corners = Nearest::Corners {
+                    first: position(first),
+                    second: position(second),
+                    squared,
+                    rounded,
+                };
+                (Some(corners), floor)
+            }
+            [kind, corner, edge, turn, squared, rounded, floor] => {
+                let across = Across {
+                    corner: position(corner),
+                    edge: position(edge),
+                    turn,
+                    squared,
+                    rounded,
+                };
+                let nearest = match kind {
+                    2 => Nearest::CornerEdge(across),
+                    _ => Nearest::EdgeCorner(across),
+                };
+                (Some(nearest), floor)
+            }
+        };
+        (nearest, narrow(floor))
+    }
+}
+
+/// The shape of a floor that is nearest to another shape.
+///
+/// ```
+/// use cocklesway::{Addition, Book, Shape};
+///
+/// let mut bytes = [0; 64];
+/// let mut book = Book::new(&mut bytes);
+/// for (name, x) in [(7, 30), (8, 4)] {
+///     assert_eq!(book.add(name, Shape::new(&[[x, 0]], 3), usize::MAX), Ok(Addition::Finished));
+/// }
+/// let answer = book.nearest(Shape::new(&[[0, 3]], 3), None)?;
+/// assert_eq!((answer.name, answer.rounded(), answer.floor), (8, 5, 3));
+/// assert_eq!(book.nearest(Shape::new(&[[4, 0]], 3), None)?.nearest, None);
+/// # Ok::<(), cocklesway::Refusal>(())
+/// ```
+#[derive(Clone, Copy, Debug, PartialEq, Eq, Hash)]
+#[non_exhaustive]
+#[must_use]
+pub struct Neighbour {
+    /// Its name.
+    pub name: u16,
+    /// Where the two are nearest, the asked shape first, or nothing if they meet.
+    pub nearest: Option<Nearest>,
+    /// The floor.
+    pub floor: u32,
+}
+
+impl Neighbour {
+    /// Returns the distance rounded down to whole millimetres; 0 if the shapes meet.
+    ///
+    /// ```
+    /// use cocklesway::{Addition, Book, Shape};
+    ///
+    /// let mut bytes = [0; 32];
+    /// let mut book = Book::new(&mut bytes);
+    /// assert_eq!(book.add(7, Shape::new(&[[3, 4]], 0), usize::MAX), Ok(Addition::Finished));
+    /// assert_eq!(book.nearest(Shape::new(&[[0, 0]], 0), None)?.rounded(), 5);
+    /// # Ok::<(), cocklesway::Refusal>(())
+    /// ```
+    #[must_use]
+    pub const fn rounded(self) -> u64 {
+        rounded(self.nearest)
+    }
+}
+
+/// The narrowest gap between two shapes of a floor, both grown by a cart.
+///
+/// ```
+/// use cocklesway::{Addition, Book, Shape};
+///
+/// let mut bytes = [0; 64];
+/// let mut book = Book::new(&mut bytes);
+/// for (name, x) in [(1, 0), (2, 5), (3, 9)] {
+///     assert_eq!(book.add(name, Shape::new(&[[x, 0]], 3), usize::MAX), Ok(Addition::Finished));
+/// }
+/// let answer = book.gap(Shape::new(&[[0, 0]], 3))?;
+/// assert_eq!((answer.names, answer.rounded(), answer.floor), ([2, 3], 4, 3));
+///
+/// // A cart of 4 mm would touch both.
+/// assert_eq!(book.gap(Shape::new(&[[0, 0], [4, 0]], 3))?.nearest, None);
+/// # Ok::<(), cocklesway::Refusal>(())
+/// ```
+#[derive(Clone, Copy, Debug, PartialEq, Eq, Hash)]
+#[non_exhaustive]
+#[must_use]
+pub struct Gap {
+    /// The names of the two, in the order of the log.
+    pub names: [u16; 2],
+    /// Where the grown shapes are nearest, or nothing if they meet. Positions count in the grown shapes.
+    pub nearest: Option<Nearest>,
+    /// The floor.
+    pub floor: u32,
+}
+
+impl Gap {
+    /// Returns the gap rounded down to whole millimetres; 0 if the grown shapes meet.
+    ///
+    /// ```
+    /// use cocklesway::{Addition, Book, Shape};
+    ///
+    /// let mut bytes = [0; 64];
+    /// let mut book = Book::new(&mut bytes);
+    /// for (name, x) in [(1, 0), (2, 900)] {
+    ///     assert_eq!(book.add(name, Shape::new(&[[x, 0]], 0), usize::MAX), Ok(Addition::Finished));
+    /// }
+    /// let cart = Shape::new(&[[-200, 0], [500, 0]], 0);
+    /// assert_eq!(book.gap(cart)?.rounded(), 200);
+    /// # Ok::<(), cocklesway::Refusal>(())
+    /// ```
+    #[must_use]
+    pub const fn rounded(self) -> u64 {
+        rounded(self.nearest)
+    }
 }
 
 /// How far a changed shape reaches beyond the old one.
@@ -456,6 +591,48 @@ pub struct Way {
     pub high: i64,
     /// The room from `low` to `high` in millimetres, rounded down. No direction has more room.
     pub width: u64,
+}
+
+/// Where a cart on a straight drive first meets an obstacle.
+///
+/// ```
+/// use cocklesway::{Shape, contact};
+///
+/// let wall = Shape::new(&[[6, -5], [6, 5]], 0);
+/// let cart = Shape::new(&[[0, 0], [2, 0]], 0);
+/// assert_eq!(contact(wall, cart, [0, 0], [3, 0])?.meeting, None);
+/// assert!(contact(wall, cart, [0, 0], [4, 0])?.meeting.is_some());
+/// # Ok::<(), cocklesway::Refusal>(())
+/// ```
+#[derive(Clone, Copy, Debug, PartialEq, Eq, Hash)]
+#[non_exhaustive]
+#[must_use]
+pub struct Contact {
+    /// Where it first meets the obstacle, or nothing if it never does.
+    pub meeting: Option<Meeting>,
+    /// The floor.
+    pub floor: u32,
+}
+
+/// Where on its way a cart first meets an obstacle. Touching is meeting.
+///
+/// ```
+/// use cocklesway::{Shape, contact};
+///
+/// let (post, cart) = (Shape::new(&[[6, 8]], 0), Shape::new(&[[0, 0]], 0));
+/// let meeting = contact(post, cart, [0, 0], [9, 12])?.meeting.expect("the post is on the way");
+/// assert_eq!((meeting.numerator, meeting.denominator, meeting.safe), (2, 3, 10));
+/// # Ok::<(), cocklesway::Refusal>(())
+/// ```
+#[derive(Clone, Copy, Debug, PartialEq, Eq, Hash)]
+#[non_exhaustive]
+pub struct Meeting {
+    /// The fraction of the way, in lowest terms: its numerator. 0 if the cart meets the obstacle from the beginning.
+    pub numerator: u64,
+    /// Its denominator.
+    pub denominator: u64,
+    /// The millimetres of the way before it, rounded down.
+    pub safe: u64,
 }
 
 /// A line from a corner of the first shape to a corner of the second, by their positions.

@@ -78,6 +78,9 @@ unsafe extern "C" {
     fn cocklesway_passage(
         a: List, n: usize, f: u32, b: List, m: usize, g: u32, c: List, k: usize, h: u32,
     ) -> Reply;
+    fn cocklesway_contact(
+        obstacle: List, n: usize, f: u32, cart: List, m: usize, g: u32, x: i32, y: i32, u: i32, v: i32,
+    ) -> Reply;
     fn cocklesway_log_read(log: Bytes, count: usize, name: u16, out: Output, room: usize) -> Reply;
     fn cocklesway_log_entry(log: Bytes, count: usize, k: usize, out: Output, room: usize) -> Reply;
     fn cocklesway_log_add(
@@ -86,6 +89,8 @@ unsafe extern "C" {
     fn cocklesway_log_pack(
         old: Bytes, count: usize, new: BytesOutput, room: usize, but: u32, allowed: usize,
     ) -> Reply;
+    fn cocklesway_log_nearest(log: Bytes, count: usize, list: List, n: usize, floor: u32, but: usize) -> Reply;
+    fn cocklesway_log_gap(log: Bytes, count: usize, cart: List, n: usize, floor: u32) -> Reply;
     fn cocklesway_judge_bytes(list: Bytes, n: usize, floor: u32) -> u64;
     fn cocklesway_sum_bytes(
         a: Bytes, n: usize, f: u32, b: Bytes, m: usize, g: u32, out: BytesOutput, room: usize,
@@ -215,6 +220,30 @@ pub(crate) fn passage(left: Shape<'_>, right: Shape<'_>, cart: Shape<'_>) -> Rep
     }
 }
 
+pub(crate) fn contact(
+    obstacle: Shape<'_>,
+    cart: Shape<'_>,
+    [x, y]: [i32; 2],
+    [u, v]: [i32; 2],
+) -> Reply {
+    let (obstacle, cart) = (lent(obstacle), lent(cart));
+    // SAFETY: both lists are live slices of these lengths.
+    unsafe {
+        cocklesway_contact(
+            obstacle.list,
+            obstacle.n,
+            obstacle.floor,
+            cart.list,
+            cart.n,
+            cart.floor,
+            x,
+            y,
+            u,
+            v,
+        )
+    }
+}
+
 pub(crate) fn log_read(log: &[u8], name: u16, out: &mut [i32]) -> Reply {
     let (to, room) = (out.as_mut_ptr(), out.len());
     // SAFETY: log and output are live slices of these lengths, and no other reference reaches the output.
@@ -238,6 +267,18 @@ pub(crate) fn log_pack(old: &[u8], new: &mut [u8], but: u32, allowed: usize) -> 
     let (to, room) = (new.as_mut_ptr(), new.len());
     // SAFETY: both are live slices of these lengths, and no other reference reaches the new one.
     unsafe { cocklesway_log_pack(old.as_ptr(), old.len(), to, room, but, allowed) }
+}
+
+pub(crate) fn log_nearest(log: &[u8], a: Shape<'_>, but: usize) -> Reply {
+    let a = lent(a);
+    // SAFETY: log and list are live slices of these lengths.
+    unsafe { cocklesway_log_nearest(log.as_ptr(), log.len(), a.list, a.n, a.floor, but) }
+}
+
+pub(crate) fn log_gap(log: &[u8], cart: Shape<'_>) -> Reply {
+    let a = lent(cart);
+    // SAFETY: log and list are live slices of these lengths.
+    unsafe { cocklesway_log_gap(log.as_ptr(), log.len(), a.list, a.n, a.floor) }
 }
 
 pub(crate) fn judge_bytes(list: &[u8], floor: u32) -> u64 {

@@ -1,7 +1,7 @@
 //! The log of shapes by name.
 use crate::archive;
 use crate::reply::{front, narrow};
-use crate::{Refusal, Shape};
+use crate::{Gap, Nearest, Neighbour, Refusal, Shape};
 
 /// A log of shapes by name, over lent bytes. It is new if all bytes are 0. A shape is added after the last whole
 /// record, and the latest record of a name counts.
@@ -142,6 +142,57 @@ impl<'a> Book<'a> {
                 Err(refusal) => Some(Err(refusal)),
             }
         })
+    }
+
+    /// Returns which of the current shapes on a shape's floor is nearest to it, as [`log_nearest`] does. The name `but`
+    /// is left out.
+    ///
+    /// # Errors
+    /// Refused: 1 to 5, 13, 15, 20.
+    ///
+    /// ```
+    /// use cocklesway::{Addition, Book, Refusal, Shape};
+    ///
+    /// let mut bytes = [0; 64];
+    /// let mut book = Book::new(&mut bytes);
+    /// let [bed, chair] = [Shape::new(&[[0, 0], [900, 0]], 3), Shape::new(&[[1400, 0]], 3)];
+    /// assert_eq!(book.add(7, bed, usize::MAX), Ok(Addition::Finished));
+    /// assert_eq!(book.add(8, chair, usize::MAX), Ok(Addition::Finished));
+    ///
+    /// let answer = book.nearest(bed, Some(7))?;
+    /// assert_eq!((answer.name, answer.rounded()), (8, 500));
+    /// assert_eq!(book.nearest(Shape::new(&[[0, 0]], 4), None), Err(Refusal::TooFew));
+    /// # Ok::<(), Refusal>(())
+    /// ```
+    #[inline]
+    pub fn nearest(&self, shape: Shape<'_>, but: Option<u16>) -> Result<Neighbour, Refusal> {
+        log_nearest(self.bytes, shape, but)
+    }
+
+    /// Returns which two current shapes on a cart's floor have the narrowest gap, both grown by its outline, as
+    /// [`log_gap`] does.
+    ///
+    /// # Errors
+    /// Refused: 1 to 5, 13, 15, 20, then 6 and 7 of the grown shapes, in the order of the log.
+    ///
+    /// ```
+    /// use cocklesway::{Addition, Book, Refusal, Shape};
+    ///
+    /// let mut bytes = [0; 64];
+    /// let mut book = Book::new(&mut bytes);
+    /// let cart = Shape::new(&[[-450, 0], [450, 0]], 3);
+    /// assert_eq!(book.gap(cart), Err(Refusal::TooFew));
+    ///
+    /// for (name, x) in [(7, 0), (8, 1000)] {
+    ///     assert_eq!(book.add(name, Shape::new(&[[x, 0]], 3), usize::MAX), Ok(Addition::Finished));
+    /// }
+    /// let answer = book.gap(cart)?;
+    /// assert_eq!((answer.names, answer.rounded()), ([7, 8], 100));
+    /// # Ok::<(), Refusal>(())
+    /// ```
+    #[inline]
+    pub fn gap(&self, cart: Shape<'_>) -> Result<Gap, Refusal> {
+        log_gap(self.bytes, cart)
     }
 
     /// Adds a shape under a name with at most so many stores of single bytes, and returns whether they sufficed.
@@ -286,6 +337,65 @@ pub fn log_entry<'o>(
     out: &'o mut [[i32; 2]],
 ) -> Result<(u16, Shape<'o>), Refusal> {
     let [count, name, floor, ..] = archive::log_entry(log, k, out.as_flattened_mut()).values()?;
-    let name = u16::try_from(name).unwrap_or(u16::MAX);
-    Ok((name, Shape::new(front(out, count), narrow(floor))))
+    Ok((name_of(name), Shape::new(front(out, count), narrow(floor))))
+}
+
+/// Returns which of the current shapes on a shape's floor in a log is nearest to it, and how near: the first in the log
+/// on a tie. The name `but` is left out. What they are at is what [`clearance`](crate::clearance) answers of the shape
+/// and that one.
+///
+/// # Errors
+/// Refused: 1 to 5, 13, 15, 20.
+///
+/// ```
+/// use cocklesway::{Nearest, Refusal, Shape, log_nearest};
+///
+/// // On floor 0: kind 1, name 7, the point 1 -1.
+/// let log = [13, 0, 1, 0, 7, 0, 1, 0, 0, 0, 255, 255, 255, 255, 0x5A];
+/// let post = Shape::new(&[[4, 3]], 0);
+/// let answer = log_nearest(&log, post, None)?;
+/// let corners = Nearest::Corners { first: 0, second: 0, squared: 25, rounded: 5 };
+/// assert_eq!((answer.name, answer.nearest), (7, Some(corners)));
+/// assert_eq!(log_nearest(&log, post, Some(7)), Err(Refusal::TooFew));
+/// # Ok::<(), Refusal>(())
+/// ```
+#[inline]
+pub fn log_nearest(log: &[u8], shape: Shape<'_>, but: Option<u16>) -> Result<Neighbour, Refusal> {
+    let but = but.map_or(NOBODY as usize, usize::from);
+    let [name, values @ .., _] = archive::log_nearest(log, shape, but).values()?;
+    let (nearest, floor) = Nearest::of(values);
+    Ok(Neighbour {
+        name: name_of(name),
+        nearest,
+        floor,
+    })
+}
+
+/// Returns which two current shapes on a cart's floor in a log have the narrowest gap, both grown by its outline, and
+/// how wide it is: the first such pair in the order of the log. The corners of the outline are relative to the cart's
+/// own origin; the point 0 0 asks the gap of the shapes as they are.
+///
+/// # Errors
+/// Refused: 1 to 5, 13, 15, 20, then 6 and 7 of the grown shapes, in the order of the log.
+///
+/// ```
+/// use cocklesway::{Refusal, Shape, log_gap};
+///
+/// // A gap is between two.
+/// let log = [13, 0, 1, 0, 7, 0, 1, 0, 0, 0, 255, 255, 255, 255, 0x5A];
+/// assert_eq!(log_gap(&log, Shape::new(&[[0, 0]], 0)), Err(Refusal::TooFew));
+/// ```
+#[inline]
+pub fn log_gap(log: &[u8], cart: Shape<'_>) -> Result<Gap, Refusal> {
+    let [first, second, values @ ..] = archive::log_gap(log, cart).values()?;
+    let (nearest, floor) = Nearest::of(values);
+    Ok(Gap {
+        names: [name_of(first), name_of(second)],
+        nearest,
+        floor,
+    })
+}
+
+fn name_of(value: u64) -> u16 {
+    u16::try_from(value).unwrap_or(u16::MAX)
 }

@@ -2,8 +2,8 @@
 use crate::archive;
 use crate::reply::{coordinate, narrow, position};
 use crate::{
-    Across, Area, Beyond, Clearance, Corners, Excess, Furthest, Inside, Length, Line, Nearest,
-    Offer, Passage, Refusal, Relation, Separator, Shape, Standing, Tangents, Way, Width,
+    Area, Beyond, Clearance, Contact, Corners, Excess, Furthest, Inside, Length, Line, Meeting,
+    Nearest, Offer, Passage, Refusal, Relation, Separator, Shape, Standing, Tangents, Way, Width,
 };
 
 /// Returns how many corners the shape has.
@@ -360,33 +360,8 @@ pub fn find(a: Shape<'_>, b: Shape<'_>) -> Result<Separator, Refusal> {
 /// ```
 #[inline]
 pub fn clearance(a: Shape<'_>, b: Shape<'_>) -> Result<Clearance, Refusal> {
-    let (nearest, floor) = match archive::clearance(a, b).values()? {
-        [0, floor, ..] => (None, floor),
-        [1, first, second, squared, rounded, floor, ..] => {
-            let corners = Nearest::Corners {
-                first: position(first),
-                second: position(second),
-                squared,
-                rounded,
-            };
-            (Some(corners), floor)
-        }
-        [kind, corner, edge, turn, squared, rounded, floor, ..] => {
-            let across = Across {
-                corner: position(corner),
-                edge: position(edge),
-                turn,
-                squared,
-                rounded,
-            };
-            let nearest = match kind {
-                2 => Nearest::CornerEdge(across),
-                _ => Nearest::EdgeCorner(across),
-            };
-            (Some(nearest), floor)
-        }
-    };
-    let floor = narrow(floor);
+    let [values @ .., _, _] = archive::clearance(a, b).values()?;
+    let (nearest, floor) = Nearest::of(values);
     Ok(Clearance { nearest, floor })
 }
 
@@ -465,6 +440,49 @@ pub fn passage(left: Shape<'_>, right: Shape<'_>, cart: Shape<'_>) -> Result<Pas
                 low: low.cast_signed(),
                 high: high.cast_signed(),
                 width,
+            }),
+            floor: narrow(floor),
+        },
+    })
+}
+
+/// Returns where a cart that drives straight, without turning, first meets an obstacle. The corners of its outline are
+/// relative to its own origin, which goes from the one place to the other; both may be the same. Touching is meeting.
+///
+/// # Errors
+/// Refused: 1 to 5 of the obstacle, then of the cart, 13, 3 of a place, which is the third or fourth list, then 6 and 7
+/// of the obstacle grown by the cart.
+///
+/// ```
+/// use cocklesway::{Refusal, Shape, Which, contact};
+///
+/// let bed = Shape::new(&[[2000, 0], [4000, 0], [4000, 900], [2000, 900]], 2);
+/// let cart = Shape::new(&[[-450, -250], [450, -250], [450, 250], [-450, 250]], 2);
+/// let meeting = contact(bed, cart, [0, 300], [3100, 300])?.meeting.expect("the bed is ahead");
+/// assert_eq!((meeting.numerator, meeting.denominator, meeting.safe), (1, 2, 1550));
+/// assert_eq!(contact(bed, cart, [0, -300], [3100, -300])?.meeting, None);
+///
+/// let far = contact(bed, cart, [0, 0], [0, 1_000_001]);
+/// assert_eq!(far, Err(Refusal::Range { shape: Which::Fourth }));
+/// # Ok::<(), Refusal>(())
+/// ```
+#[inline]
+pub fn contact(
+    obstacle: Shape<'_>,
+    cart: Shape<'_>,
+    from: [i32; 2],
+    to: [i32; 2],
+) -> Result<Contact, Refusal> {
+    Ok(match archive::contact(obstacle, cart, from, to).values()? {
+        [0, floor, ..] => Contact {
+            meeting: None,
+            floor: narrow(floor),
+        },
+        [_, numerator, denominator, safe, floor, ..] => Contact {
+            meeting: Some(Meeting {
+                numerator,
+                denominator,
+                safe,
             }),
             floor: narrow(floor),
         },

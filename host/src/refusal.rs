@@ -18,8 +18,10 @@ pub enum Which {
     First,
     /// The second one.
     Second,
-    /// The third one: the cart of a passage.
+    /// The third one: the cart of a passage, or the place that a drive begins at.
     Third,
+    /// The fourth one: the place that a drive ends at.
+    Fourth,
 }
 
 /// A coordinate of a corner.
@@ -267,7 +269,8 @@ impl Which {
         match number {
             1 => Which::First,
             2 => Which::Second,
-            _ => Which::Third,
+            3 => Which::Third,
+            _ => Which::Fourth,
         }
     }
 }
@@ -278,6 +281,7 @@ impl fmt::Display for Which {
             Which::First => "first list",
             Which::Second => "second list",
             Which::Third => "third list",
+            Which::Fourth => "fourth list",
         })
     }
 }

@@ -79,7 +79,7 @@ static cocklesway_reply part(const int32_t *a, size_t n, uint32_t f, const int32
     return cocklesway_part(a, n, f, b, m, g, 0, 0, false, 3, out, room);
 }
 
-/* Adds the shape to a log that just holds it, packs that into another that does, and reads it there. */
+/* Adds the shape to a log that just holds it, packs that into another that does, and asks of it there. */
 static cocklesway_reply log_read(const int32_t *a, size_t n, uint32_t f, const int32_t *b, size_t m, uint32_t g,
                                  int32_t *out, size_t room) {
     (void)b, (void)m, (void)g;
@@ -87,6 +87,8 @@ static cocklesway_reply log_read(const int32_t *a, size_t n, uint32_t f, const i
     uint8_t *log = (uint8_t *)calloc(count, 1), *packed = (uint8_t *)calloc(count, 1);
     cocklesway_log_add(log, count, 7, f, a, n, SIZE_MAX);
     cocklesway_log_pack(log, count, packed, count, 65536, SIZE_MAX);
+    cocklesway_log_entry(packed, count, 0, out, room);
+    cocklesway_log_nearest(packed, count, a, n, f, 65536);
     cocklesway_reply reply = cocklesway_log_read(packed, count, 7, out, room);
     free(log);
     free(packed);

@@ -1,8 +1,8 @@
 //! The exchange of the README, asked of the package.
 use cocklesway::{
-    Addition, Axis, Book, Nearest, Reading, Refusal, Relation, Shape, Walk, Which, clearance, find,
-    furthest, grow, inside, judge, length, log_pack, log_read, merge, mirror, offer, passage,
-    relation, sum, sweep, tablet, tangents, width,
+    Addition, Axis, Book, Nearest, Reading, Refusal, Relation, Shape, Walk, Which, clearance,
+    contact, find, furthest, grow, inside, judge, length, log_pack, log_read, merge, mirror, offer,
+    passage, relation, sum, sweep, tablet, tangents, width,
 };
 
 const SQUARE: Shape = on(2, &[[0, 0], [2, 0], [2, 2], [0, 2]]);
@@ -286,6 +286,62 @@ fn log_is_packed() {
     bad[17 + 2] = 3;
     let refused = Err(Refusal::Damaged { place: 17 });
     assert_eq!(log_pack(&bad, &mut [], None, 0), refused);
+}
+
+#[test]
+fn log_has_neighbours_and_gaps() {
+    let mut log = [0; 51];
+    let mut book = Book::new(&mut log);
+    for (name, x) in [(1, 0), (2, 5), (3, 9)] {
+        let point = [[x, 0]];
+        assert_eq!(book.add(name, on(3, &point), 99), Ok(Addition::Finished));
+    }
+    let near = |place: [i32; 2], but| {
+        let found = book.nearest(on(3, &[place]), but)?;
+        Ok::<_, Refusal>((found.name, found.rounded(), found.floor))
+    };
+    assert_eq!(near([2, 0], None), Ok((1, 2, 3)));
+    assert_eq!(near([2, 0], Some(1)), Ok((2, 3, 3)));
+    assert_eq!(near([7, 0], None), Ok((2, 2, 3)));
+    assert_eq!(near([9, 0], None), Ok((3, 0, 3)));
+    assert_eq!(book.nearest(on(4, &[[0, 0]]), None), Err(Refusal::TooFew));
+    assert_eq!(
+        book.nearest(on(1 << 16, &[[0, 0]]), None),
+        Err(Refusal::Floors)
+    );
+    let narrow = |cart: &[[i32; 2]]| {
+        let found = book.gap(on(3, cart))?;
+        Ok::<_, Refusal>((found.names, found.rounded(), found.nearest.is_some()))
+    };
+    assert_eq!(narrow(&[[0, 0]]), Ok(([2, 3], 4, true)));
+    assert_eq!(narrow(&[[0, 0], [4, 0]]), Ok(([2, 3], 0, false)));
+    assert_eq!(narrow(&[[0, 0], [5, 0]]), Ok(([1, 2], 0, false)));
+    assert_eq!(narrow(&[[-999_996, 0]]), Err(Refusal::FarAnswer));
+    assert_eq!(book.gap(on(4, &[[0, 0]])), Err(Refusal::TooFew));
+}
+
+#[test]
+fn drives_meet_obstacles() {
+    let (wall, cart) = (on(2, &[[6, -5], [6, 5]]), on(2, &[[0, 0], [2, 0]]));
+    let met = |from, to| {
+        let answer = contact(wall, cart, from, to)?;
+        let told = |m: cocklesway::Meeting| [m.numerator, m.denominator, m.safe];
+        Ok::<_, Refusal>(answer.meeting.map(told))
+    };
+    assert_eq!(met([0, 0], [3, 0]), Ok(None));
+    assert_eq!(met([0, 0], [4, 0]), Ok(Some([1, 1, 4])));
+    assert_eq!(met([0, 0], [7, 0]), Ok(Some([4, 7, 4])));
+    assert_eq!(met([5, 0], [9, 0]), Ok(Some([0, 1, 0])));
+    assert_eq!(met([0, 6], [9, 6]), Ok(None));
+    let shape = Which::Third;
+    assert_eq!(met([-1_000_001, 0], [9, 6]), Err(Refusal::Range { shape }));
+    let shape = Which::Fourth;
+    assert_eq!(met([0, 0], [0, 1_000_001]), Err(Refusal::Range { shape }));
+    let upstairs = on(3, &[[0, 0]]);
+    assert_eq!(
+        contact(wall, upstairs, [0, 0], [1, 0]),
+        Err(Refusal::Floors)
+    );
 }
 
 #[test]

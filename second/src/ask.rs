@@ -2,8 +2,10 @@
 //! The shapes are judged first, in order, then their floors; then the question itself may refuse,
 //! then the room. A floor is the last of an answer's values.
 
-use crate::clearance::{self, Against, Between};
+use crate::around;
+use crate::clearance::{self, Against, Between, Clearance};
 use crate::combine::{self, held_by};
+use crate::contact;
 use crate::direction;
 use crate::excess::{self, Place};
 use crate::host;
@@ -148,8 +150,14 @@ pub fn find(given: &Given) -> Answer {
 
 pub fn clearance(given: &Given) -> Answer {
     let ([a, b], floor) = given.shapes()?;
-    let Some((found, w)) = clearance::clearance(&a, &b) else {
-        return Ok(format!("0 @{floor}"));
+    let found = clearance::clearance(&a, &b);
+    Ok(format!("{} @{floor}", clearance_words(found)))
+}
+
+/// Where the clearance falls and how wide it is, or 0.
+fn clearance_words(found: Clearance) -> String {
+    let Some((found, w)) = found else {
+        return "0".to_string();
     };
     let against =
         |found: Against| format!("{} {} {} {}", found.corner, found.edge, found.t, found.q);
@@ -158,7 +166,7 @@ pub fn clearance(given: &Given) -> Answer {
         Between::CornerEdge(found) => format!("ce {}", against(found)),
         Between::EdgeCorner(found) => format!("ec {}", against(found)),
     };
-    Ok(format!("{words} {w} @{floor}"))
+    format!("{words} {w}")
 }
 
 /// The new shape, then the old one.
@@ -185,6 +193,15 @@ pub fn passage(given: &Given) -> Answer {
         "{} {} {low} {high} {} @{floor}",
         d.x, d.y, way.width
     ))
+}
+
+/// The obstacle, the cart's outline, then where its place begins and where it ends.
+pub fn contact(given: &Given) -> Answer {
+    let ([obstacle, cart], floor) = given.shapes()?;
+    let Some(first) = contact::contact(&obstacle, &cart, given.places())? else {
+        return Ok(format!("never @{floor}"));
+    };
+    Ok(format!("{} {} {} @{floor}", first.n, first.d, first.safe))
 }
 
 pub fn tangents(given: &Given) -> Answer {
@@ -219,6 +236,31 @@ pub fn log_pack(given: &Given) -> Answer {
     let mut new = new.to_vec();
     let finished = pack::pack(old, &mut new, given.but(), given.stores())?;
     Ok(stored(finished, &new))
+}
+
+pub fn entry(given: &Given) -> Answer {
+    let held = log::current(given.log())?;
+    let found = held.into_iter().nth(given.position());
+    let entry = found.ok_or(Refusal::plain(20))?;
+    let shape = held_by(given.room(), entry.shape)?;
+    let (count, name, floor) = (shape.len(), entry.name, entry.floor);
+    Ok(format!(
+        "{count} {name} @{floor} |{}",
+        behind_spaces(&shape)
+    ))
+}
+
+pub fn nearest(given: &Given) -> Answer {
+    let ([shape], floor) = given.shapes()?;
+    let (name, found) = around::nearest(given.log(), &shape, floor, given.but())?;
+    Ok(format!("{name} {} @{floor}", clearance_words(found)))
+}
+
+pub fn gap(given: &Given) -> Answer {
+    let ([cart], floor) = given.shapes()?;
+    let ([first, second], found) = around::gap(given.log(), &cart, floor)?;
+    let words = clearance_words(found);
+    Ok(format!("{first} {second} {words} @{floor}"))
 }
 
 /// Whether all stores were made, and the bytes afterwards.

@@ -9,7 +9,9 @@ use crate::make::{line, long, shape_text};
 use crate::plane::Shape;
 use std::io::{self, Write};
 
+mod around;
 mod changes;
+mod driving;
 mod floors;
 mod growing;
 mod log;
@@ -302,6 +304,8 @@ pub fn groups() -> Vec<Group> {
     groups.extend(spelled(growing::GROWING));
     groups.extend(spelled(passing::PASSING));
     groups.extend(spelled(changes::CHANGES));
+    groups.extend(spelled(driving::DRIVING));
+    groups.extend(spelled(around::AROUND));
     groups
 }
 

@@ -29,8 +29,10 @@ pub struct Against {
     pub q: i128,
 }
 
-/// Where the clearance falls, and the distance rounded down; nothing if the shapes are not apart.
-pub fn clearance(a: &[Point], b: &[Point]) -> Option<(Between, i128)> {
+/// Where a clearance falls, and the distance rounded down; nothing if the shapes are not apart.
+pub type Clearance = Option<(Between, i128)>;
+
+pub fn clearance(a: &[Point], b: &[Point]) -> Clearance {
     if relation(a, b) != Relation::Apart {
         return None;
     }
@@ -50,7 +52,7 @@ impl Between {
 
     /// As exact fractions. Three points in range turn at most 4·10^12 and q is at most 8·10^12, so
     /// the products stay below 1.3·10^38, and i128 ends at 1.7·10^38.
-    fn nearer_than(&self, other: &Between) -> bool {
+    pub fn nearer_than(&self, other: &Between) -> bool {
         let ((top, bottom), (other_top, other_bottom)) = (self.squared(), other.squared());
         top * other_bottom < other_top * bottom
     }

@@ -2,11 +2,13 @@
 //! for a host, over bytes.
 
 pub mod answer;
+mod around;
 mod ask;
 pub mod cases;
 mod clearance;
 pub mod combine;
 pub mod compare;
+mod contact;
 mod direction;
 mod excess;
 pub mod histories;

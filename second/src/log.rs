@@ -14,10 +14,10 @@ const LAST: u8 = 0x5A;
 pub type Store = (usize, u8);
 
 /// What a record holds.
-struct Entry {
-    name: u16,
-    floor: u16,
-    shape: Shape,
+pub struct Entry {
+    pub name: u16,
+    pub floor: u16,
+    pub shape: Shape,
 }
 
 /// The latest shape of the name and its floor; 15 and then 19 refuse it.
@@ -27,6 +27,15 @@ pub fn read(log: &[u8], name: u16) -> Result<(Shape, u16), Refusal> {
     latest
         .map(|entry| (entry.shape, entry.floor))
         .ok_or(Refusal::plain(19))
+}
+
+/// The latest record of every name, in the log's order, or 15: no later one has the name.
+pub fn current(log: &[u8]) -> Result<Vec<Entry>, Refusal> {
+    let (held, _) = entries(log)?;
+    let names: Vec<u16> = held.iter().map(|entry| entry.name).collect();
+    let is_latest = |&(place, _): &(usize, Entry)| !names[place + 1..].contains(&names[place]);
+    let latest = held.into_iter().enumerate().filter(is_latest);
+    Ok(latest.map(|(_, entry)| entry).collect())
 }
 
 /// Adds a shape on a floor with at most so many stores; whether that finished.

@@ -4,10 +4,10 @@
 use crate::ask::{self, Answer};
 use crate::make::dice::Dice;
 use crate::make::fields as make;
-use crate::make::{host, logs, parts, readings};
+use crate::make::{around, drives, host, logs, parts, readings};
 use crate::text::fields::Field::{
-    self, But, Bytes, Call, Calls, Direction, Floor, Log, Name, Output, Reading, Room, Shape,
-    Stores, Walk,
+    self, But, Bytes, Call, Calls, Direction, Excepted, Floor, Log, Name, Output, Position,
+    Reading, Room, Shape, Stores, Walk,
 };
 use crate::text::given::Given;
 
@@ -41,10 +41,14 @@ pub const TABLE: &[Row] = &[
     Row { word: "excess", fields: &[Shape, Shape], ask: ask::excess, make: make::excess },
     Row { word: "tangents", fields: &[Shape, Shape], ask: ask::tangents, make: make::tangents },
     Row { word: "passage", fields: &[Shape, Shape, Shape], ask: ask::passage, make: make::passage },
+    Row { word: "contact", fields: &[Shape, Shape, Direction, Direction], ask: ask::contact, make: drives::contact },
     Row { word: "tablet", fields: &[Reading, Reading], ask: ask::tablet, make: readings::corner },
     Row { word: "bookread", fields: &[Log, Name, Room], ask: ask::log_read, make: logs::to_read },
     Row { word: "bookadd", fields: &[Log, Name, Shape, Stores], ask: ask::log_add, make: logs::to_add },
     Row { word: "pack", fields: &[Bytes, Bytes, But, Stores], ask: ask::log_pack, make: logs::to_pack },
+    Row { word: "entry", fields: &[Log, Position, Room], ask: ask::entry, make: around::entry },
+    Row { word: "nearest", fields: &[Log, Shape, Excepted], ask: ask::nearest, make: around::nearest },
+    Row { word: "gap", fields: &[Log, Shape], ask: ask::gap, make: around::gap },
 ];
 
 /// The calls of a host, each of which tells its whole line. The query program knows none of them.

@@ -4,7 +4,7 @@ use std::cmp::Ordering;
 
 /// What must have been compared at least once: of each question answers by their first values, and
 /// refusals.
-pub const KINDS: [(&str, &str); 28] = [
+pub const KINDS: [(&str, &str); 32] = [
     ("judge", "ok; no 1; no 2; no 3; no 4; no 5; no 13"),
     (
         "furthest",
@@ -26,12 +26,22 @@ pub const KINDS: [(&str, &str); 28] = [
     ("excess", "ok 0; ok 1; ok 2; no 4; no 13"),
     ("tangents", "ok; no 4; no 9; no 13"),
     ("passage", "ok 0; ok 1; no 4; no 6; no 7; no 13"),
+    ("contact", "ok 0; ok 1; no 3; no 4; no 6; no 7; no 13"),
     ("offer", "ok 0; ok 1; no 4; no 11; no 12; no 13"),
     ("find", "ok 0; ok 1; no 4; no 13"),
     ("tablet", "ok; no 3; no 17; no 18"),
     ("log_read", "ok; no 8; no 15; no 19"),
     ("log_add", "ok 0; ok 1; no 4; no 13; no 15; no 16"),
     ("log_pack", "ok 0; ok 1; no 15; no 16"),
+    ("log_entry", "ok; no 8; no 15; no 20"),
+    (
+        "log_nearest",
+        "ok 0; ok 1; ok 2; ok 3; no 4; no 13; no 15; no 20",
+    ),
+    (
+        "log_gap",
+        "ok 0; ok 1; ok 2; ok 3; no 4; no 6; no 7; no 13; no 15; no 20",
+    ),
     ("judge_bytes", "ok; no 1; no 2; no 3; no 4; no 5; no 13"),
     ("sum_bytes", "ok; no 4; no 6; no 7; no 8; no 13"),
     ("merge_bytes", "ok; no 4; no 6; no 8; no 13"),
@@ -40,15 +50,17 @@ pub const KINDS: [(&str, &str); 28] = [
 
 /// The kind of an answer to a question.
 pub fn kind(word: &str, answer: Numbers) -> String {
-    let [first, second, _, over, ..] = answer.values;
+    let [first, second, third, over, ..] = answer.values;
     match (answer.refusal, word) {
         (
             0,
-            "relation" | "relation_bytes" | "inside" | "clearance" | "excess" | "passage" | "offer"
-            | "find" | "log_add" | "log_pack",
+            "relation" | "relation_bytes" | "inside" | "clearance" | "excess" | "passage"
+            | "contact" | "offer" | "find" | "log_add" | "log_pack",
         ) => {
             format!("ok {first}")
         }
+        (0, "log_nearest") => format!("ok {second}"),
+        (0, "log_gap") => format!("ok {third}"),
         (0, "furthest") => format!("ok, {}", face(first, second)),
         (0, "part") if over == 1 => "ok, over".to_string(),
         (0, _) => "ok".to_string(),

@@ -3,19 +3,75 @@ use super::room::room;
 use super::tally::Tally;
 use super::written::corners;
 use super::{Lent, on};
-use crate::logs::NAMES;
+use crate::logs::{FLOORS, NAMES};
 use crate::plain::{self, MOST};
 use crate::random::Random;
 use crate::reply::Numbers;
-use cocklesway::{Book, log_pack, log_read};
+use cocklesway::{Book, log_entry, log_gap, log_nearest, log_pack, log_read};
 
-/// Reads names of a log, adds a shape, and reads again.
+/// Reads names of a log, adds a shape, and reads again. Asks for a shape by its position, for the nearest one and for
+/// the narrowest gap.
 pub fn ask(tally: &mut Tally, random: &mut Random, log: &[u8], shape: Lent) -> Result<(), String> {
     let name = random.below(NAMES) as u16;
     ask_read(tally, random, log, name)?;
     let added = ask_add(tally, random, log, name, shape)?;
     ask_read(tally, random, &added, name)?;
-    ask_pack(tally, random, &added, name)
+    ask_pack(tally, random, &added, name)?;
+    for log in [log, &added] {
+        ask_entry(tally, random, log)?;
+        let floor = match random.below(8) {
+            0 => shape.1,
+            k => FLOORS[k as usize % 2].into(),
+        };
+        ask_nearest(tally, random, log, name, (shape.0, floor))?;
+        ask_gap(tally, random, log, (shape.0, floor))?;
+    }
+    Ok(())
+}
+
+/// Asks for the shape at any position, into an output of any room.
+fn ask_entry(tally: &mut Tally, random: &mut Random, log: &[u8]) -> Result<(), String> {
+    let k = [0, 1, 2, 3, usize::MAX][random.below(5) as usize];
+    let needed = 2 * plain::log_entry(log, k, &mut [0; 2 * MOST]).values[0] as usize;
+    let mut out = vec![random.bits() as i32; room(random, needed, 2 * MOST)];
+    let mut other = out.clone();
+    let by_hand = plain::log_entry(log, k, &mut out);
+    let by_proof = Numbers::of(log_entry(log, k, corners(&mut other)));
+    tally.add("log_entry", (log, k), by_hand, by_proof)?;
+    if out != other {
+        return Err(format!("log_entry of {k} in {log:?}: the outputs differ"));
+    }
+    Ok(())
+}
+
+/// Asks for the nearest shape, at times without a name.
+fn ask_nearest(
+    tally: &mut Tally,
+    random: &mut Random,
+    log: &[u8],
+    name: u16,
+    shape: Lent,
+) -> Result<(), String> {
+    let but = (random.below(2) == 0).then_some(name);
+    let point = [random.between(-9, 9), random.between(-9, 9)];
+    for shape in [shape, (&point, shape.1)] {
+        let by_hand = plain::log_nearest(log, shape.0, shape.1, but);
+        let by_proof = Numbers::of(log_nearest(log, on(shape), but));
+        tally.add("log_nearest", (log, shape, but), by_hand, by_proof)?;
+    }
+    Ok(())
+}
+
+/// Asks for the narrowest gap, of a cart that may be far from its origin, of a small one, and of a shape.
+fn ask_gap(tally: &mut Tally, random: &mut Random, log: &[u8], shape: Lent) -> Result<(), String> {
+    let reach = [9, 900_000][random.below(2) as usize];
+    let point = [0; 2].map(|_: i32| random.between(-reach, reach));
+    for cart in [(&point[..], shape.1), (&[0, 0, 3, 1, 1, 2], shape.1), shape] {
+        let by_hand = plain::log_gap(log, cart.0, cart.1);
+        let by_proof = Numbers::of(log_gap(log, on(cart)));
+        tally.add("log_gap", (log, cart), by_hand, by_proof)?;
+    }
+    Ok(())
 }
 
 /// Packs a log into a run that may hold anything, at times without a name.

@@ -5,8 +5,8 @@ use super::{Lent, on};
 use crate::plain;
 use crate::reply::Numbers;
 use cocklesway::{
-    Walk, area, clearance, excess, find, furthest, inside, judge, length, offer, passage, relation,
-    tangents, width,
+    Walk, area, clearance, contact, excess, find, furthest, inside, judge, length, offer, passage,
+    relation, tangents, width,
 };
 
 /// A question of two shapes.
@@ -76,6 +76,29 @@ pub fn ask_two(tally: &mut Tally, a: Lent, b: Lent) -> Result<(), String> {
         tally.add("passage", [a, b, cart], by_hand, by_proof)?;
     }
     ask_directions(tally, a, b)
+}
+
+/// Drives of small carts and of the second shape up to the first one.
+pub fn ask_drives(tally: &mut Tally, a: Lent, b: Lent) -> Result<(), String> {
+    for cart in [(&[1, -1][..], a.1), (&[0, 0, 3, 1, 1, 2], a.1), b] {
+        for way in ways(a.0, b.0) {
+            let [from, to] = way;
+            let by_hand = plain::contact(a.0, a.1, cart.0, cart.1, from, to);
+            let by_proof = Numbers::of(contact(on(a), on(cart), from, to));
+            tally.add("contact", (a, cart, way), by_hand, by_proof)?;
+        }
+    }
+    Ok(())
+}
+
+/// From a corner of the second list to one of the first, and along the second.
+fn ways(a: &[i32], b: &[i32]) -> [[[i32; 2]; 2]; 2] {
+    let corner = |list: &[i32], k: usize| match list.as_chunks().0.get(k) {
+        Some(corner) => *corner,
+        None => [0, 0],
+    };
+    let [start, middle] = [0, b.len() / 4].map(|k| corner(b, k));
+    [[start, corner(a, a.len() / 4)], [start, middle]]
 }
 
 /// Directions of two shapes: which is found is left open, so each is offered.

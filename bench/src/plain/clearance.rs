@@ -11,11 +11,27 @@ use std::ops::ControlFlow::{Break, Continue};
 #[inline(never)]
 pub fn clearance(a: &[i32], f: u32, b: &[i32], g: u32) -> Numbers {
     match admitted_pair(a, f, b, g) {
-        Ok((a, b)) => match place(a, b) {
-            Some(place) => place.told(a.corners, b.corners, f.into()),
-            None => Numbers::one(0, f),
-        },
+        Ok((a, b)) => between_shapes(a, b, f),
         Err(refusal) => refusal,
+    }
+}
+
+/// The same of two shapes on a floor.
+#[inline(always)]
+pub fn between_shapes(a: Shape, b: Shape, floor: u32) -> Numbers {
+    match place(a, b) {
+        Some(place) => place.told(a.corners, b.corners, floor.into()),
+        None => Numbers::one(0, floor),
+    }
+}
+
+/// The squared distance that was answered, top and bottom. No product of two is more than 1.3·10^38.
+#[inline(always)]
+pub fn distance(found: Numbers) -> (u128, u128) {
+    match found.values {
+        [0, ..] => (0, 1),
+        [1, _, _, squared, ..] => (squared.into(), 1),
+        [_, _, _, turn, squared, ..] => (u128::from(turn) * u128::from(turn), squared.into()),
     }
 }
 

@@ -1,5 +1,5 @@
 //! Excess: of each corner of the new shape the nearest place of the old one, found in one walk round it.
-use super::clearance::place;
+use super::clearance::{distance, place};
 use super::corner::Corner;
 use super::inside::is_inside;
 use super::judge::{Shape, admitted_pair};
@@ -28,21 +28,13 @@ fn furthest(new: &[Corner], old: Shape, floor: u64) -> Numbers {
             continue;
         };
         let mut found = place.told(alone.corners, old.corners, floor);
-        let far = far(found);
+        let far = distance(found);
         if most.0 * far.1 < far.0 * most.1 {
             found.values[1] = i as u64;
             (best, most) = (found, far);
         }
     }
     rounded_up(best, most)
-}
-
-/// The squared distance, top and bottom. No product of two is more than 1.3·10^38.
-fn far(found: Numbers) -> (u128, u128) {
-    match found.values {
-        [1, _, _, squared, ..] => (squared.into(), 1),
-        [_, _, _, turn, squared, ..] => (u128::from(turn) * u128::from(turn), squared.into()),
-    }
 }
 
 /// One more than the distance rounded down, unless that is exact.

@@ -20,6 +20,14 @@ pub fn extent<C: Stored>(shape: Shape<C>) -> [Corner; 2] {
     ]
 }
 
+/// The least squared distance between what two shapes span: no point of the one is nearer to the other.
+#[inline(always)]
+pub fn apart([low, high]: [Corner; 2], [least, most]: [Corner; 2]) -> u128 {
+    let along = |k: usize| i64::from((least[k] - high[k]).max(low[k] - most[k]).max(0));
+    let [x, y] = [along(0), along(1)];
+    (x * x + y * y) as u128
+}
+
 /// The first position from one to another, or the latter, that no longer goes on; those that go on come first.
 #[inline(always)]
 fn first(mut from: usize, to: usize, goes_on: impl Fn(usize) -> bool) -> usize {

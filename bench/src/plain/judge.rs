@@ -60,7 +60,7 @@ pub fn judged_pair<'a, C: Stored>(
     Ok(pair)
 }
 
-/// The corners of a list as a shape, or their refusal as those of the first or second list of a question.
+/// The corners of a list as a shape, or their refusal as those of the list of a question that has that number.
 #[inline(always)]
 pub fn judged<C: Stored>(corners: Option<&[C]>, which: u64) -> Result<Shape<'_, C>, Numbers> {
     let Some(corners) = corners else {
@@ -78,10 +78,14 @@ pub fn judged<C: Stored>(corners: Option<&[C]>, which: u64) -> Result<Shape<'_, 
     }
 }
 
-/// Whether corners are a shape.
+/// The corners as a shape, if they are one.
 #[inline(always)]
-pub fn is_shape<C: Stored>(corners: &[C]) -> bool {
-    corners.len() <= MOST && !some_outside(corners) && top(corners).is_some()
+pub fn shape<C: Stored>(corners: &[C]) -> Option<Shape<'_, C>> {
+    if corners.len() > MOST || some_outside(corners) {
+        return None;
+    }
+    let top = top(corners)?;
+    Some(Shape { corners, top })
 }
 
 /// Refuses 13 if the floors differ, or are above the highest.

@@ -1,6 +1,6 @@
 //! The log of shapes by name: one pass over its records, whose corners are judged as they are stored.
-use super::corner::{Bytes, Stored, corners_in, room_of};
-use super::judge::{admitted, is_shape};
+use super::corner::{Bytes, Corner, Stored, corners_in, room_of};
+use super::judge::{MOST, Shape, admitted, shape};
 use crate::reply::Numbers;
 
 /// The last byte of a record.
@@ -29,14 +29,27 @@ pub fn log_read(log: &[u8], name: u16, out: &mut [i32]) -> Numbers {
         (Ok(_), None) => return Numbers::refused(19),
         (Ok(_), Some(record)) => record,
     };
-    let count = record.corners.len();
-    let Some(front) = room_of(out).get_mut(..count) else {
-        return Numbers::refused(8);
-    };
-    for (to, from) in front.iter_mut().zip(record.corners) {
-        *to = from.read();
+    match record.write(out) {
+        Some(count) => Numbers::one(count, record.floor),
+        None => Numbers::refused(8),
     }
-    Numbers::one(count as u64, record.floor)
+}
+
+/// Writes the current shape at a position, and answers its corners, name and floor.
+#[inline(never)]
+pub fn log_entry(log: &[u8], k: usize, out: &mut [i32]) -> Numbers {
+    let mut records = Vec::new();
+    if let Err(refusal) = survey(log, |record| records.push(record)) {
+        return refusal;
+    }
+    let current: Vec<&Record> = current(&records).collect();
+    let Some(record) = current.iter().rev().nth(k) else {
+        return Numbers::refused(20);
+    };
+    match record.write(out) {
+        Some(count) => Numbers::all([count, record.name.into(), record.floor.into()]),
+        None => Numbers::refused(8),
+    }
 }
 
 /// Adds a shape under a name with at most so many stores of single bytes. 1 if it finished, 0 if it was cut.
@@ -83,6 +96,14 @@ pub fn log_pack(old: &[u8], new: &mut [u8], but: Option<u16>, allowed: usize) ->
     Numbers::all([u64::from(need <= allowed)])
 }
 
+/// The current ones of all records of a log, the last first.
+#[inline(always)]
+pub fn current<'r, 'a>(records: &'r [Record<'a>]) -> impl Iterator<Item = &'r Record<'a>> {
+    let mut seen = [0u64; 1024];
+    let records = records.iter().rev();
+    records.filter(move |record| is_first(&mut seen, record.name))
+}
+
 /// Marks a name, and returns whether it was not marked before.
 #[inline(always)]
 fn is_first(seen: &mut [u64; 1024], name: u16) -> bool {
@@ -104,15 +125,39 @@ fn kept_parts<'a>(log: &'a [u8], kept: &[bool]) -> impl Iterator<Item = &'a [u8]
 }
 
 /// What a record says.
-struct Record<'a> {
-    name: u16,
-    floor: u16,
-    corners: &'a [Bytes],
+pub struct Record<'a> {
+    pub name: u16,
+    pub floor: u16,
+    pub shape: Shape<'a, Bytes>,
+}
+
+impl Record<'_> {
+    /// Writes its corners at the front of the output and returns how many, unless there is too little room.
+    #[inline(always)]
+    fn write(&self, out: &mut [i32]) -> Option<u64> {
+        let corners = self.shape.corners;
+        let front = room_of(out).get_mut(..corners.len())?;
+        for (to, from) in front.iter_mut().zip(corners) {
+            *to = from.read();
+        }
+        Some(corners.len() as u64)
+    }
+
+    /// Its shape, with the corners in a buffer.
+    #[inline(always)]
+    pub fn read<'b>(&self, buffer: &'b mut [Corner; MOST]) -> Shape<'b> {
+        let Shape { corners, top } = self.shape;
+        for (to, from) in buffer.iter_mut().zip(corners) {
+            *to = from.read();
+        }
+        let corners = &buffer[..corners.len()];
+        Shape { corners, top }
+    }
 }
 
 /// Shows all whole records, and returns where the last ends; or refuses 15 at the first bad one.
 #[inline(always)]
-fn survey<'a>(log: &'a [u8], mut show: impl FnMut(Record<'a>)) -> Result<usize, Numbers> {
+pub fn survey<'a>(log: &'a [u8], mut show: impl FnMut(Record<'a>)) -> Result<usize, Numbers> {
     let mut place = 0;
     while let Some(body) = whole(&log[place..]) {
         match record(body) {
@@ -147,12 +192,8 @@ fn record(body: &[u8]) -> Option<Record<'_>> {
         }
         _ => return None,
     };
-    let corners = corners_in(corners)?;
-    is_shape(corners).then_some(Record {
-        name,
-        floor,
-        corners,
-    })
+    let shape = shape(corners_in(corners)?)?;
+    Some(Record { name, floor, shape })
 }
 
 /// Clears what is after the last whole record, then stores the record there. Whether all stores were made.

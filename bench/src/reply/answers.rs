@@ -1,8 +1,9 @@
 //! What the package answers, as numbers.
 use super::{MOST_VALUES, Numbers};
 use cocklesway::{
-    Across, Addition, Area, Beyond, Clearance, Corners, Excess, Furthest, Inside, Length, Nearest,
-    Offer, Part, Passage, Refusal, Separator, Shape, Standing, Tangents, Walk, Width,
+    Across, Addition, Area, Beyond, Clearance, Contact, Corners, Excess, Furthest, Gap, Inside,
+    Length, Nearest, Neighbour, Offer, Part, Passage, Refusal, Separator, Shape, Standing,
+    Tangents, Walk, Width,
 };
 
 impl From<Refusal> for Numbers {
@@ -34,6 +35,12 @@ impl From<Corners> for Numbers {
 impl From<Shape<'_>> for Numbers {
     fn from(r: Shape<'_>) -> Numbers {
         Numbers::one(r.corners.len() as u64, r.floor)
+    }
+}
+
+impl From<(u16, Shape<'_>)> for Numbers {
+    fn from((name, r): (u16, Shape<'_>)) -> Numbers {
+        Numbers::all([r.corners.len() as u64, name.into(), r.floor.into()])
     }
 }
 
@@ -92,6 +99,16 @@ impl From<Passage> for Numbers {
     }
 }
 
+impl From<Contact> for Numbers {
+    fn from(r: Contact) -> Numbers {
+        let Some(meeting) = r.meeting else {
+            return Numbers::one(0, r.floor);
+        };
+        let (n, d) = (meeting.numerator, meeting.denominator);
+        Numbers::all([1, n, d, meeting.safe, r.floor.into()])
+    }
+}
+
 impl From<Separator> for Numbers {
     fn from(r: Separator) -> Numbers {
         Numbers::found(r.direction, r.floor)
@@ -100,9 +117,28 @@ impl From<Separator> for Numbers {
 
 impl From<Clearance> for Numbers {
     fn from(r: Clearance) -> Numbers {
-        let floor = r.floor.into();
-        match r.nearest {
-            None => Numbers::one(0, r.floor),
+        Numbers::nearest(r.nearest, r.floor)
+    }
+}
+
+impl From<Neighbour> for Numbers {
+    fn from(r: Neighbour) -> Numbers {
+        Numbers::nearest(r.nearest, r.floor).named([r.name])
+    }
+}
+
+impl From<Gap> for Numbers {
+    fn from(r: Gap) -> Numbers {
+        Numbers::nearest(r.nearest, r.floor).named(r.names)
+    }
+}
+
+impl Numbers {
+    /// Where two shapes are nearest, if they are apart.
+    fn nearest(nearest: Option<Nearest>, on: u32) -> Numbers {
+        let floor = on.into();
+        match nearest {
+            None => Numbers::one(0, on),
             Some(Nearest::Corners {
                 first,
                 second,
@@ -113,9 +149,7 @@ impl From<Clearance> for Numbers {
             Some(Nearest::EdgeCorner(across)) => Numbers::across(3, across, floor),
         }
     }
-}
 
-impl Numbers {
     /// A corner of one shape and an edge of the other.
     fn across(kind: u64, r: Across, floor: u64) -> Numbers {
         let (corner, edge) = (r.corner as u64, r.edge as u64);

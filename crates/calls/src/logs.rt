@@ -1,10 +1,12 @@
 // Calls on a log, which is lent as bytes.
 ghost use mathlib.Core.Path.{_≡_};
+ghost use Rattle.plane.specs.Floor.{on};
 ghost use Rattle.plane.specs.Question.{reply, output};
 ghost use Rattle.journal.specs.Reading.{askRead};
 ghost use Rattle.packing.specs.Packing.{remade};
 ghost use Rattle.journal.specs.Current.{askEntry};
 ghost use Rattle.neighbours.specs.Nearest.{askNearest};
+ghost use Rattle.gaps.specs.Gap.{askGap};
 ghost use Rattle.reply.specs.Told.{crossed, numbers};
 ghost use Rattle.crossing.specs.LowFloor.{lowFloor};
 ghost use Rattle.calls.specs.Calls.{addedLow};
@@ -73,4 +75,17 @@ pub extern "C" fn cocklesway_log_nearest(log: &[u8], list: &[i32], floor: u32, b
         return floors::barred(list);
     }
     reply::of_nearest(questions::books::log_nearest(log, list, floor as u16, but))
+}
+
+// Answers the names of the two current shapes on the floor with the narrowest gap, both grown by the cart, and what
+// clearance answers of the grown two. A floor above its limit is refused 13 after the cart and before the log.
+#[no_mangle]
+pub extern "C" fn cocklesway_log_gap(log: &[u8], cart: &[i32], floor: u32) -> Reply
+    ensures { λ r. ⌜ numbers r
+        ≡ crossed (reply (lowFloor (askGap (now (log .entry)) (on (now (cart .entry)) floor)))) ⌝ }
+{
+    if limits::exceeds_floor(floor) {
+        return floors::barred(cart);
+    }
+    reply::of_gap(questions::books::log_gap(log, cart, floor as u16))
 }

@@ -6,6 +6,7 @@ ghost use Rattle.plane.specs.Floor.{on};
 ghost use Rattle.plane.specs.Question.{reply, output, askSum, askMerge, askGrow, askRelation, askInside, askOffer};
 ghost use Rattle.plane.specs.Question.{askClearance, askTangents};
 ghost use Rattle.excess.specs.Excess.{askExcess};
+ghost use Rattle.contact.specs.Contact.{askContact};
 ghost use Rattle.reply.specs.Told.{crossed, numbers};
 ghost use Rattle.crossing.specs.LowFloor.{lowFloor};
 ghost use Rattle.calls.specs.Calls.{SeparatorTold};
@@ -142,4 +143,25 @@ pub extern "C" fn cocklesway_tangents(a: &[i32], f: u32, b: &[i32], g: u32) -> R
         return floors::barred_pair(a, b);
     }
     reply::of_tangents(questions::tangents(a, f as u16, b, g as u16))
+}
+
+// Answers where a cart that drives straight from (x, y) to (u, v) first meets the obstacle; 0 if it never does.
+#[no_mangle]
+pub extern "C" fn cocklesway_contact(
+    obstacle: &[i32],
+    f: u32,
+    cart: &[i32],
+    g: u32,
+    x: i32,
+    y: i32,
+    u: i32,
+    v: i32,
+) -> Reply
+    ensures { λ r. ⌜ numbers r ≡ crossed (reply (lowFloor
+        (askContact (on (now (obstacle .entry)) f) (on (now (cart .entry)) g) (point x y) (point u v)))) ⌝ }
+{
+    if floors::exceeds(f, g) {
+        return floors::barred_pair(obstacle, cart);
+    }
+    reply::of_contact(questions::contact(obstacle, f as u16, cart, g as u16, x, y, u, v))
 }

@@ -9,14 +9,16 @@
 -- A is the cart's outline, which has a corner (0 < length), b the log, in which no record is bad, and f the floor.
 use mathlib.Core.Path.{_≡_, refl}
 use mathlib.Core.Bool.{true, false}
+use mathlib.Core.Logic.{_↔_}
 use mathlib.Core.List.{List, [], _∷_, _++_, List·Memᴰ}
 use Prim.Native.Nat.{ℕ, _≤_, _<_}
 use lib.IntN.{ℤ, pos, _*ℤ_}
 use lib.ListN.{length}
 use lib.Signed.{_≤ℤ_, _<ℤ_}
-use Rattle.plane.specs.Point.{Point, origin}
+use Rattle.plane.specs.Point.{Point, points, origin}
 use Rattle.plane.specs.Reply.{answered, NoneApply}
 use Rattle.plane.specs.Refusal.{Valid}
+use Rattle.plane.specs.Corner.{shapeOf}
 use Rattle.plane.specs.Separation.{apart}
 use Rattle.plane.specs.Floor.{Floored, corners}
 use Rattle.plane.specs.Question.{reply}
@@ -27,9 +29,10 @@ use Rattle.journal.specs.Reading.{damaged}
 use Rattle.journal.specs.Adding.{added}
 use Rattle.journal.specs.History.{isFinished}
 use Rattle.journal.specs.Current.{keep, isOther}
-use Rattle.neighbours.specs.Settled.{FirstLeast}
+use Rattle.neighbours.specs.Settled.{FirstLeast, IsNearest}
 use Rattle.gaps.specs.Gap.{Pair, thePair, grownOf, pairsOf, gapOf, noWider, narrowest, onFloor, sizeRowsOf, gapNumbers, askGap}
-use Rattle.gaps.specs.theory.Pairs.{floor-first, none-nearer, earlier-further, floor-apart, floor-passes, plain-shape, drive-clear}
+use Rattle.gaps.specs.theory.Pairs.{floor-first, none-nearer, earlier-further, floor-apart, floor-passes, floor-in, plain-shape}
+use Rattle.gaps.specs.theory.Pairs.{drive-clear, floor-drive}
 use Rattle.gaps.specs.theory.Additions.{unfinished-gap, elsewhere-gap}
 use Rattle.gaps.specs.theory.Replies.{gap-found}
 
@@ -53,10 +56,10 @@ module _ (A : List Point) (a : 0 < length A) (b : List ℕ) (f : ℕ) (sound : d
 
     -- ---- apart
 
-    -- if the answered two are apart, grown, so are every two
-    pub apart-if-answer-is : apart (grownOf A (p .0)) (grownOf A (p .1)) ≡ true
-        → (q : Pair) → List·Memᴰ q (pairsOf (onFloor f b)) → apart (grownOf A (q .0)) (grownOf A (q .1)) ≡ true
-    apart-if-answer-is h q m = floor-apart A a b f sound p answer h q m
+    -- the answered two are apart, grown, exactly if every two are
+    pub apart-exactly-if-answer-is : (apart (grownOf A (p .0)) (grownOf A (p .1)) ≡ true)
+        ↔ ((q : Pair) → List·Memᴰ q (pairsOf (onFloor f b)) → apart (grownOf A (q .0)) (grownOf A (q .1)) ≡ true)
+    apart-exactly-if-answer-is = (floor-apart A a b f sound p answer, λ h. h p (floor-in A a b f sound p answer))
 
     -- ---- the cart
 
@@ -71,6 +74,12 @@ module _ (A : List Point) (a : 0 < length A) (b : List ℕ) (f : ℕ) (sound : d
   pub drive-is-clear-as-its-segment : (t u : Point) (r : List ℕ) → List·Memᴰ r (onFloor f b)
       → apart (driven A t u) (corners (content r)) ≡ apart (t ∷ u ∷ []) (grownOf A r)
   drive-is-clear-as-its-segment t u r m = drive-clear A a b f sound t u r m
+
+  -- so one question tells whether a drive is clear of the whole floor: the nearest shape to the sum of the cart and the segment
+  pub drive-is-clear-of-the-floor : (l : List ℤ) (t u : Point) (w : List ℕ) → Valid l → points l ≡ shapeOf (driven A t u)
+      → IsNearest (points l) f 65536 b w → (apart (points l) (corners (content w)) ≡ true)
+      ↔ ((r : List ℕ) → List·Memᴰ r (onFloor f b) → apart (t ∷ u ∷ []) (grownOf A r) ≡ true)
+  drive-is-clear-of-the-floor l t u w v e near = floor-drive A a b f sound l t u w v e near
 
 -- the point 0 0 asks the gap of the shapes as they are
 pub point-asks-the-plain-gap : (b : List ℕ) (f : ℕ) → damaged (records b) ≡ false → (r : List ℕ) → List·Memᴰ r (onFloor f b)

@@ -129,10 +129,38 @@ fn told(
         Question::Excess => reply::of_excess(questions::excess(a, f, b, g)),
         Question::Tangents => reply::of_tangents(questions::tangents(a, f, b, g)),
         Question::Passage => reply::of_passage(questions::passage(a, f, b, g, c, h)),
+        Question::Contact => {
+            let met = questions::contact(a, f, b, g, u(c), v(c), u(d), v(d));
+            reply::of_contact(met)
+        }
         Question::Tablet => readings::tablet(line),
+        _ => of_log(question, line, log, run, b, c, d, out),
+    }
+}
+
+// Asks the library about a log.
+fn of_log(
+    question: Question,
+    line: &[u8],
+    log: &mut [u8],
+    run: &mut [u8],
+    b: &[i32],
+    c: &[i32],
+    d: &[i32],
+    out: &mut [i32],
+) -> Reply {
+    let g = fields::floor(line, 1);
+    let h = fields::floor(line, 2);
+    match question {
         Question::LogRead => reply::of_answer(questions::log_read(log, name(b), out)),
         Question::LogAdd => reply::of_addition(questions::log_add(log, name(b), h, c, room(d))),
-        Question::LogPack => {
+        Question::LogEntry => reply::of_entry(books::log_entry(log, fields::count(b, 0), out)),
+        Question::LogNearest => {
+            let near = books::log_nearest(log, b, g, fields::but(c) as usize);
+            reply::of_nearest(near)
+        }
+        Question::LogGap => reply::of_gap(books::log_gap(log, b, g)),
+        _ => {
             let packed = books::log_pack(log, run, fields::but(c), room(d));
             reply::of_addition(packed)
         }

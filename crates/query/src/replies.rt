@@ -13,8 +13,12 @@ pub enum Form {
     YesNo,
     Direction,
     Clearance,
+    // Likewise, after one name, or after two.
+    Nearest,
+    Gap,
     Excess,
     Passage,
+    Contact,
     // `ok` and the value as a word. The log that an addition leaves is added by the caller.
     Addition,
     // `ok` and the values in hexadecimal digits. A refusal carries the part of the corner.
@@ -43,22 +47,38 @@ pub fn add(out: &mut [u8], filled: usize, told: Reply, form: Form, list: &[i32])
             let end = output::bits(out, head, value(told, 0));
             output::bits(out, end, value(told, 1))
         }
+        Form::Nearest => values(out, head, told, 2),
+        Form::Gap => values(out, head, told, 3),
         Form::Begun => values(out, head, told, 3),
         Form::Call => output::numbers(out, head, front(list, value(told, 0))),
         _ => values(out, head, told, 1),
     }
 }
 
-// Adds `ok` and the word of the first value, if it is one; of a call the first value alone.
+// Adds `ok` and the word of the first value, if it is one, or of the one after the names; of a call the first value
+// alone.
 fn heading(out: &mut [u8], filled: usize, told: Reply, form: Form) -> usize {
     let first = value(told, 0);
     match form {
         Form::Relation => relation(out, filled, first),
         Form::YesNo => either(out, filled, first, b"ok no", b"ok yes"),
         Form::Direction => either(out, filled, first, b"ok none", b"ok"),
-        Form::Clearance => clearance(out, filled, first),
+        Form::Clearance => {
+            let begun = output::word(out, filled, b"ok");
+            clearance(out, begun, first)
+        }
+        Form::Nearest => {
+            let name = output::labelled(out, filled, b"ok ", first);
+            clearance(out, name, value(told, 1))
+        }
+        Form::Gap => {
+            let name = output::labelled(out, filled, b"ok ", first);
+            let other = output::labelled(out, name, b" ", value(told, 1));
+            clearance(out, other, value(told, 2))
+        }
         Form::Excess => excess(out, filled, first),
         Form::Passage => either(out, filled, first, b"ok blocked", b"ok"),
+        Form::Contact => either(out, filled, first, b"ok never", b"ok"),
         Form::Addition => either(out, filled, first, b"ok cut", b"ok finished"),
         Form::Call => output::labelled(out, filled, b"", first),
         _ => output::word(out, filled, b"ok"),
@@ -86,10 +106,10 @@ fn either(out: &mut [u8], filled: usize, value: u64, none: &[u8], one: &[u8]) ->
 // Adds of what the nearest points are, corners and edges; 0 if the shapes are not apart.
 fn clearance(out: &mut [u8], filled: usize, value: u64) -> usize {
     match value {
-        0 => output::word(out, filled, b"ok 0"),
-        1 => output::word(out, filled, b"ok cc"),
-        2 => output::word(out, filled, b"ok ce"),
-        _ => output::word(out, filled, b"ok ec"),
+        0 => output::word(out, filled, b" 0"),
+        1 => output::word(out, filled, b" cc"),
+        2 => output::word(out, filled, b" ce"),
+        _ => output::word(out, filled, b" ec"),
     }
 }
 

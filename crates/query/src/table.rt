@@ -24,9 +24,13 @@ pub enum Question {
     Excess,
     Tangents,
     Passage,
+    Contact,
     Tablet,
     LogRead,
     LogAdd,
+    LogEntry,
+    LogNearest,
+    LogGap,
     LogPack,
 }
 
@@ -51,6 +55,8 @@ const PAIR_WRITTEN: u64 = PAIR + 256 * fields::ROOM;
 
 const PAIR_AIMED: u64 = PAIR + 256 * fields::DIRECTION;
 
+const PAIR_DRIVEN: u64 = PAIR_AIMED + 4096 * fields::DIRECTION;
+
 const PAIR_CALLED: u64 = PAIR + 256 * fields::CALLS;
 
 const PAIR_WALKED: u64 = PAIR + 256 * fields::WALK + 4096 * fields::CALL;
@@ -62,6 +68,12 @@ const NAMED: u64 = fields::BYTES + 16 * fields::NAME;
 const LOG_READ: u64 = NAMED + 256 * fields::ROOM;
 
 const LOG_ADDED: u64 = NAMED + 256 * fields::SHAPE + 4096 * fields::ROOM;
+
+const LOG_LISTED: u64 = fields::BYTES + 16 * fields::POSITION + 256 * fields::ROOM;
+
+const LOG_AROUND: u64 = fields::BYTES + 16 * fields::SHAPE;
+
+const LOG_NEAREST: u64 = LOG_AROUND + 256 * fields::EXCEPTED;
 
 const LOG_PACKED: u64 = fields::BYTES
     + 16 * fields::BYTES
@@ -77,7 +89,8 @@ pub fn look_up(word: &[u8]) -> Entry {
     found = on_one(found, word);
     found = on_two(found, word);
     found = sums(found, word);
-    others(found, word)
+    found = others(found, word);
+    books(found, word)
 }
 
 // The questions on one shape.
@@ -90,7 +103,7 @@ fn on_one(mut found: Entry, word: &[u8]) -> Entry {
     row(found, word, b"width", Question::Width, ONE)
 }
 
-// How two shapes stand to each other, and whether a third passes between them.
+// How two shapes stand to each other, whether a third passes between them, and where a drive first meets one.
 fn on_two(mut found: Entry, word: &[u8]) -> Entry {
     found = row(found, word, b"relation", Question::Relation, PAIR);
     found = row(found, word, b"inside", Question::Inside, PAIR);
@@ -99,7 +112,8 @@ fn on_two(mut found: Entry, word: &[u8]) -> Entry {
     found = row(found, word, b"clearance", Question::Clearance, PAIR);
     found = row(found, word, b"excess", Question::Excess, PAIR);
     found = row(found, word, b"tangents", Question::Tangents, PAIR);
-    row(found, word, b"passage", Question::Passage, THREE)
+    found = row(found, word, b"passage", Question::Passage, THREE);
+    row(found, word, b"contact", Question::Contact, PAIR_DRIVEN)
 }
 
 // The shapes that are made of two.
@@ -111,12 +125,19 @@ fn sums(mut found: Entry, word: &[u8]) -> Entry {
     row(found, word, b"grow", Question::Grow, PAIR_WRITTEN)
 }
 
-// The points of a sweep, the corner of two readings, and the log.
+// The points of a sweep, and the corner of two readings.
 fn others(mut found: Entry, word: &[u8]) -> Entry {
     found = row(found, word, b"sweep", Question::Sweep, WRITTEN);
-    found = row(found, word, b"tablet", Question::Tablet, READINGS);
+    row(found, word, b"tablet", Question::Tablet, READINGS)
+}
+
+// The log, by name and as a whole.
+fn books(mut found: Entry, word: &[u8]) -> Entry {
     found = row(found, word, b"bookread", Question::LogRead, LOG_READ);
     found = row(found, word, b"bookadd", Question::LogAdd, LOG_ADDED);
+    found = row(found, word, b"entry", Question::LogEntry, LOG_LISTED);
+    found = row(found, word, b"nearest", Question::LogNearest, LOG_NEAREST);
+    found = row(found, word, b"gap", Question::LogGap, LOG_AROUND);
     row(found, word, b"pack", Question::LogPack, LOG_PACKED)
 }
 
@@ -133,13 +154,17 @@ fn row(found: Entry, word: &[u8], own: &[u8], question: Question, kinds: u64) ->
 pub fn form_of(question: Question) -> Form {
     match question {
         Question::Mirror | Question::Sum | Question::Merge | Question::Grow => Form::Shape,
-        Question::Sweep | Question::Part | Question::LogRead => Form::Shape,
+        Question::Sweep | Question::Part => Form::Shape,
+        Question::LogRead | Question::LogEntry => Form::Shape,
         Question::Relation => Form::Relation,
         Question::Inside | Question::Offer => Form::YesNo,
         Question::Find => Form::Direction,
         Question::Clearance => Form::Clearance,
         Question::Excess => Form::Excess,
         Question::Passage => Form::Passage,
+        Question::Contact => Form::Contact,
+        Question::LogNearest => Form::Nearest,
+        Question::LogGap => Form::Gap,
         Question::Parts => Form::Begun,
         Question::Tablet => Form::Bits,
         Question::LogAdd | Question::LogPack => Form::Addition,

@@ -21,6 +21,7 @@ use Rattle.questions.specs.declared.answer.Inside.{Inside}
 use Rattle.questions.specs.declared.answer.Offer.{Offer}
 use Rattle.questions.specs.declared.answer.Separator.{Separator}
 use Rattle.questions.specs.declared.answer.Excess.{Excess}
+use Rattle.questions.specs.declared.answer.Contact.{Contact}
 use Rattle.questions.specs.declared.answer.Passage.{Passage}
 use Rattle.questions.specs.declared.answer.Clearance.{Clearance}
 use Rattle.questions.specs.declared.answer.Nearest.{Nearest}
@@ -30,7 +31,7 @@ use Rattle.questions.specs.declared.answer.Addition.{Addition}
 use Rattle.questions.specs.declared.answer.Entry.{Entry}
 use Rattle.questions.specs.declared.answer.Area.{Area}
 use Rattle.questions.specs.declared.answer.Gap.{Gap}
-use Rattle.questions.specs.Answer.{ofArea, ofNearest, ofGap, ofEntry}
+use Rattle.questions.specs.Answer.{ofArea, ofNearest, ofGap, ofContact, ofEntry}
 use Rattle.questions.specs.Answer.{ofRefusal, ofUnread, ofAnswer, ofBegun, ofPart, ofFurthest, ofLength, ofWidth, ofRelation}
 use Rattle.questions.specs.Answer.{ofInside, ofOffer, ofSeparator, ofClearance, ofExcess, ofPassage, ofTangents, ofTablet, ofAddition}
 use Rattle.reply.specs.Told.{bits, crossed}
@@ -118,6 +119,9 @@ excess-has-room x = room.excess-room x
 
 pub passage-has-room : (x : Passage) → Room (ofPassage x)
 passage-has-room x = room.passage-room x
+
+pub contact-has-room : (x : Contact) → Room (ofContact x)
+contact-has-room x = room.contact-room x
 
 pub tangents-has-room : (x : Tangents) → Room (ofTangents x)
 tangents-has-room x = room.tangents-room x

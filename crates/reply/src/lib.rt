@@ -6,16 +6,19 @@ pub mod refusals;
 ghost use mathlib.Core.Path.{_≡_};
 ghost use Rattle.questions.specs.Answer.{ofAnswer, ofBegun, ofPart, ofFurthest, ofLength};
 ghost use Rattle.questions.specs.Answer.{ofWidth, ofRelation, ofInside, ofOffer, ofSeparator, ofClearance, ofTangents};
-ghost use Rattle.questions.specs.Answer.{ofArea, ofExcess, ofNearest, ofPassage, ofTablet, ofAddition, ofEntry};
+ghost use Rattle.questions.specs.Answer.{ofArea, ofExcess, ofNearest, ofGap, ofContact, ofPassage, ofTablet};
+ghost use Rattle.questions.specs.Answer.{ofAddition, ofEntry};
 ghost use Rattle.reply.specs.Told.{crossed, numbers};
 use questions::answer::Addition;
 use questions::answer::Answer;
 use questions::answer::Area;
 use questions::answer::Begun;
 use questions::answer::Clearance;
+use questions::answer::Contact;
 use questions::answer::Entry;
 use questions::answer::Excess;
 use questions::answer::Furthest;
+use questions::answer::Gap;
 use questions::answer::Inside;
 use questions::answer::Length;
 use questions::answer::Nearest;
@@ -318,6 +321,76 @@ pub fn of_nearest(answer: Nearest) -> Reply
     }
 }
 
+// Returns the names of the two shapes with the narrowest gap, and then the numbers of `of_clearance`.
+pub fn of_gap(answer: Gap) -> Reply
+    ensures { λ r. ⌜ numbers r ≡ crossed (ofGap answer) ⌝ }
+{
+    match answer {
+        Gap::Meets { name, other, floor } => {
+            numbers::answered4(name as u64, other as u64, 0, floor as u64)
+        }
+        Gap::Corners {
+            name,
+            other,
+            first,
+            second,
+            squared,
+            rounded,
+            floor,
+        } => numbers::answered8(
+            name as u64,
+            other as u64,
+            1,
+            first as u64,
+            second as u64,
+            squared,
+            rounded,
+            floor as u64,
+        ),
+        Gap::CornerEdge {
+            name,
+            other,
+            corner,
+            edge,
+            turn,
+            squared,
+            rounded,
+            floor,
+        } => numbers::answered9(
+            name as u64,
+            other as u64,
+            2,
+            corner as u64,
+            edge as u64,
+            turn,
+            squared,
+            rounded,
+            floor as u64,
+        ),
+        Gap::EdgeCorner {
+            name,
+            other,
+            corner,
+            edge,
+            turn,
+            squared,
+            rounded,
+            floor,
+        } => numbers::answered9(
+            name as u64,
+            other as u64,
+            3,
+            corner as u64,
+            edge as u64,
+            turn,
+            squared,
+            rounded,
+            floor as u64,
+        ),
+        Gap::No(refusal) => refusals::of_refusal(refusal),
+    }
+}
+
 // Returns how far a changed shape reaches: 0 if it is inside the old one; 1 and two corners, or 2 and a corner and an
 // edge, with the distance rounded up.
 pub fn of_excess(answer: Excess) -> Reply
@@ -376,6 +449,22 @@ pub fn of_passage(answer: Passage) -> Reply
             floor as u64,
         ),
         Passage::No(refusal) => refusals::of_refusal(refusal),
+    }
+}
+
+// Returns 0 for never; or 1, the fraction of the way, and the millimetres before it.
+pub fn of_contact(answer: Contact) -> Reply
+    ensures { λ r. ⌜ numbers r ≡ crossed (ofContact answer) ⌝ }
+{
+    match answer {
+        Contact::Never { floor } => numbers::answered2(0, floor as u64),
+        Contact::At {
+            numerator,
+            denominator,
+            safe,
+            floor,
+        } => numbers::answered5(1, numerator, denominator, safe, floor as u64),
+        Contact::No(refusal) => refusals::of_refusal(refusal),
     }
 }
 

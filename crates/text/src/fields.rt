@@ -57,6 +57,12 @@ pub const CALLS: u64 = 9;
 // A name that is left out, one number from 0 to 65,535; nothing if nobody is.
 pub const BUT: u64 = 10;
 
+// A position: one number, not below 0, which may not be left out.
+pub const POSITION: u64 = 11;
+
+// A name to leave out, as `BUT`; the field may be left out too.
+pub const EXCEPTED: u64 = 12;
+
 // The kinds of a word that is not known.
 pub const UNKNOWN: u64 = u64::MAX;
 
@@ -69,13 +75,18 @@ pub fn read(line: &[u8], kinds: u64, values: &mut [i32], marks: &mut [usize]) ->
     }
     let count = words::count_bars(line);
     let missing = kind_at(kinds, count);
-    if missing != NOTHING && missing != ROOM {
+    if missing != NOTHING && !may_be_left_out(missing) {
         return Reason::MissingField;
     }
     if 0 < count && kind_at(kinds, count - 1) == NOTHING {
         return Reason::TooManyFields;
     }
     take_all(line, kinds, count, values, marks)
+}
+
+// Whether a field of the kind may be left out at the end of a line.
+fn may_be_left_out(kind: u64) -> bool {
+    kind == ROOM || kind == EXCEPTED
 }
 
 // Returns the kind of field k.
@@ -175,6 +186,8 @@ fn fit(kind: u64, field: &[i32]) -> Reason {
         WALK => of_walk(field),
         CALL => of_counts(field, 2, i32::MAX, Reason::NotACount),
         BUT => of_but(field),
+        EXCEPTED => of_but(field),
+        POSITION => of_counts(field, 1, i32::MAX, Reason::NotACount),
         _ => Reason::Nothing,
     }
 }

@@ -17,6 +17,10 @@ const GOOD: &[&str] = &[
      bookadd | 00 00 00 | 7 | @2 1 -1 | 3\npack | 0F0002000700020001000000FFFFFFFF5A | 00 00 | 7 | 1\n",
     "p = sweep | @3 9 9 1 1 4 2 8 8\nq = at | p | 1000 -1000\nr = merge | p | q\noffer | p | q | 1 0\n\
      inside | p | r\nfurthest | r | -1 0\njudge | r\n0 0 1 1\n+ 2 2\n",
+    "outline | cart | 0 0 600 0 600 900 0 900\ncontact | @2 3000 1000 4200 1000 | cart | 0 0 | 6000 2000\n\
+     bed = entry | 0F0002000700020001000000FFFFFFFF5A | 0 | 4\n\
+     nearest | 0F0002000700020001000000FFFFFFFF5A | @2 cart | 9\n\
+     gap | 0F0002000700020001000000FFFFFFFF5A0F0002000800020009000000FFFFFFFF5A | @2 0 0\n",
 ];
 
 /// Words of lines, good and bad.
@@ -48,6 +52,11 @@ const WORDS: &[&str] = &[
     "bookread",
     "bookadd",
     "pack",
+    "passage",
+    "entry",
+    "nearest",
+    "gap",
+    "contact",
     "a",
     "b",
     "cart",
@@ -63,6 +72,7 @@ const WORDS: &[&str] = &[
     "#",
     "@2",
     "@65536",
+    "@-0",
     "@",
     "0",
     "1",

@@ -12,6 +12,70 @@ fn holds(ran: &Ran, status: u8, output: &[&str], errors: &[&str]) {
 const STORE: &str = "shape | store | @2 0 0 12 0 12 8 0 8\n";
 
 #[test]
+fn floors_are_written_as_numbers_are() {
+    let point = "is a point on floor";
+    holds(
+        &asked("judge | @-0 1 1\njudge | @007 1 1"),
+        0,
+        &[
+            &format!("-:1: this {point} 0"),
+            &format!("-:2: this {point} 7"),
+        ],
+        &[],
+    );
+    let errors = ["@-1", "@@2", "@", "@+2"].map(|floor| {
+        let error = "is no floor: floors are @0 to @65535";
+        (floor, format!("cocklesway: -:1: `{floor}` {error}"))
+    });
+    for (floor, error) in errors {
+        holds(&asked(&format!("judge | {floor} 1 1")), 2, &[], &[&error]);
+    }
+}
+
+#[test]
+fn an_outline_is_asked_on_any_floor_of_a_log() {
+    let map = format!(
+        "outline | cart | 0 0 2 0\n{STORE}nearest | {0} | @2 cart\ngap | {0}{1} | @2 cart\nnearest | {0} | cart\n\
+         nearest | {0} | @2 store\n",
+        "0F0002000700020001000000FFFFFFFF5A", "0F0002000800020009000000FFFFFFFF5A"
+    );
+    holds(
+        &asked(&map),
+        2,
+        &[
+            "-:3: record 7 is nearest to cart on floor 2: 1 mm, between record 7 at (1, -1) and edge (0, 0) to (2, 0) \
+             of cart",
+            "-:4: records 7 and 8 have the narrowest gap on floor 2, grown by cart: 6 mm, between corner (1, -1) of \
+             grown record 7 and corner (7, -1) of grown record 8",
+            "-:5: refused (20): the log has no shape on floor 0",
+        ],
+        &[
+            "cocklesway: -:6: `store` is not a number; a name must be alone in its field, \
+             and it brings its floor along",
+        ],
+    );
+}
+
+#[test]
+fn a_drive_is_told_by_its_way() {
+    let map = format!(
+        "{STORE}outline | cart | 0 0 2 0\ncontact | store | cart | -8 4 | 20 4\ncontact | store | cart | -8 9 | 20 9\n\
+         contact | store | cart | 4 4 | 9 4\ncontact | store | cart | -8 -6 | 4 4\n"
+    );
+    holds(
+        &asked(&map),
+        0,
+        &[
+            "-:3: cart meets store after 6 mm, at 3/14 of the way from (-8, 4) to (20, 4)",
+            "-:4: cart is clear of store all the way from (-8, 9) to (20, 9)",
+            "-:5: cart meets store where it begins its way from (4, 4) to (9, 4)",
+            "-:6: cart meets store after 9 mm (rounded down), at 3/5 of the way from (-8, -6) to (4, 4)",
+        ],
+        &[],
+    );
+}
+
+#[test]
 fn comments_and_continued_lines() {
     let map = "  # indented\nshape | store | @2 0 0 # begun\n\t# between\n  + 12 0 12 8\n+0 8 # ended\n\njudge | store";
     holds(

@@ -75,6 +75,77 @@ fn answers_have_their_numbers() {
     );
 }
 
+/// The points 1 -1 and 9 -1 on floor 2, under the names 7 and 8.
+const LOG: &str = "0F0002000700020001000000FFFFFFFF5A 0F0002000800020009000000FFFFFFFF5A";
+
+#[test]
+fn shapes_of_a_log_have_their_names() {
+    let lines = format!(
+        "e = entry | {LOG} | 1\nnearest | {LOG} | @2 1 3\nnearest | {LOG} | @2 1 3 | 7\n\
+         gap | {LOG} | @2 0 0 2 0\nnearest | {LOG} | @2 1 -1\ngap | {LOG} | 0 0\n"
+    );
+    let [entry, near, other, gap, meets, few] = &objects(&lines)[..] else {
+        panic!("six questions");
+    };
+    assert_eq!(at(entry, "name").text(), Some("e"));
+    assert_eq!(at(entry, "record"), &read("8"));
+    assert_eq!(
+        at(entry, "made"),
+        &read(r#"{"name":"e","floor":2,"corners":[[9,-1]]}"#)
+    );
+    assert_eq!(
+        (at(near, "record"), at(near, "but")),
+        (&read("7"), &Value::Null)
+    );
+    assert_eq!(
+        (at(near, "first"), at(near, "second"), at(near, "squared")),
+        (&read("[1,3]"), &read("[1,-1]"), &read("16"))
+    );
+    assert_eq!(
+        (at(other, "record"), at(other, "but"), at(other, "rounded")),
+        (&read("8"), &read("7"), &read("8"))
+    );
+    // Grown by the cart, the points are segments of 2 mm to the left.
+    assert_eq!(at(gap, "records"), &read("[7,8]"));
+    assert_eq!(
+        (at(gap, "first"), at(gap, "second"), at(gap, "rounded")),
+        (&read("[1,-1]"), &read("[7,-1]"), &read("6"))
+    );
+    assert_eq!(at(meets, "apart"), &read("false"));
+    assert_eq!(at(few, "refused.number"), &Value::Number(20));
+    let reason = "the log has fewer than two shapes on floor 0";
+    assert_eq!(at(few, "refused.reason").text(), Some(reason));
+}
+
+#[test]
+fn drives_have_their_fraction() {
+    let lines = "shape | bed | @2 0 0 2 0 2 2 0 2\ncontact | bed | @2 0 0 | -3 1 | 5 1\n\
+                 contact | bed | @2 0 0 | -3 5 | 5 5\ncontact | bed | @2 0 0 | -3 5 | 1000001 5\n";
+    let [meets, clear, far] = &objects(lines)[..] else {
+        panic!("three questions");
+    };
+    assert_eq!(
+        (at(meets, "from"), at(meets, "to")),
+        (&read("[-3,1]"), &read("[5,1]"))
+    );
+    assert_eq!(
+        (at(meets, "numerator"), at(meets, "denominator")),
+        (&read("3"), &read("8"))
+    );
+    assert_eq!(
+        (at(meets, "meets"), at(meets, "safe")),
+        (&read("true"), &read("3"))
+    );
+    assert_eq!(at(clear, "meets"), &read("false"));
+    assert_eq!(
+        (at(far, "refused.number"), at(far, "refused.shape")),
+        (&read("3"), &read("3"))
+    );
+    let reason =
+        "the place (1000001, 5) is out of range: coordinates go from -1000000 to 1000000 mm";
+    assert_eq!(at(far, "refused.reason").text(), Some(reason));
+}
+
 #[test]
 fn refusals_have_their_number_and_reason() {
     let lines = "shape | a | 0 0 5 4 -1 4 4 0 2 6\njudge | a\nrelation | 0 0 | @2 0 0\nbookread | 0300010000 | 7\n";

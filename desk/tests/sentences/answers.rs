@@ -1,5 +1,7 @@
 //! The numbers of answers, derived from the answer of `second` and the corners of the line.
 use crate::case::Case;
+use crate::floors::{contact, entry, gap, nearest};
+use crate::near::{Near, places};
 use crate::said::{needs, never, rounding};
 use crate::tokens::numbers;
 use second::answer::offered;
@@ -21,19 +23,26 @@ pub fn of_answer(case: &Case, answer: &str, said: &str) -> Result<Vec<i128>, Str
         "tablet" => Ok(words.iter().map(|word| double(word) as i128).collect()),
         "bookadd" => added(case, answer, said),
         "pack" => packed(case, answer, said),
+        "entry" => Ok(entry(case, &words, answer)),
+        "nearest" => nearest(case, &words, said),
+        "gap" => gap(case, &words, said),
+        "contact" => contact(case, &words, said),
         _ => Ok(made(case, number(words[0]), floor(&words), answer)),
     }
 }
 
-fn number(word: &str) -> i128 {
+/// Returns a number of an answer.
+pub fn number(word: &str) -> i128 {
     word.parse().expect("a number")
 }
 
-fn position(word: &str) -> usize {
+/// Returns a position of an answer.
+pub fn position(word: &str) -> usize {
     word.parse().expect("a position")
 }
 
-fn floor(words: &[&str]) -> i128 {
+/// Returns the floor of an answer.
+pub fn floor(words: &[&str]) -> i128 {
     let word = words.iter().find_map(|word| word.strip_prefix('@'));
     number(word.expect("a floor"))
 }
@@ -127,8 +136,8 @@ fn part(case: &Case, words: &[&str], answer: &str) -> Vec<i128> {
     [both(case), numbers_after_bar(answer), next].concat()
 }
 
-/// The corners after the last bar of an answer.
-fn numbers_after_bar(answer: &str) -> Vec<i128> {
+/// Returns the corners after the last bar of an answer.
+pub fn numbers_after_bar(answer: &str) -> Vec<i128> {
     let (_, numbers) = answer.rsplit_once('|').expect("a bar");
     numbers
         .split_ascii_whitespace()
@@ -144,12 +153,17 @@ fn made(case: &Case, count: i128, floor: i128, answer: &str) -> Vec<i128> {
         "mirror" => case.label(0),
         _ => [case.label(0), case.label(1)].concat(),
     };
+    [subject, described(count, floor, answer)].concat()
+}
+
+/// Returns the numbers of a shape with all its corners.
+pub fn described(count: i128, floor: i128, answer: &str) -> Vec<i128> {
     let what = if count > 2 {
         vec![count, floor]
     } else {
         vec![floor]
     };
-    [subject, what, numbers_after_bar(answer)].concat()
+    [what, numbers_after_bar(answer)].concat()
 }
 
 fn found_direction(case: &Case, word: &str, said: &str) -> Result<Vec<i128>, String> {
@@ -180,19 +194,8 @@ fn clearance(case: &Case, words: &[&str], said: &str) -> Result<Vec<i128>, Strin
         needs(said, "not apart")?;
         return Ok(labels);
     }
-    let number = |at: usize| number(words[at]);
-    let position = |at: usize| position(words[at]);
-    if words[0] == "cc" {
-        let (squared, root) = (number(3), number(4));
-        rounding(said, squared, squared, root)?;
-        let corners = [case.corner(0, position(1)), case.corner(1, position(2))].concat();
-        return Ok([labels, vec![root], corners].concat());
-    }
-    rounding(said, number(3), number(4), number(5))?;
-    let (with_corner, with_edge) = if words[0] == "ce" { (0, 1) } else { (1, 0) };
-    let corner = case.corner(with_corner, position(1));
-    let edge = case.lists[with_edge].edge(position(2));
-    Ok([labels, vec![number(5)], corner, edge, case.label(with_edge)].concat())
+    let near = [0, 1].map(|which| Near::given(case, which));
+    Ok([labels, places(words, &near, said)?].concat())
 }
 
 fn excess(case: &Case, words: &[&str], said: &str) -> Result<Vec<i128>, String> {

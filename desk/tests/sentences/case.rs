@@ -20,8 +20,9 @@ pub struct List {
     pub numbers: Vec<i64>,
 }
 
-/// Questions on two lists; `passage` has three, `bookadd` one as its third field, all others one as their first.
-const TWO: [&str; 12] = [
+/// Questions on two lists; `passage` has three, `bookadd` one as its third field, `nearest` and `gap` one as their
+/// second, all others one as their first.
+const TWO: [&str; 13] = [
     "sum",
     "parts",
     "part",
@@ -34,6 +35,7 @@ const TWO: [&str; 12] = [
     "clearance",
     "excess",
     "tangents",
+    "contact",
 ];
 
 /// What the lists of a question are called.
@@ -149,7 +151,8 @@ impl Case {
 /// The fields of a question that are lists.
 pub fn list_fields(word: &str) -> &'static [usize] {
     match word {
-        "tablet" | "bookread" | "pack" => &[],
+        "tablet" | "bookread" | "pack" | "entry" => &[],
+        "nearest" | "gap" => &[1],
         "bookadd" => &[2],
         "passage" => &[0, 1, 2],
         word if TWO.contains(&word) => &[0, 1],

@@ -5,6 +5,8 @@
 mod answers;
 mod case;
 mod derived;
+mod floors;
+mod near;
 mod refusals;
 mod said;
 mod tokens;
@@ -90,13 +92,17 @@ fn numbers_of_lists_in_the_line() {
         "bookread",
         "bookadd",
         "pack",
+        "entry",
+        "nearest",
+        "gap",
+        "contact",
     ] {
         assert!(
             seen.contains(&format!("{word} ok")),
             "no {word} was answered"
         );
     }
-    for number in 1..=19 {
+    for number in 1..=20 {
         let refused = format!("no {number}");
         assert!(
             seen.iter().any(|kind| kind.ends_with(&refused)),

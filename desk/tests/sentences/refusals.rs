@@ -1,6 +1,7 @@
 //! The numbers of refusals, derived from the answer of `second` and the corners of the line.
 use crate::answers::double;
 use crate::case::{Case, List};
+use crate::floors::refused_when_grown;
 use crate::said::{needs, never};
 use second::answer::answer;
 use second::plane::{Point, divisor, turn};
@@ -17,6 +18,10 @@ pub fn of_refusal(case: &Case, said: &str) -> Result<Vec<i128>, String> {
     };
     let both = || [case.label(0), case.label(1)].concat();
     let reason = match number {
+        3 if case.word == "contact" && after("shape") > Some(2) => {
+            let place = case.numbers_of_field(after("shape").unwrap_or(3) - 1);
+            [place, vec![-1_000_000, 1_000_000]].concat()
+        }
         1..=5 if words.get(2) == Some(&"shape") => {
             of_list(case, number, after("shape").unwrap_or(1) - 1, &words, said)?
         }
@@ -43,13 +48,14 @@ pub fn of_refusal(case: &Case, said: &str) -> Result<Vec<i128>, String> {
         16 if case.word == "pack" => vec![bytes_of(&case.fields[1])],
         16 => [vec![bytes_of(&case.fields[0])], case.label(0)].concat(),
         19 => case.numbers_of_field(1),
+        20 => too_few(case),
         other => return Err(format!("refusal {other} is not known")),
     };
     needs(said, &format!("refused ({number}): "))?;
     Ok([vec![number], reason].concat())
 }
 
-/// How many bytes the hexadecimal digits of a field are.
+/// How many bytes a field holds, as pairs of hexadecimal digits.
 fn bytes_of(field: &str) -> i128 {
     field.bytes().filter(u8::is_ascii_hexdigit).count() as i128 / 2
 }
@@ -154,24 +160,40 @@ fn obstacle(case: &Case) -> usize {
     usize::from(grown.starts_with("ok"))
 }
 
-/// The labels of the obstacle of a passage that is refused when it is grown, and of its cart.
+/// The labels of an obstacle that is refused when it is grown, and of its cart.
 fn grown(case: &Case) -> Vec<i128> {
     match case.word.as_str() {
         "passage" => [case.label(obstacle(case)), case.label(2)].concat(),
+        "contact" => [case.label(0), case.label(1)].concat(),
+        "gap" => [vec![refused_when_grown(case).0], case.label(0)].concat(),
         _ => Vec::new(),
+    }
+}
+
+/// The position from 0, or the name that is left out and the floor.
+fn too_few(case: &Case) -> Vec<i128> {
+    match case.word.as_str() {
+        "entry" => [case.numbers_of_field(1), vec![0]].concat(),
+        "nearest" => [case.numbers_of_field(2), vec![case.lists[0].floor]].concat(),
+        _ => vec![case.lists[0].floor],
+    }
+}
+
+/// The two shapes whose sum is the answer, or the one that is grown; a cart is mirrored.
+fn summands(case: &Case) -> [Vec<Point>; 2] {
+    let points = |at: usize| case.lists[at].points();
+    let mirrored = |at: usize| points(at).iter().map(|&p| -p).collect();
+    match case.word.as_str() {
+        "passage" => [points(obstacle(case)), mirrored(2)],
+        "grow" | "contact" => [points(0), mirrored(1)],
+        "gap" => [refused_when_grown(case).1.points(), mirrored(0)],
+        _ => [points(0), points(1)],
     }
 }
 
 /// How far the answer would reach: the first end of its shape by brute force that is out of range.
 fn far(case: &Case, said: &str) -> Result<Vec<i128>, String> {
-    let (first, second) = match case.word.as_str() {
-        "passage" => (obstacle(case), 2),
-        _ => (0, 1),
-    };
-    let (a, mut b) = (case.lists[first].points(), case.lists[second].points());
-    if ["grow", "passage"].contains(&case.word.as_str()) {
-        b = b.iter().map(|&p| -p).collect();
-    }
+    let [a, b] = summands(case);
     let all = second::combine::all_sums(&a, &b);
     let xs = || all.iter().map(|p| p.x);
     let ys = || all.iter().map(|p| p.y);

@@ -134,7 +134,7 @@ pub fn two_lists(dice: &mut Dice, pair: impl Fn(&mut Dice) -> (Shape, Shape)) ->
 }
 
 /// One list in `share` is damaged, and at times all are.
-fn damaged_at_times(dice: &mut Dice, shapes: &[Shape], share: usize) -> Vec<List> {
+pub fn damaged_at_times(dice: &mut Dice, shapes: &[Shape], share: usize) -> Vec<List> {
     let all = dice.one_in(30);
     let mut list = |shape: &Shape| {
         if all || dice.one_in(share) {

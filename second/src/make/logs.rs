@@ -140,7 +140,7 @@ fn good_record(dice: &mut Dice) -> Vec<u8> {
 }
 
 /// Another kind, another length, corners that are no shape; some are good by chance.
-fn bad_record(dice: &mut Dice) -> Vec<u8> {
+pub fn bad_record(dice: &mut Dice) -> Vec<u8> {
     let mut bytes = good_record(dice);
     match dice.below(4) {
         0 => bytes[2] = dice.pick(&[0, 1, 2, 3, 0x5A]),
@@ -160,7 +160,7 @@ fn bad_record(dice: &mut Dice) -> Vec<u8> {
 }
 
 /// What ends a log: 0, the front of a record, one without its last byte, or nothing of sense.
-fn torn_end(dice: &mut Dice) -> Vec<u8> {
+pub fn torn_end(dice: &mut Dice) -> Vec<u8> {
     let mut bytes = good_record(dice);
     let room = dice.below(40);
     match dice.below(6) {
@@ -192,7 +192,7 @@ fn byte(dice: &mut Dice) -> u8 {
 }
 
 /// Some names are just past the ends of their range.
-fn name_text(dice: &mut Dice) -> String {
+pub fn name_text(dice: &mut Dice) -> String {
     if dice.one_in(24) {
         dice.pick(&["-1", "65536"]).to_string()
     } else {

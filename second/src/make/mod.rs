@@ -5,17 +5,20 @@
 //!     shapes, pairs, long   good shapes, alone and in pairs; damage: lists that are refused
 //!     points                points of sweeps; floors: those of all lists
 //!     apart                 pairs of good shapes that are mostly apart
-//!     passages              two obstacles and a cart
+//!     passages              two obstacles and a cart; drives: an obstacle, a cart and two places
 //!     parts                 walks and calls of sums in parts; all of them for small sums
 //!     tails                 directions and rooms; readings: bits of doubles; logs: their bytes
+//!     around                logs of several shapes on one floor
 //!     host                  bytes, floors and rooms of a host's calls
 //!     spoil, layout         lines that are no questions; the same text with other spaces
 //!
 //! Nothing here decides an answer: every line is answered from its text alone.
 
 pub mod apart;
+pub mod around;
 mod damage;
 pub mod dice;
+pub mod drives;
 pub mod edges;
 pub mod fields;
 pub mod floors;
@@ -28,7 +31,7 @@ pub mod parts;
 mod passages;
 pub mod points;
 pub mod readings;
-mod shapes;
+pub mod shapes;
 mod spoil;
 mod tails;
 

@@ -49,6 +49,15 @@ pub fn for_sum(dice: &mut Dice) -> (Shape, Shape) {
     }
 }
 
+/// The same, more often of many corners.
+pub fn for_large_sum(dice: &mut Dice) -> (Shape, Shape) {
+    if !dice.one_in(6) {
+        return for_sum(dice);
+    }
+    let total = long::about_most(dice);
+    long::summing_to(dice, total)
+}
+
 /// Merges that use every corner of both, with about as many as a shape may have in the worst case.
 pub fn for_merge(dice: &mut Dice) -> (Shape, Shape) {
     match dice.below(100) {
@@ -148,7 +157,8 @@ fn with_spot(dice: &mut Dice) -> (Shape, Shape) {
     (a, hull_of(spots))
 }
 
-fn spot(dice: &mut Dice, shape: &[Point]) -> Point {
+/// A corner, a point of an edge or of its line, or one near or across.
+pub fn spot(dice: &mut Dice, shape: &[Point]) -> Point {
     let at = dice.below(shape.len());
     let (a, b) = crate::plane::edge_ends(shape, at);
     let between = b - a;

@@ -70,6 +70,15 @@ fn every_sort_of_a_hosts_answer_comes_up_often() {
 fn sort_of(line: &[u8], answer: &str) -> String {
     let word = String::from_utf8_lossy(lines::words(line).next().unwrap_or_default());
     let parts: Vec<&str> = answer.split(' ').collect();
+    let found = match (&word[..], &parts[..]) {
+        ("nearest", ["ok", _, found, ..]) | ("gap", ["ok", _, _, found, ..]) => Some(*found),
+        ("contact", ["ok", "0", "1", ..]) => Some("begun"),
+        ("contact", ["ok", "1", "1", ..]) => Some("ended"),
+        _ => None,
+    };
+    if let Some(found) = found {
+        return format!("{word} {found}");
+    }
     match parts[..] {
         ["ok", bits, ..] if bits.starts_with("0x") => format!("{word} ok"),
         ["ok", floor, ..] if floor.starts_with('@') => format!("{word} ok"),
@@ -88,12 +97,14 @@ fn every_sort_of_answer_comes_up_often() {
         *seen.entry(sort_of(line, &answer(line))).or_default() += 1;
     }
     let often = "no 1,no 2,no 3,no 4,no 5,no 6,no 7,no 8,no 9,no 10,no 11,no 12,no 13,no 14,no 15,no 16,no 17,no 18,\
-                 no 19,judge ok,furthest ok,mirror ok,sum ok,parts ok,part ok,merge ok,grow ok,sweep ok,length ok,\
-                 area ok,width ok,relation apart,relation touching,\
+                 no 19,no 20,judge ok,furthest ok,mirror ok,sum ok,parts ok,part ok,merge ok,grow ok,sweep ok,\
+                 length ok,area ok,width ok,relation apart,relation touching,\
                  relation overlapping,inside yes,inside no,offer yes,offer no,find ok,find none,\
                  clearance ok,clearance cc,clearance ce,clearance ec,\
                  excess inside,excess cc,excess ce,tangents ok,passage ok,passage blocked,\
+                 contact never,contact begun,contact ended,contact ok,\
                  tablet ok,bookread ok,bookadd finished,bookadd cut,pack finished,pack cut,\
+                 entry ok,nearest 0,nearest cc,nearest ce,nearest ec,gap 0,gap cc,gap ce,gap ec,\
                  unreadable: line too long,unreadable: unknown word,unreadable: missing field,\
                  unreadable: too many fields,unreadable: not a number of 32 bits,\
                  unreadable: too many numbers,unreadable: wrong count of numbers,\
@@ -103,6 +114,32 @@ fn every_sort_of_answer_comes_up_often() {
     for sort in often.split(',') {
         let count = seen.get(sort).copied().unwrap_or(0);
         assert!(count >= 3, "{sort}: {count}");
+    }
+}
+
+/// The refusals of these words, with the list that 3 blames.
+#[test]
+fn every_refusal_of_a_word_comes_up_often() {
+    let words = [
+        ("entry", "no 8,no 15,no 20"),
+        ("nearest", "no 1,no 2,no 3,no 4,no 5,no 15,no 20"),
+        ("gap", "no 1,no 2,no 3,no 4,no 5,no 6,no 7,no 15,no 20"),
+        (
+            "contact",
+            "no 1,no 2,no 3 shape 1,no 3 shape 2,no 3 shape 3,no 3 shape 4,no 4,no 5,no 6,no 7,no 13",
+        ),
+    ];
+    for (word, often) in words {
+        let mut input = Vec::new();
+        write_all(16, 3000, word, &mut input).expect("a vector takes all bytes");
+        let told: Vec<String> = lines::questions(&input)
+            .map(|(_, line)| answer(line) + " ")
+            .collect();
+        for sort in often.split(',') {
+            let start = format!("{sort} ");
+            let count = told.iter().filter(|told| told.starts_with(&start)).count();
+            assert!(count >= 3, "{word} {sort}: {count}");
+        }
     }
 }
 

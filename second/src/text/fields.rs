@@ -40,6 +40,10 @@ pub enum Field {
     Calls,
     /// A name that is left out; nothing if nobody is.
     But,
+    /// The same, and the field may be left out.
+    Excepted,
+    /// A position, which is a count.
+    Position,
 }
 
 #[derive(Clone, Debug, PartialEq, Eq)]
@@ -58,11 +62,12 @@ pub enum Value {
     Floor(u32),
     Output(usize),
     But(Option<u16>),
+    Position(usize),
 }
 
 impl Field {
     fn may_be_left_out(self) -> bool {
-        matches!(self, Field::Room | Field::Stores)
+        matches!(self, Field::Room | Field::Stores | Field::Excepted)
     }
 
     fn read(self, text: &[u8], numbers: &mut Numbers) -> Result<Value, Unreadable> {
@@ -73,7 +78,8 @@ impl Field {
             Field::Reading => reading(text).ok_or(Unreadable::NotAReading),
             Field::Log => bytes(text).map(Value::Log).ok_or(Unreadable::NotBytes),
             Field::Name => name(&numbers.read(text)?).map(Value::Name),
-            Field::But => but(&numbers.read(text)?).map(Value::But),
+            Field::But | Field::Excepted => but(&numbers.read(text)?).map(Value::But),
+            Field::Position => count(&numbers.read(text)?).map(Value::Position),
             Field::Stores => count(&numbers.read(text)?).map(Value::Stores),
             Field::Walk => walk(&numbers.read(text)?),
             Field::Call => call(&numbers.read(text)?).map(|call| Value::Calls(vec![call])),

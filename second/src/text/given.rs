@@ -49,11 +49,28 @@ impl Given {
     }
 
     pub fn direction(&self) -> Point {
-        let found = self.0.iter().find_map(|value| match value {
+        self.directions().next().expect("the row has a direction")
+    }
+
+    /// Places are written as directions are.
+    pub fn places<const COUNT: usize>(&self) -> [Point; COUNT] {
+        let found: Vec<Point> = self.directions().collect();
+        found.try_into().expect("the row has these places")
+    }
+
+    fn directions(&self) -> impl Iterator<Item = Point> {
+        self.0.iter().filter_map(|value| match value {
             Value::Direction(direction) => Some(*direction),
             _ => None,
+        })
+    }
+
+    pub fn position(&self) -> usize {
+        let found = self.0.iter().find_map(|value| match value {
+            Value::Position(position) => Some(*position),
+            _ => None,
         });
-        found.expect("the row has a direction")
+        found.expect("the row has a position")
     }
 
     pub fn walk(&self) -> State {
@@ -131,7 +148,7 @@ impl Given {
             Value::But(name) => Some(*name),
             _ => None,
         });
-        found.expect("the row has a name to leave out, or nobody's")
+        found.flatten()
     }
 
     /// The most stores of an addition or a packing; any number if the line names none.

@@ -3,9 +3,12 @@
 --     narrowest-first     the narrowest is the first of the least
 --     apart-all           all pairs are apart exactly if the narrowest is
 --     floor-first, none-nearer, earlier-further, floor-apart, floor-passes, drive-clear, plain-shape     the same of a log's floor
+--     floor-in            the narrowest is one of the pairs
+--     floor-drive         a drive is clear of the nearest shape exactly if its segment is apart from every grown one
 --     point-grows-nothing grown by the point 0 0 a shape stays as it is
 use mathlib.Core.Path.{_≡_, refl, sym, _∙_, ap, subst}
 use mathlib.Core.Bool.{Bool, true, false}
+use mathlib.Core.Logic.{_↔_}
 use mathlib.Core.List.{List, [], _∷_, _++_, map, List·Memᴰ, List·Memᴰ·head, Memᴰ·append-right}
 use Prim.Native.Nat.{ℕ, _<_}
 use native.Mathlib.Omega.{arith}
@@ -14,14 +17,18 @@ use lib.ListN.{length}
 use lib.Signed.{_<ℤ_, _≤ℤ_}
 use Rattle.integer.specs.Ring.{ring, reify}
 use Rattle.integer.specs.Linear.{linear, lia, _&_}
-use Rattle.plane.specs.Point.{Point, origin, opposite}
+use Rattle.plane.specs.Point.{Point, points, origin, opposite}
+use Rattle.plane.specs.Refusal.{Valid}
+use Rattle.plane.specs.Corner.{shapeOf as Corner·shapeOf}
 use Rattle.plane.specs.Shape.{IsShape}
 use Rattle.plane.specs.Direction.{value, support}
 use Rattle.plane.specs.Separation.{apart}
 use Rattle.plane.specs.Clearance.{leastOf}
 use Rattle.plane.specs.Distance.{Fraction, distance}
 use Rattle.plane.specs.theory.lists.Sought.{true-not-false}
+use Rattle.plane.specs.theory.lists.Members.{sums-some}
 use Rattle.plane.specs.theory.support.Support.{support-one}
+use Rattle.plane.specs.theory.hull.ShapeOf.{shapeOf-shape, shapeOf-support}
 use Rattle.clearance.specs.theory.Distance.{noMore-le, more-lt, noMore-refl, more-noMore, noMore-trans}
 use Rattle.clearance.specs.theory.Distance.{distance-none, distance-zero, distance-whole}
 use Rattle.growth.specs.Grown.{grown, driven}
@@ -29,11 +36,13 @@ use Rattle.growth.specs.Growing.{drive-is-apart-as-its-segment}
 use Rattle.passage.specs.Passage.{passable}
 use Rattle.journal.specs.Format.{records}
 use Rattle.journal.specs.Reading.{damaged}
+use Rattle.growth.specs.theory.Alike.{alike-apart}
 use Rattle.growth.specs.theory.Places.{grown-shape, grown-known}
 use Rattle.neighbours.specs.Nearest.{shapeOf}
-use Rattle.neighbours.specs.Settled.{FirstLeast}
+use Rattle.neighbours.specs.Settled.{FirstLeast, IsNearest}
 use Rattle.neighbours.specs.theory.Least.{All, all-in, leastOf-first}
 use Rattle.neighbours.specs.theory.Near.{Whole, around-whole}
+use Rattle.neighbours.specs.theory.Answers.{apart-all as Answers·apart-all, all-apart as Answers·all-apart}
 use Rattle.gaps.specs.Gap.{Pair, thePair, grownOf, pairsOf, gapOf, noWider, narrowest, onFloor}
 use Rattle.gaps.specs.Search.{HasGap}
 
@@ -128,9 +137,36 @@ module _ (A : List Point) (a : 0 < length A) (b : List ℕ) (f : ℕ) (sound : d
       let w = all-in Whole (onFloor f b) floor-whole m in
       drive-is-apart-as-its-segment A (shapeOf r) a (w .some) t u
 
+  -- the drive as a list that can be asked: apart goes by how far lists reach, so that a set's shape does for the set
+  drive-shape : (t u : Point) (r : List ℕ) → Whole r → apart (Corner·shapeOf (driven A t u)) (shapeOf r) ≡ apart (driven A t u) (shapeOf r)
+  drive-shape t u r w =
+      let some = sums-some A (t ∷ u ∷ []) a (omega arith) in
+      alike-apart (Corner·shapeOf (driven A t u)) (shapeOf r) (driven A t u) (shapeOf r) (record {
+        first = shapeOf-shape (driven A t u) some .some;
+        second = w .some;
+        third = some;
+        fourth = w .some;
+        reach = λ d. ap (λ z. z +ℤ support (opposite d) (shapeOf r)) (shapeOf-support (driven A t u) some d);
+      })
+
+  pub floor-drive : (l : List ℤ) (t u : Point) (w : List ℕ) → Valid l → points l ≡ Corner·shapeOf (driven A t u)
+      → IsNearest (points l) f 65536 b w → (apart (points l) (shapeOf w) ≡ true)
+      ↔ ((r : List ℕ) → List·Memᴰ r (onFloor f b) → apart (t ∷ u ∷ []) (grownOf A r) ≡ true)
+  floor-drive l t u w v e near = (
+    λ h r m. sym (same r m) ∙ Answers·apart-all (points l) f 65536 b w near (v .shape) sound h r m,
+    λ h. Answers·all-apart (points l) f 65536 b w near (v .shape) sound (λ r m. same r m ∙ h r m),
+  )
+    where
+      same : (r : List ℕ) → List·Memᴰ r (onFloor f b) → apart (points l) (shapeOf r) ≡ apart (t ∷ u ∷ []) (grownOf A r)
+      same r m = ap (λ (P : List Point). apart P (shapeOf r)) e ∙ drive-shape t u r (all-in Whole (onFloor f b) floor-whole m)
+          ∙ drive-clear t u r m
+
   module _ (p : Pair) (answer : narrowest A (pairsOf (onFloor f b)) ≡ thePair p) where
     pub floor-first : FirstLeast (noWider A) (pairsOf (onFloor f b)) p
     floor-first = narrowest-first A a (pairsOf (onFloor f b)) p (pairs-shapes (onFloor f b) floor-whole) answer
+
+    pub floor-in : List·Memᴰ p (pairsOf (onFloor f b))
+    floor-in = subst (List·Memᴰ p) (sym (floor-first .is)) (Memᴰ·append-right (floor-first .before) (List·Memᴰ·head refl))
 
     pub none-nearer : (q : Pair) → List·Memᴰ q (pairsOf (onFloor f b))
         → (gapOf A p .numerator *ℤ gapOf A q .denominator) ≤ℤ (gapOf A q .numerator *ℤ gapOf A p .denominator)

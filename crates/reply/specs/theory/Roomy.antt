@@ -30,6 +30,8 @@ use Rattle.questions.specs.declared.answer.Separator.{Separator}
 use Rattle.questions.specs.declared.answer.Separator.the-variants as Separator
 use Rattle.questions.specs.declared.answer.Excess.{Excess}
 use Rattle.questions.specs.declared.answer.Excess.the-variants as Excess
+use Rattle.questions.specs.declared.answer.Contact.{Contact}
+use Rattle.questions.specs.declared.answer.Contact.the-variants as Contact
 use Rattle.questions.specs.declared.answer.Passage.{Passage}
 use Rattle.questions.specs.declared.answer.Passage.the-variants as Passage
 use Rattle.questions.specs.declared.answer.Clearance.{Clearance}
@@ -44,7 +46,7 @@ use Rattle.questions.specs.declared.answer.Addition.{Addition}
 use Rattle.questions.specs.declared.answer.Addition.the-variants as Addition
 use Rattle.questions.specs.declared.answer.Entry.{Entry}
 use Rattle.questions.specs.declared.answer.Entry.the-variants as Entry
-use Rattle.questions.specs.Answer.{ofArea, ofNearest, ofGap, ofEntry}
+use Rattle.questions.specs.Answer.{ofArea, ofNearest, ofGap, ofContact, ofEntry}
 use Rattle.questions.specs.Answer.{ofRefusal, ofUnread, ofAnswer, ofBegun, ofPart, ofFurthest, ofLength, ofWidth, ofRelation}
 use Rattle.questions.specs.Answer.{ofInside, ofOffer, ofSeparator, ofClearance, ofExcess, ofPassage, ofTangents, ofTablet, ofAddition}
 use Rattle.reply.specs.Heard.{Room}
@@ -139,6 +141,11 @@ pub passage-room : (x : Passage) → Room (ofPassage x)
 passage-room (Passage.Blocked f) = lit≤ tt
 passage-room (Passage.Free u v low high w f) = lit≤ tt
 passage-room (Passage.No r) = refusal-room r
+
+pub contact-room : (x : Contact) → Room (ofContact x)
+contact-room (Contact.Never f) = lit≤ tt
+contact-room (Contact.At n d safe f) = lit≤ tt
+contact-room (Contact.No r) = refusal-room r
 
 pub clearance-room : (x : Clearance) → Room (ofClearance x)
 clearance-room (Clearance.None f) = lit≤ tt

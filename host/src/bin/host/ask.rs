@@ -41,10 +41,14 @@ pub const TABLE: &[Row] = &[
     Row { word: "excess", fields: &[List, List], ask: excess },
     Row { word: "tangents", fields: &[List, List], ask: tangents },
     Row { word: "passage", fields: &[List, List, List], ask: passage },
+    Row { word: "contact", fields: &[List, List, Numbers, Numbers], ask: contact },
     Row { word: "tablet", fields: &[Reading, Reading], ask: tablet },
     Row { word: "bookread", fields: &[Bytes, Numbers, Optional], ask: book_read },
     Row { word: "bookadd", fields: &[Bytes, Numbers, List, Optional], ask: book_add },
     Row { word: "pack", fields: &[Bytes, Bytes, Numbers, Optional], ask: pack },
+    Row { word: "entry", fields: &[Bytes, Numbers, Optional], ask: entry },
+    Row { word: "nearest", fields: &[Bytes, List, Optional], ask: nearest },
+    Row { word: "gap", fields: &[Bytes, List], ask: gap },
     Row { word: "hjudge", fields: &[Bytes, Floor], ask: judge_bytes },
     Row { word: "hsum", fields: &[Bytes, Floor, Bytes, Floor, Output], ask: |f| bytes_written(f, bytes::sum) },
     Row { word: "hmerge", fields: &[Bytes, Floor, Bytes, Floor, Output], ask: |f| bytes_written(f, bytes::merge) },
@@ -170,28 +174,7 @@ fn find(mut fields: Fields) -> Answer {
 fn clearance(mut fields: Fields) -> Answer {
     let (a, b) = (fields.list(), fields.list());
     let answer = cocklesway::clearance(a.shape(), b.shape())?;
-    let (kind, across) = match answer.nearest {
-        None => return Ok(format!("ok 0 @{}", answer.floor)),
-        Some(Nearest::Corners {
-            first,
-            second,
-            squared,
-            rounded,
-        }) => {
-            return Ok(format!(
-                "ok cc {first} {second} {squared} {rounded} @{}",
-                answer.floor
-            ));
-        }
-        Some(Nearest::CornerEdge(across)) => ("ce", across),
-        Some(Nearest::EdgeCorner(across)) => ("ec", across),
-    };
-    let (corner, edge, turn) = (across.corner, across.edge, across.turn);
-    let (squared, rounded) = (across.squared, across.rounded);
-    Ok(format!(
-        "ok {kind} {corner} {edge} {turn} {squared} {rounded} @{}",
-        answer.floor
-    ))
+    Ok(format!("ok {} @{}", place(answer.nearest), answer.floor))
 }
 
 fn excess(mut fields: Fields) -> Answer {
@@ -239,6 +222,20 @@ fn passage(mut fields: Fields) -> Answer {
     ))
 }
 
+fn contact(mut fields: Fields) -> Answer {
+    let (obstacle, cart) = (fields.list(), fields.list());
+    let (from, to) = (fields.place()?, fields.place()?);
+    let answer = cocklesway::contact(obstacle.shape(), cart.shape(), from, to)?;
+    let Some(meeting) = answer.meeting else {
+        return Ok(format!("ok never @{}", answer.floor));
+    };
+    let (numerator, denominator, safe) = (meeting.numerator, meeting.denominator, meeting.safe);
+    Ok(format!(
+        "ok {numerator} {denominator} {safe} @{}",
+        answer.floor
+    ))
+}
+
 fn tablet(mut fields: Fields) -> Answer {
     let corner = cocklesway::tablet(fields.reading(), fields.reading())?;
     let [x, y] = corner.map(|number| f64::from(number).to_bits());
@@ -263,6 +260,30 @@ fn pack(mut fields: Fields) -> Answer {
     let allowed = fields.count()?.unwrap_or(usize::MAX);
     let word = stored(cocklesway::log_pack(&old, &mut new, but, allowed)?);
     Ok(format!("ok {word} | {}", hexadecimal(&new)))
+}
+
+fn entry(mut fields: Fields) -> Answer {
+    let (log, k, mut out) = (fields.bytes(), fields.position()?, output(fields.count()?));
+    let (name, shape) = cocklesway::log_entry(&log, k, &mut out)?;
+    let (count, floor) = (shape.corners.len(), shape.floor);
+    Ok(format!(
+        "ok {count} {name} @{floor} |{}",
+        numbers(shape.corners)
+    ))
+}
+
+fn nearest(mut fields: Fields) -> Answer {
+    let (log, list, but) = (fields.bytes(), fields.list(), fields.but()?);
+    let answer = cocklesway::log_nearest(&log, list.shape(), but)?;
+    let (name, place) = (answer.name, place(answer.nearest));
+    Ok(format!("ok {name} {place} @{}", answer.floor))
+}
+
+fn gap(mut fields: Fields) -> Answer {
+    let (log, cart) = (fields.bytes(), fields.list());
+    let answer = cocklesway::log_gap(&log, cart.shape())?;
+    let ([first, second], place) = (answer.names, place(answer.nearest));
+    Ok(format!("ok {first} {second} {place} @{}", answer.floor))
 }
 
 fn stored(addition: Addition) -> &'static str {
@@ -317,6 +338,24 @@ fn numbers(corners: &[[i32; 2]]) -> String {
 
 fn hexadecimal(bytes: &[u8]) -> String {
     bytes.iter().map(|byte| format!("{byte:02X}")).collect()
+}
+
+/// Where two shapes are nearest, and how near: 0 if they are not apart.
+fn place(nearest: Option<Nearest>) -> String {
+    let (kind, across) = match nearest {
+        None => return "0".to_string(),
+        Some(Nearest::Corners {
+            first,
+            second,
+            squared,
+            rounded,
+        }) => return format!("cc {first} {second} {squared} {rounded}"),
+        Some(Nearest::CornerEdge(across)) => ("ce", across),
+        Some(Nearest::EdgeCorner(across)) => ("ec", across),
+    };
+    let (corner, edge, turn) = (across.corner, across.edge, across.turn);
+    let (squared, rounded) = (across.squared, across.rounded);
+    format!("{kind} {corner} {edge} {turn} {squared} {rounded}")
 }
 
 fn yes_or_no(yes: bool) -> &'static str {

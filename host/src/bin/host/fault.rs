@@ -56,7 +56,8 @@ fn fmt_refusal(f: &mut fmt::Formatter<'_>, refusal: Refusal) -> fmt::Result {
         let shape = match shape {
             Which::First => 1,
             Which::Second => 2,
-            _ => 3,
+            Which::Third => 3,
+            _ => 4,
         };
         write!(f, " shape {shape}")?;
     }

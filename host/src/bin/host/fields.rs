@@ -117,6 +117,10 @@ impl Fields {
         self.numbers()
     }
 
+    pub fn place(&mut self) -> Result<[i32; 2], Unreadable> {
+        self.numbers()
+    }
+
     pub fn name(&mut self) -> Result<u16, Unreadable> {
         let [name] = self.numbers()?;
         name.try_into().map_err(|_| Unreadable::NotAName)
@@ -124,6 +128,9 @@ impl Fields {
 
     /// A name, or nobody's.
     pub fn but(&mut self) -> Result<Option<u16>, Unreadable> {
+        if self.0.as_slice().is_empty() {
+            return Ok(None);
+        }
         let numbers = self.list().numbers;
         let [name] = numbers[..] else {
             return numbers
@@ -132,6 +139,11 @@ impl Fields {
                 .ok_or(Unreadable::WrongCount);
         };
         name.try_into().map(Some).map_err(|_| Unreadable::NotAName)
+    }
+
+    pub fn position(&mut self) -> Result<usize, Unreadable> {
+        let [position] = self.numbers()?;
+        whole(position)
     }
 
     /// A count, if the field was not left out.

@@ -1,0 +1,39 @@
+-- `cocklesway_log_gap` meets its contract: 13 for a floor above its limit, else the reply of `log_gap`, crossed.
+use mathlib.Core.Path.{_≡_, sym, _∙_}
+use mathlib.Core.Bool.{false}
+use lib.Dec.{ltb}
+use Rattle.plane.specs.Limits.{maxFloor}
+use Rattle.crossing.specs.theory.Low.{low-fits, within-told}
+use Rattle.crossing.specs.theory.High.{above}
+use borrow.Author.Needs.{needs}
+use Rattle.calls.proofs.logs.cocklesway_log_gap.Statement.{statement}
+use Rattle.calls.proofs.logs.cocklesway_log_gap.Tie as tie
+
+-- past the test the floor is within its limit
+low : (c : tie.Else1) → ltb maxFloor (c .before .before .before .args .floor) ≡ false
+low c = sym (c .before .exceeds-floor .ensures) ∙ c .if1 .left
+
+exceeds-floor-requires : tie.Need-exceeds-floor-requires
+exceeds-floor-requires c κs = search needs
+
+barred-requires : tie.Need-barred-requires
+barred-requires c κs = search needs
+
+returns : tie.Need-returns
+returns c = above _ (sym (c .before .before .exceeds-floor .ensures) ∙ c .before .if1 .taken) (c .barred .ensures) .0
+
+cast-log-gap : tie.Need-cast-log-gap
+cast-log-gap c = low-fits _ (low c)
+
+log-gap-requires : tie.Need-log-gap-requires
+log-gap-requires c κs = search needs
+
+of-gap-requires : tie.Need-of-gap-requires
+of-gap-requires c κs = search needs
+
+returns-2 : tie.Need-returns-2
+returns-2 c = within-told _ (low (c .before .before)) (c .of-gap .ensures) (c .before .log-gap .ensures)
+
+pub cocklesway-log-gap-spec : {M : Type 1} → statement M
+cocklesway-log-gap-spec =
+    tie.close (tie.spec exceeds-floor-requires barred-requires returns cast-log-gap log-gap-requires of-gap-requires returns-2)
