@@ -34,23 +34,23 @@ pub extern "C" fn cocklesway_log_entry(log: &[u8], k: usize, out: &mut [i32]) ->
 
 // Adds the shape to the log with at most as many stores as are allowed. Answers 1 if it finished, 0 if it was cut.
 // A floor above its limit is refused 13 after the list and before the log, with nothing stored.
-// Ruled out: name and floor exchanged.
+// Ruled out: name and floor exchanged; floor above the limit stored.
 #[no_mangle]
 pub extern "C" fn cocklesway_log_add(
     log: &mut [u8],
     name: u16,
-    floor: u32,
+    f: u32,
     list: &[i32],
     allowed: usize,
 ) -> Reply
     ensures { λ r. ⌜
-        (numbers r ≡ crossed (addedLow (now (log .entry)) name floor (now (list .entry)) allowed .reply))
-        × (now (log .exit) ≡ addedLow (now (log .entry)) name floor (now (list .entry)) allowed .log) ⌝ }
+        (numbers r ≡ crossed (addedLow (now (log .entry)) name f (now (list .entry)) allowed .reply))
+        × (now (log .exit) ≡ addedLow (now (log .entry)) name f (now (list .entry)) allowed .log) ⌝ }
 {
-    if limits::exceeds_floor(floor) {
+    if limits::exceeds_floor(f) {
         return floors::barred(list);
     }
-    reply::of_addition(questions::log_add(log, name, floor as u16, list, allowed))
+    reply::of_addition(questions::log_add(log, name, f as u16, list, allowed))
 }
 
 // Packs the old log into the new run with at most as many stores as are allowed, without the records of the name `but`;

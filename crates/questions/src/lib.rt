@@ -489,7 +489,7 @@ fn line(a: &[i32], b: &[i32], near: Line, s: bool, t: bool) -> Line
 // numbers that they hold exactly, from which a shape may be listed. Minus zero is 0 and goes back as plus zero. Nothing
 // is rounded. Refused, with the part that it was: x, then y, each if it is not finite, then if it is not whole, then if
 // it is out of range.
-// Ruled out: y judged first; whole after range; minus zero sent back; scaled before the test.
+// Ruled out: x blamed for y; y judged first; whole after range; minus zero sent back; scaled before the test.
 pub fn tablet(x: Reading, y: Reading) -> Tablet
     ensures { λ r. ⌜ ofTablet r ≡ tabletSent x y ⌝ }
 {
