@@ -24,7 +24,7 @@ fn on((list, floor): Lent) -> Shape {
     Shape::of_numbers(list, floor)
 }
 
-/// Asks questions of made lists until so many were answered, and returns how many were; or the first answer that
+/// Asks questions of made lists until the given number are answered, and returns how many are; or the first answer that
 /// differs, or a kind of answer that never came.
 pub fn agree(seed: u64, answers: u64) -> Result<u64, String> {
     let mut random = Random::new(seed);

@@ -27,7 +27,7 @@ fn large(random: &mut Random) -> List {
     sized(random, MOST as i32 - 22, MOST as i32 + 3, 0, 0)
 }
 
-/// A shape of at most so many parts.
+/// A shape of at most `most` parts.
 fn some(random: &mut Random, most: u64, reach: i32, x: i32, y: i32) -> List {
     let parts = 1 + random.below(most) as usize;
     grown(random, parts, reach, x, y)

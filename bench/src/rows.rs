@@ -39,7 +39,7 @@ impl Counted {
         }
     }
 
-    /// How many corners so many have together: a record has 8.
+    /// How many corners n of these have together: a record has 8.
     pub fn corners(self, n: usize) -> usize {
         match self {
             Counted::Corners => n,

@@ -35,7 +35,7 @@ macro_rules! both {
     };
 }
 
-/// The same for the calls on bytes, and perhaps of so many bytes of an output.
+/// The same for the calls on bytes, and perhaps of the bytes of an output.
 macro_rules! on_bytes {
     ($question:ident, $plain:ident($($k:literal),*)) => {
         [

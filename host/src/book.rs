@@ -195,7 +195,7 @@ impl<'a> Book<'a> {
         log_gap(self.bytes, cart)
     }
 
-    /// Adds a shape under a name with at most so many stores of single bytes, and returns whether they sufficed.
+    /// Adds a shape under a name with at most `allowed` stores of single bytes, and returns whether they sufficed.
     /// With `usize::MAX` they always do. Whenever it is stopped, every name reads as before or as afterwards.
     ///
     /// # Errors

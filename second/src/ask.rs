@@ -45,7 +45,7 @@ pub fn sum(given: &Given) -> Answer {
     written(given, combine::sum(&a, &b)?, floor)
 }
 
-/// Behind a bar each, what the calls from the beginning on wrote, or 8.
+/// After a bar each, what the calls from the beginning on wrote, or 8.
 pub fn parts(given: &Given) -> Answer {
     let ([a, b], floor) = given.shapes()?;
     let sum = combine::sum(&a, &b)?;

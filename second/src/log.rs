@@ -38,7 +38,7 @@ pub fn current(log: &[u8]) -> Result<Vec<Entry>, Refusal> {
     Ok(latest.map(|(_, entry)| entry).collect())
 }
 
-/// Adds a shape on a floor with at most so many stores; whether that finished.
+/// Adds a shape on a floor with at most `allowed` stores; whether that finished.
 pub fn add(
     log: &mut [u8],
     name: u16,

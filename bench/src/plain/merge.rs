@@ -125,7 +125,7 @@ impl Hull {
         }
     }
 
-    /// Drops what a new corner leaves behind, and keeps the corner.
+    /// Drops the corners that a new one makes needless, and keeps it.
     #[inline(always)]
     pub fn add(&mut self, corner: Corner) {
         // SAFETY: two are held above the floor, and on each way no corner is pushed twice.

@@ -2,7 +2,7 @@
 --     Records                 a log is its records and a torn rest
 --     Kind, Read              the kind of a record; what a record says
 --     Reading                 reading, by the records alone
---     Parts, Stores           what stands behind the records after each store of an addition
+--     Parts, Stores           the bytes after the records, once each store of an addition is made
 --     Added, History          one addition; any history of them
 --     Current                 the current records, by position and after an addition
 -- Then what the code's loops stand on:

@@ -88,7 +88,7 @@ pub fn fixed_bytes(kind: usize) -> usize
     PLAIN_BYTES
 }
 
-// The floor of the record at a place, whose length counts so many bytes besides the corners: 0 if none are a floor's.
+// The floor of the record at a place, whose length counts the given number of bytes besides the corners: 0 if none are a floor's.
 // Ruled out: kind 1 read as its own floor.
 pub fn floor_at(log: &[u8], p: usize, fixed: usize) -> u16
     requires { ⌜ Legible (now log) p × (fixed ≡ fixedBytes (Format·kind (drop p (now log)))) ⌝ }

@@ -5,7 +5,7 @@
 --     Call                  a question on two shapes and a lent output: `sumCall` or `mergeCall`
 --     Gives w s             the call is answered, and s is the shape that stands in its output, on the floor that the answer carries
 --     answeredWith s out    the whole of a call that is answered with the shape s: its count of corners and its floor; its numbers, and
---                           what stood behind them in out
+--                           what was after them in out
 --     Fits shape out        the shape keeps the limits, and the output has room for it
 --     Called call a b s     some call on a and b, in either order, gives s
 --     Grouping L            a way to bring the list L together: no call, or two groups and one call on their results

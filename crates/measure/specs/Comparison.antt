@@ -28,7 +28,7 @@ pub record NoBetter (ps : List Point) (k l i j : ℕ) : Type 0 where
   pub no-further : squared (corner ps k) (corner ps l) ≤ℤ squared (corner ps i) (corner ps j)
   pub no-earlier : squared (corner ps i) (corner ps j) ≤ℤ squared (corner ps k) (corner ps l) → NotAfter i j k l
 
--- behind the last corner the first comes again, and stands first
+-- after the last corner the first comes again, and is given first
 pub record Stands (ps : List Point) (i m k l : ℕ) : Type 0 where
   pub from-is : cond (eqb m (length ps)) 0 i ≡ k
   pub to-is : cond (eqb m (length ps)) i m ≡ l

@@ -25,7 +25,7 @@ use Rattle.calipers.specs.theory.Sides.{onward-end, onward-inner}
 use Rattle.calipers.specs.theory.Carry.{all-passed, some-left, sides-walk, sides-here, sides-advanced}
 use Rattle.calipers.specs.theory.Steps.{remaining-here, remaining-over, at-stepped, remaining-stepped, here-stepped}
 
--- so many corners are all that are next, and the walk is after them
+-- these corners are all that are next, and the walk is after them
 pub record Ended (a b : List ℤ) (w : Walk) (k count : ℕ) (s t : Side) (over : Bool) : Type 0 where
   pub counted : count ≡ length (nextCorners a b w k)
   pub reaches : walkOf s t over ≡ stepped (points a) (points b) count w

@@ -3,7 +3,7 @@
 --     carried-to                      a side that stands at a corner, with its edge
 --     along-edge                      the corner where it ends
 --     corner-fits, edge-adds          its corner and its edge may be added; `edge-fits`: its edge may be multiplied
---     round-end                       behind the last edge stands the first corner again
+--     round-end                       after the last edge comes the first corner again
 --     onward-end, onward-inner        one edge on where none is left, and where one is
 use mathlib.Core.Path.{_≡_, refl, sym, _∙_, ap, ap₂, subst}
 use mathlib.Core.Bool.{Bool, true, false}
@@ -51,7 +51,7 @@ edge-to A n i e h =
     ap₂ (λ (m k : ℕ). corner A (next m i) ⊖ corner A k) (e ∙ all) (round-inner (length A) i (omega arith))
     ∙ sym (edge-at A i (omega arith))
 
--- that is the position behind, and after the last corner the first
+-- that is the next position, and after the last corner the first
 pub edge-inner : (A : List Point) (n i : ℕ) → n ≡ length (edges A) → i + 1 < n → corner A (i + 1) ⊖ cornerRound A i ≡ corner (edges A) i
 edge-inner A n i e h =
     let on : next n i ≡ i + 1 = rw (ne-eqb (i + 1) n (λ q. omega arith)) in

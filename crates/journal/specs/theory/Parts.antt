@@ -1,4 +1,4 @@
--- A front of some bytes, then zeros: what stands behind a log's records after any store of an addition.
+-- A front of some bytes, then zeros: the bytes after a log's records, once any store of an addition is made.
 --     part j t          the first j bytes of t, then as many zeros as t has bytes left
 --     part-whole        it is a whole record only if t is one and j covers it
 --     part-torn, part-short      so it is none where t is none, or j is short of it

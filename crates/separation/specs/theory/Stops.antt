@@ -39,7 +39,7 @@ sum-length (a ∷ A) (b ∷ B) = path-length (a ⊕ b) (joinEdges (edges (a ∷ 
 
 -- ---- a place of the walk, and the corner there
 
--- behind the last edge, the first corner
+-- after the last edge, the first corner
 home : (A : List Point) → 0 < length A → (i : ℕ) → i ≡ length (edges A) → cornerRound A i ≡ cornerRound A 0
 home A some i e = ap (corner A) (ap (round (length A)) e ∙ round-end A some ∙ sym (round-inner (length A) 0 some))
 

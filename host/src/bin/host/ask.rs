@@ -319,7 +319,7 @@ fn bytes_written(mut fields: Fields, call: BytesWritten) -> Answer {
     Ok(format!("{:#018x} |{space}{bytes}", packed.number()))
 }
 
-/// An output that holds so many numbers, or the longest answer.
+/// An output that holds the given number of numbers, or the longest answer.
 fn output(room: Option<usize>) -> Vec<[i32; 2]> {
     let most = cocklesway::limits().corners;
     vec![[0; 2]; room.map_or(most, |room| most.min(room / 2))]

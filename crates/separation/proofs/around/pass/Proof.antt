@@ -1,4 +1,4 @@
--- `pass` meets its contract. The invariant: so many edges are passed and none has the origin to its right, and the walk with these two
+-- `pass` meets its contract. The invariant: `count` edges are passed and none has the origin to its right, and the walk with these two
 -- sides is as far and not over; the measure: what is left.
 use mathlib.Core.Path.{_≡_, refl, sym, _∙_, ap₂, subst}
 use mathlib.Core.Bool.{Bool, false, cond}
