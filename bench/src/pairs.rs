@@ -241,7 +241,7 @@ mod tests {
         assert_eq!(refused(under_cart, MOST - 8, polygon), 0);
     }
 
-    /// How two shapes stand.
+    /// How two shapes relate.
     fn relation(make: Make, n: usize, outline: Outline) -> u64 {
         let case = make(&mut Random::new(7), n, outline);
         let answer = plain::relation(&case.a, 0, &case.b, 0);

@@ -1,5 +1,5 @@
-//! Shapes of a given number of corners: in general position, with edges of irregular directions and lengths; regular ones; and
-//! some with many parallel edges.
+//! Shapes of a given number of corners: in general position, with edges of irregular directions and lengths; regular
+//! ones; and some with many parallel edges.
 use crate::random::Random;
 
 /// A list of numbers, x y x y.

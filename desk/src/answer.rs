@@ -61,7 +61,7 @@ pub enum AboutOne {
 /// What is answered about two shapes.
 #[derive(Clone, Debug, PartialEq)]
 pub enum AboutTwo {
-    /// How they stand to each other.
+    /// How they relate to each other.
     Relation(Standing),
     /// Whether the first is inside the second.
     Inside(Inside),
@@ -125,7 +125,7 @@ pub fn made(making: Making) -> Result<Given, Refused> {
     shape.map_err(|refusal| Refused::new(Question::Make(making, None), refusal))
 }
 
-/// Asks how two shapes stand to each other.
+/// Asks how two shapes relate to each other.
 ///
 /// # Errors
 /// The question, with its refusal.

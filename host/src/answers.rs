@@ -113,7 +113,7 @@ pub struct Width {
     pub floor: u32,
 }
 
-/// How two shapes stand to each other.
+/// How two shapes relate to each other.
 ///
 /// ```
 /// use cocklesway::{Relation, Shape, relation};

@@ -128,7 +128,7 @@ pub fn merge<'o>(
 }
 
 /// Writes the shape of all obstacle-corner minus cart-corner points at the front of the output and returns it. The
-/// rest of the output is kept. A cart at a place stands to the obstacle as the place stands to this shape.
+/// rest of the output is kept. A cart at a place is to the obstacle as the place is to this shape.
 ///
 /// # Errors
 /// Refused, with the output as it was: 1 to 5 of the obstacle, then of the cart, 13, 6, 7, 8.

@@ -318,7 +318,7 @@ fn behind_spaces(corners: &[Point]) -> String {
     numbers.collect()
 }
 
-/// The shape as it stands in the lent output, if that has the room.
+/// The shape as it is in the lent output, if that has the room.
 fn written(given: &Given, shape: Shape, floor: u16) -> Answer {
     let shape = held_by(given.room(), shape)?;
     let (count, numbers) = (shape.len(), behind_spaces(&shape));

@@ -43,7 +43,7 @@ impl Comparison {
     }
 }
 
-/// Answers the questions and compares; the answers stand in the questions' order, one a line.
+/// Answers the questions and compares; the answers are in the questions' order, one a line.
 pub fn compare(questions: &[u8], answers: &[u8]) -> Comparison {
     let mut comparison = Comparison::default();
     let mut got = answers.split_inclusive(|&byte| byte == b'\n');

@@ -437,7 +437,7 @@ fn false_record(dice: &mut Dice) -> Vec<u8> {
     [old_record(logs::name(dice), &[0x5A, -1]), torn].concat()
 }
 
-/// A point, and a torn end of last bytes alone: wherever the next record ends, its last byte stands
+/// A point, and a torn end of last bytes alone: wherever the next record ends, its last byte is
 /// there already. Its length goes past the end.
 fn last_bytes(dice: &mut Dice) -> Vec<u8> {
     let torn = vec![0x5A; 60 + dice.below(20)];

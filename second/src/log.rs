@@ -136,7 +136,7 @@ pub fn records(log: &[u8]) -> Result<Vec<(u16, &[u8])>, Refusal> {
     Ok(named)
 }
 
-/// What the length at the front counts, if a record stands whole there: a length of 0 counts no
+/// What the length at the front counts, if a record is whole there: a length of 0 counts no
 /// last byte.
 fn whole(rest: &[u8]) -> Option<&[u8]> {
     let (length, behind) = rest.split_first_chunk()?;

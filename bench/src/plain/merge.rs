@@ -148,7 +148,7 @@ impl Hull {
         self.floor = self.answer.len();
     }
 
-    /// The way down ends at the first corner, which stands at the front unless it is the only one.
+    /// The way down ends at the first corner, which is at the front unless it is the only one.
     #[inline(always)]
     pub fn close(&mut self) {
         if self.answer.len() > 1 {

@@ -1,6 +1,6 @@
 -- The walk that looks for the closest place: the invariant of the loop, and its moves.
 --     Looking a b walk back            all places that are passed fail, but for the first corner; back is the corner before the one at hand
---     looking-start, looking-more      its moves; `looking-at`: the walk stands at a place of the lists
+--     looking-start, looking-more      its moves; `looking-at`: the walk is at a place of the lists
 --     looking-corner, looking-edge     the corner or the edge at hand passes
 --     looking-end                      all are passed, and the first corner is left
 use mathlib.Core.Path.{_≡_, refl, sym, _∙_, ap, ap₂, subst}

@@ -70,7 +70,7 @@ fn clear(log: &mut [u8], from: usize, allowed: usize) -> usize
     left
 }
 
-// Stores 0 at a place if another byte stands there. How many stores are left.
+// Stores 0 at a place if another byte is there. How many stores are left.
 fn tidy(log: &mut [u8], p: usize, left: usize) -> usize
     requires { ⌜ p < length (now log) ⌝ }
     ensures { λ r. ⌜ Ran left (cleared p (getD (now (log .entry)) p 0)) (now (log .entry)) r (now (log .exit)) ⌝ }

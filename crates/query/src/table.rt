@@ -103,7 +103,7 @@ fn on_one(mut found: Entry, word: &[u8]) -> Entry {
     row(found, word, b"width", Question::Width, ONE)
 }
 
-// How two shapes stand to each other, whether a third passes between them, and where a drive first meets one.
+// How two shapes relate to each other, whether a third passes between them, and where a drive first meets one.
 fn on_two(mut found: Entry, word: &[u8]) -> Entry {
     found = row(found, word, b"relation", Question::Relation, PAIR);
     found = row(found, word, b"inside", Question::Inside, PAIR);

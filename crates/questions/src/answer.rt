@@ -1,6 +1,6 @@
 // What the questions answer. Every answer on shapes carries their floor; a refusal carries none.
 use crate::walk::Walk;
-// Passed on: what judging and delivering answer stands below the questions.
+// Passed on: the answers of judging and delivering, from below the questions.
 pub use admission::answer::Answer;
 pub use admission::answer::Refusal;
 
@@ -62,7 +62,7 @@ pub enum Width {
     No(Refusal),
 }
 
-// How two shapes stand to each other.
+// How two shapes relate to each other.
 pub enum Relation {
     Apart { floor: u16 },
     Touching { floor: u16 },

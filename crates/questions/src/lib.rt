@@ -182,7 +182,7 @@ pub fn merge(a: &[i32], f: u16, b: &[i32], g: u16, out: &mut [i32]) -> Answer
 
 // Writes the obstacle grown by the cart's outline at the front of the output, and answers how many corners it has: the
 // shape of all obstacle-corner minus cart-corner points. The outline's corners are relative to the cart's own origin; a
-// cart whose origin stands at a place meets the obstacle exactly if that place is a point of the grown one. Either may
+// cart whose origin is at a place meets the obstacle exactly if that place is a point of the grown one. Either may
 // be a point or a segment. Refused, with the output as it was: 1 to 5 of the obstacle, then of the cart; different
 // floors; then an answer of too many corners, one out of range, and too small an output. On success all after the
 // written numbers is kept.
@@ -298,7 +298,7 @@ pub fn relation(a: &[i32], f: u16, b: &[i32], g: u16) -> Relation
     stand(separation::relation(a, b), f)
 }
 
-// How two shapes stand, as an answer.
+// How two shapes relate, as an answer.
 fn stand(found: separation::answer::Relation, floor: u16) -> Relation
     ensures { λ r. ⌜ ofRelation r ≡ answered (numberOf found ∷ pos floor ∷ []) ⌝ }
 {
@@ -511,7 +511,7 @@ pub fn tablet(x: Reading, y: Reading) -> Tablet
 
 // Writes the corners of the latest record of a name at the front of the output, and answers how many they are, and the
 // floor of the record: 0 of one of kind 1, which says none. All after them is kept. A log ends where no whole record
-// stands. Refused, with the output as it was: a log in which some record is of another kind, a wrong length, or no
+// is. Refused, with the output as it was: a log in which some record is of another kind, a wrong length, or no
 // shape (with the byte place of the first); a name that no record has; too small an output.
 // Ruled out: first record for the latest; record lost after another.
 pub fn log_read(log: &[u8], name: u16, out: &mut [i32]) -> Answer

@@ -19,7 +19,7 @@ least d ps = negℤ (support (opposite d) ps)
 unfoldable pub spread : Point → List Point → ℤ
 spread d ps = support d ps -ℤ least d ps
 
--- below 0 where the shapes overlap in d, or stand the other way round
+-- below 0 where the shapes overlap in d, or are the other way round
 unfoldable pub gapIn : Point → List Point → List Point → ℤ
 gapIn d A B = least d A -ℤ support d B
 

@@ -1,7 +1,7 @@
 -- A walk under way from a place (`Walked`), with carried sides: the invariant of every loop that goes round two shapes, and its moves.
 --     walked-start, -more          its moves: nothing yet, one corner more; `walked-inside`: one more where edges are left
 --     walked-over, -spent          its ends: no edge is left, or k corners are passed; `Ended`: these are all the next corners
---     walked-at, -below, -here     the walk stands at a place; a corner is to come, and the two sides stand at it
+--     walked-at, -below, -here     the walk is at a place; a corner is to come, and the two sides are at it
 use mathlib.Core.Path.{_≡_, refl, sym, _∙_, ap, subst}
 use mathlib.Core.Bool.{Bool, true, false, cond}
 use mathlib.Core.List.{List}

@@ -25,7 +25,7 @@ pub fn mostly(dice: &mut Dice) -> (Shape, Shape) {
     pairs::in_either_order(dice, a, b)
 }
 
-/// The same, and pairs whose faces stand against each other across a gap.
+/// The same, and pairs whose faces are opposite each other across a gap.
 pub fn near(dice: &mut Dice) -> (Shape, Shape) {
     if dice.one_in(2) {
         return mostly(dice);

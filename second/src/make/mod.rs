@@ -43,7 +43,7 @@ use std::io::{self, Write};
 /// The numbers of a list, x, y, x, y; all fit 32 bits.
 pub type List = Vec<i64>;
 
-/// Writes `count` lines that want an answer, after a byte order mark; others stand between them.
+/// Writes `count` lines that want an answer, after a byte order mark; others are between them.
 /// All are of the words that begin as the given one.
 pub fn write_all(seed: u64, count: usize, word: &str, to: impl Write) -> io::Result<()> {
     let wanted = |row: &&Row| row.word.starts_with(word);

@@ -1,4 +1,4 @@
-//! Pairs of good shapes that stand in a special way to each other: equal, flush, touching, nested.
+//! Pairs of good shapes that lie in a special way to each other: equal, flush, touching, nested.
 
 use super::dice::Dice;
 use super::edges::{edges_of, shape_from_edges};

@@ -184,7 +184,7 @@ fn rectangle(dice: &mut Dice, size: i64) -> Vec<Point> {
     vec![side, nearly, -side, -nearly]
 }
 
-/// The same on turning by a quarter: every width stands four times.
+/// The same on turning by a quarter: every width occurs four times.
 fn quarter_turns(dice: &mut Dice, size: i64) -> Vec<Point> {
     let mut edges = Vec::new();
     for _ in 0..dice.between(1, 3) {

@@ -142,7 +142,7 @@ fn but(list: &[i32]) -> Result<Option<u16>, Unreadable> {
     name(list).map(Some)
 }
 
-/// Pairs of hexadecimal digits; spaces may stand between pairs.
+/// Pairs of hexadecimal digits; spaces may separate pairs.
 pub fn bytes(text: &[u8]) -> Option<Vec<u8>> {
     let pairs = words(text).flat_map(|word| word.chunks(2));
     pairs.map(byte).collect()

@@ -23,7 +23,9 @@ impl Given {
         if self.lists().any(|(_, other)| other != floor) {
             return Err(Refusal::plain(13));
         }
-        let shapes = shapes.try_into().expect("the row has this number of shapes");
+        let shapes = shapes
+            .try_into()
+            .expect("the row has this number of shapes");
         Ok((shapes, floor))
     }
 
@@ -45,7 +47,9 @@ impl Given {
             _ => None,
         });
         let found: Vec<Reading> = readings.collect();
-        found.try_into().expect("the row has this number of readings")
+        found
+            .try_into()
+            .expect("the row has this number of readings")
     }
 
     pub fn direction(&self) -> Point {

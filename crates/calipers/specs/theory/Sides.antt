@@ -1,6 +1,6 @@
 -- A side of a walk: how it is made, and that its numbers are small.
 --     edge-inner, edge-last           the edge that leaves a corner, and the one back to the first; `edge-none`: past it
---     carried-to                      a side that stands at a corner, with its edge
+--     carried-to                      a side that is at a corner, with its edge
 --     along-edge                      the corner where it ends
 --     corner-fits, edge-adds          its corner and its edge may be added; `edge-fits`: its edge may be multiplied
 --     round-end                       after the last edge comes the first corner again
@@ -86,7 +86,7 @@ module _ {l : List ℤ} {s : Side} (r : InRange l) (some : 0 < length (points l)
   pub edge-fits : Small (2 ^ 22) (nextOf s)
   edge-fits = small-wide edge-adds
 
--- the corner at which a side stands may be added
+-- the corner of a side may be added
 pub stands-fits : {l : List ℤ} {s : Side} → InRange l → 0 < length (points l) → Stands l s → Small (2 ^ 21) (cornerOf s)
 stands-fits {l} {s} r some c = small-corner l r (round (length (points l)) (s .at))
     (round-within (length (points l)) (s .at) some (omega (arith, c .at-in, edges-at-most (points l)))) (c .corner-is)

@@ -1,4 +1,4 @@
--- The scan on a stack that stands at the front of a buffer.
+-- The scan on a stack that is at the front of a buffer.
 --     stack-length, stack-reverse, take-stack     a stack has as many points as it says; it is the front of the list read backwards
 --     Settling, settle-drop, settle-keep, settle-short      the loop that drops corners until the new point turns left
 --     settled-scanned        the point is written after what stays

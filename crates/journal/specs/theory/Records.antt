@@ -2,7 +2,7 @@
 --     whole→facts, facts→whole  what the test `whole t` says
 --     Entry r, Entries rs       r is whole, and nothing more; all of rs are
 --     records-of                entries, joined, with a torn rest after them, have these entries as their records
---     records-entries, split, end-torn, front-joined, end-le        every log is of this kind, its rest being what stands from `end b` on
+--     records-entries, split, end-torn, front-joined, end-le        every log is of this kind, its rest being the bytes from `end b` on
 --     records-front, records-none, end-front, end-none       how records and end compute, as a loop goes along a log
 use mathlib.Core.Path.{_≡_, refl, sym, _∙_, ap, ap₂, subst}
 use mathlib.Core.Bool.{Bool, true, false, not, cond, _&&_, and-eq-true-iff}

@@ -1,7 +1,7 @@
 -- Places of the walk by their number, and the edges of the sum that leave them.
 --     sum-length                a sum has no more corners than both lists together
 --     on-below, over-end        whether the walk is over tells whether all corners are passed
---     corner-here               the corner at which it stands
+--     corner-here               its corner
 --     stop-here                 the corner where the edge that leaves a corner ends: the next one, after the last the first
 use mathlib.Core.Path.{_≡_, refl, sym, _∙_, ap, ap₂}
 use mathlib.Core.Bool.{Bool, true, false}
@@ -72,7 +72,7 @@ module _ (a b : List ℤ) (start : At a b begun) where
   pub corner-here : (n : ℕ) → n < length corners → here (points a) (points b) (stepped (points a) (points b) n begun) ≡ corner corners n
   corner-here n h = here-stepped a b begun start n (omega (arith, ap length all)) ∙ ap (λ (ps : List Point). corner ps n) all
 
-  -- where the walk is over, it stands at the first corner again
+  -- where the walk is over, it is at the first corner again
   over-here : (n : ℕ) → stepped (points a) (points b) (suc n) begun .over ≡ true
       → here (points a) (points b) (stepped (points a) (points b) (suc n) begun) ≡ here (points a) (points b) begun
   unfolding here advanced finished

@@ -159,7 +159,7 @@ here-requires-3 : tie.Need-here-requires-3 Inv-loop μ-loop
 here-requires-3 c κs =
     let at-next = c .before in corners-fit (steps at-next false) (at-next .before .next .ensures .1) (at-next .next2 .ensures .1)
 
--- where it stands before and after the step
+-- where it is before and after the step
 leaves : (c : tie.After-here3 Inv-loop μ-loop) → let at-loop = c .before .before .before .before .before in
     let args = at-loop .before .before .before .before .before .before .args in
     at (c .before .here2 .result)

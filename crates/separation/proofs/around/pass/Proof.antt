@@ -117,7 +117,7 @@ here-requires-2 : tie.Need-here-requires-2 Inv-loop μ-loop
 here-requires-2 c κs =
     corners-fit (steps c false) (c .before .next .ensures .1) (c .next2 .ensures .1)
 
--- where it stands before and after the step
+-- where it is before and after the step
 leaves : (c : tie.After-here2 Inv-loop μ-loop) → let at-loop = c .before .before .before .before .before in
     let args = at-loop .before .before .before .before .before .args in
     at (c .before .before .before .before .here .result)
