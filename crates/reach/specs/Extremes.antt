@@ -1,6 +1,6 @@
 -- The first pair of corners at the greatest distance, in words.
---     FirstFurthest A B d i j     no corner of A and corner of B are further apart than d, squared; corner i of A and corner j of B are so far
---                                 apart, with the smallest i, and then the smallest j among equals
+--     FirstFurthest A B d i j     d is the greatest squared distance of a corner of A and a corner of B; corner i of A and corner j of B
+--                                 are so far apart, with the smallest i, and then the smallest j among equals
 -- What is answered of it: `Meaning.antt`.
 use mathlib.Core.Path.{_≡_}
 use mathlib.Core.List.{List}

@@ -3,4 +3,6 @@
 pub mod Greatest
 pub mod Extremes
 pub mod Answer
+pub mod Meaning
+pub mod Cases
 pub mod theory

@@ -3,3 +3,5 @@
 pub mod Furthest
 pub mod Visited
 pub mod Scan
+pub mod Points
+pub mod Replies

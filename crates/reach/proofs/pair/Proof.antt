@@ -1,8 +1,8 @@
 -- `pair` meets its contract: the corner of the sum is the step between the two corners.
 use mathlib.Core.Path.{_≡_, sym, _∙_, ap, ap₂, subst}
-use Prim.Native.Nat.{_^_, _≤_}
+use Prim.Native.Nat.{_^_}
 use native.Mathlib.Omega.{arith}
-use lib.IntN.{ℤ, natAbs}
+use lib.IntN.{natAbs}
 use lib.ListN.{length}
 use mir.Syntax.{w64}
 use mir.Val.{toZ, ofZ}
@@ -16,7 +16,6 @@ use Rattle.plane.specs.theory.forms.Squared.{squared-sym, squared-value, square
 use Rattle.plane.specs.theory.sum.Positions.{edges-at-most}
 use Rattle.polygon.specs.Point.{at, Small}
 use Rattle.calipers.specs.Image.{image}
-use Rattle.calipers.specs.Side.{cornerOf}
 use Rattle.calipers.specs.theory.Image.{image-count, image-valid}
 use Rattle.calipers.specs.theory.Sides.{corner-fits}
 use Rattle.reach.specs.Answer.{pairOf}

@@ -1,24 +1,24 @@
 -- The search along the walk round a shape and the mirror image of another: the best pair of the places passed.
 --     behind-refl, behind-trans     the order of pairs
 --     Found A B r                   r is a pair of corners, with its distance
---     Leads a b t w best            every place of the walk is to come after w, or its pair is no better than the best
+--     after a b w                   the places that come after that of w
+--     Leads a b t w best            every place of the walk comes after w, or its pair is no better than the best
 --     leads-start, leads-next       the moves of the loop; `leads-done`: at the end it is the answer
 use mathlib.Core.Path.{_≡_, refl, sym, _∙_, ap, subst}
 use mathlib.Core.Bool.{true, false}
 use mathlib.Core.List.{List, _∷_, List·Memᴰ, List·Memᴰ·head, List·Memᴰ·tail, List·Memᴰ·not-nil}
 use mathlib.Core.Logic.{_⊎_, inl, inr}
-use Prim.Native.Nat.{ℕ, _≤_, _<_}
+use Prim.Native.Nat.{ℕ, _<_}
 use native.Mathlib.Nat.{le-refl}
 use native.Mathlib.Omega.{arith}
-use borrow.Author.Tests.{le-leb, leb-true}
+use borrow.Author.Tests.{le-leb}
 use lib.IntN.{ℤ, pos, natAbs}
 use lib.ListN.{length}
-use Rattle.integer.specs.Order.{le-leZ, le-antisym, leZ-true}
+use Rattle.integer.specs.Order.{le-antisym, leZ-true}
 use Rattle.integer.specs.Bound.{size-is}
 use Rattle.plane.specs.Point.{Point, points, corner}
 use Rattle.plane.specs.Refusal.{Valid}
 use Rattle.plane.specs.Forms.{edges}
-use Rattle.plane.specs.Cycle.{round, turned}
 use Rattle.plane.specs.Measure.{squared}
 use Rattle.plane.specs.theory.forms.Squared.{squared-nonneg}
 use Rattle.polygon.specs.Peak.{Peak}
@@ -27,7 +27,7 @@ use Rattle.calipers.specs.Places.{Place, place, places}
 use Rattle.calipers.specs.Walk.{Walk, begun, advanced, ahead, At}
 use Rattle.calipers.specs.theory.Steps.{ahead-begin, ahead-here, ahead-over}
 use Rattle.measure.specs.declared.Length.{Length}
-use Rattle.measure.specs.Comparison.{NotAfter, level}
+use Rattle.measure.specs.Comparison.{level}
 use Rattle.measure.specs.Scan.{Behind, Kept, kept, replaced}
 use Rattle.measure.specs.theory.Longest.{notAfter-trans, notAfter-antisym}
 use Rattle.reach.specs.Greatest.{greatestSquared, greatestFirst, greatestSecond}
@@ -84,7 +84,8 @@ module _ {A B : List Point} {r : Length} (f : Found A B r)
   found-answer =
       let far : pos (r .squared) ≡ greatestSquared A B = le-antisym (rw (f .distance) (squared-le-greatest A B _ _ (f .from-in) (f .to-in)))
       (rw (← first-distance) (leZ-true (le-leb _ _ (b .no-further)))) in
-      let own : Furthest A B (r .from) (r .to) = record { first-in = f .from-in; second-in = f .to-in; furthest = sym (f .distance) ∙ far } in
+      let own : Furthest A B (r .from) (r .to) =
+      record { first-in = f .from-in; second-in = f .to-in; furthest = sym (f .distance) ∙ far } in
       let as-far : r .squared ≡ natAbs (squared (corner A (greatestFirst A B)) (corner B (greatestSecond A B)))
       = ap natAbs (far ∙ sym first-distance) in
       let ends = notAfter-antisym (b .no-earlier (omega (arith, as-far))) (greatest-least A B own) in
@@ -92,25 +93,19 @@ module _ {A B : List Point} {r : Length} (f : Found A B r)
 
 -- ---- the best so far
 
-module _ (a b : List ℤ) (t : ℕ) where
-  abbrev A : List Point
-  A = points a
+-- the pair at a place
+abbrev pub at : List ℤ → List ℤ → ℕ → Place → Length
+at a b t p = pairAt (points a) (points b) t (p .left) (p .right)
 
-  abbrev B : List Point
-  B = points b
-
-  abbrev M : List Point
-  M = points (image b)
-
-  -- the pair at a place
-  abbrev pub at : Place → Length
-  at p = pairAt A B t (p .left) (p .right)
+-- the places that come after that of w
+abbrev pub after : List ℤ → List ℤ → Walk → List Place
+after a b w = ahead (points a) (points (image b)) (advanced (points a) (points (image b)) w)
 
 pub record Leads (a b : List ℤ) (t : ℕ) (w : Walk) (best : Length) : Type 0 where
   pub place-is : At a (image b) w
   pub found : Found (points a) (points b) best
   pub others : (p : Place) → List·Memᴰ p (places (edges (points a)) (edges (points (image b))))
-      → List·Memᴰ p (ahead (points a) (points (image b)) (advanced (points a) (points (image b)) w)) ⊎ Behind (at a b t p) best
+      → List·Memᴰ p (after a b w) ⊎ Behind (at a b t p) best
 
 module _ {a b : List ℤ} (u : Valid a) (v : Valid b) {t : ℕ} (peak : Peak (points b) t) where
   pub found-here : {w : Walk} → At a (image b) w → Found (points a) (points b) (pairAt (points a) (points b) t (w .i) (w .j))
@@ -120,11 +115,11 @@ module _ {a b : List ℤ} (u : Valid a) (v : Valid b) {t : ℕ} (peak : Peak (po
   -- of the places to come at w, where the walk is not over: w itself, or one after it
   split : {w : Walk} → At a (image b) w → w .over ≡ false → (p : Place)
       → List·Memᴰ p (ahead (points a) (points (image b)) w)
-      → (p ≡ place (w .i) (w .j)) ⊎ List·Memᴰ p (ahead (points a) (points (image b)) (advanced (points a) (points (image b)) w))
+      → (p ≡ place (w .i) (w .j)) ⊎ List·Memᴰ p (after a b w)
   split {w} h o p m = go (subst (List·Memᴰ p) (ahead-here a (image b) w h o) m)
     where
-      go : List·Memᴰ p (place (w .i) (w .j) ∷ ahead (points a) (points (image b)) (advanced (points a) (points (image b)) w))
-          → (p ≡ place (w .i) (w .j)) ⊎ List·Memᴰ p (ahead (points a) (points (image b)) (advanced (points a) (points (image b)) w))
+      go : List·Memᴰ p (place (w .i) (w .j) ∷ after a b w)
+          → (p ≡ place (w .i) (w .j)) ⊎ List·Memᴰ p (after a b w)
       go (List·Memᴰ·head e) = inl e
       go (List·Memᴰ·tail n) = inr n
 
@@ -140,8 +135,8 @@ module _ {a b : List ℤ} (u : Valid a) (v : Valid b) {t : ℕ} (peak : Peak (po
       here : At a (image b) w
       here = subst (At a (image b)) (sym e) h
 
-      go : (p : Place) → (p ≡ place (w .i) (w .j)) ⊎ List·Memᴰ p (ahead (points a) (points (image b)) (advanced (points a) (points (image b)) w))
-          → List·Memᴰ p (ahead (points a) (points (image b)) (advanced (points a) (points (image b)) w)) ⊎ Behind (at a b t p) best
+      go : (p : Place) → (p ≡ place (w .i) (w .j)) ⊎ List·Memᴰ p (after a b w)
+          → List·Memᴰ p (after a b w) ⊎ Behind (at a b t p) best
       go p (inl q) = inr (subst (Behind (at a b t p)) (ap (at a b t) q ∙ sym f) (behind-refl (at a b t p)))
       go p (inr m) = inl m
 
@@ -155,13 +150,13 @@ module _ {a b : List ℤ} (u : Valid a) (v : Valid b) {t : ℕ} (peak : Peak (po
       others = λ p m. go p (l .others p m);
     }
       where
-        later : (p : Place) → (p ≡ place (x .i) (x .j)) ⊎ List·Memᴰ p (ahead (points a) (points (image b)) (advanced (points a) (points (image b)) x))
-            → List·Memᴰ p (ahead (points a) (points (image b)) (advanced (points a) (points (image b)) x)) ⊎ Behind (at a b t p) r
+        later : (p : Place) → (p ≡ place (x .i) (x .j)) ⊎ List·Memᴰ p (after a b x)
+            → List·Memᴰ p (after a b x) ⊎ Behind (at a b t p) r
         later p (inl q) = inr (subst (λ (n : Length). Behind n r) (f ∙ sym (ap (at a b t) q)) (kept-next k))
         later p (inr m) = inl m
 
-        go : (p : Place) → List·Memᴰ p (ahead (points a) (points (image b)) (advanced (points a) (points (image b)) w)) ⊎ Behind (at a b t p) best
-            → List·Memᴰ p (ahead (points a) (points (image b)) (advanced (points a) (points (image b)) x)) ⊎ Behind (at a b t p) r
+        go : (p : Place) → List·Memᴰ p (after a b w) ⊎ Behind (at a b t p) best
+            → List·Memᴰ p (after a b x) ⊎ Behind (at a b t p) r
         go p (inl m) = later p (split h o p (subst (λ (y : Walk). List·Memᴰ p (ahead (points a) (points (image b)) y)) (sym e) m))
         go p (inr q) = inr (behind-trans q (kept-best k))
 
@@ -171,7 +166,7 @@ module _ {a b : List ℤ} (u : Valid a) (v : Valid b) {t : ℕ} (peak : Peak (po
         (greatest-furthest (points a) (points b) (u .shape .some) (v .shape .some)) in
         found-answer (l .found) (subst (λ (n : Length). Behind n best) (cc (i, j)) (last p (l .others p m)))
       where
-        last : (p : Place) → List·Memᴰ p (ahead (points a) (points (image b)) (advanced (points a) (points (image b)) w)) ⊎ Behind (at a b t p) best
+        last : (p : Place) → List·Memᴰ p (after a b w) ⊎ Behind (at a b t p) best
             → Behind (at a b t p) best
         last p (inl m) = absurd (List·Memᴰ·not-nil (subst (List·Memᴰ p) (ahead-over (points a) (points (image b)) _ o) m))
         last p (inr q) = q

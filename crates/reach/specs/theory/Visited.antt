@@ -3,8 +3,8 @@
 --     place-first-in, place-second-in      the positions at a place are those of corners
 --     place-step          the corner of the sum at a place is the step between its pair
 --     furthest-visited    the pair has a place
-use mathlib.Core.Path.{_≡_, refl, sym, _∙_, ap, ap₂, subst}
-use mathlib.Core.List.{List, [], _∷_, List·Memᴰ, Memᴰ·of-map}
+use mathlib.Core.Path.{_≡_, refl, sym, _∙_, ap, subst}
+use mathlib.Core.List.{List, List·Memᴰ, Memᴰ·of-map}
 use Prim.Native.Nat.{ℕ, _≤_, _<_}
 use native.Mathlib.Omega.{arith}
 use lib.IntN.{ℤ}
@@ -17,7 +17,6 @@ use Rattle.plane.specs.Corner.{Corner, mirrored}
 use Rattle.plane.specs.Separation.{differences}
 use Rattle.plane.specs.Forms.{edges}
 use Rattle.plane.specs.Cycle.{round, cornerRound, turned}
-use Rattle.plane.specs.Measure.{squared}
 use Rattle.plane.specs.theory.lists.Members.{SumOf, sums-member, member-sums, mirrored-member, member-mirrored, position-member}
 use Rattle.plane.specs.theory.lists.Turned.{Turned, ahead, round as round-again, turned-cases}
 use Rattle.plane.specs.theory.forms.Vector.{opposite-opposite}
