@@ -3,7 +3,7 @@
 --     points         nor are any two points: a point of a shape is a mean of its corners (`Mean.antt` of plane); two are so far apart
 --     directions     in no direction does the one reach further beyond the other; in the direction of the two corners it does so far
 --     compared       at least the clearance; either shape may be the first; of a shape and itself it is the length; moving both changes
---                    nothing; a shape inside another reaches no further
+--                    nothing; a shape inside another reaches no further; of two sets of points it is that of their shapes
 --     the replies    to two shapes on one floor: exactly these numbers are answered
 use mathlib.Core.Path.{_≡_}
 use mathlib.Core.Bool.{true}
@@ -17,6 +17,7 @@ use Rattle.plane.specs.Point.{Point, corner, opposite, _⊕_, _⊖_}
 use Rattle.plane.specs.Shape.{IsShape}
 use Rattle.plane.specs.Direction.{value, support}
 use Rattle.plane.specs.Measure.{squared, lengthNumbers}
+use Rattle.plane.specs.Corner.{shapeOf}
 use Rattle.plane.specs.Separation.{apart, inside}
 use Rattle.plane.specs.Mean.{weight, gap, share, Exactly}
 use Rattle.plane.specs.Clearance.{top, bottom, nearest}
@@ -27,7 +28,7 @@ use Rattle.reach.specs.Greatest.{greatestSquared, greatestFirst, greates
 use Rattle.reach.specs.Extremes.{FirstFurthest}
 use Rattle.reach.specs.theory.Furthest.{squared-le-greatest, greatest-furthest, first-least, second-least}
 use Rattle.reach.specs.theory.Points.{points-within, points-attain, spans-within, step-spans}
-use Rattle.reach.specs.theory.Points.{greatest-clearance, greatest-sym, greatest-self, greatest-inside}
+use Rattle.reach.specs.theory.Points.{greatest-clearance, greatest-sym, greatest-self, greatest-inside, greatest-hulls}
 use Rattle.reach.specs.theory.Replies.{greatest-reply, greatest-moved}
 
 -- ---- corners
@@ -104,6 +105,11 @@ greatest-of-itself-is-length A a = greatest-self A a
 pub inside-is-no-further : (N O B : List Point) → 0 < length N → 0 < length O → 0 < length B → inside N O ≡ true
     → greatestSquared N B ≤ℤ greatestSquared O B
 inside-is-no-further N O B n o b h = greatest-inside N O B n o b h
+
+-- of two sets of points it is that of their shapes
+pub greatest-of-points-is-of-shapes : (S T : List Point) → 0 < length S → 0 < length T
+    → greatestSquared (shapeOf S) (shapeOf T) ≡ greatestSquared S T
+greatest-of-points-is-of-shapes S T s t = greatest-hulls S T s t
 
 -- ---- the replies
 

@@ -6,6 +6,7 @@
 --     greatest-sym           either shape may be the first
 --     greatest-self          of a list and itself it is the length, with its two positions
 --     greatest-inside        a shape inside another reaches no further
+--     greatest-hulls         of two sets of points it is that of their shapes
 use mathlib.Core.Path.{_≡_, refl, sym, _∙_, ap}
 use mathlib.Core.Bool.{true}
 use mathlib.Core.List.{List, [], _∷_}
@@ -16,12 +17,13 @@ use lib.ListN.{length}
 use lib.Signed.{_≤ℤ_, _<ℤ_}
 use Rattle.integer.specs.Ring.{ring, reify}
 use Rattle.integer.specs.Linear.{linear, lia, _&_}
-use Rattle.integer.specs.Order.{contra≤, le-antisym, _≤×≤_, _<×<_, _<×≤_, _≡×_, square-nonneg}
+use Rattle.integer.specs.Order.{contra≤, le-of-eq, le-trans, le-antisym, _≤×≤_, _<×<_, _<×≤_, _≡×_, square-nonneg}
 use Rattle.plane.specs.Point.{Point, corner, opposite, _⊖_, _∈_}
 use Rattle.plane.specs.Shape.{IsShape}
 use Rattle.plane.specs.Turn.{cross}
 use Rattle.plane.specs.Direction.{value, support}
 use Rattle.plane.specs.Measure.{squared, lengthSquared, lengthFrom, lengthTo, lengthNumbers}
+use Rattle.plane.specs.Corner.{shapeOf}
 use Rattle.plane.specs.Separation.{apart, inside}
 use Rattle.plane.specs.Mean.{times, weight, gap, share, Exactly}
 use Rattle.plane.specs.Clearance.{corners, top, bottom, nearest}
@@ -29,7 +31,8 @@ use Rattle.plane.specs.theory.forms.Vector.{value-⊖, value-turned, value-nonn
 use Rattle.plane.specs.theory.forms.Squared.{squared-sym, squared-value}
 use Rattle.plane.specs.theory.lists.Members.{position-member}
 use Rattle.plane.specs.theory.support.Support.{value-le-support, support-attained}
-use Rattle.separation.specs.theory.Inside.{inside→reach}
+use Rattle.plane.specs.theory.hull.ShapeOf.{shapeOf-support, shapeOf-shape, shapeOf-corner}
+use Rattle.separation.specs.theory.Inside.{inside→reach, reach→inside}
 use Rattle.clearance.specs.theory.Bound.{lagrange}
 use Rattle.clearance.specs.theory.Means.{gap-value}
 use Rattle.clearance.specs.theory.First.{candidate-whole}
@@ -220,3 +223,24 @@ module _ (N O B : List Point) (n : 0 < length N) (o : 0 < length O) (b : 0 < len
 
   pub greatest-inside : greatestSquared N B ≤ℤ greatestSquared O B
   greatest-inside = greatest-le N B n b (λ i j l m. outer (corner N i) (corner B j) (position-member N i l) (position-member B j m))
+
+-- ---- sets of points
+
+module _ (S : List Point) (some : 0 < length S) where
+  hull-some : 0 < length (shapeOf S)
+  hull-some = shapeOf-shape S some .some
+
+  within-hull : inside S (shapeOf S) ≡ true
+  within-hull = reach→inside S (shapeOf S) some hull-some (λ d. le-of-eq (sym (shapeOf-support S some d)))
+
+  hull-member : (i : ℕ) → i < length (shapeOf S) → corner (shapeOf S) i ∈ S
+  hull-member i h = shapeOf-corner S some (position-member (shapeOf S) i h) .member
+
+pub greatest-hulls : (S T : List Point) → 0 < length S → 0 < length T → greatestSquared (shapeOf S) (shapeOf T) ≡ greatestSquared S T
+greatest-hulls S T s t =
+    let p = hull-some S s in
+    let q = hull-some T t in
+    le-antisym (greatest-le (shapeOf S) (shapeOf T) p q (λ i j h k. members-le (hull-member S s i h) (hull-member T t j k)))
+    (le-trans (greatest-inside S (shapeOf S) T s p t (within-hull S s))
+    (rw (greatest-sym (shapeOf S) T p t, greatest-sym (shapeOf S) (shapeOf T) p q)
+    (greatest-inside T (shapeOf T) (shapeOf S) t q p (within-hull T t))))
