@@ -11,7 +11,7 @@ use admission::Admission;
 // positions. Of several such pairs: the smallest position in the first shape, then the smallest in the second. Two
 // points have their own distance, and a shape and itself its length. Refused: 1 to 5 of the first shape, then of the
 // second; different floors.
-// Ruled out: later pair on a tie; nearer pair kept; second shape not passed.
+// Ruled out: later pair on a tie; nearer pair kept; later edge passed first.
 pub fn greatest(a: &[i32], f: u16, b: &[i32], g: u16) -> Greatest
     ensures { λ r. ⌜ ofGreatest r ≡ reply (askGreatest (on (now (a .entry)) f) (on (now (b .entry)) g)) ⌝ }
 {

@@ -23,7 +23,7 @@ use polygon::point;
 
 // The corner of the first shape and the corner of the second that are furthest apart, and their squared distance. Of
 // several such pairs: the smallest position in the first shape, then the smallest in the second.
-// Ruled out: later pair on a tie; nearer pair kept; second shape not passed.
+// Ruled out: later pair on a tie; nearer pair kept; later edge passed first.
 pub fn furthest_corners(a: &[i32], b: &[i32]) -> Length
     requires { ⌜ Valid (now a) × Valid (now b) ⌝ }
     ensures { λ r. ⌜ IsGreatest (points (now (a .entry))) (points (now (b .entry))) r ⌝ }
