@@ -8,17 +8,18 @@ use mir.Syntax.{w64}
 use mir.Val.{toZ, ofZ}
 use Rattle.integer.specs.Machine.{result-is}
 use Rattle.integer.specs.Bound.{within-add}
-use Rattle.plane.specs.Point.{Point, points, corner, _⊕_, _⊖_}
+use Rattle.plane.specs.Point.{Point, points, corner, _⊕_}
 use Rattle.plane.specs.Direction.{value}
 use Rattle.plane.specs.Cycle.{round, turned}
 use Rattle.plane.specs.Measure.{squared}
-use Rattle.plane.specs.theory.forms.Squared.{squared-sym, squared-value, squared-nonneg}
+use Rattle.plane.specs.theory.forms.Squared.{squared-nonneg}
 use Rattle.plane.specs.theory.sum.Positions.{edges-at-most}
 use Rattle.polygon.specs.Point.{at, Small}
 use Rattle.calipers.specs.Image.{image}
 use Rattle.calipers.specs.theory.Image.{image-count, image-valid}
 use Rattle.calipers.specs.theory.Sides.{corner-fits}
 use Rattle.reach.specs.Answer.{pairOf}
+use Rattle.reach.specs.theory.Furthest.{step-squared}
 use Rattle.reach.specs.theory.Visited.{place-step}
 use Rattle.reach.proofs.pair.Statement.{statement}
 use Rattle.reach.proofs.pair.Tie as tie
@@ -39,10 +40,6 @@ dot-requires c κs =
     }) in
     (wide, wide)
 
--- the squared distance of two points, by the step between them
-step-squared : {z : Point} (p q : Point) → z ≡ p ⊖ q → value z z ≡ squared p q
-step-squared p q e = ap (λ (z : Point). value z z) e ∙ sym (squared-value q p) ∙ squared-sym q p
-
 distance : (c : tie.After-dot) → let args = c .before .before .args in
     let A = points (args .a .now) in
     let B = points (args .b .now) in
@@ -51,10 +48,10 @@ distance : (c : tie.After-dot) → let args = c .before .before .args in
 distance c =
     let start = c .before .before in
     let pre = start .pre in
-    result-is w64 (c .dot .ok) (c .dot .ensures ∙ step-squared _ _ (c .before .here .ensures
-    ∙ ap₂ _⊕_ (pre .3 .corner-is) (pre .4 .corner-is)
+    let step = c .before .here .ensures ∙ ap₂ _⊕_ (pre .3 .corner-is) (pre .4 .corner-is)
     ∙ place-step (start .args .a .now) (start .args .b .now) (pre .0) (pre .1) (start .args .top) (pre .2) (start .args .s .at)
-    (start .args .t .at) (pre .4 .at-in)))
+    (start .args .t .at) (pre .4 .at-in) in
+    result-is w64 (c .dot .ok) (c .dot .ensures ∙ ap (λ (z : Point). value z z) step ∙ step-squared _ _)
 
 magnitude-requires : tie.Need-magnitude-requires
 magnitude-requires c κs = rw (distance c) (squared-nonneg _ _)

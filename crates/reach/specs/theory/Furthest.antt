@@ -1,4 +1,5 @@
 -- The corners of two lists at the greatest distance, and where they stand.
+--     step-squared                         the squared distance, by the step between two points
 --     squared-le-greatest, members-le      no two corners are further apart
 --     Furthest A B i j                     corner i of A and corner j of B are that far apart
 --     greatest-furthest                    greatestFirst and greatestSecond are such a pair
@@ -13,14 +14,19 @@ use lib.Dec.{ltb}
 use lib.ListN.{length}
 use lib.Signed.{_≤ℤ_}
 use Rattle.integer.specs.Order.{le-of-eq, le-trans, le-antisym, leZ-true, le-leZ}
-use Rattle.plane.specs.Point.{Point, corner, _∈_}
+use Rattle.plane.specs.Point.{Point, corner, _⊖_, _∈_}
 use Rattle.plane.specs.Search.{some}
+use Rattle.plane.specs.Direction.{value}
 use Rattle.plane.specs.Measure.{greatest, squared}
+use Rattle.plane.specs.theory.forms.Squared.{squared-sym, squared-value}
 use Rattle.plane.specs.theory.lists.Sought.{first-true, first-at-most, some-here, some-found}
 use Rattle.plane.specs.theory.lists.Greatest.{greatest-above, greatest-attained}
 use Rattle.plane.specs.theory.lists.Members.{member-position}
 use Rattle.measure.specs.Comparison.{NotAfter, sooner, level}
 use Rattle.reach.specs.Greatest.{greatestSquared, furthestApart, greatestFirst, greatestSecond}
+
+pub step-squared : (p q : Point) → value (p ⊖ q) (p ⊖ q) ≡ squared p q
+step-squared p q = sym (squared-value q p) ∙ squared-sym q p
 
 pub squared-le-greatest : (A B : List Point) (i j : ℕ) → i < length A → j < length B
     → squared (corner A i) (corner B j) ≤ℤ greatestSquared A B

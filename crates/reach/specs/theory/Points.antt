@@ -28,7 +28,7 @@ use Rattle.plane.specs.Separation.{apart, inside}
 use Rattle.plane.specs.Mean.{times, weight, gap, share, Exactly}
 use Rattle.plane.specs.Clearance.{corners, top, bottom, nearest}
 use Rattle.plane.specs.theory.forms.Vector.{value-⊖, value-turned, value-nonneg}
-use Rattle.plane.specs.theory.forms.Squared.{squared-sym, squared-value}
+use Rattle.plane.specs.theory.forms.Squared.{squared-sym}
 use Rattle.plane.specs.theory.lists.Members.{position-member}
 use Rattle.plane.specs.theory.support.Support.{value-le-support, support-attained}
 use Rattle.plane.specs.theory.hull.ShapeOf.{shapeOf-support, shapeOf-shape, shapeOf-corner}
@@ -40,7 +40,8 @@ use Rattle.clearance.specs.theory.Attained.{attained}
 use Rattle.clearance.specs.theory.NearestUnique.{nearest-first-least}
 use Rattle.measure.specs.theory.Longest.{Longest, length-longest, length-from-least, length-to-least}
 use Rattle.reach.specs.Greatest.{greatestSquared, greatestFirst, greatestSecond, greatestNumbers}
-use Rattle.reach.specs.theory.Furthest.{squared-le-greatest, members-le, Furthest, greatest-furthest, first-least, second-least}
+use Rattle.reach.specs.theory.Furthest.{step-squared, squared-le-greatest, members-le}
+use Rattle.reach.specs.theory.Furthest.{Furthest, greatest-furthest, first-least, second-least}
 
 -- |z - k·d|² = |z|² - 2·k·(z·d) + k²·|d|²
 expanded : (z d : Point) (k : ℤ)
@@ -52,10 +53,6 @@ expanded z d k = ring (z .x ∷ z .y ∷ d .x ∷ d .y ∷ k ∷ []) (search rei
 doubled : (z d : Point) (k : ℤ) → (k *ℤ value z d +ℤ k *ℤ value z d) ≤ℤ (value z z +ℤ k *ℤ k *ℤ value d d)
 doubled z d k = lia (value z z ∷ value z d ∷ value d d ∷ value (z ⊖ times k d) (z ⊖ times k d) ∷ k ∷ [])
     (value-nonneg (z ⊖ times k d) & expanded z d k) (search linear depth 40) (omega arith)
-
--- the squared distance by the step
-step-squared : (p q : Point) → value (p ⊖ q) (p ⊖ q) ≡ squared p q
-step-squared p q = sym (squared-value q p) ∙ squared-sym q p
 
 module _ (A B : List Point) (a : 0 < length A) (b : 0 < length B) where
   pub greatest-le : {N : ℤ} → ((i j : ℕ) → i < length A → j < length B → squared (corner A i) (corner B j) ≤ℤ N) → greatestSquared A B ≤ℤ N
@@ -85,6 +82,7 @@ module _ (A B : List Point) (a : 0 < length A) (b : 0 < length B) where
         above p m = lia (value g p ∷ value (opposite g) p ∷ support g A ∷ support (opposite g) B ∷ [])
             (value-turned g p & value-le-support g m) (search linear depth 40) (omega arith)
 
+    -- |g|² ≤ S·(g·d) and 2·S·(g·d) ≤ |g|² + S²·|d|², where S is the share: together |g|² ≤ S²·|d|²
     pub points-within : value g g ≤ℤ (greatestSquared A B *ℤ (share v A w B *ℤ share v A w B))
     points-within =
         let p = support-attained g A a in
