@@ -305,9 +305,21 @@ pub(crate) fn log_contact(
     [x, y]: [i32; 2],
     [u, v]: [i32; 2],
 ) -> Reply {
-    let a = lent(cart);
+    let cart = lent(cart);
     // SAFETY: log and list are live slices of these lengths.
-    unsafe { cocklesway_log_contact(log.as_ptr(), log.len(), a.list, a.n, a.floor, x, y, u, v) }
+    unsafe {
+        cocklesway_log_contact(
+            log.as_ptr(),
+            log.len(),
+            cart.list,
+            cart.n,
+            cart.floor,
+            x,
+            y,
+            u,
+            v,
+        )
+    }
 }
 
 pub(crate) fn judge_bytes(list: &[u8], floor: u32) -> u64 {
