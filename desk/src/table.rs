@@ -139,7 +139,8 @@ pub const TABLE: &[Row] = &[
     Row {
         word: "ring", parts: &[part("points in order, either way round"), ROOM],
         read: |f| Ok(Question::Make(Making::Ring(f.shape()?), f.optional_count("room")?)),
-        asks: "the shape of a ring, closed or open, from any corner", example: "bed = ring | @2 0 50 100 50 100 0 0 0 0 50",
+        asks: "the shape of a ring, closed or open, from any corner",
+        example: "bed = ring | @2 0 50 100 50 100 0 0 0 0 50",
     },
     Row {
         word: "sum", parts: &[A, B, ROOM],

@@ -113,8 +113,8 @@ pub struct Width {
     pub floor: u32,
 }
 
-/// The least box about a shape: of the boxes that lie along an edge, the one with the least perimeter. Its sides are T/√q
-/// across the edge and S/√q along it.
+/// The least box about a shape: of the boxes that lie along an edge, the one with the least perimeter. Its sides are
+/// T/√q across the edge and S/√q along it.
 ///
 /// ```
 /// use cocklesway::{Shape, least_box};

@@ -195,7 +195,8 @@ impl<'a> Book<'a> {
         log_gap(self.bytes, cart)
     }
 
-    /// Returns which current shape on a cart's floor its straight drive meets first, and where, as [`log_contact`] does.
+    /// Returns which current shape on a cart's floor its straight drive meets first, and where, as [`log_contact`]
+    /// does.
     ///
     /// # Errors
     /// Refused: 1 to 5, 13, 15, 20, 3 of a place, which is the second or third list, then 6 and 7 of the grown shapes,
@@ -423,13 +424,13 @@ pub fn log_gap(log: &[u8], cart: Shape<'_>) -> Result<Gap, Refusal> {
     })
 }
 
-/// Returns which of the current shapes on a cart's floor in a log its straight drive meets first, the first in the log of
-/// several, and where on the way: what [`contact`](crate::contact) answers of that shape. The cart does not turn; the
-/// corners of its outline are relative to its own origin, which goes from the one place to the other.
+/// Returns which of the current shapes on a cart's floor in a log its straight drive meets first, and where on the way:
+/// the first in the log of several, and what [`contact`](crate::contact) answers of that one. The cart does not turn.
+/// The corners of its outline are relative to its own origin, which goes from the one place to the other.
 ///
 /// # Errors
-/// Refused: 1 to 5, 13, 15, 20, 3 of a place, which is the second or third list, then 6 and 7 of the grown shapes, in the
-/// order of the log.
+/// Refused: 1 to 5, 13, 15, 20, 3 of a place, which is the second or third list, then 6 and 7 of the grown shapes, in
+/// the order of the log.
 ///
 /// ```
 /// use cocklesway::{Refusal, Shape, log_contact};

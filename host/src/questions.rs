@@ -173,13 +173,15 @@ pub fn sweep<'o>(points: Shape<'_>, out: &'o mut [[i32; 2]]) -> Result<Shape<'o>
     archive::sweep(points, out.as_flattened_mut()).written(out)
 }
 
-/// Writes the shape of a ring at the front of the output and returns it. The rest of the output is kept. A ring is what
-/// people draw and other programs write: its corners in either sense, from any of them, closed by the first again or not,
-/// neighbours repeated, and corners in line.
+/// Writes the shape of a ring at the front of the output and returns it. The rest of the output is kept. The points of
+/// a ring are the corners of a shape on the way round, as people draw it:
+/// - clockwise or counterclockwise, from any corner;
+/// - closed by the first point again, or open;
+/// - with equal neighbours, and with points in line.
 ///
 /// # Errors
-/// Refused, with the output as it was: 1; 2, where the closing point does not count; 3; 13; 4 if the ring is not convex,
-/// with the corner before and the corner at which it turns in or begins to go round again; 8.
+/// Refused, with the output as it was: 1; 2, where the closing point does not count; 3; 13; 4 if the ring is not
+/// convex, with the corner before and the corner at which it turns in or begins to go round again; 8.
 ///
 /// ```
 /// use cocklesway::{Refusal, Shape, ring};
@@ -416,8 +418,9 @@ pub fn clearance(a: Shape<'_>, b: Shape<'_>) -> Result<Clearance, Refusal> {
     Ok(Clearance { nearest, floor })
 }
 
-/// Returns the greatest squared distance of a corner of the first shape and a corner of the second, and their positions:
-/// the smallest first one of several, then the smallest second. No two points of the shapes are further apart.
+/// Returns the greatest squared distance of a corner of the first shape and a corner of the second, and their
+/// positions: the smallest first one of several, then the smallest second. No two points of the shapes are further
+/// apart.
 ///
 /// # Errors
 /// Refused: 1 to 5 of the first list, then of the second, 13.

@@ -72,7 +72,8 @@ fn least(corners: &[Corner]) -> Box {
     })
 }
 
-/// A corner that is held: how many edges lead to it from the first corner on, its position, and the edge that leaves it.
+/// A corner that is held: how many edges lead to it from the first corner on, its position, and the edge that leaves
+/// it.
 #[derive(Clone, Copy)]
 struct Held {
     steps: usize,

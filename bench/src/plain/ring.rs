@@ -1,5 +1,5 @@
-//! A ring as people draw it: from its lowest point on, one pass joins what is straight and sees that it goes up and then
-//! down, always to the left. What fails the pass is looked at again.
+//! A ring as people draw it: from its lowest point on, one pass joins what is straight and sees that the ring goes up
+//! and then down, always to the left. What fails the pass is looked at again.
 use super::corner::{Corner, Edge, cross, dot, edge, is_up};
 use super::deliver::{Buffer, deliver_near};
 use super::judge::{on_one_floor, some_outside};
