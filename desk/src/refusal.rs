@@ -166,7 +166,7 @@ fn is_right(Corner(a): Corner, Corner(b): Corner, Corner(c): Corner) -> bool {
     (bx - ax) * (cy - ay) < (by - ay) * (cx - ax)
 }
 
-/// What may have been meant. Whether the other list is a shape is asked of the library.
+/// What may have been meant. Whether another list is a shape, or this one a ring, is asked of the library.
 fn hint(corners: &[[i32; 2]]) -> &'static str {
     if let [first, .., last] = corners
         && first == last
@@ -177,6 +177,10 @@ fn hint(corners: &[[i32; 2]]) -> &'static str {
     rotate_to_lowest(&mut reversed);
     if judge(cocklesway::Shape::new(&reversed, 0)).is_ok() {
         return "; the corners are in clockwise order, write them counterclockwise";
+    }
+    let mut out = vec![[0; 2]; limits().corners];
+    if cocklesway::ring(cocklesway::Shape::new(corners, 0), &mut out).is_ok() {
+        return "; the question `ring` makes a shape of such a list";
     }
     ""
 }

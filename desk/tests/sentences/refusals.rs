@@ -129,7 +129,8 @@ fn side(list: &List, label: Vec<i128>, words: &[&str], said: &str) -> Result<Vec
     Ok([list.corner(corner).to_vec(), label, list.edge(edge)].concat())
 }
 
-/// `clockwise` is said exactly if the corners the other way round are a shape; a repeated first corner goes before.
+/// `clockwise` is said exactly if the corners the other way round are a shape; a repeated first corner goes before. Of
+/// all other lists `ring` is said exactly if it takes them.
 fn clockwise(points: &[Point], said: &str) -> Result<(), String> {
     if points.first() == points.last() {
         return needs(said, "the last corner repeats the first");
@@ -144,9 +145,15 @@ fn clockwise(points: &[Point], said: &str) -> Result<(), String> {
         .iter()
         .flat_map(|p| [p.x as i32, p.y as i32])
         .collect();
-    match second::judge::judge(&list, 1) {
-        Ok(_) => needs(said, "clockwise"),
-        Err(_) => never(said, "clockwise order"),
+    if second::judge::judge(&list, 1).is_ok() {
+        return needs(said, "clockwise");
+    }
+    never(said, "clockwise order")?;
+    let numbers: Vec<String> = list.iter().map(i32::to_string).collect();
+    let ring = answer(format!("ring | {}", numbers.join(" ")).as_bytes());
+    match ring.starts_with("ok ") {
+        true => needs(said, "the question `ring` makes a shape"),
+        false => never(said, "ring"),
     }
 }
 
