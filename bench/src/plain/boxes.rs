@@ -28,6 +28,24 @@ struct Box {
 }
 
 impl Box {
+    /// More than any.
+    const NONE: Box = Box {
+        edge: 0,
+        sides: [1 << 50; 2],
+        squared: 1,
+    };
+
+    /// Whether it may be less, in floating point: most often it is not.
+    #[inline(always)]
+    fn may_be_less(&self, other: &Box) -> bool {
+        let square = |sides: [u64; 2]| {
+            let sum = (sides[0] + sides[1]) as f64;
+            sum * sum
+        };
+        let (ours, theirs) = (square(self.sides), square(other.sides));
+        ours * other.squared as f64 <= theirs * self.squared as f64 * (1.0 + 1e-12)
+    }
+
     /// Both sides together, squared, over the squared length, as exact fractions: less than 2^88 over less than 2^43.
     #[inline(always)]
     fn is_less(&self, other: &Box) -> bool {
@@ -45,7 +63,7 @@ impl Box {
 fn least(corners: &[Corner]) -> Box {
     let n = corners.len();
     let [mut forward, mut off, mut back] = [Held::at(corners, 1); 3];
-    let mut best: Option<Box> = None;
+    let mut best = Box::NONE;
     for (i, &corner) in corners.iter().enumerate() {
         let e = edge(corner, corners[after(i, n)]);
         forward.pass(corners, |next| dot(e, next) > 0);
@@ -61,15 +79,11 @@ fn least(corners: &[Corner]) -> Box {
             ],
             squared: squared(e),
         };
-        if best.as_ref().is_none_or(|best| found.is_less(best)) {
-            best = Some(found);
+        if found.may_be_less(&best) && found.is_less(&best) {
+            best = found;
         }
     }
-    best.unwrap_or(Box {
-        edge: 0,
-        sides: [0; 2],
-        squared: 1,
-    })
+    best
 }
 
 /// A corner that is held: how many edges lead to it from the first corner on, its position, and the edge that leaves

@@ -9,20 +9,21 @@ use crate::reply::Numbers;
 /// The shape of a ring in either sense, from any corner, closed or open, with repeats and points in line.
 #[inline(never)]
 pub fn ring(list: &[i32], floor: u32, out: &mut [i32]) -> Numbers {
-    match asked(list, floor) {
-        Ok(answer) => deliver_near(&answer, floor, out),
+    let mut answer = Buffer::empty();
+    match asked(list, floor, &mut answer) {
+        Ok(()) => deliver_near(&answer, floor, out),
         Err(refusal) => refusal,
     }
 }
 
 #[inline(always)]
-fn asked(list: &[i32], floor: u32) -> Result<Buffer, Numbers> {
+fn asked(list: &[i32], floor: u32, answer: &mut Buffer) -> Result<(), Numbers> {
     let points = admitted(list)?;
     on_one_floor(floor, floor)?;
     let ring = Ring::of(points);
-    match ring.corners() {
-        Some(answer) => Ok(answer),
-        None => ring.looked_at_again(),
+    match ring.corners(answer) {
+        Some(()) => Ok(()),
+        None => ring.looked_at_again(answer),
     }
 }
 
@@ -74,11 +75,11 @@ impl<'a> Ring<'a> {
         }
     }
 
-    /// The corners, unless the ring is flat or not convex.
+    /// Fills in the corners, unless the ring is flat or not convex.
     #[inline(always)]
-    fn corners(&self) -> Option<Buffer> {
+    fn corners(&self, answer: &mut Buffer) -> Option<()> {
         let (before, after) = self.points.split_at(self.lowest);
-        let mut pass = Pass::at(after[0]);
+        let mut pass = Pass::at(after[0], answer);
         let all = if self.clockwise {
             before
                 .iter()
@@ -98,17 +99,17 @@ impl<'a> Ring<'a> {
     /// A ring that failed the pass: flat, or with refusal 4.
     #[cold]
     #[inline(never)]
-    fn looked_at_again(&self) -> Result<Buffer, Numbers> {
+    fn looked_at_again(&self, answer: &mut Buffer) -> Result<(), Numbers> {
         let bends = self.bends();
         let n = bends.len();
         let point = |k: usize| self.points[bends[k % n]];
         if n < 3 {
-            let mut answer = Buffer::empty();
+            *answer = Buffer::empty();
             for k in 0..n {
                 // SAFETY: these are two at most.
                 unsafe { answer.push(point(k)) };
             }
-            return Ok(answer);
+            return Ok(());
         }
         let turns_in = |&k: &usize| {
             let [e, f] = [
@@ -149,18 +150,18 @@ impl<'a> Ring<'a> {
 
 /// What was passed: the corners before the last point, the edge that leads to it, and whether an edge went down. All of
 /// them go strictly to the left.
-struct Pass {
-    answer: Buffer,
+struct Pass<'a> {
+    answer: &'a mut Buffer,
     last: Corner,
     edge: Edge,
     down: bool,
 }
 
-impl Pass {
+impl<'a> Pass<'a> {
     #[inline(always)]
-    fn at(lowest: Corner) -> Pass {
+    fn at(lowest: Corner, answer: &'a mut Buffer) -> Pass<'a> {
         Pass {
-            answer: Buffer::empty(),
+            answer,
             last: lowest,
             edge: [0, 0],
             down: false,
@@ -207,8 +208,8 @@ impl Pass {
     /// Goes back to the lowest point, by an edge that goes down. The edges before it turned by less than a whole turn,
     /// so that it is to the right of the first one.
     #[inline(always)]
-    fn close(mut self, lowest: Corner) -> Option<Buffer> {
+    fn close(mut self, lowest: Corner) -> Option<()> {
         self.meet(lowest)?;
-        (self.down && self.answer.len() > 2).then_some(self.answer)
+        (self.down && self.answer.len() > 2).then_some(())
     }
 }
