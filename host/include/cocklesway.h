@@ -173,6 +173,10 @@ cocklesway_reply cocklesway_find(const int32_t *a, size_t n, uint32_t f, const i
  * t is the size of the corner's turn against the edge, q the edge's squared length. Refused 1 to 5, 13. */
 cocklesway_reply cocklesway_clearance(const int32_t *a, size_t n, uint32_t f, const int32_t *b, size_t m, uint32_t g);
 
+/* The greatest distance of a point of one shape and a point of the other: two corners have it. Values: the squared
+ * distance, the corner of the first, of the second, floor. Refused 1 to 5, 13. */
+cocklesway_reply cocklesway_greatest(const int32_t *a, size_t n, uint32_t f, const int32_t *b, size_t m, uint32_t g);
+
 /* The first value of an excess is COCKLESWAY_INSIDE, COCKLESWAY_CORNERS or COCKLESWAY_CORNER_EDGE. */
 #define COCKLESWAY_INSIDE 0
 

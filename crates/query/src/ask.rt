@@ -126,6 +126,7 @@ fn told(
         Question::Offer => reply::of_offer(separators::offer(a, f, b, g, u(c), v(c))),
         Question::Find => reply::of_separator(separators::find(a, f, b, g)),
         Question::Clearance => reply::of_clearance(questions::clearance(a, f, b, g)),
+        Question::Greatest => reply::of_greatest(questions::greatest(a, f, b, g)),
         Question::Excess => reply::of_excess(questions::excess(a, f, b, g)),
         Question::Tangents => reply::of_tangents(questions::tangents(a, f, b, g)),
         Question::Passage => reply::of_passage(questions::passage(a, f, b, g, c, h)),

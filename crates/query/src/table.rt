@@ -21,6 +21,7 @@ pub enum Question {
     Offer,
     Find,
     Clearance,
+    Greatest,
     Excess,
     Tangents,
     Passage,
@@ -110,6 +111,7 @@ fn on_two(mut found: Entry, word: &[u8]) -> Entry {
     found = row(found, word, b"offer", Question::Offer, PAIR_AIMED);
     found = row(found, word, b"find", Question::Find, PAIR);
     found = row(found, word, b"clearance", Question::Clearance, PAIR);
+    found = row(found, word, b"greatest", Question::Greatest, PAIR);
     found = row(found, word, b"excess", Question::Excess, PAIR);
     found = row(found, word, b"tangents", Question::Tangents, PAIR);
     found = row(found, word, b"passage", Question::Passage, THREE);

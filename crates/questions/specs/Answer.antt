@@ -31,6 +31,8 @@ use Rattle.questions.specs.declared.answer.Separator.{Separator}
 use Rattle.questions.specs.declared.answer.Separator.the-variants as Separator
 use Rattle.questions.specs.declared.answer.Clearance.{Clearance}
 use Rattle.questions.specs.declared.answer.Clearance.the-variants as Clearance
+use Rattle.questions.specs.declared.answer.Greatest.{Greatest}
+use Rattle.questions.specs.declared.answer.Greatest.the-variants as Greatest
 use Rattle.questions.specs.declared.answer.Nearest.{Nearest}
 use Rattle.questions.specs.declared.answer.Nearest.the-variants as Nearest
 use Rattle.questions.specs.declared.answer.Gap.{Gap}
@@ -109,6 +111,10 @@ ofClearance (Clearance.Corners i j d w floor) = answered (pos 1 ∷ pos i ∷ po
 ofClearance (Clearance.CornerEdge c e t q w floor) = answered (pos 2 ∷ pos c ∷ pos e ∷ pos t ∷ pos q ∷ pos w ∷ pos floor ∷ [])
 ofClearance (Clearance.EdgeCorner c e t q w floor) = answered (pos 3 ∷ pos c ∷ pos e ∷ pos t ∷ pos q ∷ pos w ∷ pos floor ∷ [])
 ofClearance (Clearance.No r) = ofRefusal r
+
+abbrev pub ofGreatest : Greatest → Reply
+ofGreatest (Greatest.At squared first second floor) = answered (pos squared ∷ pos first ∷ pos second ∷ pos floor ∷ [])
+ofGreatest (Greatest.No r) = ofRefusal r
 
 -- the name, then what `ofClearance` answers
 abbrev pub ofNearest : Nearest → Reply

@@ -122,6 +122,17 @@ pub enum Clearance {
     No(Refusal),
 }
 
+// The greatest squared distance of a corner of the first shape and a corner of the second, and their positions.
+pub enum Greatest {
+    At {
+        squared: u64,
+        first: usize,
+        second: usize,
+        floor: u16,
+    },
+    No(Refusal),
+}
+
 // Inside; or the corner of the new shape that is furthest from the old one, where the old one is nearest to it, and the
 // distance in millimetres rounded up: a corner, with the squared distance; or an edge, with the size of the corner's
 // turn against it and the edge's squared length.

@@ -7,7 +7,7 @@ ghost use mathlib.Core.Path.{_≡_};
 ghost use Rattle.questions.specs.Answer.{ofAnswer, ofBegun, ofPart, ofFurthest, ofLength};
 ghost use Rattle.questions.specs.Answer.{ofWidth, ofRelation, ofInside, ofOffer, ofSeparator, ofClearance, ofTangents};
 ghost use Rattle.questions.specs.Answer.{ofArea, ofExcess, ofNearest, ofGap, ofContact, ofPassage, ofTablet};
-ghost use Rattle.questions.specs.Answer.{ofAddition, ofEntry};
+ghost use Rattle.questions.specs.Answer.{ofAddition, ofEntry, ofGreatest};
 ghost use Rattle.reply.specs.Told.{crossed, numbers};
 use questions::answer::Addition;
 use questions::answer::Answer;
@@ -19,6 +19,7 @@ use questions::answer::Entry;
 use questions::answer::Excess;
 use questions::answer::Furthest;
 use questions::answer::Gap;
+use questions::answer::Greatest;
 use questions::answer::Inside;
 use questions::answer::Length;
 use questions::answer::Nearest;
@@ -256,6 +257,21 @@ pub fn of_clearance(answer: Clearance) -> Reply
             floor as u64,
         ),
         Clearance::No(refusal) => refusals::of_refusal(refusal),
+    }
+}
+
+// Returns the greatest squared distance, and the positions of two corners that are so far apart.
+pub fn of_greatest(answer: Greatest) -> Reply
+    ensures { λ r. ⌜ numbers r ≡ crossed (ofGreatest answer) ⌝ }
+{
+    match answer {
+        Greatest::At {
+            squared,
+            first,
+            second,
+            floor,
+        } => numbers::answered4(squared, first as u64, second as u64, floor as u64),
+        Greatest::No(refusal) => refusals::of_refusal(refusal),
     }
 }
 
