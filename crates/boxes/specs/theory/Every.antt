@@ -1,0 +1,313 @@
+-- No direction has a smaller box than the best edge. Half of the way round the box in a direction d is the spread in d of the shape
+-- together with the shape turned by a quarter, their sum R. The edge that R is narrowest across (strips, `width-every`) points along an edge
+-- of the shape or across one: one of the two parts of the sum has two furthest corners there.
+--     box-every      the box in every direction other than (0,0), squared and over its squared length, is at least (T+S)·(T+S)/Q
+use mathlib.Core.Path.{_≡_, refl, sym, _∙_, ap, ap₂}
+use mathlib.Core.Bool.{Bool, true, false}
+use mathlib.Core.List.{List, [], _∷_, map, Memᴰ·map, Memᴰ·of-map}
+use Prim.Native.Nat.{ℕ, zero, suc, _≤_, _<_}
+use native.Mathlib.Omega.{arith}
+use borrow.Author.Tests.{ltb-true, ltb-false}
+use lib.Dec.{ltb}
+use lib.IntN.{ℤ, pos, negℤ, _+ℤ_, _-ℤ_, _*ℤ_}
+use lib.ListN.{length, length-map}
+use lib.Signed.{_≤ℤ_, _<ℤ_}
+use Rattle.integer.specs.Ring.{ring, reify}
+use Rattle.integer.specs.Linear.{linear, lia, _&_}
+use Rattle.integer.specs.Order.{le-antisym, le-of-eq}
+use Rattle.plane.specs.Point.{Point, point, origin, corner, opposite, _⊕_, _⊖_, _∈_}
+use Rattle.plane.specs.Turn.{turn, cross}
+use Rattle.plane.specs.Shape.{next, IsShape}
+use Rattle.plane.specs.Direction.{value, support, greater}
+use Rattle.plane.specs.Measure.{edgeSquared, height, widthEdge}
+use Rattle.plane.specs.Corner.{shapeOf, sums}
+use Rattle.plane.specs.Forms.{NonZero}
+use Rattle.plane.specs.Cut.{quarter, outward}
+use Rattle.plane.specs.theory.lists.Members.{point-path, point-discrete, position-member, member-position, sums-member, sums-some, member-sums}
+use Rattle.plane.specs.theory.lists.Next.{next-below}
+use Rattle.plane.specs.theory.forms.Vector.{turn-level, square-positive, positive-non-zero, value-⊕, value-⊖, ⊖-zero}
+use Rattle.plane.specs.theory.support.Support.{value-le-support, support-le, support-unique, support-sums}
+use Rattle.plane.specs.theory.face.Tied.{Tied, after, behind, tied}
+use Rattle.plane.specs.theory.hull.ShapeOf.{shapeOf-support, shapeOf-shape, shapeOf-corner}
+use Rattle.plane.specs.theory.sum.Positions.{next-left}
+use Rattle.separation.specs.theory.Sector.{value-outward, level-zero, edge-outermost, edge-nonzero}
+use Rattle.measure.specs.theory.Height.{edgeSquared-positive}
+use Rattle.measure.specs.theory.Narrowest.{width-narrowest}
+use Rattle.strips.specs.Strip.{least, spread}
+use Rattle.strips.specs.OwnDirection.{outOf}
+use Rattle.strips.specs.theory.Spread.{spread-above, spread-attained, spread-nonneg}
+use Rattle.strips.specs.theory.Edges.{out-squared, out-spread}
+use Rattle.strips.specs.theory.WidthBound.{width-every}
+use Rattle.boxes.specs.Box.{around, halfRound, boxEdge}
+use Rattle.boxes.specs.theory.Least.{fraction-trans, noLarger-le, box-leading}
+use Rattle.boxes.specs.theory.Around.{quarter-squared, around-quarter, around-edge, parallel-around}
+
+-- (T+S)·(T+S)/Q is at most the box in d, squared, over the squared length of d
+abbrev pub NoSmaller : List Point → Point → Type 0
+NoSmaller ps d = (halfRound ps (boxEdge ps) *ℤ halfRound ps (boxEdge ps) *ℤ value d d)
+    ≤ℤ (around d ps *ℤ around d ps *ℤ edgeSquared ps (boxEdge ps))
+
+-- ---- along or across an edge
+
+cross-outward : (n a b : Point) → cross (outward a b) n ≡ value n (b ⊖ a)
+unfolding cross value
+cross-outward n a b = ring (n .x ∷ n .y ∷ a .x ∷ a .y ∷ b .x ∷ b .y ∷ []) (search reify depth 40) tt
+
+module _ (ps : List Point) (s : IsShape ps) (three : 2 < length ps) where
+  best-in : boxEdge ps < length ps
+  best-in = box-leading ps s three .among
+
+  best-long : pos 0 <ℤ edgeSquared ps (boxEdge ps)
+  best-long = edgeSquared-positive ps s three (boxEdge ps) best-in
+
+  across-no-smaller : (n : Point) (e : ℕ) → e < length ps → cross (outOf ps e) n ≡ pos 0 → pos 0 <ℤ value n n → NoSmaller ps n
+  across-no-smaller n e h level some =
+      let best = halfRound ps (boxEdge ps) in
+      let half = halfRound ps e in
+      fraction-trans (best *ℤ best) (half *ℤ half) (around n ps *ℤ around n ps) (edgeSquared ps (boxEdge ps)) (edgeSquared ps e) (value n n)
+      best-long long some (noLarger-le ps (boxEdge ps) e (box-leading ps s three .least e h))
+      (rw (← around-edge ps s e h, ← out-squared ps s e h)
+      (parallel-around ps (s .some) (outOf ps e) n level (rw (out-squared ps s e h) long)))
+    where
+      long : pos 0 <ℤ edgeSquared ps e
+      long = edgeSquared-positive ps s three e h
+
+  -- two different corners furthest in n: they are neighbours, and n points across the edge between them
+  tied-no-smaller : (n : Point) {a b : Point} → a ∈ ps → b ∈ ps → (a ≡ b → ⊥) → pos 0 <ℤ value n n
+      → ((p : Point) → p ∈ ps → value n p ≤ℤ value n a) → ((p : Point) → p ∈ ps → value n p ≤ℤ value n b) → NoSmaller ps n
+  tied-no-smaller n {a} {b} a-in b-in other some top also = go (member-position a-in) (member-position b-in)
+    where
+      along : (i j : ℕ) → i < length ps → next (length ps) i ≡ j → value n (corner ps j) ≡ value n (corner ps i) → NoSmaller ps n
+      along i j h e same = across-no-smaller n i h (cross-outward n (corner ps i) (corner ps (next (length ps) i)) ∙ rw e (lia
+          (value n (corner ps i) ∷ value n (corner ps j) ∷ value n (corner ps j ⊖ corner ps i) ∷ [])
+          (same & value-⊖ n (corner ps j) (corner ps i)) (search linear depth 40) (omega arith))) some
+
+      go : (i : ℕ) × (i < length ps) × (corner ps i ≡ a) → (j : ℕ) × (j < length ps) × (corner ps j ≡ b) → NoSmaller ps n
+      go (i, h, e) (j, k, f) = pick (tied ps s n i j (positive-non-zero n n some) h k (λ r. other (sym e ∙ ap (corner ps) (sym r) ∙ f))
+          (sym (support-unique n (position-member ps i h) first)) (sym (support-unique n (position-member ps j k) second)))
+        where
+          first : (p : Point) → p ∈ ps → value n p ≤ℤ value n (corner ps i)
+          first = rw e top
+
+          second : (p : Point) → p ∈ ps → value n p ≤ℤ value n (corner ps j)
+          second = rw f also
+
+          same : value n (corner ps j) ≡ value n (corner ps i)
+          same = le-antisym (first _ (position-member ps j k)) (second _ (position-member ps i h))
+
+          pick : Tied ps n i j → NoSmaller ps n
+          pick (after r w) = along i j h (sym r) same
+          pick (behind r w) = along j i k (sym r) (sym same)
+
+-- ---- the shape turned right by a quarter
+
+abbrev turned : Point → Point
+turned p = point (p .y) (negℤ (p .x))
+
+value-turned : (n p : Point) → value n (turned p) ≡ value (quarter n) p
+unfolding value
+value-turned n p = ring (n .x ∷ n .y ∷ p .x ∷ p .y ∷ []) (search reify depth 40) tt
+
+turned-support : (n : Point) (ps : List Point) → support n (map turned ps) ≡ support (quarter n) ps
+unfolding support
+turned-support n [] = refl
+turned-support n (p ∷ []) = value-turned n p
+turned-support n (p ∷ (q ∷ ps)) = ap₂ greater (value-turned n p) (turned-support n (q ∷ ps))
+
+-- ---- points and segments: in some direction all is level
+
+record Level (D : List Point) : Type 0 where
+  across : Point
+  non-zero : NonZero across
+  same : (i j : ℕ) → i < length D → j < length D → value across (corner D i) ≤ℤ value across (corner D j)
+
+outward-level : (p q : Point) → value (outward p q) q ≡ value (outward p q) p
+unfolding value
+outward-level p q = ring (p .x ∷ p .y ∷ q .x ∷ q .y ∷ []) (search reify depth 40) tt
+
+-- v is any direction, for a point
+few-level : (D : List Point) → IsShape D → length D ≤ 2 → (v : Point) → NonZero v → Level D
+few-level [] s few v n = absurd (omega (arith, s .some))
+few-level (p ∷ []) s few v n = record { across = v; non-zero = n; same = same }
+  where
+    same : (i j : ℕ) → i < 1 → j < 1 → value v (corner (p ∷ []) i) ≤ℤ value v (corner (p ∷ []) j)
+    same zero zero h k = le-of-eq refl
+    same zero (suc j) h k = absurd (omega arith)
+    same (suc i) j h k = absurd (omega arith)
+few-level (p ∷ (q ∷ [])) s few v n = record {
+  across = outward p q;
+  non-zero = record { non-zero = λ e. s .different refl (⊖-zero p q (still e)) };
+  same = same;
+}
+  where
+    still : outward p q ≡ origin → q ⊖ p ≡ origin
+    still e = point-path
+        (lia (p .x ∷ q .x ∷ []) (ap (λ (z : Point). z .y) e) (search linear depth 40) (omega arith))
+        (ap (λ (z : Point). z .x) e)
+
+    same : (i j : ℕ) → i < 2 → j < 2 → value (outward p q) (corner (p ∷ q ∷ []) i) ≤ℤ value (outward p q) (corner (p ∷ q ∷ []) j)
+    same zero zero h k = le-of-eq refl
+    same zero (suc zero) h k = le-of-eq (sym (outward-level p q))
+    same (suc zero) zero h k = le-of-eq (outward-level p q)
+    same (suc zero) (suc zero) h k = le-of-eq refl
+    same zero (suc (suc j)) h k = absurd (omega arith)
+    same (suc zero) (suc (suc j)) h k = absurd (omega arith)
+    same (suc (suc i)) j h k = absurd (omega arith)
+few-level (p ∷ (q ∷ (r ∷ D))) s few v n = absurd (omega arith)
+
+-- ---- the sum
+
+outward-self : (p : Point) → value (outward p p) (outward p p) ≡ pos 0
+unfolding value
+outward-self p = ring (p .x ∷ p .y ∷ []) (search reify depth 40) tt
+
+module _ (ps : List Point) (s : IsShape ps) (three : 2 < length ps) where
+  abbrev both : List Point
+  both = sums ps (map turned ps)
+
+  abbrev R : List Point
+  R = shapeOf both
+
+  turned-some : 0 < length (map turned ps)
+  turned-some = rw (length-map ps turned) (s .some)
+
+  any : 0 < length both
+  any = sums-some ps (map turned ps) (s .some) turned-some
+
+  shape : IsShape R
+  shape = shapeOf-shape both any
+
+  R-support : (n : Point) → support n R ≡ support n ps +ℤ support (quarter n) ps
+  R-support n = shapeOf-support both any n ∙ support-sums n ps (map turned ps) (s .some) turned-some
+      ∙ ap (λ z. support n ps +ℤ z) (turned-support n ps)
+
+  R-spread : (n : Point) → spread n R ≡ around n ps
+  unfolding spread least around
+  R-spread n = lia (support n R ∷ support (opposite n) R ∷ support n ps ∷ support (quarter n) ps ∷ support (opposite n) ps
+      ∷ support (opposite (quarter n)) ps ∷ []) (R-support n & R-support (opposite n)) (search linear depth 40) (omega arith)
+
+  -- were it a point or a segment, all corners of the shape would have the same value in some direction
+  flat : Level R → ⊥
+  unfolding around
+  flat b = b .non-zero .non-zero (level-zero n (corner ps 0) (corner ps i) (corner ps j) origin (next-left ps s three 0 (s .some))
+      (same 0 i (s .some) i-in) (same j i j-in i-in) (level 0 (s .some)) (level j j-in))
+    where
+      n : Point
+      n = b .across
+
+      i : ℕ
+      i = next (length ps) 0
+
+      j : ℕ
+      j = next (length ps) i
+
+      i-in : i < length ps
+      i-in = next-below (length ps) 0 (s .some)
+
+      j-in : j < length ps
+      j-in = next-below (length ps) i i-in
+
+      none : spread n R ≤ℤ pos 0
+      none =
+          let (p, q, p-in, q-in, far) = spread-attained n R (shape .some) in
+          let (k, hk, ek) = member-position p-in in
+          let (l, hl, el) = member-position q-in in
+          lia (value n p ∷ value n q ∷ spread n R ∷ []) (far & rw (ek, el) at (b .same k l hk hl)) (search linear depth 40) (omega arith)
+
+      same : (e f : ℕ) → e < length ps → f < length ps → value n (corner ps e) ≤ℤ value n (corner ps f)
+      same e f h o = lia (value n (corner ps e) ∷ value n (corner ps f) ∷ spread n ps ∷ spread (quarter n) ps ∷ spread n R ∷ [])
+          (spread-above n ps (position-member ps e h) (position-member ps f o) & spread-nonneg (quarter n) ps (s .some) & R-spread n & none)
+          (search linear depth 40) (omega arith)
+
+      level : (e : ℕ) → e < length ps → value n (corner ps e) ≡ value n (corner ps i)
+      level e h = le-antisym (same e i h i-in) (same i e i-in h)
+
+  R-three : 2 < length R
+  R-three = go (ltb (length R) 3) refl
+    where
+      go : (t : Bool) → ltb (length R) 3 ≡ t → 2 < length R
+      go true e = absurd (flat (few-level R shape (omega (arith, ltb-true (length R) 3 e)) (outOf ps 0) (edge-nonzero ps s three 0 (s .some))))
+      go false e = ltb-false (length R) 3 e
+
+  -- ---- a point of the sum, and where it is furthest
+
+  record Parts (p : Point) : Type 0 where
+    left : Point
+    right : Point
+    left-in : left ∈ ps
+    right-in : right ∈ ps
+    is : p ≡ left ⊕ turned right
+
+  parts : {p : Point} → p ∈ R → Parts p
+  parts m =
+      let r = member-sums ps (map turned ps) (shapeOf-corner both any m .member) in
+      let (b, b-in, e) = Memᴰ·of-map turned ps (r .right-in) in
+      record { left = r .left; right = b; left-in = r .left-in; right-in = b-in; is = r .is-sum ∙ ap (λ z. r .left ⊕ z) (sym e) }
+
+  module _ (n : Point) where
+    sum-value : (a b : Point) → value n (a ⊕ turned b) ≡ value n a +ℤ value (quarter n) b
+    sum-value a b = value-⊕ n a (turned b) ∙ ap (λ z. value n a +ℤ z) (value-turned n b)
+
+    reach : {a b : Point} → a ∈ ps → b ∈ ps → (value n a +ℤ value (quarter n) b) ≤ℤ support n R
+    reach {a} {b} m o = rw (shapeOf-support both any n, ← sum-value a b) (value-le-support n (sums-member m (Memᴰ·map turned o)))
+
+    module _ {u : Point} (r : Parts u) (top : support n R ≤ℤ value n u) where
+      parts-value : value n u ≡ value n (r .left) +ℤ value (quarter n) (r .right)
+      parts-value = ap (value n) (r .is) ∙ sum-value (r .left) (r .right)
+
+      left-furthest : (p : Point) → p ∈ ps → value n p ≤ℤ value n (r .left)
+      left-furthest p m = lia (value n p ∷ value n (r .left) ∷ value (quarter n) (r .right) ∷ value n u ∷ support n R ∷ [])
+          (top & reach m (r .right-in) & parts-value) (search linear depth 40) (omega arith)
+
+      right-furthest : (p : Point) → p ∈ ps → value (quarter n) p ≤ℤ value (quarter n) (r .right)
+      right-furthest p m = lia (value (quarter n) p ∷ value n (r .left) ∷ value (quarter n) (r .right) ∷ value n u ∷ support n R ∷ [])
+          (top & reach (r .left-in) m & parts-value) (search linear depth 40) (omega arith)
+
+  -- ---- across an edge of the sum
+
+  module _ (e : ℕ) (h : e < length R) where
+    abbrev u : Point
+    u = corner R e
+
+    abbrev v : Point
+    v = corner R (next (length R) e)
+
+    abbrev n : Point
+    n = outward u v
+
+    top : support n R ≤ℤ value n u
+    top = support-le n R (shape .some) (edge-outermost R shape e h)
+
+    also : support n R ≤ℤ value n v
+    also = lia (support n R ∷ value n u ∷ value n v ∷ turn u v v ∷ []) (top & value-outward u v v & turn-level u v)
+        (search linear depth 40) (omega arith)
+
+    long : pos 0 <ℤ value n n
+    long = square-positive n (edge-nonzero R shape R-three e h)
+
+    different : u ≡ v → ⊥
+    different r = lia (value n n ∷ []) (long & ap (λ (z : Point). value (outward u z) (outward u z)) (sym r) ∙ outward-self u)
+        (search linear depth 40) (omega arith)
+
+    edge-no-smaller : NoSmaller ps n
+    edge-no-smaller = go (parts (position-member R e h)) (parts (position-member R (next (length R) e) (next-below (length R) e h)))
+      where
+        go : Parts u → Parts v → NoSmaller ps n
+        go r t = pick (point-discrete (r .left) (t .left))
+          where
+            pick : Dec (r .left ≡ t .left) → NoSmaller ps n
+            pick (no other) = tied-no-smaller ps s three n (r .left-in) (t .left-in) other long
+                (left-furthest n r top) (left-furthest n t also)
+            pick (yes same) = rw (around-quarter n ps, quarter-squared n) at (tied-no-smaller ps s three (quarter n) (r .right-in) (t .right-in)
+                (λ q. different (r .is ∙ ap₂ (λ (a b : Point). a ⊕ turned b) same q ∙ sym (t .is))) (rw (quarter-squared n) long)
+                (right-furthest n r top) (right-furthest n t also))
+
+  pub box-every : (d : Point) → NonZero d → NoSmaller ps d
+  box-every d some =
+      let best = halfRound ps (boxEdge ps) in
+      let w = widthEdge R in
+      let w-in = width-narrowest shape R-three .among in
+      let m = n w w-in in
+      fraction-trans (best *ℤ best) (around m ps *ℤ around m ps) (around d ps *ℤ around d ps) (edgeSquared ps (boxEdge ps)) (value m m)
+      (value d d) (best-long ps s three) (long w w-in) (square-positive d some) (edge-no-smaller w w-in)
+      (rw (← R-spread d, ← R-spread m, out-spread R shape w w-in, out-squared R shape w w-in) (width-every R shape R-three d some))

@@ -1,0 +1,1 @@
+// Inner functions for the least box about a shape (000). Callers ask the crate `questions`.
