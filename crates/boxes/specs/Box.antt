@@ -8,6 +8,7 @@
 --     boxEdge ps         the first edge whose box is no larger than any
 --     boxNumbers ps      edge, T, S and Q
 --     askBox a           the question: 10 for fewer than three corners
+--     NoLargerBox A B    the least box of A is no larger than that of B
 -- What it means: `Meaning.antt`.
 use mathlib.Core.Bool.{Bool}
 use mathlib.Core.List.{List, [], _∷_}
@@ -15,7 +16,7 @@ use Prim.Native.Nat.{ℕ}
 use lib.Dec.{ltb}
 use lib.IntN.{ℤ, pos, _+ℤ_, _*ℤ_}
 use lib.ListN.{length}
-use lib.Signed.{leZ}
+use lib.Signed.{leZ, _≤ℤ_}
 use Rattle.plane.specs.Point.{Point, corner, _⊖_}
 use Rattle.plane.specs.Shape.{next}
 use Rattle.plane.specs.Search.{every, first}
@@ -41,6 +42,10 @@ noLarger ps e f = leZ (halfRound ps e *ℤ halfRound ps e *ℤ edgeSquared ps f)
 -- the smallest position on a tie
 unfoldable pub boxEdge : List Point → ℕ
 boxEdge ps = first (λ e. every (noLarger ps e) (length ps)) (length ps)
+
+abbrev pub NoLargerBox : List Point → List Point → Type 0
+NoLargerBox A B = (halfRound A (boxEdge A) *ℤ halfRound A (boxEdge A) *ℤ edgeSquared B (boxEdge B))
+    ≤ℤ (halfRound B (boxEdge B) *ℤ halfRound B (boxEdge B) *ℤ edgeSquared A (boxEdge A))
 
 abbrev pub boxNumbers : List Point → List ℤ
 boxNumbers ps = let e = boxEdge ps in pos e ∷ height ps e ∷ along ps e ∷ edgeSquared ps e ∷ []

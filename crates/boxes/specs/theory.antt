@@ -1,4 +1,8 @@
--- The theory of boxes, which only proves: the first least edge; directions; every direction; furthest corners; what answers say.
+-- The theory of boxes, which only proves: the first least edge; boxes in directions; every direction; shapes compared; what answers say.
 pub mod Least
 pub mod Around
+pub mod Across
+pub mod Level
 pub mod Every
+pub mod Compared
+pub mod Answers

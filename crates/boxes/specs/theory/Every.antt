@@ -40,64 +40,9 @@ use Rattle.strips.specs.theory.Edges.{out-squared, out-spread}
 use Rattle.strips.specs.theory.WidthBound.{width-every}
 use Rattle.boxes.specs.Box.{around, halfRound, boxEdge}
 use Rattle.boxes.specs.theory.Least.{fraction-trans, noLarger-le, box-leading}
-use Rattle.boxes.specs.theory.Around.{quarter-squared, around-quarter, around-edge, parallel-around}
-
--- (T+S)·(T+S)/Q is at most the box in d, squared, over the squared length of d
-abbrev pub NoSmaller : List Point → Point → Type 0
-NoSmaller ps d = (halfRound ps (boxEdge ps) *ℤ halfRound ps (boxEdge ps) *ℤ value d d)
-    ≤ℤ (around d ps *ℤ around d ps *ℤ edgeSquared ps (boxEdge ps))
-
--- ---- along or across an edge
-
-cross-outward : (n a b : Point) → cross (outward a b) n ≡ value n (b ⊖ a)
-unfolding cross value
-cross-outward n a b = ring (n .x ∷ n .y ∷ a .x ∷ a .y ∷ b .x ∷ b .y ∷ []) (search reify depth 40) tt
-
-module _ (ps : List Point) (s : IsShape ps) (three : 2 < length ps) where
-  best-in : boxEdge ps < length ps
-  best-in = box-leading ps s three .among
-
-  best-long : pos 0 <ℤ edgeSquared ps (boxEdge ps)
-  best-long = edgeSquared-positive ps s three (boxEdge ps) best-in
-
-  across-no-smaller : (n : Point) (e : ℕ) → e < length ps → cross (outOf ps e) n ≡ pos 0 → pos 0 <ℤ value n n → NoSmaller ps n
-  across-no-smaller n e h level some =
-      let best = halfRound ps (boxEdge ps) in
-      let half = halfRound ps e in
-      fraction-trans (best *ℤ best) (half *ℤ half) (around n ps *ℤ around n ps) (edgeSquared ps (boxEdge ps)) (edgeSquared ps e) (value n n)
-      best-long long some (noLarger-le ps (boxEdge ps) e (box-leading ps s three .least e h))
-      (rw (← around-edge ps s e h, ← out-squared ps s e h)
-      (parallel-around ps (s .some) (outOf ps e) n level (rw (out-squared ps s e h) long)))
-    where
-      long : pos 0 <ℤ edgeSquared ps e
-      long = edgeSquared-positive ps s three e h
-
-  -- two different corners furthest in n: they are neighbours, and n points across the edge between them
-  tied-no-smaller : (n : Point) {a b : Point} → a ∈ ps → b ∈ ps → (a ≡ b → ⊥) → pos 0 <ℤ value n n
-      → ((p : Point) → p ∈ ps → value n p ≤ℤ value n a) → ((p : Point) → p ∈ ps → value n p ≤ℤ value n b) → NoSmaller ps n
-  tied-no-smaller n {a} {b} a-in b-in other some top also = go (member-position a-in) (member-position b-in)
-    where
-      along : (i j : ℕ) → i < length ps → next (length ps) i ≡ j → value n (corner ps j) ≡ value n (corner ps i) → NoSmaller ps n
-      along i j h e same = across-no-smaller n i h (cross-outward n (corner ps i) (corner ps (next (length ps) i)) ∙ rw e (lia
-          (value n (corner ps i) ∷ value n (corner ps j) ∷ value n (corner ps j ⊖ corner ps i) ∷ [])
-          (same & value-⊖ n (corner ps j) (corner ps i)) (search linear depth 40) (omega arith))) some
-
-      go : (i : ℕ) × (i < length ps) × (corner ps i ≡ a) → (j : ℕ) × (j < length ps) × (corner ps j ≡ b) → NoSmaller ps n
-      go (i, h, e) (j, k, f) = pick (tied ps s n i j (positive-non-zero n n some) h k (λ r. other (sym e ∙ ap (corner ps) (sym r) ∙ f))
-          (sym (support-unique n (position-member ps i h) first)) (sym (support-unique n (position-member ps j k) second)))
-        where
-          first : (p : Point) → p ∈ ps → value n p ≤ℤ value n (corner ps i)
-          first = rw e top
-
-          second : (p : Point) → p ∈ ps → value n p ≤ℤ value n (corner ps j)
-          second = rw f also
-
-          same : value n (corner ps j) ≡ value n (corner ps i)
-          same = le-antisym (first _ (position-member ps j k)) (second _ (position-member ps i h))
-
-          pick : Tied ps n i j → NoSmaller ps n
-          pick (after r w) = along i j h (sym r) same
-          pick (behind r w) = along j i k (sym r) (sym same)
+use Rattle.boxes.specs.theory.Around.{quarter-squared, around-quarter}
+use Rattle.boxes.specs.theory.Across.{NoSmaller, best-long, tied-no-smaller}
+use Rattle.boxes.specs.theory.Level.{Level, few-level}
 
 -- ---- the shape turned right by a quarter
 
@@ -113,47 +58,6 @@ unfolding support
 turned-support n [] = refl
 turned-support n (p ∷ []) = value-turned n p
 turned-support n (p ∷ (q ∷ ps)) = ap₂ greater (value-turned n p) (turned-support n (q ∷ ps))
-
--- ---- points and segments: in some direction all is level
-
-record Level (D : List Point) : Type 0 where
-  across : Point
-  non-zero : NonZero across
-  same : (i j : ℕ) → i < length D → j < length D → value across (corner D i) ≤ℤ value across (corner D j)
-
-outward-level : (p q : Point) → value (outward p q) q ≡ value (outward p q) p
-unfolding value
-outward-level p q = ring (p .x ∷ p .y ∷ q .x ∷ q .y ∷ []) (search reify depth 40) tt
-
--- v is any direction, for a point
-few-level : (D : List Point) → IsShape D → length D ≤ 2 → (v : Point) → NonZero v → Level D
-few-level [] s few v n = absurd (omega (arith, s .some))
-few-level (p ∷ []) s few v n = record { across = v; non-zero = n; same = same }
-  where
-    same : (i j : ℕ) → i < 1 → j < 1 → value v (corner (p ∷ []) i) ≤ℤ value v (corner (p ∷ []) j)
-    same zero zero h k = le-of-eq refl
-    same zero (suc j) h k = absurd (omega arith)
-    same (suc i) j h k = absurd (omega arith)
-few-level (p ∷ (q ∷ [])) s few v n = record {
-  across = outward p q;
-  non-zero = record { non-zero = λ e. s .different refl (⊖-zero p q (still e)) };
-  same = same;
-}
-  where
-    still : outward p q ≡ origin → q ⊖ p ≡ origin
-    still e = point-path
-        (lia (p .x ∷ q .x ∷ []) (ap (λ (z : Point). z .y) e) (search linear depth 40) (omega arith))
-        (ap (λ (z : Point). z .x) e)
-
-    same : (i j : ℕ) → i < 2 → j < 2 → value (outward p q) (corner (p ∷ q ∷ []) i) ≤ℤ value (outward p q) (corner (p ∷ q ∷ []) j)
-    same zero zero h k = le-of-eq refl
-    same zero (suc zero) h k = le-of-eq (sym (outward-level p q))
-    same (suc zero) zero h k = le-of-eq (outward-level p q)
-    same (suc zero) (suc zero) h k = le-of-eq refl
-    same zero (suc (suc j)) h k = absurd (omega arith)
-    same (suc zero) (suc (suc j)) h k = absurd (omega arith)
-    same (suc (suc i)) j h k = absurd (omega arith)
-few-level (p ∷ (q ∷ (r ∷ D))) s few v n = absurd (omega arith)
 
 -- ---- the sum
 
