@@ -1,17 +1,19 @@
 -- The least boxes of two shapes: the one that is no longer round in any direction has no larger box.
 --     box-no-larger      from the boxes in all directions
---     inside-around      a shape inside another is no longer round; mirrored-around, moved-around: these change nothing
-use mathlib.Core.Path.{_≡_, _∙_, ap, ap₂}
+--     inside-around      a shape inside another is no longer round
+--     mirrored-no-larger, no-larger-mirrored     the mirrored shape has the same box
+--     moved-no-larger, no-larger-moved           and so has the moved one
+use mathlib.Core.Path.{_≡_, sym, _∙_, ap, ap₂}
 use mathlib.Core.Bool.{true}
 use mathlib.Core.List.{List, [], _∷_}
 use Prim.Native.Nat.{_<_}
 use native.Mathlib.Omega.{arith}
 use lib.IntN.{ℤ, pos, _+ℤ_, _*ℤ_}
-use lib.ListN.{length}
+use lib.ListN.{length, length-map}
 use lib.Signed.{_≤ℤ_}
 use Rattle.integer.specs.Linear.{lia, linear, _&_}
-use Rattle.integer.specs.Order.{_≤×≤_, weaken}
-use Rattle.plane.specs.Point.{Point, opposite}
+use Rattle.integer.specs.Order.{_≤×≤_, weaken, le-of-eq}
+use Rattle.plane.specs.Point.{Point, opposite, _⊕_}
 use Rattle.plane.specs.Shape.{IsShape}
 use Rattle.plane.specs.Direction.{value, support}
 use Rattle.plane.specs.Measure.{edgeSquared}
@@ -21,7 +23,8 @@ use Rattle.plane.specs.Separation.{inside}
 use Rattle.plane.specs.theory.lists.Members.{mirrored-some}
 use Rattle.plane.specs.theory.forms.Vector.{opposite-opposite, value-turned}
 use Rattle.plane.specs.theory.support.Support.{support-mirrored}
-use Rattle.plane.specs.theory.hull.ShapeOf.{shapeOf-support}
+use Rattle.plane.specs.theory.hull.ShapeOf.{shapeOf-support, shapeOf-shape}
+use Rattle.plane.specs.theory.mirror.Mirror.{mirror-count}
 use Rattle.separation.specs.theory.Inside.{inside→reach}
 use Rattle.separation.specs.theory.Sector.{edge-nonzero}
 use Rattle.strips.specs.Strip.{least, spread}
@@ -29,7 +32,7 @@ use Rattle.strips.specs.OwnDirection.{outOf}
 use Rattle.strips.specs.theory.Spread.{spread-nonneg}
 use Rattle.strips.specs.theory.Edges.{out-squared}
 use Rattle.growth.specs.Grown.{placed}
-use Rattle.growth.specs.theory.Places.{placed-reach}
+use Rattle.growth.specs.theory.Places.{placed-reach, placed-shape}
 use Rattle.boxes.specs.Box.{around, halfRound, boxEdge, NoLargerBox}
 use Rattle.boxes.specs.theory.Least.{box-leading}
 use Rattle.boxes.specs.theory.Around.{around-edge}
@@ -86,7 +89,7 @@ by-move e t A M h k = lia
 pub inside-around : (A B : List Point) → 0 < length A → 0 < length B → inside A B ≡ true → (d : Point) → around d A ≤ℤ around d B
 inside-around A B a b h = by-support A B (λ d. inside→reach A B a b h d)
 
-pub mirrored-around : (A : List Point) → 0 < length A → (d : Point) → around d (shapeOf (mirrored A)) ≡ around d A
+mirrored-around : (A : List Point) → 0 < length A → (d : Point) → around d (shapeOf (mirrored A)) ≡ around d A
 unfolding around
 mirrored-around A some d = ap₂ (λ s t. s +ℤ t) (turned d) (turned (quarter d))
   where
@@ -99,9 +102,38 @@ mirrored-around A some d = ap₂ (λ s t. s +ℤ t) (turned d) (turned (quarter 
     turned : (e : Point) → spread e M ≡ spread e A
     turned e = by-reach e A M (reach e) (reach (opposite e) ∙ ap (λ f. support f A) (opposite-opposite e))
 
-pub moved-around : (A : List Point) (t : Point) → 0 < length A → (d : Point) → around d (placed A t) ≡ around d A
+moved-around : (A : List Point) (t : Point) → 0 < length A → (d : Point) → around d (placed A t) ≡ around d A
 unfolding around
 moved-around A t some d = ap₂ (λ s t. s +ℤ t) (moved d) (moved (quarter d))
   where
     moved : (e : Point) → spread e (placed A t) ≡ spread e A
     moved e = by-move e t A (placed A t) (placed-reach A t some e) (placed-reach A t some (opposite e))
+
+-- ---- the mirrored and the moved shape
+
+module _ (A : List Point) (s : IsShape A) (three : 2 < length A) where
+  abbrev M : List Point
+  M = shapeOf (mirrored A)
+
+  mirror : IsShape M
+  mirror = shapeOf-shape (mirrored A) (mirrored-some A (s .some))
+
+  mirror-three : 2 < length M
+  mirror-three = rw (mirror-count A s) three
+
+  pub mirrored-no-larger : NoLargerBox M A
+  mirrored-no-larger = box-no-larger M A mirror mirror-three s three (λ d. le-of-eq (mirrored-around A (s .some) d))
+
+  pub no-larger-mirrored : NoLargerBox A M
+  no-larger-mirrored = box-no-larger A M s three mirror mirror-three (λ d. le-of-eq (sym (mirrored-around A (s .some) d)))
+
+  module _ (t : Point) where
+    moved-three : 2 < length (placed A t)
+    moved-three = rw (length-map A (λ p. p ⊕ t)) three
+
+    pub moved-no-larger : NoLargerBox (placed A t) A
+    moved-no-larger = box-no-larger (placed A t) A (placed-shape A t s) moved-three s three (λ d. le-of-eq (moved-around A t (s .some) d))
+
+    pub no-larger-moved : NoLargerBox A (placed A t)
+    no-larger-moved = box-no-larger A (placed A t) s three (placed-shape A t s) moved-three
+        (λ d. le-of-eq (sym (moved-around A t (s .some) d)))
