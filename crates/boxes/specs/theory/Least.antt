@@ -1,16 +1,16 @@
 -- Which edge has the least box, found by keeping the first of the least so far.
---     noLarger-le, larger-lt                    the test as a fact
+--     noLarger-le, larger-lt                    the test as a fact; noLarger-fractions: on numbers of ℕ, as in code
 --     Leading ps k e                            of the edges below k, e is the first with the least box
 --     leading-start, -keep, -replace, -done     the moves of the search
 --     box-leading                               of all edges it is `boxEdge`
 --     fraction-trans                            s/p ≤ t/q and t/q ≤ u/r give s/p ≤ u/r
 use mathlib.Core.Path.{_≡_, refl, sym, subst}
-use mathlib.Core.Bool.{Bool, true, false}
+use mathlib.Core.Bool.{Bool, true, false, not}
 use mathlib.Core.List.{List, [], _∷_}
-use Prim.Native.Nat.{ℕ, zero, suc, pred, _<_}
+use Prim.Native.Nat.{ℕ, zero, suc, pred, _*_, _<_}
 use native.Mathlib.Omega.{arith}
-use borrow.Author.Tests.{eqb-true, eqb-false}
-use lib.Dec.{eqb}
+use borrow.Author.Tests.{eqb-true, eqb-false, le-leb, lt-leb, ltb-true, ltb-false}
+use lib.Dec.{eqb, leb, ltb}
 use lib.IntN.{ℤ, pos, _*ℤ_}
 use lib.ListN.{length}
 use lib.Signed.{_≤ℤ_, _<ℤ_, ≤ℤ-refl}
@@ -49,6 +49,16 @@ noLarger-refl ps e = le-leZ (≤ℤ-refl (size ps e e))
 larger-noLarger : (ps : List Point) (e f : ℕ) → noLarger ps e f ≡ false → noLarger ps f e ≡ true
 unfolding noLarger
 larger-noLarger ps e f h = le-leZ (weaken (leZ-false {x = size ps e f} {y = size ps f e} h))
+
+-- the test as it is made on numbers of ℕ: edge f has a smaller box than e
+pub noLarger-fractions : (ps : List Point) (e f : ℕ) {t q u r : ℕ} → halfRound ps e ≡ pos t → edgeSquared ps e ≡ pos q
+    → halfRound ps f ≡ pos u → edgeSquared ps f ≡ pos r → noLarger ps e f ≡ not (ltb (u * u * q) (t * t * r))
+unfolding noLarger
+noLarger-fractions ps e f {t} {q} {u} {r} h i k l = rw (h, i, k, l) (go (ltb (u * u * q) (t * t * r)) refl)
+  where
+    go : (b : Bool) → ltb (u * u * q) (t * t * r) ≡ b → leb (t * t * r) (u * u * q) ≡ not b
+    go true p = lt-leb (t * t * r) (u * u * q) (ltb-true (u * u * q) (t * t * r) p)
+    go false p = le-leb (t * t * r) (u * u * q) (ltb-false (u * u * q) (t * t * r) p)
 
 -- ---- the first of the least so far
 
