@@ -74,7 +74,8 @@ module _ {l : List ℤ} {k : ℕ} {j : Jaws} {best : Boxed} (w : Walk l k j best
 
       go : (t : Bool) → isSmaller found best ≡ t → r ≡ cond t found best → Walk l (k + 1) i r
       go true q f = subst (Walk l (k + 1) i) (sym f) (next found
-          (subst (Leading (points l) (suc k)) (sym e) (leading-replace (points l) (w .valid .shape) (w .three) h (w .leading) (test ∙ ap not q)))
+          (subst (Leading (points l) (suc k)) (sym e)
+          (leading-replace (points l) (w .valid .shape) (w .three) h (w .leading) (test ∙ ap not q)))
           boxes)
       go false q f = subst (Walk l (k + 1) i) (sym f) (next best (leading-keep (w .leading) (test ∙ ap not q)) (w .boxes))
 

@@ -31,12 +31,12 @@ cases =
     case (pos 0 ∷ pos 0 ∷ pos 6 ∷ pos 0 ∷ pos 6 ∷ pos 4 ∷ pos 0 ∷ pos 4 ∷ []) (answered (pos 0 ∷ pos 24 ∷ pos 36 ∷ pos 36 ∷ pos 3 ∷ []))
     -- a square on its corner
     ∷ case (pos 0 ∷ negsuc 4 ∷ pos 5 ∷ pos 0 ∷ pos 0 ∷ pos 5 ∷ negsuc 4 ∷ pos 0 ∷ [])
-        (answered (pos 0 ∷ pos 50 ∷ pos 50 ∷ pos 50 ∷ pos 3 ∷ []))
+    (answered (pos 0 ∷ pos 50 ∷ pos 50 ∷ pos 50 ∷ pos 3 ∷ []))
     -- a right triangle: the two legs tie and have a smaller box than the long side, which is edge 0
     ∷ case (pos 0 ∷ pos 0 ∷ pos 10 ∷ pos 5 ∷ pos 0 ∷ pos 5 ∷ []) (answered (pos 1 ∷ pos 50 ∷ pos 100 ∷ pos 100 ∷ pos 3 ∷ []))
     -- the least perimeter at edge 3, the least width at edge 0, the least area at edge 2
     ∷ case (pos 6 ∷ pos 0 ∷ pos 9 ∷ pos 5 ∷ pos 9 ∷ pos 7 ∷ pos 3 ∷ pos 3 ∷ [])
-        (answered (pos 3 ∷ pos 30 ∷ pos 18 ∷ pos 18 ∷ pos 3 ∷ []))
+    (answered (pos 3 ∷ pos 30 ∷ pos 18 ∷ pos 18 ∷ pos 3 ∷ []))
     -- a point, a segment, no list
     ∷ case (pos 5 ∷ pos 5 ∷ []) (refused 10 [])
     ∷ case (pos 0 ∷ pos 0 ∷ pos 8 ∷ pos 3 ∷ []) (refused 10 [])
@@ -45,6 +45,6 @@ cases =
 
 pub cases-hold : map (λ (c : Case). reply (askBox (c .shape))) cases ≡ map (λ (c : Case). c .stated) cases
 unfolding maxCorners maxCoordinate samePoint turn breaks precedes badCount tooMany outside someOutside equalPair leftBroken ruleBroken
-    brokenEdge brokenCorner breakingEdge breakingCorner badStart value greater support squared edgeTurn height edgeSquared least spread along
-    halfRound noLarger boxEdge reply
+    brokenEdge brokenCorner breakingEdge breakingCorner badStart value greater support squared edgeTurn height edgeSquared least spread
+    along halfRound noLarger boxEdge reply
 cases-hold = refl

@@ -1,6 +1,6 @@
--- What the answer of box says: the edge e, the greatest turn T over the corners, the spread S of the corners' values along the edge, and the
--- edge's squared length Q. Each theorem is proved in the theory; here it is only cited. Boxes are compared by products: a/b ≤ c/d says
--- a·d ≤ c·b.
+-- What the answer of box says: the edge e, the greatest turn T over the corners, the spread S of the corners' values along the edge, and
+-- the edge's squared length Q. Each theorem is proved in the theory; here it is only cited. Boxes are compared by products: a/b ≤ c/d
+-- says a·d ≤ c·b.
 --     holds          every corner is in the box, and the box touches them on all four sides
 --     edges          no edge has a smaller box, and every earlier edge has a larger one
 --     directions     **no whole-number direction has a smaller box**; the edge's own has exactly this one
@@ -15,7 +15,6 @@ use Prim.Native.Nat.{ℕ, _<_}
 use lib.IntN.{ℤ, pos, _+ℤ_, _-ℤ_, _*ℤ_}
 use lib.ListN.{length}
 use lib.Signed.{_≤ℤ_, _<ℤ_}
-use Rattle.integer.specs.Order.{le-of-eq}
 use Rattle.plane.specs.Point.{Point, origin, corner, _∈_, _⊖_}
 use Rattle.plane.specs.Shape.{next, IsShape}
 use Rattle.plane.specs.Direction.{value}

@@ -27,7 +27,7 @@ pub fn furthest_from(list: &[i32], d: Point, start: usize) -> usize
 }
 
 // Whether a corner is furthest: neither of its neighbours is further, for then no corner is.
-// Ruled out: corner before not asked.
+// Ruled out: level corner passed over.
 fn is_furthest(list: &[i32], d: Point, i: usize) -> bool
     requires { ⌜ Aimed (now list) (at d) i ⌝ }
     ensures { λ r. ⌜ r ≡ isFurthest (at d) (points (now (list .entry))) i ⌝ }

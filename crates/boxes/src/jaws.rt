@@ -73,7 +73,10 @@ fn edge_at(list: &[i32], edge: usize) -> Point
         ⊖ corner (points (now (list .entry))) edge ⌝ }
 {
     let end = edges::round(list, edge + 1);
-    point::step(corners::corner_at(list, edge), corners::corner_at(list, end))
+    point::step(
+        corners::corner_at(list, edge),
+        corners::corner_at(list, end),
+    )
 }
 
 // Returns a vector turned left by a quarter.

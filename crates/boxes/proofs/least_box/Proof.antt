@@ -33,14 +33,16 @@ loop-holds c =
     walk-start (pre .0) (pre .1) (c .before .closed .ensures) (c .measured .ensures .0) (c .measured .ensures .1)
 
 -- the edge that is measured next is one of the list
-edge-in : (c : tie.In-loop Inv-loop μ-loop) → c .before .loop .edge < length (points (c .before .before .before .before .before .args .list .now))
+edge-in : (c : tie.In-loop Inv-loop μ-loop)
+    → c .before .loop .edge < length (points (c .before .before .before .before .before .args .list .now))
 edge-in c = omega (arith, c .loop-test .taken, c .before .before .before .before .count .ensures)
 
 closed-requires-2 : tie.Need-closed-requires-2 Inv-loop μ-loop
 closed-requires-2 c κs = walk-closing (c .before .loop .inv) (edge-in c)
 
 measured-requires-2 : tie.Need-measured-requires-2 Inv-loop μ-loop
-measured-requires-2 c κs = record { valid = c .before .before .loop .inv .valid; edge-in = edge-in (c .before); holds = c .closed2 .ensures }
+measured-requires-2 c κs =
+    record { valid = c .before .before .loop .inv .valid; edge-in = edge-in (c .before); holds = c .closed2 .ensures }
 
 smaller-requires : tie.Need-smaller-requires Inv-loop μ-loop
 smaller-requires c κs = tt
@@ -63,5 +65,5 @@ returns c = walk-done (c .before .loop .inv) (omega (arith, c .loop-test .left, 
 pub least-box-spec : {M : Type 1} → statement M
 least-box-spec =
     tie.close
-    (tie.spec Inv-loop μ-loop count-requires closed-requires measured-requires loop-holds closed-requires-2 measured-requires-2 smaller-requires
-    add-edge loop-less loop-again returns)
+    (tie.spec Inv-loop μ-loop count-requires closed-requires measured-requires loop-holds closed-requires-2 measured-requires-2
+    smaller-requires add-edge loop-less loop-again returns)

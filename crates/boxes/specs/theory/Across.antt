@@ -2,42 +2,30 @@
 --     NoSmaller ps d       the box in d, squared and over the squared length of d, is at least (T+S)·(T+S)/Q
 --     best-long            Q is above 0
 --     tied-no-smaller      where two corners are furthest in d, d points across the edge between them
-use mathlib.Core.Path.{_≡_, refl, sym, _∙_, ap, ap₂}
-use mathlib.Core.Bool.{Bool, true, false}
-use mathlib.Core.List.{List, [], _∷_, map, Memᴰ·map, Memᴰ·of-map}
-use Prim.Native.Nat.{ℕ, zero, suc, _≤_, _<_}
+use mathlib.Core.Path.{_≡_, sym, _∙_, ap}
+use mathlib.Core.List.{List, [], _∷_}
+use Prim.Native.Nat.{ℕ, _<_}
 use native.Mathlib.Omega.{arith}
-use borrow.Author.Tests.{ltb-true, ltb-false}
-use lib.Dec.{ltb}
-use lib.IntN.{ℤ, pos, negℤ, _+ℤ_, _-ℤ_, _*ℤ_}
-use lib.ListN.{length, length-map}
+use lib.IntN.{ℤ, pos, _*ℤ_}
+use lib.ListN.{length}
 use lib.Signed.{_≤ℤ_, _<ℤ_}
 use Rattle.integer.specs.Ring.{ring, reify}
 use Rattle.integer.specs.Linear.{linear, lia, _&_}
-use Rattle.integer.specs.Order.{le-antisym, le-of-eq}
-use Rattle.plane.specs.Point.{Point, point, origin, corner, opposite, _⊕_, _⊖_, _∈_}
-use Rattle.plane.specs.Turn.{turn, cross}
+use Rattle.integer.specs.Order.{le-antisym}
+use Rattle.plane.specs.Point.{Point, corner, _⊖_, _∈_}
+use Rattle.plane.specs.Turn.{cross}
 use Rattle.plane.specs.Shape.{next, IsShape}
-use Rattle.plane.specs.Direction.{value, support, greater}
-use Rattle.plane.specs.Measure.{edgeSquared, height, widthEdge}
-use Rattle.plane.specs.Corner.{shapeOf, sums}
-use Rattle.plane.specs.Forms.{NonZero}
-use Rattle.plane.specs.Cut.{quarter, outward}
-use Rattle.plane.specs.theory.lists.Members.{point-path, point-discrete, position-member, member-position, sums-member, sums-some, member-sums}
-use Rattle.plane.specs.theory.lists.Next.{next-below}
-use Rattle.plane.specs.theory.forms.Vector.{turn-level, square-positive, positive-non-zero, value-⊕, value-⊖, ⊖-zero}
-use Rattle.plane.specs.theory.support.Support.{value-le-support, support-le, support-unique, support-sums}
+use Rattle.plane.specs.Direction.{value}
+use Rattle.plane.specs.Measure.{edgeSquared}
+use Rattle.plane.specs.Cut.{outward}
+use Rattle.plane.specs.theory.lists.Members.{position-member, member-position}
+use Rattle.plane.specs.theory.forms.Vector.{positive-non-zero, value-⊖}
+use Rattle.plane.specs.theory.support.Support.{support-unique}
 use Rattle.plane.specs.theory.face.Tied.{Tied, after, behind, tied}
-use Rattle.plane.specs.theory.hull.ShapeOf.{shapeOf-support, shapeOf-shape, shapeOf-corner}
-use Rattle.plane.specs.theory.sum.Positions.{next-left}
-use Rattle.separation.specs.theory.Sector.{value-outward, level-zero, edge-outermost, edge-nonzero}
 use Rattle.measure.specs.theory.Height.{edgeSquared-positive}
-use Rattle.measure.specs.theory.Narrowest.{width-narrowest}
-use Rattle.strips.specs.Strip.{least, spread}
+use Rattle.strips.specs.Strip.{least}
 use Rattle.strips.specs.OwnDirection.{outOf}
-use Rattle.strips.specs.theory.Spread.{spread-above, spread-attained, spread-nonneg}
-use Rattle.strips.specs.theory.Edges.{out-squared, out-spread}
-use Rattle.strips.specs.theory.WidthBound.{width-every}
+use Rattle.strips.specs.theory.Edges.{out-squared}
 use Rattle.boxes.specs.Box.{around, halfRound, boxEdge}
 use Rattle.boxes.specs.theory.Least.{fraction-trans, noLarger-le, box-leading}
 use Rattle.boxes.specs.theory.Around.{around-edge, parallel-around}

@@ -7,13 +7,12 @@
 use mathlib.Core.Path.{_≡_, refl, sym}
 use mathlib.Core.List.{List, [], _∷_}
 use Prim.Native.Nat.{ℕ, _<_}
-use native.Mathlib.Omega.{arith}
 use borrow.Author.Tests.{ltb-false, le-ltb}
 use lib.IntN.{ℤ, pos, _+ℤ_, _-ℤ_, _*ℤ_}
 use lib.ListN.{length}
 use lib.Signed.{_≤ℤ_, _<ℤ_}
-use Rattle.plane.specs.Point.{Point, points, corner, _∈_, _⊖_}
-use Rattle.plane.specs.Shape.{next, IsShape}
+use Rattle.plane.specs.Point.{Point, points, _∈_}
+use Rattle.plane.specs.Shape.{IsShape}
 use Rattle.plane.specs.Reply.{answered}
 use Rattle.plane.specs.Refusal.{Valid}
 use Rattle.plane.specs.Direction.{value}
@@ -27,7 +26,7 @@ use Rattle.measure.specs.theory.Height.{height-above, height-had, edgeSquared-v
 use Rattle.strips.specs.Strip.{spread}
 use Rattle.strips.specs.OwnDirection.{outOf}
 use Rattle.strips.specs.theory.Spread.{spread-above, spread-attained}
-use Rattle.strips.specs.theory.Edges.{out-squared, out-spread}
+use Rattle.strips.specs.theory.Edges.{out-spread}
 use Rattle.boxes.specs.Box.{around, along, halfRound, boxEdge, askBox}
 use Rattle.boxes.specs.theory.Least.{noLarger-le, larger-lt, box-leading}
 use Rattle.boxes.specs.theory.Across.{best-long}

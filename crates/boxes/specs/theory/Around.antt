@@ -2,7 +2,7 @@
 --     around-quarter     the direction turned by a quarter has the same box
 --     around-edge        of the direction out of an edge it is `halfRound`
 --     parallel-around    directions on one line have the same box: F·F/M is at most G·G/N, by the squared lengths M and N
-use mathlib.Core.Path.{_≡_, sym, _∙_, ap, ap₂}
+use mathlib.Core.Path.{_≡_, _∙_, ap, ap₂}
 use mathlib.Core.List.{List, [], _∷_}
 use Prim.Native.Nat.{ℕ, _<_}
 use native.Mathlib.Omega.{arith}

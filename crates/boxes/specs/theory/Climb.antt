@@ -4,7 +4,7 @@
 --     last-next, before-next   the position before another
 --     still n i f              how many steps from i round to f; still-less: one less after a step, unless i is f
 --     furthest-found           a corner that is not furthest is not the one that `furthest` finds
-use mathlib.Core.Path.{_≡_, refl, sym, _∙_, ap}
+use mathlib.Core.Path.{_≡_, refl, _∙_, ap}
 use mathlib.Core.Bool.{Bool, true, false, cond}
 use mathlib.Core.List.{List, [], _∷_}
 use Prim.Native.Nat.{ℕ, suc, _+_, _-_, _≤_, _<_}
@@ -29,7 +29,8 @@ use Rattle.separation.specs.theory.Sector.{sector-weak}
 
 module _ (ps : List Point) (d : Point) where
   pub rising-not-furthest : (i j : ℕ) → j < length ps → value d (corner ps i) <ℤ value d (corner ps j) → isFurthest d ps i ≡ false
-  rising-not-furthest i j h less = lt-leZ {x = support d ps} {y = value d (corner ps i)} (lia (value d (corner ps i) ∷ value d (corner ps j) ∷ support d ps ∷ [])
+  rising-not-furthest i j h less = lt-leZ {x = support d ps} {y = value d (corner ps i)}
+      (lia (value d (corner ps i) ∷ value d (corner ps j) ∷ support d ps ∷ [])
       (less & value-le-support d (position-member ps j h)) (search linear depth 40) (omega arith))
 
   pub furthest-found : 0 < length ps → (i : ℕ) → isFurthest d ps i ≡ false → i ≡ furthest d ps → ⊥

@@ -1,37 +1,35 @@
--- No direction has a smaller box than the best edge. Half of the way round the box in a direction d is the spread in d of the shape
--- together with the shape turned by a quarter, their sum R. The edge that R is narrowest across (strips, `width-every`) points along an edge
--- of the shape or across one: one of the two parts of the sum has two furthest corners there.
+-- No direction has a smaller box than the best edge. Half of the way round the box in a direction d is the spread in d of R, the sum of the
+-- shape and the shape turned by a quarter. The edge that R is narrowest across (`width-every` of strips) points along an edge of the shape
+-- or across one: one of the two parts of the sum has two furthest corners there.
 --     box-every      the box in every direction other than (0,0), squared and over its squared length, is at least (T+S)·(T+S)/Q
 use mathlib.Core.Path.{_≡_, refl, sym, _∙_, ap, ap₂}
 use mathlib.Core.Bool.{Bool, true, false}
 use mathlib.Core.List.{List, [], _∷_, map, Memᴰ·map, Memᴰ·of-map}
-use Prim.Native.Nat.{ℕ, zero, suc, _≤_, _<_}
+use Prim.Native.Nat.{ℕ, _<_}
 use native.Mathlib.Omega.{arith}
 use borrow.Author.Tests.{ltb-true, ltb-false}
 use lib.Dec.{ltb}
-use lib.IntN.{ℤ, pos, negℤ, _+ℤ_, _-ℤ_, _*ℤ_}
+use lib.IntN.{ℤ, pos, negℤ, _+ℤ_, _*ℤ_}
 use lib.ListN.{length, length-map}
 use lib.Signed.{_≤ℤ_, _<ℤ_}
 use Rattle.integer.specs.Ring.{ring, reify}
 use Rattle.integer.specs.Linear.{linear, lia, _&_}
-use Rattle.integer.specs.Order.{le-antisym, le-of-eq}
-use Rattle.plane.specs.Point.{Point, point, origin, corner, opposite, _⊕_, _⊖_, _∈_}
-use Rattle.plane.specs.Turn.{turn, cross}
+use Rattle.integer.specs.Order.{le-antisym}
+use Rattle.plane.specs.Point.{Point, point, origin, corner, opposite, _⊕_, _∈_}
+use Rattle.plane.specs.Turn.{turn}
 use Rattle.plane.specs.Shape.{next, IsShape}
 use Rattle.plane.specs.Direction.{value, support, greater}
-use Rattle.plane.specs.Measure.{edgeSquared, height, widthEdge}
+use Rattle.plane.specs.Measure.{edgeSquared, widthEdge}
 use Rattle.plane.specs.Corner.{shapeOf, sums}
 use Rattle.plane.specs.Forms.{NonZero}
 use Rattle.plane.specs.Cut.{quarter, outward}
-use Rattle.plane.specs.theory.lists.Members.{point-path, point-discrete, position-member, member-position, sums-member, sums-some, member-sums}
+use Rattle.plane.specs.theory.lists.Members.{point-discrete, position-member, member-position, sums-member, sums-some, member-sums}
 use Rattle.plane.specs.theory.lists.Next.{next-below}
-use Rattle.plane.specs.theory.forms.Vector.{turn-level, square-positive, positive-non-zero, value-⊕, value-⊖, ⊖-zero}
-use Rattle.plane.specs.theory.support.Support.{value-le-support, support-le, support-unique, support-sums}
-use Rattle.plane.specs.theory.face.Tied.{Tied, after, behind, tied}
+use Rattle.plane.specs.theory.forms.Vector.{turn-level, square-positive, value-⊕}
+use Rattle.plane.specs.theory.support.Support.{value-le-support, support-le, support-sums}
 use Rattle.plane.specs.theory.hull.ShapeOf.{shapeOf-support, shapeOf-shape, shapeOf-corner}
 use Rattle.plane.specs.theory.sum.Positions.{next-left}
 use Rattle.separation.specs.theory.Sector.{value-outward, level-zero, edge-outermost, edge-nonzero}
-use Rattle.measure.specs.theory.Height.{edgeSquared-positive}
 use Rattle.measure.specs.theory.Narrowest.{width-narrowest}
 use Rattle.strips.specs.Strip.{least, spread}
 use Rattle.strips.specs.OwnDirection.{outOf}
@@ -39,7 +37,7 @@ use Rattle.strips.specs.theory.Spread.{spread-above, spread-attained, spread-no
 use Rattle.strips.specs.theory.Edges.{out-squared, out-spread}
 use Rattle.strips.specs.theory.WidthBound.{width-every}
 use Rattle.boxes.specs.Box.{around, halfRound, boxEdge}
-use Rattle.boxes.specs.theory.Least.{fraction-trans, noLarger-le, box-leading}
+use Rattle.boxes.specs.theory.Least.{fraction-trans}
 use Rattle.boxes.specs.theory.Around.{quarter-squared, around-quarter}
 use Rattle.boxes.specs.theory.Across.{NoSmaller, best-long, tied-no-smaller}
 use Rattle.boxes.specs.theory.Level.{Level, few-level}
@@ -130,7 +128,8 @@ module _ (ps : List Point) (s : IsShape ps) (three : 2 < length ps) where
   R-three = go (ltb (length R) 3) refl
     where
       go : (t : Bool) → ltb (length R) 3 ≡ t → 2 < length R
-      go true e = absurd (flat (few-level R shape (omega (arith, ltb-true (length R) 3 e)) (outOf ps 0) (edge-nonzero ps s three 0 (s .some))))
+      go true e = absurd (flat (few-level R shape (omega (arith, ltb-true (length R) 3 e)) (outOf ps 0)
+          (edge-nonzero ps s three 0 (s .some))))
       go false e = ltb-false (length R) 3 e
 
   -- ---- a point of the sum, and where it is furthest
@@ -202,8 +201,9 @@ module _ (ps : List Point) (s : IsShape ps) (three : 2 < length ps) where
             pick : Dec (r .left ≡ t .left) → NoSmaller ps n
             pick (no other) = tied-no-smaller ps s three n (r .left-in) (t .left-in) other long
                 (left-furthest n r top) (left-furthest n t also)
-            pick (yes same) = rw (around-quarter n ps, quarter-squared n) at (tied-no-smaller ps s three (quarter n) (r .right-in) (t .right-in)
-                (λ q. different (r .is ∙ ap₂ (λ (a b : Point). a ⊕ turned b) same q ∙ sym (t .is))) (rw (quarter-squared n) long)
+            pick (yes same) = rw (around-quarter n ps, quarter-squared n) at (tied-no-smaller ps s three (quarter n)
+                (r .right-in) (t .right-in) (λ q. different (r .is ∙ ap₂ (λ (a b : Point). a ⊕ turned b) same q ∙ sym (t .is)))
+                (rw (quarter-squared n) long)
                 (right-furthest n r top) (right-furthest n t also))
 
   pub box-every : (d : Point) → NonZero d → NoSmaller ps d

@@ -1,8 +1,8 @@
 -- The least box: the values that are answered of what the inner function finds.
-use mathlib.Core.Path.{_≡_, refl, sym, subst}
-use mathlib.Core.List.{List, [], _∷_}
+use mathlib.Core.Path.{_≡_, refl, subst}
+use mathlib.Core.List.{[], _∷_}
 use Prim.Native.Nat.{ℕ}
-use lib.IntN.{ℤ, pos}
+use lib.IntN.{pos}
 use Rattle.plane.specs.Measure.{height, edgeSquared}
 use Rattle.plane.specs.Question.{values}
 use Rattle.plane.specs.Floor.{Floored, corners}

@@ -1,7 +1,6 @@
 -- `furthest_from` meets its contract. The invariant: the position is a corner's; the measure is how many steps are left to the corner that
 -- `furthest` finds.
-use mathlib.Core.Path.{_≡_, sym, _∙_}
-use mathlib.Core.Bool.{true, false}
+use mathlib.Core.Path.{sym, _∙_}
 use native.Mathlib.Omega.{arith}
 use borrow.Author.Tests.{not-true, not-false}
 use Prim.Native.Nat.{_<_}

@@ -33,8 +33,8 @@ here-is : (c : tie.After-value-at) → let args = c .before .args in
     toZ w64 (ofZ w64 (c .value-at .result)) ≡ value (at (args .d)) (corner (points (args .list .now)) (args .i))
 here-is c = result-is w64 (c .value-at .ok) (c .value-at .ensures)
 
-next-is : (c : tie.After-value-at2) → let args = c .before .before .before .args in
-    toZ w64 (ofZ w64 (c .value-at2 .result)) ≡ value (at (args .d)) (corner (points (args .list .now)) (next (length (points (args .list .now))) (args .i)))
+next-is : (c : tie.After-value-at2) → let args = c .before .before .before .args in let ps = points (args .list .now) in
+    toZ w64 (ofZ w64 (c .value-at2 .result)) ≡ value (at (args .d)) (corner ps (next (length ps) (args .i)))
 next-is c = result-is w64 (c .value-at2 .ok) (c .value-at2 .ensures)
     ∙ ap (λ i. value (at (c .before .before .before .args .d)) (corner (points (c .before .before .before .args .list .now)) i))
     (c .before .round .ensures .0)

@@ -1,8 +1,6 @@
 -- `along` meets its contract: the two held corners are furthest apart along the edge.
 use mathlib.Core.Path.{_≡_, sym, _∙_, ap₂}
 use Prim.Native.Nat.{_^_}
-use lib.IntN.{pos}
-use lib.Signed.{_≤ℤ_}
 use mir.Syntax.{w64}
 use mir.Val.{toZ, ofZ}
 use Rattle.integer.specs.Machine.{result-is}
@@ -43,9 +41,10 @@ step-requires c κs = (near-small c, far-small c)
 dot-requires : tie.Need-dot-requires
 dot-requires c κs =
     let at-edge = c .before in
-    let pre = at-edge .before .before .before .pre in
-    (small-wide (small-edge _ (pre .valid .inRange) _ _ (pre .edge-in) (next-below _ _ (pre .edge-in)) (at-edge .edge-at .ensures)),
-    small-step (near-small at-edge) (far-small at-edge) (c .step .ensures))
+    let pre = at-edge .before .before .before .pre in (
+      small-wide (small-edge _ (pre .valid .inRange) _ _ (pre .edge-in) (next-below _ _ (pre .edge-in)) (at-edge .edge-at .ensures)),
+      small-step (near-small at-edge) (far-small at-edge) (c .step .ensures),
+    )
 
 along-is : (c : tie.After-dot) → let args = c .before .before .before .before .before .args in
     along (points (args .list .now)) (args .edge) ≡ toZ w64 (ofZ w64 (c .dot .result))
@@ -55,7 +54,8 @@ along-is c =
     let pre = at-edge .before .before .before .pre in
     held-along (pre .holds .far-furthest) (pre .holds .near-furthest)
     ∙ sym (ap₂ value (at-edge .edge-at .ensures)
-    (c .before .step .ensures ∙ ap₂ (λ (p q : Point). p ⊖ q) (at-edge .before .corner-at2 .ensures) (at-edge .before .before .corner-at .ensures)))
+    (c .before .step .ensures ∙ ap₂ (λ (p q : Point). p ⊖ q)
+    (at-edge .before .corner-at2 .ensures) (at-edge .before .before .corner-at .ensures)))
     ∙ sym (result-is w64 (c .dot .ok) (c .dot .ensures))
 
 magnitude-requires : tie.Need-magnitude-requires

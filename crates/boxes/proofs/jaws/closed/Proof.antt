@@ -1,11 +1,9 @@
 -- `closed` meets its contract: each of the three directions is that of the edge, turned.
-use mathlib.Core.Path.{_≡_, sym, subst, _∙_, ap}
+use mathlib.Core.Path.{sym, subst, _∙_, ap}
 use Prim.Native.Nat.{_^_}
-use lib.ListN.{length}
 use Rattle.integer.specs.Bound.{within-neg}
 use Rattle.plane.specs.Cut.{quarter}
-use Rattle.plane.specs.Point.{points, corner, opposite, _⊖_}
-use Rattle.plane.specs.Shape.{next}
+use Rattle.plane.specs.Point.{points, opposite}
 use Rattle.plane.specs.Face.{Furthest}
 use Rattle.plane.specs.theory.lists.Next.{next-below}
 use Rattle.polygon.specs.Point.{at, Small}
@@ -62,7 +60,8 @@ returns c =
     record {
       high-furthest = subst (λ d. Furthest d ps (c .before .before .before .furthest-from .result))
           (c .before .before .before .before .quarter .ensures ∙ ap quarter edge) (c .before .before .before .furthest-from .ensures);
-      far-furthest = subst (λ d. Furthest d ps (c .before .before .furthest-from2 .result)) edge (c .before .before .furthest-from2 .ensures);
+      far-furthest = subst (λ d. Furthest d ps (c .before .before .furthest-from2 .result)) edge
+          (c .before .before .furthest-from2 .ensures);
       near-furthest = subst (λ d. Furthest d ps (c .furthest-from3 .result))
           (c .before .opposite .ensures ∙ ap opposite edge) (c .furthest-from3 .ensures);
     }

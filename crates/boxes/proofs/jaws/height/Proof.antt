@@ -6,11 +6,10 @@ use mir.Val.{toZ, ofZ}
 use lib.Signed.{_≤ℤ_}
 use lib.IntN.{pos}
 use Rattle.integer.specs.Machine.{result-is}
-use Rattle.integer.specs.Order.{weaken}
 use Rattle.plane.specs.Limits.{corners-small}
 use Rattle.plane.specs.Point.{points, corner}
 use Rattle.plane.specs.Turn.{turn}
-use Rattle.plane.specs.Measure.{edgeTurn, height}
+use Rattle.plane.specs.Measure.{edgeTurn}
 use Rattle.plane.specs.theory.sum.Positions.{edge-turn}
 use Rattle.measure.specs.theory.Height.{furthest-height}
 use Rattle.boxes.proofs.Sizes.{below-half}
@@ -29,7 +28,8 @@ turn-at-requires c κs =
     (pre .edge-in, c .round .ensures .1, pre .holds .high-furthest .within, pre .valid .inRange)
 
 told : (c : tie.After-turn-at) → let args = c .before .before .args in let ps = points (args .list .now) in
-    toZ w64 (ofZ w64 (c .turn-at .result)) ≡ turn (corner ps (args .edge)) (corner ps (c .before .round .result)) (corner ps (args .at .high))
+    toZ w64 (ofZ w64 (c .turn-at .result)) ≡
+    turn (corner ps (args .edge)) (corner ps (c .before .round .result)) (corner ps (args .at .high))
 told c = result-is w64 (c .turn-at .ok) (c .turn-at .ensures)
 
 turn-is : (c : tie.After-turn-at) → let args = c .before .before .args in
@@ -52,9 +52,11 @@ magnitude-requires c κs = rw (turn-is c) (not-right c)
 
 returns : tie.Need-returns
 returns c =
-    let start = c .before .before .before in
-    (sym (furthest-height _ _ (start .pre .valid .shape .some) _ (start .pre .holds .high-furthest .has)) ∙ sym (turn-is (c .before))
-    ∙ c .magnitude .ensures, below-half (c .before .turn-at .result) (c .before .turn-at .ok) (c .magnitude .ensures))
+    let start = c .before .before .before in (
+      sym (furthest-height _ _ (start .pre .valid .shape .some) _ (start .pre .holds .high-furthest .has)) ∙ sym (turn-is (c .before))
+          ∙ c .magnitude .ensures,
+      below-half (c .before .turn-at .result) (c .before .turn-at .ok) (c .magnitude .ensures),
+    )
 
 pub height-spec : {M : Type 1} → statement M
 height-spec = tie.close (tie.spec add-round round-requires turn-at-requires magnitude-requires returns)

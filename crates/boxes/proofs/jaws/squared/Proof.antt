@@ -1,6 +1,5 @@
 -- `squared` meets its contract.
 use mathlib.Core.Path.{_≡_, sym, _∙_, ap}
-use Prim.Native.Nat.{_<_}
 use mir.Syntax.{w64}
 use mir.Val.{toZ, ofZ}
 use Rattle.integer.specs.Machine.{result-is}
@@ -25,7 +24,8 @@ dot-requires c κs =
 
 dot-is : (c : tie.After-dot) → let args = c .before .before .args in
     edgeSquared (points (args .list .now)) (args .edge) ≡ toZ w64 (ofZ w64 (c .dot .result))
-dot-is c = edgeSquared-value _ _ ∙ sym (ap (λ (e : Point). value e e) (c .before .edge-at .ensures)) ∙ sym (result-is w64 (c .dot .ok) (c .dot .ensures))
+dot-is c = edgeSquared-value _ _ ∙ sym (ap (λ (e : Point). value e e) (c .before .edge-at .ensures))
+    ∙ sym (result-is w64 (c .dot .ok) (c .dot .ensures))
 
 magnitude-requires : tie.Need-magnitude-requires
 magnitude-requires c κs = rw (result-is w64 (c .dot .ok) (c .dot .ensures)) (value-nonneg _)

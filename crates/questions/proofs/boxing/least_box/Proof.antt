@@ -1,5 +1,4 @@
 -- `least_box` meets its contract: the list is refused, or is flat, or its least box sought.
-use mathlib.Core.List.{[], _∷_}
 use Prim.Native.Nat.{_≤_}
 use native.Mathlib.Omega.{arith}
 use borrow.Author.Needs.{needs}
