@@ -139,6 +139,11 @@ cocklesway_reply cocklesway_area(const int32_t *list, size_t n, uint32_t floor);
  * length q, the width t/sqrt(q) rounded down, floor. Refused 1 to 5, 13, 10. */
 cocklesway_reply cocklesway_width(const int32_t *list, size_t n, uint32_t floor);
 
+/* The least box: of the enclosing rectangles that have a side on an edge, the one of least perimeter. Values: edge, the
+ * greatest turn t of a corner against the edge, the spread s of the corners' values along the edge, the edge's squared
+ * length q, floor. The box's sides are t/sqrt(q) across the edge and s/sqrt(q) along it. Refused 1 to 5, 13, 10. */
+cocklesway_reply cocklesway_box(const int32_t *list, size_t n, uint32_t floor);
+
 /* The first value of a relation. */
 #define COCKLESWAY_APART 0
 #define COCKLESWAY_TOUCHING 1

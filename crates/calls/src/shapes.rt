@@ -4,6 +4,7 @@ ghost use Rattle.plane.specs.Point.{point};
 ghost use Rattle.plane.specs.Floor.{on};
 ghost use Rattle.plane.specs.Question.{reply, output, askJudge, askFurthest, askMirror, askSweep, askLength, askWidth};
 ghost use Rattle.area.specs.Area.{askArea};
+ghost use Rattle.boxes.specs.Box.{askBox};
 ghost use Rattle.reply.specs.Told.{crossed, numbers};
 ghost use Rattle.crossing.specs.LowFloor.{lowFloor};
 use crossing::floors;
@@ -90,4 +91,15 @@ pub extern "C" fn cocklesway_width(list: &[i32], floor: u32) -> Reply
         return floors::barred(list);
     }
     reply::of_width(questions::width(list, floor as u16))
+}
+
+// Answers the edge of the least box, its height, the side along it and the squared edge.
+#[no_mangle]
+pub extern "C" fn cocklesway_box(list: &[i32], floor: u32) -> Reply
+    ensures { λ r. ⌜ numbers r ≡ crossed (reply (lowFloor (askBox (on (now (list .entry)) floor)))) ⌝ }
+{
+    if limits::exceeds_floor(floor) {
+        return floors::barred(list);
+    }
+    reply::of_box(questions::least_box(list, floor as u16))
 }

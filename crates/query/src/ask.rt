@@ -121,6 +121,7 @@ fn told(
         Question::Length => reply::of_length(questions::length(a, f)),
         Question::Area => reply::of_area(questions::area(a, f)),
         Question::Width => reply::of_width(questions::width(a, f)),
+        Question::Box => reply::of_box(questions::least_box(a, f)),
         Question::Relation => reply::of_relation(questions::relation(a, f, b, g)),
         Question::Inside => reply::of_inside(questions::inside(a, f, b, g)),
         Question::Offer => reply::of_offer(separators::offer(a, f, b, g, u(c), v(c))),

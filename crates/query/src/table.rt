@@ -16,6 +16,7 @@ pub enum Question {
     Length,
     Area,
     Width,
+    Box,
     Relation,
     Inside,
     Offer,
@@ -101,7 +102,8 @@ fn on_one(mut found: Entry, word: &[u8]) -> Entry {
     found = row(found, word, b"mirror", Question::Mirror, WRITTEN);
     found = row(found, word, b"length", Question::Length, ONE);
     found = row(found, word, b"area", Question::Area, ONE);
-    row(found, word, b"width", Question::Width, ONE)
+    found = row(found, word, b"width", Question::Width, ONE);
+    row(found, word, b"box", Question::Box, ONE)
 }
 
 // How two shapes stand to each other, whether a third passes between them, and where a drive first meets one.

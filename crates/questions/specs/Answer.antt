@@ -21,6 +21,8 @@ use Rattle.questions.specs.declared.answer.Area.{Area}
 use Rattle.questions.specs.declared.answer.Area.the-variants as Area
 use Rattle.questions.specs.declared.answer.Width.{Width}
 use Rattle.questions.specs.declared.answer.Width.the-variants as Width
+use Rattle.questions.specs.declared.answer.LeastBox.{LeastBox}
+use Rattle.questions.specs.declared.answer.LeastBox.the-variants as LeastBox
 use Rattle.questions.specs.declared.answer.Relation.{Relation}
 use Rattle.questions.specs.declared.answer.Relation.the-variants as Relation
 use Rattle.questions.specs.declared.answer.Inside.{Inside}
@@ -80,6 +82,10 @@ abbrev pub ofWidth : Width → Reply
 ofWidth (Width.Across edge corner turn squared rounded floor) =
     answered (pos edge ∷ pos corner ∷ pos turn ∷ pos squared ∷ pos rounded ∷ pos floor ∷ [])
 ofWidth (Width.No r) = ofRefusal r
+
+abbrev pub ofBox : LeastBox → Reply
+ofBox (LeastBox.At edge height along squared floor) = answered (pos edge ∷ pos height ∷ pos along ∷ pos squared ∷ pos floor ∷ [])
+ofBox (LeastBox.No r) = ofRefusal r
 
 -- 0 apart, 1 touching, 2 overlapping
 abbrev pub ofRelation : Relation → Reply

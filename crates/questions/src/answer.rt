@@ -62,6 +62,19 @@ pub enum Width {
     No(Refusal),
 }
 
+// The edge that has the least box, its greatest turn over the corners, the spread of the corners' values along it, and
+// its squared length.
+pub enum LeastBox {
+    At {
+        edge: usize,
+        height: u64,
+        along: u64,
+        squared: u64,
+        floor: u16,
+    },
+    No(Refusal),
+}
+
 // How two shapes stand to each other.
 pub enum Relation {
     Apart { floor: u16 },

@@ -4,6 +4,7 @@
 // are refused 13 after 1 to 5 of the first and of the second.
 pub mod answer;
 pub mod books;
+mod boxing;
 mod changes;
 mod coordinate;
 mod drives;
@@ -60,6 +61,7 @@ use answer::Sent;
 use answer::Tablet;
 use answer::Tangents;
 use answer::Width;
+pub use boxing::least_box;
 pub use changes::excess;
 use clearance::measured::Distance;
 use coordinate::Coordinate;

@@ -7,7 +7,7 @@ ghost use mathlib.Core.Path.{_≡_};
 ghost use Rattle.questions.specs.Answer.{ofAnswer, ofBegun, ofPart, ofFurthest, ofLength};
 ghost use Rattle.questions.specs.Answer.{ofWidth, ofRelation, ofInside, ofOffer, ofSeparator, ofClearance, ofTangents};
 ghost use Rattle.questions.specs.Answer.{ofArea, ofExcess, ofNearest, ofGap, ofContact, ofPassage, ofTablet};
-ghost use Rattle.questions.specs.Answer.{ofAddition, ofEntry, ofGreatest};
+ghost use Rattle.questions.specs.Answer.{ofAddition, ofEntry, ofGreatest, ofBox};
 ghost use Rattle.reply.specs.Told.{crossed, numbers};
 use questions::answer::Addition;
 use questions::answer::Answer;
@@ -21,6 +21,7 @@ use questions::answer::Furthest;
 use questions::answer::Gap;
 use questions::answer::Greatest;
 use questions::answer::Inside;
+use questions::answer::LeastBox;
 use questions::answer::Length;
 use questions::answer::Nearest;
 use questions::answer::Offer;
@@ -151,6 +152,22 @@ pub fn of_width(answer: Width) -> Reply
             floor as u64,
         ),
         Width::No(refusal) => refusals::of_refusal(refusal),
+    }
+}
+
+// Returns edge, height, along and squared edge.
+pub fn of_box(answer: LeastBox) -> Reply
+    ensures { λ r. ⌜ numbers r ≡ crossed (ofBox answer) ⌝ }
+{
+    match answer {
+        LeastBox::At {
+            edge,
+            height,
+            along,
+            squared,
+            floor,
+        } => numbers::answered5(edge as u64, height, along, squared, floor as u64),
+        LeastBox::No(refusal) => refusals::of_refusal(refusal),
     }
 }
 
