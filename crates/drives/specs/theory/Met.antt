@@ -61,9 +61,10 @@ module _ (b : List ℕ) (cart : Floored) (t u : Point) where
         → (isMet A t u r ≡ true) × NoLater (contact t u (grownOf A r)) g
     unfolding isMet
     met-first g on h =
-        let place = sym (at-place g on) ∙ h in
-        (sym (met-unless-apart t u (grownOf A r) grown-is) ∙ first-meets t u (grownOf A r) grown-is g on place,
-        none-earlier t u (grownOf A r) grown-is g on place)
+        let place = sym (at-place g on) ∙ h in (
+          sym (met-unless-apart t u (grownOf A r) grown-is) ∙ first-meets t u (grownOf A r) grown-is g on place,
+          none-earlier t u (grownOf A r) grown-is g on place,
+        )
 
     pub met-there : isMet A t u r ≡ true → cartMeets A (shape r) t u (contact t u (grownOf A r)) ≡ true
     unfolding isMet
