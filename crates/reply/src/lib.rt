@@ -468,6 +468,23 @@ pub fn of_contact(answer: Contact) -> Reply
     }
 }
 
+// Returns 0 for never; or 1, the name, the fraction of the way, and the millimetres before it.
+pub fn of_drive(answer: Drive) -> Reply
+    ensures { λ r. ⌜ numbers r ≡ crossed (ofDrive answer) ⌝ }
+{
+    match answer {
+        Drive::Never { floor } => numbers::answered2(0, floor as u64),
+        Drive::At {
+            name,
+            numerator,
+            denominator,
+            safe,
+            floor,
+        } => numbers::answered6(1, name as u64, numerator, denominator, safe, floor as u64),
+        Drive::No(refusal) => refusals::of_refusal(refusal),
+    }
+}
+
 // Returns the positions of four lines, of each the one in the first shape before the one in the second.
 pub fn of_tangents(answer: Tangents) -> Reply
     ensures { λ r. ⌜ numbers r ≡ crossed (ofTangents answer) ⌝ }

@@ -101,7 +101,12 @@ same-length c = search needs
 returns-2 : tie.Need-returns-2
 returns-2 c =
     let at-judged = c .before .before in
-    (passes (none-count _ _ (judged at-judged .valid (c .enum-told .given .1))), at-judged .before .before .before .read-at .ensures .1)
+    let at-read = at-judged .before .before .before in
+    let start = at-read .before .before .before .before .before .before in
+    let args = start .args in (
+      passes (none-count (rows start) (isOn (args .floor) (args .log .now) (args .p)) (judged at-judged .valid (c .enum-told .given .1))),
+      at-read .read-at .ensures .1,
+    )
 
 is-current-requires : tie.Need-is-current-requires
 is-current-requires c κs = search needs
