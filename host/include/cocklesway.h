@@ -246,6 +246,13 @@ cocklesway_reply cocklesway_log_nearest(const uint8_t *log, size_t count, const 
  * Refused 1 to 5, 13, 15, 20, then 6, 7 of the grown shapes, one after the other. */
 cocklesway_reply cocklesway_log_gap(const uint8_t *log, size_t count, const int32_t *cart, size_t n, uint32_t floor);
 
+/* Finds the current shape on a floor of a log that a cart meets first on a straight drive from (x, y) to (u, v); of
+ * several at the same place the first in the log. Values: 0, floor if it meets none; or 1, name, n, d, safe, floor: n, d
+ * and safe as those of cocklesway_contact. Refused 1 to 5, 13, 15, 20 if no shape is on the floor, 3 of the places as of
+ * lists 2 and 3, then 6, 7 of the grown shapes, one after the other. */
+cocklesway_reply cocklesway_log_contact(const uint8_t *log, size_t count, const int32_t *cart, size_t n, uint32_t floor,
+                                        int32_t x, int32_t y, int32_t u, int32_t v);
+
 /* Four calls on bytes: x and y of each corner, four bytes to a number, two's complement, the lowest byte first, at any
  * alignment. An output needs eight bytes to a corner. Each answers one number, from its low end:
  *     a byte      the refusal, or 0

@@ -162,6 +162,10 @@ fn of_log(
             reply::of_nearest(near)
         }
         Question::LogGap => reply::of_gap(books::log_gap(log, b, g)),
+        Question::LogContact => {
+            let met = questions::log_contact(log, b, g, u(c), v(c), u(d), v(d));
+            reply::of_drive(met)
+        }
         _ => {
             let packed = books::log_pack(log, run, fields::but(c), room(d));
             reply::of_addition(packed)

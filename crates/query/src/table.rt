@@ -33,6 +33,7 @@ pub enum Question {
     LogEntry,
     LogNearest,
     LogGap,
+    LogContact,
     LogPack,
 }
 
@@ -74,6 +75,8 @@ const LOG_ADDED: u64 = NAMED + 256 * fields::SHAPE + 4096 * fields::ROOM;
 const LOG_LISTED: u64 = fields::BYTES + 16 * fields::POSITION + 256 * fields::ROOM;
 
 const LOG_AROUND: u64 = fields::BYTES + 16 * fields::SHAPE;
+
+const LOG_DRIVEN: u64 = LOG_AROUND + 256 * fields::DIRECTION + 4096 * fields::DIRECTION;
 
 const LOG_NEAREST: u64 = LOG_AROUND + 256 * fields::EXCEPTED;
 
@@ -142,6 +145,7 @@ fn books(mut found: Entry, word: &[u8]) -> Entry {
     found = row(found, word, b"entry", Question::LogEntry, LOG_LISTED);
     found = row(found, word, b"nearest", Question::LogNearest, LOG_NEAREST);
     found = row(found, word, b"gap", Question::LogGap, LOG_AROUND);
+    found = row(found, word, b"drive", Question::LogContact, LOG_DRIVEN);
     row(found, word, b"pack", Question::LogPack, LOG_PACKED)
 }
 
@@ -169,6 +173,7 @@ pub fn form_of(question: Question) -> Form {
         Question::Contact => Form::Contact,
         Question::LogNearest => Form::Nearest,
         Question::LogGap => Form::Gap,
+        Question::LogContact => Form::Contact,
         Question::Parts => Form::Begun,
         Question::Tablet => Form::Bits,
         Question::LogAdd | Question::LogPack => Form::Addition,

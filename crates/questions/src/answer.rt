@@ -260,6 +260,22 @@ pub enum Contact {
     No(Refusal),
 }
 
+// Never, or which shape of a floor a drive meets first: its name, the fraction of the way, and the millimetres before
+// it, rounded down.
+pub enum Drive {
+    Never {
+        floor: u16,
+    },
+    At {
+        name: u16,
+        numerator: u64,
+        denominator: u64,
+        safe: u64,
+        floor: u16,
+    },
+    No(Refusal),
+}
+
 // Blocked, or how a cart may pass straight between two obstacles: the direction across, from the right obstacle to the
 // left one, the values in it between which the cart's origin stays, and the width of that in millimetres, rounded down.
 pub enum Passage {

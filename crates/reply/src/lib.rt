@@ -6,7 +6,7 @@ pub mod refusals;
 ghost use mathlib.Core.Path.{_≡_};
 ghost use Rattle.questions.specs.Answer.{ofAnswer, ofBegun, ofPart, ofFurthest, ofLength};
 ghost use Rattle.questions.specs.Answer.{ofWidth, ofRelation, ofInside, ofOffer, ofSeparator, ofClearance, ofTangents};
-ghost use Rattle.questions.specs.Answer.{ofArea, ofExcess, ofNearest, ofGap, ofContact, ofPassage, ofTablet};
+ghost use Rattle.questions.specs.Answer.{ofArea, ofExcess, ofNearest, ofGap, ofContact, ofPassage, ofTablet, ofDrive};
 ghost use Rattle.questions.specs.Answer.{ofAddition, ofEntry, ofGreatest, ofBox};
 ghost use Rattle.reply.specs.Told.{crossed, numbers};
 use questions::answer::Addition;
@@ -15,6 +15,7 @@ use questions::answer::Area;
 use questions::answer::Begun;
 use questions::answer::Clearance;
 use questions::answer::Contact;
+use questions::answer::Drive;
 use questions::answer::Entry;
 use questions::answer::Excess;
 use questions::answer::Furthest;
@@ -498,6 +499,23 @@ pub fn of_contact(answer: Contact) -> Reply
             floor,
         } => numbers::answered5(1, numerator, denominator, safe, floor as u64),
         Contact::No(refusal) => refusals::of_refusal(refusal),
+    }
+}
+
+// Returns 0 for never; or 1, the name, the fraction of the way, and the millimetres before it.
+pub fn of_drive(answer: Drive) -> Reply
+    ensures { λ r. ⌜ numbers r ≡ crossed (ofDrive answer) ⌝ }
+{
+    match answer {
+        Drive::Never { floor } => numbers::answered2(0, floor as u64),
+        Drive::At {
+            name,
+            numerator,
+            denominator,
+            safe,
+            floor,
+        } => numbers::answered6(1, name as u64, numerator, denominator, safe, floor as u64),
+        Drive::No(refusal) => refusals::of_refusal(refusal),
     }
 }
 

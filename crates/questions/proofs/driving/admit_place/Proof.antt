@@ -9,8 +9,8 @@ use Rattle.integer.specs.Machine.{result-is}
 use Rattle.plane.specs.Reply.{here}
 use Rattle.plane.specs.Refusal.{outside, someOutside}
 use Rattle.admission.specs.theory.Judged.{refuses, passes, turns-away}
-use Rattle.questions.proofs.drives.admit_place.Statement.{statement}
-use Rattle.questions.proofs.drives.admit_place.Tie as tie
+use Rattle.questions.proofs.driving.admit_place.Statement.{statement}
+use Rattle.questions.proofs.driving.admit_place.Tie as tie
 
 outside-requires : tie.Need-outside-requires
 outside-requires c κs = search needs

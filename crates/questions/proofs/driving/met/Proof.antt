@@ -7,8 +7,8 @@ use lib.IntN.{pos}
 use Rattle.plane.specs.Reply.{answered}
 use Rattle.contact.specs.Share.{meetingNumbers}
 use Rattle.contact.specs.declared.drive.Meeting.{Meeting}
-use Rattle.questions.proofs.drives.met.Statement.{statement}
-use Rattle.questions.proofs.drives.met.Tie as tie
+use Rattle.questions.proofs.driving.met.Statement.{statement}
+use Rattle.questions.proofs.driving.met.Tie as tie
 
 enum-told : tie.Need-enum-told
 enum-told c = search needs

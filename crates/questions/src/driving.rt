@@ -1,4 +1,4 @@
-// Where a cart that drives straight first meets an obstacle.
+// Where a cart that drives straight first meets an obstacle, or a shape of a floor.
 ghost use mathlib.Core.Bool.{false};
 ghost use mathlib.Core.Path.{_≡_};
 ghost use mathlib.Core.List.{[], _∷_, _++_};
@@ -12,11 +12,16 @@ ghost use Rattle.polygon.specs.Point.{at};
 ghost use Rattle.admission.specs.Admission.{Judged};
 ghost use Rattle.contact.specs.Contact.{askContact, placeRow};
 ghost use Rattle.contact.specs.Share.{meetingNumbers};
-ghost use Rattle.questions.specs.Answer.{ofContact};
+ghost use Rattle.drives.specs.Drive.{askDrive};
+ghost use Rattle.drives.specs.Search.{foundNumbers};
+ghost use Rattle.questions.specs.Answer.{ofContact, ofDrive};
 use crate::answer::Contact;
+use crate::answer::Drive;
 use crate::answer::Refusal;
 use admission::Admission;
 use contact::drive::Meeting;
+use drives::Soonest;
+use journal::survey::Surveyed;
 use polygon::limits;
 use polygon::point::Point;
 
@@ -85,6 +90,73 @@ fn met(found: Meeting, floor: u16) -> Contact
             denominator,
             safe,
         } => Contact::At {
+            numerator,
+            denominator,
+            safe,
+            floor,
+        },
+    }
+}
+
+// Which of the current shapes of a floor a cart meets first that drives straight from (x, y) to (u, v), without
+// turning. Never; or its name, and what `contact` answers of it: the fraction of the way, and how many millimetres come
+// before, rounded down. On a tie the first in the log is answered. Refused: 1 to 5 of the cart; a log in which some
+// record is bad; 20 if no shape is on the floor; a place out of range, which is list 2 or 3; then 6 and 7 of the grown
+// shapes, shape by shape in the log's order.
+pub fn log_contact(
+    log: &[u8],
+    cart: &[i32],
+    floor: u16,
+    x: i32,
+    y: i32,
+    u: i32,
+    v: i32,
+) -> Drive
+    ensures { λ r. ⌜ ofDrive r
+        ≡ reply (askDrive (now (log .entry)) (on (now (cart .entry)) floor) (point x y) (point u v)) ⌝ }
+{
+    along(log, cart, floor, Point { x, y }, Point { x: u, y: v })
+}
+
+// The same, from the one place to the other.
+fn along(log: &[u8], cart: &[i32], floor: u16, from: Point, to: Point) -> Drive
+    ensures { λ r. ⌜ ofDrive r
+        ≡ reply (askDrive (now (log .entry)) (on (now (cart .entry)) floor) (at from) (at to)) ⌝ }
+{
+    if let Admission::No(refusal) = admission::admit(cart, 1) {
+        return Drive::No(refusal);
+    }
+    if let Surveyed::Bad(place) = journal::survey::survey(log) {
+        return Drive::No(Refusal::Damaged { place });
+    }
+    if drives::floor::is_empty(log, floor) {
+        return Drive::No(Refusal::TooFew);
+    }
+    if let Admission::No(refusal) = admit_place(from, 2) {
+        return Drive::No(refusal);
+    }
+    if let Admission::No(refusal) = admit_place(to, 3) {
+        return Drive::No(refusal);
+    }
+    if let Admission::No(refusal) = gaps::sizes::admit_sizes(log, floor, cart) {
+        return Drive::No(refusal);
+    }
+    reached(drives::first(log, floor, cart, from, to), floor)
+}
+
+// What is met of a floor, as an answer.
+fn reached(found: Soonest, floor: u16) -> Drive
+    ensures { λ r. ⌜ ofDrive r ≡ answered (foundNumbers found ++ (pos floor ∷ [])) ⌝ }
+{
+    match found {
+        Soonest::Never => Drive::Never { floor },
+        Soonest::At {
+            name,
+            numerator,
+            denominator,
+            safe,
+        } => Drive::At {
+            name,
             numerator,
             denominator,
             safe,

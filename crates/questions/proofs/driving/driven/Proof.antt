@@ -2,26 +2,24 @@
 use mathlib.Core.Path.{_≡_, sym, _∙_, ap}
 use mathlib.Core.Bool.{false}
 use mathlib.Core.List.{List, [], _∷_, _++_}
-use native.Mathlib.Omega.{arith}
 use borrow.Author.Needs.{needs}
 use lib.IntN.{ℤ, pos}
-use Rattle.plane.specs.Limits.{maxCoordinate}
-use Rattle.plane.specs.Point.{Point, points}
+use Rattle.plane.specs.Point.{points}
 use Rattle.plane.specs.Refusal.{someOutside}
 use Rattle.plane.specs.Reply.{answered, Row, NoneApply}
 use Rattle.plane.specs.Output.{sizeRows}
 use Rattle.plane.specs.Floor.{Floored, on, Same}
 use Rattle.plane.specs.Question.{Question}
-use Rattle.plane.specs.theory.refusals.Accept.{near→inRange}
-use Rattle.polygon.specs.Point.{at, Small}
+use Rattle.polygon.specs.Point.{at}
 use Rattle.admission.specs.theory.Judged.{refuses-append, refuses-join}
 use Rattle.admission.specs.theory.Door.{shapes-refused, rest-refused}
 use Rattle.growth.specs.Grown.{grown}
 use Rattle.passage.specs.theory.Found.{grown-valid}
 use Rattle.contact.specs.Contact.{placeRow, askContact}
 use Rattle.contact.specs.theory.Replies.{contact-answers}
-use Rattle.questions.proofs.drives.driven.Statement.{statement}
-use Rattle.questions.proofs.drives.driven.Tie as tie
+use Rattle.questions.proofs.Places.{in-range}
+use Rattle.questions.proofs.driving.driven.Statement.{statement}
+use Rattle.questions.proofs.driving.driven.Tie as tie
 
 -- the two shapes, and what is asked of them
 abbrev one : tie.Start → Floored
@@ -52,12 +50,6 @@ grown-fits : (c : tie.After-enum-told4)
     → let start = c .before .before .before .before .before .before .before .before .before .before .before .before in
     NoneApply (rows start)
 grown-fits c = c .before .before .admit-grown .ensures .valid (c .enum-told4 .given .1)
-
--- a place that 3 lets pass
-in-range : (p : Point) → someOutside (p .x ∷ p .y ∷ []) ≡ false → Small maxCoordinate p
-in-range p h =
-    let near = near→inRange (p .x ∷ p .y ∷ []) h in
-    record { small-x = near .near 0 (omega arith); small-y = near .near 1 (omega arith) }
 
 admit-pair-requires : tie.Need-admit-pair-requires
 admit-pair-requires c κs = search needs

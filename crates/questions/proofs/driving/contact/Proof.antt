@@ -6,8 +6,8 @@ use Rattle.plane.specs.Point.{Point, point}
 use Rattle.plane.specs.Floor.{on}
 use Rattle.plane.specs.Question.{reply}
 use Rattle.contact.specs.Contact.{askContact}
-use Rattle.questions.proofs.drives.contact.Statement.{statement}
-use Rattle.questions.proofs.drives.contact.Tie as tie
+use Rattle.questions.proofs.driving.contact.Statement.{statement}
+use Rattle.questions.proofs.driving.contact.Tie as tie
 
 driven-requires : tie.Need-driven-requires
 driven-requires c κs = search needs
