@@ -6,7 +6,7 @@ pub mod refusals;
 ghost use mathlib.Core.Path.{_≡_};
 ghost use Rattle.questions.specs.Answer.{ofAnswer, ofBegun, ofPart, ofFurthest, ofLength};
 ghost use Rattle.questions.specs.Answer.{ofWidth, ofRelation, ofInside, ofOffer, ofSeparator, ofClearance, ofTangents};
-ghost use Rattle.questions.specs.Answer.{ofArea, ofExcess, ofNearest, ofGap, ofContact, ofPassage, ofTablet, ofDrive};
+ghost use Rattle.questions.specs.Answer.{ofArea, ofExcess, ofNearest, ofGap, ofContact, ofDrive, ofPassage, ofTablet};
 ghost use Rattle.questions.specs.Answer.{ofAddition, ofEntry, ofGreatest, ofBox};
 ghost use Rattle.reply.specs.Told.{crossed, numbers};
 use questions::answer::Addition;
