@@ -1,0 +1,7 @@
+-- The theory of rings, which only proves.
+--     Buffers    what a loop has stored, and what is still to come
+--     Steps      the walks of the definitions, one step at a time
+--     Under      all positions are positions of the list
+pub mod Buffers
+pub mod Steps
+pub mod Under
