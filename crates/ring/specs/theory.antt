@@ -2,6 +2,8 @@
 --     Buffers    what a loop has stored, and what is still to come
 --     Steps      the walks of the definitions, one step at a time
 --     Under      all positions are positions of the list
+--     Inward     the test whether a corner turns in, by its parts
 pub mod Buffers
 pub mod Steps
 pub mod Under
+pub mod Inward

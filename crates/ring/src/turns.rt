@@ -56,10 +56,10 @@ fn bends_at(list: &[i32], kept: &[usize], back: bool, j: usize) -> bool
     requires { ⌜ Placed (now list) (now kept) × (j < length (now kept)) ⌝ }
     ensures { λ r. ⌜ r ≡ not (straight
         (corner (points (now (list .entry)))
-            (getD (inSense back (now (kept .entry))) (Ring·previous (length (now (kept .entry))) j) 0))
+        (getD (inSense back (now (kept .entry))) (Ring·previous (length (now (kept .entry))) j) 0))
         (corner (points (now (list .entry))) (getD (inSense back (now (kept .entry))) j 0))
         (corner (points (now (list .entry)))
-            (getD (inSense back (now (kept .entry))) (next (length (now (kept .entry))) j) 0))) ⌝ }
+        (getD (inSense back (now (kept .entry))) (next (length (now (kept .entry))) j) 0))) ⌝ }
 {
     let m = kept.len();
     let a = place(kept, back, previous(m, j));
@@ -85,6 +85,7 @@ fn place(kept: &[usize], back: bool, j: usize) -> usize
 pub fn previous(n: usize, i: usize) -> usize
     requires { ⌜ i < n ⌝ }
     ensures { λ r. ⌜ r ≡ Ring·previous n i ⌝ }
+    ensures { λ r. ⌜ r < n ⌝ }
 {
     if i == 0 { n - 1 } else { i - 1 }
 }

@@ -2,14 +2,14 @@
 --     Coming total rest n l    the first n of the buffer, and then rest, are all
 --     coming-keep              one more was stored, or left out
 --     coming-end, coming-put   nothing is left to come; the first was stored
---     held-less                the last is dropped, or not
-use mathlib.Core.Path.{_≡_, refl, sym, _∙_, ap}
+--     held-less, held-last     the last is dropped, or not; the last, read from the buffer
+use mathlib.Core.Path.{_≡_, refl, sym, _∙_, ap, ap₂}
 use mathlib.Core.Bool.{Bool, true, false, cond}
 use mathlib.Core.List.{List, [], _∷_, _++_, append-assoc, append-nil}
 use Prim.Native.Nat.{ℕ, _+_, _-_, _≤_, _<_}
 use native.Mathlib.Omega.{arith}
-use lib.ListN.{length, take, set}
-use lib.Seq.{length-take-le, take-take, take-suc-set}
+use lib.ListN.{length, getD, take, set}
+use lib.Seq.{length-take-le, take-take, getD-take}
 use Rattle.ring.specs.Round.{optional}
 use Rattle.ring.specs.Places.{Held}
 
@@ -44,3 +44,9 @@ held-less {xs} {l} {n} true h = record {
   fits = omega (arith, h .fits);
 }
 held-less false h = h
+
+-- the last of them, read from the buffer
+pub held-last : {xs l : List ℕ} {n : ℕ} → Held xs n l → 0 < length xs → getD l (n - 1) 0 ≡ getD xs (length xs - 1) 0
+held-last {xs} {l} {n} h some =
+    let e : n - 1 ≡ length xs - 1 = omega (arith, h .counted) in
+    sym (getD-take n l (n - 1) 0 (omega (arith, h .counted))) ∙ ap₂ (λ (m : List ℕ) (i : ℕ). getD m i 0) (h .front) e

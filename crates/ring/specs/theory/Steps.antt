@@ -3,7 +3,7 @@
 --     last-at, closed-at           the last of a list; whether a ring is closed
 --     opened-count, opened-some    how many are left without a closing point
 --     least-below                  the least is one of them
---     walked-step                  one more position on the way round
+--     walked-whole, walked-step    one more position on the way round
 --     clockwise-at                 the turn at the first
 --     sense-length, sense-kept, sense-first, sense-back      a list read as it is or backwards, by position
 --     sense-below                  what is below a bound stays so
@@ -99,6 +99,9 @@ least-at-most g (suc n) = let l = least-below g (suc n) (omega arith) in omega a
 
 pub walked-step : (n s i : ℕ) → i < n → walked n s (n - i) ≡ s ∷ walked n (next n s) (n - (i + 1))
 walked-step n s i h = let e : n - i ≡ suc (n - (i + 1)) = omega arith in ap (walked n s) e
+
+pub walked-whole : (n s : ℕ) → 0 < n → walked n s n ≡ s ∷ walked n (next n s) (n - 1)
+walked-whole n s h = let e : n ≡ suc (n - 1) = omega arith in ap (walked n s) e
 
 pub previous-after : (n j : ℕ) → previous n (j + 1) ≡ j
 previous-after n j =
@@ -200,7 +203,7 @@ pub bends-step : (f : ℕ → Point) (xs : List ℕ) (j : ℕ) → j < length xs
 bends-step f xs j h =
     ap (λ (l : List ℕ). bending f (getD xs (previous (length xs) j) 0) l (getD xs 0 0)) (drop-cons xs j 0 h)
     ∙ ap (λ (c : ℕ). optional (not (straight (f (getD xs (previous (length xs) j) 0)) (f (getD xs j 0)) (f c))) (getD xs j 0)
-      ++ bending f (getD xs j 0) (drop (suc j) xs) (getD xs 0 0)) (after xs j h)
+    ++ bending f (getD xs j 0) (drop (suc j) xs) (getD xs 0 0)) (after xs j h)
     ∙ ap₂ (λ (a k : ℕ). optional (not (straight (f (getD xs (previous (length xs) j) 0)) (f (getD xs j 0))
-      (f (getD xs (next (length xs) j) 0)))) (getD xs j 0) ++ bending f (getD xs a 0) (drop k xs) (getD xs 0 0))
-      (sym (previous-after (length xs) j)) (sym (add-one j))
+    (f (getD xs (next (length xs) j) 0)))) (getD xs j 0) ++ bending f (getD xs a 0) (drop k xs) (getD xs 0 0))
+    (sym (previous-after (length xs) j)) (sym (add-one j))

@@ -84,10 +84,10 @@ loop-again c =
     let is = at-next .next .ensures .0 in
     let rest = differing f to (walked n (next n to) (n - (at-loop .loop .i + 1))) in
     let coming =
-        ap (λ (k : ℕ). differing f from (walked n k (n - at-loop .loop .i))) (sym is)
-        ∙ ap (differing f from) (walked-step n to (at-loop .loop .i) (omega arith))
-        ∙ ap (λ (b : Bool). optional (not b) to ++ rest) (sym (at-same .same-at .ensures)) in (
-      coming-keep _ _ (subst (λ (r : List ℕ). Coming (total start) r (at-loop .loop .count) (at-loop .loop .kept)) coming (at-loop .loop .inv .0))
+    ap (λ (k : ℕ). differing f from (walked n k (n - at-loop .loop .i))) (sym is)
+    ∙ ap (differing f from) (walked-step n to (at-loop .loop .i) (omega arith))
+    ∙ ap (λ (b : Bool). optional (not b) to ++ rest) (sym (at-same .same-at .ensures)) in (
+      coming-keep (not (at-same .same-at .result)) to (subst (λ (r : List ℕ). Coming (total start) r (at-loop .loop .count) (at-loop .loop .kept)) coming (at-loop .loop .inv .0))
           (at-keep .keep .ensures .0) (omega (arith, at-keep .keep .ensures .1, at-keep .keep .ensures .2, room (at-next .before))),
       at-next .next .ensures .1,
       omega (arith, at-keep .keep .ensures .1, at-loop .loop .inv .2),

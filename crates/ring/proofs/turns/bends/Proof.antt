@@ -1,13 +1,14 @@
 -- `bends` meets its contract. The invariant: what is stored, and the corners from j on, are all; the measure is what is left.
 use mathlib.Core.Path.{_≡_, refl, sym, _∙_, ap, ap₂, subst}
-use mathlib.Core.Bool.{Bool}
+use mathlib.Core.Bool.{Bool, not}
 use mathlib.Core.List.{List, [], _++_}
 use Prim.Native.Nat.{ℕ, _+_, _-_, _≤_, _<_, zero-le}
 use native.Mathlib.Omega.{arith}
 use lib.ListN.{length, getD, drop}
 use lib.Seq.{drop-length}
 use Rattle.plane.specs.Point.{points, corner}
-use Rattle.ring.specs.Round.{inSense, optional, bending, bends}
+use Rattle.plane.specs.Shape.{next}
+use Rattle.ring.specs.Round.{inSense, optional, straight, bending, bends}
 use Rattle.ring.specs.Ring.{previous}
 use Rattle.ring.specs.theory.Buffers.{Coming, coming-keep, coming-end}
 use Rattle.ring.specs.theory.Steps.{sense-length, bends-start, bends-step}
@@ -55,7 +56,29 @@ loop-less : tie.Need-loop-less Inv-loop μ-loop
 loop-less c = omega arith
 
 loop-again : tie.Need-loop-again Inv-loop μ-loop
-loop-again c = ?
+loop-again c =
+    let at-keep = c .before .before in
+    let at-place = at-keep .before in
+    let at-bend = at-place .before .before in
+    let at-loop = at-bend .before .before in
+    let start = at-loop .before .before .before in
+    let f = corner (points (start .args .list .now)) in
+    let xs = sense start in
+    let j = at-loop .loop .j in
+    let all = sense-length (start .args .back) (start .args .kept .now) in
+    let inside : j < length xs = omega (arith, all, at-bend .before .loop-test .taken) in
+    let bend = at-bend .bends-at .ensures
+    ∙ ap (λ (n : ℕ). not (straight (f (getD xs (previous n j) 0)) (f (getD xs j 0)) (f (getD xs (next n j) 0)))) (sym all) in
+    let rest = bending f (getD xs (previous (length xs) (j + 1)) 0) (drop (j + 1) xs) (getD xs 0 0) in
+    let coming = bends-step f xs j inside
+    ∙ ap₂ (λ (b : Bool) (x : ℕ). optional b x ++ rest) (sym bend) (sym (at-place .place .ensures)) in (
+      coming-keep (at-bend .bends-at .result) (at-place .place .result)
+          (subst (λ (r : List ℕ). Coming (bends f xs) r (at-loop .loop .count) (at-loop .loop .bent)) coming (at-loop .loop .inv .0))
+          (at-keep .keep .ensures .0) (omega (arith, at-keep .keep .ensures .1, at-keep .keep .ensures .2, room (at-bend .before))),
+      omega (arith, at-keep .keep .ensures .1, at-loop .loop .inv .1),
+      omega (arith, at-bend .before .loop-test .taken),
+      at-keep .keep .ensures .2 ∙ at-loop .loop .inv .3,
+    )
 
 same-length : tie.Need-same-length Inv-loop μ-loop
 same-length c = c .before .loop .inv .3
@@ -67,7 +90,7 @@ returns c =
     let f = corner (points (start .args .list .now)) in
     let xs = sense start in
     let whole : at-loop .loop .j ≡ length xs =
-        omega (arith, c .loop-test .left, at-loop .loop .inv .2, sense-length (start .args .back) (start .args .kept .now)) in
+    omega (arith, c .loop-test .left, at-loop .loop .inv .2, sense-length (start .args .back) (start .args .kept .now)) in
     let over = ap (λ (i : ℕ). drop i xs) whole ∙ drop-length xs in
     coming-end (subst (λ (l : List ℕ). Coming (bends f xs)
     (bending f (getD xs (previous (length xs) (at-loop .loop .j)) 0) l (getD xs 0 0)) (at-loop .loop .count) (at-loop .loop .bent)) over

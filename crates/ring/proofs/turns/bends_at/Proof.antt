@@ -18,9 +18,7 @@ previous-requires : tie.Need-previous-requires
 previous-requires c κs = search needs
 
 place-requires : tie.Need-place-requires
-place-requires c κs =
-    let start = c .before .before in
-    omega (arith, c .previous .ensures, previous-below (length (start .args .kept .now)) (start .args .j) (start .pre .1))
+place-requires c κs = c .previous .ensures .1
 
 next-requires : tie.Need-next-requires
 next-requires c κs = search needs
@@ -43,7 +41,7 @@ module _ (c : tie.After-place3) where
   all = length (begin .args .kept .now)
 
   is-before : c .before .before .before .place .result ≡ sense (previous all (begin .args .j))
-  is-before = c .before .before .before .place .ensures ∙ ap sense (c .before .before .before .before .previous .ensures)
+  is-before = c .before .before .before .place .ensures ∙ ap sense (c .before .before .before .before .previous .ensures .0)
 
   is-after : c .before .place2 .result ≡ sense (next all (begin .args .j))
   is-after = c .before .place2 .ensures ∙ ap sense (c .before .before .next .ensures .0)
