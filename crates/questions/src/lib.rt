@@ -8,6 +8,7 @@ mod changes;
 mod coordinate;
 mod drives;
 mod merging;
+pub mod rings;
 pub mod separators;
 mod sweeping;
 pub mod walk;

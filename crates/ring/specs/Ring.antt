@@ -8,22 +8,25 @@
 --     turnsIn g n i     of three or more corners, corner i does not turn strictly left, or it begins to rise again: it precedes both
 --                       neighbours, and is not the first
 --     inward ps         the first such corner, counted in ringCorners
---     ringRows l        1; 2, a closing point not counted; 3; 4, with the position in the list of the corner before and of the corner
+--     listRows l        1; 2, a closing point not counted; 3; ValidRing l: none of them applies
+--     ringRows l out    these; 4, with the position in the list of the corner before and of the corner that turns in; 8
 --     askRing a out     the question
 -- What it means: `Meaning.antt`.
+use mathlib.Core.Path.{_≡_}
 use mathlib.Core.Bool.{Bool, not, cond, _&&_, _||_}
 use mathlib.Core.List.{List, [], _∷_, _++_, map}
-use Prim.Native.Nat.{ℕ, zero, suc, _-_}
+use Prim.Native.Nat.{ℕ, zero, suc, _-_, _%_, _≤_, _<_}
 use lib.Dec.{eqb, ltb}
 use lib.IntN.{ℤ, pos}
 use lib.ListN.{length, getD}
 use lib.Signed.{ltZ}
+use Rattle.plane.specs.Limits.{maxPoints}
 use Rattle.plane.specs.Point.{Point, points, corner}
 use Rattle.plane.specs.Turn.{turn}
 use Rattle.plane.specs.Shape.{next, precedes}
 use Rattle.plane.specs.Search.{some, first}
 use Rattle.plane.specs.Reply.{Row, row}
-use Rattle.plane.specs.Refusal.{badCount, someOutside}
+use Rattle.plane.specs.Refusal.{badCount, someOutside, InRange}
 use Rattle.plane.specs.Sweep.{tooManyPoints}
 use Rattle.plane.specs.Output.{roomRow}
 use Rattle.plane.specs.Floor.{Floored, corners, noShape}
@@ -81,6 +84,12 @@ inwardRow ps =
 
 abbrev pub listRows : List ℤ → List Row
 listRows l = row 1 (badCount l) (1 ∷ []) ∷ row 2 (tooManyPoints (openRing (points l))) (1 ∷ []) ∷ row 3 (someOutside l) (1 ∷ []) ∷ []
+
+pub record ValidRing (l : List ℤ) : Type 0 where
+  pub paired : length l % 2 ≡ 0
+  pub some : 0 < length (points l)
+  pub few : length (openRing (points l)) ≤ maxPoints
+  pub inRange : InRange l
 
 abbrev pub ringRows : List ℤ → List ℤ → List Row
 ringRows l out = listRows l ++ (inwardRow (points l) ∷ roomRow (ringShape (points l)) out ∷ [])

@@ -3,7 +3,7 @@
 // documents 01 and 02.
 pub mod inward;
 mod places;
-mod turns;
+pub mod turns;
 
 ghost use mathlib.Core.List.{map};
 ghost use mathlib.Core.Path.{_≡_};
@@ -12,9 +12,31 @@ ghost use lib.ListN.{length};
 ghost use Rattle.plane.specs.Point.{points, numbers, corner};
 ghost use Rattle.plane.specs.Refusal.{InRange};
 ghost use Rattle.plane.specs.Output.{overwritten};
-ghost use Rattle.ring.specs.Ring.{openRing, ringCorners};
+ghost use Rattle.admission.specs.Admission.{Judged};
+ghost use Rattle.ring.specs.Ring.{openRing, ringCorners, listRows, ValidRing};
 ghost use Rattle.ring.specs.Places.{Placed, Held};
+use admission::Admission;
+use admission::answer::Refusal;
 use polygon::corners;
+use polygon::limits;
+use polygon::rules;
+
+// Judges the points of a ring: refusals 1 to 3 in their order. A closing point is not counted. A ring is one list, so
+// that the first shape is blamed.
+pub fn admit(list: &[i32]) -> Admission
+    ensures { λ r. ⌜ Judged (ValidRing (now (list .entry))) (listRows (now (list .entry))) r ⌝ }
+{
+    if rules::bad_count(list) {
+        return Admission::No(Refusal::Count { shape: 1 });
+    }
+    if limits::exceeds_points(open_count(list)) {
+        return Admission::No(Refusal::Corners { shape: 1 });
+    }
+    if rules::some_outside(list) {
+        return Admission::No(Refusal::Range { shape: 1 });
+    }
+    Admission::Valid
+}
 
 // Returns how many points a ring has. A closing point, equal to the first, is not counted.
 pub fn open_count(list: &[i32]) -> usize
