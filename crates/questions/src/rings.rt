@@ -34,7 +34,13 @@ pub fn ring(list: &[i32], floor: u16, out: &mut [i32]) -> Answer
 }
 
 // The same of a ring that passed 1 to 3, in lent buffers.
-fn ring_in(list: &[i32], floor: u16, kept: &mut [usize], bent: &mut [usize], out: &mut [i32]) -> Answer
+fn ring_in(
+    list: &[i32],
+    floor: u16,
+    kept: &mut [usize],
+    bent: &mut [usize],
+    out: &mut [i32],
+) -> Answer
     requires { ⌜ ValidRing (now list) × (maxPoints ≤ length (now kept)) × (maxPoints ≤ length (now bent)) ⌝ }
     ensures { λ r. ⌜ (ofAnswer r ≡ reply (askRing (on (now (list .entry)) floor) (now (out .entry))))
         × (now (out .exit) ≡ output (askRing (on (now (list .entry)) floor) (now (out .entry)))) ⌝ }

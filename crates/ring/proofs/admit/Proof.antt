@@ -58,8 +58,10 @@ returns-3 c =
 returns-4 : tie.Need-returns-4
 returns-4 c =
     let at-2 = c .before .before in
-    passes (accepted→ring _ (row-1 (at-2 .before .before .before),
-    (row-2 at-2, (sym (c .before .some-outside .ensures) ∙ c .if3 .left, tt))))
+    passes (accepted→ring _ (
+      row-1 (at-2 .before .before .before),
+      (row-2 at-2, (sym (c .before .some-outside .ensures) ∙ c .if3 .left, tt)),
+    ))
 
 pub admit-spec : {M : Type 1} → statement M
 admit-spec =

@@ -24,6 +24,7 @@ module _ (l : List ℤ) where
 
   pub ring→accepted : ValidRing l → NoneApply (listRows l)
   unfolding tooManyPoints
-  ring→accepted v =
-      (count-good l (v .some) (v .paired),
-      (le-ltb maxPoints (length (openRing (points l))) (v .few), (inRange→near l (v .inRange), tt)))
+  ring→accepted v = (
+    count-good l (v .some) (v .paired),
+    (le-ltb maxPoints (length (openRing (points l))) (v .few), (inRange→near l (v .inRange), tt)),
+  )
