@@ -119,6 +119,12 @@ cocklesway_reply cocklesway_grow(const int32_t *obstacle, size_t n, uint32_t f, 
  * floor. Refused 1 to 3, 13, 8. */
 cocklesway_reply cocklesway_sweep(const int32_t *list, size_t n, uint32_t floor, int32_t *out, size_t room);
 
+/* Writes the standard list with the corners of a ring as people have it: closed by its first point or open, in either
+ * sense, begun anywhere, with neighbours repeated and points in line. Nothing is filled up. Values: how many corners,
+ * floor. Refused 1, 2 (a closing point is not counted), 3, 13, 4 (not convex: 1, the positions in the list of the corner
+ * before and of the corner that turns in), 8. */
+cocklesway_reply cocklesway_ring(const int32_t *list, size_t n, uint32_t floor, int32_t *out, size_t room);
+
 /* The walk for the first part of a sum. Values: edges passed of the first shape, of the second, 1 if over, floor.
  * Refused 1 to 5, 13, 6, 7. */
 cocklesway_reply cocklesway_begin(const int32_t *a, size_t n, uint32_t f, const int32_t *b, size_t m, uint32_t g);

@@ -6,7 +6,7 @@ ghost use Rattle.plane.specs.Question.{reply, output, askJudge, askFurthest, as
 ghost use Rattle.area.specs.Area.{askArea};
 ghost use Rattle.boxes.specs.Box.{askBox};
 ghost use Rattle.reply.specs.Told.{crossed, numbers};
-ghost use Rattle.crossing.specs.LowFloor.{lowFloor};
+ghost use Rattle.crossing.specs.LowFloor.{lowFloor, lowRing};
 use crossing::floors;
 use polygon::limits;
 use reply::Reply;
@@ -58,6 +58,19 @@ pub extern "C" fn cocklesway_sweep(list: &[i32], floor: u32, out: &mut [i32]) ->
         return floors::barred_points(list);
     }
     reply::of_answer(questions::sweep(list, floor as u16, out))
+}
+
+// Writes the standard list with the corners of a ring as people have it, and answers how many they are.
+#[no_mangle]
+pub extern "C" fn cocklesway_ring(list: &[i32], floor: u32, out: &mut [i32]) -> Reply
+    ensures { λ r. ⌜
+        (numbers r ≡ crossed (reply (lowRing (on (now (list .entry)) floor) (now (out .entry)))))
+        × (now (out .exit) ≡ output (lowRing (on (now (list .entry)) floor) (now (out .entry)))) ⌝ }
+{
+    if limits::exceeds_floor(floor) {
+        return floors::barred_ring(list);
+    }
+    reply::of_answer(questions::rings::ring(list, floor as u16, out))
 }
 
 // Answers the greatest squared distance of two corners, and their positions.

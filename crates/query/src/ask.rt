@@ -7,6 +7,7 @@ use crate::table::Entry;
 use crate::table::Question;
 use questions::SHAPE_NUMBERS;
 use questions::books;
+use questions::rings;
 use questions::separators;
 use questions::walk;
 use reply::Reply;
@@ -88,6 +89,7 @@ fn room_of(question: Question, b: &[i32], c: &[i32], d: &[i32]) -> usize {
     match question {
         Question::Mirror => fields::room(b),
         Question::Sweep => fields::room(b),
+        Question::Ring => fields::room(b),
         Question::Part => fields::count(d, 1),
         _ => fields::room(c),
     }
@@ -118,6 +120,7 @@ fn told(
         Question::Merge => reply::of_answer(questions::merge(a, f, b, g, out)),
         Question::Grow => reply::of_answer(questions::grow(a, f, b, g, out)),
         Question::Sweep => reply::of_answer(questions::sweep(a, f, out)),
+        Question::Ring => reply::of_answer(rings::ring(a, f, out)),
         Question::Length => reply::of_length(questions::length(a, f)),
         Question::Area => reply::of_area(questions::area(a, f)),
         Question::Width => reply::of_width(questions::width(a, f)),

@@ -13,6 +13,7 @@ pub enum Question {
     Merge,
     Grow,
     Sweep,
+    Ring,
     Length,
     Area,
     Width,
@@ -132,9 +133,10 @@ fn sums(mut found: Entry, word: &[u8]) -> Entry {
     row(found, word, b"grow", Question::Grow, PAIR_WRITTEN)
 }
 
-// The points of a sweep, and the corner of two readings.
+// The points of a sweep, those of a ring, and the corner of two readings.
 fn others(mut found: Entry, word: &[u8]) -> Entry {
     found = row(found, word, b"sweep", Question::Sweep, WRITTEN);
+    found = row(found, word, b"ring", Question::Ring, WRITTEN);
     row(found, word, b"tablet", Question::Tablet, READINGS)
 }
 
@@ -162,7 +164,7 @@ fn row(found: Entry, word: &[u8], own: &[u8], question: Question, kinds: u64) ->
 pub fn form_of(question: Question) -> Form {
     match question {
         Question::Mirror | Question::Sum | Question::Merge | Question::Grow => Form::Shape,
-        Question::Sweep | Question::Part => Form::Shape,
+        Question::Sweep | Question::Ring | Question::Part => Form::Shape,
         Question::LogRead | Question::LogEntry => Form::Shape,
         Question::Relation => Form::Relation,
         Question::Inside | Question::Offer => Form::YesNo,

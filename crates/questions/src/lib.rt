@@ -10,6 +10,7 @@ mod coordinate;
 mod driving;
 mod merging;
 mod reaches;
+pub mod rings;
 pub mod separators;
 mod sweeping;
 pub mod walk;
