@@ -21,6 +21,8 @@ use Rattle.questions.specs.declared.answer.Area.{Area}
 use Rattle.questions.specs.declared.answer.Area.the-variants as Area
 use Rattle.questions.specs.declared.answer.Width.{Width}
 use Rattle.questions.specs.declared.answer.Width.the-variants as Width
+use Rattle.questions.specs.declared.answer.LeastBox.{LeastBox}
+use Rattle.questions.specs.declared.answer.LeastBox.the-variants as LeastBox
 use Rattle.questions.specs.declared.answer.Relation.{Relation}
 use Rattle.questions.specs.declared.answer.Relation.the-variants as Relation
 use Rattle.questions.specs.declared.answer.Inside.{Inside}
@@ -41,6 +43,8 @@ use Rattle.questions.specs.declared.answer.Excess.{Excess}
 use Rattle.questions.specs.declared.answer.Excess.the-variants as Excess
 use Rattle.questions.specs.declared.answer.Contact.{Contact}
 use Rattle.questions.specs.declared.answer.Contact.the-variants as Contact
+use Rattle.questions.specs.declared.answer.Drive.{Drive}
+use Rattle.questions.specs.declared.answer.Drive.the-variants as Drive
 use Rattle.questions.specs.declared.answer.Passage.{Passage}
 use Rattle.questions.specs.declared.answer.Passage.the-variants as Passage
 use Rattle.questions.specs.declared.answer.Line.{Line}
@@ -80,6 +84,10 @@ abbrev pub ofWidth : Width → Reply
 ofWidth (Width.Across edge corner turn squared rounded floor) =
     answered (pos edge ∷ pos corner ∷ pos turn ∷ pos squared ∷ pos rounded ∷ pos floor ∷ [])
 ofWidth (Width.No r) = ofRefusal r
+
+abbrev pub ofBox : LeastBox → Reply
+ofBox (LeastBox.At edge height along squared floor) = answered (pos edge ∷ pos height ∷ pos along ∷ pos squared ∷ pos floor ∷ [])
+ofBox (LeastBox.No r) = ofRefusal r
 
 -- 0 apart, 1 touching, 2 overlapping
 abbrev pub ofRelation : Relation → Reply
@@ -149,6 +157,12 @@ abbrev pub ofContact : Contact → Reply
 ofContact (Contact.Never floor) = answered (pos 0 ∷ pos floor ∷ [])
 ofContact (Contact.At n d safe floor) = answered (pos 1 ∷ pos n ∷ pos d ∷ pos safe ∷ pos floor ∷ [])
 ofContact (Contact.No r) = ofRefusal r
+
+-- 0 never; or 1, the name, and contact's fraction and safe millimetres
+abbrev pub ofDrive : Drive → Reply
+ofDrive (Drive.Never floor) = answered (pos 0 ∷ pos floor ∷ [])
+ofDrive (Drive.At name n d safe floor) = answered (pos 1 ∷ pos name ∷ pos n ∷ pos d ∷ pos safe ∷ pos floor ∷ [])
+ofDrive (Drive.No r) = ofRefusal r
 
 -- 0 blocked; or 1, the direction, the two lines and the width
 abbrev pub ofPassage : Passage → Reply

@@ -62,6 +62,19 @@ pub enum Width {
     No(Refusal),
 }
 
+// The edge that has the least box, its greatest turn over the corners, the spread of the corners' values along it, and
+// its squared length.
+pub enum LeastBox {
+    At {
+        edge: usize,
+        height: u64,
+        along: u64,
+        squared: u64,
+        floor: u16,
+    },
+    No(Refusal),
+}
+
 // How two shapes relate to each other.
 pub enum Relation {
     Apart { floor: u16 },
@@ -239,6 +252,22 @@ pub enum Contact {
         floor: u16,
     },
     At {
+        numerator: u64,
+        denominator: u64,
+        safe: u64,
+        floor: u16,
+    },
+    No(Refusal),
+}
+
+// Never, or which shape of a floor a drive meets first: its name, the fraction of the way, and the millimetres before
+// it, rounded down.
+pub enum Drive {
+    Never {
+        floor: u16,
+    },
+    At {
+        name: u16,
         numerator: u64,
         denominator: u64,
         safe: u64,

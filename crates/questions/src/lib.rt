@@ -4,11 +4,13 @@
 // are refused 13 after 1 to 5 of the first and of the second.
 pub mod answer;
 pub mod books;
+mod boxing;
 mod changes;
 mod coordinate;
-mod drives;
+mod driving;
 mod merging;
 mod reaches;
+pub mod rings;
 pub mod separators;
 mod sweeping;
 pub mod walk;
@@ -60,10 +62,12 @@ use answer::Sent;
 use answer::Tablet;
 use answer::Tangents;
 use answer::Width;
+pub use boxing::least_box;
 pub use changes::excess;
 use clearance::measured::Distance;
 use coordinate::Coordinate;
-pub use drives::contact;
+pub use driving::contact;
+pub use driving::log_contact;
 use journal::latest::Found;
 use journal::storing;
 use journal::survey::Surveyed;

@@ -21,6 +21,8 @@ const GOOD: &[&str] = &[
      bed = entry | 0F0002000700020001000000FFFFFFFF5A | 0 | 4\n\
      nearest | 0F0002000700020001000000FFFFFFFF5A | @2 cart | 9\n\
      gap | 0F0002000700020001000000FFFFFFFF5A0F0002000800020009000000FFFFFFFF5A | @2 0 0\n",
+    "bed = ring | @2 9 0 9 7 0 7 0 0 4 0 9 0 | 8\nbox | bed\ngreatest | bed | @2 5 6 3 9\n\
+     drive | 0F0002000700020001000000FFFFFFFF5A | @2 0 0 1 0 | -9 -1 | 9 -1\nring | 0 0 4 0 1 1 0 4\n",
 ];
 
 /// Words of lines, good and bad.
@@ -32,13 +34,16 @@ const WORDS: &[&str] = &[
     "at",
     "merge",
     "sweep",
+    "ring",
     "mirror",
     "relation",
     "clearance",
+    "greatest",
     "excess",
     "judge",
     "shapes",
     "width",
+    "box",
     "length",
     "area",
     "tangents",
@@ -56,6 +61,7 @@ const WORDS: &[&str] = &[
     "entry",
     "nearest",
     "gap",
+    "drive",
     "contact",
     "a",
     "b",
