@@ -1,7 +1,7 @@
 //! Who may ask: this program's own page, opened by its address with the token.
 //!
-//! Another site that a browser shows can send requests to this computer too. It cannot read the token, its headers Origin
-//! and Sec-Fetch-Site differ, and a name of its own that leads here (DNS rebinding) is in the header Host.
+//! Another site that a browser shows can send requests to this computer too. It cannot read the token, its headers
+//! Origin and Sec-Fetch-Site differ, and a name of its own that leads here (DNS rebinding) is in the header Host.
 use super::head::{Head, Method};
 use super::outgoing::{Bad, Code};
 use super::token::Token;

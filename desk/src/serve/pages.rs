@@ -11,28 +11,25 @@ pub struct Page {
 
 const SCRIPT: &str = "text/javascript; charset=utf-8";
 
+const fn page(path: &'static str, kind: &'static str, text: &'static str) -> Page {
+    Page { path, kind, text }
+}
+
 /// All files.
+#[rustfmt::skip]
 pub const PAGES: &[Page] = &[
-    Page {
-        path: "",
-        kind: "text/html; charset=utf-8",
-        text: include_str!("../../web/page.html"),
-    },
-    Page {
-        path: "style.css",
-        kind: "text/css; charset=utf-8",
-        text: include_str!("../../web/style.css"),
-    },
-    Page {
-        path: "page.js",
-        kind: SCRIPT,
-        text: include_str!("../../web/page.js"),
-    },
-    Page {
-        path: "icon.svg",
-        kind: "image/svg+xml",
-        text: include_str!("../../web/icon.svg"),
-    },
+    page("", "text/html; charset=utf-8", include_str!("../../web/page.html")),
+    page("style.css", "text/css; charset=utf-8", include_str!("../../web/style.css")),
+    page("icon.svg", "image/svg+xml", include_str!("../../web/icon.svg")),
+    page("ask.js", SCRIPT, include_str!("../../web/ask.js")),
+    page("cart.js", SCRIPT, include_str!("../../web/cart.js")),
+    page("dom.js", SCRIPT, include_str!("../../web/dom.js")),
+    page("drive.js", SCRIPT, include_str!("../../web/drive.js")),
+    page("edit.js", SCRIPT, include_str!("../../web/edit.js")),
+    page("gap.js", SCRIPT, include_str!("../../web/gap.js")),
+    page("page.js", SCRIPT, include_str!("../../web/page.js")),
+    page("scene.js", SCRIPT, include_str!("../../web/scene.js")),
+    page("view.js", SCRIPT, include_str!("../../web/view.js")),
 ];
 
 /// Returns the file at an address.

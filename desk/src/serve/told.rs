@@ -1,31 +1,52 @@
 //! Answers and refusals as JSON: the objects of `cocklesway ask --json`, with their sentences.
-use crate::answer::{Answer, Refused, ask};
-use crate::given::Given;
+use crate::answer::{AboutTwo, Answer, Refused, ask};
+use crate::distance::Distance;
+use crate::given::{Corner, Edge, Given};
 use crate::json::Json;
 use crate::object::object;
 use crate::place::Place;
 use crate::question::Question;
 use crate::report::sentence;
+use crate::sentence::nearest;
 use crate::session::{Event, Outcome};
 
 /// Members of an object.
 pub type Members = Vec<(&'static str, Json)>;
 
-/// Returns what came of a question that is on no line.
+/// Returns what came of a question that is on no line. A distance is also there in words.
 #[must_use]
 pub fn told(outcome: Outcome) -> Json {
-    let event = nowhere(outcome);
-    match object(&event) {
-        Json::Object(members) => {
-            let is_place = |key: &str| key == "file" || key == "line";
-            Json::Object(
-                members
-                    .into_iter()
-                    .filter(|(key, _)| !is_place(key))
-                    .collect(),
-            )
+    let distance = match &outcome {
+        Outcome::Answered { answer, .. } => distance(answer),
+        _ => None,
+    };
+    let Json::Object(mut members) = object(&nowhere(outcome)) else {
+        return Json::Null;
+    };
+    members.retain(|(key, _)| *key != "file" && *key != "line");
+    members.extend(distance.map(|distance| ("distance", distance.to_string().into())));
+    Json::Object(members)
+}
+
+/// How near two shapes are, how much room a cart has, or how far it comes.
+fn distance(answer: &Answer) -> Option<Distance> {
+    match answer {
+        Answer::Two(pair, AboutTwo::Clearance(found)) => {
+            nearest(pair, *found).map(|(distance, _)| distance)
         }
-        other => other,
+        Answer::Passage(_, found) => {
+            let way = found.way?;
+            let squared = way.across.map(|part| u64::from(part.unsigned_abs()).pow(2));
+            let turn = way.low.abs_diff(way.high);
+            Some(Distance::of_turn(turn, squared.iter().sum(), way.width))
+        }
+        Answer::Contact(drive, found) => {
+            let meeting = found.meeting?;
+            let way = Edge(Corner(drive.from), Corner(drive.to));
+            let part = [meeting.numerator, meeting.denominator];
+            Some(Distance::of_part(part, way.squared(), meeting.safe))
+        }
+        _ => None,
     }
 }
 

@@ -180,7 +180,11 @@ fn changed_files_read_back() {
         let file = dice.pick(FILES);
         let changes: Vec<Change> = ["a", "b", "bed", "wall"]
             .iter()
-            .filter_map(|name| (dice.below(2) == 0).then(|| change(&mut dice, name)))
+            .filter(|_| dice.below(2) == 0)
+            .copied()
+            .collect::<Vec<&str>>()
+            .into_iter()
+            .map(|name| change(&mut dice, name))
             .collect();
         let source = Source {
             name: "f".into(),

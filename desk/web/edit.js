@@ -1,0 +1,258 @@
+// The tool Edit: a shape corner by corner. At once it is said whether it is one, why not, and which answers change.
+import { ask, Latest } from "./ask.js";
+import { badge, button, choice, draw, el, millimetres } from "./dom.js";
+import { outline } from "./scene.js";
+import { stepChoice, WORDS } from "./cart.js";
+
+export class Edit {
+  constructor(app) {
+    Object.assign(this, { app, name: null, corners: [], chosen: 0, judged: null, compared: [] });
+    this.latest = new Latest("judge", (answer, wish, keep) => this.answered(answer, wish, keep), app.failed);
+  }
+
+  // Takes up a shape of the floor.
+  take(name) {
+    const shape = this.app.all().find((one) => one.name === name && !one.made);
+    this.name = shape ? name : null;
+    this.corners = shape ? shape.corners.map((corner) => [...corner]) : [];
+    this.chosen = Math.min(this.chosen, Math.max(0, this.corners.length - 1));
+    this.judged = null;
+    this.compared = [];
+    if (shape) this.ask(false);
+    this.app.drawAll();
+    this.app.panel();
+  }
+
+  pick(name) {
+    this.chosen = 0;
+    this.take(name);
+  }
+
+  ask(keep) {
+    if (!this.name) return;
+    const { floor, changes } = this.app;
+    this.latest.wish({ name: this.name, floor, corners: this.corners, changes }, keep);
+  }
+
+  answered(answer, wish, keep) {
+    if (wish.name !== this.name) return;
+    this.judged = answer;
+    if (answer.accepted && keep) this.keep(answer);
+    else this.compare();
+    this.app.draw();
+    this.app.panel();
+  }
+
+  // An accepted shape becomes a change of the map. Its list may begin at another corner then.
+  keep({ corners }) {
+    const chosen = String(this.corners[this.chosen]);
+    this.corners = corners;
+    this.chosen = Math.max(0, corners.findIndex((corner) => String(corner) === chosen));
+    this.app.change({ name: this.name, floor: this.app.floor, corners }).then(() => this.compare());
+  }
+
+  set(corners, keep) {
+    this.corners = corners;
+    this.chosen = Math.min(this.chosen, Math.max(0, corners.length - 1));
+    this.ask(keep);
+    this.app.draw();
+    if (keep) this.app.panel();
+  }
+
+  moved(k, corner, keep) {
+    const bound = (part) => Math.max(-1e6, Math.min(1e6, part));
+    this.set(this.corners.map((other, position) => (position === k ? corner.map(bound) : other)), keep);
+  }
+
+  insert(k) {
+    const [a, b] = [this.corners[k], this.corners[(k + 1) % this.corners.length]];
+    const [dx, dy] = [b[0] - a[0], b[1] - a[1]];
+    // A little outwards, since a corner in line with its neighbours is none.
+    const out = Math.max(1, Math.hypot(dx, dy) / 10) / (Math.hypot(dx, dy) || 1);
+    const between = [(a[0] + b[0]) / 2 + dy * out, (a[1] + b[1]) / 2 - dx * out].map(Math.round);
+    this.chosen = k + 1;
+    this.set(this.corners.toSpliced(k + 1, 0, between), true);
+  }
+
+  remove(k) {
+    if (this.corners.length > 1) this.set(this.corners.toSpliced(k, 1), true);
+  }
+
+  grip(event) {
+    const handle = event.target.closest(".corner");
+    if (!handle) return null;
+    const k = Number(handle.dataset.corner);
+    this.chosen = k;
+    this.app.panel();
+    const { view, step } = this.app;
+    const snap = (part) => Math.round(part / step) * step;
+    const move = (pixel) => this.moved(k, view.under(pixel).map(snap), false);
+    const end = () => this.ask(true);
+    return { move, end };
+  }
+
+  key(event, [dx, dy]) {
+    const corner = this.corners[this.chosen];
+    if (!this.name || !corner) return false;
+    this.moved(this.chosen, [corner[0] + dx, corner[1] + dy], true);
+    return true;
+  }
+
+  draw() {
+    if (!this.name) return [];
+    const { view } = this.app;
+    const refused = this.judged && !this.judged.accepted;
+    const parts = [outline(view, this.corners, { class: refused ? "draft refused" : "draft" })];
+    if (refused) parts.push(...this.broken(this.judged.judge.refused));
+    const handles = this.corners.map((corner, k) => {
+      const [cx, cy] = view.at(corner);
+      const label = `corner ${k + 1} at ${corner.join(", ")}`;
+      const look = k === this.chosen ? "corner chosen" : "corner";
+      return draw("g", { class: look, "data-corner": k, "aria-label": label },
+        draw("circle", { cx, cy, r: 11, class: "hit" }), draw("circle", { cx, cy, r: 6.5, class: "knob" }),
+        draw("text", { x: cx + 9, y: cy - 8 }, String(k + 1)));
+    });
+    return [...parts, ...handles];
+  }
+
+  // The edge and the corner that break the rule, as the refusal names them.
+  broken({ edge, corner }) {
+    if (edge === undefined) return [];
+    const { view } = this.app;
+    const ends = [this.corners[edge], this.corners[(edge + 1) % this.corners.length]];
+    const [x, y] = view.at(this.corners[corner] ?? ends[0]);
+    return [
+      draw("polyline", { points: view.points(ends), class: "broken" }),
+      draw("circle", { cx: x, cy: y, r: 14, class: "broken" }),
+    ];
+  }
+
+  panel() {
+    const names = this.app.all().filter((shape) => !shape.made).map((shape) => shape.name);
+    const take = el("label", {}, "Obstacle", choice("obstacle", names, this.name, (name) => this.pick(name), "pick one"));
+    const create = button("New obstacle", () => this.create());
+    if (!this.name) {
+      const hint = "Pick an obstacle on the floor, or by its name, and drag its corners.";
+      return [el("p", { class: "hint" }, hint), el("div", { class: "row" }, take, create)];
+    }
+    return [
+      ...this.said(),
+      el("div", { class: "row" }, take, stepChoice(this.app)),
+      this.table(),
+      el("div", { class: "row" }, create,
+        button("Remove it", () => this.takeOff()),
+        button("As in the file", () => this.app.revert(this.name), { disabled: !this.app.isChanged(this.name) })),
+      ...this.effects(),
+    ];
+  }
+
+  said() {
+    if (!this.judged) return [];
+    const { accepted, judge, turned } = this.judged;
+    const title = accepted ? "A shape" : "Not a shape: not applied";
+    const note = turned ? el("p", { class: "hint" }, "Its list begins at its lowest corner again.") : null;
+    return [badge(accepted ? "yes" : "refused", title, this.name), el("p", { class: "said" }, judge.sentence), note];
+  }
+
+  table() {
+    const row = (corner, k) => {
+      const part = (axis, at) => millimetres(`${axis} of corner ${k + 1}`, corner[at], (number) => {
+        this.chosen = k;
+        this.moved(k, this.corners[k].with(at, number), true);
+      });
+      const look = { class: k === this.chosen ? "chosen" : null, onfocusin: () => this.choose(k) };
+      const add = button("+", () => this.insert(k), { title: "A corner after this one", "data-key": `add ${k}` });
+      const away = button("−", () => this.remove(k), { title: "Take this corner away", "data-key": `away ${k}` });
+      return el("tr", look, el("th", { scope: "row" }, String(k + 1)), el("td", {}, part("x", 0)),
+        el("td", {}, part("y", 1)), el("td", {}, add, away));
+    };
+    const head = el("tr", {}, ...["", "x in mm", "y in mm", ""].map((text) => el("th", { scope: "col" }, text)));
+    return el("table", { class: "corners" }, head, ...this.corners.map(row));
+  }
+
+  choose(k) {
+    if (this.chosen === k) return;
+    this.chosen = k;
+    this.app.draw();
+  }
+
+  create() {
+    const names = new Set(this.app.map.floors.flatMap((floor) => [...floor.shapes, ...floor.refused]).map((one) => one.name));
+    let number = 1;
+    while (names.has(`new-${number}`)) number += 1;
+    const [x, y] = [this.app.view.x, this.app.view.y].map((part) => Math.round(part / 100) * 100);
+    const half = Math.max(100, Math.round(40 / this.app.view.scale / 100) * 100);
+    this.name = `new-${number}`;
+    this.chosen = 0;
+    this.set([[x - half, y - half], [x + half, y - half], [x + half, y + half], [x - half, y + half]], true);
+  }
+
+  takeOff() {
+    const name = this.name;
+    this.take(null);
+    this.app.change({ name, floor: this.app.floor, corners: [] });
+  }
+
+  // What the page shows, asked of the map of the file and of the changed one.
+  async compare() {
+    const { judged, name } = this;
+    if (!judged?.accepted) return;
+    const wish = this.app.changes.filter((change) => change.name !== name);
+    const changes = [...wish, { name, floor: this.app.floor, corners: judged.corners }];
+    try {
+      const [before, after] = await Promise.all([shown(this.app, []), shown(this.app, changes)]);
+      if (this.judged !== judged) return;
+      this.compared = before.map((row, k) => ({ ...row, after: after[k] }));
+      this.app.panel();
+    } catch (error) {
+      if (error.name === "ended") this.app.failed(error);
+    }
+  }
+
+  effects() {
+    const { judged } = this;
+    if (!judged?.accepted) return [];
+    const { grows, shrinks, before, after, answers, same } = judged;
+    const rows = [];
+    if (before || after) rows.push(difference("Nearest to it", before?.sentence, after?.sentence));
+    rows.push(...this.compared.map((row) => difference(row.what, row.said, row.after.said)));
+    rows.push(...answers.map((row) => difference(`Line ${row.before.line} of the file`, row.before.sentence, row.after.sentence)));
+    const reach = [grows?.sentence, shrinks?.sentence].filter((text) => text).map((text) => el("p", { class: "said" }, text));
+    const room = grows && !grows.inside ? `No gap to ${this.name} is more than ${grows.up} mm narrower than in the file.` : null;
+    const rest = same ? `${same} of the file's answers stay as they are.` : null;
+    const notes = [room, rest].filter((text) => text).map((text) => el("p", { class: "hint" }, text));
+    return [el("h2", {}, "Compared with the file"), ...reach, ...rows, ...notes];
+  }
+}
+
+// The answers that the page shows: of the cart, the gap and the drive.
+async function shown(app, changes) {
+  const { cart, floor, tools } = app;
+  const rows = [];
+  if (cart && tools.cart.at) {
+    const answer = await ask("place", { cart, floor, at: tools.cart.at, changes });
+    const said = [WORDS[answer.state], ...(answer.near ?? []).map((near) => near.sentence)].join(": ");
+    rows.push({ what: `${cart} at (${tools.cart.at.join(", ")})`, said });
+  }
+  const [a, b] = tools.gap.picked;
+  if (b) {
+    const answer = await ask("pair", { a, b, cart, changes }).catch(() => null);
+    const said = answer ? [answer.clearance.sentence, answer.passage?.sentence].filter((text) => text).join("; ") : "gone";
+    rows.push({ what: `Gap of ${a} and ${b}`, said });
+  }
+  if (cart && tools.drive.places.length > 1) {
+    const { legs } = await ask("drive", { cart, floor, places: tools.drive.places, changes });
+    legs.forEach((leg, k) => rows.push({ what: `Leg ${k + 1} of the drive`, said: leg.contact?.sentence ?? leg.sentence }));
+  }
+  return rows;
+}
+
+// An answer before and after; one that stays is said once.
+function difference(what, before, after) {
+  const stays = before === after;
+  const tag = el("span", { class: stays ? "tag" : "tag differs" }, stays ? "stays" : "changes");
+  const head = el("div", { class: "what" }, what, tag);
+  if (stays) return el("div", { class: "difference stays" }, head, el("p", { class: "said" }, after ?? "nothing"));
+  return el("div", { class: "difference" }, head,
+    el("p", { class: "said was" }, before ?? "nothing"), el("p", { class: "said now" }, after ?? "nothing"));
+}

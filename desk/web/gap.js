@@ -1,0 +1,96 @@
+// The tool Gap: two shapes, how near they are, and whether the cart passes straight between them.
+import { badge, button, choice, el, lines } from "./dom.js";
+import { Latest } from "./ask.js";
+import { ends, gapLine } from "./scene.js";
+
+const RELATIONS = { apart: "Apart", touching: "Touching", overlapping: "Overlapping" };
+
+export class Gap {
+  constructor(app) {
+    Object.assign(this, { app, picked: [], answer: null });
+    this.latest = new Latest("pair", (answer) => this.answered(answer), app.failed);
+  }
+
+  ask() {
+    const names = new Set(this.app.shapes().map((shape) => shape.name));
+    this.picked = this.picked.filter((name) => names.has(name));
+    if (this.picked.length < 2) {
+      this.answer = null;
+      this.latest.drop();
+      return;
+    }
+    const [a, b] = this.picked;
+    this.latest.wish({ a, b, cart: this.app.cart, changes: this.app.changes });
+  }
+
+  answered(answer) {
+    this.answer = answer;
+    this.app.draw();
+    this.app.panel();
+  }
+
+  // The third shape that is picked takes the place of the first.
+  pick(name) {
+    if (this.picked.includes(name)) this.picked = this.picked.filter((other) => other !== name);
+    else this.picked = [...this.picked, name].slice(-2);
+    this.changed();
+  }
+
+  set(position, name) {
+    const both = [this.picked[0], this.picked[1]];
+    both[position] = name;
+    this.picked = [...new Set(both.filter((one) => one))];
+    this.changed();
+  }
+
+  changed() {
+    this.answer = null;
+    this.ask();
+    this.app.drawAll();
+    this.app.panel();
+  }
+
+  draw() {
+    const both = this.answer && ends(this.answer.clearance);
+    return both ? [gapLine(this.app.view, both, this.answer.clearance.distance)] : [];
+  }
+
+  panel() {
+    const names = this.app.shapes().map((shape) => shape.name);
+    const pick = (position, label) =>
+      el("label", {}, label, choice(label, names, this.picked[position], (name) => this.set(position, name), "pick one"));
+    return [
+      ...this.said(),
+      el("div", { class: "row" }, pick(0, "from"), pick(1, "to")),
+      this.picked.length ? button("Pick others", () => this.clear()) : null,
+      lines(this.answer),
+    ];
+  }
+
+  clear() {
+    this.picked = [];
+    this.changed();
+  }
+
+  said() {
+    if (!this.answer) {
+      return [el("p", { class: "hint" }, "Pick two shapes on the floor, or by their names.")];
+    }
+    const { relation, clearance, passage } = this.answer;
+    const word = relation.relation;
+    const state = word === "apart" ? "free" : word ?? "refused";
+    const title = word === "apart" ? clearance.distance : RELATIONS[word] ?? "Refused";
+    const said = [badge(state, title, `${this.picked.join(" and ")}`)];
+    said.push(el("p", { class: "said" }, word === "apart" ? clearance.sentence : relation.sentence));
+    if (passage) said.push(...this.passage(passage));
+    return said;
+  }
+
+  passage(passage) {
+    const passes = passage.passable;
+    const title = passage.refused ? "Refused" : passes ? `${this.app.cart} passes` : `${this.app.cart} does not pass`;
+    const state = passage.refused ? "refused" : passes ? "yes" : "no";
+    const detail = passes ? `${passage.distance} to spare, straight and unturned` : "straight and unturned";
+    return [badge(state, title, detail), el("p", { class: "said" }, passage.sentence)];
+  }
+}
