@@ -61,13 +61,15 @@ export class Cart {
   }
 
   // The solid cart is where it was answered; while an answer is awaited, an outline without a state goes ahead.
-  draw() {
+  // Bare, it is in the way of nothing.
+  draw(isBare) {
     const { view, cart, floor } = this.app;
     const own = this.answer?.cart === cart && this.answer?.floor === floor ? this.answer : null;
     const state = own?.state ?? "refused";
     const parts = [];
     if (own?.corners) {
       parts.push(outline(view, own.corners, { class: `cart ${state}` }));
+      if (isBare) return draw("g", { class: "cart-group" }, ...parts);
       parts.push(...this.near(own));
       const [cx, cy] = view.at(own.at);
       parts.push(draw("circle", { cx, cy, r: 5, class: "origin" }), draw("circle", { cx, cy, r: 1.5, class: "dot" }));

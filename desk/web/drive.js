@@ -59,8 +59,8 @@ export class Drive {
     return { move };
   }
 
-  draw() {
-    const parts = this.legs.map((leg) => this.leg(leg));
+  draw(isBare) {
+    const parts = this.legs.map((leg) => this.leg(leg, isBare));
     const stops = this.places.map((place, k) => {
       const [cx, cy] = this.app.view.at(place);
       return draw("g", { class: "stop", "data-stop": k },
@@ -69,7 +69,7 @@ export class Drive {
     return [...parts, ...stops];
   }
 
-  leg(leg) {
+  leg(leg, isBare) {
     const { view } = this.app;
     const parts = [];
     if (leg.swept) parts.push(outline(view, leg.swept, { class: `swept ${leg.state}` }));
@@ -81,7 +81,7 @@ export class Drive {
     parts.push(line(leg.from, stop, leg.state === "refused" ? "rest" : "clear"));
     if (leg.state === "meets") {
       parts.push(line(stop, leg.to, "rest"), ...this.cross(leg, stop));
-    } else if (leg.near && ends(leg.near)) {
+    } else if (!isBare && leg.near && ends(leg.near)) {
       parts.push(gapLine(view, ends(leg.near), leg.near.distance));
     }
     return draw("g", {}, ...parts);

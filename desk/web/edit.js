@@ -135,9 +135,11 @@ export class Edit {
       const hint = "Pick an obstacle on the floor, or by its name, and drag its corners.";
       return [el("p", { class: "hint" }, hint), el("div", { class: "row" }, take, create)];
     }
+    const refused = this.judged && !this.judged.accepted;
     return [
       ...this.said(),
-      el("div", { class: "row" }, take, stepChoice(this.app)),
+      refused ? button("Reverse the order", () => this.set(this.corners.toReversed(), true)) : null,
+      el("div", { class: "row" }, take, this.isNew() ? this.naming() : null, stepChoice(this.app)),
       this.table(),
       el("div", { class: "row" }, create,
         button("Remove it", () => this.takeOff()),
@@ -187,6 +189,32 @@ export class Edit {
     this.set([[x - half, y - half], [x + half, y - half], [x + half, y + half], [x - half, y + half]], true);
   }
 
+  // Whether the file has no such name.
+  isNew() {
+    return this.app.isChanged(this.name) && !this.app.names.has(this.name);
+  }
+
+  naming() {
+    const onchange = (event) => this.rename(event.target.value.trim());
+    const input = el("input", { type: "text", value: this.name, maxlength: 64, "data-key": "name", onchange });
+    return el("label", {}, "Name", input);
+  }
+
+  async rename(to) {
+    const { name } = this;
+    if (!to || to === name || this.app.names.has(to) || this.app.isChanged(to)) return this.app.panel();
+    const change = { name: to, floor: this.app.floor, corners: this.corners };
+    try {
+      await ask("judge", { ...change, changes: [] });
+      this.name = to;
+      await this.app.change(change, name);
+      this.take(to);
+    } catch (error) {
+      this.app.failed(error);
+      this.app.panel();
+    }
+  }
+
   takeOff() {
     const name = this.name;
     this.take(null);
@@ -214,13 +242,14 @@ export class Edit {
     if (!judged?.accepted) return [];
     const { grows, shrinks, before, after, answers, same } = judged;
     const rows = [];
-    if (before || after) rows.push(difference("Nearest to it", before?.sentence, after?.sentence));
+    if (before || after) rows.push(difference("Nearest to it", grows ? before?.sentence ?? "nothing" : null, after?.sentence));
     rows.push(...this.compared.map((row) => difference(row.what, row.said, row.after.said)));
     rows.push(...answers.map((row) => difference(`Line ${row.before.line} of the file`, row.before.sentence, row.after.sentence)));
     const reach = [grows?.sentence, shrinks?.sentence].filter((text) => text).map((text) => el("p", { class: "said" }, text));
     const room = grows && !grows.inside ? `No gap to ${this.name} is more than ${grows.up} mm narrower than in the file.` : null;
     const rest = same ? `${same} of the file's answers stay as they are.` : null;
     const notes = [room, rest].filter((text) => text).map((text) => el("p", { class: "hint" }, text));
+    rows.sort((a, b) => a.classList.contains("stays") - b.classList.contains("stays"));
     return [el("h2", {}, "Compared with the file"), ...reach, ...rows, ...notes];
   }
 }
@@ -247,12 +276,12 @@ async function shown(app, changes) {
   return rows;
 }
 
-// An answer before and after; one that stays is said once.
-function difference(what, before, after) {
+// An answer before and after. One that stays is said once, and so is one of a new shape, which has no before.
+function difference(what, before, after = "nothing") {
   const stays = before === after;
-  const tag = el("span", { class: stays ? "tag" : "tag differs" }, stays ? "stays" : "changes");
-  const head = el("div", { class: "what" }, what, tag);
-  if (stays) return el("div", { class: "difference stays" }, head, el("p", { class: "said" }, after ?? "nothing"));
-  return el("div", { class: "difference" }, head,
-    el("p", { class: "said was" }, before ?? "nothing"), el("p", { class: "said now" }, after ?? "nothing"));
+  const word = stays ? "stays" : before === null ? "new" : "changes";
+  const head = el("div", { class: "what" }, what, el("span", { class: stays ? "tag" : "tag differs" }, word));
+  if (stays) return el("div", { class: "difference stays" }, head, el("p", { class: "said" }, after));
+  const was = before === null ? null : el("p", { class: "said was" }, before);
+  return el("div", { class: "difference" }, head, was, el("p", { class: "said now" }, after));
 }

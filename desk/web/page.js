@@ -41,6 +41,9 @@ class App {
 
   async start() {
     await this.load();
+    if (!this.map) return;
+    const things = this.map.floors.flatMap((floor) => [...floor.shapes, ...floor.refused]);
+    this.names = new Set([...things, ...this.carts()].map((one) => one.name));
     this.cart = this.carts()[0]?.name ?? null;
     this.show(this.map.floors[0]?.number ?? 0);
     document.body.dataset.ready = "yes";
@@ -50,6 +53,7 @@ class App {
   async load() {
     try {
       this.map = await ask("map", { changes: this.changes });
+      find("ended").hidden = true;
       this.heads();
     } catch (error) {
       this.trouble(error);
@@ -104,10 +108,13 @@ class App {
   }
 
   // A change of the map, which can be undone.
-  async change(change) {
+  async change(change, instead = change.name) {
     this.done.push(this.changes);
     this.undone = [];
-    this.changes = [...this.changes.filter((other) => other.name !== change.name), change];
+    const others = this.changes.filter((other) => other.name !== instead);
+    // What was never in the file is taken off by leaving it out.
+    const isGone = change.corners.length === 0 && !this.names.has(change.name);
+    this.changes = isGone ? others : [...others, change];
     await this.refresh();
   }
 
@@ -145,7 +152,7 @@ class App {
     const banner = find("ended");
     banner.hidden = false;
     banner.textContent = error.message;
-    banner.classList.toggle("ended", error.name === "ended");
+    if (error.name === "ended") document.body.classList.add("ended");
   }
 
   // File, floors, cart, tools and what is wrong with the map.
@@ -170,9 +177,9 @@ class App {
   problems() {
     const { problems } = this.map;
     const text = ({ line, sentence }) => el("li", {}, el("b", {}, `line ${line}: `), sentence);
-    const count = problems.length === 1 ? "One line of the map is" : `${problems.length} lines of the map are`;
+    const [one, many] = ["One line is left out, and no answer counts it", `${problems.length} lines are left out, and no answer counts them`];
     find("problems").hidden = problems.length === 0;
-    fill(find("problems"), badge("refused", "The map is not whole", `${count} left out, and no answer counts them`),
+    fill(find("problems"), badge("refused", "The map is not whole", problems.length === 1 ? one : many),
       el("ul", {}, ...problems.map(text)));
   }
 
@@ -184,7 +191,7 @@ class App {
     fill(find("tools"), TOOLS.map(tab));
     const tool = find("tool");
     tool.dataset.tool = this.tool;
-    fill(tool, el("h2", { class: "only-print" }, `Floor ${this.floor}`), this.tools[this.tool].panel());
+    fill(tool, this.tools[this.tool].panel());
     const row = ({ line, sentence }) => el("li", {}, el("b", {}, `line ${line}: `), sentence);
     const { answers } = this.map;
     fill(find("file-answers"), answers.length ? [el("h2", {}, "Answers of the file"), el("ul", {}, ...answers.map(row))] : []);
@@ -209,11 +216,11 @@ class App {
   draw() {
     const { tool, tools } = this;
     find("plan").dataset.tool = tool;
-    const carts = this.cart && (tool === "cart" || tool === "drive" || tool === "edit") ? [tools.cart.draw()] : [];
+    const carts = this.cart && (tool === "cart" || tool === "drive" || tool === "edit") ? [tools.cart.draw(tool !== "cart")] : [];
     const held = find("carts").contains(document.activeElement);
     find("carts").replaceChildren(...carts);
     if (held) find("carts").firstElementChild?.focus({ preventScroll: true });
-    find("drive").replaceChildren(...(tool === "drive" || tool === "edit" ? tools.drive.draw() : []));
+    find("drive").replaceChildren(...(tool === "drive" || tool === "edit" ? tools.drive.draw(tool === "edit") : []));
     const over = tool === "gap" ? tools.gap.draw() : tool === "edit" ? tools.edit.draw() : [];
     find("over").replaceChildren(...over);
     if (tool === "gap") find("zones").replaceChildren();
@@ -298,6 +305,11 @@ find("undo").addEventListener("click", CONTROL.z);
 find("redo").addEventListener("click", CONTROL.y);
 find("save").addEventListener("click", CONTROL.s);
 find("print").addEventListener("click", () => window.print());
+window.addEventListener("beforeprint", () => {
+  const count = app.changes.length;
+  const state = count ? `with ${count} changes that are not in the file` : "as in the file";
+  find("printed").textContent = `${app.map.file}, floor ${app.floor}, ${state}. Printed ${new Date().toLocaleString()}.`;
+});
 window.addEventListener("beforeunload", (event) => {
   if (app.changes.length && app.saved !== app.changes) event.preventDefault();
 });

@@ -137,6 +137,11 @@ function labels(view, shapes) {
   find("labels").replaceChildren(...texts.filter((text) => text));
 }
 
+// A distance for the drawing: one that was rounded down is more than what is said.
+export function short(distance) {
+  return distance.endsWith(" (rounded down)") ? `> ${distance.replace(" (rounded down)", "")}` : distance;
+}
+
 // A line between two points of the floor with a text at its middle.
 export function gapLine(view, [a, b], text) {
   const [[x1, y1], [x2, y2]] = [view.at(a), view.at(b)];
@@ -147,13 +152,13 @@ export function gapLine(view, [a, b], text) {
     draw("line", { x1, y1, x2, y2, class: "gap" }),
     draw("circle", { cx: x1, cy: y1, r: 3.5, class: "gap-end" }),
     draw("circle", { cx: x2, cy: y2, r: 3.5, class: "gap-end" }),
-    plate([(x1 + x2) / 2, (y1 + y2) / 2 - 12], text),
+    plate([(x1 + x2) / 2, (y1 + y2) / 2 - 13], short(text)),
   );
 }
 
 // A text on a plate.
 export function plate([x, y], text, look = "") {
-  const wide = text.length * 6.8 + 14;
+  const wide = text.length * 7.5 + 16;
   return draw(
     "g",
     { class: `plate-text ${look}` },
