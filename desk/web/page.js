@@ -45,7 +45,7 @@ class App {
     const things = this.map.floors.flatMap((floor) => [...floor.shapes, ...floor.refused]);
     this.names = new Set([...things, ...this.carts()].map((one) => one.name));
     this.cart = this.carts()[0]?.name ?? null;
-    this.show(this.map.floors[0]?.number ?? 0);
+    await this.show(this.map.floors[0]?.number ?? 0);
     document.body.dataset.ready = "yes";
   }
 
