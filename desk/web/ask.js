@@ -26,7 +26,8 @@ async function sent(path, wish) {
   }
 }
 
-// Asks one question after the other. Of those that wait only the latest is asked: a drag asks as often as it is answered.
+// Asks one question after the other. Of those that wait only the latest is asked: a drag asks as often as it is
+// answered.
 export class Latest {
   constructor(path, done, failed) {
     Object.assign(this, { path, done, failed, waiting: null, asking: false });

@@ -54,7 +54,7 @@ export class Cart {
     return { move };
   }
 
-  key(event, [dx, dy]) {
+  key([dx, dy]) {
     if (!this.at) return false;
     this.move([this.at[0] + dx, this.at[1] + dy]);
     return true;
@@ -140,7 +140,8 @@ export class Cart {
       this.drawZones();
     };
     const box = el("input", { type: "checkbox", checked: this.hasZones, "data-key": "zones", onchange });
-    const refused = this.zones.filter((zone) => zone.refused).map((zone) => el("p", { class: "said" }, zone.refused.sentence));
+    const wrong = this.zones.filter((zone) => zone.refused);
+    const refused = wrong.map((zone) => el("p", { class: "said" }, zone.refused.sentence));
     return el("div", {}, el("label", { class: "check" }, box, "Show where its origin must not be"), ...refused);
   }
 }

@@ -61,7 +61,9 @@ export function lines(answer) {
 }
 
 // A mark and a word for each state: never a colour alone.
-const MARKS = { free: "✓", clear: "✓", yes: "✓", touching: "◐", alone: "○", overlapping: "✕", meets: "✕", no: "✕", refused: "!" };
+const MARKS = {
+  free: "✓", clear: "✓", yes: "✓", alone: "○", touching: "◐", overlapping: "✕", meets: "✕", no: "✕", refused: "!",
+};
 
 export function badge(state, title, detail) {
   return el(

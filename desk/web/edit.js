@@ -91,7 +91,7 @@ export class Edit {
     return { move, end };
   }
 
-  key(event, [dx, dy]) {
+  key([dx, dy]) {
     const corner = this.corners[this.chosen];
     if (!this.name || !corner) return false;
     this.moved(this.chosen, [corner[0] + dx, corner[1] + dy], true);
@@ -129,7 +129,8 @@ export class Edit {
 
   panel() {
     const names = this.app.all().filter((shape) => !shape.made).map((shape) => shape.name);
-    const take = el("label", {}, "Obstacle", choice("obstacle", names, this.name, (name) => this.pick(name), "pick one"));
+    const pick = (name) => this.pick(name);
+    const take = el("label", {}, "Obstacle", choice("obstacle", names, this.name, pick, "pick one"));
     const create = button("New obstacle", () => this.create());
     if (!this.name) {
       const hint = "Pick an obstacle on the floor, or by its name, and drag its corners.";
@@ -179,9 +180,8 @@ export class Edit {
   }
 
   create() {
-    const names = new Set(this.app.map.floors.flatMap((floor) => [...floor.shapes, ...floor.refused]).map((one) => one.name));
     let number = 1;
-    while (names.has(`new-${number}`)) number += 1;
+    while (this.app.names.has(`new-${number}`) || this.app.isChanged(`new-${number}`)) number += 1;
     const [x, y] = [this.app.view.x, this.app.view.y].map((part) => Math.round(part / 100) * 100);
     const half = Math.max(100, Math.round(40 / this.app.view.scale / 100) * 100);
     this.name = `new-${number}`;
@@ -221,20 +221,28 @@ export class Edit {
     this.app.change({ name, floor: this.app.floor, corners: [] });
   }
 
-  // What the page shows, asked of the map of the file and of the changed one.
+  // What the page shows, asked of the map of the file and of the changed one. One comparison at a time.
   async compare() {
+    this.isBehind = true;
+    if (this.isComparing) return;
+    this.isComparing = true;
+    while (this.isBehind) {
+      this.isBehind = false;
+      await this.comparedOnce().catch((error) => error.name === "ended" && this.app.failed(error));
+    }
+    this.isComparing = false;
+  }
+
+  async comparedOnce() {
     const { judged, name } = this;
     if (!judged?.accepted) return;
-    const wish = this.app.changes.filter((change) => change.name !== name);
-    const changes = [...wish, { name, floor: this.app.floor, corners: judged.corners }];
-    try {
-      const [before, after] = await Promise.all([shown(this.app, []), shown(this.app, changes)]);
-      if (this.judged !== judged) return;
-      this.compared = before.map((row, k) => ({ ...row, after: after[k] }));
-      this.app.panel();
-    } catch (error) {
-      if (error.name === "ended") this.app.failed(error);
-    }
+    const others = this.app.changes.filter((change) => change.name !== name);
+    const changes = [...others, { name, floor: this.app.floor, corners: judged.corners }];
+    const before = await shown(this.app, []);
+    const after = await shown(this.app, changes);
+    if (this.name !== name) return;
+    this.compared = before.map((row, k) => ({ ...row, after: after[k] }));
+    this.app.panel();
   }
 
   effects() {
@@ -242,15 +250,19 @@ export class Edit {
     if (!judged?.accepted) return [];
     const { grows, shrinks, before, after, answers, same } = judged;
     const rows = [];
-    if (before || after) rows.push(difference("Nearest to it", grows ? before?.sentence ?? "nothing" : null, after?.sentence));
-    rows.push(...this.compared.map((row) => difference(row.what, row.said, row.after.said)));
-    rows.push(...answers.map((row) => difference(`Line ${row.before.line} of the file`, row.before.sentence, row.after.sentence)));
-    const reach = [grows?.sentence, shrinks?.sentence].filter((text) => text).map((text) => el("p", { class: "said" }, text));
-    const room = grows && !grows.inside ? `No gap to ${this.name} is more than ${grows.up} mm narrower than in the file.` : null;
-    const rest = same ? `${same} of the file's answers stay as they are.` : null;
-    const notes = [room, rest].filter((text) => text).map((text) => el("p", { class: "hint" }, text));
+    const was = grows ? before?.sentence ?? "nothing" : null;
+    if (before || after) rows.push(difference("Nearest to it", was, after?.sentence));
+    rows.push(...this.compared.map((row) => difference(row.what, row.said, row.after?.said)));
+    const ofFile = (row) => difference(`Line ${row.before.line} of the file`, row.before.sentence, row.after.sentence);
+    rows.push(...answers.map(ofFile));
     rows.sort((a, b) => a.classList.contains("stays") - b.classList.contains("stays"));
-    return [el("h2", {}, "Compared with the file"), ...reach, ...rows, ...notes];
+    const said = (look) => (text) => el("p", { class: look }, text);
+    const reach = [grows?.sentence, shrinks?.sentence].filter((text) => text);
+    const room = `No gap to ${this.name} is more than ${grows?.up} mm narrower than in the file.`;
+    const rest = `${same} of the file's answers stay as they are.`;
+    const notes = [grows && !grows.inside ? room : null, same ? rest : null];
+    return [el("h2", {}, "Compared with the file"), ...reach.map(said("said")), ...rows,
+      ...notes.filter((text) => text).map(said("hint"))];
   }
 }
 
@@ -266,12 +278,13 @@ async function shown(app, changes) {
   const [a, b] = tools.gap.picked;
   if (b) {
     const answer = await ask("pair", { a, b, cart, changes }).catch(() => null);
-    const said = answer ? [answer.clearance.sentence, answer.passage?.sentence].filter((text) => text).join("; ") : "gone";
-    rows.push({ what: `Gap of ${a} and ${b}`, said });
+    const both = [answer?.clearance.sentence, answer?.passage?.sentence].filter((text) => text);
+    rows.push({ what: `Gap of ${a} and ${b}`, said: both.join("; ") || "gone" });
   }
   if (cart && tools.drive.places.length > 1) {
     const { legs } = await ask("drive", { cart, floor, places: tools.drive.places, changes });
-    legs.forEach((leg, k) => rows.push({ what: `Leg ${k + 1} of the drive`, said: leg.contact?.sentence ?? leg.sentence }));
+    const row = (leg, k) => ({ what: `Leg ${k + 1} of the drive`, said: leg.contact?.sentence ?? leg.sentence });
+    rows.push(...legs.map(row));
   }
   return rows;
 }

@@ -1,7 +1,7 @@
 // The tool Gap: two shapes, how near they are, and whether the cart passes straight between them.
 import { badge, button, choice, el, lines } from "./dom.js";
 import { Latest } from "./ask.js";
-import { ends, gapLine } from "./scene.js";
+import { ends, gapLine, outline } from "./scene.js";
 
 const RELATIONS = { apart: "Apart", touching: "Touching", overlapping: "Overlapping" };
 
@@ -51,14 +51,30 @@ export class Gap {
   }
 
   draw() {
-    const both = this.answer && ends(this.answer.clearance);
-    return both ? [gapLine(this.app.view, both, this.answer.clearance.distance)] : [];
+    if (!this.answer) return [];
+    const { clearance, passage } = this.answer;
+    const both = ends(clearance);
+    const parts = passage?.passable ? [outline(this.app.view, this.lane(passage), { class: "lane" })] : [];
+    return both ? [...parts, gapLine(this.app.view, both, clearance.distance)] : parts;
+  }
+
+  // The places of the cart's origin that were answered, beside the two shapes: only drawn.
+  lane({ direction: [u, v], low, high }) {
+    const both = this.app.shapes().filter((shape) => this.picked.includes(shape.name));
+    const corners = both.flatMap((shape) => shape.corners);
+    const along = corners.map(([x, y]) => u * y - v * x);
+    const [from, to] = [Math.min(...along), Math.max(...along)];
+    const square = u * u + v * v;
+    const point = (across, way) => [(u * across - v * way) / square, (v * across + u * way) / square];
+    return [point(low, from), point(high, from), point(high, to), point(low, to)];
   }
 
   panel() {
     const names = this.app.shapes().map((shape) => shape.name);
-    const pick = (position, label) =>
-      el("label", {}, label, choice(label, names, this.picked[position], (name) => this.set(position, name), "pick one"));
+    const pick = (position, label) => {
+      const change = (name) => this.set(position, name);
+      return el("label", {}, label, choice(label, names, this.picked[position], change, "pick one"));
+    };
     return [
       ...this.said(),
       el("div", { class: "row" }, pick(0, "from"), pick(1, "to")),

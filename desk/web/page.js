@@ -5,15 +5,14 @@ import { badge, el, fill, find } from "./dom.js";
 import { Drive } from "./drive.js";
 import { Edit } from "./edit.js";
 import { Gap } from "./gap.js";
+import { listen, TOOLS } from "./keys.js";
 import { grid, Shapes } from "./scene.js";
 import { View, watch } from "./view.js";
 
-const TOOLS = [["cart", "Cart", "c"], ["drive", "Drive", "d"], ["gap", "Gap", "g"], ["edit", "Edit", "e"]];
-const ARROWS = { ArrowLeft: [-1, 0], ArrowRight: [1, 0], ArrowUp: [0, 1], ArrowDown: [0, -1] };
-
 class App {
   constructor() {
-    Object.assign(this, { map: null, floor: null, cart: null, tool: "cart", step: 10, changes: [], undone: [], done: [] });
+    Object.assign(this, { map: null, floor: null, cart: null, tool: "cart", step: 10 });
+    Object.assign(this, { changes: [], undone: [], done: [] });
     this.failed = (error) => this.trouble(error);
     this.view = new View(find("plan"), () => this.map && this.drawAll());
     this.tools = { cart: new Cart(this), drive: new Drive(this), gap: new Gap(this), edit: new Edit(this) };
@@ -177,7 +176,8 @@ class App {
   problems() {
     const { problems } = this.map;
     const text = ({ line, sentence }) => el("li", {}, el("b", {}, `line ${line}: `), sentence);
-    const [one, many] = ["One line is left out, and no answer counts it", `${problems.length} lines are left out, and no answer counts them`];
+    const one = "One line is left out, and no answer counts it";
+    const many = `${problems.length} lines are left out, and no answer counts them`;
     find("problems").hidden = problems.length === 0;
     fill(find("problems"), badge("refused", "The map is not whole", problems.length === 1 ? one : many),
       el("ul", {}, ...problems.map(text)));
@@ -185,8 +185,8 @@ class App {
 
   panel() {
     const tab = ([id, word, key]) => el("button", {
-      type: "button", role: "tab", "aria-selected": id === this.tool ? "true" : "false", title: `${word} (${key.toUpperCase()})`,
-      "data-key": id, onclick: () => this.use(id),
+      type: "button", role: "tab", "aria-selected": id === this.tool ? "true" : "false",
+      title: `${word} (${key.toUpperCase()})`, "data-key": id, onclick: () => this.use(id),
     }, word);
     fill(find("tools"), TOOLS.map(tab));
     const tool = find("tool");
@@ -194,7 +194,18 @@ class App {
     fill(tool, this.tools[this.tool].panel());
     const row = ({ line, sentence }) => el("li", {}, el("b", {}, `line ${line}: `), sentence);
     const { answers } = this.map;
-    fill(find("file-answers"), answers.length ? [el("h2", {}, "Answers of the file"), el("ul", {}, ...answers.map(row))] : []);
+    const list = [el("h2", {}, "Answers of the file"), el("ul", {}, ...answers.map(row))];
+    fill(find("file-answers"), answers.length ? list : []);
+    this.announce();
+  }
+
+  // Says the answer to those who do not see it, once it stays for a moment.
+  announce() {
+    clearTimeout(this.speaking);
+    this.speaking = setTimeout(() => {
+      const parts = [...document.querySelectorAll("#tool .badge > div > *")].map((part) => part.textContent);
+      find("live").textContent = parts.join(", ");
+    }, 400);
   }
 
   // Draws what depends on the view and the map.
@@ -216,7 +227,7 @@ class App {
   draw() {
     const { tool, tools } = this;
     find("plan").dataset.tool = tool;
-    const carts = this.cart && (tool === "cart" || tool === "drive" || tool === "edit") ? [tools.cart.draw(tool !== "cart")] : [];
+    const carts = this.cart && tool !== "gap" ? [tools.cart.draw(tool !== "cart")] : [];
     const held = find("carts").contains(document.activeElement);
     find("carts").replaceChildren(...carts);
     if (held) find("carts").firstElementChild?.focus({ preventScroll: true });
@@ -243,72 +254,30 @@ watch(app.view, {
   },
 });
 
-function arrow(event) {
-  const way = ARROWS[event.key];
-  const tool = app.tools[app.tool];
-  const size = event.altKey ? 1 : app.step * (event.shiftKey ? 10 : 1);
-  if (tool.key?.(event, way.map((part) => part * size))) return;
-  app.view.pan(-way[0] * 60, way[1] * 60);
-}
-
-function floorBeside(by) {
-  const numbers = app.map.floors.map((floor) => floor.number);
-  const next = numbers[numbers.indexOf(app.floor) + by];
-  if (next !== undefined) app.show(next);
-}
-
-const KEYS = {
-  "+": () => app.view.zoom(1.25),
-  "=": () => app.view.zoom(1.25),
-  "-": () => app.view.zoom(0.8),
-  0: () => app.fit(),
-  "[": () => floorBeside(-1),
-  "]": () => floorBeside(1),
-  "?": () => find("help").showModal(),
-  Enter: () => app.tool === "drive" && app.tools.cart.at && app.tools.drive.add(app.tools.cart.at),
-  Backspace: () => app.tool === "drive" && app.tools.drive.back(),
-  Insert: () => app.tool === "edit" && app.tools.edit.name && app.tools.edit.insert(app.tools.edit.chosen),
-  Delete: () => app.tool === "edit" && app.tools.edit.name && app.tools.edit.remove(app.tools.edit.chosen),
-};
-
-const CONTROL = {
-  z: () => app.through(app.done, app.undone),
-  y: () => app.through(app.undone, app.done),
-  s: () => app.save(),
-};
-
-document.addEventListener("keydown", (event) => {
-  const isTyped = event.target.closest("input, select, textarea, dialog");
-  const isPressed = event.target.closest("button, summary") && ["Enter", " "].includes(event.key);
-  if (event.ctrlKey || event.metaKey) {
-    const done = CONTROL[event.key.toLowerCase()];
-    if (done && !(isTyped && event.key !== "s")) event.preventDefault(), done();
-    return;
-  }
-  if (isTyped || isPressed || !app.map) return;
-  const tool = TOOLS.find(([, , key]) => key === event.key.toLowerCase());
-  if (ARROWS[event.key]) event.preventDefault(), arrow(event);
-  else if (tool) app.use(tool[0]);
-  else if (KEYS[event.key]) event.preventDefault(), KEYS[event.key]();
-});
+listen(app);
 
 find("cart").addEventListener("change", (event) => {
   app.cart = event.target.value;
   app.tools.cart.answer = null;
   app.refresh();
 });
-find("in").addEventListener("click", KEYS["+"]);
-find("out").addEventListener("click", KEYS["-"]);
-find("fit").addEventListener("click", KEYS[0]);
-find("keys").addEventListener("click", KEYS["?"]);
-find("undo").addEventListener("click", CONTROL.z);
-find("redo").addEventListener("click", CONTROL.y);
-find("save").addEventListener("click", CONTROL.s);
-find("print").addEventListener("click", () => window.print());
+const CLICKS = {
+  in: () => app.view.zoom(1.25),
+  out: () => app.view.zoom(0.8),
+  fit: () => app.fit(),
+  keys: () => find("help").showModal(),
+  undo: () => app.through(app.done, app.undone),
+  redo: () => app.through(app.undone, app.done),
+  save: () => app.save(),
+  print: () => window.print(),
+};
+for (const [id, done] of Object.entries(CLICKS)) find(id).addEventListener("click", done);
 window.addEventListener("beforeprint", () => {
   const count = app.changes.length;
-  const state = count ? `with ${count} changes that are not in the file` : "as in the file";
-  find("printed").textContent = `${app.map.file}, floor ${app.floor}, ${state}. Printed ${new Date().toLocaleString()}.`;
+  const changes = count === 1 ? "1 change" : `${count} changes`;
+  const state = count ? `with ${changes} of the file` : "as in the file";
+  const now = new Date().toLocaleString();
+  find("printed").textContent = `${app.map.file}, floor ${app.floor}, ${state}. Printed ${now}.`;
 });
 window.addEventListener("beforeunload", (event) => {
   if (app.changes.length && app.saved !== app.changes) event.preventDefault();

@@ -60,8 +60,12 @@ export function grid(view) {
 // The finer lines between.
 function minor(view, size, [left, right], [low, top]) {
   let [across, along] = ["", ""];
-  for (let x = Math.ceil(left / size) * size; x <= right; x += size) along += `M${view.at([x, 0])[0].toFixed(1)} 0v${view.height}`;
-  for (let y = Math.ceil(low / size) * size; y <= top; y += size) across += `M0 ${view.at([0, y])[1].toFixed(1)}h${view.width}`;
+  for (let x = Math.ceil(left / size) * size; x <= right; x += size) {
+    along += `M${view.at([x, 0])[0].toFixed(1)} 0v${view.height}`;
+  }
+  for (let y = Math.ceil(low / size) * size; y <= top; y += size) {
+    across += `M0 ${view.at([0, y])[1].toFixed(1)}h${view.width}`;
+  }
   return [draw("path", { d: along + across, class: "finest" })];
 }
 
@@ -129,7 +133,8 @@ function labels(view, shapes) {
     const [wide, lift] = [shape.name.length * 7.2 + 8, shape.corners.length < 3 ? -10 : 4];
     const box = [x - wide / 2, y + lift - 12, x + wide / 2, y + lift + 4];
     const inside = x > 0 && y > 0 && x < view.width && y < view.height;
-    const free = taken.every((other) => box[2] < other[0] || box[0] > other[2] || box[3] < other[1] || box[1] > other[3]);
+    const isClear = ([left, top, right, low]) => box[2] < left || box[0] > right || box[3] < top || box[1] > low;
+    const free = taken.every(isClear);
     if (!inside || !free) return null;
     taken.push(box);
     return draw("text", { x, y: y + lift, class: `name ${shape.look}` }, shape.name);

@@ -27,6 +27,7 @@ pub const PAGES: &[Page] = &[
     page("drive.js", SCRIPT, include_str!("../../web/drive.js")),
     page("edit.js", SCRIPT, include_str!("../../web/edit.js")),
     page("gap.js", SCRIPT, include_str!("../../web/gap.js")),
+    page("keys.js", SCRIPT, include_str!("../../web/keys.js")),
     page("page.js", SCRIPT, include_str!("../../web/page.js")),
     page("scene.js", SCRIPT, include_str!("../../web/scene.js")),
     page("view.js", SCRIPT, include_str!("../../web/view.js")),
