@@ -61,10 +61,11 @@ export class Gap {
   // The places of the cart's origin that were answered, beside the two shapes: only drawn.
   lane({ direction: [u, v], low, high }) {
     const both = this.app.shapes().filter((shape) => this.picked.includes(shape.name));
-    const corners = both.flatMap((shape) => shape.corners);
-    const along = corners.map(([x, y]) => u * y - v * x);
-    const [from, to] = [Math.min(...along), Math.max(...along)];
+    const along = both.map((shape) => shape.corners.map(([x, y]) => u * y - v * x));
+    const ends = along.flatMap((values) => [Math.min(...values), Math.max(...values)]).sort((a, b) => a - b);
     const square = u * u + v * v;
+    const more = 600 * Math.sqrt(square);
+    const [from, to] = [ends[1] - more, ends[2] + more];
     const point = (across, way) => [(u * across - v * way) / square, (v * across + u * way) / square];
     return [point(low, from), point(high, from), point(high, to), point(low, to)];
   }
@@ -107,6 +108,7 @@ export class Gap {
     const title = passage.refused ? "Refused" : passes ? `${this.app.cart} passes` : `${this.app.cart} does not pass`;
     const state = passage.refused ? "refused" : passes ? "yes" : "no";
     const detail = passes ? `${passage.distance} to spare, straight and unturned` : "straight and unturned";
-    return [badge(state, title, detail), el("p", { class: "said" }, passage.sentence)];
+    const alone = "Asked of these two alone: other obstacles may be in the way. A drive asks of all.";
+    return [badge(state, title, detail), el("p", { class: "said" }, passage.sentence), el("p", { class: "hint" }, alone)];
   }
 }

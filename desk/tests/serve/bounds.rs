@@ -188,6 +188,29 @@ fn a_slow_request_is_ended() {
 }
 
 #[test]
+fn a_reader_that_does_not_read_is_left() {
+    // An answer that is larger than what the system takes for a connection that nobody reads.
+    let shape = |number: usize| format!("shape | obstacle-{number} | @2 {number} 0 {number} 9\n");
+    let map: String = (0..60_000).map(shape).collect();
+    let server = start(&map);
+    let (token, host) = (&server.token, server.host());
+    let request = format!(
+        "POST /{token}/map HTTP/1.1\r\nHost: {host}\r\nContent-Type: application/json\r\nContent-Length: 2\r\n\r\n{{}}"
+    );
+    let mut lazy: Vec<_> = (0..3).map(|_| server.connect()).collect();
+    for stream in &mut lazy {
+        stream.write_all(request.as_bytes()).expect("a connection");
+    }
+    thread::sleep(Duration::from_secs(8));
+    for stream in &mut lazy {
+        let reply = reply(stream).expect("the beginning of an answer");
+        let whole = format!("Content-Length: {}\r", reply.body.len());
+        assert!(!reply.head.contains(&whole), "all of it was sent");
+    }
+    goes_on(&server);
+}
+
+#[test]
 fn more_connections_than_threads_wait() {
     let server = start(MAP);
     let idle: Vec<_> = (0..40).map(|_| server.connect()).collect();

@@ -3,5 +3,6 @@ mod answers;
 mod bounds;
 mod edits;
 mod guard;
+mod program;
 mod server;
 mod strange;
