@@ -164,17 +164,19 @@ fn a_file_is_saved_with_its_comments() {
     assert_eq!(saved.body, format!("{expected}shape | desk | @3 5 5 9 5\n"));
 }
 
+/// Files of all sorts.
+const FILES: &[&str] = &[
+    MAP,
+    "shape|a|1 2\r\nshape|b|3 4 # b\r\n+5 6\r\n",
+    "shape | a\n + | 0 0 1 0 0 1 # x\n\n# between\nshape | b | @7 0 0 # y\n # z\n + 9 9\nshape | a | 4 4",
+    "",
+    "\u{FEFF}shape | a | 1 1 # \u{e9}",
+    "shape | a | 0 0 0 0\nshape | b | x\nlength | a\n",
+];
+
 /// Random changes of files of all sorts are read back as they were made, and nothing else changes.
 #[test]
 fn changed_files_read_back() {
-    const FILES: &[&str] = &[
-        MAP,
-        "shape|a|1 2\r\nshape|b|3 4 # b\r\n+5 6\r\n",
-        "shape | a\n + | 0 0 1 0 0 1 # x\n\n# between\nshape | b | @7 0 0 # y\n # z\n + 9 9\nshape | a | 4 4",
-        "",
-        "\u{FEFF}shape | a | 1 1 # \u{e9}",
-        "shape | a | 0 0 0 0\nshape | b | x\nlength | a\n",
-    ];
     let mut dice = Dice::new(54);
     for _ in 0..5000 {
         let file = dice.pick(FILES);
@@ -193,6 +195,25 @@ fn changed_files_read_back() {
         let world = World::new(source);
         let plan = world.plan(&changes).expect("shapes only");
         check(&world.original(), &plan, &changes);
+    }
+}
+
+/// Files that are hardly maps are changed without a panic, and what is saved is read as any file is.
+#[test]
+fn strange_files_are_changed() {
+    let mut dice = Dice::new(55);
+    for _ in 0..20_000 {
+        let mut bytes = dice.pick(FILES).as_bytes().to_vec();
+        for _ in 0..=dice.below(6) {
+            crate::strange::mutate(&mut dice, &mut bytes);
+        }
+        let name = "f".into();
+        let world = World::new(Source { name, bytes });
+        let changes = [change(&mut dice, "a"), change(&mut dice, "bed")];
+        if let Ok(plan) = world.plan(&changes) {
+            let again = Plan::read(plan.source.clone());
+            assert_eq!(again.events, plan.events);
+        }
     }
 }
 

@@ -63,6 +63,23 @@ fn a_port_that_is_taken_is_told() {
 }
 
 #[test]
+fn it_has_a_page_of_help() {
+    let arguments = ["serve", "--help"].map(OsString::from);
+    let (mut output, mut errors) = (Vec::new(), Vec::new());
+    let mut console = Console {
+        input: None,
+        output: &mut output,
+        errors: &mut errors,
+    };
+    assert_eq!(run(&arguments, &mut console).number(), 0);
+    let page = String::from_utf8(output).expect("text");
+    for words in ["--port N", "Ctrl-C", "The status is 2", "this computer"] {
+        assert!(page.contains(words), "{words}: {page}");
+    }
+    assert!(page.lines().all(|line| line.chars().count() <= 120));
+}
+
+#[test]
 fn wrong_use_is_told() {
     for (arguments, words) in [
         (&["serve"][..], "no file is given"),

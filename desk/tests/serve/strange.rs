@@ -95,7 +95,8 @@ fn strange(dice: &mut Dice, good: &[&str]) -> Vec<u8> {
     }
 }
 
-fn mutate(dice: &mut Dice, bytes: &mut Vec<u8>) {
+/// Changes some bytes.
+pub fn mutate(dice: &mut Dice, bytes: &mut Vec<u8>) {
     let at = dice.below(bytes.len() + 1);
     let to = (at + dice.below(20)).min(bytes.len());
     match dice.below(6) {
