@@ -1,5 +1,5 @@
 //! The table of commands, and how each of them ends.
-use crate::commands::{ask, check, draw};
+use crate::commands::{ask, check, draw, serve};
 use crate::escape::quoted;
 use crate::help;
 use crate::name::most_like;
@@ -58,7 +58,7 @@ pub struct Command {
 }
 
 /// The commands. A new one is a row here and a module of `commands`.
-pub const COMMANDS: &[Command] = &[ask::COMMAND, check::COMMAND, draw::COMMAND];
+pub const COMMANDS: &[Command] = &[ask::COMMAND, check::COMMAND, draw::COMMAND, serve::COMMAND];
 
 impl Status {
     /// Returns the number of the exit status.

@@ -12,6 +12,7 @@
 //! | [`called`], [`distance`], [`extent`] | what sentences call shapes, places, distances and areas |
 //! | [`json`], [`object`] | answers as JSON |
 //! | [`picture`] | pictures |
+//! | [`serve`] | a map in a browser |
 //! | [`options`], [`command`], [`commands`], [`help`] | the program |
 #![forbid(unsafe_code)]
 #![deny(missing_docs)]
@@ -47,6 +48,7 @@ pub mod question;
 pub mod refusal;
 pub mod report;
 pub mod sentence;
+pub mod serve;
 pub mod session;
 pub mod source;
 pub mod table;

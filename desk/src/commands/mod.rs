@@ -2,3 +2,4 @@
 pub mod ask;
 pub mod check;
 pub mod draw;
+pub mod serve;

@@ -86,8 +86,10 @@ pub struct Wishes {
     pub sums: Vec<Pair>,
 }
 
-/// Whether a shape is a thing on the floor. What is grown, summed or mirrored is none: it is drawn if it is asked for.
-fn is_thing(origin: &Origin) -> bool {
+/// Returns whether a shape is a thing on the floor. What is grown, summed or mirrored is none: it is drawn if it is
+/// asked for.
+#[must_use]
+pub fn is_thing(origin: &Origin) -> bool {
     match origin {
         Origin::Written => true,
         Origin::Made(making) => {
@@ -96,8 +98,9 @@ fn is_thing(origin: &Origin) -> bool {
     }
 }
 
-/// Whether a shape is the cart, or the cart at a place.
-fn is_cart(shape: &Given, origin: &Origin, cart: &Given) -> bool {
+/// Returns whether a shape is the cart, or the cart at a place.
+#[must_use]
+pub fn is_cart(shape: &Given, origin: &Origin, cart: &Given) -> bool {
     let moved = match origin {
         Origin::Made(Making::At(pair)) => pair.a.name.as_ref(),
         _ => None,
