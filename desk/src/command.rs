@@ -1,5 +1,5 @@
 //! The table of commands, and how each of them ends.
-use crate::commands::{ask, check, draw};
+use crate::commands::{ask, check, draw, drive, gaps, nearest, passes, stands};
 use crate::escape::quoted;
 use crate::help;
 use crate::name::most_like;
@@ -47,6 +47,8 @@ pub enum Trouble {
 pub struct Command {
     /// Its name.
     pub name: &'static str,
+    /// What it takes besides its options.
+    pub takes: &'static str,
     /// What it does, in one line.
     pub does: &'static str,
     /// Its options.
@@ -58,7 +60,16 @@ pub struct Command {
 }
 
 /// The commands. A new one is a row here and a module of `commands`.
-pub const COMMANDS: &[Command] = &[ask::COMMAND, check::COMMAND, draw::COMMAND];
+pub const COMMANDS: &[Command] = &[
+    ask::COMMAND,
+    check::COMMAND,
+    gaps::COMMAND,
+    passes::COMMAND,
+    stands::COMMAND,
+    drive::COMMAND,
+    nearest::COMMAND,
+    draw::COMMAND,
+];
 
 impl Status {
     /// Returns the number of the exit status.

@@ -130,8 +130,9 @@ pub fn version() -> String {
 #[must_use]
 pub fn of_command(command: &Command) -> String {
     let mut page = format!(
-        "Usage: cocklesway {} [OPTIONS] FILE..\n\n{}.\n\n",
+        "Usage: cocklesway {} [OPTIONS] {}\n\n{}.\n\n",
         command.name,
+        command.takes,
         capital(command.does)
     );
     for option in command.options {

@@ -10,9 +10,10 @@
 //! | [`session`] | lines in their order: definitions, questions, and what came of each |
 //! | [`sentence`], [`refusal`], [`whole_floor`], [`report`] | answers and refusals in words |
 //! | [`called`], [`distance`], [`extent`] | what sentences call shapes, places, distances and areas |
+//! | [`floor`], [`fraction`] | all obstacles of a floor asked at once; distances compared |
 //! | [`json`], [`object`] | answers as JSON |
 //! | [`picture`] | pictures |
-//! | [`options`], [`command`], [`commands`], [`help`] | the program |
+//! | [`options`], [`command`], [`commands`], [`help`], [`progress`] | the program |
 #![forbid(unsafe_code)]
 #![deny(missing_docs)]
 #![warn(
@@ -33,6 +34,8 @@ pub mod escape;
 pub mod extent;
 pub mod fault;
 pub mod fields;
+pub mod floor;
+pub mod fraction;
 pub mod given;
 pub mod help;
 pub mod json;
@@ -43,6 +46,7 @@ pub mod object;
 pub mod options;
 pub mod picture;
 pub mod place;
+pub mod progress;
 pub mod question;
 pub mod refusal;
 pub mod report;

@@ -84,8 +84,9 @@ fn place(place: &Place) -> Json {
     Json::Object(place_of(place))
 }
 
-/// A shape with its name, its floor and its corners; a list that has an odd count of numbers has these instead.
-fn shape_of(shape: &Given) -> Json {
+/// Returns a shape with its name, its floor and its corners; a list that has an odd count of numbers has these instead.
+#[must_use]
+pub fn shape_of(shape: &Given) -> Json {
     let name = shape.name.as_ref().map(Name::as_str);
     let floor = shape.floor.map(i64::from);
     let list = if shape.numbers.len().is_multiple_of(2) {
@@ -100,7 +101,9 @@ fn shape_of(shape: &Given) -> Json {
     Json::Object(vec![("name", name.into()), ("floor", floor.into()), list])
 }
 
-fn refusal(refusal: Refusal, reason: String) -> Json {
+/// Returns the number of a refusal, what it carries, and its reason.
+#[must_use]
+pub fn refusal(refusal: Refusal, reason: String) -> Json {
     let mut members: Members = vec![("number", refusal.number().into())];
     let shape = refusal.shape().map(position_of);
     members.extend(shape.map(|shape| ("shape", shape.into())));
@@ -128,8 +131,9 @@ fn position_of(which: Which) -> usize {
     }
 }
 
-/// The members of an answer.
-fn answered(answer: &Answer) -> Members {
+/// Returns the members of an answer.
+#[must_use]
+pub fn answered(answer: &Answer) -> Members {
     match answer {
         Answer::One(shape, about) => about_one(shape, about),
         Answer::Two(pair, about) => about_two(pair, about),
@@ -256,7 +260,9 @@ fn relation(found: Relation) -> &'static str {
     }
 }
 
-fn clearance([a, b]: [&Given; 2], nearest: Option<Nearest>, rounded: u64) -> Members {
+/// Returns the members of how near two shapes are, and where.
+#[must_use]
+pub fn clearance([a, b]: [&Given; 2], nearest: Option<Nearest>, rounded: u64) -> Members {
     let mut members = vec![
         ("apart", nearest.is_some().into()),
         ("rounded", rounded.into()),

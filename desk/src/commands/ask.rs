@@ -9,6 +9,7 @@ use crate::session::{Event, Outcome, Session};
 /// How it is called, and what it does.
 pub const COMMAND: Command = Command {
     name: "ask",
+    takes: "FILE..",
     does: "answers the questions of files, by the shapes that these define",
     options: &[JSON],
     page: "\

@@ -1,16 +1,13 @@
 //! `cocklesway draw`: a floor as a picture.
-use super::ask::status_of;
+use super::chosen::{AT, FLOOR, named, number, place, whole_map};
 use crate::answer::Refused;
 use crate::command::{Command, Console, Status, Trouble};
 use crate::given::{Given, Pair};
-use crate::map::{Entry, Map};
-use crate::name::Name;
+use crate::map::Map;
 use crate::options::{Arguments, Known, Misuse};
 use crate::picture::picture;
-use crate::picture::scene::{Wishes, floors, scene};
+use crate::picture::scene::{Wishes, scene};
 use crate::refusal::reason;
-use crate::report::sentence;
-use crate::session::Session;
 use crate::source;
 use std::ffi::OsStr;
 use std::fs::{self, File};
@@ -19,6 +16,7 @@ use std::io::{self, Write};
 /// How it is called, and what it does.
 pub const COMMAND: Command = Command {
     name: "draw",
+    takes: "FILE..",
     does: "draws all shapes of a floor as a picture (SVG), which every browser shows",
     options: OPTIONS,
     page: "\
@@ -33,9 +31,7 @@ cannot be read, nothing is drawn.
     run,
 };
 
-const FLOOR: &str = "--floor";
 const GROW: &str = "--grow";
-const AT: &str = "--at";
 const GAP: &str = "--gap";
 const TANGENTS: &str = "--tangents";
 const SUM: &str = "--sum";
@@ -52,19 +48,17 @@ const fn option(name: &'static str, value: &'static str, does: &'static str, man
 }
 
 const OPTIONS: &[Known] = &[
-    option(
-        FLOOR,
-        "N",
-        "the floor; needed if the map has several",
-        false,
-    ),
+    FLOOR,
     option(
         GROW,
         "CART",
         "each obstacle grown by this cart's outline: where its origin must not be",
         false,
     ),
-    option(AT, "X,Y", "the cart with its origin at this place", false),
+    Known {
+        does: "the cart with its origin at this place",
+        ..AT
+    },
     option(
         GAP,
         "A,B",
@@ -93,13 +87,13 @@ const OPTIONS: &[Known] = &[
 ];
 
 fn run(arguments: &Arguments, console: &mut Console<'_>) -> Result<Status, Trouble> {
-    let (session, replaced) = read(arguments, console)?;
+    let (session, replaced) = whole_map(&arguments.files, console, "nothing is drawn")?;
     let map = session.map();
     let wishes = Wishes {
         notes: replaced,
         ..wishes(arguments, map)?
     };
-    let floor = floor(arguments, map)?;
+    let floor = number(arguments, map)?;
     are_here(&wishes, floor)?;
     let drawn = scene(map, floor, &wishes).and_then(|scene| picture(&scene));
     match drawn {
@@ -112,61 +106,9 @@ fn run(arguments: &Arguments, console: &mut Console<'_>) -> Result<Status, Troub
     }
 }
 
-/// Reads the map, and says below the picture which shapes took the place of others. All lines that cannot be used are
-/// said, and then nothing is drawn.
-fn read(
-    arguments: &Arguments,
-    console: &mut Console<'_>,
-) -> Result<(Session, Vec<String>), Trouble> {
-    let mut session = Session::of_definitions();
-    let mut status = Status::Fine;
-    let mut replaced = Vec::new();
-    for source in console.sources(&arguments.files)? {
-        session.read(&source, |event| {
-            let said = format!("{}: {}", event.place, sentence(&event));
-            status = status.max(status_of(&event));
-            match status_of(&event) {
-                Status::Fine if event.replaces() => replaced.push(said),
-                Status::Fine => {}
-                _ => console.complain(&said)?,
-            }
-            Ok::<(), Trouble>(())
-        })?;
-    }
-    match status {
-        Status::Fine => Ok((session, replaced)),
-        status => {
-            console.complain("nothing is drawn, since the map is not whole")?;
-            Err(Trouble::Said(status))
-        }
-    }
-}
-
 fn refusal(refused: &Refused) -> String {
     let (word, number) = (refused.question.word(), refused.refusal.number());
     format!("draw: {word} is refused ({number}): {}", reason(refused))
-}
-
-/// The floor that is named, or the only one.
-fn floor(arguments: &Arguments, map: &Map) -> Result<u16, Misuse> {
-    if let Some(value) = arguments.value(FLOOR) {
-        let text = value.to_string_lossy();
-        let wanted = "a floor from 0 to 65535";
-        return text
-            .parse()
-            .map_err(|_| Misuse::BadValue(FLOOR, text.to_string(), wanted));
-    }
-    match floors(map).as_slice() {
-        [] => Err(Misuse::Other("the map has no shape on a floor".to_string())),
-        [floor] => Ok(*floor),
-        several => {
-            let several: Vec<String> = several.iter().map(u16::to_string).collect();
-            let several = several.join(", ");
-            Err(Misuse::Other(format!(
-                "the map has the floors {several}: choose one with {FLOOR}"
-            )))
-        }
-    }
 }
 
 fn wishes(arguments: &Arguments, map: &Map) -> Result<Wishes, Misuse> {
@@ -174,10 +116,12 @@ fn wishes(arguments: &Arguments, map: &Map) -> Result<Wishes, Misuse> {
         .value(GROW)
         .map(|value| named(GROW, value, map))
         .transpose()?;
-    let at = arguments.value(AT).map(place).transpose()?;
+    let at = arguments.value(AT.name);
+    let at = at.map(|value| place(AT.name, value)).transpose()?;
     if at.is_some() && cart.is_none() {
         return Err(Misuse::Other(format!(
-            "{AT} needs a cart: {GROW} CART {AT} X,Y"
+            "{0} needs a cart: {GROW} CART {0} X,Y",
+            AT.name
         )));
     }
     let pairs = |option| {
@@ -222,20 +166,6 @@ fn are_here(wishes: &Wishes, floor: u16) -> Result<(), Misuse> {
     }
 }
 
-/// The shape of a name.
-fn named(option: &'static str, value: &OsStr, map: &Map) -> Result<Given, Misuse> {
-    let text = value.to_string_lossy();
-    let item = Name::read(&text).ok().and_then(|name| map.get(&name));
-    match item.map(|item| &item.entry) {
-        Some(Entry::Shape { shape, .. }) => Ok(shape.clone()),
-        _ => Err(Misuse::BadValue(
-            option,
-            text.to_string(),
-            "the name of a shape of the map",
-        )),
-    }
-}
-
 /// Two names with a comma between them.
 fn pair(option: &'static str, value: &OsStr, map: &Map) -> Result<Pair, Misuse> {
     let text = value.to_string_lossy();
@@ -251,21 +181,6 @@ fn pair(option: &'static str, value: &OsStr, map: &Map) -> Result<Pair, Misuse> 
         a: named(option, OsStr::new(a), map)?,
         b: named(option, OsStr::new(b), map)?,
     })
-}
-
-/// Two numbers with a comma between them.
-fn place(value: &OsStr) -> Result<[i32; 2], Misuse> {
-    let text = value.to_string_lossy();
-    let wrong = || {
-        Misuse::BadValue(
-            AT,
-            text.to_string(),
-            "two whole numbers of millimetres with a comma between them",
-        )
-    };
-    let (x, y) = text.split_once(',').ok_or_else(wrong)?;
-    let number = |part: &str| part.trim().parse().map_err(|_| wrong());
-    Ok([number(x)?, number(y)?])
 }
 
 /// Writes the picture.

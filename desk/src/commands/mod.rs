@@ -1,4 +1,10 @@
 //! The commands, one a module.
 pub mod ask;
 pub mod check;
+pub mod chosen;
 pub mod draw;
+pub mod drive;
+pub mod gaps;
+pub mod nearest;
+pub mod passes;
+pub mod stands;

@@ -2,6 +2,7 @@
 use super::frame::Rect;
 use crate::answer::{Refused, clearance, made, relation, tangents};
 use crate::distance::Distance;
+use crate::floor::{is_cart, is_thing};
 use crate::given::{Given, Pair};
 use crate::map::{Map, Origin};
 use crate::question::Making;
@@ -86,25 +87,6 @@ pub struct Wishes {
     pub sums: Vec<Pair>,
 }
 
-/// Whether a shape is a thing on the floor. What is grown, summed or mirrored is none: it is drawn if it is asked for.
-fn is_thing(origin: &Origin) -> bool {
-    match origin {
-        Origin::Written => true,
-        Origin::Made(making) => {
-            !matches!(making, Making::Grow(_) | Making::Sum(_) | Making::Mirror(_))
-        }
-    }
-}
-
-/// Whether a shape is the cart, or the cart at a place.
-fn is_cart(shape: &Given, origin: &Origin, cart: &Given) -> bool {
-    let moved = match origin {
-        Origin::Made(Making::At(pair)) => pair.a.name.as_ref(),
-        _ => None,
-    };
-    cart.name.is_some() && (shape.name == cart.name || moved == cart.name.as_ref())
-}
-
 impl Figure {
     /// Returns the least rectangle around it; nothing if it has no corner.
     #[must_use]
@@ -141,16 +123,6 @@ impl Stroke {
         let [[ax, ay], [bx, by]] = self.ends;
         [f64::midpoint(ax, bx), f64::midpoint(ay, by)]
     }
-}
-
-/// Returns the floors of a map's shapes, in order.
-#[must_use]
-pub fn floors(map: &Map) -> Vec<u16> {
-    let things = map.shapes().filter(|(_, origin)| is_thing(origin));
-    let mut floors: Vec<u16> = things.filter_map(|(shape, _)| shape.floor).collect();
-    floors.sort_unstable();
-    floors.dedup();
-    floors
 }
 
 /// Returns all that a picture of a floor shows.

@@ -6,4 +6,5 @@ mod objects;
 mod pictures;
 mod program;
 mod running;
+mod whole_floor;
 mod xml;
