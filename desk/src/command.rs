@@ -1,5 +1,5 @@
 //! The table of commands, and how each of them ends.
-use crate::commands::{ask, check, draw, drive, gaps, nearest, passes, stands};
+use crate::commands::{ask, check, diff, draw, drive, gaps, nearest, passes, stands};
 use crate::escape::quoted;
 use crate::help;
 use crate::name::most_like;
@@ -68,6 +68,7 @@ pub const COMMANDS: &[Command] = &[
     stands::COMMAND,
     drive::COMMAND,
     nearest::COMMAND,
+    diff::COMMAND,
     draw::COMMAND,
 ];
 

@@ -11,6 +11,7 @@
 //! | [`sentence`], [`refusal`], [`whole_floor`], [`report`] | answers and refusals in words |
 //! | [`called`], [`distance`], [`extent`] | what sentences call shapes, places, distances and areas |
 //! | [`floor`], [`fraction`] | all obstacles of a floor asked at once; distances compared |
+//! | [`changes`], [`settled`] | two maps compared, and which answers stay |
 //! | [`json`], [`object`] | answers as JSON |
 //! | [`picture`] | pictures |
 //! | [`options`], [`command`], [`commands`], [`help`], [`progress`] | the program |
@@ -27,6 +28,7 @@
 
 pub mod answer;
 pub mod called;
+pub mod changes;
 pub mod command;
 pub mod commands;
 pub mod distance;
@@ -52,6 +54,7 @@ pub mod refusal;
 pub mod report;
 pub mod sentence;
 pub mod session;
+pub mod settled;
 pub mod source;
 pub mod table;
 pub mod whole_floor;

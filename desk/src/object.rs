@@ -252,7 +252,9 @@ fn about_two(pair: &Pair, about: &AboutTwo) -> Members {
     }
 }
 
-fn relation(found: Relation) -> &'static str {
+/// Returns the word for how two shapes are to each other.
+#[must_use]
+pub fn relation(found: Relation) -> &'static str {
     match found {
         Relation::Apart => "apart",
         Relation::Touching => "touching",

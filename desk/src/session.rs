@@ -111,6 +111,23 @@ impl Session {
         &self.map
     }
 
+    /// Reads the question of a line by the shapes so far, and does not ask it.
+    ///
+    /// # Errors
+    /// It cannot be read, or it is a definition.
+    pub fn question_of(&self, line: &Line<'_>) -> Result<Question, Unread> {
+        if let Some((line, fault)) = line.fault.clone() {
+            return Err(Unread::Fault { line, fault });
+        }
+        match word_of(line)? {
+            (word, false) if table::find(word).is_some() => match self.question(word, line)? {
+                Said::Question(_, question) => Ok(question),
+                _ => Err(unknown(line, word)),
+            },
+            (word, _) => Err(unknown(line, word)),
+        }
+    }
+
     /// Takes all lines of a file, and hands out what came of each.
     ///
     /// # Errors

@@ -1,7 +1,6 @@
 //! `cocklesway gaps`: the narrow gaps of a floor.
 use super::ask::JSON;
 use super::chosen::{BELOW, CART, FLOOR, NOTHING, answered, floor, limit, named, say, whole_map};
-use crate::answer::Refused;
 use crate::command::{Command, Console, Status, Trouble};
 use crate::floor::gaps::{Gap, Solids};
 use crate::fraction::rounded;
@@ -54,32 +53,7 @@ fn run(arguments: &Arguments, console: &mut Console<'_>) -> Result<Status, Troub
     let floor = floor(arguments, console, map, cart.as_ref())?;
     let solids = Solids::new(&floor, cart.as_ref());
     let solids = answered(console, json, solids, |refused| floor.reason(refused))?;
-    let only_apart = arguments.has(APART.name);
-    let gaps = match (limit, only_apart && solids.pairs() > 0) {
-        (None, false) => found(
-            console,
-            json,
-            &solids,
-            solids.narrowest().map(|gap| vec![gap]),
-        )?,
-        (limit, _) => {
-            // Fewer than two shapes are refused, whatever the limit is.
-            if solids.pairs() == 0 {
-                found(
-                    console,
-                    json,
-                    &solids,
-                    solids.narrowest().map(|gap| vec![gap]),
-                )?;
-            }
-            let (mut progress, of) = (Progress::new("pairs"), solids.pairs());
-            let most = limit.unwrap_or(u64::MAX);
-            let gaps = solids.below(most, only_apart, |done| progress.at(console, done, of));
-            let mut gaps = found(console, json, &solids, gaps)?;
-            gaps.truncate(if limit.is_some() { gaps.len() } else { 1 });
-            gaps
-        }
-    };
+    let gaps = listed(console, json, &solids, limit, arguments.has(APART.name))?;
     for gap in &gaps {
         say(console, json, &solids.sentence(*gap), || {
             members(&solids, *gap)
@@ -92,14 +66,24 @@ fn run(arguments: &Arguments, console: &mut Console<'_>) -> Result<Status, Troub
     Ok(Status::Fine)
 }
 
-/// What was found, or why it was refused.
-fn found(
+/// The gaps below a limit; without one the narrowest. Fewer than two shapes are refused, whatever the limit is.
+fn listed(
     console: &mut Console<'_>,
     json: bool,
     solids: &Solids<'_>,
-    gaps: Result<Vec<Gap>, Refused>,
+    limit: Option<u64>,
+    only_apart: bool,
 ) -> Result<Vec<Gap>, Trouble> {
-    answered(console, json, gaps, |refused| solids.floor.reason(refused))
+    let (mut progress, of) = (Progress::new("pairs"), solids.pairs());
+    let gaps = if of == 0 || (limit.is_none() && !only_apart) {
+        solids.narrowest().map(|gap| vec![gap])
+    } else {
+        let most = limit.unwrap_or(u64::MAX);
+        solids.below(most, only_apart, |done| progress.at(console, done, of))
+    };
+    let mut gaps = answered(console, json, gaps, |refused| solids.floor.reason(refused))?;
+    gaps.truncate(if limit.is_some() { gaps.len() } else { 1 });
+    Ok(gaps)
 }
 
 /// The members of a gap: floor, cart, both names, and what clearance answers of what it is measured between.

@@ -2,9 +2,11 @@
 pub mod ask;
 pub mod check;
 pub mod chosen;
+pub mod diff;
 pub mod draw;
 pub mod drive;
 pub mod gaps;
 pub mod nearest;
 pub mod passes;
+pub mod settling;
 pub mod stands;

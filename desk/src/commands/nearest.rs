@@ -74,27 +74,7 @@ fn asked(arguments: &Arguments, map: &Map) -> Result<Asked, Misuse> {
         .map(|value| named(SHAPE.name, value, map))
         .transpose()?;
     let own = named.as_ref().and_then(|shape| shape.floor);
-    match (&named, at) {
-        (None, None) => {
-            let words = format!("{} X,Y or {} NAME is needed", AT.name, SHAPE.name);
-            return Err(Misuse::Other(words));
-        }
-        (Some(shape), None) if own.is_none() => {
-            let words = format!(
-                "{shape} is an outline, which is nowhere: {} X,Y puts it there",
-                AT.name
-            );
-            return Err(Misuse::Other(words));
-        }
-        (Some(shape), Some(_)) if own.is_some() => {
-            let words = format!(
-                "{shape} has its place already: leave out {} or {}",
-                AT.name, SHAPE.name
-            );
-            return Err(Misuse::Other(words));
-        }
-        _ => {}
-    }
+    one_thing(named.as_ref(), at)?;
     let floor = match (own, arguments.has(FLOOR.name)) {
         (Some(own), false) => own,
         _ => number(arguments, map)?,
@@ -105,6 +85,23 @@ fn asked(arguments: &Arguments, map: &Map) -> Result<Asked, Misuse> {
         )));
     }
     Ok(Asked { named, at, floor })
+}
+
+/// Whether exactly one thing with a place is asked about.
+fn one_thing(named: Option<&Given>, at: Option<[i32; 2]>) -> Result<(), Misuse> {
+    let words = match (named, at) {
+        (None, None) => format!("{} X,Y or {} NAME is needed", AT.name, SHAPE.name),
+        (Some(shape), None) if shape.floor.is_none() => format!(
+            "{shape} is an outline, which is nowhere: {} X,Y puts it there",
+            AT.name
+        ),
+        (Some(shape), Some(_)) if shape.floor.is_some() => format!(
+            "{shape} has its place already: leave out {} or {}",
+            AT.name, SHAPE.name
+        ),
+        _ => return Ok(()),
+    };
+    Err(Misuse::Other(words))
 }
 
 impl Asked {
