@@ -1,5 +1,7 @@
 //! The table of commands, and how each of them ends.
-use crate::commands::{ask, check, diff, draw, drive, gaps, nearest, passes, stands};
+use crate::commands::{
+    ask, check, diff, draw, drive, export, gaps, import, nearest, passes, stands,
+};
 use crate::escape::quoted;
 use crate::help;
 use crate::name::most_like;
@@ -70,6 +72,8 @@ pub const COMMANDS: &[Command] = &[
     nearest::COMMAND,
     diff::COMMAND,
     draw::COMMAND,
+    import::COMMAND,
+    export::COMMAND,
 ];
 
 impl Status {
@@ -210,11 +214,11 @@ impl Console<'_> {
         Ok(())
     }
 
-    /// Reads all files before anything is answered.
+    /// Reads all files, which are no maps.
     ///
     /// # Errors
-    /// There is none, one cannot be read, or two define the same name; all that is wrong is said.
-    pub fn sources(&mut self, files: &[OsString]) -> Result<Vec<Source>, Trouble> {
+    /// There is none, or one cannot be read; all that is wrong is said.
+    pub fn files(&mut self, files: &[OsString]) -> Result<Vec<Source>, Trouble> {
         if files.is_empty() {
             return Err(Misuse::NoFile.into());
         }
@@ -233,11 +237,23 @@ impl Console<'_> {
                 Err(why) => self.complain(&format!("{}: {why}", source::shown(file)))?,
             }
         }
+        if sources.len() < files.len() {
+            return Err(Trouble::Said(Status::Wrong));
+        }
+        Ok(sources)
+    }
+
+    /// Reads all maps before anything is answered.
+    ///
+    /// # Errors
+    /// There is none, one cannot be read, or two define the same name; all that is wrong is said.
+    pub fn sources(&mut self, files: &[OsString]) -> Result<Vec<Source>, Trouble> {
+        let sources = self.files(files)?;
         let again = defined_twice(&sources);
         for (place, fault) in &again {
             self.complain(&format!("{place}: {fault}"))?;
         }
-        if sources.len() < files.len() || !again.is_empty() {
+        if !again.is_empty() {
             return Err(Trouble::Said(Status::Wrong));
         }
         Ok(sources)

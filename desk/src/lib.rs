@@ -3,7 +3,7 @@
 //!
 //! | module | subject |
 //! |---|---|
-//! | [`source`], [`lines`], [`fields`], [`words`] | files read, taken apart into lines, fields and words, and values |
+//! | [`source`], [`lines`], [`fields`], [`words`], [`unit`] | files read, taken apart into lines, fields, words and values |
 //! | [`fault`], [`place`], [`escape`] | why a line cannot be read, and where it is |
 //! | [`name`], [`given`], [`map`] | names, shapes as they are given, and the shapes of the names |
 //! | [`table`], [`question`], [`answer`] | the questions; the library asked |
@@ -13,7 +13,7 @@
 //! | [`floor`], [`fraction`] | all obstacles of a floor asked at once; distances compared |
 //! | [`changes`], [`settled`] | two maps compared, and which answers stay |
 //! | [`json`], [`object`] | answers as JSON |
-//! | [`picture`] | pictures |
+//! | [`picture`], [`formats`] | pictures; WKT and `GeoJSON` |
 //! | [`options`], [`command`], [`commands`], [`help`], [`progress`] | the program |
 #![forbid(unsafe_code)]
 #![deny(missing_docs)]
@@ -37,6 +37,7 @@ pub mod extent;
 pub mod fault;
 pub mod fields;
 pub mod floor;
+pub mod formats;
 pub mod fraction;
 pub mod given;
 pub mod help;
@@ -57,5 +58,6 @@ pub mod session;
 pub mod settled;
 pub mod source;
 pub mod table;
+pub mod unit;
 pub mod whole_floor;
 pub mod words;

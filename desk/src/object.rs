@@ -8,6 +8,7 @@ use crate::question::Drive;
 use crate::refusal::{hexadecimal, reason};
 use crate::report;
 use crate::session::{Event, Outcome};
+use crate::unit::Unit;
 use cocklesway::{
     Across, Addition, Axis, Beyond, Contact, Excess, Line, Nearest, Passage, Refusal, Relation,
     Tangents, Which, Width,
@@ -47,14 +48,8 @@ fn outcome(outcome: &Outcome) -> Members {
             [shape].into_iter().chain(replaced(earlier)).collect()
         }
         Outcome::Answered { answer, earlier } => {
-            let question = ("question", answer.word().into());
-            let asked = [question, ("shapes", list(answer.shapes()))];
-            let answer = answered(answer).into_iter();
-            asked
-                .into_iter()
-                .chain(answer)
-                .chain(replaced(earlier))
-                .collect()
+            let members = of_answer(answer).into_iter();
+            members.chain(replaced(earlier)).collect()
         }
         Outcome::Listed(shapes) => {
             vec![
@@ -68,7 +63,27 @@ fn outcome(outcome: &Outcome) -> Members {
             ("refused", refusal(refused.refusal, reason(refused))),
         ],
         Outcome::Removed { name, at } => vec![("not_asked", removed(name, at))],
+        Outcome::NotWhole { found, unit } => not_whole(found, *unit),
+        Outcome::Measured(unit) => vec![("unit", unit.to_string().into())],
     }
+}
+
+/// The members of a question and its answer.
+fn of_answer(answer: &Answer) -> Members {
+    let shapes = answer.shapes().into_iter().map(shape_of).collect();
+    let mut members = vec![
+        ("question", answer.word().into()),
+        ("shapes", Json::List(shapes)),
+    ];
+    members.extend(answered(answer));
+    members
+}
+
+/// The members of a length that is no whole number of millimetres.
+fn not_whole(found: &str, unit: Unit) -> Members {
+    let reason = report::not_whole(found, unit);
+    let members = vec![("number", 18_u64.into()), ("reason", reason.into())];
+    vec![("refused", Json::Object(members))]
 }
 
 /// A name whose definition was refused, and where.

@@ -50,7 +50,7 @@ fn run(arguments: &Arguments, console: &mut Console<'_>) -> Result<Status, Troub
             status = status.max(status_of(&event));
             tally.count(&event);
             match (&event.outcome, shape_of(&event)) {
-                (Outcome::Unasked(_) | Outcome::Listed(_), _) => Ok(()),
+                (Outcome::Unasked(_) | Outcome::Listed(_) | Outcome::Measured(_), _) => Ok(()),
                 (_, Some(shape)) if !json => console.say(&format!(
                     "{}: {}{}",
                     event.place,
@@ -125,9 +125,11 @@ impl Tally {
                 self.shapes += usize::from(!event.replaces());
                 self.replaced += usize::from(event.replaces());
             }
-            Outcome::Refused(_) | Outcome::Removed { .. } => self.refused += 1,
+            Outcome::Refused(_) | Outcome::Removed { .. } | Outcome::NotWhole { .. } => {
+                self.refused += 1;
+            }
             Outcome::Unreadable(_) => self.unreadable += 1,
-            Outcome::Unasked(_) | Outcome::Listed(_) => {}
+            Outcome::Unasked(_) | Outcome::Listed(_) | Outcome::Measured(_) => {}
         }
     }
 

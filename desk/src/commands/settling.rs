@@ -14,6 +14,7 @@ use crate::object::{self, relation};
 use crate::place::Place;
 use crate::question::{Around, Question};
 use crate::refusal::reason;
+use crate::report::not_whole;
 use crate::session::Session;
 use crate::settled::{Verdict, nearest, verdict};
 use crate::source::Source;
@@ -182,6 +183,9 @@ impl Answers {
             }
             Unread::Removed { line, name, at } => {
                 Unjudged::Unread(line, format!("`{name}` was refused at {at}"))
+            }
+            Unread::NotWhole { line, found, unit } => {
+                Unjudged::Unread(line, format!("refused (18): {}", not_whole(&found, unit)))
             }
         };
         let of_new = |unread| match unread {

@@ -7,5 +7,6 @@ mod objects;
 mod pictures;
 mod program;
 mod running;
+mod units;
 mod whole_floor;
 mod xml;
