@@ -1,5 +1,5 @@
 //! `cocklesway draw`: a floor as a picture.
-use super::chosen::{AT, FLOOR, named, number, place, whole_map};
+use super::chosen::{AT, BELOW, CART, FLOOR, limit, named, number, place, whole_map};
 use crate::answer::Refused;
 use crate::command::{Command, Console, Status, Trouble};
 use crate::given::{Given, Pair};
@@ -27,6 +27,12 @@ cannot be read, nothing is drawn.
 
     cocklesway draw map.txt --floor 2 -o floor.svg
     cocklesway draw map.txt --grow cart --at 3500,0 -o cart.svg
+    cocklesway draw map.txt --floor 2 --below 900 --cart cart --drive '0,0 3000,0 3000,2500' -o way.svg
+
+With --below the gaps of less than so many millimetres between obstacles that are apart are marked with
+their width; with --cart those that leave the cart less. With --drive the way of the cart's origin is
+drawn, what the cart passes over on each leg that is clear, and the cart where it first meets an
+obstacle. What is said of them is below the picture, as `cocklesway gaps` and `cocklesway drive` say it.
 ",
     run,
 };
@@ -36,6 +42,7 @@ const GAP: &str = "--gap";
 const TANGENTS: &str = "--tangents";
 const SUM: &str = "--sum";
 const ALSO: &str = "--also";
+const DRIVE: &str = "--drive";
 const OUTPUT: &str = "-o";
 
 const fn option(name: &'static str, value: &'static str, does: &'static str, many: bool) -> Known {
@@ -77,6 +84,20 @@ const OPTIONS: &[Known] = &[
         "NAME",
         "a named answer that was grown, summed or mirrored",
         true,
+    ),
+    Known {
+        does: "gaps of less than so many millimetres are marked",
+        ..BELOW
+    },
+    Known {
+        does: "the cart of --below and --drive; that of --grow without it",
+        ..CART
+    },
+    option(
+        DRIVE,
+        "PLACES",
+        "a drive from place to place, as 'X,Y X,Y ..'",
+        false,
     ),
     option(
         OUTPUT,
@@ -138,7 +159,40 @@ fn wishes(arguments: &Arguments, map: &Map) -> Result<Wishes, Misuse> {
         gaps: pairs(GAP).collect::<Result<_, _>>()?,
         tangents: pairs(TANGENTS).collect::<Result<_, _>>()?,
         sums: pairs(SUM).collect::<Result<_, _>>()?,
+        below: limit(arguments)?,
+        ..driven(arguments, map)?
     })
+}
+
+/// The cart that drives, and where.
+fn driven(arguments: &Arguments, map: &Map) -> Result<Wishes, Misuse> {
+    let driven = arguments.value(CART.name);
+    let driven = driven
+        .map(|value| named(CART.name, value, map))
+        .transpose()?;
+    let places = arguments.value(DRIVE).unwrap_or_default().to_string_lossy();
+    let places = places
+        .split_whitespace()
+        .map(|word| place(DRIVE, OsStr::new(word)));
+    let drive: Vec<[i32; 2]> = places.collect::<Result<_, _>>()?;
+    let words = match drive.len() {
+        0 if !arguments.has(DRIVE) => None,
+        0 | 1 => Some(format!(
+            "{DRIVE} needs two places or more: {DRIVE} 'X,Y X,Y ..'"
+        )),
+        _ if driven.is_none() && !arguments.has(GROW) => {
+            Some(format!("{DRIVE} needs a cart: {} CART", CART.name))
+        }
+        _ => None,
+    };
+    match words {
+        Some(words) => Err(Misuse::Other(words)),
+        None => Ok(Wishes {
+            driven,
+            drive,
+            ..Wishes::default()
+        }),
+    }
 }
 
 /// Whether all that is wished for is on the floor: a picture of one floor shows nothing of another. A gap and tangents

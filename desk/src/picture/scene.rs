@@ -2,7 +2,7 @@
 use super::frame::Rect;
 use crate::answer::{Refused, clearance, made, relation, tangents};
 use crate::distance::Distance;
-use crate::floor::{is_cart, is_thing};
+use crate::floor::{Floor, is_cart, is_thing};
 use crate::given::{Given, Pair};
 use crate::map::{Map, Origin};
 use crate::question::Making;
@@ -22,6 +22,8 @@ pub enum Role {
     Zone,
     /// A vector sum.
     Sum,
+    /// What the cart passes over on a drive, or the cart where it begins it.
+    Way,
 }
 
 /// A shape that is drawn.
@@ -42,6 +44,10 @@ pub enum LineKind {
     Gap,
     /// One that just touches both.
     Tangent,
+    /// The way of the cart's origin.
+    Way,
+    /// An edge of the cart where it first meets an obstacle.
+    Contact,
 }
 
 /// A line that is drawn, in millimetres.
@@ -53,6 +59,15 @@ pub struct Stroke {
     pub ends: [[f64; 2]; 2],
 }
 
+/// A word that is written at a place, in millimetres.
+#[derive(Clone, Debug, PartialEq)]
+pub struct Tag {
+    /// The word.
+    pub text: String,
+    /// The place.
+    pub at: [f64; 2],
+}
+
 /// A picture before it is laid out.
 #[derive(Clone, Debug, Default, PartialEq)]
 pub struct Scene {
@@ -62,6 +77,8 @@ pub struct Scene {
     pub figures: Vec<Figure>,
     /// The lines.
     pub strokes: Vec<Stroke>,
+    /// Words at lines.
+    pub tags: Vec<Tag>,
     /// Where the cart's origin is.
     pub place: Option<[i32; 2]>,
     /// Sentences below the picture.
@@ -85,6 +102,12 @@ pub struct Wishes {
     pub tangents: Vec<Pair>,
     /// Pairs whose sum is drawn.
     pub sums: Vec<Pair>,
+    /// Gaps of less than so many millimetres are marked.
+    pub below: Option<u64>,
+    /// The cart that drives, and for which gaps are measured.
+    pub driven: Option<Given>,
+    /// The places of a drive.
+    pub drive: Vec<[i32; 2]>,
 }
 
 impl Figure {
@@ -152,6 +175,9 @@ pub fn scene(map: &Map, floor: u16, wishes: &Wishes) -> Result<Scene, Refused> {
         scene.add_things(&things, None);
     }
     scene.add_wishes(wishes)?;
+    if !things.is_empty() {
+        scene.add_floor(map, wishes)?;
+    }
     Ok(scene)
 }
 
@@ -162,7 +188,8 @@ impl Scene {
         self.figures.iter().any(|figure| figure.role == role)
     }
 
-    fn add(&mut self, role: Role, label: String, shape: Given) {
+    /// Adds a figure above all others.
+    pub fn add(&mut self, role: Role, label: String, shape: Given) {
         self.figures.push(Figure { role, label, shape });
     }
 
@@ -212,6 +239,19 @@ impl Scene {
         self.add(Role::Cart, label, there);
         self.place = at;
         Ok(())
+    }
+
+    /// Adds what is asked of all obstacles at once.
+    fn add_floor(&mut self, map: &Map, wishes: &Wishes) -> Result<(), Refused> {
+        let cart = wishes.driven.as_ref();
+        let floor = Floor::of(map, self.floor, cart.or(wishes.cart.as_ref()))?;
+        if let Some(limit) = wishes.below {
+            self.add_gaps(&floor, cart, limit)?;
+        }
+        match cart.or(wishes.cart.as_ref()) {
+            Some(cart) => self.add_drive(&floor, cart, &wishes.drive),
+            None => Ok(()),
+        }
     }
 
     fn add_wishes(&mut self, wishes: &Wishes) -> Result<(), Refused> {
