@@ -24,6 +24,12 @@ impl Progress {
         }
     }
 
+    /// Says what is begun that will take more than a second and cannot say how far it has come.
+    pub fn ahead(console: &mut Console<'_>, what: &str) {
+        let _ = writeln!(console.errors, "cocklesway: {what}, which takes some time");
+        let _ = console.errors.flush();
+    }
+
     /// Says how many of how many things are done, if a second has passed since it said so last.
     pub fn at(&mut self, console: &mut Console<'_>, done: usize, of: usize) {
         let passed = self.began.elapsed();

@@ -34,6 +34,9 @@ of this program.
     run,
 };
 
+/// So many pairs take the library about a second in one question.
+const MANY: usize = 500_000;
+
 const APART: Known = Known {
     name: "--apart",
     value: None,
@@ -76,6 +79,10 @@ fn listed(
 ) -> Result<Vec<Gap>, Trouble> {
     let (mut progress, of) = (Progress::new("pairs"), solids.pairs());
     let gaps = if of == 0 || (limit.is_none() && !only_apart) {
+        let shapes = solids.floor.shapes.len();
+        if of > MANY {
+            Progress::ahead(console, &format!("one question on all {shapes} shapes"));
+        }
         solids.narrowest().map(|gap| vec![gap])
     } else {
         let most = limit.unwrap_or(u64::MAX);
@@ -113,8 +120,10 @@ fn summary(solids: &Solids<'_>, gaps: &[Gap], limit: u64) -> String {
     let count = gaps.len();
     let none = gaps.iter().filter(|gap| gap.nearest.is_none()).count();
     let of = match solids.cart {
-        Some(cart) => format!("leave {cart} less than {limit} mm, and {none} of these no way"),
-        None => format!("have a gap of less than {limit} mm, and {none} of these none"),
+        Some(cart) => {
+            format!("leave {cart} less than {limit} mm; it cannot pass at {none} of these")
+        }
+        None => format!("have a gap of less than {limit} mm; {none} of these are not apart"),
     };
-    format!("on floor {floor} {count} of {pairs} pairs {of}")
+    format!("floor {floor}: {count} of {pairs} pairs {of}")
 }

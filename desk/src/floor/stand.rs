@@ -95,11 +95,12 @@ impl Stand {
         };
         let said = |verb: &str, names: Vec<String>| match names.as_slice() {
             [] => None,
-            names => Some(format!("{verb} {}", names.join(", "))),
+            [one] => Some(format!("{verb} {one}")),
+            [first @ .., last] => Some(format!("{verb} {} and {last}", first.join(", "))),
         };
         let touched = said("touches", names(Relation::Touching));
         let overlapped = said("overlaps", names(Relation::Overlapping));
         let all: Vec<String> = [overlapped, touched].into_iter().flatten().collect();
-        format!("{label} {} on floor {number}", all.join(" and "))
+        format!("{label} on floor {number} {}", all.join("; it "))
     }
 }

@@ -242,6 +242,7 @@ fn files_of_all_sorts() {
 fn whole_floors_of_all_sorts() {
     let mut dice = Dice::new(50);
     let folder = Folder::new();
+    let old = folder.file("old", GOOD[0]);
     let commands = [
         "gaps - --floor 2 --cart cart --below 5000",
         "gaps - --json --apart",
@@ -252,10 +253,9 @@ fn whole_floors_of_all_sorts() {
         "export - --as geojson",
         "diff - OLD --json",
     ];
-    for number in 0..FILES / 5 {
+    for number in 0..FILES / 10 {
         let bytes = file(&mut dice);
-        let command =
-            commands[number % commands.len()].replace("OLD", &folder.file("old", GOOD[0]));
+        let command = commands[number % commands.len()].replace("OLD", &old);
         let words: Vec<&str> = command.split(' ').collect();
         let ran = with_input(&words, &bytes);
         assert_eq!(
@@ -286,7 +286,7 @@ fn formats_of_all_sorts() {
     ];
     let mut dice = Dice::new(51);
     let mut ended = [0; 3];
-    for _ in 0..FILES / 5 {
+    for _ in 0..FILES / 10 {
         let mut bytes = dice.pick(&good).as_bytes().to_vec();
         for _ in 0..dice.below(4) {
             mutate(&mut dice, &mut bytes);

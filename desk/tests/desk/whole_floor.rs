@@ -50,7 +50,7 @@ fn gaps_of_a_floor() {
              (24000, 9000) of north-2",
             "linen-store and desk-2 are 880 mm apart, between corner (18000, 5400) of linen-store and corner \
              (18880, 5400) of desk-2",
-            "on floor 2 6 of 91 pairs have a gap of less than 900 mm, and 0 of these none",
+            "floor 2: 6 of 91 pairs have a gap of less than 900 mm; 0 of these are not apart",
         ],
     );
     let all = on_hospital("gaps - --floor 2 --below 900");
@@ -61,7 +61,7 @@ fn gaps_of_a_floor() {
     );
     says(
         "gaps - --floor 2 --below 0",
-        &["on floor 2 0 of 91 pairs have a gap of less than 0 mm, and 0 of these none"],
+        &["floor 2: 0 of 91 pairs have a gap of less than 0 mm; 0 of these are not apart"],
     );
 }
 
@@ -81,7 +81,7 @@ fn gaps_for_a_cart() {
     );
     assert_eq!(
         lines[6],
-        "on floor 2 6 of 91 pairs leave cart less than 281 mm, and 5 of these no way"
+        "floor 2: 6 of 91 pairs leave cart less than 281 mm; it cannot pass at 5 of these"
     );
 }
 
@@ -161,15 +161,15 @@ fn a_cart_at_a_place() {
     );
     says(
         "stands - --cart cart --at -600,100 --floor 2",
-        &["cart at (-600, 100) touches west-2 on floor 2"],
+        &["cart at (-600, 100) on floor 2 touches west-2"],
     );
     says(
         "stands - --cart cart --at 23800,0 --floor 2",
-        &["cart at (23800, 0) overlaps east-2 and touches south-2 on floor 2"],
+        &["cart at (23800, 0) on floor 2 overlaps east-2; it touches south-2"],
     );
     says(
         "stands - --cart cart --at 1500,5500 --floor 1",
-        &["cart at (1500, 5500) overlaps bed-11 on floor 1"],
+        &["cart at (1500, 5500) on floor 1 overlaps bed-11"],
     );
 }
 
