@@ -1,5 +1,5 @@
 //! Distances compared exactly, as fractions.
-use cocklesway::{Meeting, Nearest};
+use cocklesway::Nearest;
 use std::cmp::Ordering;
 
 /// A fraction. Its denominator is below 2^64, and not 0.
@@ -34,12 +34,6 @@ impl Fraction {
                 Fraction::new(u128::from(across.turn).pow(2), across.squared)
             }
         }
-    }
-
-    /// Returns the part of its way after which a cart meets an obstacle.
-    #[must_use]
-    pub fn of_way(meeting: Meeting) -> Fraction {
-        Fraction::new(meeting.numerator.into(), meeting.denominator)
     }
 }
 

@@ -4,14 +4,14 @@ use crate::given::{Given, Pair};
 use crate::json::Json;
 use crate::name::Name;
 use crate::place::Place;
-use crate::question::Drive;
+use crate::question::{Drive, Past};
 use crate::refusal::{hexadecimal, reason};
 use crate::report;
 use crate::session::{Event, Outcome};
 use crate::unit::Unit;
 use cocklesway::{
-    Across, Addition, Axis, Beyond, Contact, Excess, Line, Nearest, Passage, Refusal, Relation,
-    Tangents, Which, Width,
+    Across, Addition, Axis, Beyond, Contact, Excess, LeastBox, Line, Meeting, Nearest, Passage,
+    Refusal, Relation, Tangents, Which, Width,
 };
 
 type Members = Vec<(&'static str, Json)>;
@@ -126,6 +126,9 @@ pub fn refusal(refusal: Refusal, reason: String) -> Json {
         Refusal::Side { edge, corner, .. } => {
             members.extend([("edge", edge.into()), ("corner", corner.into())]);
         }
+        Refusal::NotConvex { before, corner } => {
+            members.extend([("before", before.into()), ("corner", corner.into())]);
+        }
         Refusal::Damaged { place } => members.push(("place", place.into())),
         Refusal::NotFinite { axis } | Refusal::NotWhole { axis } | Refusal::FarReading { axis } => {
             members.push(("axis", if axis == Axis::X { "x" } else { "y" }.into()));
@@ -180,17 +183,34 @@ pub fn answered(answer: &Answer) -> Members {
             let places = clearance([one, other], found.nearest, found.rounded());
             [records].into_iter().chain(places).collect()
         }
+        Answer::Drive(past, found) => driven(past, *found),
         Answer::Contact(drive, found) => contact(drive, *found),
     }
 }
 
+fn driven(past: &Past, found: cocklesway::Drive) -> Members {
+    let record = found
+        .first
+        .map(|(name, _)| ("record", u64::from(name).into()));
+    let way = on_way(
+        [past.from, past.to],
+        found.first.map(|(_, meeting)| meeting),
+    );
+    way.into_iter().chain(record).collect()
+}
+
 fn contact(drive: &Drive, found: Contact) -> Members {
+    on_way([drive.from, drive.to], found.meeting)
+}
+
+/// The ends of a way, and where on it something is met.
+fn on_way([from, to]: [[i32; 2]; 2], meeting: Option<Meeting>) -> Members {
     let mut members = vec![
-        ("from", drive.from.into()),
-        ("to", drive.to.into()),
-        ("meets", found.meeting.is_some().into()),
+        ("from", from.into()),
+        ("to", to.into()),
+        ("meets", meeting.is_some().into()),
     ];
-    members.extend(found.meeting.into_iter().flat_map(|meeting| {
+    members.extend(meeting.into_iter().flat_map(|meeting| {
         [
             ("numerator", meeting.numerator.into()),
             ("denominator", meeting.denominator.into()),
@@ -228,6 +248,7 @@ fn about_one(shape: &Given, about: &AboutOne) -> Members {
             ("to", shape.corner(found.to).0.into()),
         ],
         AboutOne::Width(found) => width(shape, *found),
+        AboutOne::Box(found) => least_box(shape, *found),
         AboutOne::Area(found) => vec![("twice", found.twice.into())],
     }
 }
@@ -239,6 +260,15 @@ fn width(shape: &Given, found: Width) -> Members {
         ("turn", found.turn.into()),
         ("squared", found.squared.into()),
         ("rounded", found.rounded.into()),
+    ]
+}
+
+fn least_box(shape: &Given, found: LeastBox) -> Members {
+    vec![
+        ("edge", edge(shape, found.edge)),
+        ("height", found.height.into()),
+        ("along", found.along.into()),
+        ("squared", found.squared.into()),
     ]
 }
 
@@ -254,6 +284,11 @@ fn about_two(pair: &Pair, about: &AboutTwo) -> Members {
         }
         AboutTwo::Find(found) => vec![("direction", found.direction.into())],
         AboutTwo::Clearance(found) => clearance([&pair.a, &pair.b], found.nearest, found.rounded()),
+        AboutTwo::Greatest(found) => vec![
+            ("squared", found.squared.into()),
+            ("first", pair.a.corner(found.first).0.into()),
+            ("second", pair.b.corner(found.second).0.into()),
+        ],
         AboutTwo::Excess(found) => excess(pair, *found),
         AboutTwo::Tangents(found) => tangents(pair, *found),
         AboutTwo::Parts(written) => vec![("calls", Json::List(written.iter().map(call).collect()))],

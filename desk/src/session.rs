@@ -2,7 +2,7 @@
 //!
 //! Every line of a file gives exactly one event. A definition that is refused or cannot be read removes its name, so
 //! that no later question is answered with a shape from before it.
-use crate::answer::{Answer, Made, Refused, ask};
+use crate::answer::{Answer, Made, Refused, ask, made};
 use crate::fault::Fault;
 use crate::fields::{Fields, Part, Unread, name_of};
 use crate::given::Given;
@@ -10,7 +10,7 @@ use crate::lines::{Line, lines, text_of};
 use crate::map::{Entry, Map, Origin};
 use crate::name::{Name, most_like};
 use crate::place::Place;
-use crate::question::{OfOne, Question};
+use crate::question::{Making, OfOne, Question};
 use crate::source::Source;
 use crate::table;
 use crate::unit::Unit;
@@ -307,7 +307,7 @@ impl Session {
                     name: Some(name.clone()),
                     ..points
                 };
-                match normalised(named) {
+                match made(Making::Ring(named)) {
                     Ok(shape) => self.defined(place, name, shape),
                     Err(refused) => Outcome::Refused(refused),
                 }
@@ -432,17 +432,6 @@ fn not_read(unread: Unread) -> (usize, Outcome) {
         Unread::Fault { line, fault } => (line, Outcome::Unreadable(fault)),
         Unread::Removed { line, name, at } => (line, Outcome::Removed { name, at }),
         Unread::NotWhole { line, found, unit } => (line, Outcome::NotWhole { found, unit }),
-    }
-}
-
-/// Returns the shape of a ring as people have it. This is the one place that asks for it.
-///
-/// # Errors
-/// The question, with its refusal.
-pub fn normalised(points: Given) -> Result<Given, Refused> {
-    match cocklesway::judge(points.alone()) {
-        Ok(_) => Ok(points),
-        Err(refusal) => Err(Refused::new(Question::One(points, OfOne::Judge), refusal)),
     }
 }
 

@@ -56,7 +56,7 @@ pub fn later(f: Share, g: Share) -> Share
 }
 
 // Whether a·b is less than c·d.
-fn is_less(a: u64, b: u64, c: u64, d: u64) -> bool
+pub fn is_less(a: u64, b: u64, c: u64, d: u64) -> bool
     ensures { λ r. ⌜ r ≡ ltb (a * b) (c * d) ⌝ }
 {
     let one = [a];

@@ -19,9 +19,9 @@ pub const COMMAND: Command = Command {
     options: &[CART, FLOOR, JSON],
     page: "\
 The places are those of the cart's origin. The cart drives straight from each to the next and does not
-turn. What it meets first is the least of the library's `contact` with every obstacle, in a loop of
-this program. If it meets none, the nearest obstacle to all that it passes over is one answer of the
-library on the whole floor. Touching is meeting. Every leg is answered, those after a contact too.
+turn. What it meets first on a leg is one answer of the library on the whole floor; if it meets nothing,
+so is the nearest obstacle to all that it passes over. Going from leg to leg is a loop of this program.
+Touching is meeting. Every leg is answered, those after a contact too.
 
     cocklesway drive map.txt --cart cart 0,0 3000,0 3000,2500
 ",

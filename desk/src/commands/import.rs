@@ -1,12 +1,14 @@
 //! `cocklesway import`: shapes of another program's file as a map.
 use super::ask::status_of;
+use crate::answer::made;
 use crate::command::{Command, Console, Status, Trouble};
 use crate::formats::{Feature, Where, read};
 use crate::given::Given;
 use crate::lines::text_of;
 use crate::options::{Arguments, Known, Misuse};
+use crate::question::Making;
 use crate::report::sentence;
-use crate::session::{Session, normalised};
+use crate::session::Session;
 use crate::source::Source;
 use crate::unit::Unit;
 
@@ -119,7 +121,7 @@ fn outline(feature: &Feature, name: &str) -> String {
         numbers: feature.numbers.as_slice().into(),
         floor: None,
     };
-    let shape = normalised(given.clone()).unwrap_or(given);
+    let shape = made(Making::Ring(given.clone())).unwrap_or(given);
     format!("outline | {name} | {}\n", joined(&shape.numbers))
 }
 

@@ -1,12 +1,11 @@
 //! What a cart meets on straight drives from place to place, without turning.
 use super::Floor;
-use crate::answer::{Answer, Refused, ask, made};
+use crate::answer::{Refused, ask, made};
 use crate::called::Called;
 use crate::distance::Distance;
-use crate::fraction::Fraction;
 use crate::given::{Corner, Edge, Given, Pair};
-use crate::question::{Drive, Making, Question};
-use cocklesway::{Meeting, Nearest};
+use crate::question::{Drive, Making, Past, Question};
+use cocklesway::{Meeting, Nearest, Refusal};
 
 /// A straight drive.
 #[derive(Clone, Debug, PartialEq)]
@@ -26,31 +25,25 @@ pub enum Found {
     Clear((usize, Option<Nearest>), Given),
 }
 
-/// Returns the first obstacle that a cart meets on a straight drive: the least part of the way, and the first in the
-/// map of several. This is the one place that asks it: a loop of the desk's own over the library's `contact`.
-///
-/// # Errors
-/// The library's refusal for one of the obstacles.
-fn first_met(
-    floor: &Floor,
-    cart: &Given,
-    [from, to]: [[i32; 2]; 2],
-) -> Result<Option<(usize, Meeting)>, Refused> {
-    let mut first: Option<(usize, Meeting)> = None;
-    for (position, obstacle) in floor.shapes.iter().enumerate() {
+/// Returns why a drive was refused, with the name of the obstacle that it is about, if there is one.
+fn refused(floor: &Floor, cart: &Given, [from, to]: [[i32; 2]; 2], refusal: Refusal) -> Refused {
+    let asked = floor.shapes.iter().map(|obstacle| {
         let (a, b) = (obstacle.clone(), floor.here(cart));
         let pair = Pair { a, b };
-        let Answer::Contact(_, found) = ask(Question::Contact(Drive { pair, from, to }))? else {
-            continue;
+        Question::Contact(Drive { pair, from, to })
+    });
+    let named = asked.filter_map(|question| ask(question).err());
+    let mut named = named.filter(|refused| refused.refusal.number() == refusal.number());
+    named.next().unwrap_or_else(|| {
+        let (log, cart) = (Vec::new(), floor.here(cart));
+        let past = Past {
+            log,
+            cart,
+            from,
+            to,
         };
-        let is_less = |meeting: &Meeting| {
-            first.is_none_or(|(_, other)| Fraction::of_way(*meeting) < Fraction::of_way(other))
-        };
-        if let Some(meeting) = found.meeting.filter(is_less) {
-            first = Some((position, meeting));
-        }
-    }
-    Ok(first)
+        Refused::new(Question::Drive(past), refusal)
+    })
 }
 
 /// Drives a cart straight from a place to another.
@@ -59,7 +52,9 @@ fn first_met(
 /// The library's refusal: 20 if the floor has no obstacle.
 pub fn leg(floor: &Floor, cart: &Given, [from, to]: [[i32; 2]; 2]) -> Result<Leg, Refused> {
     let way = Edge(Corner(from), Corner(to));
-    if let Some((position, meeting)) = first_met(floor, cart, [from, to])? {
+    let met = floor.contact(cart, [from, to]);
+    let met = met.map_err(|refusal| refused(floor, cart, [from, to], refusal))?;
+    if let Some((position, meeting)) = met {
         let found = Found::Met(position, meeting);
         return Ok(Leg { way, found });
     }

@@ -20,7 +20,7 @@ use crate::given::Given;
 use crate::map::{Map, Origin};
 use crate::question::{Around, Making, Narrowest, Question, Record};
 use crate::refusal;
-use cocklesway::{Book, Nearest, Refusal};
+use cocklesway::{Book, Meeting, Nearest, Refusal};
 
 /// Bytes of a record besides its corners, and for each corner.
 const RECORD: usize = 9;
@@ -141,6 +141,20 @@ impl Floor {
         };
         let found = found.map_err(refused)?;
         Ok((found.names.map(usize::from), found.nearest))
+    }
+
+    /// Returns the first obstacle that a cart meets on a straight drive, and where: the first of the map of several.
+    /// One call of the library.
+    ///
+    /// # Errors
+    /// The library's refusal: 20 if the floor has no obstacle.
+    pub fn contact(
+        &self,
+        cart: &Given,
+        [from, to]: [[i32; 2]; 2],
+    ) -> Result<Option<(usize, Meeting)>, Refusal> {
+        let found = cocklesway::log_contact(&self.book, cart.on(self.number), from, to)?;
+        Ok(found.first.map(|(name, meeting)| (name.into(), meeting)))
     }
 
     /// Returns a shape on this floor if it has none of its own.

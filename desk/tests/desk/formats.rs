@@ -26,7 +26,6 @@ fn checked(map: &str) -> Vec<String> {
 }
 
 #[test]
-#[ignore = "needs the question ring"]
 fn a_map_goes_out_and_comes_in() {
     let folder = Folder::new();
     let old = folder.file("old.txt", HOSPITAL);
@@ -47,7 +46,6 @@ fn a_map_goes_out_and_comes_in() {
 }
 
 #[test]
-#[ignore = "needs the question ring"]
 fn wkt_as_people_have_it() {
     let text = "# A floor in metres.\nPOINT (1.5 -2)\n\nbed @2 polygon((0 0.9, 2 0.9, 2 0, 1 0, 0 0, 0 0.9))\n\
                 wall;LINESTRING(4 1e0,0 1)\noutline cart POLYGON ((0 0, 0.6 0, 0.6 0.9, 0 0.9, 0 0))\n";
@@ -68,7 +66,6 @@ fn wkt_as_people_have_it() {
 }
 
 #[test]
-#[ignore = "needs the question ring"]
 fn geojson_as_people_have_it() {
     let feature = r#"{"type":"Feature","id":4,"properties":{"name":"W\u00e4sche-\uD83D","floor":2},"geometry":null}"#;
     assert!(
@@ -99,7 +96,6 @@ fn geojson_as_people_have_it() {
 
 /// A ring that is not convex is written and refused, with the corner that turns in, and never filled up.
 #[test]
-#[ignore = "needs the question ring"]
 fn a_ring_that_turns_in() {
     let ran = import("nook POLYGON ((0 0, 9 0, 9 9, 5 4, 0 9, 0 0))\n", &[]);
     assert_eq!(ran.output, "ring | nook | @0 0 0 9 0 9 9 5 4 0 9 0 0\n");

@@ -24,6 +24,8 @@ const GOOD: &[&str] = &[
     "unit m\nring | bed | @2 0 0 2.0 0 2 0.9 0 0.90 0 0\nshape | wall | @2 0 1.5 4 1.5\nunit | cm\n\
      shape | post | @2 1.5 2.25\nunit mm\nring | cart | 0 0 0 900 600 900 600 0\nclearance | bed | wall\n\
      contact | bed | cart | 0.0 -1.5 | 9 9\n",
+    "bed = ring | @2 9 0 9 7 0 7 0 0 4 0 9 0 | 8\nbox | bed\ngreatest | bed | @2 5 6 3 9\n\
+     drive | 0F0002000700020001000000FFFFFFFF5A | @2 0 0 1 0 | -9 -1 | 9 -1\nring | 0 0 4 0 1 1 0 4\n",
 ];
 
 /// Words of lines, good and bad.
@@ -38,13 +40,16 @@ const WORDS: &[&str] = &[
     "at",
     "merge",
     "sweep",
+    "ring",
     "mirror",
     "relation",
     "clearance",
+    "greatest",
     "excess",
     "judge",
     "shapes",
     "width",
+    "box",
     "length",
     "area",
     "tangents",
@@ -62,6 +67,7 @@ const WORDS: &[&str] = &[
     "entry",
     "nearest",
     "gap",
+    "drive",
     "contact",
     "a",
     "b",

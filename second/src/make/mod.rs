@@ -3,7 +3,7 @@
 //!
 //!     fields                the fields of each question
 //!     shapes, pairs, long   good shapes, alone and in pairs; damage: lists that are refused
-//!     points                points of sweeps; floors: those of all lists
+//!     points                points of sweeps; rings: rings; floors: those of all lists
 //!     apart                 pairs of good shapes that are mostly apart
 //!     passages              two obstacles and a cart; drives: an obstacle, a cart and two places
 //!     parts                 walks and calls of sums in parts; all of them for small sums
@@ -31,6 +31,7 @@ pub mod parts;
 mod passages;
 pub mod points;
 pub mod readings;
+pub mod rings;
 pub mod shapes;
 mod spoil;
 mod tails;

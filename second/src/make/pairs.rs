@@ -25,6 +25,22 @@ pub fn any(dice: &mut Dice) -> (Shape, Shape) {
     in_either_order(dice, a, b)
 }
 
+/// A shape that is equal to its image, or nearly, and another one or itself made larger or smaller.
+pub fn about_one_centre(dice: &mut Dice) -> (Shape, Shape) {
+    let a = shapes::tied(dice);
+    let b = match dice.below(5) {
+        0 => a.clone(),
+        1 => shapes::mostly_small(dice),
+        2 => moved(&a, vector(dice, 2)),
+        3 => hull_of(a.iter().map(|&c| -c).collect()),
+        _ => {
+            let factor = dice.pick(&[2, 3]);
+            moved(&scaled(&a, factor), vector(dice, 2))
+        }
+    };
+    in_either_order(dice, a, b)
+}
+
 /// The two as they are or exchanged, both moved alike.
 pub fn in_either_order(dice: &mut Dice, a: Shape, b: Shape) -> (Shape, Shape) {
     let (a, b) = if dice.one_in(2) { (a, b) } else { (b, a) };

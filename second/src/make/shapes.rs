@@ -162,7 +162,7 @@ fn partner(x: i64, y: i64) -> Point {
 }
 
 /// Equal and nearly equal widths and lengths.
-fn tied(dice: &mut Dice) -> Shape {
+pub fn tied(dice: &mut Dice) -> Shape {
     let size = dice.pick(&[2, 5, 12, 1000, 150_000]);
     let mut edges = match dice.below(5) {
         0 => rectangle(dice, size),

@@ -1,0 +1,6 @@
+-- The first shape of a floor that a straight drive meets: the definitions; what they mean; cases; what the search keeps; then the theory.
+pub mod Drive
+pub mod Meaning
+pub mod Cases
+pub mod Search
+pub mod theory

@@ -1,0 +1,5 @@
+-- A ring of points cleaned, and brought to the standard list; positions as code holds them; then what it means, and the theory behind it.
+pub mod Round
+pub mod Ring
+pub mod Places
+pub mod theory

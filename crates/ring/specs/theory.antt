@@ -1,0 +1,12 @@
+-- The theory of rings, which only proves.
+--     Buffers    what a loop has stored, and what is still to come
+--     Steps      the walks of the definitions, one step at a time
+--     Under      all positions are positions of the list
+--     Inward     the test whether a corner turns in, by its parts
+--     Rows       rows 1 to 3; Answers: the others, and the answer
+pub mod Buffers
+pub mod Steps
+pub mod Under
+pub mod Inward
+pub mod Rows
+pub mod Answers
