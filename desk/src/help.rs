@@ -8,6 +8,7 @@ A map is a text file, one thing a line:
 
     shape | linen-store | @2 3000 1000 4200 1000 4200 1800 3000 1800
     outline | cart | 0 0 600 0 600 900 0 900
+    ring | bed | @2 6000 4100 8000 4100 8000 3200 6000 3200 6000 4100
     grown = grow | linen-store | cart
 
 shape     a name, then the corners: the floor after @, and x y of each corner in whole millimetres,

@@ -3,7 +3,8 @@
 //!
 //! | module | subject |
 //! |---|---|
-//! | [`source`], [`lines`], [`fields`], [`words`], [`unit`] | files read, taken apart into lines, fields, words and values |
+//! | [`source`], [`lines`], [`fields`], [`words`] | files read, taken apart into lines, fields and words, and values |
+//! | [`unit`] | lengths read exactly |
 //! | [`fault`], [`place`], [`escape`] | why a line cannot be read, and where it is |
 //! | [`name`], [`given`], [`map`] | names, shapes as they are given, and the shapes of the names |
 //! | [`table`], [`question`], [`answer`] | the questions; the library asked |

@@ -47,7 +47,7 @@ pub enum Misuse {
     Other(String),
 }
 
-/// Takes arguments apart. After `--` all are files; `-` is a file, standard input. A minus before a digit begins a place.
+/// Takes arguments apart. After `--` all are files; `-` is a file, standard input. A minus before a digit is no option.
 ///
 /// # Errors
 /// Why they cannot be used.

@@ -248,9 +248,9 @@ impl fmt::Display for Why {
     fn fmt(&self, f: &mut fmt::Formatter<'_>) -> fmt::Result {
         match self {
             Why::Lost { was, lost } => {
-                write!(f, "where at most {lost} mm of {was} mm were lost")
+                write!(f, "since up to {lost} mm of its {was} mm may be lost")
             }
-            Why::Nothing => f.write_str("where nothing was left to lose"),
+            Why::Nothing => f.write_str("since there was nothing to lose"),
             Why::Around => f.write_str("since the nearest or what is around it changed"),
             Why::Floor => f.write_str("of which one is on another floor"),
             Why::Unknown => f.write_str("of which one changed"),

@@ -1,6 +1,7 @@
 //! What a picture shows of a whole floor: gaps below a limit, and a drive with what it meets.
 use super::scene::{LineKind, Role, Scene, Stroke, Tag, gap_of};
 use crate::answer::{Refused, clearance, made};
+use crate::distance::Distance;
 use crate::floor::Floor;
 use crate::floor::drive::{Found, Leg, leg};
 use crate::floor::gaps::Solids;
@@ -47,10 +48,11 @@ impl Scene {
         let found = clearance(pair)?;
         let distance = sentence::nearest(pair, found).map(|(distance, _)| distance);
         if let Some((distance, stroke)) = distance.zip(gap_of(pair, found)) {
-            self.tags.push(Tag {
-                text: distance.to_string(),
-                at: stroke.middle(),
-            });
+            // Whether it is rounded down is said below the picture.
+            let exact = true;
+            let text = Distance { exact, ..distance }.to_string();
+            let at = stroke.middle();
+            self.tags.push(Tag { text, at });
             self.strokes.push(stroke);
         }
         Ok(())

@@ -39,7 +39,7 @@ fn a_map_goes_out_and_comes_in() {
         let same = with_input(&["diff", &old, &new], b"");
         assert_eq!(
             same.output,
-            "same: 42, changed: 0, elsewhere: 0, added: 0, removed: 0\n"
+            "same: 41, changed: 0, elsewhere: 0, added: 0, removed: 0\n"
         );
     }
     json::read(&export(HOSPITAL, "geojson").replace('\n', "")).expect("JSON");
@@ -248,12 +248,12 @@ fn mistakes_of_files() {
             "a polygon with a hole is no convex shape",
         ),
         (
-            "{\"type\":\"Feature\",\"properties\":{\"name\":7},\"geometry\":{\"type\":\"Point\",\"coordinates\":[1,2]}}",
+            r#"{"type":"Feature","properties":{"name":7},"geometry":{"type":"Point","coordinates":[1,2]}}"#,
             2,
             "a name in quotes is expected, and not `7`",
         ),
         (
-            "{\"type\":\"Feature\",\"properties\":{\"floor\":-1},\"geometry\":{\"type\":\"Point\",\"coordinates\":[1,2]}}",
+            r#"{"type":"Feature","properties":{"floor":-1},"geometry":{"type":"Point","coordinates":[1,2]}}"#,
             2,
             "`-1` is no floor",
         ),

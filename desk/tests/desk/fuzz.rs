@@ -302,7 +302,7 @@ fn formats_of_all_sorts() {
         ended[usize::from(ran.status)] += 1;
     }
     assert!(
-        ended.iter().all(|&count| count > 20),
+        ended.iter().all(|&count| count > 100),
         "too few of one status: {ended:?}"
     );
 }

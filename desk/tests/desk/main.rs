@@ -7,6 +7,7 @@ mod maps;
 mod objects;
 mod pictures;
 mod program;
+mod rings;
 mod running;
 mod units;
 mod whole_floor;
