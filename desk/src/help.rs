@@ -8,6 +8,7 @@ A map is a text file, one thing a line:
 
     shape | linen-store | @2 3000 1000 4200 1000 4200 1800 3000 1800
     outline | cart | 0 0 600 0 600 900 0 900
+    ring | bed | @2 6000 4100 8000 4100 8000 3200 6000 3200 6000 4100
     grown = grow | linen-store | cart
 
 shape     a name, then the corners: the floor after @, and x y of each corner in whole millimetres,
@@ -15,6 +16,11 @@ shape     a name, then the corners: the floor after @, and x y of each corner in
           leftmost of several. One corner is a point, two are a segment. Without @ the floor is 0.
 outline   a shape without a floor, such as a cart around its origin 0 0. It takes the floor of the
           question.
+ring      a name, then points as a drawing has them: closed or open, either way round, from any corner,
+          with points in line or repeated. It must be convex: one that is not is refused (4) with the
+          corner that turns in, and is never filled up.
+unit      mm, cm or m: the unit of all lengths after it in this file, mm without it. Lengths may have
+          decimals. They are read exactly; one that is no whole number of millimetres is refused (18).
 NAME =    keeps the shape that a question answers: grow, at, merge, sweep, ring, sum, mirror, bookread,
           entry.
 shapes    lists all names.
@@ -63,6 +69,17 @@ of a box are `height`/√q across its edge and `along`/√q along it.
                   of a ring before and corner by their positions
     not_asked     name and at: a shape of the question was refused there
     replaces      where the earlier shape of the name is
+
+Commands on whole floors have one object an answer, with `floor`, names of shapes and the sentence:
+
+    gaps          cart, names; then as clearance, of both obstacles or of what they are when grown
+    passes        as passage
+    stands        cart, state, overlaps, touches, nearest; then as clearance
+    drive         leg, from, to, meets, name; as contact, or as clearance of all that is passed over
+    nearest       shape, name; then as clearance
+    check         remark: overlapping, equal or case; names
+    diff          change, name, old, new; up and back if it changed. With --answers: file, line,
+                  question, stays, was and least, or gone
 
 Lines that cannot be read are errors on standard error.
 ";
@@ -136,8 +153,9 @@ pub fn version() -> String {
 #[must_use]
 pub fn of_command(command: &Command) -> String {
     let mut page = format!(
-        "Usage: cocklesway {} [OPTIONS] FILE..\n\n{}.\n\n",
+        "Usage: cocklesway {} [OPTIONS] {}\n\n{}.\n\n",
         command.name,
+        command.takes,
         capital(command.does)
     );
     for option in command.options {

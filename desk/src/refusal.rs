@@ -320,8 +320,9 @@ fn of_direction(question: &Question, refusal: Refusal) -> String {
     }
 }
 
-/// The greatest common divisor, by Euclid's remainders.
-fn divisor(a: u32, b: u32) -> u32 {
+/// Returns the greatest common divisor, by Euclid's remainders.
+#[must_use]
+pub fn divisor(a: u32, b: u32) -> u32 {
     if b == 0 { a } else { divisor(b, a % b) }
 }
 

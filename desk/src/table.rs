@@ -241,6 +241,6 @@ pub fn find(word: &str) -> Option<&'static Row> {
 
 /// Returns all words that begin a line.
 pub fn words() -> impl Iterator<Item = &'static str> {
-    let others = ["shape", "outline", "shapes"].into_iter();
+    let others = ["shape", "outline", "unit", "shapes"].into_iter();
     others.chain(TABLE.iter().map(|row| row.word))
 }

@@ -2,6 +2,7 @@
 use super::frame::Rect;
 use crate::answer::{Refused, clearance, made, relation, tangents};
 use crate::distance::Distance;
+use crate::floor::{Floor, is_cart, is_thing};
 use crate::given::{Given, Pair};
 use crate::map::{Map, Origin};
 use crate::question::Making;
@@ -21,6 +22,8 @@ pub enum Role {
     Zone,
     /// A vector sum.
     Sum,
+    /// What the cart passes over on a drive, or the cart where it begins it.
+    Way,
 }
 
 /// A shape that is drawn.
@@ -41,6 +44,10 @@ pub enum LineKind {
     Gap,
     /// One that just touches both.
     Tangent,
+    /// The way of the cart's origin.
+    Way,
+    /// An edge of the cart where it first meets an obstacle.
+    Contact,
 }
 
 /// A line that is drawn, in millimetres.
@@ -52,6 +59,15 @@ pub struct Stroke {
     pub ends: [[f64; 2]; 2],
 }
 
+/// A word that is written at a place, in millimetres.
+#[derive(Clone, Debug, PartialEq)]
+pub struct Tag {
+    /// The word.
+    pub text: String,
+    /// The place.
+    pub at: [f64; 2],
+}
+
 /// A picture before it is laid out.
 #[derive(Clone, Debug, Default, PartialEq)]
 pub struct Scene {
@@ -61,6 +77,8 @@ pub struct Scene {
     pub figures: Vec<Figure>,
     /// The lines.
     pub strokes: Vec<Stroke>,
+    /// Words at lines.
+    pub tags: Vec<Tag>,
     /// Where the cart's origin is.
     pub place: Option<[i32; 2]>,
     /// Sentences below the picture.
@@ -84,28 +102,12 @@ pub struct Wishes {
     pub tangents: Vec<Pair>,
     /// Pairs whose sum is drawn.
     pub sums: Vec<Pair>,
-}
-
-/// Returns whether a shape is a thing on the floor. What is grown, summed or mirrored is none: it is drawn if it is
-/// asked for.
-#[must_use]
-pub fn is_thing(origin: &Origin) -> bool {
-    match origin {
-        Origin::Written => true,
-        Origin::Made(making) => {
-            !matches!(making, Making::Grow(_) | Making::Sum(_) | Making::Mirror(_))
-        }
-    }
-}
-
-/// Returns whether a shape is the cart, or the cart at a place.
-#[must_use]
-pub fn is_cart(shape: &Given, origin: &Origin, cart: &Given) -> bool {
-    let moved = match origin {
-        Origin::Made(Making::At(pair)) => pair.a.name.as_ref(),
-        _ => None,
-    };
-    cart.name.is_some() && (shape.name == cart.name || moved == cart.name.as_ref())
+    /// Gaps below this number of millimetres are marked.
+    pub below: Option<u64>,
+    /// The cart that drives, and for which gaps are measured.
+    pub driven: Option<Given>,
+    /// The places of a drive.
+    pub drive: Vec<[i32; 2]>,
 }
 
 impl Figure {
@@ -146,16 +148,6 @@ impl Stroke {
     }
 }
 
-/// Returns the floors of a map's shapes, in order.
-#[must_use]
-pub fn floors(map: &Map) -> Vec<u16> {
-    let things = map.shapes().filter(|(_, origin)| is_thing(origin));
-    let mut floors: Vec<u16> = things.filter_map(|(shape, _)| shape.floor).collect();
-    floors.sort_unstable();
-    floors.dedup();
-    floors
-}
-
 /// Returns all that a picture of a floor shows.
 ///
 /// # Errors
@@ -183,6 +175,9 @@ pub fn scene(map: &Map, floor: u16, wishes: &Wishes) -> Result<Scene, Refused> {
         scene.add_things(&things, None);
     }
     scene.add_wishes(wishes)?;
+    if !things.is_empty() {
+        scene.add_floor(map, wishes)?;
+    }
     Ok(scene)
 }
 
@@ -193,7 +188,8 @@ impl Scene {
         self.figures.iter().any(|figure| figure.role == role)
     }
 
-    fn add(&mut self, role: Role, label: String, shape: Given) {
+    /// Adds a figure above all others.
+    pub fn add(&mut self, role: Role, label: String, shape: Given) {
         self.figures.push(Figure { role, label, shape });
     }
 
@@ -243,6 +239,19 @@ impl Scene {
         self.add(Role::Cart, label, there);
         self.place = at;
         Ok(())
+    }
+
+    /// Adds what is asked of all obstacles at once.
+    fn add_floor(&mut self, map: &Map, wishes: &Wishes) -> Result<(), Refused> {
+        let cart = wishes.driven.as_ref();
+        let floor = Floor::of(map, self.floor, cart.or(wishes.cart.as_ref()))?;
+        if let Some(limit) = wishes.below {
+            self.add_gaps(&floor, cart, limit)?;
+        }
+        match cart.or(wishes.cart.as_ref()) {
+            Some(cart) => self.add_drive(&floor, cart, &wishes.drive),
+            None => Ok(()),
+        }
     }
 
     fn add_wishes(&mut self, wishes: &Wishes) -> Result<(), Refused> {

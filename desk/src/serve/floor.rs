@@ -3,7 +3,7 @@ use super::outgoing::Bad;
 use crate::answer::{Answer, Refused, ask, relation};
 use crate::given::{Given, Pair};
 use crate::map::Map;
-use crate::picture::scene::{is_cart, is_thing};
+use crate::floor::{is_cart, is_thing};
 use crate::question::{Around, Drive, Question, Record};
 use cocklesway::Relation;
 

@@ -323,8 +323,8 @@ fn errors_tell_file_line_and_word() {
         "`O` is not a number; a name must be alone in its field, and it brings its floor along"
     );
     assert_eq!(
-        error("judge | 0 1.5"),
-        "`1.5` is not a whole number of millimetres"
+        error("judge | 0 1,5"),
+        "`1,5` is not a whole number of millimetres"
     );
     assert_eq!(
         error("judge | 0 +5"),

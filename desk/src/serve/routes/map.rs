@@ -4,7 +4,7 @@ use crate::given::Given;
 use crate::json::Json;
 use crate::map::{Entry, Item, Origin};
 use crate::name::Name;
-use crate::picture::scene::{floors, is_thing};
+use crate::floor::{floors, is_thing};
 use crate::report::sentence;
 use crate::sentence::defined;
 use crate::serve::outgoing::{Bad, Response};
