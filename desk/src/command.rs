@@ -1,6 +1,6 @@
 //! The table of commands, and how each of them ends.
 use crate::commands::{
-    ask, check, diff, draw, drive, export, gaps, import, nearest, passes, serve, stands,
+    ask, book, check, diff, draw, drive, export, gaps, import, nearest, passes, serve, stands,
 };
 use crate::escape::quoted;
 use crate::help;
@@ -74,6 +74,7 @@ pub const COMMANDS: &[Command] = &[
     draw::COMMAND,
     import::COMMAND,
     export::COMMAND,
+    book::COMMAND,
     serve::COMMAND,
 ];
 

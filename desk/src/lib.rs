@@ -13,6 +13,7 @@
 //! | [`called`], [`distance`], [`extent`] | what sentences call shapes, places, distances and areas |
 //! | [`floor`], [`fraction`] | all obstacles of a floor asked at once; distances compared |
 //! | [`changes`], [`settled`] | two maps compared, and which answers stay |
+//! | [`book`] | a floor book on disk |
 //! | [`json`], [`object`] | answers as JSON |
 //! | [`picture`], [`formats`] | pictures; WKT and `GeoJSON` |
 //! | [`serve`] | a map in a browser |
@@ -29,6 +30,7 @@
 #![allow(clippy::format_push_string)]
 
 pub mod answer;
+pub mod book;
 pub mod called;
 pub mod changes;
 pub mod command;

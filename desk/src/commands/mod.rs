@@ -1,5 +1,6 @@
 //! The commands, one a module.
 pub mod ask;
+pub mod book;
 pub mod check;
 pub mod chosen;
 pub mod diff;
