@@ -53,6 +53,16 @@ pub enum Failed {
 
 type Done<T> = Result<T, Failed>;
 
+/// The lock of a book, which is given back when this is dropped: also if a child process still has the file open.
+struct Lock(File);
+
+impl Drop for Lock {
+    fn drop(&mut self) {
+        // If this fails, closing the file gives the lock back.
+        let _ = self.0.unlock();
+    }
+}
+
 impl From<Refusal> for Failed {
     fn from(refusal: Refusal) -> Failed {
         Failed::Refused(refusal)
@@ -220,7 +230,7 @@ impl Shelf {
     }
 
     /// Keeps other programs from changing the book until the lock is dropped. Its file stays.
-    fn locked(&self) -> Done<File> {
+    fn locked(&self) -> Done<Lock> {
         // Without a book there is nothing to lock.
         File::open(&self.book).map_err(|error| failed(&self.book, error))?;
         let mut options = OpenOptions::new();
@@ -231,7 +241,7 @@ impl Shelf {
             .open(&self.lock);
         let file = opened.map_err(|error| failed(&self.lock, error))?;
         match file.try_lock() {
-            Ok(()) => Ok(file),
+            Ok(()) => Ok(Lock(file)),
             Err(TryLockError::WouldBlock) => Err(Failed::Locked(self.book.clone())),
             Err(TryLockError::Error(error)) => Err(failed(&self.lock, error)),
         }

@@ -7,6 +7,7 @@ use crate::serve::server::Server;
 /// How it is called, and what it does.
 pub const COMMAND: Command = Command {
     name: "serve",
+    takes: "MAP",
     does: "shows a map in a browser, on this computer only",
     options: &[PORT],
     page: "\

@@ -1,9 +1,9 @@
 //! Questions over all shapes of a floor, each of them asked of the proved library.
 use super::outgoing::Bad;
 use crate::answer::{Answer, Refused, ask, relation};
+use crate::floor::{is_cart, is_thing};
 use crate::given::{Given, Pair};
 use crate::map::Map;
-use crate::floor::{is_cart, is_thing};
 use crate::question::{Around, Drive, Question, Record};
 use cocklesway::Relation;
 

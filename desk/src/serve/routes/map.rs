@@ -1,10 +1,10 @@
 //! The map: floors, their shapes, carts, and what is wrong.
 use crate::escape::quoted;
+use crate::floor::{floors, is_thing};
 use crate::given::Given;
 use crate::json::Json;
 use crate::map::{Entry, Item, Origin};
 use crate::name::Name;
-use crate::floor::{floors, is_thing};
 use crate::report::sentence;
 use crate::sentence::defined;
 use crate::serve::outgoing::{Bad, Response};
