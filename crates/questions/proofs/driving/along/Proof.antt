@@ -147,8 +147,8 @@ enum-told-5 c = search needs
 
 -- past the sizes every grown shape is one
 sized : (c : tie.After-enum-told5)
-    → let args = at-start (c .before .before .before .before .before .before .before .before .before .before .before .before .before .before)
-    .args in
+    → let at-from = c .before .before .before .before .before .before in
+    let args = at-start (at-from .before .before .before .before .before .before .before .before) .args in
     NoneApply (sizeRowsOf (points (args .cart .now)) (onFloor (args .floor) (args .log .now)))
 sized c = c .before .before .admit-sizes .ensures .valid (c .enum-told5 .given .1)
 
