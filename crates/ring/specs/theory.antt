@@ -3,6 +3,7 @@
 --     Steps      the walks of the definitions, one step at a time
 --     Under      all positions are positions of the list
 --     Inward     the test whether a corner turns in, by its parts
+--     Kept       what is kept without repeats; Furthest: no corner of the set is lost
 --     Rows       rows 1 to 3; Answers: the others, and the answer
 pub mod Buffers
 pub mod Steps
@@ -10,3 +11,5 @@ pub mod Under
 pub mod Inward
 pub mod Rows
 pub mod Answers
+pub mod Kept
+pub mod Furthest
