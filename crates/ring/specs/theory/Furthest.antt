@@ -133,7 +133,7 @@ no-step : (p : Point) → value (p ⊖ p) (p ⊖ p) ≡ pos 0
 unfolding value
 no-step p = ring (p .x ∷ p .y ∷ []) (search reify depth 40) tt
 
-point-not-straight : (p : Point) → straight p p p ≡ false
+pub point-not-straight : (p : Point) → straight p p p ≡ false
 point-not-straight p = go (straight p p p) refl
   where
     go : (t : Bool) → straight p p p ≡ t → t ≡ false
