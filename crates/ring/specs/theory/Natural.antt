@@ -46,7 +46,7 @@ module _ {X : Type 0} (f : X → Point) where
   map-reverse : (xs : List X) → map f (reverse xs) ≡ reverse (map f xs)
   map-reverse [] = refl
   map-reverse (x ∷ xs) =
-      ap (map f) (reverse-cons x xs) ∙ map-append (reverse xs) (x ∷ []) ∙ ap (λ (l : List Point). l ++ (f x ∷ [])) (map-reverse xs)
+      ap (map f) (reverse-cons x xs) ∙ map-append f (reverse xs) (x ∷ []) ∙ ap (λ (l : List Point). l ++ (f x ∷ [])) (map-reverse xs)
       ∙ sym (reverse-cons (f x) (map f xs))
 
   map-closed : (xs : List X) → closed f xs ≡ closed self (map f xs)
@@ -119,13 +119,10 @@ same-points ps qs e = ring-core ps ∙ ap (λ (l : List Point). bends self (sens
 
 least-same : (g h : ℕ → Point) (n : ℕ) → ((i : ℕ) → i < n → g i ≡ h i) → leastPlace g n ≡ leastPlace h n
 least-same g h zero e = refl
-least-same g h (suc zero) e = ap (λ (b : Bool). cond b 0 0) (ap₂ precedes (e 0 (omega arith)) (e 0 (omega arith)))
-least-same g h (suc (suc n)) e =
-    let m = suc n in
-    let best = least-same g h m (λ i k. e i (omega arith)) in
-    let below = least-below h m (omega arith) in
-    ap (λ (b : ℕ). cond (precedes (g m) (g b)) m b) best
-    ∙ ap₂ (λ (p q : Point). cond (precedes p q) m (leastPlace h m)) (e m (omega arith)) (e (leastPlace h m) (omega arith))
+least-same g h (suc m) e =
+    ap (λ (b : ℕ). cond (precedes (g m) (g b)) m b) (least-same g h m (λ i k. e i (omega arith)))
+    ∙ ap₂ (λ (p q : Point). cond (precedes p q) m (leastPlace h m)) (e m (omega arith))
+    (e (leastPlace h m) (omega (arith, least-at-most h m)))
 
 walked-same : (g h : ℕ → Point) (n s k : ℕ) → s < n → ((i : ℕ) → i < n → g i ≡ h i) → map g (walked n s k) ≡ map h (walked n s k)
 walked-same g h n s zero l e = refl

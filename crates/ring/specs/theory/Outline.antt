@@ -47,7 +47,7 @@ use Rattle.ring.specs.theory.Turning.{turns-same, none-shape, shape-none
 pub walked-has : (n s k i : ℕ) → s < n → i < n → ((s ≤ i) × (i < s + k)) ⊎ (i + n < s + k) → List·Memᴰ i (walked n s k)
 walked-has n s zero i h l (inl d) = absurd (omega (arith, d .0, d .1))
 walked-has n s zero i h l (inr d) = absurd (omega arith)
-walked-has n s (suc k) i h l d = go (ℕ-discrete i s) (following n s h)
+walked-has n s (suc k) i h l d = go (ℕ-discrete i s) (following n s h) (λ w. walked-has n (next n s) k i (next-below n s h) l w)
   where
     later : Following n s → (i ≡ s → ⊥) → ((s ≤ i) × (i < s + suc k)) ⊎ (i + n < s + suc k)
         → ((next n s ≤ i) × (i < next n s + k)) ⊎ (i + n < next n s + k)
@@ -56,9 +56,11 @@ walked-has n s (suc k) i h l d = go (ℕ-discrete i s) (following n s h)
     later (closing m e) o (inl d) = absurd (omega (arith, o, d .0))
     later (closing m e) o (inr d) = inl (omega arith, omega arith)
 
-    go : Dec (i ≡ s) → Following n s → List·Memᴰ i (walked n s (suc k))
-    go (yes e) f = List·Memᴰ·head e
-    go (no o) f = List·Memᴰ·tail (walked-has n (next n s) k i (next-below n s h) l (later f o d))
+    go : Dec (i ≡ s) → Following n s
+        → (((next n s ≤ i) × (i < next n s + k)) ⊎ (i + n < next n s + k) → List·Memᴰ i (walked n (next n s) k))
+        → List·Memᴰ i (walked n s (suc k))
+    go (yes e) f on = List·Memᴰ·head e
+    go (no o) f on = List·Memᴰ·tail (on (later f o d))
 
 -- a point of the ring is one of the points without a closing one
 open-at : (ps : List Point) (i : ℕ) → i < length (openRing ps) → corner (openRing ps) i ≡ corner ps i
@@ -71,14 +73,15 @@ open-at ps i h = go (closed (λ p. p) ps) h
 -- the least is preceded by none
 least-least : (g : ℕ → Point) (n i : ℕ) → i < n → precedes (g i) (g (leastPlace g n)) ≡ false
 least-least g zero i h = absurd (omega arith)
-least-least g (suc n) i h = go (precedes (g n) (g (leastPlace g n))) refl (ℕ-discrete i n)
+least-least g (suc n) i h = go (precedes (g n) (g (leastPlace g n))) refl (ℕ-discrete i n) (least-least g n i)
   where
-    go : (b : Bool) → precedes (g n) (g (leastPlace g n)) ≡ b → Dec (i ≡ n) → precedes (g i) (g (cond b n (leastPlace g n))) ≡ false
-    go true e (yes q) = not-precedes (g i) (g n) (λ p. precedes-irrefl (subst (λ (k : ℕ). Precedes (g k) (g n)) q p))
-    go true e (no o) = not-precedes (g i) (g n) (λ p. true≢false
-        (sym (precedes-trans p (record { precedes-true = e }) .precedes-true) ∙ least-least g n i (omega (arith, o))))
-    go false e (yes q) = subst (λ (k : ℕ). precedes (g k) (g (leastPlace g n)) ≡ false) (sym q) e
-    go false e (no o) = least-least g n i (omega (arith, o))
+    go : (b : Bool) → precedes (g n) (g (leastPlace g n)) ≡ b → Dec (i ≡ n) → (i < n → precedes (g i) (g (leastPlace g n)) ≡ false)
+        → precedes (g i) (g (cond b n (leastPlace g n))) ≡ false
+    go true e (yes q) before = not-precedes (g i) (g n) (λ p. precedes-irrefl (subst (λ (k : ℕ). Precedes (g k) (g n)) q p))
+    go true e (no o) before = not-precedes (g i) (g n) (λ p. true≢false
+        (sym (precedes-trans p (record { precedes-true = e }) .precedes-true) ∙ before (omega (arith, o))))
+    go false e (yes q) before = subst (λ (k : ℕ). precedes (g k) (g (leastPlace g n)) ≡ false) (sym q) e
+    go false e (no o) before = before (omega (arith, o))
 
 under-member : (b : ℕ) (xs : List ℕ) → Under b xs → {x : ℕ} → List·Memᴰ x xs → x < b
 under-member b (y ∷ ys) u (List·Memᴰ·head e) = subst (λ (k : ℕ). k < b) (sym e) (u .0)
@@ -102,11 +105,12 @@ first-kept f n xs (one x) u least = ([], ap (λ (t : Bool). optional (not t) x +
 first-kept f n xs (round x ys h) u least = (bending f x ys x, ap (λ (t : Bool). optional (not t) x ++ bending f x ys x) bent)
   where
     after : (i : ℕ) → i < n → samePoint (f x) (f i) ≡ false → Precedes (f x) (f i)
-    after i l o = elim (placed (f x) (f i)) [
-      ahead p ↦ p
-    | same e ↦ absurd (true≢false (sym (samePoint-self (f x)) ∙ ap (samePoint (f x)) e ∙ o))
-    | behind p ↦ absurd (true≢false (sym (p .precedes-true) ∙ least i l))
-    ]
+    after i l o = at (placed (f x) (f i))
+      where
+        at : Placed (f x) (f i) → Precedes (f x) (f i)
+        at (ahead p) = p
+        at (same e) = absurd (true≢false (sym (samePoint-self (f x)) ∙ ap (samePoint (f x)) e ∙ o))
+        at (behind p) = absurd (true≢false (sym (p .precedes-true) ∙ least i l))
 
     go : (t : Bool) → straight (f (lastOf x ys)) (f x) (f (headOf x ys)) ≡ t → t ≡ false
     go false e = refl
@@ -282,9 +286,9 @@ module _ (ps : List Point) (some : 0 < length ps) where
       → inwardAt ps (ringCorners ps) i ≡ turnsIn (corner (ringShape ps)) (length (ringShape ps)) i
   inward-points i h =
       let is = ringCorners ps in
-      let at = λ (k : ℕ) (l : k < length is). sym (map-at f is k l) in
-      turns-same (cornerOf ps is) (corner (ringShape ps)) (length is) i (at (previous (length is) i) (previous-below (length is) i h)) (at i h)
-      (at (next (length is) i) (next-below (length is) i h))
+      turns-same (cornerOf ps is) (corner (ringShape ps)) (length is) i
+      (sym (map-at f is (previous (length is) i) (previous-below (length is) i h))) (sym (map-at f is i h))
+      (sym (map-at f is (next (length is) i) (next-below (length is) i h)))
       ∙ ap (λ (k : ℕ). turnsIn (corner (ringShape ps)) k i) (sym (length-map is f))
 
   pub quiet→shape : Search·some (inwardAt ps (ringCorners ps)) (length (ringCorners ps)) ≡ false → IsShape (ringShape ps)
