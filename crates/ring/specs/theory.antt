@@ -6,6 +6,7 @@
 --     Kept       what is kept without repeats; Furthest: no corner of the set is lost
 --     Turning    none turns in exactly if the corners are a shape; Outline: and then it is the shape of the points
 --     Natural    what is kept depends on the points alone
+--     Valid      what is written of an answered ring is a valid shape
 --     Rows       rows 1 to 3; Answers: the others, and the answer
 pub mod Buffers
 pub mod Steps
@@ -18,3 +19,4 @@ pub mod Furthest
 pub mod Turning
 pub mod Outline
 pub mod Natural
+pub mod Valid
