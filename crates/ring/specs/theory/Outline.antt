@@ -237,7 +237,7 @@ module _ (ps : List Point) (some : 0 < length ps) where
   unfolding ringCorners
   corners-first =
       let r = first-kept f n E sensed-ringed sensed-few-under
-          (λ i h. subst (λ (x : ℕ). precedes (f i) (f x) ≡ false) (sym sensed-first) (least i h)) in
+      (λ i h. subst (λ (x : ℕ). precedes (f i) (f x) ≡ false) (sym sensed-first) (least i h)) in
       (r .0, r .1 ∙ ap (λ (x : ℕ). x ∷ r .0) sensed-first)
 
   -- ---- two corners

@@ -64,8 +64,11 @@ quiet g n i three h = go (ltb 2 n) (lt-ltb 2 n three) (ltZ (pos 0) (turn (g (pre
         × (0 < i → Precedes (g i) (g (previous n i)) → Precedes (g i) (g (next n i)) → ⊥)
     go false e t q k = absurd (false≢true e)
     go true e false q k = absurd (true≢false k)
-    go true e true q k = (ltZ-true {x = pos 0} {y = turn (g (previous n i)) (g i) (g (next n i))} q, λ l a b.
-        true≢false (sym (rw (lt-ltb 0 i l, a .precedes-true, b .precedes-true)) ∙ k))
+    go true e true q k = (
+      ltZ-true {x = pos 0} {y = turn (g (previous n i)) (g i) (g (next n i))} q,
+      λ l a b.
+          true≢false (sym (rw (lt-ltb 0 i l, a .precedes-true, b .precedes-true)) ∙ k),
+    )
 
 -- ---- none turns in: a shape
 

@@ -48,8 +48,13 @@ pub ring-few : (ps : List Point) → 0 < length ps → length (ringShape ps) ≤
 unfolding ringCorners
 ring-few ps some =
     let f = corner ps in
-    omega (arith, length-map (ringCorners ps) f, bends-few f (sensed f (ringPlaces ps)),
-    sense-length (clockwise f (ringPlaces ps)) (ringPlaces ps), places-few ps some)
+    omega (
+      arith,
+      length-map (ringCorners ps) f,
+      bends-few f (sensed f (ringPlaces ps)),
+      sense-length (clockwise f (ringPlaces ps)) (ringPlaces ps),
+      places-few ps some,
+    )
 
 module _ (l : List ℤ) (v : ValidRing l) where
   ring-near : (k : ℕ) → k < length (ringShape (points l)) → Near (corner (ringShape (points l)) k)
@@ -75,7 +80,7 @@ pub answered-passes : (l out : List ℤ) (f : ℕ) (v : List ℤ) → reply (ask
     → ValidRing l × (inwardRow (points l) .applies ≡ false)
 answered-passes l out f v h =
     let none = none-append (listRows l) (inwardRow (points l) ∷ roomRow (ringShape (points l)) out ∷ [])
-        (asked-answered (askRing (on l f) out) v h) in
+    (asked-answered (askRing (on l f) out) v h) in
     (accepted→ring l (none .0), none .1 .0)
 
 pub answered-valid : (l out : List ℤ) (f : ℕ) (v : List ℤ) → reply (askRing (on l f) out) ≡ answered v → Valid (numbers (ringShape (points l)))
