@@ -1,5 +1,4 @@
--- The pass round all edges of a sum: the invariant of the loop, and its moves.
---     Passing a b walk count rim       so many edges are passed, and none had the origin to its right; whether one had it not to its left
+-- The pass round all edges of a sum: the moves of the loop's invariant, `Passing`.
 --     passing-start, -more, -end       its moves, and its end; `passing-out`: an edge has the origin to its right
 --     passing-at                       the walk stands at a place of the lists
 --     passing-below, passing-count     there is an edge to pass; the count fits
@@ -7,7 +6,7 @@
 use mathlib.Core.Path.{_≡_, refl, sym, _∙_, ap, ap₂, subst}
 use mathlib.Core.Bool.{Bool, true, false, _||_, true≢false, false≢true}
 use mathlib.Core.List.{List}
-use Prim.Native.Nat.{ℕ, suc, _+_, _≤_, _<_, zero-le}
+use Prim.Native.Nat.{ℕ, suc, _+_, _<_, zero-le}
 use native.Mathlib.Numerals.{add-one}
 use native.Mathlib.Omega.{arith}
 use lib.IntN.{ℤ, pos}
@@ -27,18 +26,10 @@ use Rattle.polygon.specs.declared.point.Point.{Point as Code·Point}
 use Rattle.polygon.specs.Point.{at}
 use Rattle.separation.specs.Outward.{Outward}
 use Rattle.separation.specs.Around.{crossAt, rightOf, Passed}
+use Rattle.separation.specs.Passing.{Passing}
 use Rattle.separation.specs.theory.Outward.{stepped-away}
 use Rattle.separation.specs.theory.Passed.{passedNormal}
 use Rattle.separation.specs.theory.Stops.{sum-length, on-below, over-end, corner-here, stop-here}
-
--- ---- the loop
-
-pub record Passing (a b : List ℤ) (walk : Walk) (count : ℕ) (rim : Bool) : Type 0 where
-  pub start : At a b begun
-  pub within : count ≤ length (vectorSum (points a) (points b))
-  pub moved : walk ≡ stepped (points a) (points b) count begun
-  pub inner : some (rightOf (vectorSum (points a) (points b))) count ≡ false
-  pub rim-is : rim ≡ some (notLeft (vectorSum (points a) (points b))) count
 
 module _ {a b : List ℤ} where
   pub passing-start : {walk : Walk} → At a b begun → walk ≡ begun → Passing a b walk 0 false

@@ -12,6 +12,7 @@ ghost use Rattle.separation.specs.Answer.{numberOf};
 ghost use Rattle.separation.specs.Around.{Passed, originIn, originOn};
 use crate::answer::Relation;
 use crate::normal;
+use crate::stride;
 use calipers::image;
 use calipers::side;
 use polygon::point;
@@ -70,16 +71,17 @@ pub fn first(a: &[i32], b: &[i32], top: usize) -> Point
     side::here(side::side_at(a, 0), image::side_at(b, top, 0))
 }
 
-// Passes the edges, each once, up to one that has the origin to its right. After the last edge both sides are at their
-// first corners again.
+// Passes the edges, each once, up to one that has the origin to its right: most of them in a stride. After the last
+// edge both sides are at their first corners again.
 pub fn pass(a: &[i32], b: &[i32], top: usize) -> Sides
     requires { ⌜ Valid (now a) × Valid (now b) × Peak (points (now b)) top ⌝ }
     ensures { λ r. ⌜ Passed (vectorSum (points (now (a .entry))) (points (image (now (b .entry))))) r ⌝ }
 {
-    let mut s = side::side_at(a, 0);
-    let mut t = image::side_at(b, top, 0);
+    let far = stride::stride(a, b, top);
+    let mut s = far.s;
+    let mut t = far.t;
     let all = s.end + t.end;
-    let mut count = 0;
+    let mut count = s.at + t.at - far.joined;
     let mut rim = false;
     loop {
         let from = side::here(s, t);
