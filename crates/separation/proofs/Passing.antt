@@ -42,9 +42,9 @@ module _ {a b : List ℤ} where
     pub passing-at : At a b walk
     passing-at = subst (At a b) (sym (p .moved)) (at-stepped a b begun (p .start) count)
 
-    pub passing-end : walk .over ≡ true → (normal : Code·Point)
-        → Passed D (record { count = count; outside = false; rim = rim; normal = normal })
-    passing-end o normal =
+    pub passing-end : walk .over ≡ true → (normal : Code·Point) (first second : ℕ)
+        → Passed D (record { count = count; outside = false; rim = rim; normal = normal; first = first; second = second })
+    passing-end o normal first second =
         let e : count ≡ length D =
         omega (arith, p .within, over-end a b (p .start) count (p .within) (ap (λ (w : Walk). w .over) (sym (p .moved)) ∙ o)) in
         record {
@@ -76,8 +76,9 @@ module _ {a b : List ℤ} where
           side-is = ap (λ (z : ℤ). ltZ z (pos 0)) (t ∙ passing-corners cross)
 
           pub passing-out : ltZ turn (pos 0) ≡ true → (normal : Code·Point) → at normal ≡ passedNormal (points a) (points b) walk after
-              → Passed D (record { count = count; outside = true; rim = rim; normal = normal })
-          passing-out h normal n = record {
+              → (first second : ℕ)
+              → Passed D (record { count = count; outside = true; rim = rim; normal = normal; first = first; second = second })
+          passing-out h normal n first second = record {
             outside-is = sym (some-here (rightOf D) (length D) count passing-below (sym side-is ∙ h));
             count-is = λ k. absurd (true≢false k);
             rim-is = λ k. absurd (true≢false k);

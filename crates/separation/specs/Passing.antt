@@ -2,10 +2,11 @@
 --     Passing a b walk count rim    so many edges are passed; whether one had the origin not to its left
 --     Strode a b s t joined         the walk with these two sides is not over, and each edge that is passed had the origin to its left; at
 --                                   so many steps both sides went on
+--     Stood a b i j                 the walk stands where i edges of the one shape and j of the other are passed, and is not over
 use mathlib.Core.Path.{_≡_}
 use mathlib.Core.Bool.{Bool, false}
 use mathlib.Core.List.{List}
-use Prim.Native.Nat.{ℕ, _+_, _≤_}
+use Prim.Native.Nat.{ℕ, _+_, _≤_, _<_}
 use lib.IntN.{ℤ}
 use lib.ListN.{length}
 use Rattle.plane.specs.Point.{points}
@@ -30,3 +31,8 @@ pub record Strode (a b : List ℤ) (s t : Side) (joined : ℕ) : Type 0 where
   pub passing : Passing a b (walkOf s t false) count false
   pub first-side : Carried a s
   pub second-side : Carried b t
+
+pub record Stood (a b : List ℤ) (i j : ℕ) : Type 0 where
+  pub count : ℕ
+  pub below : count < length (vectorSum (points a) (points b))
+  pub moved : record { i = i; j = j; over = false } ≡ stepped (points a) (points b) count begun

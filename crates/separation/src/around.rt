@@ -10,6 +10,7 @@ ghost use Rattle.polygon.specs.Point.{at, Small};
 ghost use Rattle.calipers.specs.Image.{image};
 ghost use Rattle.separation.specs.Answer.{numberOf};
 ghost use Rattle.separation.specs.Around.{Passed, originIn, originOn};
+ghost use Rattle.separation.specs.Passing.{Stood};
 use crate::answer::Relation;
 use crate::normal;
 use crate::stride;
@@ -20,12 +21,15 @@ use polygon::point::Point;
 use polygon::rules::either;
 
 // What a walk round the edges saw: whether the origin is to the right of one, at which it stops, and then its outer
-// normal; and if of none, how many edges there are and whether the origin is not to the left of one.
+// normal and how many edges of each shape are passed; and if of none, how many edges there are and whether the origin is
+// not to the left of one.
 pub struct Sides {
     pub count: usize,
     pub outside: bool,
     pub rim: bool,
     pub normal: Point,
+    pub first: usize,
+    pub second: usize,
 }
 
 // Apart if the origin is outside, touching if on the rim, else overlapping.
@@ -76,6 +80,7 @@ pub fn first(a: &[i32], b: &[i32], top: usize) -> Point
 pub fn pass(a: &[i32], b: &[i32], top: usize) -> Sides
     requires { ⌜ Valid (now a) × Valid (now b) × Peak (points (now b)) top ⌝ }
     ensures { λ r. ⌜ Passed (vectorSum (points (now (a .entry))) (points (image (now (b .entry))))) r ⌝ }
+    ensures { λ r. ⌜ Stood (now (a .entry)) (image (now (b .entry))) (r .first) (r .second) ⌝ }
 {
     let far = stride::stride(a, b, top);
     let mut s = far.s;
@@ -95,6 +100,8 @@ pub fn pass(a: &[i32], b: &[i32], top: usize) -> Sides
                 outside: true,
                 rim,
                 normal: normal::passed_normal(s, t, m, n),
+                first: s.at,
+                second: t.at,
             };
         }
         rim = either(rim, turn <= 0);
@@ -105,6 +112,8 @@ pub fn pass(a: &[i32], b: &[i32], top: usize) -> Sides
                 outside: false,
                 rim,
                 normal: Point { x: 0, y: 0 },
+                first: 0,
+                second: 0,
             };
         }
         s = m;

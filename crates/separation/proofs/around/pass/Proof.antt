@@ -164,13 +164,16 @@ returns c =
     let at-cross = c .before .before in
     let at-here = at-cross .before in
     let at-next = at-here .before in
-    let inv = at-next .before .before .before .before .loop .inv in
-    passing-out (inv .0) refl (advances at-next)
-    (result-is w64 (at-cross .cross .ok) (at-cross .cross .ensures ∙ ap₂ cross (leaves at-here) (arrives at-here _)))
-    (c .before .if1 .taken) (c .passed-normal .result)
-    (c .passed-normal .ensures ∙ ap₂ (cond (ltb (at-next .before .before .before .before .loop .s .at) (at-next .before .next .result .at)))
-    (ap₂ outward (inv .1 .corner-is) (at-next .before .next .ensures .1 .corner-is))
-    (ap₂ outward (inv .2 .corner-is) (at-next .next2 .ensures .1 .corner-is)))
+    let at-loop = at-next .before .before .before .before in
+    let inv = at-loop .loop .inv in (
+      passing-out (inv .0) refl (advances at-next)
+          (result-is w64 (at-cross .cross .ok) (at-cross .cross .ensures ∙ ap₂ cross (leaves at-here) (arrives at-here _)))
+          (c .before .if1 .taken) (c .passed-normal .result)
+          (c .passed-normal .ensures ∙ ap₂ (cond (ltb (at-loop .loop .s .at) (at-next .before .next .result .at)))
+          (ap₂ outward (inv .1 .corner-is) (at-next .before .next .ensures .1 .corner-is))
+          (ap₂ outward (inv .2 .corner-is) (at-next .next2 .ensures .1 .corner-is))) _ _,
+      record { count = at-loop .loop .count; below = passing-below (inv .0) refl; moved = inv .0 .moved },
+    )
 
 either-requires : tie.Need-either-requires Inv-loop μ-loop
 either-requires c κs = tt
@@ -212,9 +215,11 @@ returns-2 : tie.Need-returns-2 Inv-loop μ-loop
 returns-2 c =
     let at-either = c .before .before .before in
     let at-next = at-either .before .before .before .before in
-    let at-loop = at-next .before .before .before .before in
-    passing-end (more at-either) (all-passed _ _ _ _ (at-next .before .next .ensures .1 .at-in) (at-next .next2 .ensures .1 .at-in)
-    (c .if2 .taken ∙ all (after-stride (at-loop .before)))) _
+    let at-loop = at-next .before .before .before .before in (
+      passing-end (more at-either) (all-passed _ _ _ _ (at-next .before .next .ensures .1 .at-in) (at-next .next2 .ensures .1 .at-in)
+          (c .if2 .taken ∙ all (after-stride (at-loop .before)))) _ _ _,
+      record { count = 0; below = omega (arith, passing-below (at-loop .loop .inv .0) refl); moved = refl },
+    )
 
 loop-less : tie.Need-loop-less Inv-loop μ-loop
 loop-less c =
