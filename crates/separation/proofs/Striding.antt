@@ -1,9 +1,9 @@
 -- The stride round the edges of a sum: the moves of its invariant, `Strode`.
 --     strode-start                             no edge is passed
---     strode-at                                the walk stands at a place of the lists
+--     strode-at                                the walk stands at a place of the lists; `strode-same`: of equal sides
 --     strode-first, strode-second, -both       the one side goes on, or the other, or both
 --     goes-on                                  where a side goes on, it is one edge further
-use mathlib.Core.Path.{_≡_, refl, sym, _∙_, ap, ap₂}
+use mathlib.Core.Path.{_≡_, refl, sym, _∙_, ap, ap₂, subst}
 use mathlib.Core.Bool.{true, false, cond}
 use mathlib.Core.List.{List, [], _∷_}
 use Prim.Native.Nat.{ℕ, _+_, _<_}
@@ -65,6 +65,10 @@ strode-start {a} {b} {s} {t} p h l u v = record {
   first-side = u;
   second-side = v;
 }
+
+pub strode-same : {a b : List ℤ} {s t m n : Side} {joined k : ℕ} → m ≡ s → n ≡ t → k ≡ joined → Strode a b s t joined → Strode a b m n k
+strode-same {a} {b} {s} {t} {m} {n} {joined} p q r w = subst (Strode a b m n) (sym r)
+    (subst (λ (z : Side). Strode a b m z joined) (sym q) (subst (λ (z : Side). Strode a b z t joined) (sym p) w))
 
 module _ {a b : List ℤ} {s t : Side} {joined : ℕ} (p : Strode a b s t joined) where
   pub strode-at : At a b (walkOf s t false)

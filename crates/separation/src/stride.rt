@@ -31,7 +31,10 @@ pub fn stride(a: &[i32], b: &[i32], top: usize) -> Partway
     let mut s = side::side_at(a, 0);
     let mut t = image::side_at(b, top, 0);
     let mut joined = 0;
-    while side::are_inside(s, t) {
+    if !side::are_inside(s, t) {
+        return Partway { s, t, joined };
+    }
+    loop {
         let from = side::here(s, t);
         let c = side::order(s, t);
         if 0 < c {
@@ -39,23 +42,23 @@ pub fn stride(a: &[i32], b: &[i32], top: usize) -> Partway
                 return Partway { s, t, joined };
             }
             s = side::ahead(a, s, false);
-            continue;
-        }
-        if c < 0 {
+        } else if c < 0 {
             if moment(from, t) <= 0 {
                 return Partway { s, t, joined };
             }
             t = image::ahead(b, top, t, false);
-            continue;
+        } else {
+            if joint_moment(from, s, t) <= 0 {
+                return Partway { s, t, joined };
+            }
+            s = side::ahead(a, s, false);
+            t = image::ahead(b, top, t, false);
+            joined += 1;
         }
-        if joint_moment(from, s, t) <= 0 {
+        if !side::are_inside(s, t) {
             return Partway { s, t, joined };
         }
-        s = side::ahead(a, s, false);
-        t = image::ahead(b, top, t, false);
-        joined += 1;
     }
-    Partway { s, t, joined }
 }
 
 // The moment about the origin of the next edge of a side, where it leaves p: positive if the origin is to its left.
