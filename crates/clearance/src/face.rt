@@ -22,6 +22,7 @@ pub struct Face {
 
 // The face in a direction, the smaller position first, which is thought to be at corner i: so it is if no neighbour of
 // the corner is lower. Else all corners are looked at.
+// Ruled out: tied neighbour left out.
 pub fn near(list: &[i32], n: Point, i: usize) -> Face
     requires { ⌜ Valid (now list) × Small (2 ^ 22) (at n) × NonZero (at n) × (i < length (points (now list))) ⌝ }
     ensures { λ r. ⌜ IsFace (at n) (points (now (list .entry))) r ⌝ }

@@ -24,6 +24,7 @@ pub struct Partway {
 }
 
 // Passes edges, each once, up to one that does not have the origin to its left, or to the last edges of a shape.
+// Ruled out: edge through the origin passed.
 pub fn stride(a: &[i32], b: &[i32], top: usize) -> Partway
     requires { ⌜ Valid (now a) × Valid (now b) × Peak (points (now b)) top ⌝ }
     ensures { λ r. ⌜ Strode (now (a .entry)) (image (now (b .entry))) (r .s) (r .t) (r .joined) ⌝ }
