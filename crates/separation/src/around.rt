@@ -21,8 +21,8 @@ use polygon::point::Point;
 use polygon::rules::either;
 
 // What a walk round the edges saw: whether the origin is to the right of one, at which it stops, and then its outer
-// normal and how many edges of each shape are passed; and if of none, how many edges there are and whether the origin is
-// not to the left of one.
+// normal and how many edges of each shape are passed; and if of none, how many edges there are and whether the origin
+// is not to the left of one.
 pub struct Sides {
     pub count: usize,
     pub outside: bool,

@@ -33,10 +33,12 @@ next-requires c κs = omega (arith, c .before .count .ensures, c .before .before
 back-in : (c : tie.After-previous) → c .previous .result < length (points (c .before .before .args .list .now))
 back-in c = omega (arith, c .before .count .ensures, c .previous .ensures .0)
 
-from-back : (c : tie.After-previous) → let args = c .before .before .args in next (length (points (args .list .now))) (c .previous .result) ≡ args .i
+from-back : (c : tie.After-previous) → let args = c .before .before .args in
+    next (length (points (args .list .now))) (c .previous .result) ≡ args .i
 from-back c = ap (λ m. next m (c .previous .result)) (sym (c .before .count .ensures)) ∙ c .previous .ensures .1
 
-to-on : (c : tie.After-next) → let args = c .before .before .before .args in next (length (points (args .list .now))) (args .i) ≡ c .next .result
+to-on : (c : tie.After-next) → let args = c .before .before .before .args in
+    next (length (points (args .list .now))) (args .i) ≡ c .next .result
 to-on c = ap (λ m. next m (c .before .before .before .args .i)) (sym (c .before .before .count .ensures)) ∙ sym (c .next .ensures .0)
 
 on-in : (c : tie.After-next) → c .next .result < length (points (c .before .before .before .args .list .now))
