@@ -152,7 +152,8 @@ advances c =
     let at-order = c .before .before in
     let inv = at-order .before .loop .inv in
     sides-advanced (looking-at (looking (at-order .before))) (inv .1) (inv .2)
-    (result-is w64 (at-order .order .ok) (at-order .order .ensures)) (c .before .next .result) (c .next2 .result) (c .before .next .ensures .0) (c .next2 .ensures .0) refl
+    (result-is w64 (at-order .order .ok) (at-order .order .ensures))
+    (c .before .next .result) (c .next2 .result) (c .before .next .ensures .0) (c .next2 .ensures .0) refl
 
 first-step : (c : tie.After-next2 Inv-loop μ-loop) → let at-loop = c .before .before .before in
     let args = start at-loop .args in
