@@ -2,6 +2,7 @@
 pub mod Answer
 pub mod Outward
 pub mod Around
+pub mod Passing
 pub mod Directions
 pub mod Differences
 pub mod Meaning

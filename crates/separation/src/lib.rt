@@ -4,6 +4,7 @@ pub mod answer;
 pub mod around;
 pub mod differences;
 mod normal;
+mod stride;
 mod within;
 
 ghost use mathlib.Core.Path.{_≡_};
