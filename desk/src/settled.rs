@@ -24,7 +24,8 @@ use std::fmt;
 pub enum Verdict {
     /// Nothing that it is about changed.
     Same,
-    /// It stays: what was apart, passed or met nothing still does, with so many millimetres left of so many.
+    /// It stays: what was apart, passed or met nothing still does. The first number of millimetres is left of the
+    /// second.
     Stays {
         /// What was.
         was: u64,
@@ -177,7 +178,7 @@ fn clear(drive: &Drive) -> Result<Option<u64>, Refused> {
     apart(&Pair { a, b })
 }
 
-/// How much changes take at most, each so many times; nothing if a shape is on another floor.
+/// How much changes take at most, each times its number; nothing if a shape is on another floor.
 fn lost(changes: &[(&Given, &Given, u64)]) -> Option<u64> {
     let mut sum: u64 = 0;
     for (new, old, times) in changes {

@@ -139,7 +139,7 @@ fn split(digits: &str) -> Option<(&str, &str)> {
     good.then_some((whole, decimals))
 }
 
-/// The number with its point moved by so many digits, if nothing is left after it.
+/// The number with its point moved by the given number of digits, if nothing is left after it.
 fn moved(minus: bool, whole: &str, decimals: &str, by: usize) -> Result<i32, Inexact> {
     let (kept, rest) = decimals.split_at(by.min(decimals.len()));
     if !is_zero(rest) {

@@ -25,7 +25,7 @@ pub struct Boxed {
 
 // Returns the box of least perimeter with a side on an edge of a shape of three corners or more. Boxes compare by
 // half·half/squared as exact fractions. Of several such edges the smallest position. The calipers close on each edge in
-// turn, each from where they stood at the edge before, so that they go round the shape once.
+// turn, each from where they were at the edge before, so that they go round the shape once.
 // Ruled out: later edge on a tie; side across taken twice.
 pub fn least_box(list: &[i32]) -> Boxed
     requires { ⌜ Valid (now list) × (2 < length (points (now list))) ⌝ }

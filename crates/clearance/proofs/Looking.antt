@@ -1,7 +1,7 @@
 -- The walk that looks for the closest place: the invariant of the loop, and its moves.
 --     Looking a b from walk back       all places passed from a corner on fail, but for that corner; back is the corner before the one
 --                                      at hand
---     looking-start, looking-more      its moves; `looking-at`: the walk stands at a place of the lists
+--     looking-start, looking-more      its moves; `looking-at`: the walk is at a place of the lists
 --     looking-corner, looking-edge     the corner or the edge at hand passes
 --     looking-end                      all are passed, and the corner at which the walk began is left
 use mathlib.Core.Path.{_≡_, refl, sym, _∙_, ap, ap₂, subst}

@@ -44,10 +44,10 @@ pub fn facing(a: &[i32], b: &[i32], top: usize) -> Sight
     look(a, b, top, 0, 0)
 }
 
-// The walk begins where so many edges are passed. It stops at a corner that neither of its neighbours is nearer than,
-// along itself; or at an edge that has the origin to its right and the origin's foot strictly inside. The corner before
-// the first is not known when the walk is at the first: the origin takes its place, and the first corner is what is
-// left if no other place is found.
+// The walk begins where i edges of the first shape and j of the second are passed. It stops at a corner that neither of
+// its neighbours is nearer than, along itself; or at an edge that has the origin to its right and the origin's foot
+// strictly inside. The corner before the first is not known when the walk is at the first: the origin takes its place,
+// and the first corner is what is left if no other place is found.
 fn look(a: &[i32], b: &[i32], top: usize, i: usize, j: usize) -> Sight
     requires { ⌜ Valid (now a) × Valid (now b) × Peak (points (now b)) top × Stood (now a) (image (now b)) i j
         × NoOrigin (vectorSum (points (now a)) (points (image (now b)))) ⌝ }

@@ -1,4 +1,4 @@
--- What the search finds, and the pairs of corners at which its walk stands.
+-- What the search finds, and the pairs of corners at which its walk is.
 --     IsGreatest A B r     the greatest squared distance and the two positions
 --     pairOf A B i j       corner i of A and corner j of B, with their squared distance
 --     pairAt A B t i j     the pair at place (i, j) of the walk round A and the mirror image of B, whose peak is corner t

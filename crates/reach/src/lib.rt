@@ -53,7 +53,7 @@ fn walked(a: &[i32], b: &[i32], top: usize) -> Length
     }
 }
 
-// The pair of corners at which a walk stands.
+// The pair of corners at which a walk is.
 fn pair(a: &[i32], b: &[i32], top: usize, s: Side, t: Side) -> Length
     requires { ⌜ Valid (now a) × Valid (now b) × Peak (points (now b)) top × Carried (now a) s
         × Carried (Image·image (now b)) t ⌝ }

@@ -1,4 +1,4 @@
--- A ring of points cleaned, and brought to the standard list; positions as code holds them; then what it means, and the theory behind it.
+-- A ring of points cleaned, and brought to the standard list; positions as code holds them; then what it means, and its theory.
 pub mod Round
 pub mod Ring
 pub mod Places

@@ -1,6 +1,6 @@
 -- The pass round all edges of a sum: the moves of the loop's invariant, `Passing`.
 --     passing-start, -more, -end       its moves, and its end; `passing-out`: an edge has the origin to its right
---     passing-at                       the walk stands at a place of the lists
+--     passing-at                       the walk is at a place of the lists
 --     passing-below, passing-count     there is an edge to pass; the count fits
 --     passing-corners                  the corners that the edge joins
 use mathlib.Core.Path.{_≡_, refl, sym, _∙_, ap, ap₂, subst}

@@ -1,6 +1,6 @@
 -- The stride round the edges of a sum: the moves of its invariant, `Strode`.
 --     strode-start                             no edge is passed
---     strode-at                                the walk stands at a place of the lists; `strode-same`: of equal sides
+--     strode-at                                the walk is at a place of the lists; `strode-same`: of equal sides
 --     strode-first, strode-second, -both       the one side goes on, or the other, or both
 --     goes-on                                  where a side goes on, it is one edge further
 use mathlib.Core.Path.{_≡_, refl, sym, _∙_, ap, ap₂, subst}

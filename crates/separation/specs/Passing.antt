@@ -1,8 +1,8 @@
 -- A walk under way round the corners of a sum, as long as no edge that is passed has the origin to its right. Our own, not of document 01.
---     Passing a b walk count rim    so many edges are passed; whether one had the origin not to its left
+--     Passing a b walk count rim    `count` edges are passed; whether one had the origin not to its left
 --     Strode a b s t joined         the walk with these two sides is not over, and each edge that is passed had the origin to its left; at
---                                   so many steps both sides went on
---     Stood a b i j                 the walk stands where i edges of the one shape and j of the other are passed, and is not over
+--                                   `joined` steps both sides went on
+--     Stood a b i j                 the walk is where i edges of the one shape and j of the other are passed, and is not over
 use mathlib.Core.Path.{_≡_}
 use mathlib.Core.Bool.{Bool, false}
 use mathlib.Core.List.{List}

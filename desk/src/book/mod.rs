@@ -8,8 +8,8 @@
 //! | [`shelf`] | the files of a book, and what is done to them |
 //!
 //! The library is asked before anything is changed, so that what it refuses changes nothing. An addition stores single
-//! bytes in the proved order: wherever it is stopped, every name reads as before, or as afterwards. A packing is written
-//! to a second file, which then takes the place of the first one.
+//! bytes in the proved order: wherever it is stopped, every name reads as before, or as afterwards. A packing is
+//! written to a second file, which then takes the place of the first one.
 pub mod disk;
 pub mod names;
 pub mod shelf;

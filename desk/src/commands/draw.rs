@@ -29,7 +29,7 @@ cannot be read, nothing is drawn.
     cocklesway draw map.txt --grow cart --at 3500,0 -o cart.svg
     cocklesway draw map.txt --floor 2 --below 900 --cart cart --drive '0,0 3000,0 3000,2500' -o way.svg
 
-With --below the gaps of less than so many millimetres between obstacles that are apart are marked with
+With --below MM the gaps of less than that between obstacles that are apart are marked with
 their width; with --cart those that leave the cart less. With --drive the way of the cart's origin is
 drawn, what the cart passes over on each leg that is clear, and the cart where it first meets an
 obstacle. What is said of them is below the picture, as `cocklesway gaps` and `cocklesway drive` say it.
@@ -86,7 +86,7 @@ const OPTIONS: &[Known] = &[
         true,
     ),
     Known {
-        does: "gaps of less than so many millimetres are marked",
+        does: "gaps below this number of millimetres are marked",
         ..BELOW
     },
     Known {

@@ -34,7 +34,7 @@ of this program.
     run,
 };
 
-/// So many pairs take the library about a second in one question.
+/// How many pairs take the library about a second in one question.
 const MANY: usize = 500_000;
 
 const APART: Known = Known {

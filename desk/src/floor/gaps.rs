@@ -72,7 +72,7 @@ impl<'a> Solids<'a> {
         Ok(Gap { of, nearest })
     }
 
-    /// Returns all gaps of less than so many millimetres, the narrowest first, and of equal ones those of the first
+    /// Returns all gaps below a limit in millimetres, the narrowest first, and of equal ones those of the first
     /// obstacles. Obstacles that have points in common may be left out. After each obstacle it says how many pairs were
     /// asked.
     ///

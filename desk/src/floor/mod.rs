@@ -93,7 +93,7 @@ impl Floor {
         for (position, shape) in shapes.iter().enumerate() {
             let name = u16::try_from(position).map_err(|_| Refusal::Full);
             let added = name.and_then(|name| book.add(name, shape.on(number), usize::MAX));
-            // With so many stores an addition is finished.
+            // With `usize::MAX` allowed an addition is finished.
             let _ = added.map_err(|refusal| not_added(shape, refusal))?;
         }
         Ok(Floor {

@@ -116,7 +116,7 @@ impl Signs<'_> {
         }
     }
 
-    /// Reads points between brackets, so many if that is given.
+    /// Reads points between brackets: the given number of them, if one is given.
     fn points(&mut self, count: Option<usize>) -> Result<Vec<i32>, Why> {
         self.sign("( before points")?;
         let mut numbers = Vec::new();

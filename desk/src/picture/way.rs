@@ -14,7 +14,7 @@ use cocklesway::Meeting;
 const MOST_SAID: usize = 12;
 
 impl Scene {
-    /// Marks the gaps of less than so many millimetres between obstacles that are apart, or those that leave a cart
+    /// Marks the gaps below a limit in millimetres between obstacles that are apart, or those that leave a cart
     /// less.
     ///
     /// # Errors

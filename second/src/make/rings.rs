@@ -57,7 +57,7 @@ fn begun_anywhere(dice: &mut Dice, mut ring: Vec<Point>) -> Vec<Point> {
     ring
 }
 
-/// Some of the whole points that part each edge, which is so many times as long as it was.
+/// Some of the whole points that part each edge, which is a whole number of times as long as it was.
 fn with_points_in_line(dice: &mut Dice, shape: &[Point], parts: i64) -> Vec<Point> {
     let mut ring = Vec::new();
     for edge in 0..shape.len() {

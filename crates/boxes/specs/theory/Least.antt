@@ -30,7 +30,7 @@ pub fraction-trans : (s t u p q r : ℤ) → pos 0 <ℤ p → pos 0 <ℤ q → p
 fraction-trans s t u p q r hp hq hr a b = contra≤ (λ g.
     lia (s ∷ t ∷ u ∷ p ∷ q ∷ r ∷ []) (a ≤×< hr & b ≤×< hp & g <×< hq) (search linear depth 40) (omega arith))
 
--- what stands for edge e in its comparison with f
+-- what is for edge e in its comparison with f
 abbrev size : List Point → ℕ → ℕ → ℤ
 size ps e f = halfRound ps e *ℤ halfRound ps e *ℤ edgeSquared ps f
 

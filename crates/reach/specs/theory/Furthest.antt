@@ -1,4 +1,4 @@
--- The corners of two lists at the greatest distance, and where they stand.
+-- The corners of two lists at the greatest distance, and where they are.
 --     step-squared                         the squared distance, by the step between two points
 --     squared-le-greatest, members-le      no two corners are further apart
 --     Furthest A B i j                     corner i of A and corner j of B are that far apart

@@ -1,4 +1,4 @@
--- Every pair of corners at the greatest distance stands at a place of the walk round the first shape and the mirror image of the second.
+-- Every pair of corners at the greatest distance is at a place of the walk round the first shape and the mirror image of the second.
 --     furthest-corner     the step from the one to the other is a corner of all differences: strictly furthest in its own direction
 --     place-first-in, place-second-in      the positions at a place are those of corners
 --     place-step          the corner of the sum at a place is the step between its pair

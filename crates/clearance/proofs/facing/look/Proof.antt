@@ -43,7 +43,7 @@ abbrev μ-loop : tie.MeasureT-loop
 μ-loop a b top i j s₀ t₀ all first back₀ s t back =
     length (edges (points a)) - s .at + (length (edges (points (image b))) - t .at)
 
--- the walk stands where it begins
+-- the walk is where it begins
 starts : (c : tie.Start Inv-loop μ-loop) → At (c .args .a .now) (image (c .args .b .now)) begun
 starts c = image-begun _ _ (c .pre .0) (c .pre .1)
 
@@ -173,7 +173,7 @@ here-requires-3 : tie.Need-here-requires-3 Inv-loop μ-loop
 here-requires-3 c κs =
     let at-next = c .before in corners-fit (steps at-next false) (at-next .before .next .ensures .1) (at-next .next2 .ensures .1)
 
--- where it stands before and after the step
+-- where it is before and after the step
 leaves : (c : tie.After-here3 Inv-loop μ-loop) → let at-loop = c .before .before .before .before .before in
     let args = start at-loop .args in
     at (c .before .here2 .result)
