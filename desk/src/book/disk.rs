@@ -25,8 +25,8 @@ impl Steps for All {
     }
 }
 
-/// Stores single bytes in their order. The disk is made sure of what was cleared before the record begins, of the record
-/// before its last byte, and of that byte.
+/// Stores single bytes in their order. The disk is made sure of what was cleared before the record begins, of the
+/// record before its last byte, and of that byte.
 ///
 /// # Errors
 /// A step fails, and none after it is taken.
