@@ -15,8 +15,8 @@ use Rattle.plane.specs.Point.{Point}
 use Rattle.plane.specs.Shape.{IsShape}
 use Rattle.plane.specs.Separation.{apart}
 use Rattle.plane.specs.Distance.{Fraction, over}
-use Rattle.contact.specs.Contact.{OnWay, NoLater, meets, edgeNormal, past, entry, spot, later, lastEntry, arrival, edgeArrival, lowest}
-use Rattle.contact.specs.Contact.{contact}
+use Rattle.contact.specs.Contact.{OnWay, NoLater, meets, edgeNormal, past, entry, spot, later, lastEntry, arrival}
+use Rattle.contact.specs.Contact.{edgeArrival, lowest, contact}
 use Rattle.contact.specs.Share.{lastWall}
 use Rattle.contact.specs.theory.Walls.{edges→inside}
 use Rattle.contact.specs.theory.Entry.{later-trans, entering-on-way, entering-reached, last-on-way, last-above, last-below}

@@ -10,7 +10,8 @@ use Rattle.plane.specs.Point.{points}
 use Rattle.journal.specs.Format.{size, whole}
 use Rattle.journal.specs.Survey.{nextAt}
 use Rattle.journal.specs.theory.Survey.{size-at, next-inside}
-use Rattle.neighbours.specs.theory.Search.{Searched, searched-start, searched-sized, searched-sound, searched-next, searched-end, searched-met}
+use Rattle.neighbours.specs.theory.Search.{Searched, searched-start, searched-sized, searched-sound, searched-next, searched-end}
+use Rattle.neighbours.specs.theory.Search.{searched-met}
 use Rattle.neighbours.proofs.pass.Statement.{statement}
 use Rattle.neighbours.proofs.pass.Tie as tie
 
@@ -42,7 +43,8 @@ look-requires c κs =
 -- what is found once the record is looked at
 looked : (c : tie.After-look Inv-loop μ-loop) → let at-loop = c .before .before .before .before in
     let args = at-loop .before .before .args in
-    Searched (points (args .list .now)) (args .floor) (args .but) (args .log .now) (nextAt (args .log .now) (at-loop .loop .p)) (c .look .result)
+    let b = args .log .now in
+    Searched (points (args .list .now)) (args .floor) (args .but) b (nextAt b (at-loop .loop .p)) (c .look .result)
 looked c = let at-then = c .before .before in searched-next (at-then .before .before .loop .inv .0) (here at-then) (c .look .ensures .0)
 
 is-met-requires : tie.Need-is-met-requires Inv-loop μ-loop

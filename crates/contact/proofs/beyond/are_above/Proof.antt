@@ -45,7 +45,8 @@ returns c =
     let first = second .before .before .before in
     let start = first .before .before .before .before .before .before .before .before .before .before .before in
     let (p, q, t, u) = start .pre in
-    c .either .ensures ∙ ap₂ _||_ (first .are-greater .ensures ∙ same (read (t .small-x)) (read (u .small-x)) (sum-is (p .small-x) (q .small-x)))
+    c .either .ensures
+    ∙ ap₂ _||_ (first .are-greater .ensures ∙ same (read (t .small-x)) (read (u .small-x)) (sum-is (p .small-x) (q .small-x)))
     (second .are-greater2 .ensures ∙ same (read (t .small-y)) (read (u .small-y)) (sum-is (p .small-y) (q .small-y)))
 
 pub are-above-spec : {M : Type 1} → statement M
