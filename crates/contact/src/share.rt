@@ -44,10 +44,13 @@ pub fn entering(a: i64, b: i64) -> Share
     }
 }
 
-// The later of two fractions, the first if they are equal.
+// The later of two fractions, the first if they are equal. Nothing is before the start, so that 0 needs no product.
 pub fn later(f: Share, g: Share) -> Share
     ensures { λ r. ⌜ fraction r ≡ Contact·later (fraction f) (fraction g) ⌝ }
 {
+    if g.numerator == 0 {
+        return f;
+    }
     if is_less(f.numerator, g.denominator, g.numerator, f.denominator) {
         g
     } else {
