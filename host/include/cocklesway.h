@@ -77,7 +77,7 @@ static inline const char *cocklesway_refusal_text(uint64_t number) {
     case 7: return "the answer would have a coordinate out of range";
     case 8: return "the output is too small for the answer";
     case 9: return "the shapes are not apart, so no lines just touch both";
-    case 10: return "a point or a segment has no width";
+    case 10: return "a point or a segment has no width and no box";
     case 11: return "the direction is 0 0, or a part of it is out of range";
     case 12: return "the parts of the direction have a common divisor above 1";
     case 13: return "the floors differ, or one is above the highest";

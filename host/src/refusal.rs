@@ -212,7 +212,7 @@ impl Refusal {
             Refusal::FarAnswer => "the answer would have a coordinate out of range",
             Refusal::Room => "the output is too small for the answer",
             Refusal::NotApart => "the shapes are not apart, so no lines just touch both",
-            Refusal::Flat => "a point or a segment has no width",
+            Refusal::Flat => "a point or a segment has no width and no box",
             Refusal::Direction => "the direction is 0 0, or a part of it is out of range",
             Refusal::NotPrimitive => "the parts of the direction have a common divisor above 1",
             Refusal::Floors => "the floors differ, or one is above the highest",
