@@ -1,4 +1,5 @@
 //! The program as its users meet it: maps, answers, pictures, options, failures, and files that are no maps at all.
+mod brute;
 mod changes;
 mod formats;
 mod fuzz;
