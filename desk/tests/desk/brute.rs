@@ -1,6 +1,8 @@
 //! Commands on whole floors, held against brute force: made floors, and every pair, place and leg by `second`.
 use crate::json::{self, Value};
 use crate::running::{Folder, with_input};
+use desk::floor::across::needed;
+use desk::given::{Given, Pair};
 use second::answer::answer;
 use second::make::dice::Dice;
 use std::cmp::Ordering;
@@ -147,67 +149,99 @@ fn gaps_by_brute_force() {
     }
 }
 
-#[test]
-fn places_and_legs_by_brute_force() {
-    let mut dice = Dice::new(72);
-    let mut seen = [0; 4];
-    for _ in 0..300 {
-        let (shapes, cart) = (floor(&mut dice), shape(&mut dice, 12, [-6, -6]));
-        let text_of = map(&shapes, &cart);
-        let [x, y, u, v] = [0; 4].map(|_| dice.between(-20, 180));
-        let there = made(&format!("sum | {cart} | {x} {y}"));
+/// A floor with a cart, and its map.
+struct Made {
+    shapes: Vec<List>,
+    cart: List,
+    map: String,
+}
+
+impl Made {
+    fn new(dice: &mut Dice) -> Made {
+        let (shapes, cart) = (floor(dice), shape(dice, 12, [-6, -6]));
+        let map = map(&shapes, &cart);
+        Made { shapes, cart, map }
+    }
+
+    /// Holds what a cart meets at a place; returns whether it is free.
+    fn stands(&self, [x, y]: [i64; 2]) -> bool {
+        let there = made(&format!("sum | {} | {x} {y}", self.cart));
         let met = |word: &str| -> Vec<String> {
             let is = |shape: &List| told(&format!("relation | {there} | {shape}"))[0] == word;
-            let met = shapes.iter().enumerate().filter(|(_, shape)| is(shape));
+            let met = self
+                .shapes
+                .iter()
+                .enumerate()
+                .filter(|(_, shape)| is(shape));
             met.map(|(at, _)| format!("s{at}")).collect()
         };
         let found = &objects(
             &format!("stands - --json --cart cart --at {x},{y}"),
-            &text_of,
+            &self.map,
         )[0];
-        assert_eq!(names(found, "overlaps"), met("overlapping"), "{text_of}");
-        assert_eq!(names(found, "touches"), met("touching"), "{text_of}");
-        seen[usize::from(text(found, "state") == "free")] += 1;
-        let found = &objects(
-            &format!("drive - --json --cart cart {x},{y} {u},{v}"),
-            &text_of,
-        )[0];
-        let mut first: Option<([i128; 2], String)> = None;
-        for (at, shape) in shapes.iter().enumerate() {
-            let words = told(&format!("contact | {shape} | {cart} | {x} {y} | {u} {v}"));
-            if words[0] != "never" {
-                let part = [0, 1].map(|at: usize| words[at].parse().expect("a number"));
-                let is_less = first
-                    .as_ref()
-                    .is_none_or(|(least, _)| compared(part, *least).is_lt());
-                first = if is_less {
-                    Some((part, format!("s{at}")))
-                } else {
-                    first
-                };
-            }
-        }
-        match first {
-            Some((part, name)) => {
-                let said = ["numerator", "denominator"].map(|key| i128::from(number(found, key)));
-                assert_eq!((said, text(found, "name")), (part, name), "{text_of}");
-                seen[2] += 1;
-            }
-            None => {
-                let way = made(&format!("sweep | {x} {y} {u} {v}"));
-                let swept = made(&format!("sum | {cart} | {way}"));
-                assert_eq!(text(found, "name"), nearest(&shapes, &swept), "{text_of}");
-                seen[3] += 1;
-            }
-        }
-        let found = &objects(&format!("nearest - --json --at {x},{y}"), &text_of)[0];
-        assert_eq!(
-            text(found, "name"),
-            nearest(&shapes, &format!("{x} {y}")),
-            "{text_of}"
-        );
+        assert_eq!(names(found, "overlaps"), met("overlapping"), "{}", self.map);
+        assert_eq!(names(found, "touches"), met("touching"), "{}", self.map);
+        text(found, "state") == "free"
     }
-    assert!(seen.iter().all(|&count| count > 10), "{seen:?}");
+
+    /// The first shape that the cart meets, and after which part of its way.
+    fn first_met(&self, way: &str) -> Option<([i128; 2], String)> {
+        let mut first: Option<([i128; 2], String)> = None;
+        for (at, shape) in self.shapes.iter().enumerate() {
+            let words = told(&format!("contact | {shape} | {} | {way}", self.cart));
+            if words[0] == "never" {
+                continue;
+            }
+            let part = [0, 1].map(|at: usize| words[at].parse().expect("a number"));
+            let is_less = first
+                .as_ref()
+                .is_none_or(|(least, _)| compared(part, *least).is_lt());
+            first = if is_less {
+                Some((part, format!("s{at}")))
+            } else {
+                first
+            };
+        }
+        first
+    }
+
+    /// Holds a drive; returns whether it meets something.
+    fn drives(&self, [[x, y], [u, v]]: [[i64; 2]; 2]) -> bool {
+        let command = format!("drive - --json --cart cart {x},{y} {u},{v}");
+        let found = &objects(&command, &self.map)[0];
+        let first = self.first_met(&format!("{x} {y} | {u} {v}"));
+        let is_met = first.is_some();
+        let (part, name) = first.unwrap_or_else(|| {
+            let way = made(&format!("sweep | {x} {y} {u} {v}"));
+            let swept = made(&format!("sum | {} | {way}", self.cart));
+            ([0, 1], nearest(&self.shapes, &swept))
+        });
+        assert_eq!(text(found, "name"), name, "{}", self.map);
+        if is_met {
+            let said = ["numerator", "denominator"].map(|key| i128::from(number(found, key)));
+            assert_eq!(said, part, "{}", self.map);
+        }
+        is_met
+    }
+}
+
+#[test]
+fn places_and_legs_by_brute_force() {
+    let mut dice = Dice::new(72);
+    let mut seen = [[0; 2]; 2];
+    for _ in 0..300 {
+        let made = Made::new(&mut dice);
+        let [x, y, u, v] = [0; 4].map(|_| dice.between(-20, 180));
+        seen[0][usize::from(made.stands([x, y]))] += 1;
+        seen[1][usize::from(made.drives([[x, y], [u, v]]))] += 1;
+        let found = &objects(&format!("nearest - --json --at {x},{y}"), &made.map)[0];
+        let name = nearest(&made.shapes, &format!("{x} {y}"));
+        assert_eq!(text(found, "name"), name, "{}", made.map);
+    }
+    assert!(
+        seen.as_flattened().iter().all(|&count| count > 10),
+        "{seen:?}"
+    );
 }
 
 /// The first of the nearest shapes.
@@ -221,6 +255,85 @@ fn nearest(shapes: &[List], to: &List) -> String {
     format!("s{}", least.expect("a shape").0)
 }
 
+/// Two maps of the same names, and a drive.
+struct Two {
+    old: Made,
+    new: Made,
+    way: [i64; 4],
+}
+
+impl Two {
+    fn new(dice: &mut Dice) -> Two {
+        let old = Made::new(dice);
+        let shapes: Vec<List> = old.shapes.iter().map(|list| changed(dice, list)).collect();
+        let cart = if dice.one_in(3) {
+            changed(dice, &old.cart)
+        } else {
+            old.cart.clone()
+        };
+        let map = map(&shapes, &cart);
+        let way = [0; 4].map(|_| dice.between(-20, 180));
+        let new = Made { shapes, cart, map };
+        Two { old, new, way }
+    }
+
+    /// What `diff` says of five questions.
+    fn verdicts(&self, folder: &Folder) -> Vec<Value> {
+        let [x, y, u, v] = self.way;
+        let questions = format!(
+            "clearance | s0 | s1\nrelation | s1 | s2\npassage | s0 | s2 | cart\n\
+             contact | s1 | cart | {x} {y} | {u} {v}\nnearest | @2 {x} {y}\n"
+        );
+        let [old, new] = [("old.txt", &self.old), ("new.txt", &self.new)]
+            .map(|(name, made)| folder.file(name, &made.map));
+        let found = objects(&format!("diff {old} {new} --json --answers -"), &questions);
+        let is_verdict = |value: &Value| value.get("stays").is_some();
+        found.into_iter().filter(is_verdict).collect()
+    }
+
+    /// Whether what is said to stay holds for the new map: the answer is as it was, or has at least so much left.
+    fn holds(&self, verdict: &Value) -> bool {
+        let least = verdict.get("least").map_or(0, |_| number(verdict, "least"));
+        let line = number(verdict, "line");
+        if line == 5 {
+            return self.is_nearest(&text(verdict, "name"));
+        }
+        let [new, old] = [&self.new, &self.old].map(|made| self.line(made, line));
+        let (is, was) = (told(&new), told(&old));
+        let left = |at: usize| is[at].parse::<i64>().is_ok_and(|left| left >= least);
+        is == was
+            || match line {
+                1 => near(&new).1 >= least.into(),
+                3 => is[0] != "blocked" && left(4),
+                _ => is[0] == "apart" || is[0] == "never",
+            }
+    }
+
+    /// One of the first four questions, with the shapes of a map.
+    fn line(&self, made: &Made, line: i64) -> String {
+        let ([x, y, u, v], cart) = (self.way, &made.cart);
+        let [a, b, c] = [0, 1, 2].map(|at| &made.shapes[at]);
+        match line {
+            1 => format!("clearance | {a} | {b}"),
+            2 => format!("relation | {b} | {c}"),
+            3 => format!("passage | {a} | {c} | {cart}"),
+            _ => format!("contact | {b} | {cart} | {x} {y} | {u} {v}"),
+        }
+    }
+
+    /// Whether no shape of the new map is nearer to the place than that of a name.
+    fn is_nearest(&self, name: &str) -> bool {
+        let [x, y, ..] = self.way;
+        let shapes = &self.new.shapes;
+        let first = nearest(shapes, &format!("{x} {y}"));
+        let [own, other] = [name, &first].map(|name| {
+            let at: usize = name[1..].parse().expect("a number");
+            near(&format!("clearance | {x} {y} | {}", shapes[at])).0
+        });
+        compared(own, other).is_eq()
+    }
+}
+
 /// What `diff` says to stay is true of the new map.
 #[test]
 fn settled_answers_by_brute_force() {
@@ -228,68 +341,19 @@ fn settled_answers_by_brute_force() {
     let folder = Folder::new();
     let (mut stay, mut anew) = (0, 0);
     for _ in 0..200 {
-        let (old, cart) = (floor(&mut dice), shape(&mut dice, 12, [-6, -6]));
-        let new: Vec<List> = old.iter().map(|list| changed(&mut dice, list)).collect();
-        let new_cart = if dice.one_in(3) {
-            changed(&mut dice, &cart)
-        } else {
-            cart.clone()
-        };
-        let [x, y, u, v] = [0; 4].map(|_| dice.between(-20, 180));
-        let questions = format!(
-            "clearance | s0 | s1\nrelation | s1 | s2\npassage | s0 | s2 | cart\n\
-             contact | s1 | cart | {x} {y} | {u} {v}\nnearest | @2 {x} {y}\n"
-        );
-        let old_file = folder.file("old.txt", &map(&old, &cart));
-        let new_file = folder.file("new.txt", &map(&new, &new_cart));
-        let command = format!("diff {old_file} {new_file} --json --answers -");
-        let found = objects(&command, &questions);
-        for verdict in found.iter().filter(|value| value.get("stays").is_some()) {
-            if verdict.get("stays") != Some(&Value::Bool(true)) {
+        let two = Two::new(&mut dice);
+        for verdict in two.verdicts(&folder) {
+            if verdict.get("stays") == Some(&Value::Bool(true)) {
+                assert!(
+                    two.holds(&verdict),
+                    "{verdict:?}\n{}\n{}",
+                    two.old.map,
+                    two.new.map
+                );
+                stay += 1;
+            } else {
                 anew += 1;
-                continue;
             }
-            stay += 1;
-            let least = verdict.get("least").map_or(0, |_| number(verdict, "least"));
-            let is_true = match number(verdict, "line") {
-                1 => near(&format!("clearance | {} | {}", new[0], new[1])).1 >= least.into(),
-                2 if verdict.get("least").is_some() => {
-                    told(&format!("relation | {} | {}", new[1], new[2]))[0] == "apart"
-                }
-                2 => {
-                    answer(format!("relation | {} | {}", new[1], new[2]).as_bytes())
-                        == answer(format!("relation | {} | {}", old[1], old[2]).as_bytes())
-                }
-                3 => {
-                    let [is, was] = [(&new, &new_cart), (&old, &cart)].map(|(map, cart)| {
-                        told(&format!("passage | {} | {} | {cart}", map[0], map[2]))
-                    });
-                    is == was || is[4].parse::<i64>().expect("a width") >= least
-                }
-                4 => {
-                    let [is, was] = [(&new, &new_cart), (&old, &cart)].map(|(map, cart)| {
-                        told(&format!(
-                            "contact | {} | {cart} | {x} {y} | {u} {v}",
-                            map[1]
-                        ))
-                    });
-                    is == was || is[0] == "never"
-                }
-                _ => {
-                    let name = text(verdict, "name");
-                    let at: usize = name[1..].parse().expect("a number");
-                    let first = nearest(&new, &format!("{x} {y}"));
-                    let [own, other] = [at, first[1..].parse().expect("a number")]
-                        .map(|at: usize| near(&format!("clearance | {x} {y} | {}", new[at])).0);
-                    compared(own, other).is_eq()
-                }
-            };
-            assert!(
-                is_true,
-                "{verdict:?}\n{}\n{}",
-                map(&old, &cart),
-                map(&new, &new_cart)
-            );
         }
     }
     assert!(stay > 200 && anew > 100, "{stay} {anew}");
@@ -311,19 +375,21 @@ fn changed(dice: &mut Dice, list: &List) -> List {
     made(&format!("sweep | {}", numbers.join(" ")))
 }
 
-/// What a cart needs across a gap is the least whole number that is enough.
-#[test]
-fn needs_by_brute_force() {
-    use desk::floor::across::needed;
-    use desk::given::{Given, Pair};
-    let given = |list: &List| Given {
+/// A shape as the desk has it.
+fn given(list: &List) -> Given {
+    Given {
         name: None,
         numbers: list
             .split(' ')
             .map(|word| word.parse().expect("a number"))
             .collect(),
         floor: None,
-    };
+    }
+}
+
+/// What a cart needs across a gap is the least whole number that is enough.
+#[test]
+fn needs_by_brute_force() {
     let mut dice = Dice::new(74);
     let mut asked = 0;
     for _ in 0..2000 {
@@ -331,16 +397,14 @@ fn needs_by_brute_force() {
             let from = [dice.between(0, 200), dice.between(0, 200)];
             given(&shape(&mut dice, 40, from))
         });
-        let cart = given(&shape(&mut dice, 90, [-40, -40]));
-        let pair = Pair { a, b };
+        let (cart, pair) = (given(&shape(&mut dice, 90, [-40, -40])), Pair { a, b });
         let (one, other) = pair.lent();
-        let Some(found) = cocklesway::clearance(one, other)
+        let found = cocklesway::clearance(one, other)
             .expect("two shapes")
-            .nearest
-        else {
+            .nearest;
+        let Some(need) = found.and_then(|found| needed(&cart, &pair, found)) else {
             continue;
         };
-        let need = needed(&cart, &pair, found).expect("a need");
         let [u, v] = need.direction.map(i128::from);
         let values = cart
             .corners()
