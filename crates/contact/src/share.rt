@@ -95,6 +95,7 @@ fn divisor(a: u64, b: u64) -> u64
 }
 
 // The millimetres to a fraction of a way whose squared length is given, rounded down: each turn halves what is left.
+// Ruled out: safe way rounded up to one.
 pub fn millimetres(f: Share, length: u64) -> u64
     requires { ⌜ (f .numerator ≤ f .denominator) × (0 < f .denominator) × (length < 2 ^ 44) ⌝ }
     ensures { λ r. ⌜ r ≡ rootBelow (f .numerator * f .numerator * length) (f .denominator * f .denominator) ⌝ }

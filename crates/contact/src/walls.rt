@@ -34,6 +34,7 @@ pub fn arrival(list: &[i32], t: Point, u: Point) -> Share
 }
 
 // The last entry through the four sides of the box about a shape.
+// Ruled out: grown segment passed through.
 fn box_arrival(list: &[i32], t: Point, u: Point) -> Share
     requires { ⌜ Valid (now list) × Places (at t) (at u) ⌝ }
     ensures { λ r. ⌜ fraction r ≡ lastEntry (entry (at t) (at u) (points (now (list .entry)))) 4 ⌝ }
@@ -63,6 +64,7 @@ fn side_entry(list: &[i32], d: Point, t: Point, u: Point) -> Share
 }
 
 // The entry through the edge that leaves corner i.
+// Ruled out: edge left taken for one entered.
 fn edge_entry(list: &[i32], i: usize, t: Point, u: Point) -> Share
     requires { ⌜ Valid (now list) × (i < length (points (now list))) × Places (at t) (at u) ⌝ }
     ensures { λ r. ⌜ fraction r ≡ entry (at t) (at u) (points (now (list .entry))) (4 + i) ⌝ }

@@ -6,18 +6,16 @@
 --     driveNumbers A t u rs  what is answered: 0 if no shape is met; else 1, the name, and contact's fraction and safe millimetres
 --     askDrive b cart t u    the question: refused 1 to 5 of the cart, 15, 20 for no shape on the floor, 3 of the places, then 6 and 7 of
 --                            the grown shapes, shape by shape
---     Told ..                what the numbers of an answer that begins with 1 are
 -- What it means: `Meaning.antt`.
-use mathlib.Core.Path.{_≡_}
-use mathlib.Core.Bool.{Bool, true, false, not}
-use mathlib.Core.List.{List, [], _∷_, _++_, List·Memᴰ}
+use mathlib.Core.Bool.{Bool, not}
+use mathlib.Core.List.{List, [], _∷_}
 use Prim.Native.Nat.{ℕ}
 use lib.IntN.{ℤ, pos}
 use Rattle.plane.specs.Point.{Point}
 use Rattle.plane.specs.Reply.{Row}
 use Rattle.plane.specs.Separation.{apart}
 use Rattle.plane.specs.Clearance.{leastOf}
-use Rattle.plane.specs.Distance.{over, noMore}
+use Rattle.plane.specs.Distance.{noMore}
 use Rattle.plane.specs.Floor.{Floored, corners, oneShape}
 use Rattle.plane.specs.Question.{Question, asks}
 use Rattle.journal.specs.Format.{name}
@@ -59,19 +57,3 @@ driveRows b cart t u =
 
 abbrev pub askDrive : List ℕ → Floored → Point → Point → Question
 askDrive b cart t u = asks (oneShape cart) (driveRows b cart t u) (driveNumbers (corners cart) t u (onFloor (cart .floor) b))
-
--- the numbers of an answer that begins with 1: m names the record `one`, which is met at n/d with w safe millimetres, no shape of the floor
--- is met sooner, and those before it in the log are met later, if at all
-pub record Told (b : List ℕ) (cart : Floored) (t u : Point) (m n d w f : ℤ) : Type 0 where
-  pub one : List ℕ
-  pub before : List (List ℕ)
-  pub after : List (List ℕ)
-  pub is : onFloor (cart .floor) b ≡ before ++ one ∷ after
-  pub met : isMet (corners cart) t u one ≡ true
-  pub none-sooner : (r : List ℕ) → List·Memᴰ r (onFloor (cart .floor) b) → isMet (corners cart) t u r ≡ true
-      → isAsSoon (corners cart) t u one r ≡ true
-  pub earlier-later : (r : List ℕ) → List·Memᴰ r before → isMet (corners cart) t u r ≡ true → isAsSoon (corners cart) t u r one ≡ false
-  pub name-is : m ≡ pos (name one)
-  pub fraction-is : over n d ≡ contact t u (grownOf (corners cart) one)
-  pub safe-is : w ≡ pos (safe t u (grownOf (corners cart) one))
-  pub floor-is : f ≡ pos (cart .floor)

@@ -5,10 +5,11 @@
 --     a shape is met      the answered one at the answered fraction; no shape of the floor at an earlier one, and those before it in the
 --                         log only later; nothing on fewer than the safe millimetres; contact answers the same of that shape alone
 --     settled             an addition that was cut or refused changes no answer; nor does one on another floor under a name that this
---                         floor does not have
+--                         floor does not have; one on this floor under a new name changes it exactly if its shape is met first, and then
+--                         it is the answer
 -- b is the log, `cart` the cart's outline with its floor, t the place of departure and u the destination.
 use mathlib.Core.Path.{_≡_}
-use mathlib.Core.Bool.{true, false}
+use mathlib.Core.Bool.{true, false, cond}
 use mathlib.Core.Logic.{_↔_}
 use mathlib.Core.List.{List, [], _∷_, _++_, List·Memᴰ}
 use Prim.Native.Nat.{ℕ, _<_}
@@ -18,23 +19,25 @@ use lib.Signed.{_<ℤ_}
 use Rattle.plane.specs.Point.{Point}
 use Rattle.plane.specs.Reply.{answered, refused, NoneApply}
 use Rattle.plane.specs.Refusal.{someOutside, Valid}
+use Rattle.plane.specs.Output.{sizeRows}
 use Rattle.plane.specs.Measure.{squared}
 use Rattle.plane.specs.Separation.{apart}
 use Rattle.plane.specs.Distance.{Fraction, over}
 use Rattle.plane.specs.Floor.{Floored, corners}
 use Rattle.plane.specs.Question.{reply}
 use Rattle.growth.specs.Grown.{driven}
-use Rattle.journal.specs.Format.{records, content}
+use Rattle.journal.specs.Format.{recorded, records, content}
 use Rattle.journal.specs.Reading.{damaged, held}
 use Rattle.journal.specs.Adding.{added}
 use Rattle.journal.specs.History.{isFinished}
 use Rattle.contact.specs.Contact.{OnWay, NoLater, cartMeets, askContact}
-use Rattle.gaps.specs.Gap.{onFloor}
-use Rattle.drives.specs.Drive.{driveNumbers, driveRows, askDrive, Told}
+use Rattle.gaps.specs.Gap.{grownOf, onFloor}
+use Rattle.drives.specs.Drive.{metNumbers, driveNumbers, driveRows, askDrive}
+use Rattle.drives.specs.Answered.{isFirst, Told}
 use Rattle.drives.specs.theory.Replies.{drive-admitted, drive-answers, empty-refused, departure-refused, destination-refused}
 use Rattle.drives.specs.theory.Replies.{never-exactly}
 use Rattle.drives.specs.theory.Told.{one-told, told-in, told-met, told-first, told-tie, told-clear, told-contact}
-use Rattle.drives.specs.theory.Additions.{unfinished-drive, elsewhere-drive}
+use Rattle.drives.specs.theory.Additions.{unfinished-drive, elsewhere-drive, settled-drive}
 
 module _ (b : List ℕ) (cart : Floored) (t u : Point) where
   -- ---- the replies
@@ -118,3 +121,14 @@ module _ (cart : Floored) (t u : Point) (b : List ℕ) (n g : ℕ) (l : List ℤ
   pub addition-elsewhere-changes-no-drive : isFinished (added b n g l k .reply) ≡ true → n < 65536 → g < 65536 → (g ≡ cart .floor → ⊥)
       → held n (onFloor (cart .floor) b) ≡ false → reply (askDrive (added b n g l k .log) cart t u) ≡ reply (askDrive b cart t u)
   addition-elsewhere-changes-no-drive done fits floor-fits other new = elsewhere-drive cart t u b n g l k done fits floor-fits other new
+
+-- finished on this floor, under a name that no shape of it has, where 6 and 7 let the new shape pass: the answer changes exactly if the new
+-- shape is met, and sooner than the others; then it is the answer
+pub addition-settles-drive : (cart : Floored) (t u : Point) (b : List ℕ) (n : ℕ) (l : List ℤ) (k : ℕ) (v : List ℤ)
+    → reply (askDrive b cart t u) ≡ answered v → isFinished (added b n (cart .floor) l k .reply) ≡ true → n < 65536 → cart .floor < 65536
+    → held n (onFloor (cart .floor) b) ≡ false → let A = corners cart in let r = recorded n (cart .floor) l in
+    NoneApply (sizeRows (grownOf A r)) → reply (askDrive (added b n (cart .floor) l k .log) cart t u)
+    ≡ cond (isFirst A t u (onFloor (cart .floor) b) r) (answered (metNumbers A t u r ++ (pos (cart .floor) ∷ [])))
+    (reply (askDrive b cart t u))
+addition-settles-drive cart t u b n l k v before done fits floor-fits new sized =
+    settled-drive cart t u b n l k v before done fits floor-fits new sized

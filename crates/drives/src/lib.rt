@@ -70,6 +70,7 @@ fn pass(log: &[u8], floor: u16, cart: &[i32], t: Point, u: Point, shape: &mut [i
 }
 
 // Returns what is found once the record at a place is looked at.
+// Ruled out: another floor counted.
 fn look(
     log: &[u8],
     p: usize,
@@ -106,9 +107,11 @@ fn meet(obstacle: &[i32], cart: &[i32], t: Point, u: Point) -> Meeting
 
 // The record at a place if it is met sooner than what was found and is the latest of its name; else what was found.
 // Later records are looked at last, since few records are sooner.
+// Ruled out: older record counted.
 fn kept(log: &[u8], p: usize, meeting: Meeting, best: Soonest) -> Soonest
     requires { ⌜ Sound (now log) p ⌝ }
-    ensures { λ r. ⌜ r ≡ keptOf (isLatest (now (log .entry)) p) (Format·name (recordAt (now (log .entry)) p)) meeting best ⌝ }
+    ensures { λ r. ⌜ r
+        ≡ keptOf (isLatest (now (log .entry)) p) (Format·name (recordAt (now (log .entry)) p)) meeting best ⌝ }
 {
     let Meeting::At {
         numerator,
@@ -133,6 +136,7 @@ fn kept(log: &[u8], p: usize, meeting: Meeting, best: Soonest) -> Soonest
 }
 
 // Whether a fraction of the way comes before what was found.
+// Ruled out: last contact for first; later shape on a tie.
 fn is_sooner(numerator: u64, denominator: u64, best: Soonest) -> bool
     ensures { λ r. ⌜ r ≡ isSooner numerator denominator best ⌝ }
 {

@@ -103,15 +103,8 @@ fn met(found: Meeting, floor: u16) -> Contact
 // before, rounded down. On a tie the first in the log is answered. Refused: 1 to 5 of the cart; a log in which some
 // record is bad; 20 if no shape is on the floor; a place out of range, which is list 2 or 3; then 6 and 7 of the grown
 // shapes, shape by shape in the log's order.
-pub fn log_contact(
-    log: &[u8],
-    cart: &[i32],
-    floor: u16,
-    x: i32,
-    y: i32,
-    u: i32,
-    v: i32,
-) -> Drive
+// Ruled out: last contact for first; later shape on a tie; older record counted; another floor counted.
+pub fn log_contact(log: &[u8], cart: &[i32], floor: u16, x: i32, y: i32, u: i32, v: i32) -> Drive
     ensures { λ r. ⌜ ofDrive r
         ≡ reply (askDrive (now (log .entry)) (on (now (cart .entry)) floor) (point x y) (point u v)) ⌝ }
 {

@@ -20,7 +20,6 @@ use ring::turns;
 // points in line. Points that are all equal make a point, and a way there and back a segment. Nothing is filled up.
 // Refused, with the output as it was: 1 to 3, a closing point not counted; 4 for a ring that is not convex, with the
 // positions in the list of the corner that turns in and of the corner before it; an output that is too small.
-// Ruled out: closing point counted; corner that turns in passed; corner before named last.
 pub fn ring(list: &[i32], floor: u16, out: &mut [i32]) -> Answer
     ensures { λ r. ⌜ (ofAnswer r ≡ reply (askRing (on (now (list .entry)) floor) (now (out .entry))))
         × (now (out .exit) ≡ output (askRing (on (now (list .entry)) floor) (now (out .entry)))) ⌝ }
@@ -50,6 +49,7 @@ fn ring_in(
 }
 
 // The same of the positions of its corners: 4, then 8, or the corners.
+// Ruled out: corner before the first named.
 fn told(list: &[i32], floor: u16, places: &[usize], out: &mut [i32]) -> Answer
     requires { ⌜ ValidRing (now list) × (now places ≡ ringCorners (points (now list))) ⌝ }
     ensures { λ r. ⌜ (ofAnswer r ≡ reply (askRing (on (now (list .entry)) floor) (now (out .entry))))

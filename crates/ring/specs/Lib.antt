@@ -2,4 +2,5 @@
 pub mod Round
 pub mod Ring
 pub mod Places
+pub mod Meaning
 pub mod theory

@@ -27,6 +27,7 @@ pub fn find(list: &[i32], places: &[usize]) -> usize
 
 // Returns whether a corner turns in: of three or more, it does not turn strictly left, or it precedes both neighbours
 // and is not the first, so that the ring goes round more than once.
+// Ruled out: spike passed; second round passed.
 fn turns_in(list: &[i32], places: &[usize], i: usize) -> bool
     requires { ⌜ Placed (now list) (now places) × (i < length (now places)) ⌝ }
     ensures { λ r. ⌜ r ≡ inwardAt (points (now (list .entry))) (now (places .entry)) i ⌝ }

@@ -57,6 +57,7 @@ pub fn keep(kept: &mut [usize], count: usize, place: usize, wanted: bool) -> usi
 }
 
 // Returns n, or one less if n is at least 2 and the two corners are the same point.
+// Ruled out: two equal points not closed; last point always dropped.
 pub fn less_closing(list: &[i32], n: usize, first: usize, last: usize) -> usize
     requires { ⌜ (first < length (points (now list))) × (last < length (points (now list))) ⌝ }
     ensures { λ r. ⌜ r ≡ cond (ltb 1 n && samePoint (corner (points (now (list .entry))) first)

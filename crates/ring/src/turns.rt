@@ -68,6 +68,7 @@ fn bends_at(list: &[i32], kept: &[usize], back: bool, j: usize) -> bool
 }
 
 // Returns the place at position j, read as they are or backwards from the first.
+// Ruled out: clockwise ring left clockwise.
 fn place(kept: &[usize], back: bool, j: usize) -> usize
     requires { ⌜ j < length (now kept) ⌝ }
     ensures { λ r. ⌜ r ≡ getD (inSense back (now (kept .entry))) j 0 ⌝ }
@@ -91,6 +92,7 @@ pub fn previous(n: usize, i: usize) -> usize
 }
 
 // Returns whether the way from corner a over b to c goes straight on at b: the turn is 0 and it does not go back.
+// Ruled out: way back taken for straight.
 fn straight_at(list: &[i32], a: usize, b: usize, c: usize) -> bool
     requires { ⌜ (a < length (points (now list))) × (b < length (points (now list)))
         × (c < length (points (now list))) × InRange (now list) ⌝ }

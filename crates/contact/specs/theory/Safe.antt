@@ -75,7 +75,8 @@ module _ (t u : Point) (G : List Point) where
   safe-before f on short h = clash (n *ℤ n) (f .denominator *ℤ f .denominator) (f .numerator *ℤ f .numerator) (d *ℤ d) (squared t u)
       (pos (safe t u G) *ℤ pos (safe t u G))
       (squares-le n d (f .numerator) (f .denominator) (first-on-way t u G .begun) (first-on-way t u G .whole) (on .begun) (on .whole) h)
-      (safe-bounded .low) short (squared-nonneg t u) (square-above d (first-on-way t u G .whole)) (square-above (f .denominator) (on .whole))
+      (safe-bounded .low) short (squared-nonneg t u) (square-above d (first-on-way t u G .whole))
+      (square-above (f .denominator) (on .whole))
     where
       clash : (P Q R S L w : ℤ) → (P *ℤ Q) ≤ℤ (R *ℤ S) → (w *ℤ S) ≤ℤ (P *ℤ L) → (R *ℤ L) <ℤ (w *ℤ Q) → pos 0 ≤ℤ L → pos 0 <ℤ S
           → pos 0 <ℤ Q → ⊥

@@ -45,7 +45,7 @@ returns-3 c =
     let at-meeting = at-else .before .before .before in
     let best = at-meeting .before .before .before .args .best in
     kept-by _ _ _ _ _ best (at-meeting .meeting .given .1) (sym (at-else .before .is-sooner .ensures) ∙ not-false _ (at-else .if1 .left))
-    (sym (c .before .is-current .ensures) ∙ not-true _ (c .if2 .taken))
+    (sym (c .before .is-current .ensures) ∙ not-true (c .before .is-current .result) (c .if2 .taken))
 
 head-at-requires : tie.Need-head-at-requires
 head-at-requires c κs = search needs
@@ -59,7 +59,7 @@ returns-4 c =
     let m = at-meeting .meeting .given in
     ap (λ (n : ℕ). Soonest.At n (m .0 .0) (m .0 .1 .0) (m .0 .1 .1 .0)) (sym (c .head-at .ensures .name-is))
     ∙ kept-by _ _ _ _ _ best (m .1) (sym (at-else .before .is-sooner .ensures) ∙ not-false _ (at-else .if1 .left))
-    (sym (at-current .is-current .ensures) ∙ not-false _ (c .before .if2 .left))
+    (sym (at-current .is-current .ensures) ∙ not-false (at-current .is-current .result) (c .before .if2 .left))
 
 pub kept-spec : {M : Type 1} → statement M
 kept-spec =

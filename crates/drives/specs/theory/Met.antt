@@ -76,6 +76,7 @@ module _ (b : List ℕ) (cart : Floored) (t u : Point) where
     unfolding grownOf
     floor-contact =
         let on-floor = floor-on b (cart .floor) r m in
-        let same : Same (content r) cart = record { first-valid = floor-valid b (cart .floor) r m (n .0); second-valid = v; one-floor = on-floor } in
+        let good = floor-valid b (cart .floor) r m (n .0) in
+        let same : Same (content r) cart = record { first-valid = good; second-valid = v; one-floor = on-floor } in
         contact-answers (content r) cart t u same (n .1 .1 .0, (n .1 .1 .1 .0, sized-in A rs (n .1 .1 .1 .1) m))
         ∙ ap (λ (f : ℕ). answered (contactNumbers t u (grownOf A r) ++ (pos f ∷ []))) on-floor

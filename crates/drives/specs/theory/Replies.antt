@@ -120,7 +120,8 @@ module _ (b : List ℕ) (cart : Floored) (t u : Point) where
         ↔ ((r : List ℕ) → List·Memᴰ r rs → apart (driven A t u) (shape r) ≡ true)
     never-exactly = (
       λ h r m. away r m (none ones refl (asked-values q _ h)),
-      λ h. drive-answers v n ∙ ap (λ (xs : List (List ℕ)). answered (soonestNumbers A t u xs ++ (pos (cart .floor) ∷ []))) (nobody h ones refl),
+      λ h. drive-answers v n
+          ∙ ap (λ (xs : List (List ℕ)). answered (soonestNumbers A t u xs ++ (pos (cart .floor) ∷ []))) (nobody h ones refl),
     )
       where
         none : (xs : List (List ℕ)) → ones ≡ xs → pos 0 ∷ pos (cart .floor) ∷ [] ≡ soonestNumbers A t u xs ++ (pos (cart .floor) ∷ [])

@@ -31,7 +31,8 @@ use Rattle.contact.specs.theory.Entry.{later-trans}
 use Rattle.contact.specs.theory.Meeting.{first-on-way}
 use Rattle.contact.specs.theory.Safe.{safe-before}
 use Rattle.gaps.specs.Gap.{grownOf, onFloor}
-use Rattle.drives.specs.Drive.{isMet, isAsSoon, firstMet, soonestNumbers, driveRows, askDrive, Told}
+use Rattle.drives.specs.Drive.{isMet, isAsSoon, firstMet, soonestNumbers, driveRows, askDrive}
+use Rattle.drives.specs.Answered.{Told}
 use Rattle.drives.specs.theory.Soonest.{soonest-first}
 use Rattle.drives.specs.theory.Met.{met-first, met-there, floor-contact}
 use Rattle.drives.specs.theory.Replies.{drive-admitted}
@@ -86,7 +87,8 @@ module _ (b : List ℕ) (cart : Floored) (t u : Point) where
             let first = found r xs e in
             let w = firstMet A t u r xs in
             let split = keep-split (isMet A t u) rs (first .before) w (first .after) (first .is) in
-            let own = keep-in (isMet A t u) rs (subst (List·Memᴰ w) (sym (first .is)) (Memᴰ·append-right (first .before) (List·Memᴰ·head refl))) in
+            let own = keep-in (isMet A t u) rs
+            (subst (List·Memᴰ w) (sym (first .is)) (Memᴰ·append-right (first .before) (List·Memᴰ·head refl))) in
             let x : n ≡ contact t u (grownOf A w) .numerator = cc k in
             let y : d ≡ contact t u (grownOf A w) .denominator = cc k in
             record {
@@ -119,6 +121,10 @@ module _ (b : List ℕ) (cart : Floored) (t u : Point) where
 
       abbrev G : List Point
       G = grownOf A one
+
+      -- contact's numbers, where it is met
+      abbrev there : List ℤ
+      there = pos 1 ∷ contact t u G .numerator ∷ contact t u G .denominator ∷ pos (safe t u G) ∷ []
 
       told-way : OnWay (over n d)
       told-way = subst OnWay (sym (told .fraction-is)) (first-on-way t u (grownOf A one))
@@ -158,8 +164,8 @@ module _ (b : List ℕ) (cart : Floored) (t u : Point) where
       unfolding isMet
       told-contact =
           floor-contact b cart t u v none one told-in
-          ∙ ap (λ (c : Bool). answered (cond c (pos 0 ∷ []) (pos 1 ∷ contact t u G .numerator ∷ contact t u G .denominator ∷ pos (safe t u G) ∷ [])
-          ++ (pos (cart .floor) ∷ []))) (not-true (apart (t ∷ u ∷ []) G) (told .met))
+          ∙ ap (λ (c : Bool). answered (cond c (pos 0 ∷ []) there ++ (pos (cart .floor) ∷ [])))
+          (not-true (apart (t ∷ u ∷ []) G) (told .met))
           ∙ ap₂ (λ (c : Fraction) (z : ℤ). answered (pos 1 ∷ c .numerator ∷ c .denominator ∷ z ∷ pos (cart .floor) ∷ []))
           (sym (told .fraction-is)) (sym (told .safe-is))
           ∙ ap (λ (z : ℤ). answered (pos 1 ∷ n ∷ d ∷ w ∷ z ∷ [])) (sym (told .floor-is))

@@ -1,5 +1,5 @@
--- `admit_at` meets its contract: a record on another floor has no rows; another is read and its grown shape judged, and what is refused of an
--- older record of its name does not count.
+-- `admit_at` meets its contract: a record on another floor has no rows; another is read and its grown shape judged, and what is refused of
+-- an older record of its name does not count.
 use mathlib.Core.Path.{_≡_, sym, _∙_, ap, subst}
 use mathlib.Core.Bool.{Bool, true, false, cond}
 use mathlib.Core.List.{List, []}

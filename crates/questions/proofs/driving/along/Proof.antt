@@ -147,8 +147,8 @@ enum-told-5 c = search needs
 
 -- past the sizes every grown shape is one
 sized : (c : tie.After-enum-told5)
-    → let args = at-start (c .before .before .before .before .before .before .before .before .before .before .before .before .before .before)
-    .args in
+    → let at-from = c .before .before .before .before .before .before in
+    let args = at-start (at-from .before .before .before .before .before .before .before .before) .args in
     NoneApply (sizeRowsOf (points (args .cart .now)) (onFloor (args .floor) (args .log .now)))
 sized c = c .before .before .admit-sizes .ensures .valid (c .enum-told5 .given .1)
 
@@ -181,29 +181,7 @@ returns-7 c =
 pub along-spec : {M : Type 1} → statement M
 along-spec =
     tie.close
-    (tie.spec
-    admit-requires
-    enum-known-refusal
-    returns
-    enum-told
-    survey-requires
-    enum-known-place
-    returns-2
-    enum-told-2
-    is-empty-requires
-    returns-3
-    admit-place-requires
-    enum-known-refusal-2
-    returns-4
-    enum-told-3
-    admit-place-requires-2
-    enum-known-refusal-3
-    returns-5
-    enum-told-4
-    admit-sizes-requires
-    enum-known-refusal-4
-    returns-6
-    enum-told-5
-    first-requires
-    reached-requires
-    returns-7)
+    (tie.spec admit-requires enum-known-refusal returns enum-told survey-requires enum-known-place returns-2 enum-told-2
+    is-empty-requires returns-3 admit-place-requires enum-known-refusal-2 returns-4 enum-told-3 admit-place-requires-2
+    enum-known-refusal-3 returns-5 enum-told-4 admit-sizes-requires enum-known-refusal-4 returns-6 enum-told-5 first-requires
+    reached-requires returns-7)
