@@ -1,7 +1,7 @@
 // The questions of documents 01 and 02, those of our own, and all that callers need of this library. Each judges its
-// own lists, once each, gives its refusals in the order of the table, and asks one inner function. A shape is lent with its
-// floor, and every answer on shapes carries it: of two shapes, a on floor f and b on floor g, both have the same, or
-// are refused 13 after 1 to 5 of the first and of the second.
+// own lists, once each, gives its refusals in the order of the table, and asks one inner function. A shape is lent with
+// its floor, and every answer on shapes carries it: of two shapes, a on floor f and b on floor g, both have the same,
+// or are refused 13 after 1 to 5 of the first and of the second.
 pub mod answer;
 pub mod books;
 mod boxing;

@@ -1,10 +1,11 @@
 //! What a careful reader of a map would ask about: obstacles that overlap or are equal, and names that differ only in
 //! case. Going through all pairs is a loop of the desk's own over the library's `relation`.
 use super::{Floor, floors};
-use crate::answer::{Refused, relation};
+use crate::answer::Refused;
 use crate::given::{Given, Pair};
 use crate::map::Map;
 use crate::name::Name;
+use crate::question::{OfTwo, Question};
 use cocklesway::Relation;
 use std::collections::HashMap;
 
@@ -71,14 +72,11 @@ fn kind_of(a: &Given, b: &Given) -> Result<Option<Kind>, Refused> {
     if a.numbers == b.numbers {
         return Ok(Some(Kind::Equal));
     }
-    let found = match cocklesway::relation(a.alone(), b.alone()) {
-        Ok(standing) => standing.relation,
-        Err(_) => relation(&Pair {
-            a: a.clone(),
-            b: b.clone(),
-        })?,
-    };
-    Ok((found == Relation::Overlapping).then_some(Kind::Overlapping))
+    let found = cocklesway::relation(a.alone(), b.alone()).map_err(|refusal| {
+        let (a, b) = (a.clone(), b.clone());
+        Refused::new(Question::Two(Pair { a, b }, OfTwo::Relation), refusal)
+    })?;
+    Ok((found.relation == Relation::Overlapping).then_some(Kind::Overlapping))
 }
 
 /// Returns the names that differ only in case, each with the first such name before it.

@@ -6,8 +6,8 @@ use crate::answer::{Refused, clearance, made, relation};
 use crate::called::{Called, between};
 use crate::fraction::Fraction;
 use crate::given::{Given, Pair};
-use crate::question::Making;
-use cocklesway::{Nearest, Relation};
+use crate::question::{Making, OfTwo, Question};
+use cocklesway::{Nearest, Refusal, Relation};
 
 /// A gap between two obstacles, by their positions.
 #[derive(Clone, Copy, Debug, PartialEq, Eq)]
@@ -87,10 +87,8 @@ impl<'a> Solids<'a> {
         let (mut gaps, mut asked) = (Vec::new(), 0);
         for (first, a) in self.all().iter().enumerate() {
             for (second, b) in self.all().iter().enumerate().skip(first + 1) {
-                let found = match cocklesway::clearance(a.alone(), b.alone()) {
-                    Ok(found) => found,
-                    Err(_) => clearance(&self.pair([first, second]).unwrap_or(same(a)))?,
-                };
+                let found = cocklesway::clearance(a.alone(), b.alone());
+                let found = found.map_err(|refusal| refused(a, b, refusal))?;
                 let (of, nearest) = ([first, second], found.nearest);
                 let gap = Gap { of, nearest };
                 if found.rounded() < limit && !(only_apart && self.is_joined(gap)?) {
@@ -143,9 +141,10 @@ impl<'a> Solids<'a> {
     }
 }
 
-fn same(shape: &Given) -> Pair {
-    let (a, b) = (shape.clone(), shape.clone());
-    Pair { a, b }
+/// The question that was refused.
+fn refused(a: &Given, b: &Given, refusal: Refusal) -> Refused {
+    let (a, b) = (a.clone(), b.clone());
+    Refused::new(Question::Two(Pair { a, b }, OfTwo::Clearance), refusal)
 }
 
 /// How far two obstacles are apart.

@@ -114,52 +114,24 @@ fn what_stays_is_true_of_the_new_map() {
     }
 }
 
+/// Lines of settled answers, the status, and words of what is said.
+#[rustfmt::skip]
+const WRONG: &[(&str, u8, &str)] = &[
+    ("clearance | linen-store | wall | ok 3300", 2, "-:1: the old map answers `3200`, and not `3300`"),
+    ("width | linen-store | ok 800", 2, "-:1: it has no short answer: leave `800` out"),
+    ("nearest | @2 100 4900 | ok bed", 2, "-:1: the old map answers `wall`, and not `bed`"),
+    ("clearance | bin | wall", 2, "-:1: by the old map, no shape before this line is called `bin`"),
+    ("shape | x | 0 0", 2, "-:1: by the old map, `shape` is no word that begins a line"),
+    ("x = mirror | cart", 2, "by the old map"),
+    ("clearance | linen-store", 2, "`clearance` needs one more field: another shape"),
+    ("nearest | @7 0 0", 1, "-:1: refused (20)"),
+    ("clearance | linen-store | lamp", 1, "-:1: refused (13): linen-store is on floor 2 and lamp is on floor 3"),
+    ("clearance | linen-store | wall | ok 3200 | 4", 2, "has at most 2 fields"),
+];
+
 #[test]
 fn wrong_answers() {
-    for (line, status, words) in [
-        (
-            "clearance | linen-store | wall | ok 3300",
-            2,
-            "-:1: the old map answers `3200`, and not `3300`",
-        ),
-        (
-            "width | linen-store | ok 800",
-            2,
-            "-:1: it has no short answer: leave `800` out",
-        ),
-        (
-            "nearest | @2 100 4900 | ok bed",
-            2,
-            "-:1: the old map answers `wall`, and not `bed`",
-        ),
-        (
-            "clearance | bin | wall",
-            2,
-            "-:1: by the old map, no shape before this line is called `bin`",
-        ),
-        (
-            "shape | x | 0 0",
-            2,
-            "-:1: by the old map, `shape` is no word that begins a line",
-        ),
-        ("x = mirror | cart", 2, "by the old map"),
-        (
-            "clearance | linen-store",
-            2,
-            "`clearance` needs one more field: another shape",
-        ),
-        ("nearest | @7 0 0", 1, "-:1: refused (20)"),
-        (
-            "clearance | linen-store | lamp",
-            1,
-            "-:1: refused (13): linen-store is on floor 2 and lamp is on floor 3",
-        ),
-        (
-            "clearance | linen-store | wall | ok 3200 | 4",
-            2,
-            "has at most 2 fields",
-        ),
-    ] {
+    for (line, status, words) in WRONG.iter().copied() {
         let ran = compared(&["--answers", "-"], line);
         assert_eq!(ran.status, status, "{line}: {ran:?}");
         let said = if status == 1 {
@@ -192,42 +164,28 @@ fn objects_of_changes() {
     }
 }
 
+/// Commands, their status, and words of their errors.
+#[rustfmt::skip]
+const MISTAKES: &[(&str, u8, &str)] = &[
+    ("diff MAP", 2, "two maps are needed: OLD NEW"),
+    ("diff MAP MAP MAP", 2, "two maps are needed: OLD NEW"),
+    ("diff MAP no-such-map", 2, "no-such-map: cannot be read"),
+    ("diff MAP MAP --answers no-such-file", 2, "no-such-file: cannot be read"),
+    ("diff MAP BAD", 1, "nothing is answered, since the map is not whole"),
+    ("diff MAP MAP --answer x", 2, "there is no option `--answer` (did you mean `--answers`?)"),
+];
+
 #[test]
 fn mistakes_of_diff() {
     let folder = Folder::new();
     let old = folder.file("old.txt", OLD);
     let bad = folder.file("bad.txt", "shape | a | 0\n");
-    for (words, status, error) in [
-        (vec!["diff", &old], 2, "two maps are needed: OLD NEW"),
-        (
-            vec!["diff", &old, &old, &old],
-            2,
-            "two maps are needed: OLD NEW",
-        ),
-        (
-            vec!["diff", &old, "no-such-map"],
-            2,
-            "no-such-map: cannot be read",
-        ),
-        (
-            vec!["diff", &old, &old, "--answers", "no-such-file"],
-            2,
-            "no-such-file: cannot be read",
-        ),
-        (
-            vec!["diff", &old, &bad],
-            1,
-            "nothing is answered, since the map is not whole",
-        ),
-        (
-            vec!["diff", &old, &old, "--answer", "x"],
-            2,
-            "there is no option `--answer` (did you mean `--answers`?)",
-        ),
-    ] {
+    for (command, status, error) in MISTAKES.iter().copied() {
+        let command = command.replace("MAP", &old).replace("BAD", &bad);
+        let words: Vec<&str> = command.split(' ').collect();
         let ran = with_input(&words, b"");
-        assert_eq!(ran.status, status, "{words:?}: {ran:?}");
-        assert!(ran.errors.contains(error), "{words:?}: {ran:?}");
+        assert_eq!(ran.status, status, "{command}: {ran:?}");
+        assert!(ran.errors.contains(error), "{command}: {ran:?}");
     }
     let same = with_input(&["diff", &old, &old], b"");
     assert_eq!(

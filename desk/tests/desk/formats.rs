@@ -108,156 +108,51 @@ fn a_ring_that_turns_in() {
     assert!(ran.errors.contains("(5, 4)"), "{ran:?}");
 }
 
+/// Files, the status of an import, and words of its errors.
+#[rustfmt::skip]
+const MISTAKES: &[(&str, u8, &str)] = &[
+    ("POINT (1.5 0)", 1, "-:1: refused (18): `1.5` mm is no whole number of millimetres"),
+    ("POINT (1 0", 2, "-:1: , or ) after two numbers is expected, and here is nothing more"),
+    ("POINT (1 x)", 2, "-:1: `x` is not a number"),
+    ("POINT (1)", 2, "-:1: `)` is not a number"),
+    ("POINT (1 2 3)", 2, "-:1: , or ) after two numbers is expected, and not `3`"),
+    ("POINT (1 2) 3", 2, "-:1: the end of the line is expected, and not `3`"),
+    ("POINT (1 2, 3 4)", 2, "-:1: a POINT has one point"),
+    ("POINT Z (1 2 3)", 2, "-:1: a point has two numbers, x and y"),
+    ("POINT EMPTY", 2, "-:1: an empty geometry is no shape"),
+    ("POINT (99999999999 2)", 2, "-:1: `99999999999` is out of range"),
+    ("LINESTRING (1 2, 3 4, 5 6)", 2, "one of more is no shape"),
+    ("POLYGON ((0 0, 9 0, 0 9, 0 0), (1 1, 2 1, 1 2, 1 1))", 2, "a polygon with a hole is no convex shape"),
+    ("POLYGON (0 0, 9 0, 0 9)", 2, "-:1: ( before points is expected, and not `0`"),
+    ("MULTIPOINT (0 0)", 2, "-:1: POINT, LINESTRING or POLYGON is expected, and not `MULTIPOINT`"),
+    ("linen store POINT (0 0)", 2, "-:1: one name is expected, and not `store`"),
+    ("a.b POINT (0 0)", 2, "-:1: `a.b` is no name: a name has letters, digits, - and _, and no `.`"),
+    ("a @70000 POINT (0 0)", 2, "-:1: `@70000` is no floor: floors are 0 to 65535"),
+    ("a POINT (0 0)\na POINT (1 1)", 2, "-:2: the name a is given on line 1 already"),
+    ("(0 0)", 2, "-:1: POINT, LINESTRING or POLYGON is expected, and not `(`"),
+    ("{", 2, "-:1: a text in quotes is expected, and here is nothing more"),
+    ("{\n\"type\": 1 2}", 2, "-:2: , or } is expected, and not `2`"),
+    ("{\"a\":1,\"a\":2}", 2, "-:1: a key is there twice in one object"),
+    ("{\"type\":\"FeatureCollection\"}", 2, "-:1: a list of features is expected"),
+    ("{\"type\":\"Feature\"}", 2, "-:1: a geometry is expected"),
+    ("{\"type\":\"Point\"}", 2, "-:1: a list of coordinates is expected"),
+    ("{\"type\":\"Point\",\"coordinates\":[1,2,3]}", 2, "a position has two numbers, x and y"),
+    ("{\"type\":\"Point\",\"coordinates\":[1,\"2\"]}", 2, "`2` is not a number"),
+    ("{\"type\":\"Point\",\"coordinates\":[01,2]}", 2, "`01` is not a number"),
+    ("{\"type\":\"Point\",\"coordinates\":[0.5,2]}", 1, "refused (18): `0.5` mm is no whole number"),
+    ("{\"type\":\"MultiPolygon\",\"coordinates\":[]}",
+     2, "Point, LineString or Polygon is expected, and not `MultiPolygon`"),
+    ("{\"type\":\"Polygon\",\"coordinates\":[]}", 2, "a Polygon has a list of one ring"),
+    ("{\"type\":\"Polygon\",\"coordinates\":[[],[]]}", 2, "a polygon with a hole is no convex shape"),
+    (r#"{"type":"Feature","properties":{"name":7},"geometry":{"type":"Point","coordinates":[1,2]}}"#,
+     2, "a name in quotes is expected, and not `7`"),
+    (r#"{"type":"Feature","properties":{"floor":-1},"geometry":{"type":"Point","coordinates":[1,2]}}"#,
+     2, "`-1` is no floor"),
+];
+
 #[test]
 fn mistakes_of_files() {
-    for (text, status, words) in [
-        (
-            "POINT (1.5 0)",
-            1,
-            "-:1: refused (18): `1.5` mm is no whole number of millimetres",
-        ),
-        (
-            "POINT (1 0",
-            2,
-            "-:1: , or ) after two numbers is expected, and here is nothing more",
-        ),
-        ("POINT (1 x)", 2, "-:1: `x` is not a number"),
-        ("POINT (1)", 2, "-:1: `)` is not a number"),
-        (
-            "POINT (1 2 3)",
-            2,
-            "-:1: , or ) after two numbers is expected, and not `3`",
-        ),
-        (
-            "POINT (1 2) 3",
-            2,
-            "-:1: the end of the line is expected, and not `3`",
-        ),
-        ("POINT (1 2, 3 4)", 2, "-:1: a POINT has one point"),
-        (
-            "POINT Z (1 2 3)",
-            2,
-            "-:1: a point has two numbers, x and y",
-        ),
-        ("POINT EMPTY", 2, "-:1: an empty geometry is no shape"),
-        (
-            "POINT (99999999999 2)",
-            2,
-            "-:1: `99999999999` is out of range",
-        ),
-        ("LINESTRING (1 2, 3 4, 5 6)", 2, "one of more is no shape"),
-        (
-            "POLYGON ((0 0, 9 0, 0 9, 0 0), (1 1, 2 1, 1 2, 1 1))",
-            2,
-            "a polygon with a hole is no convex shape",
-        ),
-        (
-            "POLYGON (0 0, 9 0, 0 9)",
-            2,
-            "-:1: ( before points is expected, and not `0`",
-        ),
-        (
-            "MULTIPOINT (0 0)",
-            2,
-            "-:1: POINT, LINESTRING or POLYGON is expected, and not `MULTIPOINT`",
-        ),
-        (
-            "linen store POINT (0 0)",
-            2,
-            "-:1: one name is expected, and not `store`",
-        ),
-        (
-            "a.b POINT (0 0)",
-            2,
-            "-:1: `a.b` is no name: a name has letters, digits, - and _, and no `.`",
-        ),
-        (
-            "a @70000 POINT (0 0)",
-            2,
-            "-:1: `@70000` is no floor: floors are 0 to 65535",
-        ),
-        (
-            "a POINT (0 0)\na POINT (1 1)",
-            2,
-            "-:2: the name a is given on line 1 already",
-        ),
-        (
-            "(0 0)",
-            2,
-            "-:1: POINT, LINESTRING or POLYGON is expected, and not `(`",
-        ),
-        (
-            "{",
-            2,
-            "-:1: a text in quotes is expected, and here is nothing more",
-        ),
-        (
-            "{\n\"type\": 1 2}",
-            2,
-            "-:2: , or } is expected, and not `2`",
-        ),
-        (
-            "{\"a\":1,\"a\":2}",
-            2,
-            "-:1: a key is there twice in one object",
-        ),
-        (
-            "{\"type\":\"FeatureCollection\"}",
-            2,
-            "-:1: a list of features is expected",
-        ),
-        ("{\"type\":\"Feature\"}", 2, "-:1: a geometry is expected"),
-        (
-            "{\"type\":\"Point\"}",
-            2,
-            "-:1: a list of coordinates is expected",
-        ),
-        (
-            "{\"type\":\"Point\",\"coordinates\":[1,2,3]}",
-            2,
-            "a position has two numbers, x and y",
-        ),
-        (
-            "{\"type\":\"Point\",\"coordinates\":[1,\"2\"]}",
-            2,
-            "`2` is not a number",
-        ),
-        (
-            "{\"type\":\"Point\",\"coordinates\":[01,2]}",
-            2,
-            "`01` is not a number",
-        ),
-        (
-            "{\"type\":\"Point\",\"coordinates\":[0.5,2]}",
-            1,
-            "refused (18): `0.5` mm is no whole number",
-        ),
-        (
-            "{\"type\":\"MultiPolygon\",\"coordinates\":[]}",
-            2,
-            "Point, LineString or Polygon is expected, and not `MultiPolygon`",
-        ),
-        (
-            "{\"type\":\"Polygon\",\"coordinates\":[]}",
-            2,
-            "a Polygon has a list of one ring",
-        ),
-        (
-            "{\"type\":\"Polygon\",\"coordinates\":[[],[]]}",
-            2,
-            "a polygon with a hole is no convex shape",
-        ),
-        (
-            r#"{"type":"Feature","properties":{"name":7},"geometry":{"type":"Point","coordinates":[1,2]}}"#,
-            2,
-            "a name in quotes is expected, and not `7`",
-        ),
-        (
-            r#"{"type":"Feature","properties":{"floor":-1},"geometry":{"type":"Point","coordinates":[1,2]}}"#,
-            2,
-            "`-1` is no floor",
-        ),
-    ] {
+    for (text, status, words) in MISTAKES.iter().copied() {
         let ran = import(text, &[]);
         assert_eq!(
             (ran.status, ran.output.as_str()),

@@ -258,11 +258,16 @@ fn whole_floors_of_all_sorts() {
         "passes - linen-store wall --cart cart",
         "export - --as geojson",
         "diff - OLD --json",
+        "draw - --floor 2 --cart cart --below 5000 --drive 0,0_3000,0_3000,2500",
     ];
     for number in 0..FILES / 10 {
         let bytes = file(&mut dice);
         let command = commands[number % commands.len()].replace("OLD", &old);
-        let words: Vec<&str> = command.split(' ').collect();
+        let words: Vec<String> = command
+            .split(' ')
+            .map(|word| word.replace('_', " "))
+            .collect();
+        let words: Vec<&str> = words.iter().map(String::as_str).collect();
         let ran = with_input(&words, &bytes);
         assert_eq!(
             ran.status == 2,

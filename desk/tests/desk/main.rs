@@ -1,5 +1,6 @@
 //! The program as its users meet it: maps, answers, pictures, options, failures, and files that are no maps at all.
 mod books;
+mod brute;
 mod changes;
 mod formats;
 mod fuzz;

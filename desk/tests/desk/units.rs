@@ -1,6 +1,7 @@
 //! Units and decimals: read exactly, or refused 18.
 use crate::json;
 use crate::running::{Folder, asked, with_input};
+use desk::unit::{Inexact, Unit};
 
 #[test]
 fn decimals_of_a_unit() {
@@ -114,7 +115,6 @@ fn a_unit_ends_with_its_file() {
 /// Every decimal of three digits is the number of millimetres that its digits say.
 #[test]
 fn decimals_are_exact() {
-    use desk::unit::{Inexact, Unit};
     for number in -20_000_i32..=20_000 {
         let sign = if number < 0 { "-" } else { "" };
         let size = number.unsigned_abs();
@@ -136,34 +136,27 @@ fn decimals_are_exact() {
             Ok(number)
         );
     }
-    for (text, why) in [
-        ("2147484", Inexact::Large),
-        ("99999999999999999999999", Inexact::Large),
-        ("", Inexact::NotANumber),
-        ("-", Inexact::NotANumber),
-        ("1.", Inexact::NotANumber),
-        (".5", Inexact::NotANumber),
-        ("1..5", Inexact::NotANumber),
-        ("--1", Inexact::NotANumber),
-        ("1.5.0", Inexact::NotANumber),
-        ("+1", Inexact::NotANumber),
-        ("NaN", Inexact::NotANumber),
-    ] {
+}
+
+/// Words that are no number of metres, and why.
+#[rustfmt::skip]
+const INEXACT: &[(&str, Inexact)] = &[
+    ("2147484", Inexact::Large), ("99999999999999999999999", Inexact::Large), ("", Inexact::NotANumber),
+    ("-", Inexact::NotANumber), ("1.", Inexact::NotANumber), (".5", Inexact::NotANumber),
+    ("1..5", Inexact::NotANumber), ("--1", Inexact::NotANumber), ("1.5.0", Inexact::NotANumber),
+    ("+1", Inexact::NotANumber), ("NaN", Inexact::NotANumber), ("1e3", Inexact::NotANumber),
+];
+
+#[test]
+fn words_that_are_no_lengths() {
+    for (text, why) in INEXACT.iter().copied() {
         assert_eq!(Unit::Metre.millimetres(text), Err(why), "{text}");
     }
+    let read = |text| Unit::Metre.millimetres_of_exponent(text);
     for text in ["1e", "1e+", "e5", "1e5.0", "1e--5"] {
-        assert_eq!(
-            Unit::Metre.millimetres_of_exponent(text),
-            Err(Inexact::NotANumber),
-            "{text}"
-        );
+        assert_eq!(read(text), Err(Inexact::NotANumber), "{text}");
     }
-    assert_eq!(
-        Unit::Metre.millimetres_of_exponent("1e400"),
-        Err(Inexact::Large)
-    );
-    assert_eq!(
-        Unit::Metre.millimetres_of_exponent("1e999999999999"),
-        Err(Inexact::Large)
-    );
+    for text in ["1e400", "1e999999999999", "1e9"] {
+        assert_eq!(read(text), Err(Inexact::Large), "{text}");
+    }
 }

@@ -229,45 +229,23 @@ fn the_nearest_obstacle() {
     );
 }
 
+/// Commands, how many objects they print, and members of one.
+#[rustfmt::skip]
+const OBJECTS: &[(&str, usize, &str)] = &[
+    ("gaps - --floor 2 --below 900 --json", 10, r#""names":["south-2","west-2"],"apart":false,"rounded":0"#),
+    ("gaps - --floor 2 --json --cart cart", 1, r#""floor":2,"cart":"cart","names":"#),
+    ("passes - linen-store desk-2 --cart cart --json", 1, r#""passable":true,"direction":[-1,0]"#),
+    ("stands - --cart cart --at 23800,0 --floor 2 --json",
+     1, r#""state":"overlapping","overlaps":["east-2"],"touches":["south-2"]"#),
+    ("drive - --cart cart --floor 2 1000,1000 16000,1000 16000,4300 --json",
+     2, r#""meets":true,"name":"column-23","numerator":1,"denominator":3,"safe":1100"#),
+    ("nearest - --shape linen-store --json", 1, r#""name":"desk-2","apart":true,"rounded":880"#),
+    ("nearest - --floor 9 --at 0,0 --json", 1, r#"{"refused":{"number":20,"#),
+];
+
 #[test]
 fn an_object_a_line() {
-    for (command, lines, member) in [
-        (
-            "gaps - --floor 2 --below 900 --json",
-            10,
-            r#""names":["south-2","west-2"],"apart":false,"rounded":0"#,
-        ),
-        (
-            "gaps - --floor 2 --json --cart cart",
-            1,
-            r#""floor":2,"cart":"cart","names":"#,
-        ),
-        (
-            "passes - linen-store desk-2 --cart cart --json",
-            1,
-            r#""passable":true,"direction":[-1,0]"#,
-        ),
-        (
-            "stands - --cart cart --at 23800,0 --floor 2 --json",
-            1,
-            r#""state":"overlapping","overlaps":["east-2"],"touches":["south-2"]"#,
-        ),
-        (
-            "drive - --cart cart --floor 2 1000,1000 16000,1000 16000,4300 --json",
-            2,
-            r#""meets":true,"name":"column-23","numerator":1,"denominator":3,"safe":1100"#,
-        ),
-        (
-            "nearest - --shape linen-store --json",
-            1,
-            r#""name":"desk-2","apart":true,"rounded":880"#,
-        ),
-        (
-            "nearest - --floor 9 --at 0,0 --json",
-            1,
-            r#"{"refused":{"number":20,"#,
-        ),
-    ] {
+    for (command, lines, member) in OBJECTS.iter().copied() {
         let ran = on_hospital(command);
         assert_eq!(ran.output.lines().count(), lines, "{command}: {ran:?}");
         assert!(ran.output.contains(member), "{command}: {ran:?}");
@@ -278,146 +256,48 @@ fn an_object_a_line() {
     }
 }
 
+/// Commands, their status, and words of what is said.
+#[rustfmt::skip]
+const MISTAKES: &[(&str, u8, &str)] = &[
+    ("gaps", 2, "no file is given"),
+    ("gaps no-such-map", 2, "no-such-map: cannot be read: No such file"),
+    ("gaps -", 2, "the map has the floors 1, 2, 3: choose one with --floor"),
+    ("gaps - --floor second", 2, "`--floor` needs a floor from 0 to 65535, and not `second`"),
+    ("gaps - --floor 2 --below 0.9m", 2, "`--below` needs a whole number of millimetres, and not `0.9m`"),
+    ("gaps - --floor 2 --bellow 900", 2, "there is no option `--bellow` (did you mean `--below`?)"),
+    ("gaps - --floor 2 --cart crt",
+     2, "`--cart` needs the name of a shape of the map, and not `crt` (did you mean `cart`?)"),
+    ("gaps - --floor 9", 1, "refused (20): floor 9 of the map has fewer than two shapes"),
+    ("gaps - --floor 9 --below 900", 1, "refused (20): floor 9 of the map has fewer than two shapes"),
+    ("gaps - --floor 9 --apart", 1, "refused (20): floor 9 of the map has fewer than two shapes"),
+    ("gaps - --floor 2 --cart bed-11", 1, "refused (13): south-2 is on floor 2 and bed-11 is on floor 1"),
+    ("passes - linen-store --cart cart", 2, "two obstacles are needed after the map: MAP A B"),
+    ("passes - linnen-store desk-2 --cart cart",
+     2, "no shape of the map is called `linnen-store` (did you mean `linen-store`?)"),
+    ("passes - linen-store desk-2", 2, "a cart is needed: --cart CART"),
+    ("passes - linen-store desk-1 --cart cart",
+     1, "refused (13): linen-store is on floor 2 and desk-1 is on floor 1"),
+    ("stands - --cart cart --floor 2", 2, "a place is needed: --at X,Y"),
+    ("stands - --cart cart --floor 2 --at 3500",
+     2, "`--at` needs two whole numbers of millimetres with a comma between them, and not `3500`"),
+    ("stands - --cart cart --floor 2 --at 2000000,0",
+     1, "refused (3): the corner (2000000, 0) of the point (2000000, 0) is out of range"),
+    ("stands - --cart cart --floor 9 --at 0,0", 1, "refused (20): floor 9 of the map has no shape"),
+    ("drive - --cart cart --floor 2", 2, "two places or more are needed after the map"),
+    ("drive - --cart cart --floor 2 0,0 1,x",
+     2, "`drive` needs two whole numbers of millimetres with a comma between them, and not `1,x`"),
+    ("drive - --cart cart --floor 9 0,0 10,0", 1, "refused (20): floor 9 of the map has no shape"),
+    ("drive - --cart cart --floor 2 0,0 2000000,0", 1, "refused (3): the place (2000000, 0) is out of range"),
+    ("nearest - --floor 2", 2, "--at X,Y or --shape NAME is needed"),
+    ("nearest - --shape cart --floor 2", 2, "cart is an outline, which is nowhere: --at X,Y puts it there"),
+    ("nearest - --shape bed-11 --at 0,0", 2, "bed-11 has its place already: leave out --at or --shape"),
+    ("nearest - --floor 9 --at 0,0", 1, "refused (20): floor 9 of the map has no shape"),
+    ("nearest - --floor 2 --shape bed-11", 2, "bed-11 is on floor 1, and not on floor 2"),
+];
+
 #[test]
 fn mistakes_in_commands() {
-    for (command, status, words) in [
-        ("gaps", 2, "no file is given"),
-        (
-            "gaps no-such-map",
-            2,
-            "no-such-map: cannot be read: No such file",
-        ),
-        (
-            "gaps -",
-            2,
-            "the map has the floors 1, 2, 3: choose one with --floor",
-        ),
-        (
-            "gaps - --floor second",
-            2,
-            "`--floor` needs a floor from 0 to 65535, and not `second`",
-        ),
-        (
-            "gaps - --floor 2 --below 0.9m",
-            2,
-            "`--below` needs a whole number of millimetres, and not `0.9m`",
-        ),
-        (
-            "gaps - --floor 2 --bellow 900",
-            2,
-            "there is no option `--bellow` (did you mean `--below`?)",
-        ),
-        (
-            "gaps - --floor 2 --cart crt",
-            2,
-            "`--cart` needs the name of a shape of the map, and not `crt` (did you mean `cart`?)",
-        ),
-        (
-            "gaps - --floor 9",
-            1,
-            "refused (20): floor 9 of the map has fewer than two shapes",
-        ),
-        (
-            "gaps - --floor 9 --below 900",
-            1,
-            "refused (20): floor 9 of the map has fewer than two shapes",
-        ),
-        (
-            "gaps - --floor 9 --apart",
-            1,
-            "refused (20): floor 9 of the map has fewer than two shapes",
-        ),
-        (
-            "gaps - --floor 2 --cart bed-11",
-            1,
-            "refused (13): south-2 is on floor 2 and bed-11 is on floor 1",
-        ),
-        (
-            "passes - linen-store --cart cart",
-            2,
-            "two obstacles are needed after the map: MAP A B",
-        ),
-        (
-            "passes - linnen-store desk-2 --cart cart",
-            2,
-            "no shape of the map is called `linnen-store` (did you mean `linen-store`?)",
-        ),
-        (
-            "passes - linen-store desk-2",
-            2,
-            "a cart is needed: --cart CART",
-        ),
-        (
-            "passes - linen-store desk-1 --cart cart",
-            1,
-            "refused (13): linen-store is on floor 2 and desk-1 is on floor 1",
-        ),
-        (
-            "stands - --cart cart --floor 2",
-            2,
-            "a place is needed: --at X,Y",
-        ),
-        (
-            "stands - --cart cart --floor 2 --at 3500",
-            2,
-            "`--at` needs two whole numbers of millimetres with a comma between them, and not `3500`",
-        ),
-        (
-            "stands - --cart cart --floor 2 --at 2000000,0",
-            1,
-            "refused (3): the corner (2000000, 0) of the point (2000000, 0) is out of range",
-        ),
-        (
-            "stands - --cart cart --floor 9 --at 0,0",
-            1,
-            "refused (20): floor 9 of the map has no shape",
-        ),
-        (
-            "drive - --cart cart --floor 2",
-            2,
-            "two places or more are needed after the map",
-        ),
-        (
-            "drive - --cart cart --floor 2 0,0 1,x",
-            2,
-            "`drive` needs two whole numbers of millimetres with a comma between them, and not `1,x`",
-        ),
-        (
-            "drive - --cart cart --floor 9 0,0 10,0",
-            1,
-            "refused (20): floor 9 of the map has no shape",
-        ),
-        (
-            "drive - --cart cart --floor 2 0,0 2000000,0",
-            1,
-            "refused (3): the place (2000000, 0) is out of range",
-        ),
-        (
-            "nearest - --floor 2",
-            2,
-            "--at X,Y or --shape NAME is needed",
-        ),
-        (
-            "nearest - --shape cart --floor 2",
-            2,
-            "cart is an outline, which is nowhere: --at X,Y puts it there",
-        ),
-        (
-            "nearest - --shape bed-11 --at 0,0",
-            2,
-            "bed-11 has its place already: leave out --at or --shape",
-        ),
-        (
-            "nearest - --floor 9 --at 0,0",
-            1,
-            "refused (20): floor 9 of the map has no shape",
-        ),
-        (
-            "nearest - --floor 2 --shape bed-11",
-            2,
-            "bed-11 is on floor 1, and not on floor 2",
-        ),
-    ] {
+    for (command, status, words) in MISTAKES.iter().copied() {
         refused(command, status, words);
     }
 }
