@@ -47,6 +47,11 @@ export class Drive {
     this.add([snap(x), snap(y)]);
   }
 
+  // Keys move the cart, whose place is then added.
+  key(by) {
+    return this.app.tools.cart.key(by);
+  }
+
   grip(event) {
     const k = event.target.closest(".stop")?.dataset.stop;
     if (k === undefined) return null;
@@ -110,7 +115,8 @@ export class Drive {
         button("Back", () => this.back(), { disabled: this.places.length === 0 }),
         button("Clear", () => this.set([]), { disabled: this.places.length === 0 }),
         stepChoice(this.app)),
-      el("p", { class: "hint" }, "Click the floor to add a place of the cart's origin. Places can be dragged."),
+      el("p", { class: "hint" }, "Click the floor to add a place of the cart's origin, or move the cart with the arrow keys and press Enter. " +
+        "Places can be dragged."),
       lines({ lines: this.legs.flatMap((leg) => leg.lines ?? []) }),
     ];
   }

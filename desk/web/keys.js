@@ -49,7 +49,7 @@ const CONTROL = {
 
 // What a key does, if anything. Letters that are typed into a field are left to it.
 function meant(app, event) {
-  const isTyped = event.target.closest("input, select, textarea, dialog");
+  const isTyped = event.target.closest("input, select, textarea, dialog[open]");
   const isPressed = event.target.closest("button, summary") && ["Enter", " "].includes(event.key);
   const key = event.key.length === 1 ? event.key.toLowerCase() : event.key;
   if (event.ctrlKey || event.metaKey) return isTyped && key !== "s" ? null : CONTROL[key];

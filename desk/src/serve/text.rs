@@ -152,7 +152,7 @@ fn row_of(
     rows
 }
 
-/// The rows after all edits, with the line ends of the file.
+/// The rows after all edits, with the line ends of the file. The empty row after the last line end has none.
 fn joined(rows: &[&[u8]], mut edits: Vec<Edit>, is_dos: bool) -> Vec<u8> {
     edits.sort_by_key(|edit| edit.rows.start);
     let mut all: Vec<Vec<u8>> = Vec::new();
@@ -160,8 +160,10 @@ fn joined(rows: &[&[u8]], mut edits: Vec<Edit>, is_dos: bool) -> Vec<u8> {
     for Edit { rows: gone, by } in edits {
         let kept = rows.get(at..gone.start).unwrap_or_default();
         all.extend(kept.iter().map(|row| row.to_vec()));
-        let end: &[u8] = if is_dos { b"\r" } else { b"" };
-        all.extend(by.into_iter().map(|row| [&row, end].concat()));
+        for mut row in by {
+            row.extend((is_dos && !row.is_empty()).then_some(b'\r'));
+            all.push(row);
+        }
         at = gone.end;
     }
     all.join(&b'\n')

@@ -164,6 +164,18 @@ fn a_file_is_saved_with_its_comments() {
     assert_eq!(saved.body, format!("{expected}shape | desk | @3 5 5 9 5\n"));
 }
 
+#[test]
+fn line_ends_are_kept() {
+    let server = start("shape | a | 1 1\r\n# end\r\n");
+    let body = "{\"changes\":[{\"name\":\"a\",\"floor\":4,\"corners\":[[2,2]]},\
+                {\"name\":\"b\",\"floor\":0,\"corners\":[[3,3]]}]}";
+    let saved = server.post("save", body).body;
+    assert_eq!(
+        saved,
+        "shape | a | @4 2 2\r\n# end\r\nshape | b | @0 3 3\r\n"
+    );
+}
+
 /// Files of all sorts.
 const FILES: &[&str] = &[
     MAP,
