@@ -207,58 +207,61 @@ fn a_drive_meets_the_first_on_its_way() {
     assert_eq!(drive("[[30,0],[100,0]]"), "near");
 }
 
+/// Wishes that cannot be met: the address, the body, and words of the reason.
+const WRONG: &[(&str, &str, &str)] = &[
+    ("map", "", "no JSON"),
+    ("map", "[]", "no JSON object"),
+    ("map", "{\"changes\":1}", "`changes`"),
+    (
+        "map",
+        "{\"changes\":[{\"name\":\"cart\",\"floor\":2,\"corners\":[[0,0]]}]}",
+        "not written as a shape",
+    ),
+    ("place", "{}", "`cart`"),
+    ("place", "{\"cart\":\"a b\"}", "no name"),
+    (
+        "place",
+        "{\"cart\":\"bed\",\"floor\":2,\"at\":[0,0]}",
+        "no outline",
+    ),
+    (
+        "place",
+        "{\"cart\":\"nobody\",\"floor\":2,\"at\":[0,0]}",
+        "no shape `nobody`",
+    ),
+    (
+        "place",
+        "{\"cart\":\"cart\",\"floor\":65536,\"at\":[0,0]}",
+        "`floor`",
+    ),
+    (
+        "place",
+        "{\"cart\":\"cart\",\"floor\":2,\"at\":[0]}",
+        "`at`",
+    ),
+    (
+        "place",
+        "{\"cart\":\"cart\",\"floor\":2,\"at\":[0,2147483648]}",
+        "`at`",
+    ),
+    (
+        "place",
+        "{\"cart\":\"cart\",\"floor\":2,\"at\":[0,0.5]}",
+        "whole",
+    ),
+    ("pair", "{\"a\":\"bed\"}", "`b`"),
+    (
+        "drive",
+        "{\"cart\":\"cart\",\"floor\":2,\"places\":[0,0]}",
+        "`places`",
+    ),
+    ("judge", "{\"name\":\"bed\",\"floor\":2}", "`corners`"),
+];
+
 #[test]
 fn wishes_that_cannot_be_met() {
     let server = start(MAP);
-    for (path, body, words) in [
-        ("map", "", "no JSON"),
-        ("map", "[]", "no JSON object"),
-        ("map", "{\"changes\":1}", "`changes`"),
-        (
-            "map",
-            "{\"changes\":[{\"name\":\"cart\",\"floor\":2,\"corners\":[[0,0]]}]}",
-            "not written as a shape",
-        ),
-        ("place", "{}", "`cart`"),
-        ("place", "{\"cart\":\"a b\"}", "no name"),
-        (
-            "place",
-            "{\"cart\":\"bed\",\"floor\":2,\"at\":[0,0]}",
-            "no outline",
-        ),
-        (
-            "place",
-            "{\"cart\":\"nobody\",\"floor\":2,\"at\":[0,0]}",
-            "no shape `nobody`",
-        ),
-        (
-            "place",
-            "{\"cart\":\"cart\",\"floor\":65536,\"at\":[0,0]}",
-            "`floor`",
-        ),
-        (
-            "place",
-            "{\"cart\":\"cart\",\"floor\":2,\"at\":[0]}",
-            "`at`",
-        ),
-        (
-            "place",
-            "{\"cart\":\"cart\",\"floor\":2,\"at\":[0,2147483648]}",
-            "`at`",
-        ),
-        (
-            "place",
-            "{\"cart\":\"cart\",\"floor\":2,\"at\":[0,0.5]}",
-            "whole",
-        ),
-        ("pair", "{\"a\":\"bed\"}", "`b`"),
-        (
-            "drive",
-            "{\"cart\":\"cart\",\"floor\":2,\"places\":[0,0]}",
-            "`places`",
-        ),
-        ("judge", "{\"name\":\"bed\",\"floor\":2}", "`corners`"),
-    ] {
+    for (path, body, words) in WRONG {
         let reply = server.post(path, body);
         assert_eq!(reply.code, 400, "{path} {body}: {reply:?}");
         assert!(reply.body.contains(words), "{path} {body}: {reply:?}");
