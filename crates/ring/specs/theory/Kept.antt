@@ -3,7 +3,7 @@
 --     Ringed f xs          one position, or several of which neighbours on the way round differ
 --     distinct-ringed, sense-ringed     so it is with what is left without repeats, in either sense
 --     opened-has, distinct-has, sense-has     each point is still there
---     apart-last, same-swap             the last differs from the end; the test read the other way
+--     apart-last, apart-reverse, same-swap     the last differs from the end; the list, and the test, read the other way
 use mathlib.Core.Path.{_≡_, refl, sym, _∙_, ap, subst}
 use mathlib.Core.Bool.{Bool, true, false, not, cond, true≢false}
 use mathlib.Core.Logic.{_⊎_, inl, inr}
@@ -46,7 +46,7 @@ module _ {X : Type 0} (f : X → Point) where
   apart-snoc a [] x z h e = (h, e)
   apart-snoc a (y ∷ xs) x z h e = (h .0, apart-snoc y xs x z (h .1) e)
 
-  apart-reverse : (a : X) (xs : List X) (z : X) → Apart f a xs z → Apart f z (reverse xs) a
+  pub apart-reverse : (a : X) (xs : List X) (z : X) → Apart f a xs z → Apart f z (reverse xs) a
   apart-reverse a [] z h = same-swap (f a) (f z) h
   apart-reverse a (x ∷ xs) z h =
       subst (λ (l : List X). Apart f z l a) (sym (reverse-cons x xs))

@@ -22,7 +22,8 @@ use Rattle.ring.specs.Round.{straight, bending, bends}
 use Rattle.ring.specs.Ring.{walked, leastPlace, openRing, ringPlaces, ringCorners, ringShape}
 use Rattle.ring.specs.theory.Steps.{least-below, least-at-most}
 
-abbrev self : Point → Point
+-- a point names itself
+abbrev pub self : Point → Point
 self p = p
 
 module _ {X : Type 0} (f : X → Point) where
