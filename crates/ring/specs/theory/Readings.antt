@@ -7,12 +7,12 @@
 --     shape-is-own-ring    a shape's list has these corners
 use mathlib.Core.Path.{_≡_, refl, sym, _∙_, ap, ap₂, subst}
 use mathlib.Core.Bool.{Bool, true, false, not, cond, true≢false}
-use mathlib.Core.List.{List, [], _∷_, _++_, map, append-nil, append-assoc, reverse, reverse-cons, reverse-reverse}
+use mathlib.Core.List.{List, [], _∷_, _++_, map, append-nil, reverse, reverse-cons, reverse-reverse}
 use Prim.Native.Nat.{ℕ, zero, suc, _+_, _-_, _≤_, _<_}
 use native.Mathlib.Decide.{ℕ-discrete}
 use native.Mathlib.Omega.{arith}
 use lib.IntN.{ℤ, pos, negℤ}
-use lib.ListN.{length, getD, take, drop, length-append, length-drop}
+use lib.ListN.{length, take, drop, length-append, length-drop}
 use lib.Seq.{take-all, drop-cons, take-append-seam, drop-append-seam}
 use lib.Signed.{ltZ, _<ℤ_, _≤ℤ_}
 use Rattle.integer.specs.Ring.{ring, reify}
@@ -21,21 +21,22 @@ use Rattle.integer.specs.Order.{ltZ-true, ltZ-false, lt-ltZ, le-ltZ, le-antisym
 use Rattle.plane.specs.Point.{Point, corner, origin, _⊖_, samePoint}
 use Rattle.plane.specs.Turn.{turn, Left, turn-cycle, turn-swap}
 use Rattle.plane.specs.Shape.{next, precedes, IsShape}
-use Rattle.plane.specs.Forms.{All, Precedes, Before, NonZero, From, InOrder, edgesTo, edges}
+use Rattle.plane.specs.Forms.{All, Precedes, NonZero, From, InOrder, edgesTo}
 use Rattle.plane.specs.Direction.{value}
-use Rattle.plane.specs.theory.lists.Next.{Following, onward, closing, following, next-below}
-use Rattle.plane.specs.theory.lists.Members.{samePoint-other, samePoint-self, all-member, all-subset, reverse-member}
+use Rattle.plane.specs.theory.lists.Next.{Following, onward, closing, following}
+use Rattle.plane.specs.theory.lists.Members.{samePoint-other, samePoint-self, all-subset, reverse-member}
 use Rattle.plane.specs.theory.forms.Precedes.{precedes-different, precedes-reversed}
 use Rattle.plane.specs.theory.forms.Standard.{all-at, shape→ordered, shape→sorted}
 use Rattle.plane.specs.theory.forms.Round.{sorted→local}
-use Rattle.plane.specs.theory.forms.Fan.{Fan, Bends, Local}
+use Rattle.plane.specs.theory.forms.Fan.{Fan, Bends}
 use Rattle.plane.specs.theory.forms.Vector.{⊖-self, value-nonneg}
 use Rattle.plane.specs.theory.sum.Positions.{edge-turn}
-use Rattle.ring.specs.Round.{lastOf, headOf, optional, closed, opened, differing, distinct, clockwise, inSense, sensed, straight, bending, bends}
+use Rattle.ring.specs.Round.{lastOf, headOf, optional, closed, opened, differing, distinct, clockwise, inSense, sensed, straight}
+use Rattle.ring.specs.Round.{bending, bends}
 use Rattle.ring.specs.Ring.{walked, leastPlace, openRing, ringShape}
 use Rattle.ring.specs.theory.Steps.{last-at, least-below, straight-left}
 use Rattle.ring.specs.theory.Kept.{Apart, apart-last, apart-reverse, same-swap}
-use Rattle.ring.specs.theory.Furthest.{Level, straight→level, point-not-straight}
+use Rattle.ring.specs.theory.Furthest.{straight→level, point-not-straight}
 use Rattle.ring.specs.theory.Natural.{self, fromLeast, ring-core}
 
 -- ---- the points on the way round
@@ -86,7 +87,8 @@ module _ (ps : List Point) where
       let there : s + suc j ≡ n = omega arith in
       let rest : length (drop s ps) ≤ suc j = omega (arith, length-drop s ps) in
       ap (λ (k : ℕ). map (corner ps) (walked n s k)) whole ∙ walked-wrap s j s (j + s) there refl
-      ∙ ap₂ (λ (a b : List Point). a ++ b) (walked-run s (suc j) (omega arith) ∙ take-all (suc j) (drop s ps) rest) (walked-run 0 s (omega arith))
+      ∙ ap₂ (λ (a b : List Point). a ++ b) (walked-run s (suc j) (omega arith) ∙ take-all (suc j) (drop s ps) rest)
+      (walked-run 0 s (omega arith))
 
 -- ---- the least
 
@@ -156,7 +158,8 @@ least-open x (y ∷ ys) h = samePoint-other x (lastOf y ys) (precedes-different 
 
 own-least : (x : Point) (r : List Point) → All (λ y. Precedes x y) r → fromLeast (x ∷ r) ≡ x ∷ r
 own-least x r h =
-    from-least [] x r (subst (All (λ y. Precedes x y)) (sym (append-nil r)) h) (least-open x r h) ∙ ap (λ (l : List Point). x ∷ l) (append-nil r)
+    from-least [] x r (subst (All (λ y. Precedes x y)) (sym (append-nil r)) h) (least-open x r h) ∙ ap (λ (l : List Point). x ∷ l)
+    (append-nil r)
 
 -- what is made of points
 abbrev made : List Point → List Point
@@ -221,7 +224,8 @@ module _ (x : Point) (r : List Point) (apart : Apart self x r x) (turns : turn (
           ∙ ap (λ (l : List Point). x ∷ l) (reverse-reverse r)
         where
           falls : negℤ t <ℤ pos 0
-          falls = contra< (λ g. turns (le-antisym (lia (t ∷ []) g (search linear depth 40) (omega arith)) (ltZ-false {x = t} {y = pos 0} e)))
+          falls = contra< (λ g. turns (le-antisym (lia (t ∷ []) g (search linear depth 40) (omega arith))
+              (ltZ-false {x = t} {y = pos 0} e)))
 
   pub read-backwards : All (λ y. Precedes x y) r → ringShape (x ∷ reverse r) ≡ ringShape (x ∷ r)
   read-backwards least =
@@ -230,7 +234,8 @@ module _ (x : Point) (r : List Point) (apart : Apart self x r x) (turns : turn (
       ∙ ap made (own-least x (reverse r) back)
       ∙ ap (λ (l : List Point). bends self (sensed self l)) (distinct-same x (reverse r) (apart-reverse self x r x apart))
       ∙ ap (bends self) sensed-same
-      ∙ sym (ring-core (x ∷ r) ∙ ap made (own-least x r least) ∙ ap (λ (l : List Point). bends self (sensed self l)) (distinct-same x r apart))
+      ∙ sym (ring-core (x ∷ r) ∙ ap made (own-least x r least) ∙ ap (λ (l : List Point). bends self (sensed self l))
+      (distinct-same x r apart))
 
 -- ---- a shape's own list
 
@@ -286,7 +291,8 @@ not-clockwise p q ps s =
     let last = lastOf q ps in
     let side = edge-turn S s 0 (suc (length ps)) (omega arith) (omega arith) in
     le-ltZ {x = turn last p q} {y = pos 0} (subst (λ (z : ℤ). pos 0 ≤ℤ z)
-    (ap₂ (λ (i : ℕ) (c : Point). turn p (corner S i) c) (second (following (length S) 0 (omega arith))) (last-at origin p (q ∷ ps) (suc (length ps)) refl)
+    (ap₂ (λ (i : ℕ) (c : Point). turn p (corner S i) c) (second (following (length S) 0 (omega arith)))
+    (last-at origin p (q ∷ ps) (suc (length ps)) refl)
     ∙ sym (turn-cycle last p q)) side)
   where
     second : Following (length (p ∷ q ∷ ps)) 0 → next (length (p ∷ q ∷ ps)) 0 ≡ 1
