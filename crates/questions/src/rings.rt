@@ -49,7 +49,6 @@ fn ring_in(
 }
 
 // The same of the positions of its corners: 4, then 8, or the corners.
-// Ruled out: corner before the first named.
 fn told(list: &[i32], floor: u16, places: &[usize], out: &mut [i32]) -> Answer
     requires { ⌜ ValidRing (now list) × (now places ≡ ringCorners (points (now list))) ⌝ }
     ensures { λ r. ⌜ (ofAnswer r ≡ reply (askRing (on (now (list .entry)) floor) (now (out .entry))))

@@ -1,17 +1,19 @@
 -- What a ring is brought to, and when it is refused. Each theorem is proved in the theory; here it is only cited.
 --     the corners     nothing is added and nothing lost; accepted exactly if they are a shape, and then it is the shape of the points
 --     4               the answered corner turns in, and no corner before it does
---     readings        a closing point makes no difference; only the points count, from the least on
+--     readings        a shape's own list; a closing point, another beginning, the other sense: only the points count, from the least on
 --     the answer      what is written is a valid shape
-use mathlib.Core.Path.{_≡_}
+use mathlib.Core.Path.{_≡_, sym, subst}
 use mathlib.Core.Bool.{true, false}
-use mathlib.Core.List.{List, [], _∷_, _++_}
+use mathlib.Core.List.{List, [], _∷_, _++_, reverse}
 use mathlib.Core.Logic.{_↔_}
 use Prim.Native.Nat.{ℕ, _<_}
-use lib.IntN.{ℤ}
+use lib.IntN.{ℤ, pos}
 use lib.ListN.{length, getD}
 use Rattle.plane.specs.Point.{Point, points, numbers, _∈_, _⊆_}
+use Rattle.plane.specs.Turn.{turn}
 use Rattle.plane.specs.Shape.{IsShape}
+use Rattle.plane.specs.Forms.{All, Precedes}
 use Rattle.plane.specs.Reply.{answered}
 use Rattle.plane.specs.Refusal.{Valid}
 use Rattle.plane.specs.Direction.{support}
@@ -19,11 +21,12 @@ use Rattle.plane.specs.Corner.{Corner, shapeOf}
 use Rattle.plane.specs.Floor.{on}
 use Rattle.plane.specs.Question.{reply}
 use Rattle.plane.specs.theory.lists.Sought.{some-found, first-true, first-least}
-use Rattle.ring.specs.Round.{closed}
-use Rattle.ring.specs.Ring.{openRing, ringCorners, ringShape, inwardAt, firstInward, inwardRow, askRing}
+use Rattle.ring.specs.Round.{lastOf, headOf, closed, Apart}
+use Rattle.ring.specs.Ring.{openRing, fromLeast, ringCorners, ringShape, inwardAt, firstInward, inwardRow, askRing}
 use Rattle.ring.specs.theory.Under.{under-at, corners-under}
 use Rattle.ring.specs.theory.Outline.{ring-corners, ring-points, ring-support, ring-is-shape-of, quiet→shape, shape→quiet}
-use Rattle.ring.specs.theory.Natural.{fromLeast, same-points, opened-again, closed-is-same}
+use Rattle.ring.specs.theory.Natural.{same-points, opened-again, closed-is-same}
+use Rattle.ring.specs.theory.Readings.{shape-is-own-ring, begun-anywhere, read-backwards}
 use Rattle.ring.specs.theory.Valid.{answered-passes, answered-valid}
 
 module _ (ps : List Point) (some : 0 < length ps) where
@@ -77,6 +80,22 @@ same-points-same-corners ps qs e = same-points ps qs e
 pub closing-point-is-dropped : (p q : Point) (ps : List Point) → closed (λ r. r) (p ∷ q ∷ ps) ≡ false
     → (openRing ((p ∷ q ∷ ps) ++ (p ∷ [])) ≡ p ∷ q ∷ ps) × (ringShape ((p ∷ q ∷ ps) ++ (p ∷ [])) ≡ ringShape (p ∷ q ∷ ps))
 closing-point-is-dropped p q ps h = (opened-again p q ps h, closed-is-same p q ps h)
+
+-- a shape's own list is accepted, and answered with itself
+pub shape-is-answered-with-itself : (ps : List Point) → IsShape ps → (ringShape ps ≡ ps) × (inwardRow ps .applies ≡ false)
+shape-is-answered-with-itself ps s =
+    let own = shape-is-own-ring ps s in (own, shape→quiet ps (s .some) (subst IsShape (sym own) s))
+
+-- a ring x ∷ v ++ u whose least point x is there once, begun at any other point: it has the same corners; `closed` is false unless
+-- it is begun between two equal neighbours
+pub beginning-makes-no-difference : (u : List Point) (x : Point) (v : List Point) → All (λ y. Precedes x y) (v ++ u)
+    → closed (λ p. p) (u ++ (x ∷ v)) ≡ false → ringShape (u ++ (x ∷ v)) ≡ ringShape (x ∷ (v ++ u))
+beginning-makes-no-difference u x v least h = begun-anywhere u x v least h
+
+-- a ring without repeats that turns at its least point, read backwards from there: it has the same corners
+pub sense-makes-no-difference : (x : Point) (r : List Point) → Apart (λ p. p) x r x → (turn (lastOf x r) x (headOf x r) ≡ pos 0 → ⊥)
+    → All (λ y. Precedes x y) r → ringShape (x ∷ reverse r) ≡ ringShape (x ∷ r)
+sense-makes-no-difference x r apart turns least = read-backwards x r apart turns least
 
 -- ---- the answer
 

@@ -2,6 +2,7 @@
 --     previous n i      the position before i on the way round n corners
 --     walked n s k      k positions on the way round n, from s on
 --     leastPlace g n    the first position below n whose point no other precedes; 0 where n is 0
+--     fromLeast ps      the points of a ring from the least on, of which theorems speak
 --     ringPlaces ps     the positions of the different neighbours, from the least point on
 --     ringCorners ps    the positions of the corners, from the least on, in the sense in which it turns left there
 --     ringShape ps      these corners
@@ -47,6 +48,9 @@ leastPlace g (suc i) = let best = leastPlace g i in cond (precedes (g i) (g best
 -- the points without a closing one
 abbrev pub openRing : List Point → List Point
 openRing ps = opened (λ p. p) ps
+
+abbrev pub fromLeast : List Point → List Point
+fromLeast ps = let n = length (openRing ps) in map (corner ps) (walked n (leastPlace (corner ps) n) n)
 
 unfoldable pub ringPlaces : List Point → List ℕ
 ringPlaces ps = let n = length (openRing ps) in distinct (corner ps) (walked n (leastPlace (corner ps) n) n)

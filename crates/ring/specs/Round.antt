@@ -7,7 +7,9 @@
 --     straight a b c               the way from a over b to c goes straight on at b
 --     bends f xs                   without each at which the way round goes straight on; a way back is kept
 --     clockwise f xs               the way round turns right at the first
+--     Apart f a xs z               from a along xs to z each differs from the one before it
 --     sensed f xs                  the list in the sense in which it turns left at the first: as it is, or the rest read backwards
+use mathlib.Core.Path.{_≡_}
 use mathlib.Core.Bool.{Bool, false, not, cond, _&&_}
 use mathlib.Core.List.{List, [], _∷_, _++_, reverse}
 use Prim.Native.Nat.{_-_}
@@ -47,6 +49,11 @@ differing f a (x ∷ xs) = optional (not (samePoint (f a) (f x))) x ++ differing
 abbrev pub distinct : {X : Type 0} → (X → Point) → List X → List X
 distinct f [] = []
 distinct f (x ∷ xs) = opened f (x ∷ differing f x xs)
+
+-- what theorems ask of a list without repeats
+abbrev pub Apart : {X : Type 0} → (X → Point) → X → List X → X → Type 0
+Apart f a [] z = samePoint (f a) (f z) ≡ false
+Apart f a (x ∷ xs) z = (samePoint (f a) (f x) ≡ false) × Apart f x xs z
 
 -- ---- the sense
 

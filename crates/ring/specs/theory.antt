@@ -5,7 +5,7 @@
 --     Inward     the test whether a corner turns in, by its parts
 --     Kept       what is kept without repeats; Furthest: no corner of the set is lost
 --     Turning    none turns in exactly if the corners are a shape; Outline: and then it is the shape of the points
---     Natural    what is kept depends on the points alone
+--     Natural    what is kept depends on the points alone; Readings: begun elsewhere, read backwards, a shape's own list
 --     Valid      what is written of an answered ring is a valid shape
 --     Rows       rows 1 to 3; Answers: the others, and the answer
 pub mod Buffers
@@ -20,3 +20,4 @@ pub mod Turning
 pub mod Outline
 pub mod Natural
 pub mod Valid
+pub mod Readings

@@ -10,6 +10,7 @@ use polygon::corners;
 use polygon::rules;
 
 // Returns the first place whose corner turns in, or how many places there are if none does.
+// Ruled out: first corner not asked.
 pub fn find(list: &[i32], places: &[usize]) -> usize
     requires { ⌜ Placed (now list) (now places) ⌝ }
     ensures { λ r. ⌜ r ≡ firstInward (points (now (list .entry))) (now (places .entry)) ⌝ }

@@ -33,7 +33,8 @@ module _ (a : Floored) (old : List ℤ) where
   high = row 13 (ltb maxFloor (a .floor)) []
 
   pub ring-within : ltb maxFloor (a .floor) ≡ false → {x : Reply} {ns : List ℕ} {out : List ℤ} → ns ≡ crossed x
-      → (x ≡ reply (askRing a old)) × (out ≡ output (askRing a old)) → (ns ≡ crossed (reply (lowRing a old))) × (out ≡ output (lowRing a old))
+      → (x ≡ reply (askRing a old)) × (out ≡ output (askRing a old)) → (ns ≡ crossed (reply (lowRing a old))) ×
+      (out ≡ output (lowRing a old))
   unfolding reply output lowRing
   ring-within low n e = (
     n ∙ ap crossed (e .0 ∙ skipped-reply high later low (listRows (a .list)) _),

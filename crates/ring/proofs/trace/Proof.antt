@@ -1,13 +1,13 @@
 -- `trace` meets its contract: the different neighbours from the least on, then the corners among them.
-use mathlib.Core.Path.{_≡_, sym, _∙_, ap, ap₂, subst}
+use mathlib.Core.Path.{sym, _∙_, ap, subst}
 use mathlib.Core.List.{List}
 use Prim.Native.Nat.{ℕ, _≤_, _<_}
 use native.Mathlib.Omega.{arith}
 use borrow.Author.Needs.{needs}
-use lib.ListN.{length, getD, take}
+use lib.ListN.{length}
 use Rattle.plane.specs.Point.{Point, points, corner}
 use Rattle.ring.specs.Round.{distinct, sensed, bends}
-use Rattle.ring.specs.Ring.{walked, leastPlace, openRing, ringPlaces, ringCorners}
+use Rattle.ring.specs.Ring.{ringPlaces}
 use Rattle.ring.specs.Places.{Placed, Held}
 use Rattle.ring.specs.theory.Steps.{opened-le, opened-some, least-below}
 use Rattle.ring.specs.theory.Under.{under-at, places-under, places-some, places-few, places-are, corners-are}

@@ -1,10 +1,10 @@
 -- `write` meets its contract. The invariant: k corners of the answer are in the output; the measure is what is left.
-use mathlib.Core.Path.{_≡_, refl, sym, _∙_, ap, subst}
+use mathlib.Core.Path.{_≡_, sym, _∙_, ap, subst}
 use mathlib.Core.List.{List, map}
-use Prim.Native.Nat.{ℕ, _+_, _*_, _-_, _≤_, _<_, zero-le}
+use Prim.Native.Nat.{ℕ, _+_, _*_, _-_, _≤_, zero-le}
 use native.Mathlib.Omega.{arith}
 use lib.IntN.{ℤ}
-use lib.ListN.{length, getD, length-map}
+use lib.ListN.{length, length-map}
 use Rattle.plane.specs.Point.{Point, points, numbers, corner}
 use Rattle.plane.specs.theory.lists.Flat.{numbers-length}
 use Rattle.plane.specs.theory.lists.Filled.{Filled, filled-start, filled-length, filled-corner, filled-done}

@@ -3,18 +3,17 @@
 --     room-refuses       if none does, too little room is 8
 --     ring-passes        else no row applies
 --     counted-shape      the shape has as many corners as positions
-use mathlib.Core.Path.{_≡_, refl, sym, _∙_, ap}
+use mathlib.Core.Path.{_≡_, _∙_, ap}
 use mathlib.Core.Bool.{true, false}
 use mathlib.Core.List.{List, [], _∷_}
 use Prim.Native.Nat.{ℕ, _*_, _≤_, _<_}
 use native.Mathlib.Omega.{arith}
 use borrow.Author.Tests.{lt-ltb, le-ltb}
-use lib.Dec.{ltb}
 use lib.IntN.{ℤ}
 use lib.ListN.{length, getD, length-map}
 use Rattle.plane.specs.Point.{points, numbers, corner}
 use Rattle.plane.specs.Reply.{refused, NoneApply, here, later}
-use Rattle.plane.specs.Search.{some, first}
+use Rattle.plane.specs.Search.{some}
 use Rattle.plane.specs.Output.{noRoom, roomRow}
 use Rattle.plane.specs.theory.lists.Flat.{numbers-length}
 use Rattle.plane.specs.theory.lists.Sought.{some-here, none-some, first-true, first-least}
@@ -51,7 +50,8 @@ module _ (l out : List ℤ) (v : ValidRing l) where
     unfolding noRoom
     room-refuses h =
         refuses-join (listRows l) (ring→accepted l v)
-        (refuses (later (none-inward none) (here (lt-ltb (length out) (length (numbers (ringShape (points l)))) (omega (arith, counted-shape))))))
+        (refuses (later (none-inward none) (here (lt-ltb (length out) (length (numbers (ringShape (points l))))
+        (omega (arith, counted-shape))))))
 
     pub ring-passes : 2 * length is ≤ length out → NoneApply (ringRows l out)
     unfolding noRoom

@@ -8,24 +8,23 @@ use mathlib.Core.Bool.{Bool, true, false, not, _&&_, true≢false, false≢true}
 use mathlib.Core.List.{List, [], _∷_, _++_, map, List·Memᴰ·head, List·Memᴰ·tail, List·Memᴰ·not-nil}
 use Prim.Native.Nat.{ℕ, _<_}
 use native.Mathlib.Omega.{arith}
-use lib.IntN.{ℤ, pos, _+ℤ_, _-ℤ_, _*ℤ_}
+use lib.IntN.{pos, _+ℤ_, _-ℤ_, _*ℤ_}
 use lib.ListN.{length}
 use lib.Signed.{ltZ, _<ℤ_, _≤ℤ_}
 use Rattle.integer.specs.Ring.{ring, reify}
 use Rattle.integer.specs.Linear.{linear, lia, _&_}
 use Rattle.integer.specs.Order.{ltZ-true, ltZ-false, le-antisym, _<×<_, _≤×<_, _≡×_}
-use Rattle.plane.specs.Point.{Point, point, corner, _⊖_, samePoint, _∈_}
+use Rattle.plane.specs.Point.{Point, corner, _⊖_, samePoint, _∈_}
 use Rattle.plane.specs.Turn.{cross, turn}
-use Rattle.plane.specs.Shape.{precedes}
 use Rattle.plane.specs.Forms.{Precedes}
 use Rattle.plane.specs.Direction.{value}
 use Rattle.plane.specs.Corner.{Corner}
 use Rattle.plane.specs.theory.lists.Members.{samePoint-self, position-member}
 use Rattle.plane.specs.theory.forms.Precedes.{Lower, lower, level, precedes-lower}
 use Rattle.plane.specs.theory.forms.Vector.{turn-edges, value-⊖, value-nonneg}
-use Rattle.ring.specs.Round.{lastOf, headOf, optional, straight, bending, bends}
+use Rattle.ring.specs.Round.{Apart, lastOf, headOf, optional, straight, bending, bends}
 use Rattle.ring.specs.theory.Under.{Under}
-use Rattle.ring.specs.theory.Kept.{Apart, Ringed, one, round, apart-last, same-swap}
+use Rattle.ring.specs.theory.Kept.{Ringed, one, round, apart-last, same-swap}
 
 pub record Level (a b c : Point) : Type 0 where
   pub flat : cross (b ⊖ a) (c ⊖ b) ≡ pos 0
@@ -137,7 +136,8 @@ pub point-not-straight : (p : Point) → straight p p p ≡ false
 point-not-straight p = go (straight p p p) refl
   where
     go : (t : Bool) → straight p p p ≡ t → t ≡ false
-    go true h = absurd (lia (value (p ⊖ p) (p ⊖ p) ∷ []) (straight→level p p p h .onward & no-step p) (search linear depth 40) (omega arith))
+    go true h = absurd (lia (value (p ⊖ p) (p ⊖ p) ∷ []) (straight→level p p p h .onward & no-step p) (search linear depth 40)
+        (omega arith))
     go false h = refl
 
 module _ (ps : List Point) {p : Point} (c : Corner ps p) where
@@ -145,7 +145,8 @@ module _ (ps : List Point) {p : Point} (c : Corner ps p) where
   f = corner ps
 
   -- another point of the ring is less far
-  less : (i : ℕ) → i < length ps → (x : ℕ) → p ≡ f x → samePoint (f i) (f x) ≡ false → value (c .direction) (f i) <ℤ value (c .direction) (f x)
+  less : (i : ℕ) → i < length ps → (x : ℕ) → p ≡ f x → samePoint (f i) (f x) ≡ false → value (c .direction) (f i) <ℤ value
+      (c .direction) (f x)
   less i h x e s =
       subst (λ (q : Point). value (c .direction) (f i) <ℤ value (c .direction) q) e
       (c .strictly (f i) (position-member ps i h) (λ q. apart-points (f i) (f x) s (q ∙ e)))
@@ -159,7 +160,8 @@ module _ (ps : List Point) {p : Point} (c : Corner ps p) where
       go false q = List·Memᴰ·head e
       go true q = absurd (straight-not-furthest (c .direction) (straight→level (f a) (f x) (f (headOf z xs)) q) (less a h x e (s .0))
           (less (headOf z xs) (head-under (length ps) z xs k (u .1)) x e (same-swap (f x) (f (headOf z xs)) (head-apart f x xs z (s .1)))))
-  bending-has a (x ∷ xs) z h u k s (List·Memᴰ·tail m) = go (straight (f a) (f x) (f (headOf z xs))) (bending-has x xs z (u .0) (u .1) k (s .1) m)
+  bending-has a (x ∷ xs) z h u k s (List·Memᴰ·tail m) = go (straight (f a) (f x) (f (headOf z xs)))
+      (bending-has x xs z (u .0) (u .1) k (s .1) m)
     where
       go : (t : Bool) → p ∈ map f (bending f x xs z) → p ∈ map f (optional (not t) x ++ bending f x xs z)
       go true n = n

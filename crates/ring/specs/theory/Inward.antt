@@ -4,11 +4,10 @@
 --     first-inside     the first does so only by its turn
 --     apart-inside     one that turns left and does not precede the corner before does not
 --     both-inside      one that turns left and precedes the corner before does if it precedes the corner after
-use mathlib.Core.Path.{_≡_, refl}
-use mathlib.Core.Bool.{Bool, true, false, not, _&&_, _||_}
+use mathlib.Core.Path.{_≡_}
+use mathlib.Core.Bool.{Bool, true, false}
 use Prim.Native.Nat.{ℕ, _≤_, _<_}
 use borrow.Author.Tests.{lt-ltb, le-ltb}
-use lib.Dec.{ltb}
 use lib.IntN.{pos}
 use lib.Signed.{ltZ}
 use Rattle.plane.specs.Point.{Point}

@@ -1,9 +1,8 @@
 -- What is kept of a ring without repeats: every point, and neighbours that differ.
---     Apart f a xs z       from a along xs to z each differs from the one before it
 --     Ringed f xs          one position, or several of which neighbours on the way round differ
 --     distinct-ringed, sense-ringed     so it is with what is left without repeats, in either sense
 --     opened-has, distinct-has, sense-has     each point is still there
---     apart-last, same-swap             the last differs from the end; the test read the other way
+--     apart-last, apart-reverse, same-swap     the last differs from the end; the list, and the test, read the other way
 use mathlib.Core.Path.{_≡_, refl, sym, _∙_, ap, subst}
 use mathlib.Core.Bool.{Bool, true, false, not, cond, true≢false}
 use mathlib.Core.Logic.{_⊎_, inl, inr}
@@ -13,13 +12,9 @@ use native.Mathlib.Omega.{arith}
 use lib.ListN.{length, take}
 use Rattle.plane.specs.Point.{Point, samePoint, _∈_}
 use Rattle.plane.specs.theory.lists.Members.{samePoint-equal, samePoint-self, samePoint-other}
-use Rattle.ring.specs.Round.{lastOf, optional, opened, differing, distinct, inSense}
+use Rattle.ring.specs.Round.{lastOf, optional, opened, differing, distinct, Apart, inSense}
 
 -- ---- neighbours that differ
-
-abbrev pub Apart : {X : Type 0} → (X → Point) → X → List X → X → Type 0
-Apart f a [] z = samePoint (f a) (f z) ≡ false
-Apart f a (x ∷ xs) z = (samePoint (f a) (f x) ≡ false) × Apart f x xs z
 
 pub data Ringed {X : Type 0} (f : X → Point) : List X → Type 0 where
   one : (x : X) → Ringed f (x ∷ [])
@@ -46,7 +41,7 @@ module _ {X : Type 0} (f : X → Point) where
   apart-snoc a [] x z h e = (h, e)
   apart-snoc a (y ∷ xs) x z h e = (h .0, apart-snoc y xs x z (h .1) e)
 
-  apart-reverse : (a : X) (xs : List X) (z : X) → Apart f a xs z → Apart f z (reverse xs) a
+  pub apart-reverse : (a : X) (xs : List X) (z : X) → Apart f a xs z → Apart f z (reverse xs) a
   apart-reverse a [] z h = same-swap (f a) (f z) h
   apart-reverse a (x ∷ xs) z h =
       subst (λ (l : List X). Apart f z l a) (sym (reverse-cons x xs))

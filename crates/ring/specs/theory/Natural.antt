@@ -1,15 +1,14 @@
 -- What is kept of a ring depends on its points alone, and not on what names them.
---     fromLeast ps        the points of a ring from the least on
---     ring-core           its corners are those of these points
+--     ring-core           the corners of a ring are those of its points from the least on
 --     same-points         two rings with the same points from the least on have the same corners
 --     closed-is-same      a ring closed by its first point has the same corners
-use mathlib.Core.Path.{_≡_, refl, sym, _∙_, ap, ap₂, subst}
+use mathlib.Core.Path.{_≡_, refl, sym, _∙_, ap, ap₂}
 use mathlib.Core.Bool.{Bool, true, false, not, cond}
 use mathlib.Core.List.{List, [], _∷_, _++_, map, map-append, reverse, reverse-cons}
-use Prim.Native.Nat.{ℕ, zero, suc, _+_, _-_, _≤_, _<_}
+use Prim.Native.Nat.{ℕ, zero, suc, _-_, _<_}
 use native.Mathlib.Omega.{arith}
 use lib.IntN.{pos}
-use lib.ListN.{length, getD, take, length-map, length-append, List·getD-append}
+use lib.ListN.{length, take, length-map, length-append, List·getD-append}
 use lib.Seq.{take-at}
 use lib.Signed.{ltZ}
 use Rattle.plane.specs.Point.{Point, corner, origin, samePoint}
@@ -17,12 +16,13 @@ use Rattle.plane.specs.Turn.{turn}
 use Rattle.plane.specs.Shape.{next, precedes}
 use Rattle.plane.specs.theory.lists.Next.{next-below}
 use Rattle.plane.specs.theory.lists.Members.{samePoint-self}
-use Rattle.ring.specs.Round.{lastOf, headOf, optional, closed, opened, differing, distinct, clockwise, backwards, inSense, sensed}
+use Rattle.ring.specs.Round.{lastOf, headOf, optional, closed, opened, differing, distinct, clockwise, inSense, sensed}
 use Rattle.ring.specs.Round.{straight, bending, bends}
-use Rattle.ring.specs.Ring.{walked, leastPlace, openRing, ringPlaces, ringCorners, ringShape}
+use Rattle.ring.specs.Ring.{walked, leastPlace, openRing, fromLeast, ringPlaces, ringCorners, ringShape}
 use Rattle.ring.specs.theory.Steps.{least-below, least-at-most}
 
-abbrev self : Point → Point
+-- a point names itself
+abbrev pub self : Point → Point
 self p = p
 
 module _ {X : Type 0} (f : X → Point) where
@@ -100,13 +100,8 @@ module _ {X : Type 0} (f : X → Point) where
   core-map xs =
       map-bends (sensed f (distinct f xs))
       ∙ ap (bends self) (map-sense (clockwise f (distinct f xs)) (distinct f xs)
-      ∙ ap₂ (λ (b : Bool) (l : List Point). inSense b l) (map-clockwise (distinct f xs) ∙ ap (clockwise self) (map-distinct xs)) (map-distinct xs))
-
--- the points of a ring from the least on
-abbrev pub fromLeast : List Point → List Point
-fromLeast ps =
-    let n = length (openRing ps) in
-    map (corner ps) (walked n (leastPlace (corner ps) n) n)
+      ∙ ap₂ (λ (b : Bool) (l : List Point). inSense b l) (map-clockwise (distinct f xs) ∙ ap (clockwise self) (map-distinct xs))
+      (map-distinct xs))
 
 pub ring-core : (ps : List Point) → ringShape ps ≡ bends self (sensed self (distinct self (fromLeast ps)))
 unfolding ringCorners ringPlaces

@@ -34,12 +34,16 @@ use Rattle.plane.specs.theory.forms.Precedes.{Placed, ahead, same, behind, plac
 use Rattle.plane.specs.theory.forms.Standard.{sorted→shape, ordered→shape}
 use Rattle.plane.specs.theory.support.Support.{value-le-support, support-le, support-subset}
 use Rattle.plane.specs.theory.hull.ShapeOf.{shapeOf-support, shapeOf-corner, shapeOf-shape, shape-known}
-use Rattle.ring.specs.Round.{lastOf, headOf, optional, closed, opened, differing, distinct, clockwise, sensed, straight, bending, bends}
+use Rattle.ring.specs.Round.{lastOf, headOf, optional, closed, opened, differing, distinct, clockwise, sensed, straight, bending}
+use Rattle.ring.specs.Round.{bends}
 use Rattle.ring.specs.Ring.{previous, walked, leastPlace, openRing, ringPlaces, ringCorners, ringShape, turnsIn, cornerOf, inwardAt}
-use Rattle.ring.specs.theory.Steps.{map-at, opened-count, opened-some, opened-le, walked-whole, sense-first, previous-below}
-use Rattle.ring.specs.theory.Under.{Under, places-under, corners-under, start-below, walked-under, distinct-under, sense-under, bends-under}
-use Rattle.ring.specs.theory.Kept.{Ringed, one, round, distinct-ringed, sense-ringed, opened-has, distinct-has, sense-has, apart-last, same-swap}
-use Rattle.ring.specs.theory.Furthest.{straight→level, straight-not-least, point-not-straight, head-under, last-under, head-apart, bends-has}
+use Rattle.ring.specs.theory.Steps.{map-at, walked-whole, sense-first, previous-below}
+use Rattle.ring.specs.theory.Under.{Under, places-under, corners-under, start-below, walked-under, distinct-under, sense-under}
+use Rattle.ring.specs.theory.Under.{bends-under}
+use Rattle.ring.specs.theory.Kept.{Ringed, one, round, distinct-ringed, sense-ringed, opened-has, distinct-has, sense-has}
+use Rattle.ring.specs.theory.Kept.{apart-last, same-swap}
+use Rattle.ring.specs.theory.Furthest.{straight→level, straight-not-least, point-not-straight, head-under, last-under, head-apart}
+use Rattle.ring.specs.theory.Furthest.{bends-has}
 use Rattle.ring.specs.theory.Turning.{turns-same, none-shape, shape-none}
 
 -- ---- the way round passes every position
@@ -154,7 +158,8 @@ module _ (ps : List Point) (some : 0 < length ps) where
   places-ringed : Ringed f (ringPlaces ps)
   unfolding ringPlaces
   places-ringed =
-      subst (λ (w : List ℕ). Ringed f (distinct f w)) (sym (walked-whole n s (omega (arith, start)))) (distinct-ringed f s (walked n (next n s) (n - 1)))
+      subst (λ (w : List ℕ). Ringed f (distinct f w)) (sym (walked-whole n s (omega (arith, start))))
+      (distinct-ringed f s (walked n (next n s) (n - 1)))
 
   -- on the way round from s every position comes
   side : (i : ℕ) → i < n → ((s ≤ i) × (i < s + n)) ⊎ (i + n < s + n)
@@ -248,7 +253,8 @@ module _ (ps : List Point) (some : 0 < length ps) where
       le-trans (value-le-support d m) (subst (λ (z : ℤ). z ≤ℤ value d p) (ring-support d)
       (support-le d (ringShape ps) ring-some (λ r k. le-of-eq (ap (value d) (one-point r k))))))
 
-  not-lonely : (xs : List ℕ) → Ringed f xs → Under (length ps) xs → (p : Point) → ((q : Point) → q ∈ ps → q ≡ p) → length (bends f xs) ≡ 2 → ⊥
+  not-lonely : (xs : List ℕ) → Ringed f xs → Under (length ps) xs → (p : Point) → ((q : Point) → q ∈ ps → q ≡ p) → length
+      (bends f xs) ≡ 2 → ⊥
   not-lonely xs (one x) u p all e = go (straight (f x) (f x) (f x)) e
     where
       go : (t : Bool) → length (optional (not t) x ++ []) ≡ 2 → ⊥
@@ -299,7 +305,8 @@ module _ (ps : List Point) (some : 0 < length ps) where
 
       go : (t : Bool) → ltb 2 (length (ringShape ps)) ≡ t → IsShape (ringShape ps)
       go true e = none-shape (ringShape ps) (ltb-true 2 (length (ringShape ps)) e) (λ i h.
-          sym (inward-points i (omega (arith, as-many))) ∙ some-none (inwardAt ps (ringCorners ps)) (length (ringCorners ps)) q i (omega (arith, as-many)))
+          sym (inward-points i (omega (arith, as-many))) ∙ some-none (inwardAt ps (ringCorners ps)) (length (ringCorners ps)) q i
+          (omega (arith, as-many)))
       go false e = small-shape (ringShape ps) ring-some (ltb-false 2 (length (ringShape ps)) e)
           (λ two. pair-ahead (corners-first .0) (corners-first .1) two)
 

@@ -1,6 +1,5 @@
 -- Rows 1 to 3 of a ring's points.
 --     accepted→ring, ring→accepted     they do not apply exactly if the list holds the points of a ring
-use mathlib.Core.Path.{_≡_}
 use mathlib.Core.List.{List}
 use borrow.Author.Tests.{ltb-false, le-ltb}
 use lib.IntN.{ℤ}

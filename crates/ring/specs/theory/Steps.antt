@@ -16,7 +16,7 @@ use mathlib.Core.List.{List, [], _∷_, _++_, map, reverse, reverse-cons}
 use Prim.Native.Nat.{ℕ, zero, suc, _+_, _-_, _≤_, _<_, zero-le}
 use native.Mathlib.Numerals.{add-one}
 use native.Mathlib.Omega.{arith}
-use borrow.Author.Tests.{lt-ltb, eq-eqb, ne-eqb}
+use borrow.Author.Tests.{lt-ltb, ne-eqb}
 use lib.Dec.{ltb, eqb}
 use lib.IntN.{pos}
 use lib.ListN.{length, getD, take, drop, length-reverse, List·getD-append}
@@ -27,7 +27,7 @@ use Rattle.plane.specs.Direction.{value}
 use Rattle.plane.specs.Turn.{turn}
 use Rattle.plane.specs.Shape.{next, precedes}
 use Rattle.plane.specs.theory.lists.Next.{Following, onward, closing, following}
-use Rattle.ring.specs.Round.{lastOf, headOf, optional, closed, opened, clockwise, backwards, inSense, straight, bending, bends}
+use Rattle.ring.specs.Round.{lastOf, headOf, optional, closed, opened, clockwise, inSense, straight, bending, bends}
 use Rattle.ring.specs.Ring.{previous, walked, leastPlace}
 
 pub map-at : (f : ℕ → Point) (xs : List ℕ) (i : ℕ) → i < length xs → corner (map f xs) i ≡ f (getD xs i 0)
@@ -198,7 +198,8 @@ after xs j h = go (following (length xs) j h)
 
 pub bends-step : (f : ℕ → Point) (xs : List ℕ) (j : ℕ) → j < length xs
     → bending f (getD xs (previous (length xs) j) 0) (drop j xs) (getD xs 0 0)
-    ≡ optional (not (straight (f (getD xs (previous (length xs) j) 0)) (f (getD xs j 0)) (f (getD xs (next (length xs) j) 0)))) (getD xs j 0)
+    ≡ optional (not (straight (f (getD xs (previous (length xs) j) 0)) (f (getD xs j 0)) (f (getD xs (next (length xs) j) 0))))
+    (getD xs j 0)
     ++ bending f (getD xs (previous (length xs) (j + 1)) 0) (drop (j + 1) xs) (getD xs 0 0)
 bends-step f xs j h =
     ap (λ (l : List ℕ). bending f (getD xs (previous (length xs) j) 0) l (getD xs 0 0)) (drop-cons xs j 0 h)

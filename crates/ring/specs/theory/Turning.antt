@@ -7,7 +7,7 @@
 use mathlib.Core.Path.{_≡_, refl, sym, _∙_, ap, subst}
 use mathlib.Core.Bool.{Bool, true, false, not, cond, _&&_, _||_, true≢false, false≢true}
 use mathlib.Core.List.{List, [], _∷_}
-use Prim.Native.Nat.{ℕ, zero, suc, _+_, _-_, _≤_, _<_}
+use Prim.Native.Nat.{ℕ, zero, suc, _-_, _<_}
 use native.Mathlib.Numerals.{add-one}
 use native.Mathlib.Omega.{arith}
 use borrow.Author.Tests.{ltb-true, ltb-false, lt-ltb, eqb-true, eqb-false}
@@ -20,7 +20,7 @@ use Rattle.plane.specs.Point.{Point, corner, origin, _⊖_}
 use Rattle.plane.specs.Turn.{cross, turn, Left}
 use Rattle.plane.specs.Shape.{next, precedes, IsShape}
 use Rattle.plane.specs.Forms.{Precedes, Before, NonZero, InOrder, edgesTo, edges, up}
-use Rattle.plane.specs.theory.lists.Next.{Following, onward, closing, following, next-below}
+use Rattle.plane.specs.theory.lists.Next.{Following, onward, closing, following}
 use Rattle.plane.specs.theory.forms.Precedes.{precedes-irrefl}
 use Rattle.plane.specs.theory.forms.Vector.{cross-nonzero, turn-edges}
 use Rattle.plane.specs.theory.forms.HalfPlane.{Up, precedes→up, up→precedes, precedes→down, down→precedes, up-clash}
@@ -34,7 +34,8 @@ use Rattle.ring.specs.theory.Inward.{first-inside, apart-inside, both-in
 pub turns-same : (g h : ℕ → Point) (n i : ℕ) → g (previous n i) ≡ h (previous n i) → g i ≡ h i → g (next n i) ≡ h (next n i)
     → turnsIn g n i ≡ turnsIn h n i
 unfolding turnsIn
-turns-same g h n i p q r = λ j. ltb 2 n && (not (ltZ (pos 0) (turn (p j) (q j) (r j))) || (ltb 0 i && (precedes (q j) (p j) && precedes (q j) (r j))))
+turns-same g h n i p q r = λ j. ltb 2 n && (not (ltZ (pos 0) (turn (p j) (q j) (r j))) ||
+    (ltb 0 i && (precedes (q j) (p j) && precedes (q j) (r j))))
 
 pub previous-suc : (n k : ℕ) → previous n (suc k) ≡ k
 previous-suc n k = ap (previous n) (sym (add-one k)) ∙ previous-after n k
@@ -95,7 +96,8 @@ module _ (ps : List Point) (three : 2 < length ps)
 
   -- the edge into corner k + 1, and the edge out of it
   into : (k : ℕ) → suc k < n → corner (edges ps) k ≡ corner ps (suc k) ⊖ corner ps k
-  into k h = edge-at ps k (omega (arith, edges-some ps (omega arith))) ∙ ap (λ (i : ℕ). corner ps i ⊖ corner ps k) (on (following n k (omega arith)))
+  into k h = edge-at ps k (omega (arith, edges-some ps (omega arith))) ∙ ap (λ (i : ℕ). corner ps i ⊖ corner ps k)
+      (on (following n k (omega arith)))
     where
       on : Following n k → next n k ≡ suc k
       on (onward l e) = e
@@ -126,7 +128,8 @@ none-shape (a ∷ (b ∷ (c ∷ ps))) three none =
     let qs = a ∷ b ∷ c ∷ ps in
     let all = edges-some qs (omega arith) in
     sorted→shape qs (in-order (b ⊖ a) (edgesTo a b (c ∷ ps)) (λ k h. step-at qs three none k (omega arith))
-    (subst (λ (k : ℕ). NonZero (corner (edges qs) k)) (last all) (cross-nonzero (left-at qs three none (suc (length ps)) (omega arith)) .1)))
+    (subst (λ (k : ℕ). NonZero (corner (edges qs) k)) (last all)
+    (cross-nonzero (left-at qs three none (suc (length ps)) (omega arith)) .1)))
   where
     last : length (edges (a ∷ b ∷ c ∷ ps)) ≡ length (a ∷ b ∷ c ∷ ps) → suc (suc (length ps)) ≡ length (edgesTo a b (c ∷ ps))
     last all = omega arith

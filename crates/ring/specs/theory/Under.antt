@@ -14,7 +14,8 @@ use lib.ListN.{length, getD, take}
 use Rattle.plane.specs.Point.{Point, corner, samePoint}
 use Rattle.plane.specs.Shape.{next}
 use Rattle.plane.specs.theory.lists.Next.{next-below}
-use Rattle.ring.specs.Round.{headOf, lastOf, optional, closed, differing, distinct, clockwise, inSense, sensed, straight, bending, bends}
+use Rattle.ring.specs.Round.{headOf, lastOf, optional, closed, differing, distinct, clockwise, inSense, sensed, straight, bending}
+use Rattle.ring.specs.Round.{bends}
 use Rattle.ring.specs.Ring.{walked, leastPlace, openRing, ringPlaces, ringCorners}
 use Rattle.ring.specs.theory.Steps.{least-below, opened-some, opened-le}
 

@@ -3,17 +3,17 @@
 --     ring-near      all in range
 --     ring-valid     so the numbers are those of a valid shape
 --     answered-passes     what an answer says of the rows
-use mathlib.Core.Path.{_≡_, sym, _∙_, ap, subst}
+use mathlib.Core.Path.{_≡_, sym, subst}
 use mathlib.Core.Bool.{Bool, true, false, not}
-use mathlib.Core.List.{List, [], _∷_, _++_, map}
-use Prim.Native.Nat.{ℕ, suc, _%_, _*_, _≤_, _<_, zero-le}
+use mathlib.Core.List.{List, [], _∷_, _++_}
+use Prim.Native.Nat.{ℕ, suc, _≤_, _<_, zero-le}
 use native.Mathlib.Omega.{arith}
 use native.Mathlib.Nat.{le-refl, le-trans}
 use lib.IntN.{ℤ}
 use lib.ListN.{length, getD, length-map}
-use Rattle.plane.specs.Limits.{maxPoints, maxCorners, points-le-corners}
+use Rattle.plane.specs.Limits.{maxCorners, points-le-corners}
 use Rattle.plane.specs.Point.{Point, points, numbers, corner}
-use Rattle.plane.specs.Reply.{answered, NoneApply}
+use Rattle.plane.specs.Reply.{answered}
 use Rattle.plane.specs.Refusal.{Valid}
 use Rattle.plane.specs.Shape.{IsShape}
 use Rattle.plane.specs.Output.{roomRow}
@@ -83,7 +83,8 @@ answered-passes l out f v h =
     (asked-answered (askRing (on l f) out) v h) in
     (accepted→ring l (none .0), none .1 .0)
 
-pub answered-valid : (l out : List ℤ) (f : ℕ) (v : List ℤ) → reply (askRing (on l f) out) ≡ answered v → Valid (numbers (ringShape (points l)))
+pub answered-valid : (l out : List ℤ) (f : ℕ) (v : List ℤ) → reply (askRing (on l f) out) ≡ answered v → Valid
+    (numbers (ringShape (points l)))
 answered-valid l out f v h =
     let good = answered-passes l out f v h in
     ring-valid l (good .0) (quiet→shape (points l) (good .0 .some) (good .1))

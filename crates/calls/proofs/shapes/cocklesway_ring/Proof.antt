@@ -23,7 +23,8 @@ barred-ring-requires c κs = search needs
 returns : tie.Need-returns
 returns c =
     let args = c .before .before .before .args in
-    ring-above (on (args .list .now) (args .floor)) (args .out .now) (sym (c .before .before .exceeds-floor .ensures) ∙ c .before .if1 .taken) (c .barred-ring .ensures)
+    ring-above (on (args .list .now) (args .floor)) (args .out .now)
+    (sym (c .before .before .exceeds-floor .ensures) ∙ c .before .if1 .taken) (c .barred-ring .ensures)
 
 cast-ring : tie.Need-cast-ring
 cast-ring c = low-fits _ (low c)
@@ -40,7 +41,8 @@ same-length c = search needs
 returns-2 : tie.Need-returns-2
 returns-2 c =
     let args = c .before .before .before .before .before .before .args in
-    ring-within (on (args .list .now) (args .floor)) (args .out .now) (low (c .before .before .before .before)) (c .of-answer .ensures) (c .before .before .ring .ensures)
+    ring-within (on (args .list .now) (args .floor)) (args .out .now) (low (c .before .before .before .before)) (c .of-answer .ensures)
+    (c .before .before .ring .ensures)
 
 pub cocklesway-ring-spec : {M : Type 1} → statement M
 cocklesway-ring-spec =

@@ -1,9 +1,9 @@
 -- `told` meets its contract: a corner that turns in is 4, too little room is 8, and else the corners are written.
-use mathlib.Core.Path.{_≡_, sym, _∙_, ap, subst}
+use mathlib.Core.Path.{sym, _∙_, ap, subst}
 use mathlib.Core.List.{List, [], _∷_, map}
 use Prim.Native.Nat.{ℕ, _*_, _≤_, _<_}
 use borrow.Author.Needs.{needs}
-use lib.IntN.{ℤ, pos}
+use lib.IntN.{pos}
 use lib.ListN.{length, getD, length-map}
 use Rattle.plane.specs.Point.{Point, points, numbers, corner}
 use Rattle.plane.specs.Reply.{Reply, refused}

@@ -1,21 +1,20 @@
 -- `turns_in` meets its contract: each test is one part of the condition.
-use mathlib.Core.Path.{_≡_, sym, _∙_, ap, ap₂, subst}
-use mathlib.Core.Bool.{Bool, true, false, not, _&&_, _||_}
+use mathlib.Core.Path.{_≡_, sym, _∙_, ap, ap₂}
+use mathlib.Core.Bool.{true}
 use Prim.Native.Nat.{ℕ, _<_}
 use native.Mathlib.Omega.{arith}
 use borrow.Author.Needs.{needs}
-use borrow.Author.Tests.{lt-ltb, le-ltb, not-true, not-false}
+use borrow.Author.Tests.{not-true, not-false}
 use mir.Syntax.{w64}
 use mir.Val.{toZ, ofZ}
-use lib.IntN.{ℤ, pos}
-use lib.ListN.{length, getD}
+use lib.IntN.{pos}
+use lib.ListN.{length}
 use lib.Signed.{ltZ}
 use Rattle.integer.specs.Machine.{result-is}
-use Rattle.plane.specs.Point.{Point, points, corner}
+use Rattle.plane.specs.Point.{Point, points}
 use Rattle.plane.specs.Turn.{turn}
 use Rattle.plane.specs.Shape.{next, precedes}
-use Rattle.ring.specs.Ring.{previous, turnsIn, cornerOf}
-use Rattle.ring.specs.theory.Steps.{previous-below}
+use Rattle.ring.specs.Ring.{previous, cornerOf}
 use Rattle.ring.specs.theory.Inward.{few-inside, turn-inside, first-inside, apart-inside, both-inside}
 use Rattle.ring.proofs.inward.turns_in.Statement.{statement}
 use Rattle.ring.proofs.inward.turns_in.Tie as tie
@@ -110,7 +109,8 @@ returns-4 c =
     let at-else = c .before .before in
     let at-turn = at-else .before .before in
     let i = begin at-turn .args .i in
-    let told = ap (λ (k : ℕ). precedes (point at-turn i) (point at-turn k)) (sym (before-is at-turn)) ∙ sym (c .before .precedes-at .ensures)
+    let told = ap (λ (k : ℕ). precedes (point at-turn i) (point at-turn k)) (sym (before-is at-turn)) ∙ sym
+    (c .before .precedes-at .ensures)
     ∙ not-true _ (c .if4 .taken) in
     sym (apart-inside _ _ _ (three at-turn) (left-there (at-else .before)) (omega (arith, at-else .if3 .left)) told)
 

@@ -2,12 +2,11 @@
 use mathlib.Core.Path.{_≡_, sym, _∙_, ap, ap₂, subst}
 use mathlib.Core.Bool.{Bool, cond, _&&_}
 use mathlib.Core.List.{List, _∷_}
-use Prim.Native.Nat.{ℕ, suc, _-_, _<_}
+use Prim.Native.Nat.{ℕ, _-_, _<_}
 use native.Mathlib.Omega.{arith}
 use borrow.Author.Needs.{needs}
 use lib.Dec.{ltb}
-use lib.ListN.{length, getD, take}
-use lib.Seq.{getD-take}
+use lib.ListN.{length, getD}
 use Rattle.plane.specs.Point.{Point, points, corner, samePoint}
 use Rattle.plane.specs.Shape.{next}
 use Rattle.plane.specs.theory.lists.Next.{next-below}
@@ -59,7 +58,9 @@ mul-less-closing c =
     omega (arith, at .gather .ensures .counted, at .gather .ensures .fits, at .gather .kept .1 .1 .1 .0, begin at .good .1 .1 .1 .0)
 
 slice-read-less-closing : tie.Need-slice-read-less-closing
-slice-read-less-closing c = omega (arith, c .before .before .before .gather .ensures .counted, c .before .before .before .gather .ensures .fits)
+slice-read-less-closing c =
+    let held = c .before .before .before .gather .ensures in
+    omega (arith, held .counted, held .fits)
 
 less-closing-requires : tie.Need-less-closing-requires
 less-closing-requires c κs =
@@ -88,7 +89,8 @@ returns c =
     ap₂ (λ (m i : ℕ). ltb 1 m && samePoint (corner ps s) (corner ps i)) counted (last-is at) ∙ sym (closed-at (f at) 0 xs) in
     let count = c .less-closing .ensures ∙ ap (λ (t : Bool). cond t (k - 1) k) test in
     subst (λ (r : ℕ). Held (distinct (f at) (walked n s n)) r l) (sym count)
-    (subst (λ (w : List ℕ). Held (distinct (f at) w) (cond (closed (f at) xs) (k - 1) k) l) (sym (walked-whole n s (omega (arith, start .pre .1))))
+    (subst (λ (w : List ℕ). Held (distinct (f at) w) (cond (closed (f at) xs) (k - 1) k) l)
+    (sym (walked-whole n s (omega (arith, start .pre .1))))
     (held-less (closed (f at) xs) (at .gather .ensures)))
 
 pub distinct-spec : {M : Type 1} → statement M

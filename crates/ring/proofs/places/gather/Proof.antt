@@ -1,14 +1,13 @@
 -- `gather` meets its contract. The invariant: what is stored, and what is still to come on the way round, are all; the measure is what
 -- is left.
-use mathlib.Core.Path.{_≡_, refl, sym, _∙_, ap, ap₂, subst}
+use mathlib.Core.Path.{_≡_, refl, sym, _∙_, ap, subst}
 use mathlib.Core.Bool.{Bool, not}
 use mathlib.Core.List.{List, _∷_, _++_}
 use Prim.Native.Nat.{ℕ, _+_, _-_, _≤_, _<_}
 use native.Mathlib.Omega.{arith}
-use lib.ListN.{length, take, length-set}
+use lib.ListN.{length, length-set}
 use Rattle.plane.specs.Point.{points, corner}
 use Rattle.plane.specs.Shape.{next}
-use Rattle.plane.specs.theory.lists.Next.{next-below}
 use Rattle.ring.specs.Round.{optional, differing}
 use Rattle.ring.specs.Ring.{walked}
 use Rattle.ring.specs.theory.Buffers.{Coming, coming-keep, coming-end, coming-put}
@@ -29,7 +28,8 @@ abbrev μ-loop : tie.MeasureT-loop
 abbrev total : tie.Start Inv-loop μ-loop → List ℕ
 total c =
     c .args .start
-    ∷ differing (corner (points (c .args .list .now))) (c .args .start) (walked (c .args .n) (next (c .args .n) (c .args .start)) (c .args .n - 1))
+    ∷ differing (corner (points (c .args .list .now))) (c .args .start)
+    (walked (c .args .n) (next (c .args .n) (c .args .start)) (c .args .n - 1))
 
 -- the buffer has room for one more
 room : (c : tie.In-loop Inv-loop μ-loop) → c .before .loop .count < length (c .before .loop .kept)
@@ -87,7 +87,8 @@ loop-again c =
     ap (λ (k : ℕ). differing f from (walked n k (n - at-loop .loop .i))) (sym is)
     ∙ ap (differing f from) (walked-step n to (at-loop .loop .i) (omega arith))
     ∙ ap (λ (b : Bool). optional (not b) to ++ rest) (sym (at-same .same-at .ensures)) in (
-      coming-keep (not (at-same .same-at .result)) to (subst (λ (r : List ℕ). Coming (total start) r (at-loop .loop .count) (at-loop .loop .kept)) coming (at-loop .loop .inv .0))
+      coming-keep (not (at-same .same-at .result)) to (subst (λ (r : List ℕ). Coming (total start) r (at-loop .loop .count)
+          (at-loop .loop .kept)) coming (at-loop .loop .inv .0))
           (at-keep .keep .ensures .0) (omega (arith, at-keep .keep .ensures .1, at-keep .keep .ensures .2, room (at-next .before))),
       at-next .next .ensures .1,
       omega (arith, at-keep .keep .ensures .1, at-loop .loop .inv .2),
@@ -108,7 +109,8 @@ returns c =
     let over : n - at-loop .loop .i ≡ 0 = omega (arith, at-loop .loop .inv .3) in
     let f = corner (points (start .args .list .now)) in
     let from = at-loop .loop .from in
-    coming-end (subst (λ (k : ℕ). Coming (total start) (differing f from (walked n (next n from) k)) (at-loop .loop .count) (at-loop .loop .kept)) over
+    coming-end (subst (λ (k : ℕ). Coming (total start) (differing f from (walked n (next n from) k)) (at-loop .loop .count)
+    (at-loop .loop .kept)) over
     (at-loop .loop .inv .0))
 
 pub gather-spec : {M : Type 1} → statement M

@@ -1,5 +1,5 @@
 -- `least` meets its contract. The invariant: the best is the least of the first i; the measure is what is left.
-use mathlib.Core.Path.{refl, _≡_, _∙_, ap, ap₂, sym}
+use mathlib.Core.Path.{refl, _≡_, _∙_, ap, sym}
 use mathlib.Core.Bool.{cond}
 use Prim.Native.Nat.{ℕ, _-_, _≤_, zero-le}
 use native.Mathlib.Numerals.{add-one}

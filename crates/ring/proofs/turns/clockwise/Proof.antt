@@ -1,5 +1,5 @@
 -- `clockwise` meets its contract.
-use mathlib.Core.Path.{sym, _∙_, ap, ap₂}
+use mathlib.Core.Path.{sym, _∙_, ap}
 use Prim.Native.Nat.{ℕ, _-_}
 use mir.Syntax.{w64}
 use native.Mathlib.Omega.{arith}

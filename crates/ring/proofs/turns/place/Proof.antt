@@ -28,7 +28,8 @@ shared-slice-read-result-2 c = search needs
 returns-2 : tie.Need-returns-2
 returns-2 c =
     let args = c .before .before .before .args in
-    sym (ap (λ (i : ℕ). getD (inSense (args .back) (args .kept .now)) i 0) (c .before .if2 .taken) ∙ sense-first (args .back) (args .kept .now))
+    sym (ap (λ (i : ℕ). getD (inSense (args .back) (args .kept .now)) i 0) (c .before .if2 .taken) ∙ sense-first (args .back)
+    (args .kept .now))
 
 sub-result : tie.Need-sub-result
 sub-result c = search needs

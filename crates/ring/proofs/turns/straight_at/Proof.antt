@@ -1,5 +1,5 @@
 -- `straight_at` meets its contract: the turn decides, and then the product of the two steps.
-use mathlib.Core.Path.{_≡_, sym, _∙_, ap, ap₂}
+use mathlib.Core.Path.{sym, _∙_, ap, ap₂}
 use borrow.Author.Needs.{needs}
 use mir.Syntax.{w64}
 use lib.IntN.{ℤ, pos}
