@@ -80,26 +80,26 @@ impl Floor {
         Floor::new(number, things.map(|(shape, _)| shape.clone()).collect())
     }
 
-    /// Puts shapes of a floor into a book.
+    /// Puts shapes of a floor into a book. Each is added to a book of its own, and these are put together, since a book
+    /// is a run of records: an addition reads all that was added before.
     ///
     /// # Errors
     /// The library refuses to add one.
     pub fn new(number: u16, shapes: Vec<Given>) -> Result<Floor, Refused> {
-        let sizes = shapes
-            .iter()
-            .map(|shape| RECORD + CORNER * shape.corners().len());
-        let mut bytes = vec![0; sizes.sum()];
-        let mut book = Book::new(&mut bytes);
+        let mut book = Vec::new();
         for (position, shape) in shapes.iter().enumerate() {
             let name = u16::try_from(position).map_err(|_| Refusal::Full);
-            let added = name.and_then(|name| book.add(name, shape.on(number), usize::MAX));
+            let mut record = vec![0; RECORD + CORNER * shape.corners().len()];
+            let mut own = Book::new(&mut record);
+            let added = name.and_then(|name| own.add(name, shape.on(number), usize::MAX));
             // With `usize::MAX` allowed an addition is finished.
             let _ = added.map_err(|refusal| not_added(shape, refusal))?;
+            book.extend(record);
         }
         Ok(Floor {
             number,
             shapes,
-            book: bytes,
+            book,
         })
     }
 

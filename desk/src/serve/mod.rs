@@ -7,10 +7,9 @@
 //! | [`guard`], [`token`] | who may ask |
 //! | [`value`], [`wish`] | JSON read, and what a request wishes |
 //! | [`plan`], [`text`] | the map, also with changes, and as a file |
-//! | [`floor`], [`told`] | questions over a whole floor; answers as JSON |
+//! | [`told`] | answers as JSON |
 //! | [`pages`], [`routes`] | the page's own files, and the questions that it asks |
 pub mod bounds;
-pub mod floor;
 pub mod guard;
 pub mod head;
 pub mod incoming;

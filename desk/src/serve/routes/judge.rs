@@ -5,7 +5,6 @@ use crate::json::Json;
 use crate::name::Name;
 use crate::question::{OfOne, OfTwo, Question};
 use crate::report::sentence;
-use crate::serve::floor::{Among, Floor};
 use crate::serve::outgoing::{Bad, Response};
 use crate::serve::plan::{Plan, World};
 use crate::serve::text::Change;
@@ -86,22 +85,22 @@ fn effects([before, after]: [&Plan; 2], changes: &[Change], given: &Given) -> Re
     Ok(members)
 }
 
-/// What is nearest to a shape on its floor, or what it meets.
+/// What is nearest to a shape on its floor, or the first that it meets.
 fn neighbour(plan: &Plan, shape: &Given) -> Result<Json, Bad> {
-    let floor = Floor::of(&plan.map, shape.floor.unwrap_or_default(), None)?.without(shape);
-    let pair = |other: &Given| Pair {
-        a: shape.clone(),
-        b: other.clone(),
+    let floor = plan.floor(shape.floor.unwrap_or_default(), None)?;
+    let (position, place) = match floor.nearest(shape, floor.position(shape)) {
+        Ok(found) => found,
+        Err(refused) if refused.refusal == Refusal::TooFew => return Ok(Json::Null),
+        Err(refused) => return Ok(told(Outcome::Refused(refused))),
     };
-    Ok(match floor.among(shape) {
-        Err(refused) => told(Outcome::Refused(refused)),
-        Ok(Among::Alone) => Json::Null,
-        Ok(Among::Free(near)) => asked(Question::Two(pair(near), OfTwo::Clearance)),
-        Ok(Among::Meets(met)) => match met.first() {
-            Some((other, _)) => asked(Question::Two(pair(other), OfTwo::Relation)),
-            None => Json::Null,
-        },
-    })
+    let about = match place {
+        Some(_) => OfTwo::Clearance,
+        None => OfTwo::Relation,
+    };
+    Ok(floor.shape(position).map_or(Json::Null, |other| {
+        let (a, b) = (shape.clone(), other.clone());
+        asked(Question::Two(Pair { a, b }, about))
+    }))
 }
 
 /// The answers of the file that differ, each before and after, and how many do not. Apart from the definitions of
