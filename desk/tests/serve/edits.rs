@@ -48,11 +48,7 @@ fn a_list_that_is_no_shape_is_refused_in_words() {
     for (list, words) in [
         (
             "[[6000,3200],[8000,3200],[7000,3300],[8000,4100]]",
-            "refused (4): the corner (8000, 4100) of bed",
-        ),
-        (
-            "[[6000,3200],[6000,3200]]",
-            "refused (4): both ends of bed are (6000, 3200)",
+            "refused (4): bed is no convex ring: after (8000, 3200) it turns in or back at (7000, 3300)",
         ),
         ("[]", "refused (1): bed has no corner"),
         (
@@ -72,30 +68,51 @@ fn a_list_that_is_no_shape_is_refused_in_words() {
     );
     let refused = member(member(&answer, "judge"), "refused");
     assert_eq!(member(refused, "number"), &Value::Number(4));
-    assert!(matches!(member(refused, "edge"), Value::Number(_)));
+    assert_eq!(member(refused, "before"), &Value::Number(1));
+    assert_eq!(member(refused, "corner"), &Value::Number(2));
 }
 
 #[test]
-fn a_list_may_begin_anywhere() {
+fn a_list_may_be_any_ring() {
     let server = start(MAP);
-    let answer = judged(
-        &server,
-        "bed",
-        "[[8000,4100],[6000,4100],[6000,3200],[8000,3200]]",
-    );
-    assert_eq!(member(&answer, "accepted"), &Value::Bool(true));
-    assert_eq!(member(&answer, "turned"), &Value::Bool(true));
-    assert_eq!(
-        member(&answer, "corners"),
-        &corners(&[[6000, 3200], [8000, 3200], [8000, 4100], [6000, 4100]])
-    );
-    // Clockwise it stays refused, with the hint.
-    let answer = judged(
-        &server,
-        "bed",
-        "[[6000,3200],[6000,4100],[8000,4100],[8000,3200]]",
-    );
-    assert!(text(member(&answer, "judge"), "sentence").contains("clockwise"));
+    let bed = corners(&[[6000, 3200], [8000, 3200], [8000, 4100], [6000, 4100]]);
+    for (list, turned, dropped) in [
+        (
+            "[[6000,3200],[8000,3200],[8000,4100],[6000,4100]]",
+            false,
+            0,
+        ),
+        // Begun at another corner, clockwise, closed, with a corner in line, with one twice.
+        ("[[8000,4100],[6000,4100],[6000,3200],[8000,3200]]", true, 0),
+        ("[[6000,3200],[6000,4100],[8000,4100],[8000,3200]]", true, 0),
+        (
+            "[[6000,3200],[8000,3200],[8000,4100],[6000,4100],[6000,3200]]",
+            true,
+            1,
+        ),
+        (
+            "[[6000,3200],[7000,3200],[8000,3200],[8000,4100],[6000,4100]]",
+            true,
+            1,
+        ),
+        (
+            "[[6000,3200],[8000,3200],[8000,3200],[8000,4100],[6000,4100]]",
+            true,
+            1,
+        ),
+    ] {
+        let answer = judged(&server, "bed", list);
+        assert_eq!(member(&answer, "accepted"), &Value::Bool(true), "{list}");
+        assert_eq!(member(&answer, "turned"), &Value::Bool(turned), "{list}");
+        assert_eq!(
+            member(&answer, "dropped"),
+            &Value::Number(dropped),
+            "{list}"
+        );
+        assert_eq!(member(&answer, "corners"), &bed, "{list}");
+    }
+    let answer = judged(&server, "bed", "[[6000,3200],[6000,3200]]");
+    assert_eq!(member(&answer, "corners"), &corners(&[[6000, 3200]]));
 }
 
 #[test]
