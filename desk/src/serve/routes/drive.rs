@@ -54,7 +54,7 @@ fn leg(floor: &Floor, cart: &Given, ends: [[i32; 2]; 2]) -> Members {
     members
 }
 
-/// A leg on which an obstacle is met first: the question `contact` of the two says where, and its line can be asked again.
+/// A leg on which an obstacle is met first. The question `contact` of the two says where; its line can be asked again.
 fn meets(obstacle: &Given, cart: &Given, [from, to]: [[i32; 2]; 2]) -> Members {
     let fields = [obstacle, cart].map(field).join(" | ");
     let [here, there] = [from, to].map(|[x, y]| format!("{x} {y}"));
