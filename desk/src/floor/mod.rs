@@ -14,9 +14,9 @@ pub mod drive;
 pub mod gaps;
 pub mod stand;
 
-use crate::answer::Refused;
+use crate::answer::{Refused, made};
 use crate::called::{Called, between};
-use crate::given::Given;
+use crate::given::{Given, Pair};
 use crate::map::{Map, Origin};
 use crate::question::{Around, Making, Narrowest, Question, Record};
 use crate::refusal;
@@ -55,6 +55,15 @@ pub fn is_cart(shape: &Given, origin: &Origin, cart: &Given) -> bool {
         _ => None,
     };
     cart.name.is_some() && (shape.name == cart.name || moved == cart.name.as_ref())
+}
+
+/// Returns an obstacle grown by a cart's outline: where the cart's origin is when they meet.
+///
+/// # Errors
+/// The library's refusal.
+pub fn grown(obstacle: &Given, cart: &Given) -> Result<Given, Refused> {
+    let (a, b) = (obstacle.clone(), cart.clone());
+    made(Making::Grow(Pair { a, b }))
 }
 
 /// Returns the floors of a map's shapes, in order.

@@ -20,6 +20,12 @@ pub struct Stand {
     pub nearest: (usize, Option<Nearest>),
 }
 
+/// Returns what sentences call a cart at a place.
+#[must_use]
+pub fn label_at(cart: &Given, at: [i32; 2]) -> String {
+    format!("{cart} at {}", Corner(at))
+}
+
 /// Returns a cart at a place of a floor, without a name.
 ///
 /// # Errors
@@ -41,10 +47,9 @@ pub fn stand(floor: &Floor, cart: &Given, at: [i32; 2]) -> Result<Stand, Refused
         (_, Some(_)) => Vec::new(),
         (_, None) => met_by(floor, &there)?,
     };
-    let label = format!("{cart} at {}", Corner(at));
     Ok(Stand {
         there,
-        label,
+        label: label_at(cart, at),
         met,
         nearest,
     })

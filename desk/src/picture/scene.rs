@@ -2,9 +2,9 @@
 use super::frame::Rect;
 use crate::answer::{Refused, clearance, made, tangents};
 use crate::called::{Called, between};
-use crate::floor::stand::{Stand, placed, stand};
-use crate::floor::{Floor, is_thing};
-use crate::given::{Corner, Given, Pair};
+use crate::floor::stand::{Stand, label_at, placed, stand};
+use crate::floor::{Floor, grown, is_thing};
+use crate::given::{Given, Pair};
 use crate::map::{Map, Origin};
 use crate::question::Making;
 use crate::sentence;
@@ -202,12 +202,8 @@ impl Scene {
     /// Adds each obstacle, grown by the cart's outline.
     fn add_zones(&mut self, floor: &Floor, cart: &Given) -> Result<(), Refused> {
         for obstacle in &floor.shapes {
-            let pair = Pair {
-                a: obstacle.clone(),
-                b: cart.clone(),
-            };
-            let grown = made(Making::Grow(pair))?;
-            self.add(Role::Zone, format!("{obstacle} grown by {cart}"), grown);
+            let label = format!("{obstacle} grown by {cart}");
+            self.add(Role::Zone, label, grown(obstacle, cart)?);
         }
         Ok(())
     }
@@ -222,7 +218,7 @@ impl Scene {
         let Some(place) = at else {
             return Ok(());
         };
-        let label = format!("{cart} at {}", Corner(place));
+        let label = label_at(cart, place);
         let there = if floor.shapes.is_empty() {
             self.notes.push(format!("{label} is free"));
             placed(floor, cart, place)?

@@ -1,11 +1,11 @@
 //! A cart at a place of a floor, and the zones that its origin keeps out of.
-use crate::answer::{Refused, made};
-use crate::floor::Floor;
+use crate::answer::Refused;
 use crate::floor::stand::{Stand, placed, stand};
+use crate::floor::{Floor, grown};
 use crate::given::{Given, Pair};
 use crate::json::Json;
 use crate::object::relation;
-use crate::question::{Making, OfTwo, Question};
+use crate::question::{OfTwo, Question};
 use crate::serve::outgoing::{Bad, Response};
 use crate::serve::plan::World;
 use crate::serve::told::{self, Members, asked};
@@ -94,8 +94,7 @@ pub fn zones(world: &World, wish: &Wish) -> Result<Response, Bad> {
     let cart = plan.cart(&wish.name("cart")?)?;
     let floor = plan.floor(wish.floor()?, Some(cart))?;
     let zones = floor.shapes.iter().map(|obstacle| {
-        let (a, b) = (obstacle.clone(), cart.clone());
-        let zone = match made(Making::Grow(Pair { a, b })) {
+        let zone = match grown(obstacle, cart) {
             Ok(grown) => ("corners", grown.corners().into()),
             Err(refused) => ("refused", told::told(Outcome::Refused(refused))),
         };
