@@ -198,6 +198,38 @@ fn a_drive_meets_the_first_on_its_way() {
     assert_eq!(drive("[[30,0],[100,0]]"), "near");
 }
 
+#[test]
+fn drives_without_obstacles_and_out_of_range() {
+    let server = start(MAP);
+    for (floor, places, state, said) in [
+        (
+            9,
+            "[[0,0],[5,5]]",
+            "clear",
+            "floor 9 has no shape that it could meet",
+        ),
+        (
+            2,
+            "[[0,0],[1000001,5]]",
+            "refused",
+            "refused (3): the place (1000001, 5)",
+        ),
+        // The cart reaches out of range, where no shape is.
+        (
+            2,
+            "[[999000,0],[1000000,5]]",
+            "clear",
+            "none of the 3 shapes",
+        ),
+    ] {
+        let body = format!("{{\"floor\":{floor},\"cart\":\"cart\",\"places\":{places}}}");
+        let answer = server.asked("drive", &body);
+        let leg = &list(member(&answer, "legs"))[0];
+        assert_eq!(text(leg, "state"), state, "{leg:?}");
+        assert!(text(leg, "sentence").contains(said), "{leg:?}");
+    }
+}
+
 /// Wishes that cannot be met: the address, the body, and words of the reason.
 const WRONG: &[(&str, &str, &str)] = &[
     ("map", "", "no JSON"),
