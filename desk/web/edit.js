@@ -115,15 +115,15 @@ export class Edit {
     return [...parts, ...handles];
   }
 
-  // The edge and the corner that break the rule, as the refusal names them.
-  broken({ edge, corner }) {
-    if (edge === undefined) return [];
+  // The corner that turns in, and the way to it, as the refusal names them.
+  broken({ before, corner }) {
+    if (before === undefined) return [];
     const { view } = this.app;
-    const ends = [this.corners[edge], this.corners[(edge + 1) % this.corners.length]];
-    const [x, y] = view.at(this.corners[corner] ?? ends[0]);
+    const ends = [this.corners[before], this.corners[corner]];
+    const [cx, cy] = view.at(ends[1]);
     return [
       draw("polyline", { points: view.points(ends), class: "broken" }),
-      draw("circle", { cx: x, cy: y, r: 14, class: "broken" }),
+      draw("circle", { cx, cy, r: 14, class: "broken" }),
     ];
   }
 
@@ -136,10 +136,10 @@ export class Edit {
       const hint = "Pick an obstacle on the floor, or by its name, and drag its corners.";
       return [el("p", { class: "hint" }, hint), el("div", { class: "row" }, take, create)];
     }
-    const refused = this.judged && !this.judged.accepted;
+    const isOpen = this.judged?.turned && String(this.corners) !== String(this.judged.corners);
     return [
       ...this.said(),
-      refused ? button("Reverse the order", () => this.set(this.corners.toReversed(), true)) : null,
+      isOpen ? button("Write it so", () => this.ask(true)) : null,
       el("div", { class: "row" }, take, this.isNew() ? this.naming() : null, stepChoice(this.app)),
       this.table(),
       el("div", { class: "row" }, create,
@@ -151,9 +151,12 @@ export class Edit {
 
   said() {
     if (!this.judged) return [];
-    const { accepted, judge, turned } = this.judged;
+    const { accepted, judge, turned, dropped } = this.judged;
     const title = accepted ? "A shape" : "Not a shape: not applied";
-    const note = turned ? el("p", { class: "hint" }, "Its list begins at its lowest corner again.") : null;
+    const which = dropped === 1 ? "a corner that is" : `${dropped} corners that are`;
+    const less = dropped ? `, without ${which} in line or there twice` : "";
+    const anew = `As a shape its list goes counterclockwise from its lowest corner${less}.`;
+    const note = turned ? el("p", { class: "hint" }, anew) : null;
     return [badge(accepted ? "yes" : "refused", title, this.name), el("p", { class: "said" }, judge.sentence), note];
   }
 

@@ -179,17 +179,13 @@ pub fn cart(arguments: &Arguments, map: &Map) -> Result<Given, Misuse> {
 /// # Errors
 /// It is none.
 pub fn place(option: &'static str, value: &OsStr) -> Result<[i32; 2], Misuse> {
+    let what = "two whole numbers of millimetres with a comma between them";
     let text = value.to_string_lossy();
-    let wrong = || {
-        Misuse::BadValue(
-            option,
-            text.to_string(),
-            "two whole numbers of millimetres with a comma between them",
-        )
-    };
-    let (x, y) = text.split_once(',').ok_or_else(wrong)?;
-    let number = |part: &str| part.trim().parse().map_err(|_| wrong());
-    Ok([number(x)?, number(y)?])
+    let place = text.split_once(',').and_then(|(x, y)| {
+        let number = |part: &str| part.trim().parse().ok();
+        Some([number(x)?, number(y)?])
+    });
+    place.ok_or_else(|| Misuse::BadValue(option, text.to_string(), what))
 }
 
 /// Returns the limit, if one is given.

@@ -222,15 +222,10 @@ fn are_here(wishes: &Wishes, floor: u16) -> Result<(), Misuse> {
 
 /// Two names with a comma between them.
 fn pair(option: &'static str, value: &OsStr, map: &Map) -> Result<Pair, Misuse> {
+    let what = "two names with a comma between them";
     let text = value.to_string_lossy();
-    let wrong = || {
-        Misuse::BadValue(
-            option,
-            text.to_string(),
-            "two names with a comma between them",
-        )
-    };
-    let (a, b) = text.split_once(',').ok_or_else(wrong)?;
+    let both = text.split_once(',');
+    let (a, b) = both.ok_or_else(|| Misuse::BadValue(option, text.to_string(), what))?;
     Ok(Pair {
         a: named(option, OsStr::new(a), map)?,
         b: named(option, OsStr::new(b), map)?,

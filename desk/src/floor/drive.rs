@@ -46,15 +46,26 @@ fn refused(floor: &Floor, cart: &Given, [from, to]: [[i32; 2]; 2], refusal: Refu
     })
 }
 
-/// Drives a cart straight from a place to another.
+/// Returns the first obstacle that a cart meets on a straight drive, and where.
+///
+/// # Errors
+/// The library's refusal: 20 if the floor has no obstacle.
+pub fn first(
+    floor: &Floor,
+    cart: &Given,
+    ends: [[i32; 2]; 2],
+) -> Result<Option<(usize, Meeting)>, Refused> {
+    let met = floor.contact(cart, ends);
+    met.map_err(|refusal| refused(floor, cart, ends, refusal))
+}
+
+/// Drives a cart straight from a place to another, and asks what it meets, or what is nearest to its way.
 ///
 /// # Errors
 /// The library's refusal: 20 if the floor has no obstacle.
 pub fn leg(floor: &Floor, cart: &Given, [from, to]: [[i32; 2]; 2]) -> Result<Leg, Refused> {
     let way = Edge(Corner(from), Corner(to));
-    let met = floor.contact(cart, [from, to]);
-    let met = met.map_err(|refusal| refused(floor, cart, [from, to], refusal))?;
-    if let Some((position, meeting)) = met {
+    if let Some((position, meeting)) = first(floor, cart, [from, to])? {
         let found = Found::Met(position, meeting);
         return Ok(Leg { way, found });
     }
@@ -63,8 +74,11 @@ pub fn leg(floor: &Floor, cart: &Given, [from, to]: [[i32; 2]; 2]) -> Result<Leg
     Ok(Leg { way, found })
 }
 
-/// What a cart passes over on a straight drive: its outline plus the segment of its way.
-fn swept(floor: &Floor, cart: &Given, [from, to]: [[i32; 2]; 2]) -> Result<Given, Refused> {
+/// Returns what a cart passes over on a straight drive, without a name: its outline plus the segment of its way.
+///
+/// # Errors
+/// It would reach out of range, or have too many corners.
+pub fn swept(floor: &Floor, cart: &Given, [from, to]: [[i32; 2]; 2]) -> Result<Given, Refused> {
     let ends = Given {
         name: None,
         numbers: [from, to].concat().into(),

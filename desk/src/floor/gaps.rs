@@ -1,12 +1,12 @@
 //! Every two obstacles of a floor, and the gap between them. Each gap is one answer of the library; going through all
 //! pairs and putting them in order is a loop of the desk's own.
-use super::Floor;
 use super::across::needed;
-use crate::answer::{Refused, clearance, made, relation};
+use super::{Floor, grown};
+use crate::answer::{Refused, clearance, relation};
 use crate::called::{Called, between};
 use crate::fraction::Fraction;
 use crate::given::{Given, Pair};
-use crate::question::{Making, OfTwo, Question};
+use crate::question::{OfTwo, Question};
 use cocklesway::{Nearest, Refusal, Relation};
 
 /// A gap between two obstacles, by their positions.
@@ -34,10 +34,7 @@ impl<'a> Solids<'a> {
     /// The library refuses to grow one.
     pub fn new(floor: &'a Floor, cart: Option<&'a Given>) -> Result<Solids<'a>, Refused> {
         let shapes = floor.shapes.iter();
-        let grown = shapes.filter_map(|shape| {
-            let (a, b) = (shape.clone(), cart?.clone());
-            Some(made(Making::Grow(Pair { a, b })))
-        });
+        let grown = shapes.filter_map(|shape| Some(grown(shape, cart?)));
         let grown = grown.collect::<Result<_, _>>()?;
         Ok(Solids { floor, cart, grown })
     }

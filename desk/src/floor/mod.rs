@@ -14,9 +14,9 @@ pub mod drive;
 pub mod gaps;
 pub mod stand;
 
-use crate::answer::Refused;
+use crate::answer::{Refused, made};
 use crate::called::{Called, between};
-use crate::given::Given;
+use crate::given::{Given, Pair};
 use crate::map::{Map, Origin};
 use crate::question::{Around, Making, Narrowest, Question, Record};
 use crate::refusal;
@@ -57,6 +57,15 @@ pub fn is_cart(shape: &Given, origin: &Origin, cart: &Given) -> bool {
     cart.name.is_some() && (shape.name == cart.name || moved == cart.name.as_ref())
 }
 
+/// Returns an obstacle grown by a cart's outline: where the cart's origin is when they meet.
+///
+/// # Errors
+/// The library's refusal.
+pub fn grown(obstacle: &Given, cart: &Given) -> Result<Given, Refused> {
+    let (a, b) = (obstacle.clone(), cart.clone());
+    made(Making::Grow(Pair { a, b }))
+}
+
 /// Returns the floors of a map's shapes, in order.
 #[must_use]
 pub fn floors(map: &Map) -> Vec<u16> {
@@ -80,26 +89,26 @@ impl Floor {
         Floor::new(number, things.map(|(shape, _)| shape.clone()).collect())
     }
 
-    /// Puts shapes of a floor into a book.
+    /// Puts shapes of a floor into a book. Each is added to a book of its own, and these are put together, since a book
+    /// is a run of records: an addition reads all that was added before.
     ///
     /// # Errors
     /// The library refuses to add one.
     pub fn new(number: u16, shapes: Vec<Given>) -> Result<Floor, Refused> {
-        let sizes = shapes
-            .iter()
-            .map(|shape| RECORD + CORNER * shape.corners().len());
-        let mut bytes = vec![0; sizes.sum()];
-        let mut book = Book::new(&mut bytes);
+        let mut book = Vec::new();
         for (position, shape) in shapes.iter().enumerate() {
             let name = u16::try_from(position).map_err(|_| Refusal::Full);
-            let added = name.and_then(|name| book.add(name, shape.on(number), usize::MAX));
+            let mut record = vec![0; RECORD + CORNER * shape.corners().len()];
+            let mut own = Book::new(&mut record);
+            let added = name.and_then(|name| own.add(name, shape.on(number), usize::MAX));
             // With `usize::MAX` allowed an addition is finished.
             let _ = added.map_err(|refusal| not_added(shape, refusal))?;
+            book.extend(record);
         }
         Ok(Floor {
             number,
             shapes,
-            book: bytes,
+            book,
         })
     }
 

@@ -20,23 +20,36 @@ pub struct Stand {
     pub nearest: (usize, Option<Nearest>),
 }
 
-/// Puts a cart at a place of a floor.
+/// Returns what sentences call a cart at a place.
+#[must_use]
+pub fn label_at(cart: &Given, at: [i32; 2]) -> String {
+    format!("{cart} at {}", Corner(at))
+}
+
+/// Returns a cart at a place of a floor, without a name.
+///
+/// # Errors
+/// It would reach out of range.
+pub fn placed(floor: &Floor, cart: &Given, at: [i32; 2]) -> Result<Given, Refused> {
+    let (a, b) = (floor.here(cart), floor.place(at));
+    made(Making::At(Pair { a, b }))
+}
+
+/// Puts a cart at a place of a floor, and asks what it meets there.
 ///
 /// # Errors
 /// The library's refusal: 20 if the floor has no obstacle.
 pub fn stand(floor: &Floor, cart: &Given, at: [i32; 2]) -> Result<Stand, Refused> {
-    let (a, b) = (floor.here(cart), floor.place(at));
-    let there = made(Making::At(Pair { a, b }))?;
+    let there = placed(floor, cart, at)?;
     let nearest = floor.nearest(&there, None)?;
     // A shape that is apart from the nearest is apart from all.
     let met = match nearest {
         (_, Some(_)) => Vec::new(),
         (_, None) => met_by(floor, &there)?,
     };
-    let label = format!("{cart} at {}", Corner(at));
     Ok(Stand {
         there,
-        label,
+        label: label_at(cart, at),
         met,
         nearest,
     })

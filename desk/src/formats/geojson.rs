@@ -12,7 +12,7 @@ use crate::unit::Unit;
 /// # Errors
 /// All that is wrong with it.
 pub fn read(text: &str, unit: Unit) -> Result<Vec<Feature>, Vec<Wrong>> {
-    let file = value::read(text).map_err(|wrong| vec![wrong])?;
+    let file = value::read(text, value::FILE).map_err(|wrong| vec![wrong])?;
     let alone = std::slice::from_ref(&file);
     let members = match kind(&file) {
         Some("FeatureCollection") => file.get("features").and_then(Value::list),

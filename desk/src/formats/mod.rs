@@ -4,7 +4,7 @@
 //! |---|---|
 //! | [`wkt`] | WKT, one geometry a line |
 //! | [`geojson`] | `GeoJSON` |
-//! | [`value`] | JSON, read |
+//! | [`value`] | JSON, read; also that of a request |
 pub mod geojson;
 pub mod value;
 pub mod wkt;
@@ -164,5 +164,11 @@ impl fmt::Display for Why {
             }
             Why::Geometry(text) => f.write_str(text),
         }
+    }
+}
+
+impl fmt::Display for Wrong {
+    fn fmt(&self, f: &mut fmt::Formatter<'_>) -> fmt::Result {
+        write!(f, "line {}: {}", self.line, self.why)
     }
 }

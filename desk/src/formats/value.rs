@@ -1,8 +1,20 @@
 //! JSON, read. Numbers stay the text that they are written with, so that nothing is rounded.
 use super::{Why, Wrong};
 
-/// How deep lists and objects may be in each other.
-const DEEPEST: usize = 64;
+/// How much a text may have.
+#[derive(Clone, Copy, Debug, PartialEq, Eq)]
+pub struct Bounds {
+    /// How deep lists and objects may be in each other.
+    pub depth: usize,
+    /// The most keys of an object.
+    pub keys: usize,
+}
+
+/// How much a file may have.
+pub const FILE: Bounds = Bounds {
+    depth: 64,
+    keys: usize::MAX,
+};
 
 /// A value, and the line of the file that it begins on.
 #[derive(Clone, Debug, PartialEq, Eq)]
@@ -65,32 +77,34 @@ impl Value {
 /// Reads one value and nothing after it.
 ///
 /// ```
-/// use desk::formats::value::{Is, read};
+/// use desk::formats::value::{FILE, Is, read};
 ///
-/// let value = read("[1.50, true]").unwrap();
+/// let value = read("[1.50, true]", FILE).unwrap();
 /// assert_eq!(value.list().unwrap()[0].is, Is::Number("1.50".to_string()));
-/// assert!(read(&"[".repeat(100_000)).is_err());
+/// assert!(read(&"[".repeat(100_000), FILE).is_err());
 /// ```
 ///
 /// # Errors
 /// What is wrong, and where.
-pub fn read(text: &str) -> Result<Value, Wrong> {
+pub fn read(text: &str, bounds: Bounds) -> Result<Value, Wrong> {
     let mut reader = Reader {
         rest: text,
         line: 1,
+        keys: bounds.keys,
     };
-    let value = reader.value(0)?;
+    let value = reader.value(bounds.depth)?;
     reader.blanks();
     if reader.rest.is_empty() {
         return Ok(value);
     }
-    Err(reader.expected("the end of the file"))
+    Err(reader.expected("the end"))
 }
 
 /// What is still to be read.
 struct Reader<'a> {
     rest: &'a str,
     line: usize,
+    keys: usize,
 }
 
 impl Reader<'_> {
@@ -137,15 +151,16 @@ impl Reader<'_> {
         }
     }
 
+    /// A value in which lists and objects are at most this deep in each other.
     fn value(&mut self, depth: usize) -> Result<Value, Wrong> {
         self.blanks();
         let line = self.line;
-        if depth > DEEPEST {
-            return Err(self.wrong(Why::Geometry("lists are in lists too deep")));
-        }
         let is = match self.rest.chars().next() {
-            Some('{') => self.object(depth)?,
-            Some('[') => self.list(depth)?,
+            Some('{' | '[') if depth == 0 => {
+                return Err(self.wrong(Why::Geometry("lists are in lists too deep")));
+            }
+            Some('{') => self.object(depth - 1)?,
+            Some('[') => self.list(depth - 1)?,
             Some('"') => Is::Text(self.text()?),
             Some('-' | '0'..='9') => self.number()?,
             _ => self.word()?,
@@ -186,7 +201,7 @@ impl Reader<'_> {
             return Ok(Is::List(values));
         }
         loop {
-            values.push(self.value(depth + 1)?);
+            values.push(self.value(depth)?);
             if self.has(']') {
                 return Ok(Is::List(values));
             }
@@ -203,15 +218,14 @@ impl Reader<'_> {
             return Ok(Is::Object(values));
         }
         loop {
-            self.blanks();
-            let key = self.text()?;
+            let (key, value) = self.member(depth)?;
+            if values.len() == self.keys {
+                return Err(self.wrong(Why::Geometry("an object has too many keys")));
+            }
             if values.iter().any(|(other, _)| *other == key) {
                 return Err(self.wrong(Why::Geometry("a key is there twice in one object")));
             }
-            if !self.has(':') {
-                return Err(self.expected(": after a key"));
-            }
-            values.push((key, self.value(depth + 1)?));
+            values.push((key, value));
             if self.has('}') {
                 return Ok(Is::Object(values));
             }
@@ -219,6 +233,16 @@ impl Reader<'_> {
                 return Err(self.expected(", or }"));
             }
         }
+    }
+
+    /// A key and its value.
+    fn member(&mut self, depth: usize) -> Result<(String, Value), Wrong> {
+        self.blanks();
+        let key = self.text()?;
+        if !self.has(':') {
+            return Err(self.expected(": after a key"));
+        }
+        Ok((key, self.value(depth)?))
     }
 
     fn text(&mut self) -> Result<String, Wrong> {

@@ -1,8 +1,9 @@
 //! What a picture shows: figures, lines between them, and what is said below.
 use super::frame::Rect;
-use crate::answer::{Refused, clearance, made, relation, tangents};
-use crate::distance::Distance;
-use crate::floor::{Floor, is_cart, is_thing};
+use crate::answer::{Refused, clearance, made, tangents};
+use crate::called::{Called, between};
+use crate::floor::stand::{Stand, label_at, placed, stand};
+use crate::floor::{Floor, grown, is_thing};
 use crate::given::{Given, Pair};
 use crate::map::{Map, Origin};
 use crate::question::Making;
@@ -164,10 +165,7 @@ pub fn scene(map: &Map, floor: u16, wishes: &Wishes) -> Result<Scene, Refused> {
         ..Scene::default()
     };
     if let Some(cart) = &wishes.cart {
-        let obstacles = things
-            .iter()
-            .filter(|(shape, origin)| !is_cart(shape, origin, cart));
-        let obstacles: Vec<&Given> = obstacles.map(|(shape, _)| *shape).collect();
+        let obstacles = Floor::of(map, floor, Some(cart))?;
         scene.add_zones(&obstacles, cart)?;
         scene.add_things(&things, Some(cart));
         scene.add_cart(&obstacles, cart, wishes.at)?;
@@ -202,14 +200,10 @@ impl Scene {
     }
 
     /// Adds each obstacle, grown by the cart's outline.
-    fn add_zones(&mut self, obstacles: &[&Given], cart: &Given) -> Result<(), Refused> {
-        for &obstacle in obstacles {
-            let pair = Pair {
-                a: obstacle.clone(),
-                b: cart.clone(),
-            };
-            let grown = made(Making::Grow(pair))?;
-            self.add(Role::Zone, format!("{obstacle} grown by {cart}"), grown);
+    fn add_zones(&mut self, floor: &Floor, cart: &Given) -> Result<(), Refused> {
+        for obstacle in &floor.shapes {
+            let label = format!("{obstacle} grown by {cart}");
+            self.add(Role::Zone, label, grown(obstacle, cart)?);
         }
         Ok(())
     }
@@ -217,25 +211,22 @@ impl Scene {
     /// Adds the cart at its place, and what it meets there.
     fn add_cart(
         &mut self,
-        obstacles: &[&Given],
+        floor: &Floor,
         cart: &Given,
         at: Option<[i32; 2]>,
     ) -> Result<(), Refused> {
-        let Some([x, y]) = at else {
+        let Some(place) = at else {
             return Ok(());
         };
-        let place = Given {
-            name: None,
-            numbers: [x, y].into(),
-            floor: Some(self.floor),
+        let label = label_at(cart, place);
+        let there = if floor.shapes.is_empty() {
+            self.notes.push(format!("{label} is free"));
+            placed(floor, cart, place)?
+        } else {
+            let found = stand(floor, cart, place)?;
+            self.notes.push(met(floor, &found));
+            found.there
         };
-        let pair = Pair {
-            a: cart.clone(),
-            b: place,
-        };
-        let label = format!("{cart} at ({x}, {y})");
-        let there = made(Making::At(pair))?;
-        self.notes.push(met(&label, &there, obstacles)?);
         self.add(Role::Cart, label, there);
         self.place = at;
         Ok(())
@@ -275,35 +266,24 @@ impl Scene {
     }
 }
 
-/// What the cart meets at its place: all that it touches or overlaps, or else what it is nearest to, by whole
-/// millimetres.
-fn met(label: &str, there: &Given, obstacles: &[&Given]) -> Result<String, Refused> {
-    let mut met = Vec::new();
-    let mut near: Vec<(Distance, String)> = Vec::new();
-    for &obstacle in obstacles {
-        let pair = Pair {
-            a: there.clone(),
-            b: obstacle.clone(),
-        };
-        match relation(&pair)? {
-            Relation::Apart => {
-                let gap = sentence::nearest(&pair, clearance(&pair)?);
-                near.extend(
-                    gap.map(|(distance, _)| (distance, format!("{obstacle} ({distance})"))),
-                );
-            }
-            Relation::Touching => met.push(format!("touches {obstacle}")),
-            Relation::Overlapping => met.push(format!("overlaps {obstacle}")),
-        }
+/// What the cart meets at its place, in short: all that it touches or overlaps, or else the nearest.
+fn met(floor: &Floor, found: &Stand) -> String {
+    let label = &found.label;
+    if let (position, Some(place)) = found.nearest
+        && let Some(near) = floor.shape(position)
+    {
+        let (distance, _) = between([&found.there, near].map(Called::own).each_ref(), place);
+        return format!("{label} is free; the nearest is {near} ({distance})");
     }
-    let least = near.iter().map(|(distance, _)| distance.millimetres).min();
-    near.retain(|(distance, _)| Some(distance.millimetres) == least);
-    let nearest: Vec<String> = near.into_iter().map(|(_, text)| text).collect();
-    Ok(match (met.as_slice(), nearest.as_slice()) {
-        ([], []) => format!("{label} is free"),
-        ([], nearest) => format!("{label} is free; the nearest is {}", nearest.join(", ")),
-        (met, _) => format!("{label} {}", met.join(", ")),
-    })
+    let met = found.met.iter().filter_map(|(position, how)| {
+        let verb = match how {
+            Relation::Overlapping => "overlaps",
+            _ => "touches",
+        };
+        Some(format!("{verb} {}", floor.shape(*position)?))
+    });
+    let met: Vec<String> = met.collect();
+    format!("{label} {}", met.join(", "))
 }
 
 /// Returns the line between the nearest points of two shapes; nothing if they are not apart.

@@ -1,12 +1,12 @@
 //! What a picture shows of a whole floor: gaps below a limit, and a drive with what it meets.
 use super::scene::{LineKind, Role, Scene, Stroke, Tag, gap_of};
-use crate::answer::{Refused, clearance, made};
+use crate::answer::{Refused, clearance};
 use crate::distance::Distance;
 use crate::floor::Floor;
 use crate::floor::drive::{Found, Leg, leg};
 use crate::floor::gaps::Solids;
+use crate::floor::stand::{label_at, placed};
 use crate::given::{Corner, Edge, Given, Pair};
-use crate::question::Making;
 use crate::sentence;
 use cocklesway::Meeting;
 
@@ -94,9 +94,8 @@ impl Scene {
         match &leg.found {
             Found::Clear(_, swept) => self.add(Role::Way, label, swept.clone()),
             Found::Met(_, meeting) => {
-                let (a, b) = (floor.here(cart), floor.place(from));
-                let there = made(Making::At(Pair { a, b }))?;
-                self.add(Role::Way, format!("{cart} at {}", Corner(from)), there);
+                let there = placed(floor, cart, from)?;
+                self.add(Role::Way, label_at(cart, from), there);
                 self.strokes.extend(cart_there(cart, [from, to], *meeting));
             }
         }

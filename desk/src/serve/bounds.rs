@@ -1,4 +1,5 @@
 //! What a request may take: bytes, headers and time.
+use crate::formats::value::Bounds;
 use std::time::Duration;
 
 /// The most bytes of a request's head, its end included.
@@ -16,11 +17,8 @@ pub const TARGET: usize = 128;
 /// The most bytes of a body.
 pub const BODY: usize = 1 << 20;
 
-/// How deep lists and objects of a body may be in each other.
-pub const DEPTH: usize = 8;
-
-/// The most keys of an object.
-pub const KEYS: usize = 32;
+/// How much the JSON of a body may have.
+pub const JSON: Bounds = Bounds { depth: 8, keys: 32 };
 
 /// The most places of a drive.
 pub const PLACES: usize = 64;

@@ -5,12 +5,11 @@
 //! | [`server`], [`bounds`] | connections, and what each may take |
 //! | [`incoming`], [`head`], [`outgoing`] | requests read, answers written |
 //! | [`guard`], [`token`] | who may ask |
-//! | [`value`], [`wish`] | JSON read, and what a request wishes |
+//! | [`wish`] | what a request wishes |
 //! | [`plan`], [`text`] | the map, also with changes, and as a file |
-//! | [`floor`], [`told`] | questions over a whole floor; answers as JSON |
+//! | [`told`] | answers as JSON |
 //! | [`pages`], [`routes`] | the page's own files, and the questions that it asks |
 pub mod bounds;
-pub mod floor;
 pub mod guard;
 pub mod head;
 pub mod incoming;
@@ -22,5 +21,4 @@ pub mod server;
 pub mod text;
 pub mod token;
 pub mod told;
-pub mod value;
 pub mod wish;

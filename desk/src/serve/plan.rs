@@ -2,6 +2,7 @@
 use super::outgoing::Bad;
 use super::text::{Change, changed};
 use crate::escape::quoted;
+use crate::floor::Floor;
 use crate::given::Given;
 use crate::map::{Entry, Map};
 use crate::name::Name;
@@ -68,6 +69,15 @@ impl Plan {
             None => Ok(cart),
             Some(_) => Err(Bad::request(format!("{cart} is no outline"))),
         }
+    }
+
+    /// Returns the obstacles of a floor, without a cart that is driven there.
+    ///
+    /// # Errors
+    /// There are more than the names of a book.
+    pub fn floor(&self, number: u16, cart: Option<&Given>) -> Result<Floor, Bad> {
+        let floor = Floor::of(&self.map, number, cart);
+        floor.map_err(|_| Bad::request("the floor has more than 65536 shapes"))
     }
 
     /// Returns the lists that are written as shapes and refused, as long as their names have no shape.

@@ -3,6 +3,7 @@ use crate::answer::{AboutTwo, Answer, Refused, ask};
 use crate::distance::Distance;
 use crate::given::{Corner, Edge, Given};
 use crate::json::Json;
+use crate::name::Name;
 use crate::object::object;
 use crate::place::Place;
 use crate::question::Question;
@@ -68,10 +69,17 @@ pub fn answered(answer: Answer) -> Json {
     })
 }
 
-/// Returns the sentence of a refusal.
+/// Returns the state of what was refused, and the sentence of the refusal.
 #[must_use]
-pub fn refusal(refused: &Refused) -> String {
-    sentence(&nowhere(Outcome::Refused(refused.clone())))
+pub fn refused(refused: Refused) -> Members {
+    let sentence = sentence(&nowhere(Outcome::Refused(refused)));
+    vec![("state", "refused".into()), ("sentence", sentence.into())]
+}
+
+/// Returns the name of a shape.
+#[must_use]
+pub fn name(shape: &Given) -> Json {
+    shape.name.as_ref().map(Name::as_str).into()
 }
 
 fn nowhere(outcome: Outcome) -> Event {

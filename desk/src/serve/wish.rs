@@ -2,8 +2,8 @@
 use super::bounds;
 use super::outgoing::Bad;
 use super::text::Change;
-use super::value::{self, Value};
 use crate::escape::quoted;
+use crate::formats::value::{self, Is, Value};
 use crate::name::Name;
 
 /// The members of a request's body.
@@ -18,16 +18,17 @@ impl Wish {
     pub fn read(body: &[u8]) -> Result<Wish, Bad> {
         let text = std::str::from_utf8(body);
         let text = text.map_err(|_| Bad::request("the body is no text"))?;
-        match value::read(text) {
-            Ok(Value::Object(members)) => Ok(Wish(members)),
-            Ok(_) => Err(Bad::request("the body is no JSON object")),
-            Err(wrong) => Err(Bad::request(format!("the body is no JSON: {wrong}"))),
+        let body = value::read(text, bounds::JSON);
+        let body = body.map_err(|wrong| Bad::request(format!("the body is no JSON: {wrong}")))?;
+        match body.is {
+            Is::Object(members) => Ok(Wish(members)),
+            _ => Err(Bad::request("the body is no JSON object")),
         }
     }
 
-    fn get(&self, key: &str) -> Option<&Value> {
+    fn get(&self, key: &str) -> Option<&Is> {
         let found = self.0.iter().find(|(own, _)| own == key);
-        found.map(|(_, value)| value)
+        found.map(|(_, value)| &value.is)
     }
 
     /// Returns a name.
@@ -45,8 +46,8 @@ impl Wish {
     /// It is none.
     pub fn optional_name(&self, key: &str) -> Result<Option<Name>, Bad> {
         match self.get(key) {
-            None | Some(Value::Null) => Ok(None),
-            Some(Value::Text(text)) => match Name::read(text) {
+            None | Some(Is::Null) => Ok(None),
+            Some(Is::Text(text)) => match Name::read(text) {
                 Ok(name) => Ok(Some(name)),
                 Err(why) => Err(Bad::request(format!("{} is no name: {why}", quoted(text)))),
             },
@@ -79,10 +80,10 @@ impl Wish {
     /// It is none, or one of them is not two whole numbers.
     pub fn places(&self, key: &str) -> Result<Vec<[i32; 2]>, Bad> {
         let wrong = || needed(key, "a list of places [x, y] of two whole numbers");
-        let Some(Value::List(places)) = self.get(key) else {
+        let Some(Is::List(places)) = self.get(key) else {
             return Err(wrong());
         };
-        let places: Option<Vec<[i32; 2]>> = places.iter().map(corner).collect();
+        let places: Option<Vec<[i32; 2]>> = places.iter().map(|place| corner(&place.is)).collect();
         places.ok_or_else(wrong)
     }
 
@@ -92,13 +93,13 @@ impl Wish {
     /// One of them is none, there are too many, or two are of one name.
     pub fn changes(&self) -> Result<Vec<Change>, Bad> {
         let changes = match self.get("changes") {
-            None | Some(Value::Null) => return Ok(Vec::new()),
-            Some(Value::List(changes)) if changes.len() <= bounds::CHANGES => changes,
+            None | Some(Is::Null) => return Ok(Vec::new()),
+            Some(Is::List(changes)) if changes.len() <= bounds::CHANGES => changes,
             Some(_) => return Err(needed("changes", "a list that is not too long")),
         };
         let mut read: Vec<Change> = Vec::new();
         for change in changes {
-            let Value::Object(members) = change else {
+            let Is::Object(members) = &change.is else {
                 return Err(needed("changes", "a list of objects"));
             };
             let change = Wish(members.clone()).change()?;
@@ -127,17 +128,17 @@ fn needed(key: &str, what: &str) -> Bad {
     Bad::request(format!("`{key}` has to be {what}"))
 }
 
-fn whole(value: &Value) -> Option<i32> {
+fn whole(value: &Is) -> Option<i32> {
     match value {
-        Value::Number(number) => i32::try_from(*number).ok(),
+        Is::Number(number) => number.parse().ok(),
         _ => None,
     }
 }
 
-fn corner(value: &Value) -> Option<[i32; 2]> {
+fn corner(value: &Is) -> Option<[i32; 2]> {
     match value {
-        Value::List(parts) => match parts.as_slice() {
-            [x, y] => Some([whole(x)?, whole(y)?]),
+        Is::List(parts) => match parts.as_slice() {
+            [x, y] => Some([whole(&x.is)?, whole(&y.is)?]),
             _ => None,
         },
         _ => None,

@@ -1,17 +1,14 @@
 //! What the page is answered: the same as `cocklesway ask` answers of the same map.
-use crate::server::{MAP, corners, list, member, start, text};
+use crate::server::{MAP, corners, list, member, number, start, text, yes};
 use desk::command::{Console, run};
-use desk::serve::value::Value;
+use desk::formats::value::Value;
 use std::ffi::OsString;
 
 /// The sentences that `cocklesway ask` prints for lines after a map.
 fn asked(map: &str, lines: &[Value]) -> Vec<String> {
     let lines: Vec<&str> = lines
         .iter()
-        .map(|line| match line {
-            Value::Text(line) => line.as_str(),
-            other => panic!("{other:?}"),
-        })
+        .map(|line| line.text().expect("a text"))
         .collect();
     let rows = map.lines().count();
     let all = format!("{map}{}\n", lines.join("\n"));
@@ -39,7 +36,7 @@ fn the_map_is_told() {
     assert_eq!(text(&map, "file"), "map.txt");
     let floors = list(member(&map, "floors"));
     assert_eq!(floors.len(), 2);
-    assert_eq!(member(&floors[0], "number"), &Value::Number(2));
+    assert_eq!(member(&floors[0], "number"), &number(2));
     let shapes = list(member(&floors[0], "shapes"));
     let names: Vec<&str> = shapes.iter().map(|shape| text(shape, "name")).collect();
     assert_eq!(names, ["wall", "linen-store", "bed"]);
@@ -66,10 +63,7 @@ fn what_is_wrong_is_told() {
     assert!(text(&problems[0], "sentence").starts_with("`sink` is refused (4): the corner"));
     let floors = list(member(&map, "floors"));
     let numbers: Vec<&Value> = floors.iter().map(|floor| member(floor, "number")).collect();
-    assert_eq!(
-        numbers,
-        [0, 2, 3, 4].map(Value::Number).iter().collect::<Vec<_>>()
-    );
+    assert_eq!(numbers, [0, 2, 3, 4].map(number).iter().collect::<Vec<_>>());
     let refused = list(member(&floors[3], "refused"));
     assert_eq!(text(&refused[0], "name"), "sink");
     assert!(list(member(&floors[3], "shapes")).is_empty());
@@ -156,12 +150,9 @@ fn two_shapes() {
     assert_eq!(asked(MAP, list(member(&answer, "lines"))), sentences);
     assert_eq!(
         member(member(&answer, "clearance"), "rounded"),
-        &Value::Number(3200)
+        &number(3200)
     );
-    assert_eq!(
-        member(member(&answer, "passage"), "passable"),
-        &Value::Bool(true)
-    );
+    assert_eq!(member(member(&answer, "passage"), "passable"), &yes(true));
     // Across floors the sentence says why not.
     let answer = server.asked("pair", "{\"a\":\"post\",\"b\":\"wall\"}");
     assert!(text(member(&answer, "clearance"), "sentence").starts_with("refused (13)"));
@@ -205,6 +196,38 @@ fn a_drive_meets_the_first_on_its_way() {
     assert_eq!(drive("[[0,0],[100,0]]"), "near");
     assert_eq!(drive("[[100,0],[0,0]]"), "far");
     assert_eq!(drive("[[30,0],[100,0]]"), "near");
+}
+
+#[test]
+fn drives_without_obstacles_and_out_of_range() {
+    let server = start(MAP);
+    for (floor, places, state, said) in [
+        (
+            9,
+            "[[0,0],[5,5]]",
+            "clear",
+            "floor 9 has no shape that it could meet",
+        ),
+        (
+            2,
+            "[[0,0],[1000001,5]]",
+            "refused",
+            "refused (3): the place (1000001, 5)",
+        ),
+        // The cart reaches out of range, where no shape is.
+        (
+            2,
+            "[[999000,0],[1000000,5]]",
+            "clear",
+            "none of the 3 shapes",
+        ),
+    ] {
+        let body = format!("{{\"floor\":{floor},\"cart\":\"cart\",\"places\":{places}}}");
+        let answer = server.asked("drive", &body);
+        let leg = &list(member(&answer, "legs"))[0];
+        assert_eq!(text(leg, "state"), state, "{leg:?}");
+        assert!(text(leg, "sentence").contains(said), "{leg:?}");
+    }
 }
 
 /// Wishes that cannot be met: the address, the body, and words of the reason.

@@ -1,9 +1,9 @@
 //! Shapes edited: judged, compared with before, and saved.
-use crate::server::{MAP, Running, corners, list, member, start, text};
+use crate::server::{MAP, Running, corners, list, member, number, start, text, yes};
+use desk::formats::value::Value;
 use desk::name::Name;
 use desk::serve::plan::{Plan, World};
 use desk::serve::text::Change;
-use desk::serve::value::Value;
 use desk::source::Source;
 use second::make::dice::Dice;
 
@@ -22,7 +22,7 @@ fn a_shape_is_judged() {
         "bed",
         "[[6000,3200],[8000,3200],[8000,4700],[6000,4100]]",
     );
-    assert_eq!(member(&answer, "accepted"), &Value::Bool(true));
+    assert_eq!(member(&answer, "accepted"), &yes(true));
     assert_eq!(
         text(member(&answer, "judge"), "sentence"),
         "bed is a shape of 4 corners on floor 2"
@@ -39,7 +39,7 @@ fn a_shape_is_judged() {
     assert!(
         text(member(&answer, "after"), "sentence").starts_with("bed and wall are 300 mm apart")
     );
-    assert_eq!(member(&answer, "same"), &Value::Number(2));
+    assert_eq!(member(&answer, "same"), &number(2));
 }
 
 #[test]
@@ -48,11 +48,7 @@ fn a_list_that_is_no_shape_is_refused_in_words() {
     for (list, words) in [
         (
             "[[6000,3200],[8000,3200],[7000,3300],[8000,4100]]",
-            "refused (4): the corner (8000, 4100) of bed",
-        ),
-        (
-            "[[6000,3200],[6000,3200]]",
-            "refused (4): both ends of bed are (6000, 3200)",
+            "refused (4): bed is no convex ring: after (8000, 3200) it turns in or back at (7000, 3300)",
         ),
         ("[]", "refused (1): bed has no corner"),
         (
@@ -61,7 +57,7 @@ fn a_list_that_is_no_shape_is_refused_in_words() {
         ),
     ] {
         let answer = judged(&server, "bed", list);
-        assert_eq!(member(&answer, "accepted"), &Value::Bool(false));
+        assert_eq!(member(&answer, "accepted"), &yes(false));
         let said = text(member(&answer, "judge"), "sentence");
         assert!(said.contains(words), "{said}");
     }
@@ -71,31 +67,48 @@ fn a_list_that_is_no_shape_is_refused_in_words() {
         "[[6000,3200],[8000,3200],[7000,3300],[8000,4100]]",
     );
     let refused = member(member(&answer, "judge"), "refused");
-    assert_eq!(member(refused, "number"), &Value::Number(4));
-    assert!(matches!(member(refused, "edge"), Value::Number(_)));
+    assert_eq!(member(refused, "number"), &number(4));
+    assert_eq!(member(refused, "before"), &number(1));
+    assert_eq!(member(refused, "corner"), &number(2));
 }
 
 #[test]
-fn a_list_may_begin_anywhere() {
+fn a_list_may_be_any_ring() {
     let server = start(MAP);
-    let answer = judged(
-        &server,
-        "bed",
-        "[[8000,4100],[6000,4100],[6000,3200],[8000,3200]]",
-    );
-    assert_eq!(member(&answer, "accepted"), &Value::Bool(true));
-    assert_eq!(member(&answer, "turned"), &Value::Bool(true));
-    assert_eq!(
-        member(&answer, "corners"),
-        &corners(&[[6000, 3200], [8000, 3200], [8000, 4100], [6000, 4100]])
-    );
-    // Clockwise it stays refused, with the hint.
-    let answer = judged(
-        &server,
-        "bed",
-        "[[6000,3200],[6000,4100],[8000,4100],[8000,3200]]",
-    );
-    assert!(text(member(&answer, "judge"), "sentence").contains("clockwise"));
+    let bed = corners(&[[6000, 3200], [8000, 3200], [8000, 4100], [6000, 4100]]);
+    for (list, turned, dropped) in [
+        (
+            "[[6000,3200],[8000,3200],[8000,4100],[6000,4100]]",
+            false,
+            0,
+        ),
+        // Begun at another corner, clockwise, closed, with a corner in line, with one twice.
+        ("[[8000,4100],[6000,4100],[6000,3200],[8000,3200]]", true, 0),
+        ("[[6000,3200],[6000,4100],[8000,4100],[8000,3200]]", true, 0),
+        (
+            "[[6000,3200],[8000,3200],[8000,4100],[6000,4100],[6000,3200]]",
+            true,
+            1,
+        ),
+        (
+            "[[6000,3200],[7000,3200],[8000,3200],[8000,4100],[6000,4100]]",
+            true,
+            1,
+        ),
+        (
+            "[[6000,3200],[8000,3200],[8000,3200],[8000,4100],[6000,4100]]",
+            true,
+            1,
+        ),
+    ] {
+        let answer = judged(&server, "bed", list);
+        assert_eq!(member(&answer, "accepted"), &yes(true), "{list}");
+        assert_eq!(member(&answer, "turned"), &yes(turned), "{list}");
+        assert_eq!(member(&answer, "dropped"), &number(dropped), "{list}");
+        assert_eq!(member(&answer, "corners"), &bed, "{list}");
+    }
+    let answer = judged(&server, "bed", "[[6000,3200],[6000,3200]]");
+    assert_eq!(member(&answer, "corners"), &corners(&[[6000, 3200]]));
 }
 
 #[test]
@@ -110,7 +123,7 @@ fn answers_of_the_file_that_change_are_told() {
     assert_eq!(changed.len(), 2);
     assert!(text(member(&changed[0], "before"), "sentence").contains("3.2 m apart"));
     assert!(text(member(&changed[0], "after"), "sentence").contains("3 m apart"));
-    assert_eq!(member(&answer, "same"), &Value::Number(0));
+    assert_eq!(member(&answer, "same"), &number(0));
 }
 
 #[test]
@@ -124,12 +137,12 @@ fn changes_hold_for_every_question() {
     );
     assert_eq!(
         member(member(&answer, "clearance"), "rounded"),
-        &Value::Number(300)
+        &number(300)
     );
     let answer = server.asked("pair", "{\"a\":\"bed\",\"b\":\"wall\"}");
     assert_eq!(
         member(member(&answer, "clearance"), "rounded"),
-        &Value::Number(900)
+        &number(900)
     );
     // A shape that is taken off, and one that is new.
     let taken = "{\"changes\":[{\"name\":\"bed\",\"floor\":2,\"corners\":[]},\

@@ -1,7 +1,7 @@
 //! A server that runs in this test, and requests to it.
+use desk::formats::value::{self, FILE, Is, Value};
 use desk::serve::plan::World;
 use desk::serve::server::Server;
-use desk::serve::value::{self, Value};
 use desk::source::Source;
 use std::io::{Read, Write};
 use std::net::{Shutdown, TcpStream};
@@ -109,7 +109,7 @@ impl Running {
     pub fn asked(&self, path: &str, body: &str) -> Value {
         let reply = self.post(path, body);
         assert_eq!(reply.code, 200, "{path} {body}: {reply:?}");
-        value::read(&reply.body).expect("JSON")
+        value::read(&reply.body, FILE).expect("JSON")
     }
 }
 
@@ -129,31 +129,39 @@ pub fn reply(stream: &mut TcpStream) -> Option<Reply> {
 
 /// The member of an object.
 pub fn member<'a>(value: &'a Value, key: &str) -> &'a Value {
-    let Value::Object(members) = value else {
-        panic!("{value:?} is no object");
-    };
-    let found = members.iter().find(|(own, _)| own == key);
-    &found.unwrap_or_else(|| panic!("{value:?} has no {key}")).1
+    let found = value.get(key);
+    found.unwrap_or_else(|| panic!("{value:?} has no {key}"))
 }
 
 /// The values of a list.
 pub fn list(value: &Value) -> &[Value] {
-    match value {
-        Value::List(values) => values,
-        other => panic!("{other:?} is no list"),
-    }
+    let found = value.list();
+    found.unwrap_or_else(|| panic!("{value:?} is no list"))
 }
 
 /// The text of a member.
 pub fn text<'a>(value: &'a Value, key: &str) -> &'a str {
-    match member(value, key) {
-        Value::Text(text) => text,
-        other => panic!("{other:?} is no text"),
-    }
+    let found = member(value, key).text();
+    found.unwrap_or_else(|| panic!("{value:?} has no text {key}"))
 }
 
-/// Corners, as values.
+/// A number.
+pub fn number(number: i64) -> Value {
+    on_first_line(Is::Number(number.to_string()))
+}
+
+/// Yes or no.
+pub fn yes(is_so: bool) -> Value {
+    on_first_line(Is::Bool(is_so))
+}
+
+/// Corners.
 pub fn corners(list: &[[i64; 2]]) -> Value {
-    let corner = |corner: &[i64; 2]| Value::List(corner.map(Value::Number).to_vec());
-    Value::List(list.iter().map(corner).collect())
+    let corner = |corner: &[i64; 2]| on_first_line(Is::List(corner.map(number).to_vec()));
+    on_first_line(Is::List(list.iter().map(corner).collect()))
+}
+
+/// A value of an answer, which has one line.
+fn on_first_line(is: Is) -> Value {
+    Value { is, line: 1 }
 }

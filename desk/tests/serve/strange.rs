@@ -1,9 +1,10 @@
 //! Strange requests, random and mutated: never a panic, and the server goes on.
 use crate::server::{MAP, start};
+use desk::formats::value;
+use desk::serve::bounds::JSON;
 use desk::serve::head::Head;
 use desk::serve::incoming::{Timed, read};
 use desk::serve::outgoing::Code;
-use desk::serve::value;
 use desk::serve::wish::Wish;
 use second::make::dice::Dice;
 use std::io;
@@ -179,10 +180,9 @@ const NO_VALUES: &[&str] = &[
     "01",
     "-",
     "--1",
-    "1.0",
-    "1e3",
+    "1.",
+    "1e",
     "+1",
-    "9223372036854775808",
     "\"",
     "\"\\",
     "\"\\x\"",
@@ -203,6 +203,8 @@ const VALUES: &[&str] = &[
     "0",
     "-0",
     "-9223372036854775808",
+    "1.0",
+    "1e3",
     "\"\\ud83d\\ude00\"",
     "\"\\/\\b\\f\\n\\r\\t\\u0000\"",
     "[]",
@@ -214,21 +216,21 @@ const VALUES: &[&str] = &[
 #[test]
 fn values() {
     for text in NO_VALUES {
-        assert!(value::read(text).is_err(), "{text}");
+        assert!(value::read(text, JSON).is_err(), "{text}");
     }
     for text in VALUES {
-        assert!(value::read(text).is_ok(), "{text}");
+        assert!(value::read(text, JSON).is_ok(), "{text}");
     }
     let nested = |depth: usize| format!("{}{}", "[".repeat(depth), "]".repeat(depth));
-    assert!(value::read(&nested(8)).is_ok());
-    assert!(value::read(&nested(9)).is_err());
-    assert!(value::read(&"[".repeat(1_000_000)).is_err());
+    assert!(value::read(&nested(8), JSON).is_ok());
+    assert!(value::read(&nested(9), JSON).is_err());
+    assert!(value::read(&"[".repeat(1_000_000), JSON).is_err());
     let keys = |count: usize| {
         let keys: Vec<String> = (0..count).map(|key| format!("\"{key}\":0")).collect();
         format!("{{{}}}", keys.join(","))
     };
-    assert!(value::read(&keys(32)).is_ok());
-    assert!(value::read(&keys(33)).is_err());
+    assert!(value::read(&keys(32), JSON).is_ok());
+    assert!(value::read(&keys(33), JSON).is_err());
 }
 
 #[test]

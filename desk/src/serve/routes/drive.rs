@@ -1,15 +1,13 @@
 //! A drive of straight legs: clear, or where it first meets what.
-use super::place::at_place;
-use crate::answer::{Refused, made};
+use crate::floor::Floor;
+use crate::floor::drive::{first, swept};
 use crate::given::{Corner, Edge, Given, Pair};
 use crate::json::Json;
-use crate::name::Name;
-use crate::question::{Making, OfTwo, Question};
+use crate::question::{Drive, OfTwo, Question};
 use crate::serve::bounds;
-use crate::serve::floor::{Among, Floor};
 use crate::serve::outgoing::{Bad, Response};
 use crate::serve::plan::World;
-use crate::serve::told::{self, Members, answered, asked, field};
+use crate::serve::told::{self, Members, asked, field};
 use crate::serve::wish::Wish;
 
 /// Returns each leg of a drive, in order.
@@ -19,7 +17,7 @@ use crate::serve::wish::Wish;
 pub fn answer(world: &World, wish: &Wish) -> Result<Response, Bad> {
     let plan = world.plan(&wish.changes()?)?;
     let cart = plan.cart(&wish.name("cart")?)?;
-    let floor = Floor::of(&plan.map, wish.floor()?, Some(cart))?;
+    let floor = plan.floor(wish.floor()?, Some(cart))?;
     let places = wish.places("places")?;
     if places.len() > bounds::PLACES {
         return Err(Bad::request("the drive has too many places"));
@@ -33,92 +31,66 @@ pub fn answer(world: &World, wish: &Wish) -> Result<Response, Bad> {
 }
 
 /// A leg: its ends, what the cart passes over, and what it meets or is nearest to.
-fn leg(floor: &Floor<'_>, cart: &Given, ends: [[i32; 2]; 2]) -> Members {
+fn leg(floor: &Floor, cart: &Given, ends: [[i32; 2]; 2]) -> Members {
     let [from, to] = ends;
+    let swept = swept(floor, cart, ends).ok().map(|swept| Given {
+        name: cart.name.clone(),
+        ..swept
+    });
+    // The library refuses a drive on a floor without obstacles. There is nothing to meet.
+    let found = match floor.shapes.as_slice() {
+        [] => Ok(None),
+        _ => first(floor, cart, ends),
+    };
     let mut members = vec![("from", from.into()), ("to", to.into())];
-    match floor.first_contact(cart, ends) {
-        Err(refused) => members.extend(refusal(&refused)),
-        Ok(Some(first)) => {
-            let [[x, y], [u, v]] = ends;
-            let (obstacle, cart) = (field(first.obstacle), field(cart));
-            let line = format!("contact | {obstacle} | {cart} | {x} {y} | {u} {v}");
-            let name = first.obstacle.name.as_ref().map(Name::as_str);
-            members.extend([
-                ("state", "meets".into()),
-                ("name", name.into()),
-                ("contact", answered(first.answer)),
-                ("lines", told::lines(vec![line])),
-            ]);
-        }
-        Ok(None) => members.extend(clear(floor, cart, ends)),
-    }
-    members.extend(swept(cart, floor.number, ends).map(|way| ("swept", way.corners().into())));
+    members.extend(match found {
+        Err(refused) => told::refused(refused),
+        Ok(Some((position, _))) => floor
+            .shape(position)
+            .map_or_else(Vec::new, |obstacle| meets(obstacle, cart, ends)),
+        Ok(None) => clear(floor, cart, ends, swept.as_ref()),
+    });
+    members.extend(swept.map(|way| ("swept", way.corners().into())));
     members
 }
 
-fn refusal(refused: &Refused) -> Members {
+/// A leg on which an obstacle is met first. The question `contact` of the two says where; its line can be asked again.
+fn meets(obstacle: &Given, cart: &Given, [from, to]: [[i32; 2]; 2]) -> Members {
+    let fields = [obstacle, cart].map(field).join(" | ");
+    let [here, there] = [from, to].map(|[x, y]| format!("{x} {y}"));
+    let line = format!("contact | {fields} | {here} | {there}");
+    let (a, b) = (obstacle.clone(), cart.clone());
+    let pair = Pair { a, b };
     vec![
-        ("state", "refused".into()),
-        ("sentence", told::refusal(refused).into()),
+        ("state", "meets".into()),
+        ("name", told::name(obstacle)),
+        (
+            "contact",
+            asked(Question::Contact(Drive { pair, from, to })),
+        ),
+        ("lines", told::lines(vec![line])),
     ]
 }
 
 /// A leg that meets nothing, and what is nearest to it.
-fn clear(floor: &Floor<'_>, cart: &Given, ends: [[i32; 2]; 2]) -> Members {
+fn clear(floor: &Floor, cart: &Given, ends: [[i32; 2]; 2], swept: Option<&Given>) -> Members {
     let [from, to] = ends.map(Corner);
-    let way = Edge(from, to);
-    let among = match floor.obstacles.len() {
-        0 => format!("floor {} has no shape that it could meet", floor.number),
+    let (way, number) = (Edge(from, to), floor.number);
+    let among = match floor.shapes.len() {
+        0 => format!("floor {number} has no shape that it could meet"),
         1 => "it meets nothing: the floor has one shape".to_string(),
-        count => format!(
-            "it meets none of the {count} shapes of floor {}",
-            floor.number
-        ),
+        count => format!("it meets none of the {count} shapes of floor {number}"),
     };
-    let mut members = vec![
-        ("state", "clear".into()),
-        (
-            "sentence",
-            format!("{cart} is clear all the way from {way}: {among}").into(),
-        ),
-    ];
-    let Some(swept) = swept(cart, floor.number, ends) else {
-        return members;
-    };
-    if let Ok(Among::Free(near)) = floor.among(&swept) {
-        let pair = Pair {
-            a: swept,
-            b: near.clone(),
-        };
-        let name = near.name.as_ref().map(Name::as_str);
-        members.push(("name", name.into()));
-        members.push(("near", asked(Question::Two(pair, OfTwo::Clearance))));
+    let said = format!("{cart} is clear all the way from {way}: {among}");
+    let mut members = vec![("state", "clear".into()), ("sentence", said.into())];
+    let near = swept.and_then(|swept| {
+        let (position, _) = floor.nearest(swept, None).ok()?;
+        Some((swept, floor.shape(position)?))
+    });
+    if let Some((swept, near)) = near {
+        let (a, b) = (swept.clone(), near.clone());
+        let question = Question::Two(Pair { a, b }, OfTwo::Clearance);
+        members.extend([("name", told::name(near)), ("near", asked(question))]);
     }
     members
-}
-
-/// All that a cart passes over on a leg: its outline at the beginning, and the sum with the way from there.
-fn swept(cart: &Given, floor: u16, [from, to]: [[i32; 2]; 2]) -> Option<Given> {
-    if from == to {
-        return at_place(cart, floor, from).ok();
-    }
-    // A segment begins at its lower end, and at the left one of two on a level.
-    let [low, high] = match (from, to) {
-        ([x, y], [u, v]) if (y, x) < (v, u) => [from, to],
-        _ => [to, from],
-    };
-    let way = Given {
-        name: None,
-        numbers: [low, high].as_flattened().into(),
-        floor: Some(floor),
-    };
-    let pair = Pair {
-        a: cart.clone(),
-        b: way,
-    };
-    let swept = made(Making::Sum(pair)).ok()?;
-    Some(Given {
-        name: cart.name.clone(),
-        ..swept
-    })
 }

@@ -1,11 +1,11 @@
 //! A shape as it is being edited: whether it is one, why not, and which answers would change.
 use super::map::{is_answer, of_event};
+use crate::answer::{Refused, ask, made};
 use crate::given::{Given, Pair};
 use crate::json::Json;
 use crate::name::Name;
-use crate::question::{OfOne, OfTwo, Question};
+use crate::question::{Making, OfOne, OfTwo, Question};
 use crate::report::sentence;
-use crate::serve::floor::{Among, Floor};
 use crate::serve::outgoing::{Bad, Response};
 use crate::serve::plan::{Plan, World};
 use crate::serve::text::Change;
@@ -22,43 +22,57 @@ pub fn answer(world: &World, wish: &Wish) -> Result<Response, Bad> {
     let draft = wish.change()?;
     let mut changes = wish.changes()?;
     changes.retain(|change| change.name != draft.name);
-    let (given, turned) = judged(&draft);
-    let judge = asked(Question::One(given.clone(), OfOne::Judge));
-    let mut members = vec![("judge", judge)];
-    if cocklesway::judge(given.alone()).is_ok() {
-        let corners = given.corners().to_vec();
-        changes.push(Change { corners, ..draft });
-        let after = world.plan(&changes)?;
-        members.push(("accepted", true.into()));
-        members.push(("turned", turned.into()));
-        members.push(("corners", given.corners().into()));
-        members.extend(effects([&world.original(), &after], &changes, &given)?);
-    } else {
-        members.push(("accepted", false.into()));
-    }
+    let members = match judged(&draft) {
+        Err(refused) => vec![
+            ("judge", told(Outcome::Refused(refused))),
+            ("accepted", false.into()),
+        ],
+        Ok(given) => accepted(world, draft, changes, &given)?,
+    };
     Ok(Response::json(&Json::Object(members)))
 }
 
-/// The list as a shape, and whether it had to be begun at another corner. Only a list that is refused for its beginning
-/// is begun anew: its corners and their order round the shape stay.
-fn judged(draft: &Change) -> (Given, bool) {
-    let given = given(draft, &draft.corners);
-    let Err(Refusal::Start { .. }) = cocklesway::judge(given.alone()) else {
-        return (given, false);
+/// The shape of a list. A list that is none is asked as a ring: it may be closed or clockwise, begin at any corner, and
+/// have corners twice or in line.
+fn judged(draft: &Change) -> Result<Given, Refused> {
+    let given = Given {
+        name: Some(draft.name.clone()),
+        numbers: draft.corners.as_flattened().into(),
+        floor: Some(draft.floor),
     };
-    let mut corners = draft.corners.clone();
-    let lowest = (0..).zip(&corners).min_by_key(|(_, [x, y])| (y, x));
-    let at = lowest.map_or(0, |(at, _)| at);
-    corners.rotate_left(at);
-    (self::given(draft, &corners), true)
+    let Err(refused) = ask(Question::One(given.clone(), OfOne::Judge)) else {
+        return Ok(given);
+    };
+    let name = given.name.clone();
+    match made(Making::Ring(given)) {
+        Ok(ring) => Ok(Given { name, ..ring }),
+        // This one names the corner that turns in.
+        Err(ring) if matches!(ring.refusal, Refusal::NotConvex { .. }) => Err(ring),
+        Err(_) => Err(refused),
+    }
 }
 
-fn given(draft: &Change, corners: &[[i32; 2]]) -> Given {
-    Given {
-        name: Some(draft.name.clone()),
-        numbers: corners.as_flattened().into(),
-        floor: Some(draft.floor),
-    }
+/// A list that is a shape, whether its corners had to be written anew, how many are left out, and what it changes.
+fn accepted(
+    world: &World,
+    draft: Change,
+    mut changes: Vec<Change>,
+    given: &Given,
+) -> Result<Members, Bad> {
+    let corners = given.corners().to_vec();
+    let turned = corners != draft.corners;
+    let dropped = draft.corners.len().saturating_sub(corners.len());
+    changes.push(Change { corners, ..draft });
+    let after = world.plan(&changes)?;
+    let mut members = vec![
+        ("judge", asked(Question::One(given.clone(), OfOne::Judge))),
+        ("accepted", true.into()),
+        ("turned", turned.into()),
+        ("dropped", dropped.into()),
+        ("corners", given.corners().into()),
+    ];
+    members.extend(effects([&world.original(), &after], &changes, given)?);
+    Ok(members)
 }
 
 /// What a change of a shape changes: how far it reaches, its neighbour, and the answers of the file.
@@ -86,22 +100,22 @@ fn effects([before, after]: [&Plan; 2], changes: &[Change], given: &Given) -> Re
     Ok(members)
 }
 
-/// What is nearest to a shape on its floor, or what it meets.
+/// What is nearest to a shape on its floor, or the first that it meets.
 fn neighbour(plan: &Plan, shape: &Given) -> Result<Json, Bad> {
-    let floor = Floor::of(&plan.map, shape.floor.unwrap_or_default(), None)?.without(shape);
-    let pair = |other: &Given| Pair {
-        a: shape.clone(),
-        b: other.clone(),
+    let floor = plan.floor(shape.floor.unwrap_or_default(), None)?;
+    let (position, place) = match floor.nearest(shape, floor.position(shape)) {
+        Ok(found) => found,
+        Err(refused) if refused.refusal == Refusal::TooFew => return Ok(Json::Null),
+        Err(refused) => return Ok(told(Outcome::Refused(refused))),
     };
-    Ok(match floor.among(shape) {
-        Err(refused) => told(Outcome::Refused(refused)),
-        Ok(Among::Alone) => Json::Null,
-        Ok(Among::Free(near)) => asked(Question::Two(pair(near), OfTwo::Clearance)),
-        Ok(Among::Meets(met)) => match met.first() {
-            Some((other, _)) => asked(Question::Two(pair(other), OfTwo::Relation)),
-            None => Json::Null,
-        },
-    })
+    let about = match place {
+        Some(_) => OfTwo::Clearance,
+        None => OfTwo::Relation,
+    };
+    Ok(floor.shape(position).map_or(Json::Null, |other| {
+        let (a, b) = (shape.clone(), other.clone());
+        asked(Question::Two(Pair { a, b }, about))
+    }))
 }
 
 /// The answers of the file that differ, each before and after, and how many do not. Apart from the definitions of

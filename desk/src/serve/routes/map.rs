@@ -4,12 +4,11 @@ use crate::floor::{floors, is_thing};
 use crate::given::Given;
 use crate::json::Json;
 use crate::map::{Entry, Item, Origin};
-use crate::name::Name;
 use crate::report::sentence;
 use crate::sentence::defined;
 use crate::serve::outgoing::{Bad, Response};
 use crate::serve::plan::{Plan, World};
-use crate::serve::told::Members;
+use crate::serve::told::{self, Members};
 use crate::serve::wish::Wish;
 use crate::session::{Event, Outcome};
 
@@ -90,8 +89,10 @@ fn of_item(item: &Item, shape: &Given, origin: &Origin) -> Json {
 }
 
 fn of_shape(shape: &Given) -> Members {
-    let name = shape.name.as_ref().map(Name::as_str);
-    vec![("name", name.into()), ("corners", shape.corners().into())]
+    vec![
+        ("name", told::name(shape)),
+        ("corners", shape.corners().into()),
+    ]
 }
 
 /// Shapes without a floor.
