@@ -39,11 +39,11 @@ fn it_prints_its_address_and_serves() {
     let page = reply(&mut stream).expect("an answer");
     assert_eq!(page.code, 200);
     assert!(page.body.contains("<!doctype html>"));
-    // What Ctrl-C sends.
-    let interrupted = Command::new("kill")
-        .args(["-INT", &child.id().to_string()])
+    // Ctrl-C sends another signal, which a shell lets programs in the background ignore.
+    let ended = Command::new("kill")
+        .args(["-TERM", &child.id().to_string()])
         .status();
-    assert!(interrupted.expect("kill").success());
+    assert!(ended.expect("kill").success());
     assert!(!child.wait().expect("its end").success());
     assert!(TcpStream::connect(host).is_err());
 }
