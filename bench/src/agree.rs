@@ -10,7 +10,7 @@ mod tablet;
 mod tally;
 mod written;
 
-use crate::lists::{beside, floors, points, shape, spoilt};
+use crate::lists::{beside, floors, points, ring, shape, spoilt};
 use crate::logs::log;
 use crate::random::Random;
 use cocklesway::Shape;
@@ -24,7 +24,7 @@ fn on((list, floor): Lent) -> Shape {
     Shape::of_numbers(list, floor)
 }
 
-/// Asks questions of made lists until so many were answered, and returns how many were; or the first answer that
+/// Asks questions of made lists until the given number are answered, and returns how many are; or the first answer that
 /// differs, or a kind of answer that never came.
 pub fn agree(seed: u64, answers: u64) -> Result<u64, String> {
     let mut random = Random::new(seed);
@@ -45,6 +45,7 @@ fn ask(tally: &mut Tally, random: &mut Random) -> Result<(), String> {
         _ => (),
     }
     let swept = points(random, &a, &b);
+    let drawn = ring(random, &a);
     let [f, g] = floors(random);
     let (a, b): (Lent, Lent) = ((&a, f), (&b, g));
     bytes::ask(tally, random, a, b)?;
@@ -58,6 +59,7 @@ fn ask(tally: &mut Tally, random: &mut Random) -> Result<(), String> {
         written::ask(tally, random, question, a, b)?;
     }
     written::ask(tally, random, written::SWEEP, (&swept, f), b)?;
+    written::ask(tally, random, written::RING, (&drawn, f), b)?;
     let log = log(random);
     logs::ask(tally, random, &log, a)?;
     tablet::ask(tally, random)

@@ -27,7 +27,7 @@ fn large(random: &mut Random) -> List {
     sized(random, MOST as i32 - 22, MOST as i32 + 3, 0, 0)
 }
 
-/// A shape of at most so many parts.
+/// A shape of at most `most` parts.
 fn some(random: &mut Random, most: u64, reach: i32, x: i32, y: i32) -> List {
     let parts = 1 + random.below(most) as usize;
     grown(random, parts, reach, x, y)
@@ -165,6 +165,39 @@ pub fn points(random: &mut Random, a: &[i32], b: &[i32]) -> List {
     } else {
         list
     }
+}
+
+/// A ring: the corners of a list from any of them on, in either sense, some of them twice, with points between
+/// neighbours, closed at times; and some that go round again or cross themselves.
+pub fn ring(random: &mut Random, a: &[i32]) -> List {
+    let mut ring = a.as_chunks::<2>().0.to_vec();
+    if ring.is_empty() {
+        return a.to_vec();
+    }
+    let any = |random: &mut Random, n: usize| random.below(n as u64) as usize;
+    for _ in 0..random.below(4) {
+        let k = any(random, ring.len());
+        let [p, q] = [ring[k], ring[(k + 1) % ring.len()]];
+        let middle = |k: usize| ((p[k] as i64 + q[k] as i64) / 2) as i32;
+        ring.insert(k + 1, [p, [middle(0), middle(1)]][any(random, 2)]);
+    }
+    let start = any(random, ring.len());
+    ring.rotate_left(start);
+    if random.below(2) == 0 {
+        ring.reverse();
+    }
+    if random.below(3) == 0 {
+        ring.push(ring[0]);
+    }
+    let (k, other) = (any(random, ring.len()), any(random, ring.len()));
+    match random.below(12) {
+        0 => ring.swap(k, other),
+        1 => ring.insert(k, ring[other]),
+        2 => ring.extend_from_within(..=k),
+        3 => return spoilt(random, ring.as_flattened()),
+        _ => (),
+    }
+    ring.into_flattened()
 }
 
 /// The floors of two lists: mostly one floor, and at times above the highest.

@@ -1,4 +1,4 @@
-//! `bench agree COUNT` compares so many plain and proved answers, and fails where two differ.
+//! `bench agree COUNT` compares COUNT plain and proved answers, and fails where two differ.
 //! `bench ROUNDS` measures both, and how the proved ones grow, and prints the tables.
 //! `bench ROUNDS WORD ..` does so for the rows that have one of these words in their names.
 use bench::agree;

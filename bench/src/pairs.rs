@@ -27,6 +27,16 @@ pub fn shuffled(random: &mut Random, n: usize, outline: Outline) -> Case {
     case
 }
 
+/// The corners of a shape clockwise, from any of them on, and the first again.
+pub fn drawn(random: &mut Random, n: usize, outline: Outline) -> Case {
+    let mut case = single(random, n, outline);
+    let points = case.a.as_chunks_mut::<2>().0;
+    points.reverse();
+    points.rotate_left(random.below(n as u64) as usize);
+    case.a.extend_from_within(..2);
+    case
+}
+
 /// Two shapes that overlap, the second with 4 corners less; neither is inside the other if they are in general
 /// position.
 pub fn crossing(random: &mut Random, n: usize, outline: Outline) -> Case {
@@ -174,6 +184,20 @@ pub fn stocked_for_cart(random: &mut Random, n: usize, outline: Outline) -> Case
     Case { a, ..case }
 }
 
+/// The same with a cart that drives across the floor.
+pub fn stocked_for_drive(random: &mut Random, n: usize, outline: Outline) -> Case {
+    let case = stocked_for_cart(random, n, outline);
+    let (x, y) = off(random, 900_000);
+    let near = random.between(-900_000, 900_000);
+    let to = if x.abs() == 900_000 {
+        [-x, near]
+    } else {
+        [near, -y]
+    };
+    let way = [[x, y], to];
+    Case { way, ..case }
+}
+
 /// A shape, and the same again: each overlaps the other and is inside it.
 pub fn twice(random: &mut Random, n: usize, outline: Outline) -> Case {
     let case = moved_away(random, n, outline);
@@ -241,7 +265,7 @@ mod tests {
         assert_eq!(refused(under_cart, MOST - 8, polygon), 0);
     }
 
-    /// How two shapes stand.
+    /// How two shapes relate.
     fn relation(make: Make, n: usize, outline: Outline) -> u64 {
         let case = make(&mut Random::new(7), n, outline);
         let answer = plain::relation(&case.a, 0, &case.b, 0);
@@ -281,6 +305,31 @@ mod tests {
         assert_eq!(plain::log_nearest(&case.log, &case.a, 3, None).refusal, 0);
         let case = stocked_for_cart(&mut Random::new(7), 40, polygon);
         assert_eq!(plain::log_gap(&case.log, &case.a, 3).refusal, 0);
+    }
+
+    #[test]
+    fn drives_go_across_floors() {
+        let mut random = Random::new(7);
+        let mut met = 0;
+        for _ in 0..100 {
+            let case = stocked_for_drive(&mut random, 100, polygon);
+            let [from, to] = case.way;
+            let answer = plain::log_contact(&case.log, &case.a, 3, from, to);
+            assert_eq!(answer.refusal, 0);
+            met += answer.values[0];
+        }
+        assert!(0 < met && met < 100);
+    }
+
+    #[test]
+    fn rings_are_shapes() {
+        for n in SIZES {
+            let case = drawn(&mut Random::new(7), n, polygon);
+            let mut out = [0; 2 * MOST];
+            let answer = plain::ring(&case.a, 3, &mut out);
+            assert_eq!((answer.refusal, answer.values[0]), (0, n as u64));
+            assert_eq!(plain::judge(&out[..2 * n], 3).refusal, 0);
+        }
     }
 
     #[test]

@@ -1,8 +1,8 @@
 //! The rows of the tables: a question, and cases for which it does its work.
 use crate::pairs::{
-    Make, alike, apart, beside_cart, crossing, driving_in, driving_past, far, kept, large, merged,
-    moved_away, nested, passing, scattered, shuffled, single, stocked, stocked_for_cart, stuck,
-    summed, twice, under_cart,
+    Make, alike, apart, beside_cart, crossing, drawn, driving_in, driving_past, far, kept, large,
+    merged, moved_away, nested, passing, scattered, shuffled, single, stocked, stocked_for_cart,
+    stocked_for_drive, stuck, summed, twice, under_cart,
 };
 use crate::plain::MOST;
 use crate::runs::*;
@@ -39,7 +39,7 @@ impl Counted {
         }
     }
 
-    /// How many corners so many have together: a record has 8.
+    /// How many corners n of these have together: a record has 8.
     pub fn corners(self, n: usize) -> usize {
         match self {
             Counted::Corners => n,
@@ -117,13 +117,14 @@ the calls of a host, on bytes: both shapes of their sums have the column's corne
     },
 ];
 
-const QUESTIONS: [Row; 31] = [
+const QUESTIONS: [Row; 34] = [
     ("judge", JUDGE, single),
     ("furthest", FURTHEST, single),
     ("mirror", MIRROR, single),
     ("length", LENGTH, single),
     ("width", WIDTH, single),
     ("area", AREA, single),
+    ("box", BOX, single),
     ("sum", SUM, summed),
     ("sum, refused 6 at 1,024", SUM, crossing),
     ("begin", BEGIN, summed),
@@ -132,6 +133,7 @@ const QUESTIONS: [Row; 31] = [
     ("grow", GROW, summed),
     ("sweep, points anywhere", SWEEP, scattered),
     ("sweep, all corners", SWEEP, shuffled),
+    ("ring, clockwise", RING, drawn),
     ("relation, apart", RELATION, apart),
     ("relation, overlapping", RELATION, crossing),
     ("inside, yes", INSIDE, nested),
@@ -141,6 +143,7 @@ const QUESTIONS: [Row; 31] = [
     ("find, none", FIND, crossing),
     ("clearance, apart", CLEARANCE, apart),
     ("clearance, none", CLEARANCE, crossing),
+    ("greatest", GREATEST, apart),
     ("excess", EXCESS, crossing),
     ("excess, inside", EXCESS, nested),
     ("tangents", TANGENTS, apart),
@@ -162,20 +165,23 @@ const BYTES: [Row; 8] = [
     ("bytes: overlapping", RELATION_BYTES, crossing),
 ];
 
-const REGULAR: [Row; 14] = [
+const REGULAR: [Row; 17] = [
     ("judge", JUDGE, single),
     ("furthest", FURTHEST, single),
     ("length", LENGTH, single),
     ("width", WIDTH, single),
+    ("box", BOX, single),
     ("sum", SUM, summed),
     ("merge", MERGE, merged),
     ("grow", GROW, summed),
     ("sweep, all corners", SWEEP, shuffled),
+    ("ring, clockwise", RING, drawn),
     ("relation, apart", RELATION, apart),
     ("relation, overlapping", RELATION, crossing),
     ("inside, yes", INSIDE, nested),
     ("find, none", FIND, crossing),
     ("clearance, apart", CLEARANCE, apart),
+    ("greatest", GREATEST, apart),
     ("tangents", TANGENTS, apart),
 ];
 
@@ -192,16 +198,17 @@ const CARTS: [Row; 10] = [
     ("contact, never", CONTACT, driving_past),
 ];
 
-const FLOORS: [Row; 2] = [
+const FLOORS: [Row; 3] = [
     ("log_entry", LOG_ENTRY, stocked),
     ("log_nearest", LOG_NEAREST, stocked),
+    ("log_contact", LOG_CONTACT, stocked_for_drive),
 ];
 
 const GAPS: [Row; 1] = [("log_gap", LOG_GAP, stocked_for_cart)];
 
 /// Every proved question, on a shape and the same one moved away (`moved_away`). It takes the whole walk to find that a
 /// shape overlaps one that it is inside of. A log has as many records as the column says corners.
-pub const GROWTH: [(&str, Run, Make); 26] = [
+pub const GROWTH: [(&str, Run, Make); 30] = [
     ("judge", JUDGE[0], moved_away),
     ("furthest", FURTHEST[0], moved_away),
     ("mirror", MIRROR[0], moved_away),
@@ -212,14 +219,17 @@ pub const GROWTH: [(&str, Run, Make); 26] = [
     ("merge", MERGE[0], moved_away),
     ("grow", GROW[0], moved_away),
     ("sweep", SWEEP[0], moved_away),
+    ("ring", RING[0], drawn),
     ("length", LENGTH[0], moved_away),
     ("width", WIDTH[0], moved_away),
     ("area", AREA[0], moved_away),
+    ("box", BOX[0], moved_away),
     ("relation", RELATION[0], twice),
     ("inside", INSIDE[0], twice),
     ("offer", OFFER[0], moved_away),
     ("find", FIND[0], twice),
     ("clearance", CLEARANCE[0], moved_away),
+    ("greatest", GREATEST[0], moved_away),
     ("excess", EXCESS[0], moved_away),
     ("tangents", TANGENTS[0], moved_away),
     ("passage", PASSAGE[0], passing),
@@ -228,4 +238,5 @@ pub const GROWTH: [(&str, Run, Make); 26] = [
     ("log_add, records", LOG_ADD[0], moved_away),
     ("log_entry, records", LOG_ENTRY[0], stocked),
     ("log_nearest, records", LOG_NEAREST[0], stocked),
+    ("log_contact, records", LOG_CONTACT[0], stocked_for_drive),
 ];

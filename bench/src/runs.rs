@@ -35,7 +35,7 @@ macro_rules! both {
     };
 }
 
-/// The same for the calls on bytes, and perhaps of so many bytes of an output.
+/// The same for the calls on bytes, and perhaps of the bytes of an output.
 macro_rules! on_bytes {
     ($question:ident, $plain:ident($($k:literal),*)) => {
         [
@@ -58,14 +58,17 @@ pub const SUM: [Run; 2] = both!(sum(a, b; out));
 pub const MERGE: [Run; 2] = both!(merge(a, b; out));
 pub const GROW: [Run; 2] = both!(grow(a, b; out));
 pub const SWEEP: [Run; 2] = both!(sweep(a; out));
+pub const RING: [Run; 2] = both!(ring(a; out));
 pub const LENGTH: [Run; 2] = both!(length(a));
 pub const WIDTH: [Run; 2] = both!(width(a));
 pub const AREA: [Run; 2] = both!(area(a));
+pub const BOX: [Run; 2] = both!(least_box(a));
 pub const RELATION: [Run; 2] = both!(relation(a, b));
 pub const INSIDE: [Run; 2] = both!(inside(a, b));
 pub const OFFER: [Run; 2] = both!(offer(a, b; 3, 1));
 pub const FIND: [Run; 2] = both!(find(a, b));
 pub const CLEARANCE: [Run; 2] = both!(clearance(a, b));
+pub const GREATEST: [Run; 2] = both!(greatest(a, b));
 pub const EXCESS: [Run; 2] = both!(excess(a, b));
 pub const TANGENTS: [Run; 2] = both!(tangents(a, b));
 pub const PASSAGE: [Run; 2] = both!(passage(a, b, cart));
@@ -136,6 +139,22 @@ pub const LOG_NEAREST: [Run; 2] = [
 pub const LOG_GAP: [Run; 2] = [
     |cases| block(cases, |c, _| cocklesway::log_gap(&c.log, on(&c.a))),
     |cases| block(cases, |c, _| plain::log_gap(&c.log, &c.a, FLOOR)),
+];
+
+/// The same, on its way.
+pub const LOG_CONTACT: [Run; 2] = [
+    |cases| {
+        block(cases, |c, _| {
+            let [from, to] = c.way;
+            cocklesway::log_contact(&c.log, on(&c.a), from, to)
+        })
+    },
+    |cases| {
+        block(cases, |c, _| {
+            let [from, to] = c.way;
+            plain::log_contact(&c.log, &c.a, FLOOR, from, to)
+        })
+    },
 ];
 
 pub const LOG_ADD: [Run; 2] = [

@@ -1,5 +1,5 @@
-//! Shapes of so many corners: in general position, with edges of irregular directions and lengths; regular ones; and
-//! some with many parallel edges.
+//! Shapes of a given number of corners: in general position, with edges of irregular directions and lengths; regular
+//! ones; and some with many parallel edges.
 use crate::random::Random;
 
 /// A list of numbers, x y x y.
@@ -101,7 +101,7 @@ pub fn from_lowest(mut list: List) -> List {
     list
 }
 
-/// A shape with its middle at (x, y) whose edges come of so many segments and triangles with
+/// A shape with its middle at (x, y) whose edges come of a given number of segments and triangles with
 /// coordinates up to the reach: many are parallel if the reach is small. None at all is a point.
 pub fn grown(random: &mut Random, parts: usize, reach: i32, x: i32, y: i32) -> List {
     let mut edges = Vec::new();

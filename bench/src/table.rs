@@ -99,7 +99,7 @@ fn meter(n: usize, runs: &[Run], make: impl Fn(&mut Random) -> Case) -> Meter {
     Meter::new(n, runs, || make(&mut random))
 }
 
-/// The times of all meters, row by row, after so many rounds, in which all take turns.
+/// The times of all meters, row by row, after the given number of rounds, in which all take turns.
 fn measured(mut meters: Vec<Vec<Meter>>, rounds: usize) -> Vec<Vec<Vec<f64>>> {
     for round in 0..rounds {
         for meter in meters.iter_mut().flatten() {

@@ -1,12 +1,12 @@
 //! Questions asked of the library, and what it answers.
 use crate::given::{Given, Pair, Trio};
 use crate::question::{
-    Around, Call, Drive, Making, Narrowest, OfOne, OfTwo, Packing, Question, Record,
+    Around, Call, Drive, Making, Narrowest, OfOne, OfTwo, Packing, Past, Question, Record,
 };
 use cocklesway::{
-    Addition, Area, Book, Clearance, Contact, Corners, Excess, Furthest, Gap, Inside, Length,
-    Neighbour, Offer, Passage, Reading, Refusal, Relation, Separator, Standing, Tangents, Walk,
-    Width,
+    Addition, Area, Book, Clearance, Contact, Corners, Excess, Furthest, Gap, Greatest, Inside,
+    LeastBox, Length, Neighbour, Offer, Passage, Reading, Refusal, Relation, Separator, Standing,
+    Tangents, Walk, Width,
 };
 
 /// A question with its answer.
@@ -30,6 +30,8 @@ pub enum Answer {
     Nearest(Around, Neighbour, Given),
     /// Which two shapes of a log have the narrowest gap, and both grown by the cart.
     Gap(Narrowest, Gap, [Given; 2]),
+    /// Which shape of a log a cart first meets, and where.
+    Drive(Past, cocklesway::Drive),
     /// Where a cart first meets an obstacle.
     Contact(Drive, Contact),
 }
@@ -54,6 +56,8 @@ pub enum AboutOne {
     Length(Length),
     /// How wide it is.
     Width(Width),
+    /// The least box about it.
+    Box(LeastBox),
     /// How large it is.
     Area(Area),
 }
@@ -61,7 +65,7 @@ pub enum AboutOne {
 /// What is answered about two shapes.
 #[derive(Clone, Debug, PartialEq)]
 pub enum AboutTwo {
-    /// How they stand to each other.
+    /// How they relate to each other.
     Relation(Standing),
     /// Whether the first is inside the second.
     Inside(Inside),
@@ -71,6 +75,8 @@ pub enum AboutTwo {
     Find(Separator),
     /// Where they are nearest.
     Clearance(Clearance),
+    /// Where they are furthest apart.
+    Greatest(Greatest),
     /// How far the first reaches beyond the second.
     Excess(Excess),
     /// The lines that just touch both.
@@ -125,7 +131,7 @@ pub fn made(making: Making) -> Result<Given, Refused> {
     shape.map_err(|refusal| Refused::new(Question::Make(making, None), refusal))
 }
 
-/// Asks how two shapes stand to each other.
+/// Asks how two shapes relate to each other.
 ///
 /// # Errors
 /// The question, with its refusal.
@@ -169,6 +175,11 @@ fn answered(question: &Question) -> Result<Answer, Refusal> {
         Question::Pack(packing) => packed(packing)?,
         Question::Nearest(around) => nearest(around)?,
         Question::Gap(asked) => gap(asked)?,
+        Question::Drive(past) => {
+            let cart = past.cart.alone();
+            let found = cocklesway::log_contact(&past.log, cart, past.from, past.to)?;
+            Answer::Drive(past.clone(), found)
+        }
         Question::Contact(drive) => {
             let (obstacle, cart) = drive.pair.lent();
             let found = cocklesway::contact(obstacle, cart, drive.from, drive.to)?;
@@ -186,6 +197,7 @@ fn about_one(shape: &Given, asked: OfOne) -> Result<AboutOne, Refusal> {
         }
         OfOne::Length => AboutOne::Length(cocklesway::length(shape)?),
         OfOne::Width => AboutOne::Width(cocklesway::width(shape)?),
+        OfOne::Box => AboutOne::Box(cocklesway::least_box(shape)?),
         OfOne::Area => AboutOne::Area(cocklesway::area(shape)?),
     })
 }
@@ -198,6 +210,7 @@ fn about_two(pair: &Pair, asked: &OfTwo) -> Result<AboutTwo, Refusal> {
         OfTwo::Offer(towards) => AboutTwo::Offer(*towards, cocklesway::offer(a, b, *towards)?),
         OfTwo::Find => AboutTwo::Find(cocklesway::find(a, b)?),
         OfTwo::Clearance => AboutTwo::Clearance(cocklesway::clearance(a, b)?),
+        OfTwo::Greatest => AboutTwo::Greatest(cocklesway::greatest(a, b)?),
         OfTwo::Excess => AboutTwo::Excess(cocklesway::excess(a, b)?),
         OfTwo::Tangents => AboutTwo::Tangents(cocklesway::tangents(a, b)?),
         OfTwo::Parts(calls) => AboutTwo::Parts(parts(pair, calls)?),
@@ -225,6 +238,7 @@ fn made_of(making: &Making, room: Option<usize>) -> Result<Made, Refusal> {
     let shape = match making {
         Making::Mirror(shape) => cocklesway::mirror(shape.alone(), &mut out)?,
         Making::Sweep(points) => cocklesway::sweep(points.alone(), &mut out)?,
+        Making::Ring(points) => cocklesway::ring(points.alone(), &mut out)?,
         Making::Read { log, name } => cocklesway::log_read(log, *name, &mut out)?,
         Making::Entry { log, position } => {
             let (name, shape) = cocklesway::log_entry(log, *position, &mut out)?;
@@ -328,6 +342,7 @@ impl Answer {
             Answer::Packed(..) => "pack",
             Answer::Nearest(..) => "nearest",
             Answer::Gap(..) => "gap",
+            Answer::Drive(..) => "drive",
             Answer::Contact(..) => "contact",
         }
     }
@@ -345,6 +360,7 @@ impl Answer {
             Answer::Added(record, ..) => vec![&record.shape],
             Answer::Nearest(around, ..) => vec![&around.shape],
             Answer::Gap(asked, ..) => vec![&asked.cart],
+            Answer::Drive(past, _) => vec![&past.cart],
             Answer::Corner(..) | Answer::Packed(..) => Vec::new(),
         }
     }
@@ -357,6 +373,7 @@ impl AboutOne {
             AboutOne::Furthest(..) => "furthest",
             AboutOne::Length(_) => "length",
             AboutOne::Width(_) => "width",
+            AboutOne::Box(_) => "box",
             AboutOne::Area(_) => "area",
         }
     }
@@ -370,6 +387,7 @@ impl AboutTwo {
             AboutTwo::Offer(..) => "offer",
             AboutTwo::Find(_) => "find",
             AboutTwo::Clearance(_) => "clearance",
+            AboutTwo::Greatest(_) => "greatest",
             AboutTwo::Excess(_) => "excess",
             AboutTwo::Tangents(_) => "tangents",
             AboutTwo::Parts(_) => "parts",

@@ -1,5 +1,7 @@
 //! The table of commands, and how each of them ends.
-use crate::commands::{ask, check, draw};
+use crate::commands::{
+    ask, book, check, diff, draw, drive, export, gaps, import, nearest, passes, serve, stands,
+};
 use crate::escape::quoted;
 use crate::help;
 use crate::name::most_like;
@@ -47,6 +49,8 @@ pub enum Trouble {
 pub struct Command {
     /// Its name.
     pub name: &'static str,
+    /// What it takes besides its options.
+    pub takes: &'static str,
     /// What it does, in one line.
     pub does: &'static str,
     /// Its options.
@@ -58,7 +62,21 @@ pub struct Command {
 }
 
 /// The commands. A new one is a row here and a module of `commands`.
-pub const COMMANDS: &[Command] = &[ask::COMMAND, check::COMMAND, draw::COMMAND];
+pub const COMMANDS: &[Command] = &[
+    ask::COMMAND,
+    check::COMMAND,
+    gaps::COMMAND,
+    passes::COMMAND,
+    stands::COMMAND,
+    drive::COMMAND,
+    nearest::COMMAND,
+    diff::COMMAND,
+    draw::COMMAND,
+    import::COMMAND,
+    export::COMMAND,
+    book::COMMAND,
+    serve::COMMAND,
+];
 
 impl Status {
     /// Returns the number of the exit status.
@@ -198,11 +216,11 @@ impl Console<'_> {
         Ok(())
     }
 
-    /// Reads all files before anything is answered.
+    /// Reads all files, which are no maps.
     ///
     /// # Errors
-    /// There is none, one cannot be read, or two define the same name; all that is wrong is said.
-    pub fn sources(&mut self, files: &[OsString]) -> Result<Vec<Source>, Trouble> {
+    /// There is none, or one cannot be read; all that is wrong is said.
+    pub fn files(&mut self, files: &[OsString]) -> Result<Vec<Source>, Trouble> {
         if files.is_empty() {
             return Err(Misuse::NoFile.into());
         }
@@ -221,11 +239,23 @@ impl Console<'_> {
                 Err(why) => self.complain(&format!("{}: {why}", source::shown(file)))?,
             }
         }
+        if sources.len() < files.len() {
+            return Err(Trouble::Said(Status::Wrong));
+        }
+        Ok(sources)
+    }
+
+    /// Reads all maps before anything is answered.
+    ///
+    /// # Errors
+    /// There is none, one cannot be read, or two define the same name; all that is wrong is said.
+    pub fn sources(&mut self, files: &[OsString]) -> Result<Vec<Source>, Trouble> {
+        let sources = self.files(files)?;
         let again = defined_twice(&sources);
         for (place, fault) in &again {
             self.complain(&format!("{place}: {fault}"))?;
         }
-        if sources.len() < files.len() || !again.is_empty() {
+        if !again.is_empty() {
             return Err(Trouble::Said(Status::Wrong));
         }
         Ok(sources)

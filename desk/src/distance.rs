@@ -46,6 +46,22 @@ impl Distance {
         }
     }
 
+    /// Returns the distance t/√q.
+    ///
+    /// ```
+    /// use desk::distance::Distance;
+    ///
+    /// assert_eq!(Distance::of_side(16_000, 25).to_string(), "3.2 m");
+    /// assert_eq!(Distance::of_side(10, 10).to_string(), "3 mm (rounded down)");
+    /// ```
+    #[must_use]
+    pub fn of_side(turn: u64, squared: u64) -> Distance {
+        // t·t is below 2^88, and the root of a whole quotient is that of the fraction, both rounded down.
+        let square = u128::from(turn).pow(2).checked_div(squared.into());
+        let rounded = square.unwrap_or(0).isqrt();
+        Distance::of_turn(turn, squared, rounded.try_into().unwrap_or(u64::MAX))
+    }
+
     /// Returns the length of a fraction n/d, in lowest terms, of a way, which is so long rounded down.
     ///
     /// ```

@@ -93,6 +93,13 @@ pub enum Fault {
         /// The word.
         found: String,
     },
+    /// A word that is no unit.
+    NotAUnit {
+        /// The word.
+        found: String,
+    },
+    /// A length after a line that should say its unit and cannot be read.
+    NoUnit,
     /// A floor before the corners of an outline.
     FloorOfOutline,
     /// Another count of words than the field has.
@@ -267,6 +274,10 @@ impl Fault {
             Fault::MisplacedFloor { found } => {
                 write!(f, "the floor {} must be before all numbers of its field", quoted(found))
             }
+            Fault::NotAUnit { found } => {
+                write!(f, "{} is no unit: write `unit mm`, `unit cm` or `unit m`", quoted(found))
+            }
+            Fault::NoUnit => f.write_str("its unit is not known: a line `unit` before it cannot be read"),
             Fault::FloorOfOutline => f.write_str(
                 "an outline has no floor, it takes that of the question; a shape on a floor begins with `shape`",
             ),

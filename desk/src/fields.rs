@@ -6,7 +6,8 @@ use crate::map::{Entry, Map};
 use crate::name::Name;
 use crate::place::Place;
 use crate::question::Call;
-use crate::words::{byte, call, count, double, floor, is_numeric, list, number};
+use crate::unit::Unit;
+use crate::words::{byte, call, count, double, floor, is_numeric, length, list, number};
 use cocklesway::{Reading, Walk};
 
 /// Why a line is not asked.
@@ -27,6 +28,15 @@ pub enum Unread {
         name: Name,
         /// Where it was refused.
         at: Place,
+    },
+    /// It has a decimal that is no whole number of millimetres: refusal 18.
+    NotWhole {
+        /// The line of the file.
+        line: usize,
+        /// The word.
+        found: String,
+        /// Its unit.
+        unit: Unit,
     },
 }
 
@@ -55,6 +65,7 @@ pub struct Fields<'a> {
     map: &'a Map,
     left: std::slice::Iter<'a, Field<'a>>,
     line: usize,
+    unit: Option<Unit>,
 }
 
 impl<'a> Fields<'a> {
@@ -88,7 +99,15 @@ impl<'a> Fields<'a> {
             map,
             left: fields.iter(),
             line: line.number,
+            unit: Some(Unit::default()),
         })
+    }
+
+    /// Reads lengths in a unit; without one none can be read.
+    #[must_use]
+    pub fn in_unit(mut self, unit: Option<Unit>) -> Fields<'a> {
+        self.unit = unit;
+        self
     }
 
     /// The next field; an empty one if it was left out.
@@ -118,7 +137,7 @@ impl<'a> Fields<'a> {
     pub fn shape(&mut self) -> Result<Given, Unread> {
         match self.next() {
             [word] if !is_numeric(word.text) => self.named(word),
-            words => list(words, Some(0)),
+            words => list(words, Some(0), self.unit),
         }
     }
 
@@ -127,7 +146,7 @@ impl<'a> Fields<'a> {
     /// # Errors
     /// They are no numbers.
     pub fn list(&mut self) -> Result<Given, Unread> {
-        list(self.next(), Some(0))
+        list(self.next(), Some(0), self.unit)
     }
 
     /// Reads two shapes.
@@ -150,7 +169,7 @@ impl<'a> Fields<'a> {
                 self.outline_on(sign, word)?
             }
             [word] if !is_numeric(word.text) => self.named(word)?,
-            words => list(words, Some(0))?,
+            words => list(words, Some(0), self.unit)?,
         };
         Ok(Given {
             floor: given.floor.or(Some(0)),
@@ -192,7 +211,7 @@ impl<'a> Fields<'a> {
             [word, ..] if word.text.starts_with('@') => {
                 Err(Unread::at(word, Fault::FloorOfOutline))
             }
-            words => list(words, None),
+            words => list(words, None, self.unit),
         }
     }
 
@@ -201,7 +220,7 @@ impl<'a> Fields<'a> {
     /// # Errors
     /// It is no point.
     pub fn place(&mut self) -> Result<Given, Unread> {
-        let place = list(self.next(), None)?;
+        let place = list(self.next(), None, self.unit)?;
         let found = place.numbers.len();
         let wanted = "a place: x and y";
         if found == 2 {
@@ -225,7 +244,7 @@ impl<'a> Fields<'a> {
     /// It is not two numbers.
     pub fn end(&mut self) -> Result<[i32; 2], Unread> {
         let [x, y] = self.exactly("a place: x and y")?;
-        Ok([number(&x)?, number(&y)?])
+        Ok([length(&x, self.unit)?, length(&y, self.unit)?])
     }
 
     /// Reads a position, counted from 0.

@@ -8,6 +8,7 @@ A map is a text file, one thing a line:
 
     shape | linen-store | @2 3000 1000 4200 1000 4200 1800 3000 1800
     outline | cart | 0 0 600 0 600 900 0 900
+    ring | bed | @2 6000 4100 8000 4100 8000 3200 6000 3200 6000 4100
     grown = grow | linen-store | cart
 
 shape     a name, then the corners: the floor after @, and x y of each corner in whole millimetres,
@@ -15,7 +16,13 @@ shape     a name, then the corners: the floor after @, and x y of each corner in
           leftmost of several. One corner is a point, two are a segment. Without @ the floor is 0.
 outline   a shape without a floor, such as a cart around its origin 0 0. It takes the floor of the
           question.
-NAME =    keeps the shape that a question answers: grow, at, merge, sweep, sum, mirror, bookread, entry.
+ring      a name, then points as a drawing has them: closed or open, either way round, from any corner,
+          with points in line or repeated. It must be convex: one that is not is refused (4) with the
+          corner that turns in, and is never filled up.
+unit      mm, cm or m: the unit of all lengths after it in this file, mm without it. Lengths may have
+          decimals. They are read exactly; one that is no whole number of millimetres is refused (18).
+NAME =    keeps the shape that a question answers: grow, at, merge, sweep, ring, sum, mirror, bookread,
+          entry.
 shapes    lists all names.
 
 Fields are separated by |, numbers by blanks. # begins a comment, anywhere on a line. A line that
@@ -41,23 +48,38 @@ odd count of numbers has `numbers` instead. Corners are coordinates, edges are b
     width         corner, edge, turn, squared,      offer       direction, accepted
                   rounded                           find        direction, or null
     furthest      direction, first, last, value     tangents    left, right, crossing, reverse
-    area          twice, in mm²
+    area          twice, in mm²                     greatest    squared, first, second
+    box           edge, height, along, squared
     clearance     apart, rounded; first, second, squared or turn and squared
     excess        inside, up; first, second, squared or turn and squared
     passage       passable; direction, low, high, rounded
     contact       from, to, meets; numerator, denominator, safe
-    grow, at, merge, sweep, sum, mirror, bookread   made
+    grow, at, merge, sweep, ring, sum, mirror, bookread     made
     parts         calls: corners or refused         part        corners, walk
     tablet        corner                            bookadd     finished, log
     pack          but, or null; finished, log       entry       made, record
     nearest       but, or null; record; then as clearance, of the shape and that of the record
     gap           records; then as clearance, of both shapes after they are grown
+    drive         as contact; record, if it meets one
 
-`turn` is t and `squared` is q of a distance t/√q; `squared` alone is the square of the distance.
+`turn` is t and `squared` is q of a distance t/√q; `squared` alone is the square of the distance. The sides
+of a box are `height`/√q across its edge and `along`/√q along it.
 
-    refused       number, reason; shape (0 to 3), edge and corner by their positions, place, axis
+    refused       number, reason; shape (0 to 3), edge and corner by their positions, place, axis;
+                  of a ring before and corner by their positions
     not_asked     name and at: a shape of the question was refused there
     replaces      where the earlier shape of the name is
+
+Commands on whole floors have one object an answer, with `floor`, names of shapes and the sentence:
+
+    gaps          cart, names; then as clearance, of both obstacles or of what they are when grown
+    passes        as passage
+    stands        cart, state, overlaps, touches, nearest; then as clearance
+    drive         leg, from, to, meets, name; as contact, or as clearance of all that is passed over
+    nearest       shape, name; then as clearance
+    check         remark: overlapping, equal or case; names
+    diff          change, name, old, new; up and back if it changed. With --answers: file, line,
+                  question, stays, was and least, or gone
 
 Lines that cannot be read are errors on standard error.
 ";
@@ -67,15 +89,16 @@ const REFUSALS: &str = "\
 A refusal has a number, the same everywhere in Cocklesway:
 
      1  the list is empty or holds an odd count of numbers
-     2  it has more than 1,024 corners
+     2  it has more than 1,024 corners; the closing point of a ring is not counted
      3  a coordinate is outside -1,000,000 to 1,000,000
-     4  two equal corners in a list of two, or a corner that is not strictly left of an edge
+     4  two equal corners in a list of two, or a corner that is not strictly left of an edge; or a ring
+        that is not convex
      5  the first corner is not the lowest, and the leftmost of the lowest
      6  the answer has more than 1,024 corners
      7  a corner of the answer is out of range
      8  the room that was given holds fewer numbers than the answer
      9  the shapes are not apart, and the lines that just touch both are asked for
-    10  the width of a point or a segment is asked for
+    10  the width or the least box of a point or a segment is asked for
     11  the direction is 0 0, or a part of it is outside -2,000,000 to 2,000,000
     12  the two parts of the direction have a common divisor above 1
     13  the two shapes are on different floors
@@ -130,8 +153,9 @@ pub fn version() -> String {
 #[must_use]
 pub fn of_command(command: &Command) -> String {
     let mut page = format!(
-        "Usage: cocklesway {} [OPTIONS] FILE..\n\n{}.\n\n",
+        "Usage: cocklesway {} [OPTIONS] {}\n\n{}.\n\n",
         command.name,
+        command.takes,
         capital(command.does)
     );
     for option in command.options {

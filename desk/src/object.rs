@@ -4,13 +4,14 @@ use crate::given::{Given, Pair};
 use crate::json::Json;
 use crate::name::Name;
 use crate::place::Place;
-use crate::question::Drive;
+use crate::question::{Drive, Past};
 use crate::refusal::{hexadecimal, reason};
 use crate::report;
 use crate::session::{Event, Outcome};
+use crate::unit::Unit;
 use cocklesway::{
-    Across, Addition, Axis, Beyond, Contact, Excess, Line, Nearest, Passage, Refusal, Relation,
-    Tangents, Which, Width,
+    Across, Addition, Axis, Beyond, Contact, Excess, LeastBox, Line, Meeting, Nearest, Passage,
+    Refusal, Relation, Tangents, Which, Width,
 };
 
 type Members = Vec<(&'static str, Json)>;
@@ -47,14 +48,8 @@ fn outcome(outcome: &Outcome) -> Members {
             [shape].into_iter().chain(replaced(earlier)).collect()
         }
         Outcome::Answered { answer, earlier } => {
-            let question = ("question", answer.word().into());
-            let asked = [question, ("shapes", list(answer.shapes()))];
-            let answer = answered(answer).into_iter();
-            asked
-                .into_iter()
-                .chain(answer)
-                .chain(replaced(earlier))
-                .collect()
+            let members = of_answer(answer).into_iter();
+            members.chain(replaced(earlier)).collect()
         }
         Outcome::Listed(shapes) => {
             vec![
@@ -68,7 +63,27 @@ fn outcome(outcome: &Outcome) -> Members {
             ("refused", refusal(refused.refusal, reason(refused))),
         ],
         Outcome::Removed { name, at } => vec![("not_asked", removed(name, at))],
+        Outcome::NotWhole { found, unit } => not_whole(found, *unit),
+        Outcome::Measured(unit) => vec![("unit", unit.to_string().into())],
     }
+}
+
+/// The members of a question and its answer.
+fn of_answer(answer: &Answer) -> Members {
+    let shapes = answer.shapes().into_iter().map(shape_of).collect();
+    let mut members = vec![
+        ("question", answer.word().into()),
+        ("shapes", Json::List(shapes)),
+    ];
+    members.extend(answered(answer));
+    members
+}
+
+/// The members of a length that is no whole number of millimetres.
+fn not_whole(found: &str, unit: Unit) -> Members {
+    let reason = report::not_whole(found, unit);
+    let members = vec![("number", 18_u64.into()), ("reason", reason.into())];
+    vec![("refused", Json::Object(members))]
 }
 
 /// A name whose definition was refused, and where.
@@ -84,8 +99,9 @@ fn place(place: &Place) -> Json {
     Json::Object(place_of(place))
 }
 
-/// A shape with its name, its floor and its corners; a list that has an odd count of numbers has these instead.
-fn shape_of(shape: &Given) -> Json {
+/// Returns a shape with its name, its floor and its corners; a list that has an odd count of numbers has these instead.
+#[must_use]
+pub fn shape_of(shape: &Given) -> Json {
     let name = shape.name.as_ref().map(Name::as_str);
     let floor = shape.floor.map(i64::from);
     let list = if shape.numbers.len().is_multiple_of(2) {
@@ -100,13 +116,18 @@ fn shape_of(shape: &Given) -> Json {
     Json::Object(vec![("name", name.into()), ("floor", floor.into()), list])
 }
 
-fn refusal(refusal: Refusal, reason: String) -> Json {
+/// Returns the number of a refusal, what it carries, and its reason.
+#[must_use]
+pub fn refusal(refusal: Refusal, reason: String) -> Json {
     let mut members: Members = vec![("number", refusal.number().into())];
     let shape = refusal.shape().map(position_of);
     members.extend(shape.map(|shape| ("shape", shape.into())));
     match refusal {
         Refusal::Side { edge, corner, .. } => {
             members.extend([("edge", edge.into()), ("corner", corner.into())]);
+        }
+        Refusal::NotConvex { before, corner } => {
+            members.extend([("before", before.into()), ("corner", corner.into())]);
         }
         Refusal::Damaged { place } => members.push(("place", place.into())),
         Refusal::NotFinite { axis } | Refusal::NotWhole { axis } | Refusal::FarReading { axis } => {
@@ -128,8 +149,9 @@ fn position_of(which: Which) -> usize {
     }
 }
 
-/// The members of an answer.
-fn answered(answer: &Answer) -> Members {
+/// Returns the members of an answer.
+#[must_use]
+pub fn answered(answer: &Answer) -> Members {
     match answer {
         Answer::One(shape, about) => about_one(shape, about),
         Answer::Two(pair, about) => about_two(pair, about),
@@ -161,17 +183,34 @@ fn answered(answer: &Answer) -> Members {
             let places = clearance([one, other], found.nearest, found.rounded());
             [records].into_iter().chain(places).collect()
         }
+        Answer::Drive(past, found) => driven(past, *found),
         Answer::Contact(drive, found) => contact(drive, *found),
     }
 }
 
+fn driven(past: &Past, found: cocklesway::Drive) -> Members {
+    let record = found
+        .first
+        .map(|(name, _)| ("record", u64::from(name).into()));
+    let way = on_way(
+        [past.from, past.to],
+        found.first.map(|(_, meeting)| meeting),
+    );
+    way.into_iter().chain(record).collect()
+}
+
 fn contact(drive: &Drive, found: Contact) -> Members {
+    on_way([drive.from, drive.to], found.meeting)
+}
+
+/// The ends of a way, and where on it something is met.
+fn on_way([from, to]: [[i32; 2]; 2], meeting: Option<Meeting>) -> Members {
     let mut members = vec![
-        ("from", drive.from.into()),
-        ("to", drive.to.into()),
-        ("meets", found.meeting.is_some().into()),
+        ("from", from.into()),
+        ("to", to.into()),
+        ("meets", meeting.is_some().into()),
     ];
-    members.extend(found.meeting.into_iter().flat_map(|meeting| {
+    members.extend(meeting.into_iter().flat_map(|meeting| {
         [
             ("numerator", meeting.numerator.into()),
             ("denominator", meeting.denominator.into()),
@@ -209,6 +248,7 @@ fn about_one(shape: &Given, about: &AboutOne) -> Members {
             ("to", shape.corner(found.to).0.into()),
         ],
         AboutOne::Width(found) => width(shape, *found),
+        AboutOne::Box(found) => least_box(shape, *found),
         AboutOne::Area(found) => vec![("twice", found.twice.into())],
     }
 }
@@ -220,6 +260,15 @@ fn width(shape: &Given, found: Width) -> Members {
         ("turn", found.turn.into()),
         ("squared", found.squared.into()),
         ("rounded", found.rounded.into()),
+    ]
+}
+
+fn least_box(shape: &Given, found: LeastBox) -> Members {
+    vec![
+        ("edge", edge(shape, found.edge)),
+        ("height", found.height.into()),
+        ("along", found.along.into()),
+        ("squared", found.squared.into()),
     ]
 }
 
@@ -235,6 +284,11 @@ fn about_two(pair: &Pair, about: &AboutTwo) -> Members {
         }
         AboutTwo::Find(found) => vec![("direction", found.direction.into())],
         AboutTwo::Clearance(found) => clearance([&pair.a, &pair.b], found.nearest, found.rounded()),
+        AboutTwo::Greatest(found) => vec![
+            ("squared", found.squared.into()),
+            ("first", pair.a.corner(found.first).0.into()),
+            ("second", pair.b.corner(found.second).0.into()),
+        ],
         AboutTwo::Excess(found) => excess(pair, *found),
         AboutTwo::Tangents(found) => tangents(pair, *found),
         AboutTwo::Parts(written) => vec![("calls", Json::List(written.iter().map(call).collect()))],
@@ -248,7 +302,9 @@ fn about_two(pair: &Pair, about: &AboutTwo) -> Members {
     }
 }
 
-fn relation(found: Relation) -> &'static str {
+/// Returns the word for how two shapes are to each other.
+#[must_use]
+pub fn relation(found: Relation) -> &'static str {
     match found {
         Relation::Apart => "apart",
         Relation::Touching => "touching",
@@ -256,7 +312,9 @@ fn relation(found: Relation) -> &'static str {
     }
 }
 
-fn clearance([a, b]: [&Given; 2], nearest: Option<Nearest>, rounded: u64) -> Members {
+/// Returns the members of how near two shapes are, and where.
+#[must_use]
+pub fn clearance([a, b]: [&Given; 2], nearest: Option<Nearest>, rounded: u64) -> Members {
     let mut members = vec![
         ("apart", nearest.is_some().into()),
         ("rounded", rounded.into()),

@@ -47,7 +47,7 @@ pub enum Misuse {
     Other(String),
 }
 
-/// Takes arguments apart. After `--` all are files; `-` is a file, standard input.
+/// Takes arguments apart. After `--` all are files; `-` is a file, standard input. A minus before a digit is no option.
 ///
 /// # Errors
 /// Why they cannot be used.
@@ -60,7 +60,7 @@ pub fn parse(known: &[Known], arguments: &[OsString]) -> Result<Arguments, Misus
             "--" => parsed.files.extend(left.by_ref().cloned()),
             "-h" | "--help" => parsed.help = true,
             "-" => parsed.files.push(argument.clone()),
-            option if option.starts_with('-') => {
+            option if option.starts_with('-') && !is_negative(option) => {
                 let (name, value) = split(argument, option);
                 let option = find(known, &name)?;
                 let given = parsed
@@ -78,6 +78,11 @@ pub fn parse(known: &[Known], arguments: &[OsString]) -> Result<Arguments, Misus
         }
     }
     Ok(parsed)
+}
+
+/// Whether a word that begins with a minus is a number. No option begins so.
+fn is_negative(word: &str) -> bool {
+    word.chars().nth(1).is_some_and(|c| c.is_ascii_digit())
 }
 
 /// The name of an option, and the value after its equals sign.

@@ -23,6 +23,8 @@ pub enum Question {
     Nearest(Around),
     /// The two current shapes of a log with the narrowest gap.
     Gap(Narrowest),
+    /// The current shape of a log that a cart first meets.
+    Drive(Past),
     /// Where a cart first meets an obstacle.
     Contact(Drive),
 }
@@ -38,6 +40,8 @@ pub enum OfOne {
     Length,
     /// How wide is it?
     Width,
+    /// What is the least box about it?
+    Box,
     /// How large is it?
     Area,
 }
@@ -55,6 +59,8 @@ pub enum OfTwo {
     Find,
     /// How near are they?
     Clearance,
+    /// How far apart are they at most?
+    Greatest,
     /// How far does the first reach beyond the second?
     Excess,
     /// Which lines just touch both?
@@ -78,6 +84,8 @@ pub enum Making {
     Grow(Pair),
     /// The shape of points in any order.
     Sweep(Given),
+    /// The shape of a ring as people draw it.
+    Ring(Given),
     /// A shape, moved by the vector to a point.
     At(Pair),
     /// The latest shape of a name in a log.
@@ -151,6 +159,19 @@ pub struct Narrowest {
     pub cart: Given,
 }
 
+/// The shapes of a log on a floor, and a straight drive past them.
+#[derive(Clone, Debug, PartialEq, Eq)]
+pub struct Past {
+    /// The bytes of the log.
+    pub log: Vec<u8>,
+    /// The cart's outline, on the floor.
+    pub cart: Given,
+    /// The place of departure.
+    pub from: [i32; 2],
+    /// The destination.
+    pub to: [i32; 2],
+}
+
 /// A straight drive past an obstacle.
 #[derive(Clone, Debug, PartialEq, Eq)]
 pub struct Drive {
@@ -176,6 +197,7 @@ impl Question {
             Question::Pack(_) => "pack",
             Question::Nearest(_) => "nearest",
             Question::Gap(_) => "gap",
+            Question::Drive(_) => "drive",
             Question::Contact(_) => "contact",
         }
     }
@@ -187,7 +209,8 @@ impl Question {
             Question::One(shape, _)
             | Question::Add(Record { shape, .. })
             | Question::Nearest(Around { shape, .. })
-            | Question::Gap(Narrowest { cart: shape, .. }) => vec![shape],
+            | Question::Gap(Narrowest { cart: shape, .. })
+            | Question::Drive(Past { cart: shape, .. }) => vec![shape],
             Question::Two(pair, _) | Question::Contact(Drive { pair, .. }) => {
                 vec![&pair.a, &pair.b]
             }
@@ -207,6 +230,7 @@ impl OfOne {
             OfOne::Furthest(_) => "furthest",
             OfOne::Length => "length",
             OfOne::Width => "width",
+            OfOne::Box => "box",
             OfOne::Area => "area",
         }
     }
@@ -222,6 +246,7 @@ impl OfTwo {
             OfTwo::Offer(_) => "offer",
             OfTwo::Find => "find",
             OfTwo::Clearance => "clearance",
+            OfTwo::Greatest => "greatest",
             OfTwo::Excess => "excess",
             OfTwo::Tangents => "tangents",
             OfTwo::Parts(_) => "parts",
@@ -240,6 +265,7 @@ impl Making {
             Making::Merge(_) => "merge",
             Making::Grow(_) => "grow",
             Making::Sweep(_) => "sweep",
+            Making::Ring(_) => "ring",
             Making::At(_) => "at",
             Making::Read { .. } => "bookread",
             Making::Entry { .. } => "entry",
@@ -250,7 +276,7 @@ impl Making {
     #[must_use]
     pub fn shapes(&self) -> Vec<&Given> {
         match self {
-            Making::Mirror(shape) | Making::Sweep(shape) => vec![shape],
+            Making::Mirror(shape) | Making::Sweep(shape) | Making::Ring(shape) => vec![shape],
             Making::Sum(pair) | Making::Merge(pair) | Making::Grow(pair) | Making::At(pair) => {
                 vec![&pair.a, &pair.b]
             }

@@ -1,7 +1,7 @@
 //! Refusals in plain words: which shape, which corner, and what to do about it.
 use crate::answer::{Refused, shape_of};
 use crate::given::{Corner, Given, Pair, Trio};
-use crate::question::{Call, Drive, Making, Narrowest, OfOne, OfTwo, Question, Record};
+use crate::question::{Call, Making, OfOne, OfTwo, Question, Record};
 use crate::whole_floor;
 use cocklesway::{Axis, Reading, Refusal, Which, judge, limits};
 use std::fmt::Write;
@@ -15,6 +15,7 @@ pub fn reason(refused: &Refused) -> String {
         | Refusal::Corners { .. }
         | Refusal::Range { .. }
         | Refusal::Side { .. }
+        | Refusal::NotConvex { .. }
         | Refusal::Start { .. } => of_list(question, *refusal),
         Refusal::LargeAnswer | Refusal::FarAnswer | Refusal::Room => of_answer(question, *refusal),
         Refusal::Direction | Refusal::NotPrimitive => of_direction(question, *refusal),
@@ -51,10 +52,14 @@ pub fn hexadecimal(bytes: &[u8]) -> String {
 /// The refusals that blame a list.
 fn of_list(question: &Question, refusal: Refusal) -> String {
     let shapes = question.shapes();
-    if let (Question::Contact(drive), Some(Which::Third | Which::Fourth)) =
-        (question, refusal.shape())
-    {
-        return far_place(drive);
+    match (question, refusal.shape()) {
+        (Question::Contact(drive), Some(Which::Third | Which::Fourth)) => {
+            return far_place([drive.from, drive.to]);
+        }
+        (Question::Drive(past), Some(Which::Second | Which::Third)) => {
+            return far_place([past.from, past.to]);
+        }
+        _ => {}
     }
     let blamed = match refusal.shape() {
         Some(Which::Second) => shapes.get(1),
@@ -65,14 +70,15 @@ fn of_list(question: &Question, refusal: Refusal) -> String {
         return refusal.to_string();
     };
     let noun = match question {
-        Question::Make(Making::Sweep(_), _) => "point",
+        Question::Make(Making::Sweep(_) | Making::Ring(_), _) => "point",
         _ => "corner",
     };
     match refusal {
         Refusal::Count { .. } => count(shape, noun),
-        Refusal::Corners { .. } => many(shape, noun),
+        Refusal::Corners { .. } => many(shape, counted(question, shape), noun),
         Refusal::Range { .. } => far(shape, noun),
         Refusal::Side { edge, corner, .. } => side(shape, edge, corner),
+        Refusal::NotConvex { before, corner } => not_convex(shape, before, corner),
         _ => start(shape),
     }
 }
@@ -85,8 +91,18 @@ fn count(shape: &Given, noun: &str) -> String {
     }
 }
 
-fn many(shape: &Given, noun: &str) -> String {
-    let (count, most) = (shape.corners().len(), limits().corners);
+/// How many corners or points of a list count: all but the closing one of a ring.
+fn counted(question: &Question, shape: &Given) -> usize {
+    match (question, shape.corners()) {
+        (Question::Make(Making::Ring(_), _), [first, open @ .., last]) if first == last => {
+            open.len() + 1
+        }
+        (_, all) => all.len(),
+    }
+}
+
+fn many(shape: &Given, count: usize, noun: &str) -> String {
+    let most = limits().corners;
     format!("{shape} has {count} {noun}s; at most {most} are allowed")
 }
 
@@ -103,12 +119,8 @@ fn far(shape: &Given, noun: &str) -> String {
 }
 
 /// The place of departure, or the destination if only that is out of range.
-fn far_place(drive: &Drive) -> String {
-    let place = if is_far(drive.from) {
-        drive.from
-    } else {
-        drive.to
-    };
+fn far_place([from, to]: [[i32; 2]; 2]) -> String {
+    let place = if is_far(from) { from } else { to };
     out_of_range(&format!("the place {}", Corner(place)))
 }
 
@@ -140,13 +152,21 @@ fn side(shape: &Given, edge: usize, corner: usize) -> String {
     )
 }
 
+/// A ring that does not go once round a shape.
+fn not_convex(shape: &Given, before: usize, corner: usize) -> String {
+    let [before, at] = [before, corner].map(|position| shape.corner(position));
+    format!(
+        "{shape} is no convex ring: after {before} it turns in or back at {at}, or begins to go round again there"
+    )
+}
+
 /// Whether a corner is strictly to the right of an edge. Coordinates are in range, so the products are in 64 bits.
 fn is_right(Corner(a): Corner, Corner(b): Corner, Corner(c): Corner) -> bool {
     let [[ax, ay], [bx, by], [cx, cy]] = [a, b, c].map(|corner| corner.map(i64::from));
     (bx - ax) * (cy - ay) < (by - ay) * (cx - ax)
 }
 
-/// What may have been meant. Whether the other list is a shape is asked of the library.
+/// What may have been meant. Whether another list is a shape, or this one a ring, is asked of the library.
 fn hint(corners: &[[i32; 2]]) -> &'static str {
     if let [first, .., last] = corners
         && first == last
@@ -157,6 +177,10 @@ fn hint(corners: &[[i32; 2]]) -> &'static str {
     rotate_to_lowest(&mut reversed);
     if judge(cocklesway::Shape::new(&reversed, 0)).is_ok() {
         return "; the corners are in clockwise order, write them counterclockwise";
+    }
+    let mut out = vec![[0; 2]; limits().corners];
+    if cocklesway::ring(cocklesway::Shape::new(corners, 0), &mut out).is_ok() {
+        return "; the question `ring` makes a shape of such a list";
     }
     ""
 }
@@ -181,7 +205,8 @@ fn of_answer(question: &Question, refusal: Refusal) -> String {
     match question {
         Question::Passage(trio) => return of_grown(&trio.grown(), refusal),
         Question::Contact(drive) => return of_grown(std::slice::from_ref(&drive.pair), refusal),
-        Question::Gap(asked) => return of_gap(asked, refusal),
+        Question::Gap(asked) => return of_records(&asked.log, &asked.cart, refusal),
+        Question::Drive(past) => return of_records(&past.log, &past.cart, refusal),
         _ => {}
     }
     match refusal {
@@ -201,8 +226,8 @@ fn of_grown(pairs: &[Pair], refusal: Refusal) -> String {
 }
 
 /// The record that is too large or too far when it is grown.
-fn of_gap(asked: &Narrowest, refusal: Refusal) -> String {
-    match whole_floor::refused_when_grown(asked, refusal) {
+fn of_records(log: &[u8], cart: &Given, refusal: Refusal) -> String {
+    match whole_floor::refused_when_grown(log, cart, refusal) {
         Some((name, pair)) => grown(&format!("record {name}"), &pair, refusal),
         None => refusal.to_string(),
     }
@@ -295,8 +320,9 @@ fn of_direction(question: &Question, refusal: Refusal) -> String {
     }
 }
 
-/// The greatest common divisor, by Euclid's remainders.
-fn divisor(a: u32, b: u32) -> u32 {
+/// Returns the greatest common divisor, by Euclid's remainders.
+#[must_use]
+pub fn divisor(a: u32, b: u32) -> u32 {
     if b == 0 { a } else { divisor(b, a % b) }
 }
 
@@ -336,7 +362,8 @@ fn of_question(question: &Question, refusal: Refusal) -> String {
                 "{a} and {b} are not apart, and only shapes that are have lines that just touch both"
             )
         }
-        (Refusal::Flat, [shape, ..], _) => flat(shape),
+        (Refusal::Flat, [shape, ..], Question::One(_, OfOne::Box)) => flat(shape, "box"),
+        (Refusal::Flat, [shape, ..], _) => flat(shape, "width"),
         (Refusal::Floors, [a, b], _) => floors(a, b, 0),
         (Refusal::Floors, _, Question::Passage(trio)) => floors_of_three(trio),
         (Refusal::NotAPlace, [a, b], Question::Two(_, OfTwo::Part(walk, _))) => {
@@ -360,13 +387,13 @@ fn of_question(question: &Question, refusal: Refusal) -> String {
     }
 }
 
-fn flat(shape: &Given) -> String {
+fn flat(shape: &Given, lacks: &str) -> String {
     let what = if shape.corners().len() == 1 {
         "point"
     } else {
         "segment"
     };
-    format!("{shape} is a {what} and has no width")
+    format!("{shape} is a {what} and has no {lacks}")
 }
 
 /// The left obstacle, and the first of the others that is on another floor. An outline takes that of the question.

@@ -6,10 +6,10 @@ use crate::extent::Extent;
 use crate::given::{Corner, Edge, Given, Pair, Trio};
 use crate::question::{Drive, Making, Packing, Record};
 use crate::refusal;
-use crate::whole_floor::{gap, neighbour};
+use crate::whole_floor::{first_met, gap, neighbour};
 use cocklesway::{
-    Addition, Beyond, Clearance, Contact, Excess, Furthest, Line, Offer, Passage, Reading,
-    Relation, Separator, Tangents, Walk, Width,
+    Addition, Beyond, Clearance, Contact, Excess, Furthest, Greatest, LeastBox, Line, Meeting,
+    Offer, Passage, Reading, Relation, Separator, Tangents, Walk, Width,
 };
 
 /// Returns the sentence of an answer.
@@ -25,6 +25,7 @@ pub fn sentence(answer: &Answer) -> String {
         Answer::Packed(packing, addition, log) => packed(packing, *addition, log),
         Answer::Nearest(around, found, near) => neighbour(around, *found, near),
         Answer::Gap(asked, found, grown) => gap(asked, *found, grown),
+        Answer::Drive(past, found) => first_met(past, *found),
         Answer::Contact(drive, found) => contact(drive, *found),
     }
 }
@@ -35,6 +36,7 @@ fn about_one(shape: &Given, about: &AboutOne) -> String {
         AboutOne::Furthest(towards, found) => furthest(shape, *towards, *found),
         AboutOne::Length(found) => length(shape, found.squared, [found.from, found.to]),
         AboutOne::Width(found) => width(shape, *found),
+        AboutOne::Box(found) => least_box(shape, *found),
         AboutOne::Area(found) => area(shape, found.twice),
     }
 }
@@ -46,6 +48,7 @@ fn about_two(pair: &Pair, about: &AboutTwo) -> String {
         AboutTwo::Offer(towards, found) => offer(pair, *towards, *found),
         AboutTwo::Find(found) => find(pair, *found),
         AboutTwo::Clearance(found) => clearance(pair, *found),
+        AboutTwo::Greatest(found) => greatest(pair, *found),
         AboutTwo::Excess(found) => excess(pair, *found),
         AboutTwo::Tangents(found) => tangents(pair, *found),
         AboutTwo::Parts(written) => parts(pair, written),
@@ -142,6 +145,13 @@ fn width(shape: &Given, found: Width) -> String {
     format!("{shape} is {distance} wide, from {corner} to the line of its edge {edge}")
 }
 
+fn least_box(shape: &Given, found: LeastBox) -> String {
+    let [along, across] =
+        [found.along, found.height].map(|side| Distance::of_side(side, found.squared));
+    let edge = shape.edge(found.edge);
+    format!("the least box about {shape} is {along} along its edge {edge} and {across} across it")
+}
+
 fn area(shape: &Given, twice: u64) -> String {
     format!("{shape} has an area of {}", Extent::of_twice(twice))
 }
@@ -191,6 +201,15 @@ pub fn clearance(pair: &Pair, found: Clearance) -> String {
     }
 }
 
+fn greatest(Pair { a, b }: &Pair, found: Greatest) -> String {
+    let [first, second] = [
+        Called::own(a).corner(found.first),
+        Called::own(b).corner(found.second),
+    ];
+    let distance = Distance::of_square(found.squared);
+    format!("the greatest distance of {a} and {b} is {distance}, between {first} and {second}")
+}
+
 /// Returns how near two shapes are, and between which corners and edges; nothing if they are not apart.
 #[must_use]
 pub fn nearest(Pair { a, b }: &Pair, found: Clearance) -> Option<(Distance, String)> {
@@ -207,15 +226,21 @@ fn contact(Drive { pair, from, to }: &Drive, found: Contact) -> String {
         },
         way,
     ) = (pair, Edge(Corner(*from), Corner(*to)));
-    let Some(meeting) = found.meeting else {
-        return format!("{cart} is clear of {obstacle} all the way from {way}");
-    };
+    match found.meeting {
+        Some(meeting) => format!("{cart} meets {obstacle} {}", on_way(meeting, way)),
+        None => format!("{cart} is clear of {obstacle} all the way from {way}"),
+    }
+}
+
+/// Returns where on its way a cart meets something.
+#[must_use]
+pub fn on_way(meeting: Meeting, way: Edge) -> String {
     let (n, d) = (meeting.numerator, meeting.denominator);
     if n == 0 {
-        return format!("{cart} meets {obstacle} where it begins its way from {way}");
+        return format!("where it begins its way from {way}");
     }
     let distance = Distance::of_part([n, d], way.squared(), meeting.safe);
-    format!("{cart} meets {obstacle} after {distance}, at {n}/{d} of the way from {way}")
+    format!("after {distance}, at {n}/{d} of the way from {way}")
 }
 
 /// Says how far a changed shape reaches beyond the old one, in whole millimetres rounded up, and where.
@@ -266,6 +291,7 @@ fn made(making: &Making, Made { shape, record }: &Made) -> String {
         (None, Making::Merge(Pair { a, b })) => format!("{a} merged with {b}"),
         (None, Making::Grow(Pair { a, b })) => format!("{a} grown by {b}"),
         (None, Making::Sweep(_)) => "the shape of these points".to_string(),
+        (None, Making::Ring(_)) => "the shape of this ring".to_string(),
         (None, Making::At(Pair { a, b })) => format!("{a} at {}", b.corner(0)),
         (None, Making::Read { name, .. }) => format!("name {name} of the log"),
         (None, Making::Entry { position, .. }) => format!("entry {position} of the log"),

@@ -2,17 +2,18 @@
 //!
 //! Every line of a file gives exactly one event. A definition that is refused or cannot be read removes its name, so
 //! that no later question is answered with a shape from before it.
-use crate::answer::{Answer, Made, Refused, ask};
+use crate::answer::{Answer, Made, Refused, ask, made};
 use crate::fault::Fault;
-use crate::fields::{Fields, Unread, name_of};
+use crate::fields::{Fields, Part, Unread, name_of};
 use crate::given::Given;
 use crate::lines::{Line, lines, text_of};
 use crate::map::{Entry, Map, Origin};
 use crate::name::{Name, most_like};
 use crate::place::Place;
-use crate::question::{OfOne, Question};
+use crate::question::{Making, OfOne, Question};
 use crate::source::Source;
 use crate::table;
+use crate::unit::Unit;
 use crate::words::is_numeric;
 use std::collections::{HashMap, HashSet};
 use std::sync::Arc;
@@ -58,6 +59,15 @@ pub enum Outcome {
         /// Where it was refused.
         at: Place,
     },
+    /// A length is no whole number of millimetres: refusal 18.
+    NotWhole {
+        /// The word.
+        found: String,
+        /// Its unit.
+        unit: Unit,
+    },
+    /// Lengths are in this unit from here on.
+    Measured(Unit),
     /// The line cannot be read.
     Unreadable(Fault),
 }
@@ -76,15 +86,29 @@ impl Event {
 }
 
 /// The shapes so far.
-#[derive(Clone, Debug, Default)]
+#[derive(Clone, Debug)]
 pub struct Session {
     map: Map,
     only_definitions: bool,
+    /// The unit of lengths. It is not known after a line that should say it and cannot be read.
+    unit: Option<Unit>,
+}
+
+impl Default for Session {
+    fn default() -> Session {
+        Session {
+            map: Map::default(),
+            only_definitions: false,
+            unit: Some(Unit::default()),
+        }
+    }
 }
 
 /// What a line is.
 enum Said {
     Shape(Name, Given),
+    Ring(Name, Given),
+    Unit(Unit),
     Question(Option<Name>, Question),
     Shapes,
 }
@@ -111,6 +135,23 @@ impl Session {
         &self.map
     }
 
+    /// Reads the question of a line by the shapes so far, and does not ask it.
+    ///
+    /// # Errors
+    /// It cannot be read, or it is a definition.
+    pub fn question_of(&self, line: &Line<'_>) -> Result<Question, Unread> {
+        if let Some((line, fault)) = line.fault.clone() {
+            return Err(Unread::Fault { line, fault });
+        }
+        match word_of(line)? {
+            (word, false) if table::find(word).is_some() => match self.question(word, line)? {
+                Said::Question(_, question) => Ok(question),
+                _ => Err(unknown(line, word)),
+            },
+            (word, _) => Err(unknown(line, word)),
+        }
+    }
+
     /// Takes all lines of a file, and hands out what came of each.
     ///
     /// # Errors
@@ -123,6 +164,7 @@ impl Session {
         let text = text_of(&source.bytes);
         let lines = lines(&source.bytes, &text);
         let mut before = None;
+        self.unit = Some(Unit::default());
         for (at, line) in lines.iter().enumerate() {
             receive(self.line(&source.name, before, line, lines.get(at + 1)))?;
             before = if is_left_over(line) {
@@ -131,6 +173,7 @@ impl Session {
                 Some(line)
             };
         }
+        self.unit = Some(Unit::default());
         Ok(())
     }
 
@@ -156,9 +199,14 @@ impl Session {
         });
         let (at, outcome) = match said {
             Ok(said) => (line.number, self.done(&place(line.number), said)),
-            Err(Unread::Fault { line, fault }) => (line, Outcome::Unreadable(fault)),
-            Err(Unread::Removed { line, name, at }) => (line, Outcome::Removed { name, at }),
+            Err(unread) => not_read(unread),
         };
+        if is_unit(line) {
+            self.unit = match outcome {
+                Outcome::Measured(unit) => Some(unit),
+                _ => None,
+            };
+        }
         let place = place(at);
         self.remove_if_failed(&place, name.as_ref(), &outcome);
         Event {
@@ -189,21 +237,43 @@ impl Session {
                 fault: Fault::LeftOver { before },
             });
         }
-        let (word, is_named) = word_of(line)?;
-        match (word, is_named) {
+        self.whole(line)
+    }
+
+    /// Reads a line that begins with a word.
+    fn whole(&self, line: &Line<'_>) -> Result<Said, Unread> {
+        if is_unit(line) {
+            return unit_of(line).map(Said::Unit);
+        }
+        match word_of(line)? {
             ("shape", false) => {
-                let mut fields = Fields::new("shape", table::SHAPE, line, &self.map)?;
+                let mut fields = self.fields("shape", table::SHAPE, line)?;
                 let name = fields.new_name()?;
                 Ok(Said::Shape(name, fields.list()?))
             }
             ("outline", false) => {
-                let mut fields = Fields::new("outline", table::OUTLINE, line, &self.map)?;
+                let mut fields = self.fields("outline", table::OUTLINE, line)?;
                 let name = fields.new_name()?;
                 Ok(Said::Shape(name, fields.outline()?))
             }
-            ("shapes", false) => Fields::new("shapes", &[], line, &self.map).map(|_| Said::Shapes),
+            ("ring", false) if is_ring(line) => {
+                let mut fields = self.fields("ring", table::SHAPE, line)?;
+                let name = fields.new_name()?;
+                Ok(Said::Ring(name, fields.list()?))
+            }
+            ("shapes", false) => self.fields("shapes", &[], line).map(|_| Said::Shapes),
             (word, _) => self.question(word, line),
         }
+    }
+
+    /// The fields of a line, with lengths in the unit at hand.
+    fn fields<'a>(
+        &'a self,
+        word: &'static str,
+        parts: &[Part],
+        line: &'a Line<'a>,
+    ) -> Result<Fields<'a>, Unread> {
+        Ok(Fields::new(word, parts, line, &self.map)?.in_unit(self.unit))
     }
 
     /// Reads a question, with a name or without.
@@ -213,7 +283,7 @@ impl Session {
             [name, sign, ..] if sign.text == "=" => Some(name_of(name)?),
             _ => None,
         };
-        let mut fields = Fields::new(row.word, row.parts, line, &self.map)?;
+        let mut fields = self.fields(row.word, row.parts, line)?;
         let question = (row.read)(&mut fields)?;
         if name.is_some() && !matches!(question, Question::Make(..)) {
             let question = row.word;
@@ -231,23 +301,37 @@ impl Session {
             Said::Shapes => {
                 Outcome::Listed(self.map.shapes().map(|(shape, _)| shape.clone()).collect())
             }
-            Said::Shape(name, shape) => {
-                let shape = Given {
-                    name: Some(name),
-                    ..shape
+            Said::Shape(name, shape) => self.defined(place, name, shape),
+            Said::Ring(name, points) => {
+                let named = Given {
+                    name: Some(name.clone()),
+                    ..points
                 };
-                match cocklesway::judge(shape.alone()) {
-                    Ok(_) => {
-                        let earlier = self.keep(place, &shape, Origin::Written);
-                        Outcome::Defined { shape, earlier }
-                    }
-                    Err(refusal) => {
-                        Outcome::Refused(Refused::new(Question::One(shape, OfOne::Judge), refusal))
-                    }
+                match made(Making::Ring(named)) {
+                    Ok(shape) => self.defined(place, name, shape),
+                    Err(refused) => Outcome::Refused(refused),
                 }
             }
+            Said::Unit(unit) => Outcome::Measured(unit),
             Said::Question(None, question) if self.only_definitions => Outcome::Unasked(question),
             Said::Question(name, question) => self.asked(place, name, question),
+        }
+    }
+
+    /// Keeps a shape under its name if the library accepts it.
+    fn defined(&mut self, place: &Place, name: Name, shape: Given) -> Outcome {
+        let shape = Given {
+            name: Some(name),
+            ..shape
+        };
+        match cocklesway::judge(shape.alone()) {
+            Ok(_) => {
+                let earlier = self.keep(place, &shape, Origin::Written);
+                Outcome::Defined { shape, earlier }
+            }
+            Err(refusal) => {
+                Outcome::Refused(Refused::new(Question::One(shape, OfOne::Judge), refusal))
+            }
         }
     }
 
@@ -283,7 +367,10 @@ impl Session {
     fn remove_if_failed(&mut self, place: &Place, name: Option<&Name>, outcome: &Outcome) {
         let failed = matches!(
             outcome,
-            Outcome::Refused(_) | Outcome::Removed { .. } | Outcome::Unreadable(_)
+            Outcome::Refused(_)
+                | Outcome::Removed { .. }
+                | Outcome::NotWhole { .. }
+                | Outcome::Unreadable(_)
         );
         if let Some(name) = name.filter(|_| failed) {
             self.map.set(name.clone(), place.clone(), Entry::Removed);
@@ -333,9 +420,54 @@ fn target(line: &Line<'_>) -> Option<Name> {
     let word = match line.words(0) {
         [name, sign, ..] if sign.text == "=" => Some(name),
         [word] if word.text == "shape" || word.text == "outline" => line.words(1).first(),
+        [word] if word.text == "ring" && is_ring(line) => line.words(1).first(),
         _ => None,
     };
     word.and_then(|word| Name::read(word.text).ok())
+}
+
+/// What came of a line that is not asked, and where.
+fn not_read(unread: Unread) -> (usize, Outcome) {
+    match unread {
+        Unread::Fault { line, fault } => (line, Outcome::Unreadable(fault)),
+        Unread::Removed { line, name, at } => (line, Outcome::Removed { name, at }),
+        Unread::NotWhole { line, found, unit } => (line, Outcome::NotWhole { found, unit }),
+    }
+}
+
+/// Whether a line that begins with `ring` defines a name: a name, and then points. Else it is the question, whose
+/// second field is a count.
+fn is_ring(line: &Line<'_>) -> bool {
+    let is_name = matches!(line.words(1), [word] if !is_numeric(word.text));
+    let is_count = matches!(line.words(2), [word] if !word.text.starts_with('@'));
+    is_name && line.fields.len() > 2 && !is_count
+}
+
+/// Whether a line says a unit, or should.
+fn is_unit(line: &Line<'_>) -> bool {
+    match line.words(0) {
+        [_, sign, ..] if sign.text == "=" => false,
+        [word, ..] => word.text == "unit",
+        [] => false,
+    }
+}
+
+/// The unit that a line says: `unit m` or `unit | m`.
+fn unit_of(line: &Line<'_>) -> Result<Unit, Unread> {
+    let words: Vec<&str> = line
+        .fields
+        .iter()
+        .flat_map(|field| field.words.iter().map(|word| word.text))
+        .collect();
+    let read = match words.as_slice() {
+        [_, unit] => Unit::read(unit),
+        _ => None,
+    };
+    let found = words.get(1..).unwrap_or_default().join(" ");
+    read.ok_or(Unread::Fault {
+        line: line.number,
+        fault: Fault::NotAUnit { found },
+    })
 }
 
 /// Whether a line has only numbers where its word should be.

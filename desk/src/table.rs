@@ -2,7 +2,9 @@
 //! it: how it is asked, its sentence, its JSON.
 use crate::fields::{Fields, Part, Unread};
 use crate::given::Pair;
-use crate::question::{Around, Drive, Making, Narrowest, OfOne, OfTwo, Packing, Question, Record};
+use crate::question::{
+    Around, Drive, Making, Narrowest, OfOne, OfTwo, Packing, Past, Question, Record,
+};
 
 /// A question: how its line is written, and what it asks.
 pub struct Row {
@@ -54,6 +56,10 @@ pub const TABLE: &[Row] = &[
         asks: "how near are they, and where?", example: "clearance | linen-store | wall",
     },
     Row {
+        word: "greatest", parts: &[A, B], read: |f| Ok(Question::Two(f.pair()?, OfTwo::Greatest)),
+        asks: "how far apart are they at most, and where?", example: "greatest | linen-store | wall",
+    },
+    Row {
         word: "excess", parts: &[part("changed shape"), part("shape before")],
         read: |f| Ok(Question::Two(f.pair()?, OfTwo::Excess)),
         asks: "how far does a changed shape reach beyond the old one?",
@@ -70,6 +76,10 @@ pub const TABLE: &[Row] = &[
     Row {
         word: "width", parts: &[A], read: |f| Ok(Question::One(f.shape()?, OfOne::Width)),
         asks: "how wide is it where it is narrowest?", example: "width | linen-store",
+    },
+    Row {
+        word: "box", parts: &[A], read: |f| Ok(Question::One(f.shape()?, OfOne::Box)),
+        asks: "what is the least box about it, and along which edge?", example: "box | linen-store",
     },
     Row {
         word: "area", parts: &[A], read: |f| Ok(Question::One(f.shape()?, OfOne::Area)),
@@ -125,6 +135,12 @@ pub const TABLE: &[Row] = &[
         word: "sweep", parts: &[part("points"), ROOM],
         read: |f| Ok(Question::Make(Making::Sweep(f.shape()?), f.optional_count("room")?)),
         asks: "the shape of points in any order", example: "bed = sweep | @2 100 0 0 50 100 50 0 0 20 20",
+    },
+    Row {
+        word: "ring", parts: &[part("points in order, either way round"), ROOM],
+        read: |f| Ok(Question::Make(Making::Ring(f.shape()?), f.optional_count("room")?)),
+        asks: "the shape of a ring, closed or open, from any corner",
+        example: "bed = ring | @2 0 50 100 50 100 0 0 0 0 50",
     },
     Row {
         word: "sum", parts: &[A, B, ROOM],
@@ -199,6 +215,16 @@ pub const TABLE: &[Row] = &[
         asks: "which two current shapes of a log on the floor leave the narrowest gap for the cart?",
         example: "gap | 0F0002000700020001000000FFFFFFFF5A0F0002000800020009000000FFFFFFFF5A | @2 0 0",
     },
+    Row {
+        word: "drive",
+        parts: &[LOG, part("cart's outline, after @FLOOR"), part("place x y"), part("place u v")],
+        read: |f| Ok(Question::Drive(Past {
+            log: f.bytes()?, cart: f.shape_on_floor()?, from: f.end()?, to: f.end()?,
+        })),
+        asks: "driven straight from one place to another, which current shape of a log on the floor does the cart \
+               first meet?",
+        example: "drive | 0F0002000700020001000000FFFFFFFF5A | @2 0 0 | -9 -1 | 9 -1",
+    },
 ];
 
 /// The fields of a shape that is written down.
@@ -215,6 +241,6 @@ pub fn find(word: &str) -> Option<&'static Row> {
 
 /// Returns all words that begin a line.
 pub fn words() -> impl Iterator<Item = &'static str> {
-    let others = ["shape", "outline", "shapes"].into_iter();
+    let others = ["shape", "outline", "unit", "shapes"].into_iter();
     others.chain(TABLE.iter().map(|row| row.word))
 }

@@ -2,9 +2,10 @@
 //! name of its record.
 use crate::answer::shape_of;
 use crate::called::{Called, between};
-use crate::given::{Given, Pair};
-use crate::question::{Around, Making, Narrowest, Question};
-use cocklesway::{Gap, Neighbour, Refusal};
+use crate::given::{Corner, Edge, Given, Pair};
+use crate::question::{Around, Making, Narrowest, Past, Question};
+use crate::sentence::on_way;
+use cocklesway::{Drive, Gap, Neighbour, Refusal};
 
 /// Returns which shape of a log is nearest on its floor.
 #[must_use]
@@ -46,6 +47,20 @@ pub fn gap(Narrowest { cart, .. }: &Narrowest, found: Gap, [one, other]: &[Given
     )
 }
 
+/// Returns which shape of a log a cart first meets on its way.
+#[must_use]
+pub fn first_met(Past { cart, from, to, .. }: &Past, found: Drive) -> String {
+    let way = Edge(Corner(*from), Corner(*to));
+    let floor = found.floor;
+    let Some((name, meeting)) = found.first else {
+        return format!("{cart} is clear of all shapes on floor {floor} all the way from {way}");
+    };
+    format!(
+        "record {name} is the first that {cart} meets on floor {floor}: {}",
+        on_way(meeting, way)
+    )
+}
+
 /// ` without record 3`; nothing if none is left out.
 fn without(but: Option<u16>) -> String {
     but.map_or(String::new(), |name| format!(" without record {name}"))
@@ -64,6 +79,9 @@ pub fn too_few(question: &Question) -> Option<String> {
             without(*but),
             floor(shape)
         )),
+        Question::Drive(Past { cart, .. }) => {
+            Some(format!("the log has no shape on floor {}", floor(cart)))
+        }
         Question::Gap(Narrowest { cart, .. }) => Some(format!(
             "the log has fewer than two shapes on floor {}",
             floor(cart)
@@ -74,16 +92,16 @@ pub fn too_few(question: &Question) -> Option<String> {
 
 /// Returns the first record on the cart's floor whose shape is refused so when it is grown, and what was to be grown.
 #[must_use]
-pub fn refused_when_grown(asked: &Narrowest, refusal: Refusal) -> Option<(u16, Pair)> {
+pub fn refused_when_grown(log: &[u8], cart: &Given, refusal: Refusal) -> Option<(u16, Pair)> {
     let mut out = vec![[0; 2]; cocklesway::limits().corners];
     let pairs = (0..).map_while(|position| {
-        let (name, shape) = cocklesway::log_entry(&asked.log, position, &mut out).ok()?;
+        let (name, shape) = cocklesway::log_entry(log, position, &mut out).ok()?;
         let a = Given {
             name: None,
             numbers: shape.corners.as_flattened().into(),
             floor: shape.floor.try_into().ok(),
         };
-        let b = asked.cart.clone();
+        let b = cart.clone();
         Some((name, Pair { a, b }))
     });
     let is_refused = |(_, pair): &(u16, Pair)| {

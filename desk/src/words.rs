@@ -5,6 +5,7 @@ use crate::given::Given;
 use crate::lines::Word;
 use crate::name::Name;
 use crate::question::Call;
+use crate::unit::{Inexact, Unit};
 
 /// Returns whether a word is meant as a number or a floor, and not as a name.
 #[must_use]
@@ -14,20 +15,42 @@ pub fn is_numeric(text: &str) -> bool {
     text.starts_with('@') || digits.chars().all(only)
 }
 
-/// Reads numbers after their floor; without one it is `unsaid`.
+/// Reads numbers of a unit after their floor; without one it is `unsaid`.
 ///
 /// # Errors
 /// It is none.
-pub fn list(words: &[Word<'_>], unsaid: Option<u16>) -> Result<Given, Unread> {
+pub fn list(words: &[Word<'_>], unsaid: Option<u16>, unit: Option<Unit>) -> Result<Given, Unread> {
     let (floor, numbers) = match words {
         [first, rest @ ..] if first.text.starts_with('@') => (Some(floor(first)?), rest),
         all => (unsaid, all),
     };
-    let numbers: Result<Vec<i32>, Unread> = numbers.iter().map(number).collect();
+    let numbers = numbers.iter().map(|word| length(word, unit));
+    let numbers: Result<Vec<i32>, Unread> = numbers.collect();
     Ok(Given {
         name: None,
         numbers: numbers?.into(),
         floor,
+    })
+}
+
+/// Reads a length exactly, as whole millimetres. Without a unit none can be read.
+///
+/// # Errors
+/// It is none.
+pub fn length(word: &Word<'_>, unit: Option<Unit>) -> Result<i32, Unread> {
+    let found = || word.text.to_string();
+    if word.text.starts_with('@') {
+        return Err(Unread::at(word, Fault::MisplacedFloor { found: found() }));
+    }
+    let unit = unit.ok_or_else(|| Unread::at(word, Fault::NoUnit))?;
+    unit.millimetres(word.text).map_err(|why| match why {
+        Inexact::NotANumber => Unread::at(word, not_a_number(word.text)),
+        Inexact::Large => Unread::at(word, Fault::LargeNumber { found: found() }),
+        Inexact::NotWhole => Unread::NotWhole {
+            line: word.line,
+            found: found(),
+            unit,
+        },
     })
 }
 

@@ -77,7 +77,7 @@ static inline const char *cocklesway_refusal_text(uint64_t number) {
     case 7: return "the answer would have a coordinate out of range";
     case 8: return "the output is too small for the answer";
     case 9: return "the shapes are not apart, so no lines just touch both";
-    case 10: return "a point or a segment has no width";
+    case 10: return "a point or a segment has no width and no box";
     case 11: return "the direction is 0 0, or a part of it is out of range";
     case 12: return "the parts of the direction have a common divisor above 1";
     case 13: return "the floors differ, or one is above the highest";
@@ -119,6 +119,12 @@ cocklesway_reply cocklesway_grow(const int32_t *obstacle, size_t n, uint32_t f, 
  * floor. Refused 1 to 3, 13, 8. */
 cocklesway_reply cocklesway_sweep(const int32_t *list, size_t n, uint32_t floor, int32_t *out, size_t room);
 
+/* Writes the standard list with the corners of a ring as people have it: closed by its first point or open, in either
+ * sense, begun anywhere, with neighbours repeated and points in line. Nothing is filled up. Values: how many corners,
+ * floor. Refused 1, 2 (a closing point is not counted), 3, 13, 4 (not convex: 1, the positions in the list of the corner
+ * before and of the corner that turns in), 8. */
+cocklesway_reply cocklesway_ring(const int32_t *list, size_t n, uint32_t floor, int32_t *out, size_t room);
+
 /* The walk for the first part of a sum. Values: edges passed of the first shape, of the second, 1 if over, floor.
  * Refused 1 to 5, 13, 6, 7. */
 cocklesway_reply cocklesway_begin(const int32_t *a, size_t n, uint32_t f, const int32_t *b, size_t m, uint32_t g);
@@ -138,6 +144,11 @@ cocklesway_reply cocklesway_area(const int32_t *list, size_t n, uint32_t floor);
 /* Where the shape is narrowest. Values: edge, corner, the turn t of the corner against the edge, the edge's squared
  * length q, the width t/sqrt(q) rounded down, floor. Refused 1 to 5, 13, 10. */
 cocklesway_reply cocklesway_width(const int32_t *list, size_t n, uint32_t floor);
+
+/* The least box: of the enclosing rectangles that have a side on an edge, the one of least perimeter. Values: edge, the
+ * greatest turn t of a corner against the edge, the spread s of the corners' values along the edge, the edge's squared
+ * length q, floor. The box's sides are t/sqrt(q) across the edge and s/sqrt(q) along it. Refused 1 to 5, 13, 10. */
+cocklesway_reply cocklesway_box(const int32_t *list, size_t n, uint32_t floor);
 
 /* The first value of a relation. */
 #define COCKLESWAY_APART 0
@@ -172,6 +183,10 @@ cocklesway_reply cocklesway_find(const int32_t *a, size_t n, uint32_t f, const i
  *     COCKLESWAY_EDGE_CORNER, corner of the second, edge of the first, t, q, t/sqrt(q) rounded down, floor
  * t is the size of the corner's turn against the edge, q the edge's squared length. Refused 1 to 5, 13. */
 cocklesway_reply cocklesway_clearance(const int32_t *a, size_t n, uint32_t f, const int32_t *b, size_t m, uint32_t g);
+
+/* The greatest distance of a point of one shape and a point of the other: two corners have it. Values: the squared
+ * distance, the corner of the first, of the second, floor. Refused 1 to 5, 13. */
+cocklesway_reply cocklesway_greatest(const int32_t *a, size_t n, uint32_t f, const int32_t *b, size_t m, uint32_t g);
 
 /* The first value of an excess is COCKLESWAY_INSIDE, COCKLESWAY_CORNERS or COCKLESWAY_CORNER_EDGE. */
 #define COCKLESWAY_INSIDE 0
@@ -236,6 +251,13 @@ cocklesway_reply cocklesway_log_nearest(const uint8_t *log, size_t count, const 
  * 0 0 asks the gap of the shapes as they are. Values: both names, then those of cocklesway_clearance of the grown two.
  * Refused 1 to 5, 13, 15, 20, then 6, 7 of the grown shapes, one after the other. */
 cocklesway_reply cocklesway_log_gap(const uint8_t *log, size_t count, const int32_t *cart, size_t n, uint32_t floor);
+
+/* Finds the current shape on a floor of a log that a cart meets first on a straight drive from (x, y) to (u, v); of
+ * several at the same place the first in the log. Values: 0, floor if it meets none; or 1, name, n, d, safe, floor: n, d
+ * and safe as those of cocklesway_contact. Refused 1 to 5, 13, 15, 20 if no shape is on the floor, 3 of the places as of
+ * lists 2 and 3, then 6, 7 of the grown shapes, one after the other. */
+cocklesway_reply cocklesway_log_contact(const uint8_t *log, size_t count, const int32_t *cart, size_t n, uint32_t floor,
+                                        int32_t x, int32_t y, int32_t u, int32_t v);
 
 /* Four calls on bytes: x and y of each corner, four bytes to a number, two's complement, the lowest byte first, at any
  * alignment. An output needs eight bytes to a corner. Each answers one number, from its low end:

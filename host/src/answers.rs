@@ -113,7 +113,34 @@ pub struct Width {
     pub floor: u32,
 }
 
-/// How two shapes stand to each other.
+/// The least box about a shape: of the boxes that lie along an edge, the one with the least perimeter. Its sides are
+/// T/√q across the edge and S/√q along it.
+///
+/// ```
+/// use cocklesway::{Shape, least_box};
+///
+/// let answer = least_box(Shape::new(&[[0, 0], [4, 0], [0, 3]], 0))?;
+/// assert_eq!((answer.edge, answer.squared), (0, 16));
+/// assert_eq!((answer.height / 4, answer.along / 4), (3, 4));
+/// # Ok::<(), cocklesway::Refusal>(())
+/// ```
+#[derive(Clone, Copy, Debug, PartialEq, Eq, Hash)]
+#[non_exhaustive]
+#[must_use]
+pub struct LeastBox {
+    /// The position of the edge's first corner.
+    pub edge: usize,
+    /// T: the greatest turn of a corner against the edge, in square millimetres.
+    pub height: u64,
+    /// S: the spread of the corners along the edge, times the edge's length, in square millimetres.
+    pub along: u64,
+    /// q: the squared length of the edge, in square millimetres.
+    pub squared: u64,
+    /// The floor.
+    pub floor: u32,
+}
+
+/// How two shapes relate to each other.
 ///
 /// ```
 /// use cocklesway::{Relation, Shape, relation};
@@ -363,6 +390,29 @@ impl Nearest {
         };
         (nearest, narrow(floor))
     }
+}
+
+/// How far a point of one shape can be from a point of another.
+///
+/// ```
+/// use cocklesway::{Shape, greatest};
+///
+/// let answer = greatest(Shape::new(&[[0, 0], [1, 0]], 3), Shape::new(&[[4, 4]], 3))?;
+/// assert_eq!((answer.squared, answer.first, answer.second), (32, 0, 0));
+/// # Ok::<(), cocklesway::Refusal>(())
+/// ```
+#[derive(Clone, Copy, Debug, PartialEq, Eq, Hash)]
+#[non_exhaustive]
+#[must_use]
+pub struct Greatest {
+    /// The squared distance of the two corners that are furthest apart, in square millimetres.
+    pub squared: u64,
+    /// The position in the first shape.
+    pub first: usize,
+    /// The position in the second.
+    pub second: usize,
+    /// The floor.
+    pub floor: u32,
 }
 
 /// The shape of a floor that is nearest to another shape.
@@ -633,6 +683,32 @@ pub struct Meeting {
     pub denominator: u64,
     /// The millimetres of the way before it, rounded down.
     pub safe: u64,
+}
+
+/// Which shape of a floor a cart on a straight drive meets first, and where.
+///
+/// ```
+/// use cocklesway::{Addition, Book, Shape};
+///
+/// let mut bytes = [0; 64];
+/// let mut book = Book::new(&mut bytes);
+/// for (name, x) in [(7, 30), (8, 10)] {
+///     assert_eq!(book.add(name, Shape::new(&[[x, 0]], 3), usize::MAX), Ok(Addition::Finished));
+/// }
+/// let cart = Shape::new(&[[0, 0], [2, 0]], 3);
+/// let (name, meeting) = book.contact(cart, [0, 0], [40, 0])?.first.expect("both are ahead");
+/// assert_eq!((name, meeting.numerator, meeting.denominator, meeting.safe), (8, 1, 5, 8));
+/// assert_eq!(book.contact(cart, [0, 0], [7, 0])?.first, None);
+/// # Ok::<(), cocklesway::Refusal>(())
+/// ```
+#[derive(Clone, Copy, Debug, PartialEq, Eq, Hash)]
+#[non_exhaustive]
+#[must_use]
+pub struct Drive {
+    /// The name of the shape that it meets first, and where; nothing if it meets none.
+    pub first: Option<(u16, Meeting)>,
+    /// The floor.
+    pub floor: u32,
 }
 
 /// A line from a corner of the first shape to a corner of the second, by their positions.

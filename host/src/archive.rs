@@ -58,8 +58,10 @@ unsafe extern "C" {
     fn cocklesway_length(list: List, n: usize, floor: u32) -> Reply;
     fn cocklesway_area(list: List, n: usize, floor: u32) -> Reply;
     fn cocklesway_width(list: List, n: usize, floor: u32) -> Reply;
+    fn cocklesway_box(list: List, n: usize, floor: u32) -> Reply;
     fn cocklesway_mirror(list: List, n: usize, floor: u32, out: Output, room: usize) -> Reply;
     fn cocklesway_sweep(list: List, n: usize, floor: u32, out: Output, room: usize) -> Reply;
+    fn cocklesway_ring(list: List, n: usize, floor: u32, out: Output, room: usize) -> Reply;
     fn cocklesway_sum(a: List, n: usize, f: u32, b: List, m: usize, g: u32, out: Output, room: usize) -> Reply;
     fn cocklesway_merge(a: List, n: usize, f: u32, b: List, m: usize, g: u32, out: Output, room: usize) -> Reply;
     fn cocklesway_grow(a: List, n: usize, f: u32, b: List, m: usize, g: u32, out: Output, room: usize) -> Reply;
@@ -73,6 +75,7 @@ unsafe extern "C" {
     fn cocklesway_offer(a: List, n: usize, f: u32, b: List, m: usize, g: u32, u: i32, v: i32) -> Reply;
     fn cocklesway_find(a: List, n: usize, f: u32, b: List, m: usize, g: u32) -> Reply;
     fn cocklesway_clearance(a: List, n: usize, f: u32, b: List, m: usize, g: u32) -> Reply;
+    fn cocklesway_greatest(a: List, n: usize, f: u32, b: List, m: usize, g: u32) -> Reply;
     fn cocklesway_excess(a: List, n: usize, f: u32, b: List, m: usize, g: u32) -> Reply;
     fn cocklesway_tangents(a: List, n: usize, f: u32, b: List, m: usize, g: u32) -> Reply;
     fn cocklesway_passage(
@@ -91,6 +94,9 @@ unsafe extern "C" {
     ) -> Reply;
     fn cocklesway_log_nearest(log: Bytes, count: usize, list: List, n: usize, floor: u32, but: usize) -> Reply;
     fn cocklesway_log_gap(log: Bytes, count: usize, cart: List, n: usize, floor: u32) -> Reply;
+    fn cocklesway_log_contact(
+        log: Bytes, count: usize, cart: List, n: usize, floor: u32, x: i32, y: i32, u: i32, v: i32,
+    ) -> Reply;
     fn cocklesway_judge_bytes(list: Bytes, n: usize, floor: u32) -> u64;
     fn cocklesway_sum_bytes(
         a: Bytes, n: usize, f: u32, b: Bytes, m: usize, g: u32, out: BytesOutput, room: usize,
@@ -133,6 +139,10 @@ pub(crate) fn width(a: Shape<'_>) -> Reply {
     one(cocklesway_width, a)
 }
 
+pub(crate) fn least_box(a: Shape<'_>) -> Reply {
+    one(cocklesway_box, a)
+}
+
 pub(crate) fn furthest(a: Shape<'_>, [u, v]: [i32; 2]) -> Reply {
     let a = lent(a);
     // SAFETY: the list is a live slice of that length.
@@ -145,6 +155,10 @@ pub(crate) fn mirror(a: Shape<'_>, out: &mut [i32]) -> Reply {
 
 pub(crate) fn sweep(points: Shape<'_>, out: &mut [i32]) -> Reply {
     one_written(cocklesway_sweep, points, out)
+}
+
+pub(crate) fn ring(points: Shape<'_>, out: &mut [i32]) -> Reply {
+    one_written(cocklesway_ring, points, out)
 }
 
 pub(crate) fn sum(a: Shape<'_>, b: Shape<'_>, out: &mut [i32]) -> Reply {
@@ -200,6 +214,10 @@ pub(crate) fn find(a: Shape<'_>, b: Shape<'_>) -> Reply {
 
 pub(crate) fn clearance(a: Shape<'_>, b: Shape<'_>) -> Reply {
     two(cocklesway_clearance, a, b)
+}
+
+pub(crate) fn greatest(a: Shape<'_>, b: Shape<'_>) -> Reply {
+    two(cocklesway_greatest, a, b)
 }
 
 pub(crate) fn excess(new: Shape<'_>, old: Shape<'_>) -> Reply {
@@ -279,6 +297,29 @@ pub(crate) fn log_gap(log: &[u8], cart: Shape<'_>) -> Reply {
     let a = lent(cart);
     // SAFETY: log and list are live slices of these lengths.
     unsafe { cocklesway_log_gap(log.as_ptr(), log.len(), a.list, a.n, a.floor) }
+}
+
+pub(crate) fn log_contact(
+    log: &[u8],
+    cart: Shape<'_>,
+    [x, y]: [i32; 2],
+    [u, v]: [i32; 2],
+) -> Reply {
+    let cart = lent(cart);
+    // SAFETY: log and list are live slices of these lengths.
+    unsafe {
+        cocklesway_log_contact(
+            log.as_ptr(),
+            log.len(),
+            cart.list,
+            cart.n,
+            cart.floor,
+            x,
+            y,
+            u,
+            v,
+        )
+    }
 }
 
 pub(crate) fn judge_bytes(list: &[u8], floor: u32) -> u64 {

@@ -1,7 +1,7 @@
 //! The log of shapes by name.
 use crate::archive;
 use crate::reply::{front, narrow};
-use crate::{Gap, Nearest, Neighbour, Refusal, Shape};
+use crate::{Drive, Gap, Meeting, Nearest, Neighbour, Refusal, Shape};
 
 /// A log of shapes by name, over lent bytes. It is new if all bytes are 0. A shape is added after the last whole
 /// record, and the latest record of a name counts.
@@ -195,7 +195,35 @@ impl<'a> Book<'a> {
         log_gap(self.bytes, cart)
     }
 
-    /// Adds a shape under a name with at most so many stores of single bytes, and returns whether they sufficed.
+    /// Returns which current shape on a cart's floor its straight drive meets first, and where, as [`log_contact`]
+    /// does.
+    ///
+    /// # Errors
+    /// Refused: 1 to 5, 13, 15, 20, 3 of a place, which is the second or third list, then 6 and 7 of the grown shapes,
+    /// in the order of the log.
+    ///
+    /// ```
+    /// use cocklesway::{Addition, Book, Refusal, Shape, Which};
+    ///
+    /// let mut bytes = [0; 64];
+    /// let mut book = Book::new(&mut bytes);
+    /// let cart = Shape::new(&[[-450, 0], [450, 0]], 3);
+    /// assert_eq!(book.contact(cart, [0, 0], [900, 0]), Err(Refusal::TooFew));
+    ///
+    /// assert_eq!(book.add(7, Shape::new(&[[1000, 0]], 3), usize::MAX), Ok(Addition::Finished));
+    /// let (name, meeting) = book.contact(cart, [0, 0], [1100, 0])?.first.expect("7 is ahead");
+    /// assert_eq!((name, meeting.numerator, meeting.denominator, meeting.safe), (7, 1, 2, 550));
+    ///
+    /// let far = book.contact(cart, [0, 0], [0, 1_000_001]);
+    /// assert_eq!(far, Err(Refusal::Range { shape: Which::Third }));
+    /// # Ok::<(), Refusal>(())
+    /// ```
+    #[inline]
+    pub fn contact(&self, cart: Shape<'_>, from: [i32; 2], to: [i32; 2]) -> Result<Drive, Refusal> {
+        log_contact(self.bytes, cart, from, to)
+    }
+
+    /// Adds a shape under a name with at most `allowed` stores of single bytes, and returns whether they sufficed.
     /// With `usize::MAX` they always do. Whenever it is stopped, every name reads as before or as afterwards.
     ///
     /// # Errors
@@ -393,6 +421,51 @@ pub fn log_gap(log: &[u8], cart: Shape<'_>) -> Result<Gap, Refusal> {
         names: [name_of(first), name_of(second)],
         nearest,
         floor,
+    })
+}
+
+/// Returns which of the current shapes on a cart's floor in a log its straight drive meets first, and where on the way:
+/// the first in the log of several, and what [`contact`](crate::contact) answers of that one. The cart does not turn.
+/// The corners of its outline are relative to its own origin, which goes from the one place to the other.
+///
+/// # Errors
+/// Refused: 1 to 5, 13, 15, 20, 3 of a place, which is the second or third list, then 6 and 7 of the grown shapes, in
+/// the order of the log.
+///
+/// ```
+/// use cocklesway::{Refusal, Shape, log_contact};
+///
+/// // On floor 0: kind 1, name 7, the point 1 -1.
+/// let log = [13, 0, 1, 0, 7, 0, 1, 0, 0, 0, 255, 255, 255, 255, 0x5A];
+/// let cart = Shape::new(&[[0, 0]], 0);
+/// let (name, meeting) = log_contact(&log, cart, [-2, -1], [4, -1])?.first.expect("7 is ahead");
+/// assert_eq!((name, meeting.numerator, meeting.denominator, meeting.safe), (7, 1, 2, 3));
+/// assert_eq!(log_contact(&log, cart, [-2, 0], [4, 0])?.first, None);
+/// # Ok::<(), Refusal>(())
+/// ```
+#[inline]
+pub fn log_contact(
+    log: &[u8],
+    cart: Shape<'_>,
+    from: [i32; 2],
+    to: [i32; 2],
+) -> Result<Drive, Refusal> {
+    Ok(match archive::log_contact(log, cart, from, to).values()? {
+        [0, floor, ..] => Drive {
+            first: None,
+            floor: narrow(floor),
+        },
+        [_, name, numerator, denominator, safe, floor, ..] => {
+            let meeting = Meeting {
+                numerator,
+                denominator,
+                safe,
+            };
+            Drive {
+                first: Some((name_of(name), meeting)),
+                floor: narrow(floor),
+            }
+        }
     })
 }
 

@@ -24,17 +24,18 @@
 //!
 //! | question | function |
 //! |---|---|
-//! | one shape | [`judge`], [`furthest`], [`mirror`], [`length`], [`width`], [`area`] |
-//! | two shapes | [`sum`], [`merge`], [`grow`], [`relation`], [`inside`], [`clearance`], [`tangents`] |
+//! | one shape | [`judge`], [`furthest`], [`mirror`], [`length`], [`width`], [`area`], [`least_box`] |
+//! | two shapes | [`sum`], [`merge`], [`grow`], [`relation`], [`inside`], [`clearance`], [`greatest`], [`tangents`] |
 //! | a changed shape and the old one | [`excess`] |
 //! | two obstacles and a cart | [`passage`] |
 //! | an obstacle and a cart on a straight drive | [`contact`] |
 //! | why they are apart | [`offer`], [`find`] |
 //! | a sum in parts | [`Walk::begin`], [`Walk::part`] |
 //! | points in any order | [`sweep`] |
+//! | a ring as people draw it | [`ring`] |
 //! | readings of a tablet | [`tablet`] |
 //! | a log of shapes by name | [`Book`], [`log_read`], [`log_pack`], [`log_entry`] |
-//! | the shapes of a floor in a log | [`log_nearest`], [`log_gap`] |
+//! | the shapes of a floor in a log | [`log_nearest`], [`log_gap`], [`log_contact`] |
 //! | corners as bytes | [`bytes`] |
 //!
 //! The package needs `core` alone. No call allocates, keeps anything, or panics.
@@ -70,15 +71,15 @@ mod tests;
 mod walk;
 
 pub use answers::{
-    Across, Area, Beyond, Clearance, Contact, Corners, Excess, Furthest, Gap, Inside, Length, Line,
-    Meeting, Nearest, Neighbour, Offer, Passage, Relation, Separator, Standing, Tangents, Way,
-    Width,
+    Across, Area, Beyond, Clearance, Contact, Corners, Drive, Excess, Furthest, Gap, Greatest,
+    Inside, LeastBox, Length, Line, Meeting, Nearest, Neighbour, Offer, Passage, Relation,
+    Separator, Standing, Tangents, Way, Width,
 };
-pub use book::{Addition, Book, log_entry, log_gap, log_nearest, log_pack, log_read};
+pub use book::{Addition, Book, log_contact, log_entry, log_gap, log_nearest, log_pack, log_read};
 pub use limits::{Limits, limits, version};
 pub use questions::{
-    area, clearance, contact, excess, find, furthest, grow, inside, judge, length, merge, mirror,
-    offer, passage, relation, sum, sweep, tangents, width,
+    area, clearance, contact, excess, find, furthest, greatest, grow, inside, judge, least_box,
+    length, merge, mirror, offer, passage, relation, ring, sum, sweep, tangents, width,
 };
 pub use refusal::{Axis, Refusal, Which};
 pub use shape::Shape;

@@ -13,7 +13,7 @@ use crate::reply::{narrow, position};
 #[derive(Clone, Copy, Debug, PartialEq, Eq, Hash)]
 #[non_exhaustive]
 pub struct Limits {
-    /// How many corners a shape may have. An output of so many holds every answer.
+    /// How many corners a shape may have. An output of that size holds every answer.
     pub corners: usize,
     /// How many points a sweep may have.
     pub points: usize,

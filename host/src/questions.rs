@@ -2,8 +2,9 @@
 use crate::archive;
 use crate::reply::{coordinate, narrow, position};
 use crate::{
-    Area, Beyond, Clearance, Contact, Corners, Excess, Furthest, Inside, Length, Line, Meeting,
-    Nearest, Offer, Passage, Refusal, Relation, Separator, Shape, Standing, Tangents, Way, Width,
+    Area, Beyond, Clearance, Contact, Corners, Excess, Furthest, Greatest, Inside, LeastBox,
+    Length, Line, Meeting, Nearest, Offer, Passage, Refusal, Relation, Separator, Shape, Standing,
+    Tangents, Way, Width,
 };
 
 /// Returns how many corners the shape has.
@@ -128,7 +129,7 @@ pub fn merge<'o>(
 }
 
 /// Writes the shape of all obstacle-corner minus cart-corner points at the front of the output and returns it. The
-/// rest of the output is kept. A cart at a place stands to the obstacle as the place stands to this shape.
+/// rest of the output is kept. A cart at a place is to the obstacle as the place is to this shape.
 ///
 /// # Errors
 /// Refused, with the output as it was: 1 to 5 of the obstacle, then of the cart, 13, 6, 7, 8.
@@ -170,6 +171,33 @@ pub fn grow<'o>(
 #[inline]
 pub fn sweep<'o>(points: Shape<'_>, out: &'o mut [[i32; 2]]) -> Result<Shape<'o>, Refusal> {
     archive::sweep(points, out.as_flattened_mut()).written(out)
+}
+
+/// Writes the shape of a ring at the front of the output and returns it. The rest of the output is kept. The points of
+/// a ring are the corners of a shape on the way round, as people draw it:
+/// - clockwise or counterclockwise, from any corner;
+/// - closed by the first point again, or open;
+/// - with equal neighbours, and with points in line.
+///
+/// # Errors
+/// Refused, with the output as it was: 1; 2, where the closing point does not count; 3; 13; 4 if the ring is not
+/// convex, with the corner before and the corner at which it turns in or begins to go round again; 8.
+///
+/// ```
+/// use cocklesway::{Refusal, Shape, ring};
+///
+/// let clockwise = Shape::new(&[[2, 2], [2, 1], [2, 0], [0, 0], [0, 2], [2, 2]], 1);
+/// let mut out = [[0; 2]; 8];
+/// assert_eq!(ring(clockwise, &mut out)?.corners, [[0, 0], [2, 0], [2, 2], [0, 2]]);
+///
+/// let dented = Shape::new(&[[0, 0], [4, 0], [1, 1], [0, 4]], 1);
+/// assert!(matches!(ring(dented, &mut out), Err(Refusal::NotConvex { .. })));
+/// # Ok::<(), Refusal>(())
+/// ```
+#[inline]
+pub fn ring<'o>(points: Shape<'_>, out: &'o mut [[i32; 2]]) -> Result<Shape<'o>, Refusal> {
+    let reply = archive::ring(points, out.as_flattened_mut());
+    reply.written(out).map_err(Refusal::of_ring)
 }
 
 /// Returns the greatest squared distance of two corners, and their positions.
@@ -238,6 +266,31 @@ pub fn width(shape: Shape<'_>) -> Result<Width, Refusal> {
         turn,
         squared,
         rounded,
+        floor: narrow(floor),
+    })
+}
+
+/// Returns the least box about the shape, by perimeter: along which edge it lies, the first of several, and its sides.
+///
+/// # Errors
+/// Refused: 1 to 5, 13, 10.
+///
+/// ```
+/// use cocklesway::{Refusal, Shape, least_box};
+///
+/// let tilted = least_box(Shape::new(&[[0, 0], [3, 1], [2, 4], [-1, 3]], 0))?;
+/// assert_eq!((tilted.edge, tilted.height, tilted.along, tilted.squared), (0, 10, 10, 10));
+/// assert_eq!(least_box(Shape::new(&[[0, 0], [4, 0]], 0)), Err(Refusal::Flat));
+/// # Ok::<(), Refusal>(())
+/// ```
+#[inline]
+pub fn least_box(shape: Shape<'_>) -> Result<LeastBox, Refusal> {
+    let [edge, height, along, squared, floor, ..] = archive::least_box(shape).values()?;
+    Ok(LeastBox {
+        edge: position(edge),
+        height,
+        along,
+        squared,
         floor: narrow(floor),
     })
 }
@@ -363,6 +416,32 @@ pub fn clearance(a: Shape<'_>, b: Shape<'_>) -> Result<Clearance, Refusal> {
     let [values @ .., _, _] = archive::clearance(a, b).values()?;
     let (nearest, floor) = Nearest::of(values);
     Ok(Clearance { nearest, floor })
+}
+
+/// Returns the greatest squared distance of a corner of the first shape and a corner of the second, and their
+/// positions: the smallest first one of several, then the smallest second. No two points of the shapes are further
+/// apart.
+///
+/// # Errors
+/// Refused: 1 to 5 of the first list, then of the second, 13.
+///
+/// ```
+/// use cocklesway::{Shape, greatest};
+///
+/// let square = Shape::new(&[[0, 0], [2, 0], [2, 2], [0, 2]], 0);
+/// let answer = greatest(square, Shape::new(&[[3, 1]], 0))?;
+/// assert_eq!((answer.squared, answer.first, answer.second), (10, 0, 0));
+/// # Ok::<(), cocklesway::Refusal>(())
+/// ```
+#[inline]
+pub fn greatest(a: Shape<'_>, b: Shape<'_>) -> Result<Greatest, Refusal> {
+    let [squared, first, second, floor, ..] = archive::greatest(a, b).values()?;
+    Ok(Greatest {
+        squared,
+        first: position(first),
+        second: position(second),
+        floor: narrow(floor),
+    })
 }
 
 /// Returns how far the new shape reaches beyond the old one: the corner that is furthest from the old shape, the

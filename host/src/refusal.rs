@@ -16,11 +16,12 @@ use core::fmt;
 pub enum Which {
     /// The first one, also where there is one only.
     First,
-    /// The second one.
+    /// The second one: also the place that a drive past the shapes of a log begins at.
     Second,
-    /// The third one: the cart of a passage, or the place that a drive begins at.
+    /// The third one: the cart of a passage, the place that a drive towards an obstacle begins at, or the one that a
+    /// drive past the shapes of a log ends at.
     Third,
-    /// The fourth one: the place that a drive ends at.
+    /// The fourth one: the place that a drive towards an obstacle ends at.
     Fourth,
 }
 
@@ -59,7 +60,7 @@ pub enum Refusal {
         /// The list that is blamed.
         shape: Which,
     },
-    /// 2: the list has more corners than a shape may have, or more points than a sweep may have.
+    /// 2: the list has more corners than a shape may have, or more points than a sweep or a ring may have.
     Corners {
         /// The list that is blamed.
         shape: Which,
@@ -79,6 +80,13 @@ pub enum Refusal {
         /// The position of the corner.
         corner: usize,
     },
+    /// 4: a ring is not convex. Positions count in the given list.
+    NotConvex {
+        /// The position of the corner before.
+        before: usize,
+        /// The position of the corner at which the ring turns in, or at which it begins to go round again.
+        corner: usize,
+    },
     /// 5: the list does not begin at its lowest corner, or not at the leftmost of several lowest.
     Start {
         /// The list that is blamed.
@@ -92,7 +100,7 @@ pub enum Refusal {
     Room,
     /// 9: the shapes are not apart, and the lines that just touch both are asked for.
     NotApart,
-    /// 10: the width of a point or a segment is asked for.
+    /// 10: the width or the least box of a point or a segment is asked for.
     Flat,
     /// 11: the direction is 0 0, or a part of it is out of range.
     Direction,
@@ -156,6 +164,17 @@ impl Refusal {
         }
     }
 
+    /// The same of a ring, which is one list and has no edges to be left of.
+    pub(crate) fn of_ring(self) -> Refusal {
+        match self {
+            Refusal::Side { edge, corner, .. } => Refusal::NotConvex {
+                before: edge,
+                corner,
+            },
+            other => other,
+        }
+    }
+
     /// A refusal that carries nothing.
     fn plain(number: u64) -> Refusal {
         match number {
@@ -193,7 +212,7 @@ impl Refusal {
             Refusal::FarAnswer => "the answer would have a coordinate out of range",
             Refusal::Room => "the output is too small for the answer",
             Refusal::NotApart => "the shapes are not apart, so no lines just touch both",
-            Refusal::Flat => "a point or a segment has no width",
+            Refusal::Flat => "a point or a segment has no width and no box",
             Refusal::Direction => "the direction is 0 0, or a part of it is out of range",
             Refusal::NotPrimitive => "the parts of the direction have a common divisor above 1",
             Refusal::Floors => "the floors differ, or one is above the highest",
@@ -221,7 +240,7 @@ impl Refusal {
             Refusal::Count { .. } => 1,
             Refusal::Corners { .. } => 2,
             Refusal::Range { .. } | Refusal::FarReading { .. } => 3,
-            Refusal::Side { .. } => 4,
+            Refusal::Side { .. } | Refusal::NotConvex { .. } => 4,
             Refusal::Start { .. } => 5,
             Refusal::LargeAnswer => 6,
             Refusal::FarAnswer => 7,
@@ -258,6 +277,7 @@ impl Refusal {
             | Refusal::Range { shape }
             | Refusal::Side { shape, .. }
             | Refusal::Start { shape } => Some(shape),
+            Refusal::NotConvex { .. } => Some(Which::First),
             _ => None,
         }
     }
@@ -309,6 +329,13 @@ impl fmt::Display for Refusal {
                 edge,
                 corner,
             } => fmt_side(f, shape, edge, corner),
+            Refusal::NotConvex { before, corner } => {
+                write!(
+                    f,
+                    "the ring turns in at corner {corner}, after corner {before}, "
+                )?;
+                f.write_str("or begins to go round again there")
+            }
             Refusal::Start { shape } => {
                 write!(
                     f,

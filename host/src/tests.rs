@@ -52,8 +52,9 @@ fn every_number_is_some_refusal() {
                 .expect_err("it is refused");
             assert_eq!(refusal.number(), number);
             let unread = Refusal::of_reading(number, carried);
-            assert_eq!(unread.number(), number);
-            for refusal in [refusal, unread] {
+            let of_ring = refusal.of_ring();
+            assert_eq!((unread.number(), of_ring.number()), (number, number));
+            for refusal in [refusal, unread, of_ring] {
                 let words = refusal.to_string();
                 assert!(
                     words.starts_with(&std::format!("refused {number}: ")),
@@ -90,6 +91,12 @@ fn words_say_what_is_carried() {
     assert_eq!(words(21, none), "this package does not know the number");
     let far = Refusal::FarReading { axis: Axis::Y }.to_string();
     assert_eq!(far, "refused 3: the reading of y is out of range");
+    let bent = Refusal::of(4, [1, 0, 1]).of_ring();
+    assert_eq!(bent.shape(), Some(Which::First));
+    assert_eq!(
+        bent.to_string(),
+        "refused 4: the ring turns in at corner 1, after corner 0, or begins to go round again there"
+    );
     let damaged = Refusal::Damaged { place: 17 }.to_string();
     assert!(damaged.starts_with("refused 15: the record at byte 17 is of an unknown kind"));
 }

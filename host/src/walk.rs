@@ -75,7 +75,7 @@ impl Walk {
         Ok(Walk::of(first, second, over))
     }
 
-    /// Makes up a walk: so many edges of either shape are passed, and it is over or not.
+    /// Makes up a walk from how many edges of either shape are passed, and whether it is over.
     ///
     /// ```
     /// use cocklesway::{Refusal, Shape, Walk};

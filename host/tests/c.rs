@@ -23,7 +23,7 @@ judge: refused 4, a list has two equal corners, or a corner that is not strictly
 edge 0, corner 2
 ";
 
-const EXACT: &str = "3460 calls, limits and version as the header has them\n";
+const EXACT: &str = "4036 calls, limits and version as the header has them\n";
 
 #[test]
 fn a_controller_in_c_is_answered() {

@@ -74,6 +74,12 @@ static cocklesway_reply sweep(const int32_t *a, size_t n, uint32_t f, const int3
     return cocklesway_sweep(a, n, f, out, room);
 }
 
+static cocklesway_reply ring(const int32_t *a, size_t n, uint32_t f, const int32_t *b, size_t m, uint32_t g,
+                             int32_t *out, size_t room) {
+    (void)b, (void)m, (void)g;
+    return cocklesway_ring(a, n, f, out, room);
+}
+
 static cocklesway_reply part(const int32_t *a, size_t n, uint32_t f, const int32_t *b, size_t m, uint32_t g,
                              int32_t *out, size_t room) {
     return cocklesway_part(a, n, f, b, m, g, 0, 0, false, 3, out, room);
@@ -89,6 +95,8 @@ static cocklesway_reply log_read(const int32_t *a, size_t n, uint32_t f, const i
     cocklesway_log_pack(log, count, packed, count, 65536, SIZE_MAX);
     cocklesway_log_entry(packed, count, 0, out, room);
     cocklesway_log_nearest(packed, count, a, n, f, 65536);
+    cocklesway_log_gap(packed, count, a, n, f);
+    cocklesway_log_contact(packed, count, a, n, f, -9, 0, 9, 0);
     cocklesway_reply reply = cocklesway_log_read(packed, count, 7, out, room);
     free(log);
     free(packed);
@@ -117,10 +125,10 @@ static void in_bytes(bytes_written *call, list a, list b) {
 
 static void pair(list a, list b) {
     static two_written *const writing[] = {cocklesway_sum, cocklesway_merge, cocklesway_grow, mirror,
-                                           sweep,          part,             log_read};
-    static two_lists *const reading[] = {cocklesway_begin, cocklesway_relation,  cocklesway_inside,
-                                         cocklesway_find,  cocklesway_clearance, cocklesway_tangents,
-                                         cocklesway_excess};
+                                           sweep,          ring,             part,            log_read};
+    static two_lists *const reading[] = {cocklesway_begin,  cocklesway_relation,  cocklesway_inside,
+                                         cocklesway_find,   cocklesway_clearance, cocklesway_greatest,
+                                         cocklesway_excess, cocklesway_tangents};
     for (size_t i = 0; i < sizeof writing / sizeof *writing; i++) {
         written(writing[i], a, b);
     }
@@ -131,9 +139,12 @@ static void pair(list a, list b) {
     cocklesway_furthest(a.numbers, a.n, 0, 1, 0);
     cocklesway_length(a.numbers, a.n, 0);
     cocklesway_width(a.numbers, a.n, 0);
+    cocklesway_area(a.numbers, a.n, 0);
+    cocklesway_box(a.numbers, a.n, 0);
     cocklesway_offer(a.numbers, a.n, 0, b.numbers, b.n, 0, 1, 0);
     cocklesway_passage(a.numbers, a.n, 0, b.numbers, b.n, 0, a.numbers, a.n, 0);
-    calls += 12;
+    cocklesway_contact(a.numbers, a.n, 0, b.numbers, b.n, 0, -9, 0, 9, 0);
+    calls += 17;
     in_bytes(cocklesway_sum_bytes, a, b);
     in_bytes(cocklesway_merge_bytes, a, b);
 }

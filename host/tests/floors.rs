@@ -8,7 +8,7 @@ use second::make::dice::Dice;
 use second::make::pairs;
 use second::plane::Point;
 
-/// What is asked: of two lists, with an output and a log of so many corners and bytes; the refusal, if any.
+/// What is asked: of two lists, with an output and a log of the given sizes; the refusal, if any.
 type Asked = fn(Shape<'_>, Shape<'_>, &mut [[i32; 2]], &mut [u8]) -> Option<Refusal>;
 
 /// The questions of one list, and of two. The second of one list is not asked of.

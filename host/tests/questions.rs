@@ -1,8 +1,9 @@
 //! The exchange of the README, asked of the package.
 use cocklesway::{
     Addition, Axis, Book, Nearest, Reading, Refusal, Relation, Shape, Walk, Which, clearance,
-    contact, find, furthest, grow, inside, judge, length, log_pack, log_read, merge, mirror, offer,
-    passage, relation, sum, sweep, tablet, tangents, width,
+    contact, find, furthest, greatest, grow, inside, judge, least_box, length, log_contact,
+    log_pack, log_read, merge, mirror, offer, passage, relation, ring, sum, sweep, tablet,
+    tangents, width,
 };
 
 const SQUARE: Shape = on(2, &[[0, 0], [2, 0], [2, 2], [0, 2]]);
@@ -71,6 +72,25 @@ fn one_shape_is_measured() {
     let wide = width(RIGHT).map(|r| (r.edge, r.corner, r.turn, r.squared, r.rounded, r.floor));
     assert_eq!(wide, Ok((1, 0, 12, 25, 2, 2)));
     assert_eq!(width(on(2, &[[0, 0]])), Err(Refusal::Flat));
+    let least = least_box(RIGHT).map(|r| (r.edge, r.height, r.along, r.squared, r.floor));
+    assert_eq!(least, Ok((0, 12, 16, 16, 2)));
+    assert_eq!(least_box(on(2, &[[0, 0], [1, 0]])), Err(Refusal::Flat));
+}
+
+#[test]
+fn rings_become_shapes() {
+    let mut out = [[7; 2]; 5];
+    let closed = [[2, 2], [2, 0], [1, 0], [0, 0], [0, 0], [0, 2], [2, 2]];
+    assert_eq!(ring(on(2, &closed), &mut out), Ok(SQUARE));
+    assert_eq!(out[4], [7, 7]);
+    assert_eq!(ring(on(2, &closed), &mut out[..3]), Err(Refusal::Room));
+    let shape = Which::First;
+    assert_eq!(ring(on(2, &[]), &mut out), Err(Refusal::Count { shape }));
+    let many = [[3, 1]; 1025];
+    assert_eq!(ring(on(2, &many), &mut out), Ok(on(2, &[[3, 1]])));
+    let refused = ring(STAR, &mut []).expect_err("the star is not convex");
+    assert!(matches!(refused, Refusal::NotConvex { .. }));
+    assert_eq!((refused.number(), refused.shape()), (4, Some(shape)));
 }
 
 #[test]
@@ -91,6 +111,9 @@ fn two_shapes_are_compared() {
         })
     );
     let beside = on(2, &[[3, 1]]);
+    let far = greatest(SQUARE, beside).map(|r| (r.squared, r.first, r.second, r.floor));
+    assert_eq!(far, Ok((10, 0, 0, 2)));
+    assert_eq!(greatest(SQUARE, UPSTAIRS), Err(Refusal::Floors));
     assert_eq!(
         offer(SQUARE, beside, [1, 0]).map(|r| (r.accepted, r.floor)),
         Ok((true, 2))
@@ -340,6 +363,44 @@ fn drives_meet_obstacles() {
     let upstairs = on(3, &[[0, 0]]);
     assert_eq!(
         contact(wall, upstairs, [0, 0], [1, 0]),
+        Err(Refusal::Floors)
+    );
+}
+
+#[test]
+fn drives_meet_the_shapes_of_a_log() {
+    let mut log = [0; 51];
+    let mut book = Book::new(&mut log);
+    for (name, x) in [(1, 9), (2, 5), (3, 5)] {
+        let point = [[x, 0]];
+        assert_eq!(book.add(name, on(3, &point), 99), Ok(Addition::Finished));
+    }
+    let met = |cart: &[[i32; 2]], from, to| {
+        let answer = book.contact(on(3, cart), from, to)?;
+        let told = |(name, m): (u16, cocklesway::Meeting)| {
+            (name, [m.numerator, m.denominator, m.safe], answer.floor)
+        };
+        Ok::<_, Refusal>(answer.first.map(told))
+    };
+    let (point, front) = ([[0, 0]], [[0, -9], [0, 9]]);
+    assert_eq!(met(&point, [0, 0], [10, 0]), Ok(Some((2, [1, 2, 5], 3))));
+    assert_eq!(met(&point, [12, 0], [6, 0]), Ok(Some((1, [1, 2, 3], 3))));
+    assert_eq!(met(&front, [1, 4], [5, 4]), Ok(Some((2, [1, 1, 4], 3))));
+    assert_eq!(met(&point, [6, 0], [8, 0]), Ok(None));
+    let shape = Which::Second;
+    let far = [1_000_001, 0];
+    assert_eq!(met(&point, far, far), Err(Refusal::Range { shape }));
+    let shape = Which::Third;
+    assert_eq!(met(&point, [0, 0], far), Err(Refusal::Range { shape }));
+    let cart = [[-999_995, 0]];
+    assert_eq!(met(&cart, [0, 0], [0, 0]), Err(Refusal::FarAnswer));
+    let upstairs = on(4, &point);
+    assert_eq!(
+        log_contact(book.bytes(), upstairs, far, far),
+        Err(Refusal::TooFew)
+    );
+    assert_eq!(
+        book.contact(on(1 << 16, &point), far, far),
         Err(Refusal::Floors)
     );
 }

@@ -3,8 +3,9 @@
 
 use crate::clearance::{Clearance, clearance};
 use crate::combine::grow;
+use crate::contact::{Contact, first_met, judge_places};
 use crate::log::{self, Entry};
-use crate::plane::Point;
+use crate::plane::{Point, Shape};
 use crate::refusal::Refusal;
 
 /// The name of the shape that is nearest, one name left out, and its clearance; the first in the log
@@ -27,15 +28,39 @@ pub fn nearest(
 /// than two, and 6 and 7 shape by shape.
 pub fn gap(log: &[u8], cart: &[Point], floor: u16) -> Result<([u16; 2], Clearance), Refusal> {
     let held = on_floor(log, floor, None, 2)?;
-    let mut grown = Vec::new();
-    for entry in &held {
-        grown.push((entry.name, grow(&entry.shape, cart)?));
-    }
+    let grown = all_grown(&held, cart)?;
     let pairs = grown.iter().enumerate().flat_map(|(place, first)| {
         let later = grown[place + 1..].iter();
         later.map(move |second| ([first.0, second.0], clearance(&first.1, &second.1)))
     });
     Ok(first_nearest(pairs))
+}
+
+/// The name of the shape that a straight drive meets first, and where; the first in the log on a tie;
+/// nothing if it meets none. Refused 15, 20 if there is none, 3 of a place, the second list or the third,
+/// and 6 and 7 shape by shape.
+pub fn drive(
+    log: &[u8],
+    cart: &[Point],
+    floor: u16,
+    way: [Point; 2],
+) -> Result<Option<(u16, Contact)>, Refusal> {
+    let held = on_floor(log, floor, None, 1)?;
+    judge_places(way, 2)?;
+    let grown = all_grown(&held, cart)?;
+    let met = grown
+        .iter()
+        .filter_map(|(name, shape)| Some((*name, first_met(shape, way)?)));
+    Ok(met.reduce(|best, next| {
+        let is_before = next.1.is_before(&best.1);
+        if is_before { next } else { best }
+    }))
+}
+
+/// Each name with its shape grown by the cart; 6 and 7 of the first shape that gives one.
+fn all_grown(held: &[Entry], cart: &[Point]) -> Result<Vec<(u16, Shape)>, Refusal> {
+    let grown = |entry: &Entry| Ok((entry.name, grow(&entry.shape, cart)?));
+    held.iter().map(grown).collect()
 }
 
 /// The current shapes on a floor but for one name; 15, and 20 if there are fewer than the least.

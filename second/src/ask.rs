@@ -5,7 +5,7 @@
 use crate::around;
 use crate::clearance::{self, Against, Between, Clearance};
 use crate::combine::{self, held_by};
-use crate::contact;
+use crate::contact::{self, Contact};
 use crate::direction;
 use crate::excess::{self, Place};
 use crate::host;
@@ -16,6 +16,7 @@ use crate::parts::{self, State};
 use crate::passage;
 use crate::plane::{Point, Shape};
 use crate::refusal::Refusal;
+use crate::ring;
 use crate::separation::{self, Relation};
 use crate::sweep;
 use crate::tablet;
@@ -45,7 +46,7 @@ pub fn sum(given: &Given) -> Answer {
     written(given, combine::sum(&a, &b)?, floor)
 }
 
-/// Behind a bar each, what the calls from the beginning on wrote, or 8.
+/// After a bar each, what the calls from the beginning on wrote, or 8.
 pub fn parts(given: &Given) -> Answer {
     let ([a, b], floor) = given.shapes()?;
     let sum = combine::sum(&a, &b)?;
@@ -87,6 +88,11 @@ pub fn sweep(given: &Given) -> Answer {
     written(given, sweep::shape(sweep::judged(list)?), floor)
 }
 
+pub fn ring(given: &Given) -> Answer {
+    let (list, floor) = given.list();
+    written(given, ring::shape(&ring::judged(list)?)?, floor)
+}
+
 pub fn length(given: &Given) -> Answer {
     let ([a], floor) = given.shapes()?;
     let (squared, i, j) = measure::length(&a);
@@ -105,6 +111,13 @@ pub fn width(given: &Given) -> Answer {
         "{} {} {} {} {} @{floor}",
         found.edge, found.corner, found.t, found.q, found.w
     ))
+}
+
+pub fn least_box(given: &Given) -> Answer {
+    let ([a], floor) = given.shapes()?;
+    let found = measure::least_box(&a)?;
+    let (edge, t, s, q) = (found.edge, found.t, found.s, found.q);
+    Ok(format!("{edge} {t} {s} {q} @{floor}"))
 }
 
 pub fn relation(given: &Given) -> Answer {
@@ -169,6 +182,12 @@ fn clearance_words(found: Clearance) -> String {
     format!("{words} {w}")
 }
 
+pub fn greatest(given: &Given) -> Answer {
+    let ([a, b], floor) = given.shapes()?;
+    let (squared, i, j) = measure::greatest(&a, &b);
+    Ok(format!("{squared} {i} {j} @{floor}"))
+}
+
 /// The new shape, then the old one.
 pub fn excess(given: &Given) -> Answer {
     let ([new, old], floor) = given.shapes()?;
@@ -201,7 +220,12 @@ pub fn contact(given: &Given) -> Answer {
     let Some(first) = contact::contact(&obstacle, &cart, given.places())? else {
         return Ok(format!("never @{floor}"));
     };
-    Ok(format!("{} {} {} @{floor}", first.n, first.d, first.safe))
+    Ok(format!("{} @{floor}", contact_words(first)))
+}
+
+/// The fraction of the way, and the millimetres before it.
+fn contact_words(Contact { n, d, safe }: Contact) -> String {
+    format!("{n} {d} {safe}")
 }
 
 pub fn tangents(given: &Given) -> Answer {
@@ -263,6 +287,15 @@ pub fn gap(given: &Given) -> Answer {
     Ok(format!("{first} {second} {words} @{floor}"))
 }
 
+/// The cart's outline, then where its place begins and where it ends.
+pub fn drive(given: &Given) -> Answer {
+    let ([cart], floor) = given.shapes()?;
+    let Some((name, first)) = around::drive(given.log(), &cart, floor, given.places())? else {
+        return Ok(format!("never @{floor}"));
+    };
+    Ok(format!("{name} {} @{floor}", contact_words(first)))
+}
+
 /// Whether all stores were made, and the bytes afterwards.
 fn stored(finished: bool, bytes: &[u8]) -> String {
     let word = if finished { "finished" } else { "cut" };
@@ -318,7 +351,7 @@ fn behind_spaces(corners: &[Point]) -> String {
     numbers.collect()
 }
 
-/// The shape as it stands in the lent output, if that has the room.
+/// The shape as it is in the lent output, if that has the room.
 fn written(given: &Given, shape: Shape, floor: u16) -> Answer {
     let shape = held_by(given.room(), shape)?;
     let (count, numbers) = (shape.len(), behind_spaces(&shape));

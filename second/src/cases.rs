@@ -15,7 +15,9 @@ mod driving;
 mod floors;
 mod growing;
 mod log;
+mod measuring;
 mod passing;
+mod ring;
 mod separating;
 
 /// Words of 01 or 02, and the questions with their stated answers.
@@ -306,6 +308,9 @@ pub fn groups() -> Vec<Group> {
     groups.extend(spelled(changes::CHANGES));
     groups.extend(spelled(driving::DRIVING));
     groups.extend(spelled(around::AROUND));
+    groups.extend(spelled(measuring::MEASURING));
+    groups.extend(spelled(ring::RING));
+    groups.push(ring_limit());
     groups
 }
 
@@ -365,6 +370,28 @@ fn point_limit() -> Group {
             (swept(1024), "ok 1 @0 | 3 1".to_string()),
             (swept(1025), "no 2 shape 1".to_string()),
         ],
+    }
+}
+
+/// The closing point is not counted.
+fn ring_limit() -> Group {
+    let mut dice = Dice::new(3);
+    let mut ring = |count, closed: bool| {
+        let mut shape = long::of_corners(&mut dice, count);
+        let whole = shape_text(&shape);
+        shape.reverse();
+        if closed {
+            shape.push(shape[0]);
+        }
+        let stated = match count {
+            1024 => format!("ok 1024 @0 | {whole}"),
+            _ => "no 2 shape 1".to_string(),
+        };
+        (line("ring", &[shape_text(&shape)]), stated)
+    };
+    Group {
+        words: "Ours: a ring of 1,024 points passes, closed too; one of 1,025 gets 2".to_string(),
+        cases: vec![ring(1024, false), ring(1024, true), ring(1025, false)],
     }
 }
 

@@ -5,7 +5,7 @@ use crate::plane::point;
 use crate::text::lines;
 use std::io::{self, Write};
 
-/// So many differences are told; a long line is told up to so many characters.
+/// How many differences are printed, and how many characters of a long line.
 const MOST_TOLD: usize = 10;
 const MOST_SHOWN: usize = 400;
 
@@ -43,7 +43,7 @@ impl Comparison {
     }
 }
 
-/// Answers the questions and compares; the answers stand in the questions' order, one a line.
+/// Answers the questions and compares; the answers are in the questions' order, one a line.
 pub fn compare(questions: &[u8], answers: &[u8]) -> Comparison {
     let mut comparison = Comparison::default();
     let mut got = answers.split_inclusive(|&byte| byte == b'\n');
@@ -57,7 +57,7 @@ pub fn compare(questions: &[u8], answers: &[u8]) -> Comparison {
         }
     }
     for surplus in got {
-        comparison.add("behind the last question", None, Some(surplus));
+        comparison.add("after the last question", None, Some(surplus));
     }
     comparison
 }

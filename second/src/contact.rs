@@ -9,6 +9,7 @@ use crate::combine::grow;
 use crate::judge::in_range;
 use crate::plane::{Point, dot, edge_ends, squared_distance, turn};
 use crate::refusal::Refusal;
+use crate::wide::product;
 
 /// The fraction n/d of the way in lowest terms, and the whole millimetres before it.
 #[derive(Clone, Copy, Debug, PartialEq, Eq)]
@@ -21,6 +22,13 @@ pub struct Contact {
 /// From 0/1 to 1/1.
 type Fraction = (i128, i128);
 
+impl Contact {
+    /// As exact fractions.
+    pub fn is_before(&self, other: &Contact) -> bool {
+        self.n * other.d < other.n * self.d
+    }
+}
+
 /// Nothing if they never meet. 3 of the place of departure, the third list, and of the destination, the
 /// fourth; then 6 and 7 of the grown obstacle.
 pub fn contact(
@@ -28,24 +36,34 @@ pub fn contact(
     cart: &[Point],
     way: [Point; 2],
 ) -> Result<Option<Contact>, Refusal> {
-    for (list, place) in (3..).zip(&way) {
+    judge_places(way, 3)?;
+    Ok(first_met(&grow(obstacle, cart)?, way))
+}
+
+/// 3 of the place of departure, the list of this number, or of the destination, the next one.
+pub fn judge_places(way: [Point; 2], first: usize) -> Result<(), Refusal> {
+    for (list, place) in (first..).zip(&way) {
         if !in_range(place) {
             return Err(Refusal::of_shape(3, list));
         }
     }
-    let grown = grow(obstacle, cart)?;
-    let met = tried(&grown, way)
+    Ok(())
+}
+
+/// Where on the way the place first is in the grown obstacle; nothing if it never is.
+pub fn first_met(grown: &[Point], way: [Point; 2]) -> Option<Contact> {
+    let met = tried(grown, way)
         .into_iter()
-        .filter(|&at| holds(&grown, way, at));
+        .filter(|&at| holds(grown, way, at));
     let first = met.reduce(|best, next| {
         let is_earlier = next.0 * best.1 < best.0 * next.1;
         if is_earlier { next } else { best }
     });
-    Ok(first.map(|at| {
+    first.map(|at| {
         let (n, d) = lowest(at);
         let safe = safe(n, d, squared_distance(way[0], way[1]));
         Contact { n, d, safe }
-    }))
+    })
 }
 
 fn tried(shape: &[Point], [from, to]: [Point; 2]) -> Vec<Fraction> {
@@ -108,16 +126,6 @@ fn safe(n: i128, d: i128, l: i128) -> i128 {
         }
     }
     low as i128
-}
-
-/// The whole product, its high 128 bits first: it may not fit them once.
-fn product(a: u128, b: u128) -> (u128, u128) {
-    let halves = |number: u128| (number >> 64, number & u128::from(u64::MAX));
-    let ((a, a_low), (b, b_low)) = (halves(a), halves(b));
-    let (carried, low) = halves(a_low * b_low);
-    let (first, middle) = halves(a * b_low + carried);
-    let (second, middle) = halves(a_low * b + middle);
-    (a * b + first + second, middle << 64 | low)
 }
 
 #[cfg(test)]

@@ -16,7 +16,7 @@ use std::collections::{BTreeMap, HashMap};
 /// Answers a question, or says what is wrong.
 pub type Ask<'a> = dyn FnMut(&str) -> Result<String, String> + 'a;
 
-/// Logs of up to so many bytes are walked at every allowance.
+/// Logs of at most this many bytes are walked at every allowance.
 const SHORT: usize = 80;
 
 /// The bytes after a history, and what reading each name has to answer.
@@ -57,7 +57,7 @@ struct Walk<'a> {
     read: HashMap<(Vec<u8>, u16), String>,
 }
 
-/// Walks so many rounds of histories; an error is a sentence that does not hold.
+/// Walks the given number of rounds of histories; an error is a sentence that does not hold.
 pub fn walk<'a>(seed: u64, rounds: usize, ask: &'a mut Ask<'a>) -> Result<(), String> {
     let dice = &mut Dice::new(seed);
     for round in 0..rounds {
@@ -437,7 +437,7 @@ fn false_record(dice: &mut Dice) -> Vec<u8> {
     [old_record(logs::name(dice), &[0x5A, -1]), torn].concat()
 }
 
-/// A point, and a torn end of last bytes alone: wherever the next record ends, its last byte stands
+/// A point, and a torn end of last bytes alone: wherever the next record ends, its last byte is
 /// there already. Its length goes past the end.
 fn last_bytes(dice: &mut Dice) -> Vec<u8> {
     let torn = vec![0x5A; 60 + dice.below(20)];

@@ -24,6 +24,7 @@ mod passage;
 pub mod plane;
 mod questions;
 pub mod refusal;
+mod ring;
 pub mod separation;
 #[cfg(test)]
 mod strips;
@@ -31,3 +32,4 @@ mod sweep;
 mod tablet;
 mod tangents;
 mod text;
+mod wide;

@@ -38,7 +38,7 @@ pub fn current(log: &[u8]) -> Result<Vec<Entry>, Refusal> {
     Ok(latest.map(|(_, entry)| entry).collect())
 }
 
-/// Adds a shape on a floor with at most so many stores; whether that finished.
+/// Adds a shape on a floor with at most `allowed` stores; whether that finished.
 pub fn add(
     log: &mut [u8],
     name: u16,
@@ -136,7 +136,7 @@ pub fn records(log: &[u8]) -> Result<Vec<(u16, &[u8])>, Refusal> {
     Ok(named)
 }
 
-/// What the length at the front counts, if a record stands whole there: a length of 0 counts no
+/// What the length at the front counts, if a record is whole there: a length of 0 counts no
 /// last byte.
 fn whole(rest: &[u8]) -> Option<&[u8]> {
     let (length, behind) = rest.split_first_chunk()?;

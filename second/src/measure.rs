@@ -1,8 +1,10 @@
-//! Furthest corner, length, area and width of one shape: every corner, pair and edge tried.
+//! Furthest corner, length, area, width and least box of one shape, and the greatest distance of two:
+//! every corner, pair and edge tried.
 
 use crate::direction;
-use crate::plane::{Point, edge_ends, squared_distance, turn, value};
+use crate::plane::{Point, dot, edge_ends, squared_distance, turn, value};
 use crate::refusal::Refusal;
+use crate::wide::product;
 
 /// The first and the last of the corners with the greatest value, counterclockwise, and that value.
 /// Where all have it there is no turn: a point is 0 and 0, a segment 0 and 1.
@@ -22,6 +24,21 @@ pub fn length(shape: &[Point]) -> (i128, usize, usize) {
     for i in 0..shape.len() {
         for j in i..shape.len() {
             let distance = squared_distance(shape[i], shape[j]);
+            if distance > best.0 {
+                best = (distance, i, j);
+            }
+        }
+    }
+    best
+}
+
+/// The greatest squared distance of a corner of the first and a corner of the second, smallest i and
+/// then smallest j. Ours, not of document 01.
+pub fn greatest(a: &[Point], b: &[Point]) -> (i128, usize, usize) {
+    let mut best = (-1, 0, 0);
+    for (i, &p) in a.iter().enumerate() {
+        for (j, &q) in b.iter().enumerate() {
+            let distance = squared_distance(p, q);
             if distance > best.0 {
                 best = (distance, i, j);
             }
@@ -81,6 +98,47 @@ fn narrower(a: &Width, b: &Width) -> bool {
     a.t * a.t * b.q < b.t * b.t * a.q
 }
 
+/// A box that lies along an edge: its height times the edge's length, its side along the edge times
+/// that length, and the squared length.
+#[derive(Clone, Copy, Debug, PartialEq, Eq)]
+pub struct LeastBox {
+    pub edge: usize,
+    pub t: i128,
+    pub s: i128,
+    pub q: i128,
+}
+
+/// The edge whose box has the least perimeter, smallest position on a tie; 10 for a point or a segment.
+/// Ours, not of document 01.
+pub fn least_box(shape: &[Point]) -> Result<LeastBox, Refusal> {
+    if shape.len() < 3 {
+        return Err(Refusal::plain(10));
+    }
+    let boxes = (0..shape.len()).map(|edge| box_at(shape, edge));
+    let least = boxes.reduce(|best, next| if smaller(&next, &best) { next } else { best });
+    Ok(least.expect("three edges"))
+}
+
+fn box_at(shape: &[Point], edge: usize) -> LeastBox {
+    let (a, b) = edge_ends(shape, edge);
+    let (_, t) = first_greatest(shape.iter().map(|&c| turn(a, b, c)));
+    let (_, most) = first_greatest(shape.iter().map(|&c| dot(b - a, c)));
+    let (_, back) = first_greatest(shape.iter().map(|&c| dot(a - b, c)));
+    LeastBox {
+        edge,
+        t,
+        s: most + back,
+        q: squared_distance(a, b),
+    }
+}
+
+/// (t+s)·(t+s)/q as exact fractions: the products may pass 128 bits.
+fn smaller(a: &LeastBox, b: &LeastBox) -> bool {
+    let side = |of: &LeastBox| (of.t + of.s).unsigned_abs();
+    let times = |of: &LeastBox, q: i128| product(side(of) * side(of), q.unsigned_abs());
+    times(a, b.q) < times(b, a.q)
+}
+
 /// The w with w·w·bottom ≤ top < (w+1)·(w+1)·bottom, between 0 and the range's diagonal.
 pub fn rounded_root(top: i128, bottom: i128) -> i128 {
     let (mut low, mut high) = (0, 3_000_000);
@@ -109,6 +167,8 @@ fn first_greatest(numbers: impl Iterator<Item = i128>) -> (usize, i128) {
 #[cfg(test)]
 mod tests {
     use super::*;
+    use crate::make::dice::Dice;
+    use crate::make::shapes;
     use crate::plane::point;
 
     #[test]
@@ -129,6 +189,43 @@ mod tests {
             (2, 1, 4_000_000_000_000)
         );
         assert_eq!((found.q, found.w), (8_000_000_000_000, 1_414_213));
+    }
+
+    #[test]
+    fn box_of_the_half_range_stays_exact() {
+        let r = 1_000_000;
+        let half = [point(-r, -r), point(r, -r), point(r, r)];
+        let found = least_box(&half).expect("three corners");
+        let side = 4_000_000_000_000;
+        assert_eq!((found.edge, found.t, found.s), (0, side, side));
+        let across = box_at(&half, 2);
+        assert_eq!((across.t, across.s, across.q), (side, 2 * side, 2 * side));
+        assert!(smaller(&found, &across) && !smaller(&across, &found));
+    }
+
+    /// No box that lies along a corner difference is less: the perimeter is concave between edges.
+    #[test]
+    fn no_other_direction_has_a_smaller_box() {
+        let mut dice = Dice::new(71);
+        for _ in 0..400 {
+            let shape = shapes::small(&mut dice);
+            let Ok(found) = least_box(&shape) else {
+                continue;
+            };
+            for x in -9..=9 {
+                for y in -9..=9 {
+                    let along = point(x, y);
+                    let spread = |d: Point| {
+                        let (_, most) = first_greatest(shape.iter().map(|&c| value(d, c)));
+                        let (_, back) = first_greatest(shape.iter().map(|&c| value(-d, c)));
+                        most + back
+                    };
+                    let sides = spread(along) + spread(along.quarter_turned());
+                    let least = found.t + found.s;
+                    assert!(least * least * dot(along, along) <= sides * sides * found.q);
+                }
+            }
+        }
     }
 
     #[test]

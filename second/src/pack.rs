@@ -4,7 +4,7 @@ use crate::log::records;
 use crate::refusal::Refusal;
 use std::collections::HashSet;
 
-/// Packs a log with at most so many stores; whether they were enough. The records are gone over from
+/// Packs a log with at most `most` stores; whether they were enough. The records are gone over from
 /// the last to the first: one whose name was seen already is older.
 pub fn pack(old: &[u8], new: &mut [u8], but: Option<u16>, most: usize) -> Result<bool, Refusal> {
     let mut seen: HashSet<u16> = but.into_iter().collect();

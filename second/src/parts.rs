@@ -5,7 +5,7 @@ use crate::combine::{self, held_by};
 use crate::plane::{Point, Shape};
 use crate::refusal::Refusal;
 
-/// So many edges of either shape are passed, and whether all corners are written.
+/// How many edges of either shape are passed, and whether all corners are written.
 #[derive(Clone, Copy, Debug, PartialEq, Eq)]
 pub struct State {
     pub i: usize,
@@ -45,7 +45,7 @@ fn parts_of(corner: Point, a: &[Point], b: &[Point]) -> (usize, usize) {
     found.expect("a corner of the sum is a sum of corners")
 }
 
-/// How many edges are passed at a corner, with so many passed before: after the last comes the
+/// How many edges are passed at a corner, with the given number passed before: after the last comes the
 /// first again.
 fn passed(shape: &[Point], before: usize, corner: usize) -> usize {
     if corner < before { shape.len() } else { corner }

@@ -30,14 +30,17 @@ pub const TABLE: &[Row] = &[
     Row { word: "merge", fields: &[Shape, Shape, Room], ask: ask::merge, make: make::merge },
     Row { word: "grow", fields: &[Shape, Shape, Room], ask: ask::grow, make: make::grow },
     Row { word: "sweep", fields: &[Shape, Room], ask: ask::sweep, make: make::sweep },
+    Row { word: "ring", fields: &[Shape, Room], ask: ask::ring, make: make::ring },
     Row { word: "length", fields: &[Shape], ask: ask::length, make: make::one_shape },
     Row { word: "area", fields: &[Shape], ask: ask::area, make: make::one_shape },
     Row { word: "width", fields: &[Shape], ask: ask::width, make: make::one_shape },
+    Row { word: "box", fields: &[Shape], ask: ask::least_box, make: make::least_box },
     Row { word: "relation", fields: &[Shape, Shape], ask: ask::relation, make: make::two_shapes },
     Row { word: "inside", fields: &[Shape, Shape], ask: ask::inside, make: make::two_shapes },
     Row { word: "offer", fields: &[Shape, Shape, Direction], ask: ask::offer, make: make::offer },
     Row { word: "find", fields: &[Shape, Shape], ask: ask::find, make: make::find },
     Row { word: "clearance", fields: &[Shape, Shape], ask: ask::clearance, make: make::clearance },
+    Row { word: "greatest", fields: &[Shape, Shape], ask: ask::greatest, make: make::greatest },
     Row { word: "excess", fields: &[Shape, Shape], ask: ask::excess, make: make::excess },
     Row { word: "tangents", fields: &[Shape, Shape], ask: ask::tangents, make: make::tangents },
     Row { word: "passage", fields: &[Shape, Shape, Shape], ask: ask::passage, make: make::passage },
@@ -49,6 +52,7 @@ pub const TABLE: &[Row] = &[
     Row { word: "entry", fields: &[Log, Position, Room], ask: ask::entry, make: around::entry },
     Row { word: "nearest", fields: &[Log, Shape, Excepted], ask: ask::nearest, make: around::nearest },
     Row { word: "gap", fields: &[Log, Shape], ask: ask::gap, make: around::gap },
+    Row { word: "drive", fields: &[Log, Shape, Direction, Direction], ask: ask::drive, make: around::drive },
 ];
 
 /// The calls of a host, each of which tells its whole line. The query program knows none of them.

@@ -31,7 +31,7 @@ impl Refusal {
         }
     }
 
-    /// 1, 2, 3 or 5 of the shape that stands first or second.
+    /// 1, 2, 3 or 5 of the first or the second shape.
     pub fn of_shape(number: u8, shape: usize) -> Refusal {
         Refusal {
             shape: Some(shape),

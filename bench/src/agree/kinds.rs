@@ -4,7 +4,7 @@ use std::cmp::Ordering;
 
 /// What must have been compared at least once: of each question answers by their first values, and
 /// refusals.
-pub const KINDS: [(&str, &str); 32] = [
+pub const KINDS: [(&str, &str); 36] = [
     ("judge", "ok; no 1; no 2; no 3; no 4; no 5; no 13"),
     (
         "furthest",
@@ -14,15 +14,18 @@ pub const KINDS: [(&str, &str); 32] = [
     ("length", "ok; no 4; no 13"),
     ("width", "ok; no 4; no 10; no 13"),
     ("area", "ok; no 4; no 13"),
+    ("box", "ok; no 4; no 10; no 13"),
     ("sum", "ok; no 4; no 6; no 7; no 8; no 13"),
     ("begin", "ok; no 4; no 6; no 7; no 13"),
     ("part", "ok; ok, over; no 4; no 6; no 7; no 8; no 13; no 14"),
     ("merge", "ok; no 4; no 6; no 8; no 13"),
     ("grow", "ok; no 4; no 6; no 7; no 8; no 13"),
     ("sweep", "ok; no 1; no 2; no 3; no 8; no 13"),
+    ("ring", "ok; no 1; no 2; no 3; no 4; no 8; no 13"),
     ("relation", "ok 0; ok 1; ok 2; no 4; no 13"),
     ("inside", "ok 0; ok 1; no 4; no 13"),
     ("clearance", "ok 0; ok 1; ok 2; ok 3; no 4; no 13"),
+    ("greatest", "ok; no 4; no 13"),
     ("excess", "ok 0; ok 1; ok 2; no 4; no 13"),
     ("tangents", "ok; no 4; no 9; no 13"),
     ("passage", "ok 0; ok 1; no 4; no 6; no 7; no 13"),
@@ -42,6 +45,10 @@ pub const KINDS: [(&str, &str); 32] = [
         "log_gap",
         "ok 0; ok 1; ok 2; ok 3; no 4; no 6; no 7; no 13; no 15; no 20",
     ),
+    (
+        "log_contact",
+        "ok 0; ok 1; no 3; no 4; no 6; no 7; no 13; no 15; no 20",
+    ),
     ("judge_bytes", "ok; no 1; no 2; no 3; no 4; no 5; no 13"),
     ("sum_bytes", "ok; no 4; no 6; no 7; no 8; no 13"),
     ("merge_bytes", "ok; no 4; no 6; no 8; no 13"),
@@ -55,7 +62,7 @@ pub fn kind(word: &str, answer: Numbers) -> String {
         (
             0,
             "relation" | "relation_bytes" | "inside" | "clearance" | "excess" | "passage"
-            | "contact" | "offer" | "find" | "log_add" | "log_pack",
+            | "contact" | "offer" | "find" | "log_add" | "log_pack" | "log_contact",
         ) => {
             format!("ok {first}")
         }

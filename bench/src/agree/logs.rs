@@ -7,10 +7,10 @@ use crate::logs::{FLOORS, NAMES};
 use crate::plain::{self, MOST};
 use crate::random::Random;
 use crate::reply::Numbers;
-use cocklesway::{Book, log_entry, log_gap, log_nearest, log_pack, log_read};
+use cocklesway::{Book, log_contact, log_entry, log_gap, log_nearest, log_pack, log_read};
 
-/// Reads names of a log, adds a shape, and reads again. Asks for a shape by its position, for the nearest one and for
-/// the narrowest gap.
+/// Reads names of a log, adds a shape, and reads again. Asks for a shape by its position, for the nearest one, for the
+/// narrowest gap and for the first one on a drive.
 pub fn ask(tally: &mut Tally, random: &mut Random, log: &[u8], shape: Lent) -> Result<(), String> {
     let name = random.below(NAMES) as u16;
     ask_read(tally, random, log, name)?;
@@ -25,6 +25,7 @@ pub fn ask(tally: &mut Tally, random: &mut Random, log: &[u8], shape: Lent) -> R
         };
         ask_nearest(tally, random, log, name, (shape.0, floor))?;
         ask_gap(tally, random, log, (shape.0, floor))?;
+        ask_drive(tally, random, log, (shape.0, floor))?;
     }
     Ok(())
 }
@@ -70,6 +71,28 @@ fn ask_gap(tally: &mut Tally, random: &mut Random, log: &[u8], shape: Lent) -> R
         let by_hand = plain::log_gap(log, cart.0, cart.1);
         let by_proof = Numbers::of(log_gap(log, on(cart)));
         tally.add("log_gap", (log, cart), by_hand, by_proof)?;
+    }
+    Ok(())
+}
+
+/// Drives small carts and a shape between places near the origin, across the range, or just out of it.
+fn ask_drive(
+    tally: &mut Tally,
+    random: &mut Random,
+    log: &[u8],
+    shape: Lent,
+) -> Result<(), String> {
+    let reach = [9, 200, 1_000_000, 1_000_001][random.below(4) as usize];
+    let [from, to] =
+        [[0; 2]; 2].map(|place: [i32; 2]| place.map(|_| random.between(-reach, reach)));
+    for cart in [
+        (&[1, -1][..], shape.1),
+        (&[0, 0, 3, 1, 1, 2], shape.1),
+        shape,
+    ] {
+        let by_hand = plain::log_contact(log, cart.0, cart.1, from, to);
+        let by_proof = Numbers::of(log_contact(log, on(cart), from, to));
+        tally.add("log_contact", (log, cart, from, to), by_hand, by_proof)?;
     }
     Ok(())
 }

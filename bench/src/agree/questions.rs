@@ -5,15 +5,15 @@ use super::{Lent, on};
 use crate::plain;
 use crate::reply::Numbers;
 use cocklesway::{
-    Walk, area, clearance, contact, excess, find, furthest, inside, judge, length, offer, passage,
-    relation, tangents, width,
+    Walk, area, clearance, contact, excess, find, furthest, greatest, inside, judge, least_box,
+    length, offer, passage, relation, tangents, width,
 };
 
 /// A question of two shapes.
 type Two = fn(Lent, Lent) -> Numbers;
 
 /// Those of which the whole answer is fixed: word, plain and proved.
-const FIXED: [(&str, Two, Two); 6] = [
+const FIXED: [(&str, Two, Two); 7] = [
     (
         "relation",
         |(a, f), (b, g)| plain::relation(a, f, b, g),
@@ -28,6 +28,11 @@ const FIXED: [(&str, Two, Two); 6] = [
         "clearance",
         |(a, f), (b, g)| plain::clearance(a, f, b, g),
         |a, b| Numbers::of(clearance(on(a), on(b))),
+    ),
+    (
+        "greatest",
+        |(a, f), (b, g)| plain::greatest(a, f, b, g),
+        |a, b| Numbers::of(greatest(on(a), on(b))),
     ),
     (
         "excess",
@@ -62,6 +67,8 @@ pub fn ask_one(tally: &mut Tally, lent: Lent) -> Result<(), String> {
         Numbers::of(length(shape)),
     )?;
     tally.add("area", lent, plain::area(a, f), Numbers::of(area(shape)))?;
+    let (by_hand, by_proof) = (plain::least_box(a, f), Numbers::of(least_box(shape)));
+    tally.add("box", lent, by_hand, by_proof)?;
     tally.add("width", lent, plain::width(a, f), Numbers::of(width(shape)))
 }
 

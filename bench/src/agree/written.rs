@@ -7,7 +7,7 @@ use crate::plain::{self, MOST};
 use crate::random::Random;
 use crate::reply::Numbers;
 use crate::shapes::List;
-use cocklesway::{grow, merge, mirror, sum, sweep};
+use cocklesway::{grow, merge, mirror, ring, sum, sweep};
 
 /// A question that writes.
 type Writes = fn(Lent, Lent, &mut [i32]) -> Numbers;
@@ -44,6 +44,13 @@ pub const SWEEP: Written = (
     "sweep",
     |(points, f), _, out| plain::sweep(points, f, out),
     |points, _, out| Numbers::of(sweep(on(points), corners(out))),
+);
+
+/// The ring, for which the second is not read.
+pub const RING: Written = (
+    "ring",
+    |(points, f), _, out| plain::ring(points, f, out),
+    |points, _, out| Numbers::of(ring(on(points), corners(out))),
 );
 
 /// An output as the package takes it: a number that is left over holds no corner.

@@ -44,17 +44,17 @@ impl Buffer {
         self.length
     }
 
-    /// The corner that was pushed so many before the last.
+    /// The corner that was pushed `steps` corners before the last.
     ///
     /// # Safety
-    /// It must hold more than so many.
+    /// It must hold more than `steps`.
     #[inline(always)]
-    pub unsafe fn back(&self, so_many: usize) -> Corner {
-        debug_assert!(so_many < self.length);
+    pub unsafe fn back(&self, steps: usize) -> Corner {
+        debug_assert!(steps < self.length);
         // SAFETY: all below the length were written, and the caller promises that this one is.
         unsafe {
             self.corners
-                .get_unchecked(self.length - 1 - so_many)
+                .get_unchecked(self.length - 1 - steps)
                 .assume_init()
         }
     }

@@ -41,7 +41,7 @@ impl<'a, C: Stored> Edges<'a, C> {
         Edges::new(&corners[start..], &corners[..rest], corners.len())
     }
 
-    /// The edges from corner 0 on, but for so many that are passed.
+    /// The edges from corner 0 on, without the first `passed`.
     #[inline(always)]
     pub fn past(corners: &'a [C], passed: usize) -> Edges<'a, C> {
         if passed < edges(corners.len()) {

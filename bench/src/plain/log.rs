@@ -52,7 +52,7 @@ pub fn log_entry(log: &[u8], k: usize, out: &mut [i32]) -> Numbers {
     }
 }
 
-/// Adds a shape under a name with at most so many stores of single bytes. 1 if it finished, 0 if it was cut.
+/// Adds a shape under a name with at most `allowed` stores of single bytes. 1 if it finished, 0 if it was cut.
 #[inline(never)]
 pub fn log_add(log: &mut [u8], name: u16, list: &[i32], floor: u32, allowed: usize) -> Numbers {
     match admitted(list, floor).and_then(|_| survey(log, |_| ())) {
@@ -62,7 +62,7 @@ pub fn log_add(log: &mut [u8], name: u16, list: &[i32], floor: u32, allowed: usi
     }
 }
 
-/// Packs the latest records of a log into a second run of bytes, without those of a name, with at most so many stores
+/// Packs the latest records of a log into a second run of bytes, without those of a name, with at most `allowed` stores
 /// of single bytes. 1 if it finished, 0 if it was cut.
 #[inline(never)]
 pub fn log_pack(old: &[u8], new: &mut [u8], but: Option<u16>, allowed: usize) -> Numbers {
@@ -259,7 +259,7 @@ impl Store<'_> {
         }
     }
 
-    /// So many stores were made.
+    /// Counts stores that were made.
     #[inline(always)]
     fn pass(&mut self, count: usize) {
         self.at += count;

@@ -125,7 +125,7 @@ impl Hull {
         }
     }
 
-    /// Drops what a new corner leaves behind, and keeps the corner.
+    /// Drops the corners that a new one makes needless, and keeps it.
     #[inline(always)]
     pub fn add(&mut self, corner: Corner) {
         // SAFETY: two are held above the floor, and on each way no corner is pushed twice.
@@ -148,7 +148,7 @@ impl Hull {
         self.floor = self.answer.len();
     }
 
-    /// The way down ends at the first corner, which stands at the front unless it is the only one.
+    /// The way down ends at the first corner, which is at the front unless it is the only one.
     #[inline(always)]
     pub fn close(&mut self) {
         if self.answer.len() > 1 {

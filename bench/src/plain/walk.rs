@@ -114,7 +114,7 @@ impl<'a, C: Stored, const MIRRORED: bool> Walk<'a, C, MIRRORED> {
         self.second.step()
     }
 
-    /// Whether more corners are left than so many. There is at most one for each edge, so that most often no corner is
+    /// Whether more than `most` corners are left. There is at most one for each edge, so that most often no corner is
     /// looked at.
     #[inline(always)]
     pub fn exceeds(self, most: usize) -> bool {

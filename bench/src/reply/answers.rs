@@ -1,9 +1,9 @@
 //! What the package answers, as numbers.
 use super::{MOST_VALUES, Numbers};
 use cocklesway::{
-    Across, Addition, Area, Beyond, Clearance, Contact, Corners, Excess, Furthest, Gap, Inside,
-    Length, Nearest, Neighbour, Offer, Part, Passage, Refusal, Separator, Shape, Standing,
-    Tangents, Walk, Width,
+    Across, Addition, Area, Beyond, Clearance, Contact, Corners, Drive, Excess, Furthest, Gap,
+    Greatest, Inside, LeastBox, Length, Nearest, Neighbour, Offer, Part, Passage, Refusal,
+    Separator, Shape, Standing, Tangents, Walk, Width,
 };
 
 impl From<Refusal> for Numbers {
@@ -14,6 +14,7 @@ impl From<Refusal> for Numbers {
             | Refusal::NotWhole { axis }
             | Refusal::FarReading { axis } => Numbers::blamed(refusal.number(), 1 + axis as u64),
             Refusal::Side { edge, corner, .. } => Numbers::broken(shape, edge, corner),
+            Refusal::NotConvex { before, corner } => Numbers::broken(shape, before, corner),
             Refusal::Damaged { place } => Numbers::damaged(place),
             _ => Numbers::blamed(refusal.number(), shape),
         }
@@ -70,6 +71,20 @@ impl From<Width> for Numbers {
     }
 }
 
+impl From<LeastBox> for Numbers {
+    fn from(r: LeastBox) -> Numbers {
+        let edge = r.edge as u64;
+        Numbers::all([edge, r.height, r.along, r.squared, r.floor.into()])
+    }
+}
+
+impl From<Greatest> for Numbers {
+    fn from(r: Greatest) -> Numbers {
+        let (first, second) = (r.first as u64, r.second as u64);
+        Numbers::all([r.squared, first, second, r.floor.into()])
+    }
+}
+
 impl From<Standing> for Numbers {
     fn from(r: Standing) -> Numbers {
         Numbers::one(r.relation as u64, r.floor)
@@ -106,6 +121,16 @@ impl From<Contact> for Numbers {
         };
         let (n, d) = (meeting.numerator, meeting.denominator);
         Numbers::all([1, n, d, meeting.safe, r.floor.into()])
+    }
+}
+
+impl From<Drive> for Numbers {
+    fn from(r: Drive) -> Numbers {
+        let Some((name, meeting)) = r.first else {
+            return Numbers::one(0, r.floor);
+        };
+        let (n, d) = (meeting.numerator, meeting.denominator);
+        Numbers::all([1, name.into(), n, d, meeting.safe, r.floor.into()])
     }
 }
 

@@ -1,5 +1,5 @@
 -- The replies of a refusal and of an answer that is a shape, what the judging of lists says, and the size of an answer; then the theory
--- behind it.
+-- of it.
 pub mod Answer
 pub mod Admission
 pub mod Three

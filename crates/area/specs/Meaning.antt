@@ -3,20 +3,23 @@
 --     compared     a shape inside another has no more area, and less unless it is the same: **a lost corner shows in the area**
 --     moved        moving and mirroring change nothing
 --     merged       a merge has at least the area of each of its shapes
+--     bounded      a shape that the questions admit has less than 2^43
 use mathlib.Core.Path.{_≡_}
 use mathlib.Core.Bool.{true}
 use mathlib.Core.List.{List, _++_, map}
-use Prim.Native.Nat.{_<_, _≤_}
-use lib.IntN.{pos}
+use Prim.Native.Nat.{_<_, _≤_, _^_}
+use lib.IntN.{ℤ, pos}
 use lib.ListN.{length}
 use lib.Signed.{_≤ℤ_, _<ℤ_}
-use Rattle.plane.specs.Point.{Point, _⊕_}
+use Rattle.plane.specs.Point.{Point, points, _⊕_}
 use Rattle.plane.specs.Shape.{IsShape}
+use Rattle.plane.specs.Refusal.{Valid}
 use Rattle.plane.specs.Corner.{shapeOf, mirrored}
 use Rattle.plane.specs.Separation.{inside}
 use Rattle.area.specs.Area.{twiceArea}
 use Rattle.area.specs.theory.Compared.{area-none, area-positive, area-nonneg, inside-no-more, equal-area-same, other-has-less}
 use Rattle.area.specs.theory.Compared.{area-turned, mirrored-area, moved-area, merged-first, merged-second}
+use Rattle.area.specs.theory.Bounded.{area-bounded}
 
 -- ---- ground
 
@@ -60,3 +63,9 @@ mirrored-has-same-area P s = mirrored-area P s
 module _ (A B : List Point) (s : IsShape A) (t : IsShape B) where
   pub merge-has-no-less-area : (twiceArea A ≤ℤ twiceArea (shapeOf (A ++ B))) × (twiceArea B ≤ℤ twiceArea (shapeOf (A ++ B)))
   merge-has-no-less-area = (merged-first A B s t, merged-second A B s t)
+
+-- ---- bounded
+
+-- twice the area of the square of all places in range is 8,000,000,000,000
+pub area-is-bounded : (l : List ℤ) → Valid l → twiceArea (points l) <ℤ pos (2 ^ 43)
+area-is-bounded l v = area-bounded l v

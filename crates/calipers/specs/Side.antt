@@ -1,7 +1,7 @@
 -- One shape on a walk, with what the walk carries along of it. Our own, not of document 01.
 --     cornerOf s      its corner, and nextOf s its next edge
 --     onward A i      one edge on, or as many as there are
---     Stands l s      s stands at its position of the list l, and has no edge yet
+--     Stands l s      s is at its position of the list l, and has no edge yet
 --     Carried l s     s is the side of the list l at its position: the corner there, and the edge that leaves it; past the last edge
 --                     that is the origin, as every corner past the end of a list
 --     walkOf s t over the place of the walk with these two sides

@@ -1,13 +1,13 @@
 -- The caliper walk round two shapes (document 01, "Sum"; its language form names the walk by value).
 -- The edges of both are passed in the order of their directions; two that point the same way are passed in one step.
 --     Walk              a place of it
---     here A B w        the corner of the sum at which the walk stands; after the last corner of a shape comes its first again
+--     here A B w        the corner of the sum at which the walk is; after the last corner of a shape comes its first again
 --     begun             where it begins
 --     takes, passed     whether the next step passes edge i of A, and how many are passed after it; finished: all edges of both are
 --     advanced A B w    one step further; stepped A B n w: n steps
 --     ahead A B w       the places still to come, the present one first
 --     remaining A B w   the corners of the sum that are still to come
---     At a b w          the walk stands at a place of these two lists, which are shapes with coordinates in range
+--     At a b w          the walk is at a place of these two lists, which are shapes with coordinates in range
 -- What it means: `Meaning.antt`; `Steps` of the theory.
 use mathlib.Core.Bool.{Bool, false, cond}
 use mathlib.Core.List.{List, []}

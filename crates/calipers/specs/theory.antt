@@ -1,4 +1,4 @@
--- The theory of the walk, which only proves: where it stands, the places it visits, the corners there.
+-- The theory of the walk, which only proves: where it is, the places it visits, the corners there.
 pub mod Standing
 pub mod CrossOrder
 pub mod Furthest

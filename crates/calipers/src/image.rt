@@ -70,7 +70,7 @@ pub fn ahead(list: &[i32], top: usize, s: Side, waits: bool) -> Side
     side::facing(side::arrived(s), corner_at(list, top, s.at + 2))
 }
 
-// A side that stands at a corner and knows no edge yet, with its next edge.
+// A side that is at a corner and knows no edge yet, with its next edge.
 fn onto(list: &[i32], top: usize, s: Side) -> Side
     requires { ⌜ Valid (now list) × Peak (points (now list)) top × Stands (image (now list)) s ⌝ }
     ensures { λ r. ⌜ (r .at ≡ s .at) × Carried (image (now (list .entry))) r ⌝ }

@@ -81,7 +81,7 @@ pub fn ahead(list: &[i32], s: Side, waits: bool) -> Side
     facing(arrived(s), corners::corner_at(list, s.at + 2))
 }
 
-// A side that stands at a corner and knows no edge yet, with its next edge.
+// A side that is at a corner and knows no edge yet, with its next edge.
 fn onto(list: &[i32], s: Side) -> Side
     requires { ⌜ Stands (now list) s × InRange (now list) × (0 < length (points (now list))) ⌝ }
     ensures { λ r. ⌜ (r .at ≡ s .at) × Carried (now (list .entry)) r ⌝ }
@@ -182,7 +182,7 @@ pub fn is_before(s: Side, t: Side) -> bool
     0 < order(s, t)
 }
 
-// The corner of the sum at which two sides stand.
+// The corner of the sum at two sides.
 // Ruled out: origin for every sum.
 pub fn here(s: Side, t: Side) -> Point
     requires { ⌜ Small (2 ^ 21) (cornerOf s) × Small (2 ^ 21) (cornerOf t) ⌝ }

@@ -1,5 +1,6 @@
 // Calls on a log, which is lent as bytes.
 ghost use mathlib.Core.Path.{_≡_};
+ghost use Rattle.plane.specs.Point.{point};
 ghost use Rattle.plane.specs.Floor.{on};
 ghost use Rattle.plane.specs.Question.{reply, output};
 ghost use Rattle.journal.specs.Reading.{askRead};
@@ -7,6 +8,7 @@ ghost use Rattle.packing.specs.Packing.{remade};
 ghost use Rattle.journal.specs.Current.{askEntry};
 ghost use Rattle.neighbours.specs.Nearest.{askNearest};
 ghost use Rattle.gaps.specs.Gap.{askGap};
+ghost use Rattle.drives.specs.Drive.{askDrive};
 ghost use Rattle.reply.specs.Told.{crossed, numbers};
 ghost use Rattle.crossing.specs.LowFloor.{lowFloor};
 ghost use Rattle.calls.specs.Calls.{addedLow};
@@ -34,23 +36,23 @@ pub extern "C" fn cocklesway_log_entry(log: &[u8], k: usize, out: &mut [i32]) ->
 
 // Adds the shape to the log with at most as many stores as are allowed. Answers 1 if it finished, 0 if it was cut.
 // A floor above its limit is refused 13 after the list and before the log, with nothing stored.
-// Ruled out: name and floor exchanged.
+// Ruled out: name and floor exchanged; floor above the limit stored.
 #[no_mangle]
 pub extern "C" fn cocklesway_log_add(
     log: &mut [u8],
     name: u16,
-    floor: u32,
+    f: u32,
     list: &[i32],
     allowed: usize,
 ) -> Reply
     ensures { λ r. ⌜
-        (numbers r ≡ crossed (addedLow (now (log .entry)) name floor (now (list .entry)) allowed .reply))
-        × (now (log .exit) ≡ addedLow (now (log .entry)) name floor (now (list .entry)) allowed .log) ⌝ }
+        (numbers r ≡ crossed (addedLow (now (log .entry)) name f (now (list .entry)) allowed .reply))
+        × (now (log .exit) ≡ addedLow (now (log .entry)) name f (now (list .entry)) allowed .log) ⌝ }
 {
-    if limits::exceeds_floor(floor) {
+    if limits::exceeds_floor(f) {
         return floors::barred(list);
     }
-    reply::of_addition(questions::log_add(log, name, floor as u16, list, allowed))
+    reply::of_addition(questions::log_add(log, name, f as u16, list, allowed))
 }
 
 // Packs the old log into the new run with at most as many stores as are allowed, without the records of the name `but`;
@@ -88,4 +90,26 @@ pub extern "C" fn cocklesway_log_gap(log: &[u8], cart: &[i32], floor: u32) -> Re
         return floors::barred(cart);
     }
     reply::of_gap(questions::books::log_gap(log, cart, floor as u16))
+}
+
+// Answers the name of the current shape on the floor that a cart meets first that drives straight from (x, y) to
+// (u, v), and what contact answers of it; 0 if it meets none. A floor above its limit is refused 13 after the cart and
+// before the log.
+#[no_mangle]
+pub extern "C" fn cocklesway_log_contact(
+    log: &[u8],
+    cart: &[i32],
+    floor: u32,
+    x: i32,
+    y: i32,
+    u: i32,
+    v: i32,
+) -> Reply
+    ensures { λ r. ⌜ numbers r ≡ crossed (reply (lowFloor
+        (askDrive (now (log .entry)) (on (now (cart .entry)) floor) (point x y) (point u v)))) ⌝ }
+{
+    if limits::exceeds_floor(floor) {
+        return floors::barred(cart);
+    }
+    reply::of_drive(questions::log_contact(log, cart, floor as u16, x, y, u, v))
 }

@@ -5,6 +5,7 @@ ghost use Rattle.plane.specs.Point.{point};
 ghost use Rattle.plane.specs.Floor.{on};
 ghost use Rattle.plane.specs.Question.{reply, output, askSum, askMerge, askGrow, askRelation, askInside, askOffer};
 ghost use Rattle.plane.specs.Question.{askClearance, askTangents};
+ghost use Rattle.reach.specs.Greatest.{askGreatest};
 ghost use Rattle.excess.specs.Excess.{askExcess};
 ghost use Rattle.contact.specs.Contact.{askContact};
 ghost use Rattle.reply.specs.Told.{crossed, numbers};
@@ -119,6 +120,18 @@ pub extern "C" fn cocklesway_clearance(a: &[i32], f: u32, b: &[i32], g: u32) -> 
         return floors::barred_pair(a, b);
     }
     reply::of_clearance(questions::clearance(a, f as u16, b, g as u16))
+}
+
+// Answers the greatest squared distance of a point of one shape and a point of the other, and two corners that have it.
+#[no_mangle]
+pub extern "C" fn cocklesway_greatest(a: &[i32], f: u32, b: &[i32], g: u32) -> Reply
+    ensures { λ r. ⌜
+        numbers r ≡ crossed (reply (lowFloor (askGreatest (on (now (a .entry)) f) (on (now (b .entry)) g)))) ⌝ }
+{
+    if floors::exceeds(f, g) {
+        return floors::barred_pair(a, b);
+    }
+    reply::of_greatest(questions::greatest(a, f as u16, b, g as u16))
 }
 
 // Answers how far the new shape a reaches beyond the old shape b.

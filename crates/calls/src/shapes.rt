@@ -4,8 +4,9 @@ ghost use Rattle.plane.specs.Point.{point};
 ghost use Rattle.plane.specs.Floor.{on};
 ghost use Rattle.plane.specs.Question.{reply, output, askJudge, askFurthest, askMirror, askSweep, askLength, askWidth};
 ghost use Rattle.area.specs.Area.{askArea};
+ghost use Rattle.boxes.specs.Box.{askBox};
 ghost use Rattle.reply.specs.Told.{crossed, numbers};
-ghost use Rattle.crossing.specs.LowFloor.{lowFloor};
+ghost use Rattle.crossing.specs.LowFloor.{lowFloor, lowRing};
 use crossing::floors;
 use polygon::limits;
 use reply::Reply;
@@ -59,6 +60,19 @@ pub extern "C" fn cocklesway_sweep(list: &[i32], floor: u32, out: &mut [i32]) ->
     reply::of_answer(questions::sweep(list, floor as u16, out))
 }
 
+// Writes the standard list with the corners of a ring as people have it, and answers how many they are.
+#[no_mangle]
+pub extern "C" fn cocklesway_ring(list: &[i32], floor: u32, out: &mut [i32]) -> Reply
+    ensures { λ r. ⌜
+        (numbers r ≡ crossed (reply (lowRing (on (now (list .entry)) floor) (now (out .entry)))))
+        × (now (out .exit) ≡ output (lowRing (on (now (list .entry)) floor) (now (out .entry)))) ⌝ }
+{
+    if limits::exceeds_floor(floor) {
+        return floors::barred_ring(list);
+    }
+    reply::of_answer(questions::rings::ring(list, floor as u16, out))
+}
+
 // Answers the greatest squared distance of two corners, and their positions.
 #[no_mangle]
 pub extern "C" fn cocklesway_length(list: &[i32], floor: u32) -> Reply
@@ -90,4 +104,15 @@ pub extern "C" fn cocklesway_width(list: &[i32], floor: u32) -> Reply
         return floors::barred(list);
     }
     reply::of_width(questions::width(list, floor as u16))
+}
+
+// Answers the edge of the least box, its height, the side along it and the squared edge.
+#[no_mangle]
+pub extern "C" fn cocklesway_box(list: &[i32], floor: u32) -> Reply
+    ensures { λ r. ⌜ numbers r ≡ crossed (reply (lowFloor (askBox (on (now (list .entry)) floor)))) ⌝ }
+{
+    if limits::exceeds_floor(floor) {
+        return floors::barred(list);
+    }
+    reply::of_box(questions::least_box(list, floor as u16))
 }

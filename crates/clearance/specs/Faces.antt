@@ -1,6 +1,7 @@
 -- The faces of two shapes that are against each other, by their smaller and larger positions, and the first pair of their ends that passes
 -- a test. Our own, not of document 02.
 --     IsFace n ps f           corners f .first and f .last are lowest in n, in the order of their positions, and no other corner is
+--     orderedEnds i j         the face with these ends, the smaller position first
 --     Ends l f                both are positions of a list in range
 --     isEnd f i               i is one of the two
 --     isAlong n A B i j       the step from corner j of B to corner i of A is along n
@@ -11,7 +12,7 @@ use mathlib.Core.Bool.{Bool, cond, _&&_, _||_}
 use mathlib.Core.Logic.{_⊎_}
 use mathlib.Core.List.{List}
 use Prim.Native.Nat.{ℕ, _≤_, _<_}
-use lib.Dec.{eqb}
+use lib.Dec.{eqb, ltb}
 use lib.IntN.{ℤ, pos}
 use lib.ListN.{length}
 use lib.Signed.{leZ}
@@ -30,6 +31,9 @@ pub record IsFace (n : Point) (ps : List Point) (f : Face) : Type 0 where
   pub last-lowest : Lowest n ps (f .last)
   pub ordered : f .first ≤ f .last
   pub no-other : (k : ℕ) → Lowest n ps k → (k ≡ f .first) ⊎ (k ≡ f .last)
+
+abbrev pub orderedEnds : ℕ → ℕ → Face
+orderedEnds i j = cond (ltb j i) (record { first = j; last = i }) (record { first = i; last = j })
 
 pub record Ends (l : List ℤ) (f : Face) : Type 0 where
   pub near : InRange l

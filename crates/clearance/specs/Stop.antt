@@ -2,17 +2,16 @@
 --     rests p w d       of three corners one after another, neither neighbour of w is nearer to the origin along w
 --     crosses w d       the edge from w to d has the origin to its right, and the foot of the origin strictly inside
 --     footInside w d    the latter alone
---     behind D k        the corner before corner k; before the first, at which the walk begins, the origin
 --     Stopped D n       the walk stopped at a corner, which is n; at an edge, n being its left normal; or it came to its end: no place
 --                       but the first corner, which is n, is left
 use mathlib.Core.Path.{_≡_}
 use mathlib.Core.Bool.{Bool, true, false, _&&_}
 use mathlib.Core.List.{List}
-use Prim.Native.Nat.{ℕ, zero, suc, _<_}
+use Prim.Native.Nat.{ℕ, suc, _<_}
 use lib.IntN.{pos}
 use lib.ListN.{length}
 use lib.Signed.{ltZ, leZ}
-use Rattle.plane.specs.Point.{Point, origin, corner, _⊖_}
+use Rattle.plane.specs.Point.{Point, corner, _⊖_}
 use Rattle.plane.specs.Turn.{cross}
 use Rattle.plane.specs.Shape.{next}
 use Rattle.plane.specs.Direction.{value}
@@ -26,10 +25,6 @@ footInside w d = ltZ (value w d) (value w w) && ltZ (value w d) (value d d)
 
 unfoldable pub crosses : Point → Point → Bool
 crosses w d = ltZ (cross w d) (pos 0) && footInside w d
-
-abbrev pub behind : List Point → ℕ → Point
-behind D zero = origin
-behind D (suc k) = corner D k
 
 -- the corner after corner k
 abbrev pub after : List Point → ℕ → Point

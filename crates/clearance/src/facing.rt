@@ -1,33 +1,60 @@
-// Inner functions: the direction from one shape to another along which they are nearest, by one walk round the corners
-// of their differences: the sum of the first and the mirror image of the second, whose peak is at position top.
+// Inner functions: the direction from one shape to another along which they are nearest, by a walk round the corners of
+// their differences: the sum of the first and the mirror image of the second, whose peak is at position top.
 ghost use mathlib.Core.Path.{_≡_};
 ghost use Prim.Native.Nat.{_^_};
-ghost use Rattle.plane.specs.Point.{points, corner, _⊖_};
+ghost use Rattle.plane.specs.Point.{points, _⊖_};
 ghost use Rattle.plane.specs.Refusal.{Valid};
-ghost use Rattle.plane.specs.Forms.{NonZero};
 ghost use Rattle.plane.specs.Cut.{quarter};
 ghost use Rattle.plane.specs.VectorSum.{vectorSum};
 ghost use Rattle.polygon.specs.Peak.{Peak};
 ghost use Rattle.polygon.specs.Point.{at, Small};
 ghost use Rattle.calipers.specs.Image.{image};
+ghost use Rattle.separation.specs.Passing.{Stood};
 ghost use Rattle.clearance.specs.Stop.{footInside, Stopped};
 ghost use Rattle.clearance.specs.Stop.{rests as Stop·rests, crosses as Stop·crosses};
+ghost use Rattle.clearance.specs.Sight.{NoOrigin, Looked};
 use calipers::image;
 use calipers::side;
+use calipers::side::Side;
 use polygon::point;
 use polygon::point::Point;
+use separation::around;
 
-// The walk stops at a corner that neither of its neighbours is nearer than, along itself; or at an edge that has the
-// origin to its right and the origin's foot strictly inside. The corner before the first is not known when the walk is
-// at the first: the origin takes its place, and the first corner is what is left if no other place is found.
-pub fn facing(a: &[i32], b: &[i32], top: usize) -> Point
+// What a walk found: whether a place, the direction there, and how many edges of each shape it had passed.
+pub struct Sight {
+    pub found: bool,
+    pub n: Point,
+    pub first: usize,
+    pub second: usize,
+}
+
+// Looks for the closest place from the first edge on that has the origin to its right. Before it there is none, unless
+// a corner is so sharp that the origin is to the right of one of its edges alone: then all are looked at.
+pub fn facing(a: &[i32], b: &[i32], top: usize) -> Sight
     requires { ⌜ Valid (now a) × Valid (now b) × Peak (points (now b)) top
-        × NonZero (corner (vectorSum (points (now a)) (points (image (now b)))) 0) ⌝ }
-    ensures { λ r. ⌜ Small (2 ^ 22) (at r)
-        × Stopped (vectorSum (points (now (a .entry))) (points (image (now (b .entry))))) (at r) ⌝ }
+        × NoOrigin (vectorSum (points (now a)) (points (image (now b)))) ⌝ }
+    ensures { λ r. ⌜ Small (2 ^ 22) (at (r .n))
+        × Stopped (vectorSum (points (now (a .entry))) (points (image (now (b .entry))))) (at (r .n)) ⌝ }
 {
-    let mut s = side::side_at(a, 0);
-    let mut t = image::side_at(b, top, 0);
+    let sides = around::pass(a, b, top);
+    let near = look(a, b, top, sides.first, sides.second);
+    if near.found {
+        return near;
+    }
+    look(a, b, top, 0, 0)
+}
+
+// The walk begins where i edges of the first shape and j of the second are passed. It stops at a corner that neither of
+// its neighbours is nearer than, along itself; or at an edge that has the origin to its right and the origin's foot
+// strictly inside. The corner before the first is not known when the walk is at the first: the origin takes its place,
+// and the first corner is what is left if no other place is found.
+fn look(a: &[i32], b: &[i32], top: usize, i: usize, j: usize) -> Sight
+    requires { ⌜ Valid (now a) × Valid (now b) × Peak (points (now b)) top × Stood (now a) (image (now b)) i j
+        × NoOrigin (vectorSum (points (now a)) (points (image (now b)))) ⌝ }
+    ensures { λ r. ⌜ Small (2 ^ 22) (at (r .n)) × Looked (now (a .entry)) (image (now (b .entry))) i j r ⌝ }
+{
+    let mut s = side::side_at(a, i);
+    let mut t = image::side_at(b, top, j);
     let all = s.end + t.end;
     let first = side::here(s, t);
     let mut back = Point { x: 0, y: 0 };
@@ -38,17 +65,29 @@ pub fn facing(a: &[i32], b: &[i32], top: usize) -> Point
         let here = side::here(s, t);
         let there = side::here(m, n);
         if rests(back, here, there) {
-            return here;
+            return seen(true, here, s, t);
         }
         if crosses(here, there) {
-            return across(here, there);
+            return seen(true, across(here, there), s, t);
         }
         if m.at + n.at == all {
-            return first;
+            return seen(false, first, s, t);
         }
         back = here;
         s = m;
         t = n;
+    }
+}
+
+// A direction, with the sides at which it was found.
+fn seen(found: bool, n: Point, s: Side, t: Side) -> Sight
+    ensures { λ r. ⌜ (r .found ≡ found) × (at (r .n) ≡ at n) ⌝ }
+{
+    Sight {
+        found,
+        n,
+        first: s.at,
+        second: t.at,
     }
 }
 

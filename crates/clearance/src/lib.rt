@@ -12,9 +12,11 @@ ghost use Rattle.plane.specs.Point.{points};
 ghost use Rattle.plane.specs.Refusal.{Valid};
 ghost use Rattle.plane.specs.Separation.{apart};
 ghost use Rattle.plane.specs.Clearance.{numbersOf, nearest as Clearance·nearest};
+ghost use Rattle.polygon.specs.Peak.{Peak};
 ghost use Rattle.polygon.specs.Point.{at, Small};
 ghost use Rattle.clearance.specs.Facing.{Facing};
 ghost use Rattle.clearance.specs.Answer.{valuesOf};
+use facing::Sight;
 use measured::Distance;
 use polygon::peak;
 use polygon::point::Point;
@@ -27,8 +29,11 @@ pub fn nearest(a: &[i32], b: &[i32]) -> Distance
     ensures { λ r. ⌜ valuesOf r ≡ numbersOf (points (now (a .entry))) (points (now (b .entry)))
         (Clearance·nearest (points (now (a .entry))) (points (now (b .entry)))) ⌝ }
 {
-    let n = towards(a, b);
-    measured::measured(a, b, reach::first_reached(a, b, n))
+    let top = peak::top(b);
+    let seen = sought(a, b, top);
+    let i = face::place(a, 0, seen.first);
+    let j = face::place(b, top, seen.second);
+    measured::measured(a, b, reach::first_reached(a, b, seen.n, i, j))
 }
 
 // A direction from the second shape to the first along which they are nearest, where they are apart. It may be of any
@@ -37,5 +42,15 @@ pub fn towards(a: &[i32], b: &[i32]) -> Point
     requires { ⌜ Valid (now a) × Valid (now b) × (apart (points (now a)) (points (now b)) ≡ true) ⌝ }
     ensures { λ r. ⌜ Small (2 ^ 22) (at r) × Facing (points (now (a .entry))) (points (now (b .entry))) (at r) ⌝ }
 {
-    facing::facing(a, b, peak::top(b))
+    sought(a, b, peak::top(b)).n
+}
+
+// The same, with the place where it was found. The peak of the second shape is at position top.
+fn sought(a: &[i32], b: &[i32], top: usize) -> Sight
+    requires { ⌜ Valid (now a) × Valid (now b) × (apart (points (now a)) (points (now b)) ≡ true)
+        × Peak (points (now b)) top ⌝ }
+    ensures { λ r. ⌜ Small (2 ^ 22) (at (r .n))
+        × Facing (points (now (a .entry))) (points (now (b .entry))) (at (r .n)) ⌝ }
+{
+    facing::facing(a, b, top)
 }

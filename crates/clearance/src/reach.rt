@@ -31,15 +31,17 @@ pub enum Spot {
 }
 
 // The first of all candidates that are reached in a direction: two corners first, then a corner of the first shape on
-// an edge of the second, then the reverse; each by the smallest positions.
+// an edge of the second, then the reverse; each by the smallest positions. They are thought to be near corner i of the
+// first and corner j of the second.
 // Ruled out: ties the other way.
-pub fn first_reached(a: &[i32], b: &[i32], n: Point) -> Pair
+pub fn first_reached(a: &[i32], b: &[i32], n: Point, i: usize, j: usize) -> Pair
     requires { ⌜ Valid (now a) × Valid (now b) × Small (2 ^ 22) (at n)
-        × Facing (points (now a)) (points (now b)) (at n) ⌝ }
+        × Facing (points (now a)) (points (now b)) (at n)
+        × (i < length (points (now a))) × (j < length (points (now b))) ⌝ }
     ensures { λ r. ⌜ candidateOf r ≡ nearest (points (now (a .entry))) (points (now (b .entry))) ⌝ }
 {
-    let f = face::lowest(a, n);
-    let g = face::lowest(b, face::against(n));
+    let f = face::near(a, n, i);
+    let g = face::near(b, face::against(n), j);
     if let Spot::At { one, other } = first_along(a, f, b, g, n) {
         return Pair::Corners {
             first: one,

@@ -44,10 +44,13 @@ pub fn entering(a: i64, b: i64) -> Share
     }
 }
 
-// The later of two fractions, the first if they are equal.
+// The later of two fractions, the first if they are equal. Nothing is before the start, so that 0 needs no product.
 pub fn later(f: Share, g: Share) -> Share
     ensures { λ r. ⌜ fraction r ≡ Contact·later (fraction f) (fraction g) ⌝ }
 {
+    if g.numerator == 0 {
+        return f;
+    }
     if is_less(f.numerator, g.denominator, g.numerator, f.denominator) {
         g
     } else {
@@ -56,7 +59,7 @@ pub fn later(f: Share, g: Share) -> Share
 }
 
 // Whether a·b is less than c·d.
-fn is_less(a: u64, b: u64, c: u64, d: u64) -> bool
+pub fn is_less(a: u64, b: u64, c: u64, d: u64) -> bool
     ensures { λ r. ⌜ r ≡ ltb (a * b) (c * d) ⌝ }
 {
     let one = [a];
@@ -95,6 +98,7 @@ fn divisor(a: u64, b: u64) -> u64
 }
 
 // The millimetres to a fraction of a way whose squared length is given, rounded down: each turn halves what is left.
+// Ruled out: safe way rounded up to one.
 pub fn millimetres(f: Share, length: u64) -> u64
     requires { ⌜ (f .numerator ≤ f .denominator) × (0 < f .denominator) × (length < 2 ^ 44) ⌝ }
     ensures { λ r. ⌜ r ≡ rootBelow (f .numerator * f .numerator * length) (f .denominator * f .denominator) ⌝ }

@@ -7,9 +7,8 @@ ghost use Rattle.plane.specs.Point.{points};
 ghost use Rattle.plane.specs.Turn.{turn};
 ghost use Rattle.plane.specs.Refusal.{Valid};
 ghost use Rattle.polygon.specs.Point.{at, Small};
-ghost use Rattle.contact.specs.Contact.{arrival as Contact·arrival, past as Contact·past};
-ghost use Rattle.contact.specs.Contact.{entering, entry, lastEntry};
-ghost use Rattle.contact.specs.Share.{fraction, Places};
+ghost use Rattle.contact.specs.Contact.{past as Contact·past, entering, entry, lastEntry};
+ghost use Rattle.contact.specs.Share.{fraction, Places, lastWall};
 use crate::share;
 use crate::share::Share;
 use polygon::corners;
@@ -17,14 +16,15 @@ use polygon::point;
 use polygon::point::Point;
 use polygon::rules;
 
-// The last entry of a way through the walls of a shape.
+// The last entry of a way through the walls of a shape: its edges, and the box about a point or a segment.
 // Ruled out: last edge left out; upper side of the box left out; last contact for first.
 pub fn arrival(list: &[i32], t: Point, u: Point) -> Share
     requires { ⌜ Valid (now list) × Places (at t) (at u) ⌝ }
-    ensures { λ r. ⌜ fraction r ≡ Contact·arrival (at t) (at u) (points (now (list .entry))) ⌝ }
+    ensures { λ r. ⌜ fraction r ≡ lastWall (at t) (at u) (points (now (list .entry)))
+        (length (points (now (list .entry)))) ⌝ }
 {
     let n = corners::count(list);
-    let mut last = box_arrival(list, t, u);
+    let mut last = start(list, t, u);
     let mut i = 0;
     while i < n {
         last = share::later(last, edge_entry(list, i, t, u));
@@ -33,7 +33,22 @@ pub fn arrival(list: &[i32], t: Point, u: Point) -> Share
     last
 }
 
+// What the edges are added to: the start of the way if there are three or more, and else the entry into the box.
+fn start(list: &[i32], t: Point, u: Point) -> Share
+    requires { ⌜ Valid (now list) × Places (at t) (at u) ⌝ }
+    ensures { λ r. ⌜ fraction r ≡ lastWall (at t) (at u) (points (now (list .entry))) 0 ⌝ }
+{
+    if 3 <= corners::count(list) {
+        return Share {
+            numerator: 0,
+            denominator: 1,
+        };
+    }
+    box_arrival(list, t, u)
+}
+
 // The last entry through the four sides of the box about a shape.
+// Ruled out: grown segment passed through.
 fn box_arrival(list: &[i32], t: Point, u: Point) -> Share
     requires { ⌜ Valid (now list) × Places (at t) (at u) ⌝ }
     ensures { λ r. ⌜ fraction r ≡ lastEntry (entry (at t) (at u) (points (now (list .entry)))) 4 ⌝ }
@@ -63,6 +78,7 @@ fn side_entry(list: &[i32], d: Point, t: Point, u: Point) -> Share
 }
 
 // The entry through the edge that leaves corner i.
+// Ruled out: edge left taken for one entered.
 fn edge_entry(list: &[i32], i: usize, t: Point, u: Point) -> Share
     requires { ⌜ Valid (now list) × (i < length (points (now list))) × Places (at t) (at u) ⌝ }
     ensures { λ r. ⌜ fraction r ≡ entry (at t) (at u) (points (now (list .entry))) (4 + i) ⌝ }

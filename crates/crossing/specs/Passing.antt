@@ -1,11 +1,11 @@
 -- What is passed to the calls on lists for bytes, and what becomes of their reply. Our own, not of document 02.
 --     Alike l s               s may be asked about in place of l: it is l, or both are refused 1, or both 2
---     smallBytes              so many bytes hold a small list
+--     smallBytes              how many bytes hold a small list
 --     Enough b n              n numbers hold what is read of b bytes
 --     Spacious m n s          s numbers hold a shape that has no more numbers than m and n together
 --     Cut n r                 r of n numbers are read: all, or more than a shape may have, even or odd as n is
 --     Room b most r           an output of b bytes has room for a shape exactly if r numbers have; for one of at most `most` numbers
---     Holds m a b most        so many numbers hold what is made of two valid lists, unless it has too many corners
+--     Holds m a b most        that number of numbers holds what is made of two valid lists, unless it has too many corners
 --     Narrow ns               the numbers of a reply have room in the fields of `packed`
 --     Packs ns n              n is the reply, packed, whose numbers these are
 --     combined m              how two shapes are made one: merged or summed

@@ -6,6 +6,7 @@ ghost use lib.Dec.{ltb};
 ghost use Rattle.plane.specs.Limits.{maxFloor};
 ghost use Rattle.plane.specs.Refusal.{shapeRows};
 ghost use Rattle.plane.specs.Sweep.{pointRows};
+ghost use Rattle.ring.specs.Ring.{listRows};
 ghost use Rattle.reply.specs.Told.{crossed, numbers};
 ghost use Rattle.crossing.specs.LowFloor.{barred as LowFloor·barred};
 use admission::Admission;
@@ -77,6 +78,16 @@ pub fn barred_points(list: &[i32]) -> Reply
     ensures { λ r. ⌜ numbers r ≡ crossed (LowFloor·barred (pointRows (now (list .entry)))) ⌝ }
 {
     if let Admission::No(refusal) = admission::admit_points(list) {
+        return refusals::of_refusal(refusal);
+    }
+    refusals::of_refusal(Refusal::Floors)
+}
+
+// Returns the refusal of a ring's points, else 13.
+pub fn barred_ring(list: &[i32]) -> Reply
+    ensures { λ r. ⌜ numbers r ≡ crossed (LowFloor·barred (listRows (now (list .entry)))) ⌝ }
+{
+    if let Admission::No(refusal) = ring::admit(list) {
         return refusals::of_refusal(refusal);
     }
     refusals::of_refusal(Refusal::Floors)

@@ -42,7 +42,7 @@ fn odd_divisor(a: u32, b: u32) -> u32
     x
 }
 
-// n without so many factors of two.
+// Returns n without `twos` factors of two.
 fn strip(n: u32, twos: u32) -> u32
     requires { ⌜ twos < 32 ⌝ }
     ensures { λ r. ⌜ r ≡ n / 2 ^ twos ⌝ }

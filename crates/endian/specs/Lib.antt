@@ -1,3 +1,3 @@
--- Numbers as bytes, the lowest first; then the theory behind them.
+-- Numbers as bytes, the lowest first; then their theory.
 pub mod Bytes
 pub mod theory

@@ -1,6 +1,6 @@
 // Inner functions: the narrowest gap between the shapes of a floor. Callers ask the crate `questions`.
 pub mod floor;
-mod growing;
+pub mod growing;
 mod search;
 pub mod sizes;
 

@@ -14,10 +14,11 @@ ghost use Rattle.journal.specs.Format.{records};
 ghost use Rattle.journal.specs.Reading.{damaged};
 ghost use Rattle.journal.specs.Survey.{recordAt, Sound};
 ghost use Rattle.gaps.specs.Gap.{grownOf, onFloor, sizeRowsOf};
-ghost use Rattle.gaps.specs.Search.{isOn, rowsAt};
-use crate::floor;
+ghost use Rattle.gaps.specs.Search.{rowsAt};
 use crate::growing;
 use admission::Admission;
+use journal::current;
+use journal::head;
 use journal::records;
 use polygon::limits;
 
@@ -51,15 +52,22 @@ fn pass(log: &[u8], floor: u16, cart: &[i32], shape: &mut [i32]) -> Admission
 }
 
 // Judges the record at a place: nothing is refused of one that is not on the floor, or not the latest of its name.
+// Later records are looked at last, since few shapes are refused.
 fn admit_at(log: &[u8], p: usize, floor: u16, cart: &[i32], shape: &mut [i32]) -> Admission
     requires { ⌜ Sound (now log) p × Valid (now cart) × (length (now shape) ≡ 2 * maxCorners) ⌝ }
     ensures { λ r. ⌜ Judged (NoneApply (rowsAt (points (now (cart .entry))) floor (now (log .entry)) p))
         (rowsAt (points (now (cart .entry))) floor (now (log .entry)) p) r
         × (length (now (shape .exit)) ≡ 2 * maxCorners) ⌝ }
 {
-    if !floor::is_on(log, p, floor) {
+    if head::head_at(log, p).floor != floor {
         return Admission::Valid;
     }
     let n = growing::read_at(log, p, shape);
-    passage::admit_grown(&shape[..n], cart)
+    let Admission::No(refusal) = passage::admit_grown(&shape[..n], cart) else {
+        return Admission::Valid;
+    };
+    if !current::is_current(log, p) {
+        return Admission::Valid;
+    }
+    Admission::No(refusal)
 }

@@ -9,7 +9,7 @@ use Rattle.plane.specs.Corner.{shapeOf}
 use Rattle.plane.specs.Separation.{inside, apart, notLeft, onRim, touching, relationNumber}
 use Rattle.growth.specs.Grown.{grown, placed}
 
--- what the definitions give, and what is stated: the grown obstacle, and how the cart at a place stands to the obstacle
+-- what the definitions give, and what is stated: the grown obstacle, and how the cart at a place relates to the obstacle
 pub record Case : Type 0 where
   pub outline : List ℤ
   pub place : Point

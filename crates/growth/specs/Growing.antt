@@ -1,6 +1,6 @@
 -- Growing is right: what it is for, and that nothing is lost by it. Each theorem is proved in the theory; here it is only cited.
 --     ground            what is grown and what is moved are shapes; what the calls answer
---     at a place        the cart at t stands to the obstacle exactly as the point t stands to the grown obstacle
+--     at a place        the cart at t is to the obstacle exactly as the point t is to the grown obstacle
 --     driving           the cart driving straight, exactly as the segment of its places
 --     maps              larger carts, more obstacles, a cart with a load: two outlines
 --     lost corners      a map that lost a corner answers differently at some place
@@ -66,7 +66,7 @@ relation-answers-number a b s = relation-answered a b s
 -- ---- at a place
 
 module _ (A B : List Point) (a : 0 < length A) (b : 0 < length B) (t : Point) where
-  -- a cart at t stands to the obstacle exactly as the point t stands to the grown obstacle: apart
+  -- a cart at t is to the obstacle exactly as the point t is to the grown obstacle: apart
   pub cart-is-apart-as-its-place : apart (placed A t) B ≡ apart (t ∷ []) (grown B A)
   cart-is-apart-as-its-place = alike-apart (placed A t) B (t ∷ []) (grown B A) (place-alike A B a b t)
 

@@ -1,6 +1,6 @@
 -- Growing an obstacle by a cart's outline, so that the cart may be taken for a point. Our own, not of document 01: the user's carts "grow
 -- each obstacle by the cart's outline". The corners of an outline A are relative to the cart's own origin; a place is where that origin
--- stands, in whole millimetres. No number has a bound here.
+-- is, in whole millimetres. No number has a bound here.
 --     grown B A             the obstacle B grown by the outline A
 --     placed A t            the cart at place t
 --     driven A t u          what the cart passes over, driving straight from t to u without turning

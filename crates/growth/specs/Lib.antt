@@ -1,4 +1,4 @@
--- Growing obstacles by a cart's outline: the definitions; what growing is for; cases; then the theory behind it.
+-- Growing obstacles by a cart's outline: the definitions; what growing is for; cases; then its theory.
 pub mod Grown
 pub mod Growing
 pub mod Cases

@@ -1,4 +1,4 @@
--- The theory of growing, which only proves: pairs of shapes that stand alike; places; larger carts and more obstacles; lost
+-- The theory of growing, which only proves: pairs of shapes that relate alike; places; larger carts and more obstacles; lost
 -- corners; what relation and clearance reply; what grow, and mirror and sum, answer.
 pub mod Alike
 pub mod Places

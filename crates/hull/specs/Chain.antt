@@ -1,8 +1,8 @@
 -- The two chains of two shapes together. Our own, not of document 01. A shape's right-hand chain runs up from its first corner to its
 -- last by y, then by x (its peak), its left-hand chain from there down to the first corner again.
---     home ps t            where the chain down ends on the way round: behind the last corner, and for a point at its one corner
+--     home ps t            where the chain down ends on the way round: after the last corner, and for a point at its one corner
 --     isRight s t p        p lies strictly to the right of the line from s to t
---     rowFirst, rowEnd, taken      of the corners from one end of a chain to the other, those that may stand on the chain from s to t: an
+--     rowFirst, rowEnd, taken      of the corners from one end of a chain to the other, those that may be on the chain from s to t: an
 --                          end only if it lies to the right
 --     rightRows, leftRows      those of two shapes, for the chain up from s to t and the chain down from t to s
 --     Spread A a B b s t   s is the least corner of two shapes, t is the greatest, and they differ

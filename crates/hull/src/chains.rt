@@ -1,4 +1,4 @@
-// Inner functions: a chain of two shapes, from the rows of their corners that may stand on it.
+// Inner functions: a chain of two shapes, from the rows of their corners that may be on it.
 ghost use Prim.Native.Nat.{_+_, _-_, _^_, _<_, _≤_};
 ghost use lib.ListN.{length};
 ghost use Rattle.plane.specs.Point.{points};
@@ -44,7 +44,7 @@ pub fn chain(
 }
 
 // Pushes the corners of two rows, in order, equal ones once, on the one corner at the front of the buffer; answers how
-// many stand there then.
+// many are there then.
 fn both(a: &[i32], row: Row, b: &[i32], other: Row, up: bool, buf: &mut [i32]) -> usize
     requires { ⌜ Rising up (now a) (row .first) (row .end) × Rising up (now b) (other .first) (other .end)
         × (1 + (row .end - row .first) + (other .end - other .first) ≤ length (points (now buf)))
@@ -92,7 +92,7 @@ fn push_next(a: &[i32], i: usize, b: &[i32], j: usize, up: bool, buf: &mut [i32]
     }
 }
 
-// Pushes the corners from one position up to another on the first k corners of the buffer; answers how many stand there
+// Pushes the corners from one position up to another on the first k corners of the buffer; answers how many are there
 // then.
 fn rest(list: &[i32], from: usize, end: usize, buf: &mut [i32], k: usize) -> usize
     requires { ⌜ Line (now list) end × (k + (end - from) ≤ length (points (now buf))) × SmallTo (now buf) k ⌝ }

@@ -51,7 +51,7 @@ pub fn merge(a: &[i32], b: &[i32], buf: &mut [i32]) -> usize
     1
 }
 
-// Writes the shape of many points at the front of the buffer, and says how many corners it has. The points stand in any
+// Writes the shape of many points at the front of the buffer, and says how many corners it has. The points are in any
 // order; one that is repeated counts once, and one in line between two others is dropped. Points that are all equal
 // make a point, and points in one line a segment. Most points that cannot be corners are dropped before the sort. The
 // buffer has room for both chains, and is lent to the sort before.

@@ -1,4 +1,4 @@
-// Inner functions: the corners of a shape that may stand on a chain. A chain up is the right-hand one, from the least
+// Inner functions: the corners of a shape that may be on a chain. A chain up is the right-hand one, from the least
 // corner of all to the greatest; a chain down is the left-hand one, from there back.
 ghost use mathlib.Core.Bool.{true};
 ghost use mathlib.Core.Path.{_≡_};
@@ -21,7 +21,7 @@ pub struct Row {
     pub end: usize,
 }
 
-// The corners from one end of a shape's chain to the other that may stand on the chain of two shapes, from one corner
+// The corners from one end of a shape's chain to the other that may be on the chain of two shapes, from one corner
 // to another: the ends themselves only if they lie to the right of the line from corner to corner.
 pub fn trimmed(list: &[i32], low: usize, high: usize, from: Point, to: Point) -> Row
     requires { ⌜ (low ≤ high) × (high ≤ length (points (now list))) × Line (now list) high

@@ -1,4 +1,4 @@
-// Inner functions: the scan, one point at a time. The corners that it keeps stand at the front of a buffer, and every
+// Inner functions: the scan, one point at a time. The corners that it keeps are at the front of a buffer, and every
 // three neighbours of them turn strictly left. The chains of a merge push by it, and so do the sides of a sweep.
 ghost use mathlib.Core.Path.{_≡_};
 ghost use mathlib.Core.List.{[], _∷_};
@@ -13,7 +13,7 @@ use polygon::point;
 use polygon::point::Point;
 
 // Pushes a point on the first k corners of the buffer: those at which it does not turn left are dropped, and it is
-// written after the others. Answers how many stand there then.
+// written after the others. Answers how many are there then.
 pub fn push(buf: &mut [i32], k: usize, p: Point) -> usize
     requires { ⌜ (k < length (points (now buf))) × SmallTo (now buf) k × Small (2 ^ 21) (at p) ⌝ }
     ensures { λ r. ⌜ Scanned (now (buf .entry)) k (at p ∷ []) (now (buf .exit)) r ⌝ }

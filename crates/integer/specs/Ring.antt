@@ -1,6 +1,6 @@
 -- Identities of ℤ in one line. The atoms are written once, the identity never:
 --     ring (x ∷ y ∷ []) (search reify depth 40) tt        proves, say, (x +ℤ y) *ℤ (x -ℤ y) ≡ x *ℤ x -ℤ y *ℤ y
--- An atom is any term of ℤ; up to sixteen in one call. Numerals need not be listed. A definition that is shut stands as an
+-- An atom is any term of ℤ; up to sixteen in one call. Numerals need not be listed. A definition that is shut counts as an
 -- atom, or is opened by `unfolding`. Where an identity fails, the check prints `Remains p` with the polynomial that is left.
 --     Is ρ x        an expression over the atoms ρ whose value is x; `search reify` finds it
 --     ring          two terms whose difference has the empty polynomial are equal

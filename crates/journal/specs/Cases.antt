@@ -82,7 +82,7 @@ corner f = answered (pos 1 ∷ pos f ∷ [])
 
 abbrev pub readings : List Read
 readings =
-    -- read back, behind it the log's end: fewer than two bytes, and length 0. "kind 1 still reads as floor 0"
+    -- read back, after it the log's end: fewer than two bytes, and length 0. "kind 1 still reads as floor 0"
     reads (example ++ (13 ∷ [])) 7 zeros (corner 0) (pos 1 ∷ negsuc 0 ∷ pos 0 ∷ [])
     ∷ reads (example ++ fresh 2) 7 zeros (corner 0) (pos 1 ∷ negsuc 0 ∷ pos 0 ∷ [])
     ∷ reads floored 7 zeros (corner 2) (pos 1 ∷ negsuc 0 ∷ pos 0 ∷ [])
@@ -135,7 +135,7 @@ additions =
     -- one store short of it: the last byte is missing
     ∷ adds (fresh 17) 16 cut (take 16 floored ++ (0 ∷ []))
     ∷ adds (fresh 17) 17 finished floored
-    -- bytes behind the end are tidied from the far end down, each that is not 0 by a store
+    -- bytes after the end are tidied from the far end down, each that is not 0 by a store
     ∷ adds (4 ∷ 0 ∷ (fresh 15 ++ (3 ∷ 0 ∷ 90 ∷ []))) 2 cut (4 ∷ fresh 19)
     ∷ adds (4 ∷ 0 ∷ (fresh 15 ++ (3 ∷ 0 ∷ 90 ∷ []))) 4 cut (15 ∷ fresh 19)
     ∷ adds (4 ∷ 0 ∷ (fresh 15 ++ (3 ∷ 0 ∷ 90 ∷ []))) 20 finished (floored ++ fresh 3)

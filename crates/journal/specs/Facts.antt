@@ -1,7 +1,7 @@
 -- What the tests of a log's records say, as facts.
---     Whole t                   a record stands whole at the front of t
+--     Whole t                   a whole record is at the front of t
 --     Good r                    the record r is not bad
---     FirstBad rs p             one of the records rs is bad, and the first that is stands at place p
+--     FirstBad rs p             one of the records rs is bad, and the first such record is at place p
 --     Recorded r, AllRecorded   r is a recorded shape, of either kind; all records of a list are
 --     Holds n rs                where in rs the name n is
 -- That they say the same as the tests: `Meaning.antt`.

@@ -1,7 +1,7 @@
 -- The records of the log (document 02, W5 and W11: the floor book), each the list of its bytes.
 --     recorded n f l      a list under a name on a floor: "Book kind 2 puts a two-byte floor after the name .., and writing uses kind 2"
 --     recordedPlain n l   a record of kind 1, which says no floor, as W5 has it
---     whole t         a record stands whole at the front of t: "Length 0, fewer than two bytes left, a record running past the end, or a
+--     whole t         a whole record is at the front of t: "Length 0, fewer than two bytes left, a record running past the end, or a
 --                     missing last byte ends the book"
 --     walked k t      the whole records at the front of t, k at most; `records b` all of them: each has a byte, so the count is enough
 --     size, kind, name, floor, list   what a record says: its length field, its kind, its name, its floor, its corners' numbers
@@ -62,7 +62,7 @@ name r = pairAt r 4
 unfoldable pub floor : List ℕ → ℕ
 floor r = cond (eqb (kind r) 2) (pairAt r 6) 0
 
--- before the corners stand the two bytes of the length and all other bytes but the last
+-- before the corners come the two bytes of the length and all other bytes but the last
 unfoldable pub list : List ℕ → List ℤ
 list r = wordsAt ((size r - fixedBytes (kind r)) / 4) r (1 + fixedBytes (kind r))
 

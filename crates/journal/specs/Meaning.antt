@@ -3,7 +3,7 @@
 --                   record is bad; the latest counts
 --     reading       the table, in its order, and the place that 15 gives
 --     entries       the current shapes: what each name reads as, each name once; after an addition
---     adding        the table, in its order; a refused, a finished and a cut addition; allowances; whatever is torn behind the end
+--     adding        the table, in its order; a refused, a finished and a cut addition; allowances; whatever is torn after the end
 --     histories     the whole claim: reading gives for each name the last finished addition, and 15 does not come; from a new log, and
 --                   from any log without a bad record, so from one of kind 1 as well
 use mathlib.Core.Path.{_≡_, ap}
@@ -49,7 +49,7 @@ whole-record-has-all t h = whole→facts t h
 pub record-with-all-is-whole : (t : List ℕ) → Whole t → whole t ≡ true
 record-with-all-is-whole t w = facts→whole t w
 
--- the records stand one behind the other from the front, and no whole record stands where they end
+-- the records follow each other from the front, and no whole record is where they end
 pub log-is-its-records : (b : List ℕ) → (b ≡ joined (records b) ++ drop (end b) b) × (whole (drop (end b) b) ≡ false)
 log-is-its-records b = (split b, end-torn b)
 
@@ -254,6 +254,6 @@ module _ (hs : List Addition) where
         → added (after hs b) n f l k .reply ≡ refused 15 carries → ⊥
     history-adds-without-new-damage n f l k carries h = sound-added (after hs b) (after-sound hs b sound) n f l k carries h
 
--- such is every log whose records were recorded, be it by kind 1 or by kind 2, whatever is torn behind them
+-- such is every log whose records were recorded, be it by kind 1 or by kind 2, whatever is torn after them
 pub recorded-log-is-sound : (b : List ℕ) → AllRecorded (records b) → damaged (records b) ≡ false
 recorded-log-is-sound b all = written-sound (records b) all

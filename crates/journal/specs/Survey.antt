@@ -1,5 +1,5 @@
 -- What passes over a log tell of it. Our own, not of document 02.
---     surveyed b         where the first bad record stands, or where the last whole record ends if none is bad
+--     surveyed b         where the first bad record is, or where the last whole record ends if none is bad
 --     Legible b p        the record at place p is inside the log, and long enough for what a record of its kind says
 --     recordAt b p       the record at place p; `nextAt b p` the place after it
 --     Sound b p          there is a whole record at place p, and none from there on is bad

@@ -1,11 +1,11 @@
--- What the meaning stands on, in reading order:
+-- What the meaning rests on, in reading order:
 --     Records                 a log is its records and a torn rest
 --     Kind, Read              the kind of a record; what a record says
 --     Reading                 reading, by the records alone
---     Parts, Stores           what stands behind the records after each store of an addition
+--     Parts, Stores           the bytes after the records, once each store of an addition is made
 --     Added, History          one addition; any history of them
 --     Current                 the current records, by position and after an addition
--- Then what the code's loops stand on:
+-- Then what the code's loops rest on:
 --     Judging                 the numbers of a record are a shape or not
 --     Survey                  a pass that judges records
 --     Stepping                any loop over the records of a log

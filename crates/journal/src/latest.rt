@@ -8,7 +8,7 @@ use crate::head;
 use crate::head::Head;
 use crate::records;
 
-// Where the numbers of the latest record of a name stand, how many they are, and the floor of the record.
+// Where the numbers of the latest record of a name are, how many they are, and the floor of the record.
 pub enum Found {
     At {
         place: usize,

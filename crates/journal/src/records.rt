@@ -24,7 +24,7 @@ const PLAIN_BYTES: usize = 5;
 // The last byte of a record.
 pub const LAST_BYTE: u8 = 90;
 
-// Whether a whole record stands at a place.
+// Whether a whole record is at a place.
 pub fn whole_at(log: &[u8], p: usize) -> bool
     requires { ⌜ p ≤ length (now log) ⌝ }
     ensures { λ r. ⌜ r ≡ whole (drop p (now (log .entry))) ⌝ }
@@ -88,7 +88,8 @@ pub fn fixed_bytes(kind: usize) -> usize
     PLAIN_BYTES
 }
 
-// The floor of the record at a place, whose length counts so many bytes besides the corners: 0 if none are a floor's.
+// Returns the floor of the record at a place: 0 if none of its `fixed` bytes, which its length counts besides the
+// corners, are a floor's.
 // Ruled out: kind 1 read as its own floor.
 pub fn floor_at(log: &[u8], p: usize, fixed: usize) -> u16
     requires { ⌜ Legible (now log) p × (fixed ≡ fixedBytes (Format·kind (drop p (now log)))) ⌝ }

@@ -21,7 +21,7 @@ pub fn is_full(log: &[u8], end: usize, list: &[i32]) -> bool
     log.len() - end < 2 + records::FLOORED_BYTES + 4 * list.len()
 }
 
-// Clears what stands from the end of the last whole record on, then stores the record there: at most so many stores as
+// Clears what is after the last whole record, then stores the record there: at most as many stores as
 // are allowed. Whether all were made.
 pub fn add(log: &mut [u8], end: usize, name: u16, floor: u16, list: &[i32], allowed: usize) -> bool
     requires { ⌜ (end ≡ Adding·end (now log)) × (end + length (recorded name floor (now list)) ≤ length (now log)) ⌝ }
@@ -70,7 +70,7 @@ fn clear(log: &mut [u8], from: usize, allowed: usize) -> usize
     left
 }
 
-// Stores 0 at a place if another byte stands there. How many stores are left.
+// Stores 0 at a place if another byte is there. How many stores are left.
 fn tidy(log: &mut [u8], p: usize, left: usize) -> usize
     requires { ⌜ p < length (now log) ⌝ }
     ensures { λ r. ⌜ Ran left (cleared p (getD (now (log .entry)) p 0)) (now (log .entry)) r (now (log .exit)) ⌝ }

@@ -7,7 +7,7 @@ ghost use Rattle.journal.specs.Survey.{surveyed};
 use crate::records;
 use polygon::limits;
 
-// Where the last whole record ends, if no record is bad; else where the first bad record stands.
+// Where the last whole record ends, if no record is bad; else where the first bad record is.
 pub enum Surveyed {
     Ends(usize),
     Bad(usize),

@@ -3,9 +3,9 @@
 --     ShapeOn f a           a is a valid shape on floor f; AllOn f L: every shape of the list L is
 --     originPoint f         the shape 0 0 on floor f
 --     Call                  a question on two shapes and a lent output: `sumCall` or `mergeCall`
---     Gives w s             the call is answered, and s is the shape that stands in its output, on the floor that the answer carries
+--     Gives w s             the call is answered, and s is the shape in its output, on the floor that the answer carries
 --     answeredWith s out    the whole of a call that is answered with the shape s: its count of corners and its floor; its numbers, and
---                           what stood behind them in out
+--                           what was after them in out
 --     Fits shape out        the shape keeps the limits, and the output has room for it
 --     Called call a b s     some call on a and b, in either order, gives s
 --     Grouping L            a way to bring the list L together: no call, or two groups and one call on their results
@@ -32,7 +32,7 @@ pub record ShapeOn (f : ℕ) (a : Floored) : Type 0 where
   pub valid : Valid (a .list)
   pub onFloor : a .floor ≡ f
 
--- "shapes on one floor"; one may stand in the list twice
+-- "shapes on one floor"; one may be in the list twice
 abbrev pub AllOn : ℕ → List Floored → Type 0
 AllOn f L = (a : Floored) → List·Memᴰ a L → ShapeOn f a
 

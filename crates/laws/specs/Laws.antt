@@ -77,7 +77,7 @@ group-not-empty g = not-suc-le-zero (grouping-some g)
 pub refused-has-no-result : (call : Call) (L : List Floored) (g : Grouping L) (s : Floored) → Refused call g → Result call g s → ⊥
 refused-has-no-result call L g s f r = refused→no-result call g s f r
 
--- "Any question on two shapes of different floors is refused 13": what has a result stood on one floor, and so does the result
+-- "Any question on two shapes of different floors is refused 13": shapes that have a result are on one floor, and so is the result
 module _ (L : List Floored) (g : Grouping L) (s a : Floored) (m : List·Memᴰ a L) where
   pub sums-on-one-floor : Result sumCall g s → a .floor ≡ s .floor
   sums-on-one-floor r = result-floor sum-combines g s r a m

@@ -35,7 +35,7 @@ triangle = on (pos 0 ∷ pos 0 ∷ pos 1 ∷ pos 0 ∷ pos 0 ∷ pos 1 ∷ []) 3
 abbrev pub room : List ℤ
 room = pos 7 ∷ pos 7 ∷ pos 7 ∷ pos 7 ∷ pos 7 ∷ pos 7 ∷ pos 7 ∷ pos 7 ∷ pos 7 ∷ pos 7 ∷ pos 7 ∷ pos 7 ∷ []
 
--- "5 corners, 0 0 3 0 3 2 2 3 0 3", and their floor; behind them the output as it was
+-- "5 corners, 0 0 3 0 3 2 2 3 0 3", and their floor; after them the output as it was
 abbrev pub fiveCorners : Written
 fiveCorners = record {
   reply = answered (pos 5 ∷ pos 3 ∷ []);

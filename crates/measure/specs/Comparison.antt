@@ -1,11 +1,11 @@
 -- What pairs of corners and edges are compared by. Our own, not of document 01.
---     NotAfter i j k l        the pair (i, j) stands no later than (k, l): smaller i, or the same i and no greater j
+--     NotAfter i j k l        the pair (i, j) is no later than (k, l): smaller i, or the same i and no greater j
 --     NoBetter ps k l i j     the pair (k, l) is no better than (i, j): not further apart, and if as far, not earlier
---     Stands ps i m k l       at place (i, m) of the half walk stand the corners k and l, in the order of their positions
+--     Stands ps i m k l       at place (i, m) of the half walk are the corners k and l, in the order of their positions
 --     Facing ps e c           c is the first corner that has the greatest turn against edge e
 --     Narrowest ps P e        of the edges of which P holds, e is the first with the least t·t/q
 --     Measured ps e c t q     edge e is measured: corner c on the way round has the greatest turn t, and q is the squared length
---     Width ps P e c t q      the best of the edges of which P holds, so measured; where there is none t·t/q stands at 1/0, wider than any
+--     Width ps P e c t q      the best of the edges of which P holds, so measured; where there is none t·t/q is 1/0, wider than any
 use mathlib.Core.Path.{_≡_}
 use mathlib.Core.Bool.{true, false, cond}
 use mathlib.Core.List.{List}
@@ -28,7 +28,7 @@ pub record NoBetter (ps : List Point) (k l i j : ℕ) : Type 0 where
   pub no-further : squared (corner ps k) (corner ps l) ≤ℤ squared (corner ps i) (corner ps j)
   pub no-earlier : squared (corner ps i) (corner ps j) ≤ℤ squared (corner ps k) (corner ps l) → NotAfter i j k l
 
--- behind the last corner the first comes again, and stands first
+-- after the last corner the first comes again, and is given first
 pub record Stands (ps : List Point) (i m k l : ℕ) : Type 0 where
   pub from-is : cond (eqb m (length ps)) 0 i ≡ k
   pub to-is : cond (eqb m (length ps)) i m ≡ l

@@ -1,6 +1,6 @@
 -- What the searches for length and width know along the half walk. Its sides are s on the right-hand chain and t on the left-hand one.
---     HalfAt l n s t          they stand at antipodal corners of the shape l, whose top is corner n
---     apartAt n s t           the pair at which they stand, of n corners, with its squared distance
+--     HalfAt l n s t          they are at antipodal corners of the shape l, whose top is corner n
+--     apartAt n s t           the pair of corners at these two sides, of n corners, with its squared distance
 --     Behind p q              the pair p is no better than q: not further apart, and if as far, not earlier
 --     Earlier best next r     r is the pair of the two that comes first, by its first position and then by its second
 --     Kept best next r        r is the better of two pairs: further apart, then earlier

@@ -1,4 +1,4 @@
--- The theory of length and width, which only proves: the half walk, and what stands at its places; the replies.
+-- The theory of length and width, which only proves: the half walk, and what is at its places; the replies.
 pub mod Longest
 pub mod CutCorner
 pub mod Chains

@@ -1,5 +1,5 @@
 // Inner functions: the half walk of a shape, up its right-hand chain and down its left-hand one at once. Two sides of
-// the same list stand at antipodal corners, so that no mirror image is made.
+// the same list are at antipodal corners, so that no mirror image is made.
 ghost use mathlib.Core.Path.{_≡_};
 ghost use Prim.Native.Nat.{_^_};
 ghost use Rattle.plane.specs.Turn.{cross};

@@ -37,8 +37,8 @@ pub fn longest(list: &[i32]) -> Length
     best
 }
 
-// The pair at which two sides of n corners stand, s on the right-hand chain and t on the left-hand one. After the last
-// corner comes the first again, which then stands first.
+// The pair of corners at two sides of n corners, s on the right-hand chain and t on the left-hand one. After the last
+// corner comes the first again, which is then given first.
 fn apart(n: usize, s: Side, t: Side) -> Length
     requires { ⌜ Small (2 ^ 21) (cornerOf s) × Small (2 ^ 21) (cornerOf t) ⌝ }
     ensures { λ r. ⌜ r ≡ apartAt n s t ⌝ }

@@ -1,5 +1,5 @@
 // Inner functions: the edge across which a shape is narrowest. When the half walk passes an edge of one chain, it
-// stands at the corner of the other that is furthest from it.
+// is at the corner of the other that is furthest from it.
 ghost use mathlib.Core.Bool.{cond};
 ghost use mathlib.Core.Path.{_≡_};
 ghost use Prim.Native.Nat.{_<_};
@@ -24,7 +24,7 @@ pub struct Across {
     pub squared: u64,
 }
 
-// The first of all edges with the least width. Before any is measured, the width stands at 1/0.
+// The first of all edges with the least width. Before any is measured, the width is 1/0.
 pub fn narrowest(list: &[i32]) -> Across
     requires { ⌜ Valid (now list) × (2 < length (points (now list))) ⌝ }
     ensures { λ r. ⌜ Best (now (list .entry)) r ⌝ }

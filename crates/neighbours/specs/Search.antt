@@ -1,13 +1,17 @@
 -- The search for the nearest shape, as the code goes along the records. Our own, not of document 02.
 --     nearNumbers n            what is answered of what is found
---     keptOf best n s          what is found once a shape under the name n at the distance s is looked at: the earlier one stays on a tie
+--     isLatest b p             no later record has the name of the one at place p
+--     isNearer s best          the distance s is less than that of what is found, or nothing is found
+--     isMet best               what is found meets the shape
+--     keptOf now n s best      what is found once a record is looked at: whether it is current, its name and its distance. The earlier one
+--                              stays on a tie
 --     NearSized best           what its distance is divided by is not 0
 --     Best A all n s rest      a record with the name n is at the distance s from A, and of all records the first of the least is that of
 --                              this one and the rest
 --     Still A all best rest    the same of what is found
 --     Onward A f but b p best r    looking at the record at place p turns `best` into r, whatever the records are
 use mathlib.Core.Path.{_≡_}
-use mathlib.Core.Bool.{cond}
+use mathlib.Core.Bool.{Bool, true, false, not, cond, _&&_}
 use mathlib.Core.List.{List, [], _∷_}
 use Prim.Native.Nat.{ℕ}
 use lib.IntN.{ℤ, pos}
@@ -17,11 +21,13 @@ use Rattle.plane.specs.Shape.{IsShape}
 use Rattle.plane.specs.Clearance.{clearanceNumbers}
 use Rattle.plane.specs.Distance.{noMore}
 use Rattle.journal.specs.Format.{records, name}
+use Rattle.journal.specs.Reading.{held}
 use Rattle.journal.specs.Current.{around}
-use Rattle.journal.specs.Survey.{nextAt}
+use Rattle.journal.specs.Survey.{recordAt, nextAt}
 use Rattle.neighbours.specs.Nearest.{shapeOf, nearestOf, nearestNumbers}
 use Rattle.neighbours.specs.Spacing.{spacingNumbers, fractionOf, Sized}
 use Rattle.neighbours.specs.declared.spacing.Spacing.{Spacing}
+use Rattle.neighbours.specs.declared.spacing.Spacing.the-variants as Spacing
 use Rattle.neighbours.specs.declared.Near.{Near}
 use Rattle.neighbours.specs.declared.Near.the-variants as Near
 
@@ -29,9 +35,20 @@ abbrev pub nearNumbers : Near → List ℤ
 nearNumbers Near.Nobody = []
 nearNumbers (Near.Of n s) = pos n ∷ spacingNumbers s
 
-abbrev pub keptOf : Near → ℕ → Spacing → Near
-keptOf Near.Nobody n s = Near.Of n s
-keptOf (Near.Of m t) n s = cond (noMore (fractionOf t) (fractionOf s)) (Near.Of m t) (Near.Of n s)
+abbrev pub isLatest : List ℕ → ℕ → Bool
+isLatest b p = not (held (name (recordAt b p)) (records (drop (nextAt b p) b)))
+
+abbrev pub isNearer : Spacing → Near → Bool
+isNearer s Near.Nobody = true
+isNearer s (Near.Of m t) = not (noMore (fractionOf t) (fractionOf s))
+
+abbrev pub isMet : Near → Bool
+isMet Near.Nobody = false
+isMet (Near.Of n Spacing.Meets) = true
+isMet (Near.Of n (Spacing.Apart d)) = false
+
+abbrev pub keptOf : Bool → ℕ → Spacing → Near → Near
+keptOf now n s best = cond (isNearer s best && now) (Near.Of n s) best
 
 abbrev pub NearSized : Near → Type 0
 NearSized Near.Nobody = Unit {0}

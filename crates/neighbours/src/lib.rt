@@ -15,7 +15,7 @@ ghost use Rattle.journal.specs.Current.{around};
 ghost use Rattle.journal.specs.Survey.{Sound};
 ghost use Rattle.neighbours.specs.Nearest.{nearestNumbers};
 ghost use Rattle.neighbours.specs.Spacing.{Sized};
-ghost use Rattle.neighbours.specs.Search.{nearNumbers, keptOf, NearSized, Onward};
+ghost use Rattle.neighbours.specs.Search.{nearNumbers, isLatest, isNearer, isMet, keptOf, NearSized, Onward};
 use journal::current;
 use journal::head;
 use journal::head::Head;
@@ -41,7 +41,7 @@ pub fn nearest(log: &[u8], list: &[i32], floor: u16, but: usize) -> Near
     pass(log, list, floor, but, &mut buffer)
 }
 
-// The same, with a buffer that holds the numbers of any shape.
+// The same, with a buffer that holds the numbers of any shape. The search ends at a shape that meets the given one.
 fn pass(log: &[u8], list: &[i32], floor: u16, but: usize, buffer: &mut [i32]) -> Near
     requires { ⌜ (damaged (records (now log)) ≡ false) × Valid (now list) × (length (now buffer) ≡ 2 * maxCorners) ⌝ }
     ensures { λ r. ⌜ nearNumbers r
@@ -51,6 +51,9 @@ fn pass(log: &[u8], list: &[i32], floor: u16, but: usize, buffer: &mut [i32]) ->
     let mut p = 0;
     while records::whole_at(log, p) {
         best = look(log, p, list, floor, but, best, buffer);
+        if is_met(best) {
+            return best;
+        }
         p += 2 + endian::pair_at(log, p);
     }
     best
@@ -74,14 +77,13 @@ fn look(
     if !is_asked(head, floor, but) {
         return best;
     }
-    if !current::is_current(log, p) {
-        return best;
-    }
     endian::decode(log, head.place, head.count, buffer);
     kept(
-        best,
+        log,
+        p,
         head.name,
         spacing::between(list, &buffer[..head.count]),
+        best,
     )
 }
 
@@ -95,23 +97,46 @@ fn is_asked(head: Head, floor: u16, but: usize) -> bool
     head.name as usize != but
 }
 
-// Returns the nearer of what was found and another shape. On a tie the first stays.
-fn kept(best: Near, name: u16, spacing: Spacing) -> Near
-    requires { ⌜ NearSized best × Sized spacing ⌝ }
-    ensures { λ r. ⌜ r ≡ keptOf best name spacing ⌝ }
+// The record at a place if it is nearer than what was found and is the latest of its name; else what was found. On a
+// tie the first stays. Later records are looked at last, since few records are nearer.
+// Ruled out: older record counted.
+fn kept(log: &[u8], p: usize, name: u16, spacing: Spacing, best: Near) -> Near
+    requires { ⌜ Sound (now log) p × Sized spacing × NearSized best ⌝ }
+    ensures { λ r. ⌜ r ≡ keptOf (isLatest (now (log .entry)) p) name spacing best ⌝ }
+{
+    if !is_nearer(spacing, best) {
+        return best;
+    }
+    if !current::is_current(log, p) {
+        return best;
+    }
+    Near::Of { name, spacing }
+}
+
+// Returns whether a distance is less than that of what was found. Any is, if nothing was found.
+fn is_nearer(spacing: Spacing, best: Near) -> bool
+    requires { ⌜ Sized spacing × NearSized best ⌝ }
+    ensures { λ r. ⌜ r ≡ isNearer spacing best ⌝ }
 {
     let Near::Of {
-        name: first,
+        name,
         spacing: held,
     } = best
     else {
-        return Near::Of { name, spacing };
+        return true;
     };
-    if spacing::is_less(spacing, held) {
-        return Near::Of { name, spacing };
-    }
-    Near::Of {
-        name: first,
-        spacing: held,
-    }
+    spacing::is_less(spacing, held)
+}
+
+// Returns whether what was found meets the shape. Then no other is nearer.
+fn is_met(best: Near) -> bool
+    ensures { λ r. ⌜ r ≡ isMet best ⌝ }
+{
+    let Near::Of { name, spacing } = best else {
+        return false;
+    };
+    let Spacing::Apart(distance) = spacing else {
+        return true;
+    };
+    false
 }

@@ -1,4 +1,4 @@
--- Passing between two obstacles: the definitions; what they mean; cases; then the theory behind it.
+-- Passing between two obstacles: the definitions; what they mean; cases; then its theory.
 pub mod Passage
 pub mod Corridor
 pub mod Meaning

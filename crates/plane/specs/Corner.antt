@@ -2,7 +2,7 @@
 -- A set is the list of its points, in any order and with repeats.
 --     Corner S p       p is a point of S that is strictly furthest, among the different points, in some whole-number direction
 --     ascending S      the different points of S by y, then by x
---     push, scan       one point of an ascending (or descending) list is read, or all: what is kept stands last first and turns left
+--     push, scan       one point of an ascending (or descending) list is read, or all: what is kept is listed last first and turns left
 --     side ps          the points kept of such a list, without its last: the right-hand chain up, or the left-hand chain down
 --     outline ps       up the right side of an ascending list, from the least point to the greatest, and down the left side
 --     shapeOf S        the shape of the set: the outline of its ascending points
@@ -37,7 +37,7 @@ abbrev pub ascending : List Point → List Point
 ascending [] = []
 ascending (p ∷ S) = insert p (ascending S)
 
--- ---- the scan: the points kept so far stand last first; one that the new point does not turn left of is dropped
+-- ---- the scan: the points kept so far are listed last first; one that the new point does not turn left of is dropped
 
 abbrev pub push : Point → List Point → List Point
 push p [] = p ∷ []

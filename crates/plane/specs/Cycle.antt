@@ -1,5 +1,5 @@
 -- Positions on the way round n corners (document 01, "the last goes to the first"). The position after one is `next` of `Shape.antt`.
---     round n i            position i, where n, behind the last, is the first again
+--     round n i            position i, where n, after the last, is the first again
 --     cornerRound ps i     the corner there
 --     turned n t k         the position k places after t, for t and k below n
 use mathlib.Core.Bool.{cond}

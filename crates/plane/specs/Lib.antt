@@ -1,4 +1,4 @@
--- Document 01's definitions, in reading order; then their meaning, and the theory behind it.
+-- Document 01's definitions, in reading order; then their meaning, and its theory.
 pub mod Limits
 pub mod Point
 pub mod Turn

@@ -271,7 +271,7 @@ module _ (d : Point) (ps : List Point) (s : IsShape ps) (some : NonZero d) where
   pub segment-across : length ps ≡ 2 → value d (corner ps 0) ≡ value d (corner ps 1) → (faceFirst d ps ≡ 0) × (faceLast d ps ≡ 1)
   segment-across two level = segment-face s some two level
 
-  -- "this is the one exception": these promises, for a segment that the first is not behind the last, leave no choice
+  -- "this is the one exception": these promises, for a segment that the first does not come after the last, leave no choice
   pub face-is-only-one : (i j : ℕ) → Face d ps i j → (i ≡ faceFirst d ps) × (j ≡ faceLast d ps)
   face-is-only-one i j f = face-unique s some (face-is s some) f
 

@@ -21,7 +21,7 @@ abbrev pub path : Point → List Point → List Point
 path p [] = p ∷ []
 path p (e ∷ E) = along p (e ∷ E)
 
--- the edge e and those behind it, which `rest` joins with a list, joined with a list
+-- the edge e and those after it, which `rest` joins with a list, joined with a list
 abbrev pub joinFrom : Point → (List Point → List Point) → List Point → List Point
 joinFrom e rest [] = e ∷ rest []
 joinFrom e rest (f ∷ F) =

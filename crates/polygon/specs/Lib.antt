@@ -1,4 +1,4 @@
--- The code's points and what the functions of this crate promise, beside the plane's definitions; then the theory behind it.
+-- The code's points and what the functions of this crate promise, beside the plane's definitions; then its theory.
 pub mod Point
 pub mod Broken
 pub mod Front

@@ -7,6 +7,7 @@ use crate::table::Entry;
 use crate::table::Question;
 use questions::SHAPE_NUMBERS;
 use questions::books;
+use questions::rings;
 use questions::separators;
 use questions::walk;
 use reply::Reply;
@@ -88,6 +89,7 @@ fn room_of(question: Question, b: &[i32], c: &[i32], d: &[i32]) -> usize {
     match question {
         Question::Mirror => fields::room(b),
         Question::Sweep => fields::room(b),
+        Question::Ring => fields::room(b),
         Question::Part => fields::count(d, 1),
         _ => fields::room(c),
     }
@@ -118,14 +120,17 @@ fn told(
         Question::Merge => reply::of_answer(questions::merge(a, f, b, g, out)),
         Question::Grow => reply::of_answer(questions::grow(a, f, b, g, out)),
         Question::Sweep => reply::of_answer(questions::sweep(a, f, out)),
+        Question::Ring => reply::of_answer(rings::ring(a, f, out)),
         Question::Length => reply::of_length(questions::length(a, f)),
         Question::Area => reply::of_area(questions::area(a, f)),
         Question::Width => reply::of_width(questions::width(a, f)),
+        Question::Box => reply::of_box(questions::least_box(a, f)),
         Question::Relation => reply::of_relation(questions::relation(a, f, b, g)),
         Question::Inside => reply::of_inside(questions::inside(a, f, b, g)),
         Question::Offer => reply::of_offer(separators::offer(a, f, b, g, u(c), v(c))),
         Question::Find => reply::of_separator(separators::find(a, f, b, g)),
         Question::Clearance => reply::of_clearance(questions::clearance(a, f, b, g)),
+        Question::Greatest => reply::of_greatest(questions::greatest(a, f, b, g)),
         Question::Excess => reply::of_excess(questions::excess(a, f, b, g)),
         Question::Tangents => reply::of_tangents(questions::tangents(a, f, b, g)),
         Question::Passage => reply::of_passage(questions::passage(a, f, b, g, c, h)),
@@ -160,6 +165,10 @@ fn of_log(
             reply::of_nearest(near)
         }
         Question::LogGap => reply::of_gap(books::log_gap(log, b, g)),
+        Question::LogContact => {
+            let met = questions::log_contact(log, b, g, u(c), v(c), u(d), v(d));
+            reply::of_drive(met)
+        }
         _ => {
             let packed = books::log_pack(log, run, fields::but(c), room(d));
             reply::of_addition(packed)

@@ -85,7 +85,7 @@ fn heading(out: &mut [u8], filled: usize, told: Reply, form: Form) -> usize {
     }
 }
 
-// Adds how two shapes stand to each other.
+// Adds how two shapes relate to each other.
 fn relation(out: &mut [u8], filled: usize, value: u64) -> usize {
     match value {
         0 => output::word(out, filled, b"ok apart"),

@@ -13,14 +13,17 @@ pub enum Question {
     Merge,
     Grow,
     Sweep,
+    Ring,
     Length,
     Area,
     Width,
+    Box,
     Relation,
     Inside,
     Offer,
     Find,
     Clearance,
+    Greatest,
     Excess,
     Tangents,
     Passage,
@@ -31,6 +34,7 @@ pub enum Question {
     LogEntry,
     LogNearest,
     LogGap,
+    LogContact,
     LogPack,
 }
 
@@ -73,6 +77,8 @@ const LOG_LISTED: u64 = fields::BYTES + 16 * fields::POSITION + 256 * fields::RO
 
 const LOG_AROUND: u64 = fields::BYTES + 16 * fields::SHAPE;
 
+const LOG_DRIVEN: u64 = LOG_AROUND + 256 * fields::DIRECTION + 4096 * fields::DIRECTION;
+
 const LOG_NEAREST: u64 = LOG_AROUND + 256 * fields::EXCEPTED;
 
 const LOG_PACKED: u64 = fields::BYTES
@@ -100,16 +106,18 @@ fn on_one(mut found: Entry, word: &[u8]) -> Entry {
     found = row(found, word, b"mirror", Question::Mirror, WRITTEN);
     found = row(found, word, b"length", Question::Length, ONE);
     found = row(found, word, b"area", Question::Area, ONE);
-    row(found, word, b"width", Question::Width, ONE)
+    found = row(found, word, b"width", Question::Width, ONE);
+    row(found, word, b"box", Question::Box, ONE)
 }
 
-// How two shapes stand to each other, whether a third passes between them, and where a drive first meets one.
+// How two shapes relate to each other, whether a third passes between them, and where a drive first meets one.
 fn on_two(mut found: Entry, word: &[u8]) -> Entry {
     found = row(found, word, b"relation", Question::Relation, PAIR);
     found = row(found, word, b"inside", Question::Inside, PAIR);
     found = row(found, word, b"offer", Question::Offer, PAIR_AIMED);
     found = row(found, word, b"find", Question::Find, PAIR);
     found = row(found, word, b"clearance", Question::Clearance, PAIR);
+    found = row(found, word, b"greatest", Question::Greatest, PAIR);
     found = row(found, word, b"excess", Question::Excess, PAIR);
     found = row(found, word, b"tangents", Question::Tangents, PAIR);
     found = row(found, word, b"passage", Question::Passage, THREE);
@@ -125,9 +133,10 @@ fn sums(mut found: Entry, word: &[u8]) -> Entry {
     row(found, word, b"grow", Question::Grow, PAIR_WRITTEN)
 }
 
-// The points of a sweep, and the corner of two readings.
+// The points of a sweep, those of a ring, and the corner of two readings.
 fn others(mut found: Entry, word: &[u8]) -> Entry {
     found = row(found, word, b"sweep", Question::Sweep, WRITTEN);
+    found = row(found, word, b"ring", Question::Ring, WRITTEN);
     row(found, word, b"tablet", Question::Tablet, READINGS)
 }
 
@@ -138,6 +147,7 @@ fn books(mut found: Entry, word: &[u8]) -> Entry {
     found = row(found, word, b"entry", Question::LogEntry, LOG_LISTED);
     found = row(found, word, b"nearest", Question::LogNearest, LOG_NEAREST);
     found = row(found, word, b"gap", Question::LogGap, LOG_AROUND);
+    found = row(found, word, b"drive", Question::LogContact, LOG_DRIVEN);
     row(found, word, b"pack", Question::LogPack, LOG_PACKED)
 }
 
@@ -154,7 +164,7 @@ fn row(found: Entry, word: &[u8], own: &[u8], question: Question, kinds: u64) ->
 pub fn form_of(question: Question) -> Form {
     match question {
         Question::Mirror | Question::Sum | Question::Merge | Question::Grow => Form::Shape,
-        Question::Sweep | Question::Part => Form::Shape,
+        Question::Sweep | Question::Ring | Question::Part => Form::Shape,
         Question::LogRead | Question::LogEntry => Form::Shape,
         Question::Relation => Form::Relation,
         Question::Inside | Question::Offer => Form::YesNo,
@@ -165,6 +175,7 @@ pub fn form_of(question: Question) -> Form {
         Question::Contact => Form::Contact,
         Question::LogNearest => Form::Nearest,
         Question::LogGap => Form::Gap,
+        Question::LogContact => Form::Contact,
         Question::Parts => Form::Begun,
         Question::Tablet => Form::Bits,
         Question::LogAdd | Question::LogPack => Form::Addition,

@@ -21,6 +21,8 @@ use Rattle.questions.specs.declared.answer.Area.{Area}
 use Rattle.questions.specs.declared.answer.Area.the-variants as Area
 use Rattle.questions.specs.declared.answer.Width.{Width}
 use Rattle.questions.specs.declared.answer.Width.the-variants as Width
+use Rattle.questions.specs.declared.answer.LeastBox.{LeastBox}
+use Rattle.questions.specs.declared.answer.LeastBox.the-variants as LeastBox
 use Rattle.questions.specs.declared.answer.Relation.{Relation}
 use Rattle.questions.specs.declared.answer.Relation.the-variants as Relation
 use Rattle.questions.specs.declared.answer.Inside.{Inside}
@@ -31,6 +33,8 @@ use Rattle.questions.specs.declared.answer.Separator.{Separator}
 use Rattle.questions.specs.declared.answer.Separator.the-variants as Separator
 use Rattle.questions.specs.declared.answer.Clearance.{Clearance}
 use Rattle.questions.specs.declared.answer.Clearance.the-variants as Clearance
+use Rattle.questions.specs.declared.answer.Greatest.{Greatest}
+use Rattle.questions.specs.declared.answer.Greatest.the-variants as Greatest
 use Rattle.questions.specs.declared.answer.Nearest.{Nearest}
 use Rattle.questions.specs.declared.answer.Nearest.the-variants as Nearest
 use Rattle.questions.specs.declared.answer.Gap.{Gap}
@@ -39,6 +43,8 @@ use Rattle.questions.specs.declared.answer.Excess.{Excess}
 use Rattle.questions.specs.declared.answer.Excess.the-variants as Excess
 use Rattle.questions.specs.declared.answer.Contact.{Contact}
 use Rattle.questions.specs.declared.answer.Contact.the-variants as Contact
+use Rattle.questions.specs.declared.answer.Drive.{Drive}
+use Rattle.questions.specs.declared.answer.Drive.the-variants as Drive
 use Rattle.questions.specs.declared.answer.Passage.{Passage}
 use Rattle.questions.specs.declared.answer.Passage.the-variants as Passage
 use Rattle.questions.specs.declared.answer.Line.{Line}
@@ -79,6 +85,10 @@ ofWidth (Width.Across edge corner turn squared rounded floor) =
     answered (pos edge ∷ pos corner ∷ pos turn ∷ pos squared ∷ pos rounded ∷ pos floor ∷ [])
 ofWidth (Width.No r) = ofRefusal r
 
+abbrev pub ofBox : LeastBox → Reply
+ofBox (LeastBox.At edge height along squared floor) = answered (pos edge ∷ pos height ∷ pos along ∷ pos squared ∷ pos floor ∷ [])
+ofBox (LeastBox.No r) = ofRefusal r
+
 -- 0 apart, 1 touching, 2 overlapping
 abbrev pub ofRelation : Relation → Reply
 ofRelation (Relation.Apart floor) = answered (pos 0 ∷ pos floor ∷ [])
@@ -109,6 +119,10 @@ ofClearance (Clearance.Corners i j d w floor) = answered (pos 1 ∷ pos i ∷ po
 ofClearance (Clearance.CornerEdge c e t q w floor) = answered (pos 2 ∷ pos c ∷ pos e ∷ pos t ∷ pos q ∷ pos w ∷ pos floor ∷ [])
 ofClearance (Clearance.EdgeCorner c e t q w floor) = answered (pos 3 ∷ pos c ∷ pos e ∷ pos t ∷ pos q ∷ pos w ∷ pos floor ∷ [])
 ofClearance (Clearance.No r) = ofRefusal r
+
+abbrev pub ofGreatest : Greatest → Reply
+ofGreatest (Greatest.At squared first second floor) = answered (pos squared ∷ pos first ∷ pos second ∷ pos floor ∷ [])
+ofGreatest (Greatest.No r) = ofRefusal r
 
 -- the name, then what `ofClearance` answers
 abbrev pub ofNearest : Nearest → Reply
@@ -143,6 +157,12 @@ abbrev pub ofContact : Contact → Reply
 ofContact (Contact.Never floor) = answered (pos 0 ∷ pos floor ∷ [])
 ofContact (Contact.At n d safe floor) = answered (pos 1 ∷ pos n ∷ pos d ∷ pos safe ∷ pos floor ∷ [])
 ofContact (Contact.No r) = ofRefusal r
+
+-- 0 never; or 1, the name, and contact's fraction and safe millimetres
+abbrev pub ofDrive : Drive → Reply
+ofDrive (Drive.Never floor) = answered (pos 0 ∷ pos floor ∷ [])
+ofDrive (Drive.At name n d safe floor) = answered (pos 1 ∷ pos name ∷ pos n ∷ pos d ∷ pos safe ∷ pos floor ∷ [])
+ofDrive (Drive.No r) = ofRefusal r
 
 -- 0 blocked; or 1, the direction, the two lines and the width
 abbrev pub ofPassage : Passage → Reply

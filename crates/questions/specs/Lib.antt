@@ -1,4 +1,4 @@
--- What the questions answer, in document 01's terms, and what the judging of a reading says; then the theory behind it.
+-- What the questions answer, in document 01's terms, and what the judging of a reading says; then its theory.
 pub mod Walk
 pub mod Answer
 pub mod Coordinate

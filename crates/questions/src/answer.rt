@@ -1,6 +1,6 @@
 // What the questions answer. Every answer on shapes carries their floor; a refusal carries none.
 use crate::walk::Walk;
-// Passed on: what judging and delivering answer stands below the questions.
+// Passed on: the answers of judging and delivering, from below the questions.
 pub use admission::answer::Answer;
 pub use admission::answer::Refusal;
 
@@ -62,7 +62,20 @@ pub enum Width {
     No(Refusal),
 }
 
-// How two shapes stand to each other.
+// The edge that has the least box, its greatest turn over the corners, the spread of the corners' values along it, and
+// its squared length.
+pub enum LeastBox {
+    At {
+        edge: usize,
+        height: u64,
+        along: u64,
+        squared: u64,
+        floor: u16,
+    },
+    No(Refusal),
+}
+
+// How two shapes relate to each other.
 pub enum Relation {
     Apart { floor: u16 },
     Touching { floor: u16 },
@@ -117,6 +130,17 @@ pub enum Clearance {
         turn: u64,
         squared: u64,
         rounded: u64,
+        floor: u16,
+    },
+    No(Refusal),
+}
+
+// The greatest squared distance of a corner of the first shape and a corner of the second, and their positions.
+pub enum Greatest {
+    At {
+        squared: u64,
+        first: usize,
+        second: usize,
         floor: u16,
     },
     No(Refusal),
@@ -228,6 +252,22 @@ pub enum Contact {
         floor: u16,
     },
     At {
+        numerator: u64,
+        denominator: u64,
+        safe: u64,
+        floor: u16,
+    },
+    No(Refusal),
+}
+
+// Never, or which shape of a floor a drive meets first: its name, the fraction of the way, and the millimetres before
+// it, rounded down.
+pub enum Drive {
+    Never {
+        floor: u16,
+    },
+    At {
+        name: u16,
         numerator: u64,
         denominator: u64,
         safe: u64,

@@ -1,13 +1,16 @@
-// The questions of documents 01 and 02, two of our own, and all that callers need of this library. Each judges its own
-// lists, once each, gives its refusals in the order of the table, and asks one inner function. A shape is lent with its
-// floor, and every answer on shapes carries it: of two shapes, a on floor f and b on floor g, both have the same, or
-// are refused 13 after 1 to 5 of the first and of the second.
+// The questions of documents 01 and 02, those of our own, and all that callers need of this library. Each judges its
+// own lists, once each, gives its refusals in the order of the table, and asks one inner function. A shape is lent with
+// its floor, and every answer on shapes carries it: of two shapes, a on floor f and b on floor g, both have the same,
+// or are refused 13 after 1 to 5 of the first and of the second.
 pub mod answer;
 pub mod books;
+mod boxing;
 mod changes;
 mod coordinate;
-mod drives;
+mod driving;
 mod merging;
+mod reaches;
+pub mod rings;
 pub mod separators;
 mod sweeping;
 pub mod walk;
@@ -59,10 +62,12 @@ use answer::Sent;
 use answer::Tablet;
 use answer::Tangents;
 use answer::Width;
+pub use boxing::least_box;
 pub use changes::excess;
 use clearance::measured::Distance;
 use coordinate::Coordinate;
-pub use drives::contact;
+pub use driving::contact;
+pub use driving::log_contact;
 use journal::latest::Found;
 use journal::storing;
 use journal::survey::Surveyed;
@@ -73,6 +78,7 @@ pub use polygon::limits::SHAPE_NUMBERS;
 use polygon::opposite;
 use polygon::peak;
 use polygon::point::Point;
+pub use reaches::greatest;
 use separation::differences;
 use sums::size;
 pub use tablet::reading::Reading;
@@ -182,7 +188,7 @@ pub fn merge(a: &[i32], f: u16, b: &[i32], g: u16, out: &mut [i32]) -> Answer
 
 // Writes the obstacle grown by the cart's outline at the front of the output, and answers how many corners it has: the
 // shape of all obstacle-corner minus cart-corner points. The outline's corners are relative to the cart's own origin; a
-// cart whose origin stands at a place meets the obstacle exactly if that place is a point of the grown one. Either may
+// cart whose origin is at a place meets the obstacle exactly if that place is a point of the grown one. Either may
 // be a point or a segment. Refused, with the output as it was: 1 to 5 of the obstacle, then of the cart; different
 // floors; then an answer of too many corners, one out of range, and too small an output. On success all after the
 // written numbers is kept.
@@ -298,7 +304,7 @@ pub fn relation(a: &[i32], f: u16, b: &[i32], g: u16) -> Relation
     stand(separation::relation(a, b), f)
 }
 
-// How two shapes stand, as an answer.
+// How two shapes relate, as an answer.
 fn stand(found: separation::answer::Relation, floor: u16) -> Relation
     ensures { λ r. ⌜ ofRelation r ≡ answered (numberOf found ∷ pos floor ∷ []) ⌝ }
 {
@@ -489,7 +495,7 @@ fn line(a: &[i32], b: &[i32], near: Line, s: bool, t: bool) -> Line
 // numbers that they hold exactly, from which a shape may be listed. Minus zero is 0 and goes back as plus zero. Nothing
 // is rounded. Refused, with the part that it was: x, then y, each if it is not finite, then if it is not whole, then if
 // it is out of range.
-// Ruled out: y judged first; whole after range; minus zero sent back; scaled before the test.
+// Ruled out: x blamed for y; y judged first; whole after range; minus zero sent back; scaled before the test.
 pub fn tablet(x: Reading, y: Reading) -> Tablet
     ensures { λ r. ⌜ ofTablet r ≡ tabletSent x y ⌝ }
 {
@@ -511,7 +517,7 @@ pub fn tablet(x: Reading, y: Reading) -> Tablet
 
 // Writes the corners of the latest record of a name at the front of the output, and answers how many they are, and the
 // floor of the record: 0 of one of kind 1, which says none. All after them is kept. A log ends where no whole record
-// stands. Refused, with the output as it was: a log in which some record is of another kind, a wrong length, or no
+// is. Refused, with the output as it was: a log in which some record is of another kind, a wrong length, or no
 // shape (with the byte place of the first); a name that no record has; too small an output.
 // Ruled out: first record for the latest; record lost after another.
 pub fn log_read(log: &[u8], name: u16, out: &mut [i32]) -> Answer

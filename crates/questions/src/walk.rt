@@ -19,7 +19,7 @@ use admission::deliver;
 use polygon::limits;
 use sums::size;
 
-// How far the walk round two shapes is: so many edges of the first and of the second are passed, and over if all
+// How far the walk round two shapes is: how many edges of the first and of the second are passed, and over if all
 // corners of their sum are written. It is a plain value, which a caller may keep, copy or make up: one that is at no
 // place of the sum at hand is refused.
 pub struct Walk {

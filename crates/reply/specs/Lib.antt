@@ -1,4 +1,4 @@
--- A reply as numbers for a host, and how they are read back; then the theory behind it.
+-- A reply as numbers for a host, and how they are read back; then its theory.
 pub mod Told
 pub mod Heard
 pub mod Meaning

@@ -16,6 +16,7 @@ use Rattle.questions.specs.declared.answer.Part.{Part}
 use Rattle.questions.specs.declared.answer.Furthest.{Furthest}
 use Rattle.questions.specs.declared.answer.Length.{Length}
 use Rattle.questions.specs.declared.answer.Width.{Width}
+use Rattle.questions.specs.declared.answer.LeastBox.{LeastBox}
 use Rattle.questions.specs.declared.answer.Relation.{Relation}
 use Rattle.questions.specs.declared.answer.Inside.{Inside}
 use Rattle.questions.specs.declared.answer.Offer.{Offer}
@@ -31,7 +32,7 @@ use Rattle.questions.specs.declared.answer.Addition.{Addition}
 use Rattle.questions.specs.declared.answer.Entry.{Entry}
 use Rattle.questions.specs.declared.answer.Area.{Area}
 use Rattle.questions.specs.declared.answer.Gap.{Gap}
-use Rattle.questions.specs.Answer.{ofArea, ofNearest, ofGap, ofContact, ofEntry}
+use Rattle.questions.specs.Answer.{ofArea, ofBox, ofNearest, ofGap, ofContact, ofEntry}
 use Rattle.questions.specs.Answer.{ofRefusal, ofUnread, ofAnswer, ofBegun, ofPart, ofFurthest, ofLength, ofWidth, ofRelation}
 use Rattle.questions.specs.Answer.{ofInside, ofOffer, ofSeparator, ofClearance, ofExcess, ofPassage, ofTangents, ofTablet, ofAddition}
 use Rattle.reply.specs.Told.{bits, crossed}
@@ -92,6 +93,9 @@ area-has-room x = room.area-room x
 
 pub width-has-room : (x : Width) → Room (ofWidth x)
 width-has-room x = room.width-room x
+
+pub box-has-room : (x : LeastBox) → Room (ofBox x)
+box-has-room x = room.box-room x
 
 pub relation-has-room : (x : Relation) → Room (ofRelation x)
 relation-has-room x = room.relation-room x

@@ -6,8 +6,8 @@ pub mod refusals;
 ghost use mathlib.Core.Path.{_≡_};
 ghost use Rattle.questions.specs.Answer.{ofAnswer, ofBegun, ofPart, ofFurthest, ofLength};
 ghost use Rattle.questions.specs.Answer.{ofWidth, ofRelation, ofInside, ofOffer, ofSeparator, ofClearance, ofTangents};
-ghost use Rattle.questions.specs.Answer.{ofArea, ofExcess, ofNearest, ofGap, ofContact, ofPassage, ofTablet};
-ghost use Rattle.questions.specs.Answer.{ofAddition, ofEntry};
+ghost use Rattle.questions.specs.Answer.{ofArea, ofExcess, ofNearest, ofGap, ofContact, ofDrive, ofPassage, ofTablet};
+ghost use Rattle.questions.specs.Answer.{ofAddition, ofEntry, ofGreatest, ofBox};
 ghost use Rattle.reply.specs.Told.{crossed, numbers};
 use questions::answer::Addition;
 use questions::answer::Answer;
@@ -15,11 +15,14 @@ use questions::answer::Area;
 use questions::answer::Begun;
 use questions::answer::Clearance;
 use questions::answer::Contact;
+use questions::answer::Drive;
 use questions::answer::Entry;
 use questions::answer::Excess;
 use questions::answer::Furthest;
 use questions::answer::Gap;
+use questions::answer::Greatest;
 use questions::answer::Inside;
+use questions::answer::LeastBox;
 use questions::answer::Length;
 use questions::answer::Nearest;
 use questions::answer::Offer;
@@ -153,6 +156,22 @@ pub fn of_width(answer: Width) -> Reply
     }
 }
 
+// Returns edge, height, along and squared edge.
+pub fn of_box(answer: LeastBox) -> Reply
+    ensures { λ r. ⌜ numbers r ≡ crossed (ofBox answer) ⌝ }
+{
+    match answer {
+        LeastBox::At {
+            edge,
+            height,
+            along,
+            squared,
+            floor,
+        } => numbers::answered5(edge as u64, height, along, squared, floor as u64),
+        LeastBox::No(refusal) => refusals::of_refusal(refusal),
+    }
+}
+
 // Returns 0 for apart, 1 for touching, 2 for overlapping.
 // Ruled out: touching told as overlapping.
 pub fn of_relation(answer: Relation) -> Reply
@@ -256,6 +275,21 @@ pub fn of_clearance(answer: Clearance) -> Reply
             floor as u64,
         ),
         Clearance::No(refusal) => refusals::of_refusal(refusal),
+    }
+}
+
+// Returns the greatest squared distance, and the positions of two corners that are so far apart.
+pub fn of_greatest(answer: Greatest) -> Reply
+    ensures { λ r. ⌜ numbers r ≡ crossed (ofGreatest answer) ⌝ }
+{
+    match answer {
+        Greatest::At {
+            squared,
+            first,
+            second,
+            floor,
+        } => numbers::answered4(squared, first as u64, second as u64, floor as u64),
+        Greatest::No(refusal) => refusals::of_refusal(refusal),
     }
 }
 
@@ -465,6 +499,23 @@ pub fn of_contact(answer: Contact) -> Reply
             floor,
         } => numbers::answered5(1, numerator, denominator, safe, floor as u64),
         Contact::No(refusal) => refusals::of_refusal(refusal),
+    }
+}
+
+// Returns 0 for never; or 1, the name, the fraction of the way, and the millimetres before it.
+pub fn of_drive(answer: Drive) -> Reply
+    ensures { λ r. ⌜ numbers r ≡ crossed (ofDrive answer) ⌝ }
+{
+    match answer {
+        Drive::Never { floor } => numbers::answered2(0, floor as u64),
+        Drive::At {
+            name,
+            numerator,
+            denominator,
+            safe,
+            floor,
+        } => numbers::answered6(1, name as u64, numerator, denominator, safe, floor as u64),
+        Drive::No(refusal) => refusals::of_refusal(refusal),
     }
 }
 

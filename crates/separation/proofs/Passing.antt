@@ -1,13 +1,12 @@
--- The pass round all edges of a sum: the invariant of the loop, and its moves.
---     Passing a b walk count rim       so many edges are passed, and none had the origin to its right; whether one had it not to its left
+-- The pass round all edges of a sum: the moves of the loop's invariant, `Passing`.
 --     passing-start, -more, -end       its moves, and its end; `passing-out`: an edge has the origin to its right
---     passing-at                       the walk stands at a place of the lists
+--     passing-at                       the walk is at a place of the lists
 --     passing-below, passing-count     there is an edge to pass; the count fits
 --     passing-corners                  the corners that the edge joins
 use mathlib.Core.Path.{_≡_, refl, sym, _∙_, ap, ap₂, subst}
 use mathlib.Core.Bool.{Bool, true, false, _||_, true≢false, false≢true}
 use mathlib.Core.List.{List}
-use Prim.Native.Nat.{ℕ, suc, _+_, _≤_, _<_, zero-le}
+use Prim.Native.Nat.{ℕ, suc, _+_, _<_, zero-le}
 use native.Mathlib.Numerals.{add-one}
 use native.Mathlib.Omega.{arith}
 use lib.IntN.{ℤ, pos}
@@ -27,18 +26,10 @@ use Rattle.polygon.specs.declared.point.Point.{Point as Code·Point}
 use Rattle.polygon.specs.Point.{at}
 use Rattle.separation.specs.Outward.{Outward}
 use Rattle.separation.specs.Around.{crossAt, rightOf, Passed}
+use Rattle.separation.specs.Passing.{Passing}
 use Rattle.separation.specs.theory.Outward.{stepped-away}
 use Rattle.separation.specs.theory.Passed.{passedNormal}
 use Rattle.separation.specs.theory.Stops.{sum-length, on-below, over-end, corner-here, stop-here}
-
--- ---- the loop
-
-pub record Passing (a b : List ℤ) (walk : Walk) (count : ℕ) (rim : Bool) : Type 0 where
-  pub start : At a b begun
-  pub within : count ≤ length (vectorSum (points a) (points b))
-  pub moved : walk ≡ stepped (points a) (points b) count begun
-  pub inner : some (rightOf (vectorSum (points a) (points b))) count ≡ false
-  pub rim-is : rim ≡ some (notLeft (vectorSum (points a) (points b))) count
 
 module _ {a b : List ℤ} where
   pub passing-start : {walk : Walk} → At a b begun → walk ≡ begun → Passing a b walk 0 false
@@ -51,9 +42,9 @@ module _ {a b : List ℤ} where
     pub passing-at : At a b walk
     passing-at = subst (At a b) (sym (p .moved)) (at-stepped a b begun (p .start) count)
 
-    pub passing-end : walk .over ≡ true → (normal : Code·Point)
-        → Passed D (record { count = count; outside = false; rim = rim; normal = normal })
-    passing-end o normal =
+    pub passing-end : walk .over ≡ true → (normal : Code·Point) (first second : ℕ)
+        → Passed D (record { count = count; outside = false; rim = rim; normal = normal; first = first; second = second })
+    passing-end o normal first second =
         let e : count ≡ length D =
         omega (arith, p .within, over-end a b (p .start) count (p .within) (ap (λ (w : Walk). w .over) (sym (p .moved)) ∙ o)) in
         record {
@@ -85,8 +76,9 @@ module _ {a b : List ℤ} where
           side-is = ap (λ (z : ℤ). ltZ z (pos 0)) (t ∙ passing-corners cross)
 
           pub passing-out : ltZ turn (pos 0) ≡ true → (normal : Code·Point) → at normal ≡ passedNormal (points a) (points b) walk after
-              → Passed D (record { count = count; outside = true; rim = rim; normal = normal })
-          passing-out h normal n = record {
+              → (first second : ℕ)
+              → Passed D (record { count = count; outside = true; rim = rim; normal = normal; first = first; second = second })
+          passing-out h normal n first second = record {
             outside-is = sym (some-here (rightOf D) (length D) count passing-below (sym side-is ∙ h));
             count-is = λ k. absurd (true≢false k);
             rim-is = λ k. absurd (true≢false k);

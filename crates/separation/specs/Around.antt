@@ -1,4 +1,4 @@
--- How two shapes stand, as a walk round the corners of their differences finds it: the origin against each edge.
+-- How two shapes relate, as a walk round the corners of their differences finds it: the origin against each edge.
 --     crossAt D e       the cross product of the two corners of edge e: positive if the origin is to the left of it
 --     rightOf D e       the origin is to the right of edge e
 --     originOn D        the origin is on D, a point or a segment that has it on its line

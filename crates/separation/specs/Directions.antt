@@ -1,4 +1,4 @@
--- How two lists of corners stand to each other, in document 01's words ("Relation"). A direction is any two whole numbers.
+-- How two lists of corners relate to each other, in document 01's words ("Relation"). A direction is any two whole numbers.
 --     AllBelow d A B      "every corner of the first has a value strictly less than every corner of the second"
 --     NoneAbove d A B     "less or equal holds"
 --     IsApart A B         AllBelow in some direction

@@ -1,4 +1,4 @@
-// How two shapes stand to each other.
+// How two shapes relate to each other.
 pub enum Relation {
     Apart,
     Touching,

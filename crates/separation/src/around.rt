@@ -10,8 +10,10 @@ ghost use Rattle.polygon.specs.Point.{at, Small};
 ghost use Rattle.calipers.specs.Image.{image};
 ghost use Rattle.separation.specs.Answer.{numberOf};
 ghost use Rattle.separation.specs.Around.{Passed, originIn, originOn};
+ghost use Rattle.separation.specs.Passing.{Stood};
 use crate::answer::Relation;
 use crate::normal;
+use crate::stride;
 use calipers::image;
 use calipers::side;
 use polygon::point;
@@ -19,12 +21,15 @@ use polygon::point::Point;
 use polygon::rules::either;
 
 // What a walk round the edges saw: whether the origin is to the right of one, at which it stops, and then its outer
-// normal; and if of none, how many edges there are and whether the origin is not to the left of one.
+// normal and how many edges of each shape are passed; and if of none, how many edges there are and whether the origin
+// is not to the left of one.
 pub struct Sides {
     pub count: usize,
     pub outside: bool,
     pub rim: bool,
     pub normal: Point,
+    pub first: usize,
+    pub second: usize,
 }
 
 // Apart if the origin is outside, touching if on the rim, else overlapping.
@@ -70,16 +75,18 @@ pub fn first(a: &[i32], b: &[i32], top: usize) -> Point
     side::here(side::side_at(a, 0), image::side_at(b, top, 0))
 }
 
-// Passes the edges, each once, up to one that has the origin to its right. After the last edge both sides are at their
-// first corners again.
+// Passes the edges, each once, up to one that has the origin to its right: most of them in a stride. After the last
+// edge both sides are at their first corners again.
 pub fn pass(a: &[i32], b: &[i32], top: usize) -> Sides
     requires { ⌜ Valid (now a) × Valid (now b) × Peak (points (now b)) top ⌝ }
     ensures { λ r. ⌜ Passed (vectorSum (points (now (a .entry))) (points (image (now (b .entry))))) r ⌝ }
+    ensures { λ r. ⌜ Stood (now (a .entry)) (image (now (b .entry))) (r .first) (r .second) ⌝ }
 {
-    let mut s = side::side_at(a, 0);
-    let mut t = image::side_at(b, top, 0);
+    let far = stride::stride(a, b, top);
+    let mut s = far.s;
+    let mut t = far.t;
     let all = s.end + t.end;
-    let mut count = 0;
+    let mut count = s.at + t.at - far.joined;
     let mut rim = false;
     loop {
         let from = side::here(s, t);
@@ -93,6 +100,8 @@ pub fn pass(a: &[i32], b: &[i32], top: usize) -> Sides
                 outside: true,
                 rim,
                 normal: normal::passed_normal(s, t, m, n),
+                first: s.at,
+                second: t.at,
             };
         }
         rim = either(rim, turn <= 0);
@@ -103,6 +112,8 @@ pub fn pass(a: &[i32], b: &[i32], top: usize) -> Sides
                 outside: false,
                 rim,
                 normal: Point { x: 0, y: 0 },
+                first: 0,
+                second: 0,
             };
         }
         s = m;

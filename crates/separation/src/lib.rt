@@ -1,9 +1,10 @@
-// Inner functions for how two shapes stand to each other (document 01, "Relation" and "Inside"), and for their
+// Inner functions for how two shapes relate to each other (document 01, "Relation" and "Inside"), and for their
 // differences. Callers ask the crate `questions`.
 pub mod answer;
 pub mod around;
 pub mod differences;
 mod normal;
+mod stride;
 mod within;
 
 ghost use mathlib.Core.Path.{_≡_};

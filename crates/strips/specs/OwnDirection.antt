@@ -19,7 +19,7 @@ abbrev pub outOf : List Point → ℕ → Point
 outOf ps e = outward (corner ps e) (corner ps (next (length ps) e))
 
 -- the step between the two corners; or that between the foot on an edge and the corner, times the edge's squared length: the sign of the
--- corner's turn says on which side of the edge it stands
+-- corner's turn says on which side of the edge it is
 abbrev pub towards : List Point → List Point → Candidate → Point
 towards A B (corners i j) = corner A i ⊖ corner B j
 towards A B (onSecond i e) = times (negℤ (turnOn B e (corner A i))) (outOf B e)

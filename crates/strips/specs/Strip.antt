@@ -3,7 +3,7 @@
 --     least d ps                the least value of d over ps
 --     spread d ps               "the spread of the shape's values in it", from the least to the greatest: the strip across d that holds ps
 --     gapIn d A B               from the greatest value of B to the least of A
---     Corridor A B d low high   the strip lies between the shapes, B behind it and A ahead of it
+--     Corridor A B d low high   the strip lies between the shapes, B below it and A above it
 -- Gap and corridor are our own, not of document 02. What they mean: `EveryDirection.antt`.
 use mathlib.Core.Path.{_≡_}
 use mathlib.Core.List.{List, List·Memᴰ}
@@ -19,7 +19,7 @@ least d ps = negℤ (support (opposite d) ps)
 unfoldable pub spread : Point → List Point → ℤ
 spread d ps = support d ps -ℤ least d ps
 
--- below 0 where the shapes overlap in d, or stand the other way round
+-- below 0 where the shapes overlap in d, or are the other way round
 unfoldable pub gapIn : Point → List Point → List Point → ℤ
 gapIn d A B = least d A -ℤ support d B
 

@@ -1,5 +1,5 @@
 -- A sum while it is written, from a place on: a walk (`Walked`), and its corners at the front of the output.
---     Progress a b old w k count s t out     so many of the next corners are written, and the walk with these sides is as far
+--     Progress a b old w k count s t out     `count` of the next corners are written, and the walk with these sides is as far
 --     progress-start, -more                  its moves: nothing yet, one corner more
 --     progress-part, part-progress           what is written so far, as an equation, and back
 --     progress-done                          its end: the next corners are written, and all after them is kept

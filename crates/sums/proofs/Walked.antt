@@ -1,7 +1,7 @@
 -- A walk under way from a place (`Walked`), with carried sides: the invariant of every loop that goes round two shapes, and its moves.
 --     walked-start, -more          its moves: nothing yet, one corner more; `walked-inside`: one more where edges are left
 --     walked-over, -spent          its ends: no edge is left, or k corners are passed; `Ended`: these are all the next corners
---     walked-at, -below, -here     the walk stands at a place; a corner is to come, and the two sides stand at it
+--     walked-at, -below, -here     the walk is at a place; a corner is to come, and the two sides are at it
 use mathlib.Core.Path.{_≡_, refl, sym, _∙_, ap, subst}
 use mathlib.Core.Bool.{Bool, true, false, cond}
 use mathlib.Core.List.{List}
@@ -25,7 +25,7 @@ use Rattle.calipers.specs.theory.Sides.{onward-end, onward-inner}
 use Rattle.calipers.specs.theory.Carry.{all-passed, some-left, sides-walk, sides-here, sides-advanced}
 use Rattle.calipers.specs.theory.Steps.{remaining-here, remaining-over, at-stepped, remaining-stepped, here-stepped}
 
--- so many corners are all that are next, and the walk is after them
+-- these corners are all that are next, and the walk is after them
 pub record Ended (a b : List ℤ) (w : Walk) (k count : ℕ) (s t : Side) (over : Bool) : Type 0 where
   pub counted : count ≡ length (nextCorners a b w k)
   pub reaches : walkOf s t over ≡ stepped (points a) (points b) count w

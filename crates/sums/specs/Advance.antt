@@ -1,8 +1,8 @@
 -- A walk that went on from a place, with the corners on its way. Our own, not of document 02.
---     state i j over            a walk with so many edges passed of either shape
+--     state i j over            a walk with i and j edges passed of the two shapes
 --     nextCorners a b w k       the next k corners from w on, or what remains
 --     reached r                 the walk where it came to
---     Walked a b w k count s t    from w it went on by so many corners, fewer than k, stands at these sides, and is not over
+--     Walked a b w k count s t    from w it went on by `count` corners, fewer than k, is at these sides, and is not over
 --     Advanced a b w k r        from w it went on by these corners
 use mathlib.Core.Path.{_≡_}
 use mathlib.Core.Bool.{Bool, false}

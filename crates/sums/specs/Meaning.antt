@@ -43,7 +43,7 @@ module _ (a b : List ℤ) (v : Valid a) (w : Valid b) where
   pub walk-visits-sum : remaining (points a) (points b) begun ≡ shapeOf (sums (points a) (points b))
   walk-visits-sum = sum-visited a b v w
 
-  -- wherever it stands before it is over, the two corners there make a corner of the set
+  -- wherever it is before it is over, the two corners there make a corner of the set
   pub walk-stands-at-corner : (n : ℕ) → n < length (remaining (points a) (points b) begun)
       → Corner (sums (points a) (points b)) (here (points a) (points b) (stepped (points a) (points b) n begun))
   walk-stands-at-corner n h = visited-corner a b v w n h

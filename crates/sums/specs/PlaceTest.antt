@@ -1,6 +1,6 @@
 -- The places of a walk told without walking: by the edges next to it and the count of edges. Our own, not of document 02.
 --     follows E i F j        the last edge passed of E, if there is one, is before the next of F, if there is one
---     ends left all over     with so many edges left of all, the walk is over exactly if none is; two points have no edge, and two places
+--     ends left all over     with `left` edges left of `all`, the walk is over exactly if none is; two points have no edge, and two places
 --     standsAt a b w         both follow, with edges that are there
 -- What it means: `place-told-by-edges` of `Meaning.antt`: these are the places.
 use mathlib.Core.Bool.{Bool, not, cond, _&&_, _||_}

@@ -1,5 +1,5 @@
 -- The exact value of a finite double: the fraction ± over / under (document 02, W4, "its exact value"). Of the kit's `fin s m e`, which is
--- m · 2^e and negative where s is true, that is m · up e / down e. A NaN and an infinity have no value; here they stand as 0 / 1, and
+-- m · 2^e and negative where s is true, that is m · up e / down e. A NaN and an infinity have no value; here they count as 0 / 1, and
 -- whoever asks tests `finite` first.
 --     finite v                         neither a NaN nor an infinity
 --     negative v, over v, under v      the sign and the two parts of the fraction

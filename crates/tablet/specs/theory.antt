@@ -1,4 +1,4 @@
--- What the meaning stands on, in reading order.
+-- What the meaning rests on, in reading order.
 pub mod Fraction
 pub mod Exact
 pub mod Tested

@@ -1,4 +1,4 @@
--- Numbers of many words, in reading order; then the theory behind them.
+-- Numbers of many words, in reading order; then their theory.
 pub mod Value
 pub mod Root
 pub mod theory

@@ -9,6 +9,7 @@ use crate::session::{Event, Outcome, Session};
 /// How it is called, and what it does.
 pub const COMMAND: Command = Command {
     name: "ask",
+    takes: "FILE..",
     does: "answers the questions of files, by the shapes that these define",
     options: &[JSON],
     page: "\
@@ -43,7 +44,11 @@ fn run(arguments: &Arguments, console: &mut Console<'_>) -> Result<Status, Troub
     for source in console.sources(&arguments.files)? {
         session.read(&source, |event| {
             status = status.max(status_of(&event));
-            let is_said = event.replaces() || !matches!(event.outcome, Outcome::Defined { .. });
+            let is_silent = matches!(
+                event.outcome,
+                Outcome::Defined { .. } | Outcome::Measured(_)
+            );
+            let is_said = event.replaces() || !is_silent;
             if is_said {
                 print(console, json, &event)
             } else {
@@ -58,7 +63,7 @@ fn run(arguments: &Arguments, console: &mut Console<'_>) -> Result<Status, Troub
 #[must_use]
 pub fn status_of(event: &Event) -> Status {
     match &event.outcome {
-        Outcome::Refused(_) | Outcome::Removed { .. } => Status::Refused,
+        Outcome::Refused(_) | Outcome::Removed { .. } | Outcome::NotWhole { .. } => Status::Refused,
         Outcome::Unreadable(_) => Status::Wrong,
         Outcome::Answered {
             answer: Answer::Two(_, AboutTwo::Parts(calls)),

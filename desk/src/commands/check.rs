@@ -1,20 +1,30 @@
 //! `cocklesway check`: judges every shape of a map.
 use super::ask::{JSON, print, status_of};
+use super::chosen::{answered, say};
 use crate::command::{Command, Console, Status, Trouble};
 use crate::distance::Distance;
+use crate::floor::doubles::{alike, overlapping};
 use crate::given::{Corner, Given};
+use crate::json::Json;
+use crate::map::Map;
 use crate::options::Arguments;
+use crate::progress::Progress;
+use crate::refusal::reason;
 use crate::report::sentence;
 use crate::session::{Event, Outcome, Session};
 
 /// How it is called, and what it does.
 pub const COMMAND: Command = Command {
     name: "check",
+    takes: "FILE..",
     does: "judges every shape of a map, and says what is wrong with it",
     options: &[JSON],
     page: "\
 Every shape, every outline and every named answer is judged and listed, with how far it reaches. Other
-questions are read and not asked. The status is 0 if all are shapes and every line can be read.
+questions are read and not asked. Then come shapes of one floor that overlap or are the same shape, and
+names that differ only in case: these are no mistakes by themselves. Each two shapes are an answer of
+the library; going through the pairs is a loop of this program. The status is 0 if all are shapes and
+every line can be read.
 
     cocklesway check map.txt
 ",
@@ -40,7 +50,7 @@ fn run(arguments: &Arguments, console: &mut Console<'_>) -> Result<Status, Troub
             status = status.max(status_of(&event));
             tally.count(&event);
             match (&event.outcome, shape_of(&event)) {
-                (Outcome::Unasked(_) | Outcome::Listed(_), _) => Ok(()),
+                (Outcome::Unasked(_) | Outcome::Listed(_) | Outcome::Measured(_), _) => Ok(()),
                 (_, Some(shape)) if !json => console.say(&format!(
                     "{}: {}{}",
                     event.place,
@@ -51,10 +61,32 @@ fn run(arguments: &Arguments, console: &mut Console<'_>) -> Result<Status, Troub
             }
         })?;
     }
+    remarks(console, json, session.map())?;
     if !json {
         console.say(&tally.summary())?;
     }
     Ok(status)
+}
+
+/// Says which shapes overlap or are the same, and which names differ only in case.
+fn remarks(console: &mut Console<'_>, json: bool, map: &Map) -> Result<(), Trouble> {
+    let mut progress = Progress::new("pairs");
+    let doubles = overlapping(map, |done, of| progress.at(console, done, of));
+    let doubles = answered(console, json, doubles, reason)?;
+    for double in doubles.into_iter().chain(alike(map)) {
+        say(console, json, &double.sentence(), || {
+            let names = double
+                .names
+                .each_ref()
+                .map(|name| Json::from(name.as_str()));
+            vec![
+                ("remark", double.word().into()),
+                ("floor", double.floor.map(u64::from).into()),
+                ("names", Json::List(names.to_vec())),
+            ]
+        })?;
+    }
+    Ok(())
 }
 
 /// The shape that a line defines.
@@ -93,9 +125,11 @@ impl Tally {
                 self.shapes += usize::from(!event.replaces());
                 self.replaced += usize::from(event.replaces());
             }
-            Outcome::Refused(_) | Outcome::Removed { .. } => self.refused += 1,
+            Outcome::Refused(_) | Outcome::Removed { .. } | Outcome::NotWhole { .. } => {
+                self.refused += 1;
+            }
             Outcome::Unreadable(_) => self.unreadable += 1,
-            Outcome::Unasked(_) | Outcome::Listed(_) => {}
+            Outcome::Unasked(_) | Outcome::Listed(_) | Outcome::Measured(_) => {}
         }
     }
 

@@ -1,16 +1,13 @@
 //! `cocklesway draw`: a floor as a picture.
-use super::ask::status_of;
+use super::chosen::{AT, BELOW, CART, FLOOR, limit, named, number, place, whole_map};
 use crate::answer::Refused;
 use crate::command::{Command, Console, Status, Trouble};
 use crate::given::{Given, Pair};
-use crate::map::{Entry, Map};
-use crate::name::Name;
+use crate::map::Map;
 use crate::options::{Arguments, Known, Misuse};
 use crate::picture::picture;
-use crate::picture::scene::{Wishes, floors, scene};
+use crate::picture::scene::{Wishes, scene};
 use crate::refusal::reason;
-use crate::report::sentence;
-use crate::session::Session;
 use crate::source;
 use std::ffi::OsStr;
 use std::fs::{self, File};
@@ -19,6 +16,7 @@ use std::io::{self, Write};
 /// How it is called, and what it does.
 pub const COMMAND: Command = Command {
     name: "draw",
+    takes: "FILE..",
     does: "draws all shapes of a floor as a picture (SVG), which every browser shows",
     options: OPTIONS,
     page: "\
@@ -29,17 +27,22 @@ cannot be read, nothing is drawn.
 
     cocklesway draw map.txt --floor 2 -o floor.svg
     cocklesway draw map.txt --grow cart --at 3500,0 -o cart.svg
+    cocklesway draw map.txt --floor 2 --below 900 --cart cart --drive '0,0 3000,0 3000,2500' -o way.svg
+
+With --below MM the gaps of less than that between obstacles that are apart are marked with
+their width; with --cart those that leave the cart less. With --drive the way of the cart's origin is
+drawn, what the cart passes over on each leg that is clear, and the cart where it first meets an
+obstacle. What is said of them is below the picture, as `cocklesway gaps` and `cocklesway drive` say it.
 ",
     run,
 };
 
-const FLOOR: &str = "--floor";
 const GROW: &str = "--grow";
-const AT: &str = "--at";
 const GAP: &str = "--gap";
 const TANGENTS: &str = "--tangents";
 const SUM: &str = "--sum";
 const ALSO: &str = "--also";
+const DRIVE: &str = "--drive";
 const OUTPUT: &str = "-o";
 
 const fn option(name: &'static str, value: &'static str, does: &'static str, many: bool) -> Known {
@@ -52,19 +55,17 @@ const fn option(name: &'static str, value: &'static str, does: &'static str, man
 }
 
 const OPTIONS: &[Known] = &[
-    option(
-        FLOOR,
-        "N",
-        "the floor; needed if the map has several",
-        false,
-    ),
+    FLOOR,
     option(
         GROW,
         "CART",
         "each obstacle grown by this cart's outline: where its origin must not be",
         false,
     ),
-    option(AT, "X,Y", "the cart with its origin at this place", false),
+    Known {
+        does: "the cart with its origin at this place",
+        ..AT
+    },
     option(
         GAP,
         "A,B",
@@ -84,6 +85,20 @@ const OPTIONS: &[Known] = &[
         "a named answer that was grown, summed or mirrored",
         true,
     ),
+    Known {
+        does: "gaps below this number of millimetres are marked",
+        ..BELOW
+    },
+    Known {
+        does: "the cart of --below and --drive; that of --grow without it",
+        ..CART
+    },
+    option(
+        DRIVE,
+        "PLACES",
+        "a drive from place to place, as 'X,Y X,Y ..'",
+        false,
+    ),
     option(
         OUTPUT,
         "FILE",
@@ -93,13 +108,13 @@ const OPTIONS: &[Known] = &[
 ];
 
 fn run(arguments: &Arguments, console: &mut Console<'_>) -> Result<Status, Trouble> {
-    let (session, replaced) = read(arguments, console)?;
+    let (session, replaced) = whole_map(&arguments.files, console, "nothing is drawn")?;
     let map = session.map();
     let wishes = Wishes {
         notes: replaced,
         ..wishes(arguments, map)?
     };
-    let floor = floor(arguments, map)?;
+    let floor = number(arguments, map)?;
     are_here(&wishes, floor)?;
     let drawn = scene(map, floor, &wishes).and_then(|scene| picture(&scene));
     match drawn {
@@ -112,61 +127,9 @@ fn run(arguments: &Arguments, console: &mut Console<'_>) -> Result<Status, Troub
     }
 }
 
-/// Reads the map, and says below the picture which shapes took the place of others. All lines that cannot be used are
-/// said, and then nothing is drawn.
-fn read(
-    arguments: &Arguments,
-    console: &mut Console<'_>,
-) -> Result<(Session, Vec<String>), Trouble> {
-    let mut session = Session::of_definitions();
-    let mut status = Status::Fine;
-    let mut replaced = Vec::new();
-    for source in console.sources(&arguments.files)? {
-        session.read(&source, |event| {
-            let said = format!("{}: {}", event.place, sentence(&event));
-            status = status.max(status_of(&event));
-            match status_of(&event) {
-                Status::Fine if event.replaces() => replaced.push(said),
-                Status::Fine => {}
-                _ => console.complain(&said)?,
-            }
-            Ok::<(), Trouble>(())
-        })?;
-    }
-    match status {
-        Status::Fine => Ok((session, replaced)),
-        status => {
-            console.complain("nothing is drawn, since the map is not whole")?;
-            Err(Trouble::Said(status))
-        }
-    }
-}
-
 fn refusal(refused: &Refused) -> String {
     let (word, number) = (refused.question.word(), refused.refusal.number());
     format!("draw: {word} is refused ({number}): {}", reason(refused))
-}
-
-/// The floor that is named, or the only one.
-fn floor(arguments: &Arguments, map: &Map) -> Result<u16, Misuse> {
-    if let Some(value) = arguments.value(FLOOR) {
-        let text = value.to_string_lossy();
-        let wanted = "a floor from 0 to 65535";
-        return text
-            .parse()
-            .map_err(|_| Misuse::BadValue(FLOOR, text.to_string(), wanted));
-    }
-    match floors(map).as_slice() {
-        [] => Err(Misuse::Other("the map has no shape on a floor".to_string())),
-        [floor] => Ok(*floor),
-        several => {
-            let several: Vec<String> = several.iter().map(u16::to_string).collect();
-            let several = several.join(", ");
-            Err(Misuse::Other(format!(
-                "the map has the floors {several}: choose one with {FLOOR}"
-            )))
-        }
-    }
 }
 
 fn wishes(arguments: &Arguments, map: &Map) -> Result<Wishes, Misuse> {
@@ -174,10 +137,12 @@ fn wishes(arguments: &Arguments, map: &Map) -> Result<Wishes, Misuse> {
         .value(GROW)
         .map(|value| named(GROW, value, map))
         .transpose()?;
-    let at = arguments.value(AT).map(place).transpose()?;
+    let at = arguments.value(AT.name);
+    let at = at.map(|value| place(AT.name, value)).transpose()?;
     if at.is_some() && cart.is_none() {
         return Err(Misuse::Other(format!(
-            "{AT} needs a cart: {GROW} CART {AT} X,Y"
+            "{0} needs a cart: {GROW} CART {0} X,Y",
+            AT.name
         )));
     }
     let pairs = |option| {
@@ -194,7 +159,40 @@ fn wishes(arguments: &Arguments, map: &Map) -> Result<Wishes, Misuse> {
         gaps: pairs(GAP).collect::<Result<_, _>>()?,
         tangents: pairs(TANGENTS).collect::<Result<_, _>>()?,
         sums: pairs(SUM).collect::<Result<_, _>>()?,
+        below: limit(arguments)?,
+        ..driven(arguments, map)?
     })
+}
+
+/// The cart that drives, and where.
+fn driven(arguments: &Arguments, map: &Map) -> Result<Wishes, Misuse> {
+    let driven = arguments.value(CART.name);
+    let driven = driven
+        .map(|value| named(CART.name, value, map))
+        .transpose()?;
+    let places = arguments.value(DRIVE).unwrap_or_default().to_string_lossy();
+    let places = places
+        .split_whitespace()
+        .map(|word| place(DRIVE, OsStr::new(word)));
+    let drive: Vec<[i32; 2]> = places.collect::<Result<_, _>>()?;
+    let words = match drive.len() {
+        0 if !arguments.has(DRIVE) => None,
+        0 | 1 => Some(format!(
+            "{DRIVE} needs two places or more: {DRIVE} 'X,Y X,Y ..'"
+        )),
+        _ if driven.is_none() && !arguments.has(GROW) => {
+            Some(format!("{DRIVE} needs a cart: {} CART", CART.name))
+        }
+        _ => None,
+    };
+    match words {
+        Some(words) => Err(Misuse::Other(words)),
+        None => Ok(Wishes {
+            driven,
+            drive,
+            ..Wishes::default()
+        }),
+    }
 }
 
 /// Whether all that is wished for is on the floor: a picture of one floor shows nothing of another. A gap and tangents
@@ -222,50 +220,16 @@ fn are_here(wishes: &Wishes, floor: u16) -> Result<(), Misuse> {
     }
 }
 
-/// The shape of a name.
-fn named(option: &'static str, value: &OsStr, map: &Map) -> Result<Given, Misuse> {
-    let text = value.to_string_lossy();
-    let item = Name::read(&text).ok().and_then(|name| map.get(&name));
-    match item.map(|item| &item.entry) {
-        Some(Entry::Shape { shape, .. }) => Ok(shape.clone()),
-        _ => Err(Misuse::BadValue(
-            option,
-            text.to_string(),
-            "the name of a shape of the map",
-        )),
-    }
-}
-
 /// Two names with a comma between them.
 fn pair(option: &'static str, value: &OsStr, map: &Map) -> Result<Pair, Misuse> {
+    let what = "two names with a comma between them";
     let text = value.to_string_lossy();
-    let wrong = || {
-        Misuse::BadValue(
-            option,
-            text.to_string(),
-            "two names with a comma between them",
-        )
-    };
-    let (a, b) = text.split_once(',').ok_or_else(wrong)?;
+    let both = text.split_once(',');
+    let (a, b) = both.ok_or_else(|| Misuse::BadValue(option, text.to_string(), what))?;
     Ok(Pair {
         a: named(option, OsStr::new(a), map)?,
         b: named(option, OsStr::new(b), map)?,
     })
-}
-
-/// Two numbers with a comma between them.
-fn place(value: &OsStr) -> Result<[i32; 2], Misuse> {
-    let text = value.to_string_lossy();
-    let wrong = || {
-        Misuse::BadValue(
-            AT,
-            text.to_string(),
-            "two whole numbers of millimetres with a comma between them",
-        )
-    };
-    let (x, y) = text.split_once(',').ok_or_else(wrong)?;
-    let number = |part: &str| part.trim().parse().map_err(|_| wrong());
-    Ok([number(x)?, number(y)?])
 }
 
 /// Writes the picture.

@@ -19,30 +19,24 @@ pub fn draw(svg: &mut Svg, frame: &Frame) {
     let ([left, top], [right, bottom]) = (frame.page.least, frame.page.greatest);
     for x in multiples(step, frame.floor.least[0], frame.floor.greatest[0]) {
         let [at, _] = frame.at([x, 0.0]);
-        svg.empty(
-            "line",
-            &[
-                ("x1", &Px(at)),
-                ("y1", &Px(top)),
-                ("x2", &Px(at)),
-                ("y2", &Px(bottom)),
-            ],
-        );
+        line(svg, [at, top], [at, bottom]);
     }
     for y in multiples(step, frame.floor.least[1], frame.floor.greatest[1]) {
         let [_, at] = frame.at([0.0, y]);
-        svg.empty(
-            "line",
-            &[
-                ("x1", &Px(left)),
-                ("y1", &Px(at)),
-                ("x2", &Px(right)),
-                ("y2", &Px(at)),
-            ],
-        );
+        line(svg, [left, at], [right, at]);
     }
     svg.close("g");
     coordinates(svg, frame, step);
+}
+
+fn line(svg: &mut Svg, [x1, y1]: [f64; 2], [x2, y2]: [f64; 2]) {
+    let line: &Attributes<'_> = &[
+        ("x1", &Px(x1)),
+        ("y1", &Px(y1)),
+        ("x2", &Px(x2)),
+        ("y2", &Px(y2)),
+    ];
+    svg.empty("line", line);
 }
 
 fn coordinates(svg: &mut Svg, frame: &Frame, step: f64) {

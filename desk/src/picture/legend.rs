@@ -1,7 +1,7 @@
 //! What is below the map: what the colours mean, and sentences.
 use super::gaps::Narrow;
 use super::labels::{self, LINE};
-use super::look::{self, Hatch, Look, ROLES};
+use super::look::{self, Hatch, KINDS, Look, ROLES};
 use super::scene::{LineKind, Scene};
 use super::svg::{Attributes, Px, Svg};
 
@@ -30,7 +30,7 @@ impl Legend {
         width: f64,
     ) -> Legend {
         let roles = ROLES.into_iter().filter(|&role| scene.has(role));
-        let kinds = [LineKind::Gap, LineKind::Tangent].into_iter();
+        let kinds = KINDS.into_iter();
         let drawn = |kind: &LineKind| scene.strokes.iter().any(|stroke| stroke.kind == *kind);
         let hidden = hidden.map(|gap| format!("too narrow to be seen: {}", gap.title));
         let notes = scene.notes.iter().cloned().chain(hidden);

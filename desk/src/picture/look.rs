@@ -32,7 +32,22 @@ pub struct Look {
 }
 
 /// All roles, in the order of the legend.
-pub const ROLES: [Role; 5] = [Role::Shape, Role::Answer, Role::Cart, Role::Zone, Role::Sum];
+pub const ROLES: [Role; 6] = [
+    Role::Shape,
+    Role::Answer,
+    Role::Cart,
+    Role::Zone,
+    Role::Sum,
+    Role::Way,
+];
+
+/// All kinds of lines, in the order of the legend.
+pub const KINDS: [LineKind; 4] = [
+    LineKind::Gap,
+    LineKind::Tangent,
+    LineKind::Way,
+    LineKind::Contact,
+];
 
 /// The colour of gaps and of the insets that show them.
 pub const OF_GAPS: &str = "#cc0066";
@@ -56,6 +71,12 @@ pub const fn of_role(role: Role) -> Look {
             "where the cart's origin must not be: obstacles grown by its outline",
         ),
         Role::Sum => ("#7b3294", Hatch::Falling, "10 3 2 3", "vector sum"),
+        Role::Way => (
+            "#009e73",
+            Hatch::Bare,
+            "4 3",
+            "what the cart passes over on a leg that is clear, or the cart where it begins another",
+        ),
     };
     Look {
         colour,
@@ -71,6 +92,12 @@ pub const fn of_line(kind: LineKind) -> Look {
     let (colour, dashes, legend) = match kind {
         LineKind::Gap => (OF_GAPS, "none", "between the nearest points"),
         LineKind::Tangent => ("#555555", "2 3", "lines that just touch both"),
+        LineKind::Way => ("#009e73", "none", "the way of the cart's origin"),
+        LineKind::Contact => (
+            "#e69f00",
+            "none",
+            "the cart where it first meets an obstacle",
+        ),
     };
     Look {
         colour,

@@ -6,6 +6,7 @@
 //! | module | subject |
 //! |---|---|
 //! | [`scene`] | what a picture shows |
+//! | [`way`] | gaps below a limit, and a drive |
 //! | [`gaps`] | gaps that are too narrow to be seen |
 //! | [`frame`], [`grid`] | from millimetres to pixels; coordinates |
 //! | [`labels`], [`legend`] | where names are written; what is below the map |
@@ -19,6 +20,7 @@ pub mod look;
 pub mod outline;
 pub mod scene;
 pub mod svg;
+pub mod way;
 
 use crate::answer::Refused;
 use frame::{Frame, Rect};
@@ -27,7 +29,7 @@ use labels::{LINE, Label, Wanted};
 use legend::Legend;
 use look::ROLES;
 use outline::{less, line, outline};
-use scene::{Figure, Role, Scene};
+use scene::{Figure, Role, Scene, Tag};
 use svg::{Attributes, Mm, Px, Svg};
 
 /// The width of the page, and what is left free beside the map.
@@ -51,7 +53,11 @@ const LEAST_GAP: f64 = 0.01;
 /// A question on two figures that the library refuses.
 pub fn picture(scene: &Scene) -> Result<Option<String>, Refused> {
     let figures = scene.figures.iter().filter_map(Figure::around);
-    let Some(around) = figures.reduce(Rect::joined) else {
+    let strokes = scene
+        .strokes
+        .iter()
+        .filter_map(|stroke| Rect::around(stroke.ends));
+    let Some(around) = figures.chain(strokes).reduce(Rect::joined) else {
         return Ok(None);
     };
     let place = Rect::around(scene.place.map(|place| place.map(f64::from)));
@@ -180,7 +186,11 @@ impl Page<'_> {
     fn names(&self, svg: &mut Svg) {
         let figures = self.scene.figures.iter();
         let named = figures.filter(|figure| figure.role != Role::Zone);
-        let wanted: Vec<Wanted> = named.filter_map(|figure| self.wanted(figure)).collect();
+        let tags = self.scene.tags.iter().map(|tag| self.tagged(tag));
+        let wanted: Vec<Wanted> = named
+            .filter_map(|figure| self.wanted(figure))
+            .chain(tags)
+            .collect();
         let group: &Attributes<'_> = &[
             ("class", &"names"),
             ("text-anchor", &"middle"),
@@ -203,6 +213,16 @@ impl Page<'_> {
             middle: self.frame.at(figure.mean()?),
             around: self.frame.boxed(figure.around()?).widened(2.0),
         })
+    }
+
+    /// The word of a line, beside its middle.
+    fn tagged(&self, tag: &Tag) -> Wanted {
+        let middle = self.frame.at(tag.at);
+        Wanted {
+            text: tag.text.clone(),
+            middle,
+            around: Rect::at(middle).widened(2.0),
+        }
     }
 
     /// What names must not cover: the cart's origin, and the marks of insets with their letters.

@@ -1,7 +1,9 @@
 //! What a picture shows: figures, lines between them, and what is said below.
 use super::frame::Rect;
-use crate::answer::{Refused, clearance, made, relation, tangents};
-use crate::distance::Distance;
+use crate::answer::{Refused, clearance, made, tangents};
+use crate::called::{Called, between};
+use crate::floor::stand::{Stand, label_at, placed, stand};
+use crate::floor::{Floor, grown, is_thing};
 use crate::given::{Given, Pair};
 use crate::map::{Map, Origin};
 use crate::question::Making;
@@ -21,6 +23,8 @@ pub enum Role {
     Zone,
     /// A vector sum.
     Sum,
+    /// What the cart passes over on a drive, or the cart where it begins it.
+    Way,
 }
 
 /// A shape that is drawn.
@@ -41,6 +45,10 @@ pub enum LineKind {
     Gap,
     /// One that just touches both.
     Tangent,
+    /// The way of the cart's origin.
+    Way,
+    /// An edge of the cart where it first meets an obstacle.
+    Contact,
 }
 
 /// A line that is drawn, in millimetres.
@@ -52,6 +60,15 @@ pub struct Stroke {
     pub ends: [[f64; 2]; 2],
 }
 
+/// A word that is written at a place, in millimetres.
+#[derive(Clone, Debug, PartialEq)]
+pub struct Tag {
+    /// The word.
+    pub text: String,
+    /// The place.
+    pub at: [f64; 2],
+}
+
 /// A picture before it is laid out.
 #[derive(Clone, Debug, Default, PartialEq)]
 pub struct Scene {
@@ -61,6 +78,8 @@ pub struct Scene {
     pub figures: Vec<Figure>,
     /// The lines.
     pub strokes: Vec<Stroke>,
+    /// Words at lines.
+    pub tags: Vec<Tag>,
     /// Where the cart's origin is.
     pub place: Option<[i32; 2]>,
     /// Sentences below the picture.
@@ -84,25 +103,12 @@ pub struct Wishes {
     pub tangents: Vec<Pair>,
     /// Pairs whose sum is drawn.
     pub sums: Vec<Pair>,
-}
-
-/// Whether a shape is a thing on the floor. What is grown, summed or mirrored is none: it is drawn if it is asked for.
-fn is_thing(origin: &Origin) -> bool {
-    match origin {
-        Origin::Written => true,
-        Origin::Made(making) => {
-            !matches!(making, Making::Grow(_) | Making::Sum(_) | Making::Mirror(_))
-        }
-    }
-}
-
-/// Whether a shape is the cart, or the cart at a place.
-fn is_cart(shape: &Given, origin: &Origin, cart: &Given) -> bool {
-    let moved = match origin {
-        Origin::Made(Making::At(pair)) => pair.a.name.as_ref(),
-        _ => None,
-    };
-    cart.name.is_some() && (shape.name == cart.name || moved == cart.name.as_ref())
+    /// Gaps below this number of millimetres are marked.
+    pub below: Option<u64>,
+    /// The cart that drives, and for which gaps are measured.
+    pub driven: Option<Given>,
+    /// The places of a drive.
+    pub drive: Vec<[i32; 2]>,
 }
 
 impl Figure {
@@ -143,16 +149,6 @@ impl Stroke {
     }
 }
 
-/// Returns the floors of a map's shapes, in order.
-#[must_use]
-pub fn floors(map: &Map) -> Vec<u16> {
-    let things = map.shapes().filter(|(_, origin)| is_thing(origin));
-    let mut floors: Vec<u16> = things.filter_map(|(shape, _)| shape.floor).collect();
-    floors.sort_unstable();
-    floors.dedup();
-    floors
-}
-
 /// Returns all that a picture of a floor shows.
 ///
 /// # Errors
@@ -169,10 +165,7 @@ pub fn scene(map: &Map, floor: u16, wishes: &Wishes) -> Result<Scene, Refused> {
         ..Scene::default()
     };
     if let Some(cart) = &wishes.cart {
-        let obstacles = things
-            .iter()
-            .filter(|(shape, origin)| !is_cart(shape, origin, cart));
-        let obstacles: Vec<&Given> = obstacles.map(|(shape, _)| *shape).collect();
+        let obstacles = Floor::of(map, floor, Some(cart))?;
         scene.add_zones(&obstacles, cart)?;
         scene.add_things(&things, Some(cart));
         scene.add_cart(&obstacles, cart, wishes.at)?;
@@ -180,6 +173,9 @@ pub fn scene(map: &Map, floor: u16, wishes: &Wishes) -> Result<Scene, Refused> {
         scene.add_things(&things, None);
     }
     scene.add_wishes(wishes)?;
+    if !things.is_empty() {
+        scene.add_floor(map, wishes)?;
+    }
     Ok(scene)
 }
 
@@ -190,7 +186,8 @@ impl Scene {
         self.figures.iter().any(|figure| figure.role == role)
     }
 
-    fn add(&mut self, role: Role, label: String, shape: Given) {
+    /// Adds a figure above all others.
+    pub fn add(&mut self, role: Role, label: String, shape: Given) {
         self.figures.push(Figure { role, label, shape });
     }
 
@@ -203,14 +200,10 @@ impl Scene {
     }
 
     /// Adds each obstacle, grown by the cart's outline.
-    fn add_zones(&mut self, obstacles: &[&Given], cart: &Given) -> Result<(), Refused> {
-        for &obstacle in obstacles {
-            let pair = Pair {
-                a: obstacle.clone(),
-                b: cart.clone(),
-            };
-            let grown = made(Making::Grow(pair))?;
-            self.add(Role::Zone, format!("{obstacle} grown by {cart}"), grown);
+    fn add_zones(&mut self, floor: &Floor, cart: &Given) -> Result<(), Refused> {
+        for obstacle in &floor.shapes {
+            let label = format!("{obstacle} grown by {cart}");
+            self.add(Role::Zone, label, grown(obstacle, cart)?);
         }
         Ok(())
     }
@@ -218,28 +211,38 @@ impl Scene {
     /// Adds the cart at its place, and what it meets there.
     fn add_cart(
         &mut self,
-        obstacles: &[&Given],
+        floor: &Floor,
         cart: &Given,
         at: Option<[i32; 2]>,
     ) -> Result<(), Refused> {
-        let Some([x, y]) = at else {
+        let Some(place) = at else {
             return Ok(());
         };
-        let place = Given {
-            name: None,
-            numbers: [x, y].into(),
-            floor: Some(self.floor),
+        let label = label_at(cart, place);
+        let there = if floor.shapes.is_empty() {
+            self.notes.push(format!("{label} is free"));
+            placed(floor, cart, place)?
+        } else {
+            let found = stand(floor, cart, place)?;
+            self.notes.push(met(floor, &found));
+            found.there
         };
-        let pair = Pair {
-            a: cart.clone(),
-            b: place,
-        };
-        let label = format!("{cart} at ({x}, {y})");
-        let there = made(Making::At(pair))?;
-        self.notes.push(met(&label, &there, obstacles)?);
         self.add(Role::Cart, label, there);
         self.place = at;
         Ok(())
+    }
+
+    /// Adds what is asked of all obstacles at once.
+    fn add_floor(&mut self, map: &Map, wishes: &Wishes) -> Result<(), Refused> {
+        let cart = wishes.driven.as_ref();
+        let floor = Floor::of(map, self.floor, cart.or(wishes.cart.as_ref()))?;
+        if let Some(limit) = wishes.below {
+            self.add_gaps(&floor, cart, limit)?;
+        }
+        match cart.or(wishes.cart.as_ref()) {
+            Some(cart) => self.add_drive(&floor, cart, &wishes.drive),
+            None => Ok(()),
+        }
     }
 
     fn add_wishes(&mut self, wishes: &Wishes) -> Result<(), Refused> {
@@ -263,35 +266,24 @@ impl Scene {
     }
 }
 
-/// What the cart meets at its place: all that it touches or overlaps, or else what it is nearest to, by whole
-/// millimetres.
-fn met(label: &str, there: &Given, obstacles: &[&Given]) -> Result<String, Refused> {
-    let mut met = Vec::new();
-    let mut near: Vec<(Distance, String)> = Vec::new();
-    for &obstacle in obstacles {
-        let pair = Pair {
-            a: there.clone(),
-            b: obstacle.clone(),
-        };
-        match relation(&pair)? {
-            Relation::Apart => {
-                let gap = sentence::nearest(&pair, clearance(&pair)?);
-                near.extend(
-                    gap.map(|(distance, _)| (distance, format!("{obstacle} ({distance})"))),
-                );
-            }
-            Relation::Touching => met.push(format!("touches {obstacle}")),
-            Relation::Overlapping => met.push(format!("overlaps {obstacle}")),
-        }
+/// What the cart meets at its place, in short: all that it touches or overlaps, or else the nearest.
+fn met(floor: &Floor, found: &Stand) -> String {
+    let label = &found.label;
+    if let (position, Some(place)) = found.nearest
+        && let Some(near) = floor.shape(position)
+    {
+        let (distance, _) = between([&found.there, near].map(Called::own).each_ref(), place);
+        return format!("{label} is free; the nearest is {near} ({distance})");
     }
-    let least = near.iter().map(|(distance, _)| distance.millimetres).min();
-    near.retain(|(distance, _)| Some(distance.millimetres) == least);
-    let nearest: Vec<String> = near.into_iter().map(|(_, text)| text).collect();
-    Ok(match (met.as_slice(), nearest.as_slice()) {
-        ([], []) => format!("{label} is free"),
-        ([], nearest) => format!("{label} is free; the nearest is {}", nearest.join(", ")),
-        (met, _) => format!("{label} {}", met.join(", ")),
-    })
+    let met = found.met.iter().filter_map(|(position, how)| {
+        let verb = match how {
+            Relation::Overlapping => "overlaps",
+            _ => "touches",
+        };
+        Some(format!("{verb} {}", floor.shape(*position)?))
+    });
+    let met: Vec<String> = met.collect();
+    format!("{label} {}", met.join(", "))
 }
 
 /// Returns the line between the nearest points of two shapes; nothing if they are not apart.

@@ -1,5 +1,5 @@
 //! 100,000 files, random and mutated: no panic, nothing lost, and a status that says what happened.
-use crate::running::{Ran, with_input};
+use crate::running::{Folder, Ran, with_input};
 use crate::{json, xml};
 use second::make::dice::Dice;
 
@@ -21,24 +21,35 @@ const GOOD: &[&str] = &[
      bed = entry | 0F0002000700020001000000FFFFFFFF5A | 0 | 4\n\
      nearest | 0F0002000700020001000000FFFFFFFF5A | @2 cart | 9\n\
      gap | 0F0002000700020001000000FFFFFFFF5A0F0002000800020009000000FFFFFFFF5A | @2 0 0\n",
+    "unit m\nring | bed | @2 0 0 2.0 0 2 0.9 0 0.90 0 0\nshape | wall | @2 0 1.5 4 1.5\nunit | cm\n\
+     shape | post | @2 1.5 2.25\nunit mm\nring | cart | 0 0 0 900 600 900 600 0\nclearance | bed | wall\n\
+     contact | bed | cart | 0.0 -1.5 | 9 9\n",
+    "bed = ring | @2 9 0 9 7 0 7 0 0 4 0 9 0 | 8\nbox | bed\ngreatest | bed | @2 5 6 3 9\n\
+     drive | 0F0002000700020001000000FFFFFFFF5A | @2 0 0 1 0 | -9 -1 | 9 -1\nring | 0 0 4 0 1 1 0 4\n",
 ];
 
 /// Words of lines, good and bad.
 const WORDS: &[&str] = &[
     "shape",
     "outline",
+    "ring",
+    "unit",
+    "unit m\n",
     "grow",
     "sum",
     "at",
     "merge",
     "sweep",
+    "ring",
     "mirror",
     "relation",
     "clearance",
+    "greatest",
     "excess",
     "judge",
     "shapes",
     "width",
+    "box",
     "length",
     "area",
     "tangents",
@@ -56,6 +67,7 @@ const WORDS: &[&str] = &[
     "entry",
     "nearest",
     "gap",
+    "drive",
     "contact",
     "a",
     "b",
@@ -83,6 +95,8 @@ const WORDS: &[&str] = &[
     "-0",
     "99999999999",
     "1.5",
+    "-0.25",
+    "2.0",
     "2:4",
     "mm",
     "0x4008000000000000",
@@ -225,6 +239,75 @@ fn files_of_all_sorts() {
     }
     assert!(
         ended.iter().all(|&count| count > 1000),
+        "too few of one status: {ended:?}"
+    );
+}
+
+/// Commands on whole floors, of files of all sorts: answers and no panic, or an error.
+#[test]
+fn whole_floors_of_all_sorts() {
+    let mut dice = Dice::new(50);
+    let folder = Folder::new();
+    let old = folder.file("old", GOOD[0]);
+    let commands = [
+        "gaps - --floor 2 --cart cart --below 5000",
+        "gaps - --json --apart",
+        "stands - --floor 2 --cart cart --at 3500,100 --json",
+        "drive - --floor 2 --cart cart 0,0 3000,0 3000,2500",
+        "nearest - --floor 2 --at 0,0",
+        "passes - linen-store wall --cart cart",
+        "export - --as geojson",
+        "diff - OLD --json",
+        "draw - --floor 2 --cart cart --below 5000 --drive 0,0_3000,0_3000,2500",
+    ];
+    for number in 0..FILES / 10 {
+        let bytes = file(&mut dice);
+        let command = commands[number % commands.len()].replace("OLD", &old);
+        let words: Vec<String> = command
+            .split(' ')
+            .map(|word| word.replace('_', " "))
+            .collect();
+        let words: Vec<&str> = words.iter().map(String::as_str).collect();
+        let ran = with_input(&words, &bytes);
+        assert_eq!(
+            ran.status == 2,
+            ran.errors.contains("cocklesway: ") && ran.status != 1,
+            "{ran:?}"
+        );
+        if command.contains("json") && ran.status == 0 {
+            let text = if command.contains("geojson") {
+                ran.output.replace('\n', "")
+            } else {
+                ran.output
+            };
+            text.lines()
+                .for_each(|line| drop(json::read(line).expect(line)));
+        }
+    }
+}
+
+/// Files of other programs, mutated: no panic, and a status that says what happened.
+#[test]
+fn formats_of_all_sorts() {
+    let good = [
+        "bed @2 POLYGON ((0 0, 2000 0, 2000 900, 0 900, 0 0))\nPOINT (1 2)\noutline cart LINESTRING (0 0, 6e2 0)\n",
+        r#"{"type":"FeatureCollection","features":[{"type":"Feature","properties":{"name":"bed","floor":2},
+        "geometry":{"type":"Polygon","coordinates":[[[0,0],[2.5,0],[2,0.9],[0,0]]]}},
+        {"type":"Point","coordinates":[1e3,-2]}]}"#,
+    ];
+    let mut dice = Dice::new(51);
+    let mut ended = [0; 3];
+    for _ in 0..FILES / 10 {
+        let mut bytes = dice.pick(&good).as_bytes().to_vec();
+        for _ in 0..dice.below(4) {
+            mutate(&mut dice, &mut bytes);
+        }
+        let ran = with_input(&["import", "-", "--unit", "m"], &bytes);
+        assert_eq!(ran.status == 0, ran.errors.is_empty(), "{ran:?}");
+        ended[usize::from(ran.status)] += 1;
+    }
+    assert!(
+        ended.iter().all(|&count| count > 100),
         "too few of one status: {ended:?}"
     );
 }

@@ -76,6 +76,58 @@ fn a_drive_is_told_by_its_way() {
 }
 
 #[test]
+fn a_drive_past_a_log_names_the_first_record() {
+    let log = "0F0002000700020001000000FFFFFFFF5A 0F0002000800020009000000FFFFFFFF5A";
+    let map = format!(
+        "outline | cart | 0 0 2 0\ndrive | {log} | @2 cart | -9 -1 | 11 -1\ndrive | {log} | @2 cart | 19 -1 | -1 -1\n\
+         drive | {log} | @2 cart | -9 0 | 11 0\ndrive | {log} | @2 cart | 8 -1 | 9 9\n\
+         drive | {log} | cart | 0 0 | 1 1\ndrive | {log} | @2 cart | 0 0 | 1000001 1\n\
+         drive | {log} | @2 999999 0 | 0 0 | 1 1\ndrive | {log} | @2 -999999 0 | 0 0 | 1 1\n"
+    );
+    holds(
+        &asked(&map),
+        1,
+        &[
+            "-:2: record 7 is the first that cart meets on floor 2: after 8 mm, at 2/5 of the way from (-9, -1) to \
+             (11, -1)",
+            "-:3: record 8 is the first that cart meets on floor 2: after 10 mm, at 1/2 of the way from (19, -1) to \
+             (-1, -1)",
+            "-:4: cart is clear of all shapes on floor 2 all the way from (-9, 0) to (11, 0)",
+            "-:5: record 8 is the first that cart meets on floor 2: where it begins its way from (8, -1) to (9, 9)",
+            "-:6: refused (20): the log has no shape on floor 0",
+            "-:7: refused (3): the place (1000001, 1) is out of range: coordinates go from -1000000 to 1000000 mm",
+            "-:8: the point (999999, 0) is clear of all shapes on floor 2 all the way from (0, 0) to (1, 1)",
+            "-:9: refused (7): record 8 grown by the point (-999999, 0) would reach x = 1000008; coordinates go from \
+             -1000000 to 1000000 mm",
+        ],
+        &[],
+    );
+}
+
+#[test]
+fn a_ring_is_kept_as_a_shape() {
+    let map = "bed = ring | @2 0 8 12 8 12 0 6 0 0 0 0 8\njudge | bed\nbox | bed\n\
+               greatest | bed | @2 16 8\nring | 3 1 3 1\nring | 0 0 4 0 1 1 0 4\nbox | 0 0 2 1\nring | 0 0 1\n";
+    holds(
+        &asked(map),
+        1,
+        &[
+            "-:1: bed is a shape of 4 corners on floor 2: (0, 0) (12, 0) (12, 8) (0, 8)",
+            "-:2: bed is a shape of 4 corners on floor 2",
+            "-:3: the least box about bed is 12 mm along its edge (0, 0) to (12, 0) and 8 mm across it",
+            "-:4: the greatest distance of bed and the point (16, 8) is 17 mm (rounded down), between corner (0, 0) of \
+             bed and the point (16, 8)",
+            "-:5: the shape of this ring is a point on floor 0 at (3, 1)",
+            "-:6: refused (4): the shape of 4 corners from (0, 0) is no convex ring: after (4, 0) it turns in or back \
+             at (1, 1), or begins to go round again there",
+            "-:7: refused (10): the segment (0, 0) to (2, 1) is a segment and has no box",
+            "-:8: refused (1): the list has 3 numbers; each point needs two, x and y",
+        ],
+        &[],
+    );
+}
+
+#[test]
 fn comments_and_continued_lines() {
     let map = "  # indented\nshape | store | @2 0 0 # begun\n\t# between\n  + 12 0 12 8\n+0 8 # ended\n\njudge | store";
     holds(
@@ -271,8 +323,8 @@ fn errors_tell_file_line_and_word() {
         "`O` is not a number; a name must be alone in its field, and it brings its floor along"
     );
     assert_eq!(
-        error("judge | 0 1.5"),
-        "`1.5` is not a whole number of millimetres"
+        error("judge | 0 1,5"),
+        "`1,5` is not a whole number of millimetres"
     );
     assert_eq!(
         error("judge | 0 +5"),

@@ -147,6 +147,68 @@ fn drives_have_their_fraction() {
 }
 
 #[test]
+fn drives_past_a_log_have_their_record() {
+    let lines = format!(
+        "drive | {LOG} | @2 0 0 | -9 -1 | 11 -1\ndrive | {LOG} | @2 0 0 | -9 0 | 11 0\n\
+         drive | {LOG} | @2 0 0 | 0 1000001 | 0 0\n"
+    );
+    let [meets, clear, far] = &objects(&lines)[..] else {
+        panic!("three questions");
+    };
+    assert_eq!(
+        (at(meets, "record"), at(meets, "meets")),
+        (&read("7"), &read("true"))
+    );
+    assert_eq!(
+        (at(meets, "numerator"), at(meets, "denominator")),
+        (&read("1"), &read("2"))
+    );
+    assert_eq!(
+        (at(meets, "safe"), at(meets, "to")),
+        (&read("10"), &read("[11,-1]"))
+    );
+    assert_eq!(at(clear, "meets"), &read("false"));
+    assert!(clear.get("record").is_none());
+    assert_eq!(
+        (at(far, "refused.number"), at(far, "refused.shape")),
+        (&read("3"), &read("1"))
+    );
+}
+
+#[test]
+fn boxes_rings_and_greatest_distances_have_their_numbers() {
+    let lines = "r = ring | @3 0 2 2 2 2 0 0 0 0 2\nbox | r\ngreatest | r | @3 5 6\nring | 0 0 4 0 1 1 0 4\n";
+    let [ring, least, far, bent] = &objects(lines)[..] else {
+        panic!("four questions");
+    };
+    assert_eq!(
+        at(ring, "made"),
+        &read(r#"{"name":"r","floor":3,"corners":[[0,0],[2,0],[2,2],[0,2]]}"#)
+    );
+    assert_eq!(at(least, "edge"), &read("[[0,0],[2,0]]"));
+    assert_eq!(
+        (
+            at(least, "height"),
+            at(least, "along"),
+            at(least, "squared")
+        ),
+        (&read("4"), &read("4"), &read("4"))
+    );
+    assert_eq!(
+        (at(far, "squared"), at(far, "first"), at(far, "second")),
+        (&read("61"), &read("[0,0]"), &read("[5,6]"))
+    );
+    assert_eq!(
+        (
+            at(bent, "refused.number"),
+            at(bent, "refused.before"),
+            at(bent, "refused.corner")
+        ),
+        (&read("4"), &read("1"), &read("2"))
+    );
+}
+
+#[test]
 fn refusals_have_their_number_and_reason() {
     let lines = "shape | a | 0 0 5 4 -1 4 4 0 2 6\njudge | a\nrelation | 0 0 | @2 0 0\nbookread | 0300010000 | 7\n";
     let [star, removed, floors, _] = &objects(lines)[..] else {

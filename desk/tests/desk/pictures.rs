@@ -426,3 +426,130 @@ fn no_picture_of_a_map_that_is_not_whole() {
         assert!(ran.errors.contains(words), "{arguments:?}: {ran:?}");
     }
 }
+
+/// The ends of all lines of a class on the map, in millimetres.
+fn lines_of(picture: &Drawn, class: &str) -> Vec<[f64; 4]> {
+    let lines = picture
+        .elements
+        .iter()
+        .filter(|element| element.name == "line" && element.get("class") == class);
+    lines
+        .map(|element| ["x1", "y1", "x2", "y2"].map(|key| float(element.get(key))))
+        .collect()
+}
+
+const DRIVE: &[&str] = &[
+    "--floor",
+    "2",
+    "--cart",
+    "cart",
+    "--drive",
+    "0,0 5000,0 5000,3000 5000,1000 2000,1000",
+];
+
+#[test]
+fn a_drive_and_its_contact() {
+    let picture = drawn(DRIVE, MAP);
+    let outlines = picture.outlines("map");
+    assert_eq!(
+        outlines["leg 1"],
+        (
+            "way".to_string(),
+            vec![[0, 0], [5600, 0], [5600, 900], [0, 900]]
+        )
+    );
+    assert!(outlines.contains_key("leg 2") && outlines.contains_key("leg 3"));
+    assert_eq!(
+        outlines["cart at (5000, 1000)"].1,
+        [[5000, 1000], [5600, 1000], [5600, 1900], [5000, 1900]]
+    );
+    assert_eq!(
+        lines_of(&picture, "way"),
+        [
+            [0.0, 0.0, 5000.0, 0.0],
+            [5000.0, 0.0, 5000.0, 3000.0],
+            [5000.0, 3000.0, 5000.0, 1000.0],
+            [5000.0, 1000.0, 2000.0, 1000.0]
+        ]
+    );
+    // The cart's left side is on the right side of the store.
+    assert_eq!(
+        lines_of(&picture, "contact"),
+        [
+            [4200.0, 1000.0, 4800.0, 1000.0],
+            [4800.0, 1000.0, 4800.0, 1900.0],
+            [4800.0, 1900.0, 4200.0, 1900.0],
+            [4200.0, 1900.0, 4200.0, 1000.0]
+        ]
+    );
+    assert!(picture.says("leg 4: cart meets linen-store first, after 800 mm"));
+    assert!(picture.says("the cart where it first meets an obstacle"));
+    assert!(!drawn(&["--floor", "2"], MAP).says("the way of the cart's origin"));
+}
+
+#[test]
+fn gaps_below_a_limit_are_marked() {
+    let near = format!("{MAP}shape | bin | @2 4200 2600 4600 2600 4600 3000 4200 3000\n");
+    let picture = drawn(&["--floor", "2", "--below", "900"], &near);
+    assert_eq!(
+        lines_of(&picture, "gap"),
+        [[4200.0, 1800.0, 4200.0, 2600.0]]
+    );
+    assert!(picture.says("linen-store and bin are 800 mm apart"));
+    let tags: Vec<&str> = picture
+        .texts("names")
+        .iter()
+        .map(|text| text.text.as_str())
+        .collect();
+    assert!(tags.contains(&"800 mm"), "{tags:?}");
+    let picture = drawn(&["--floor", "2", "--below", "100", "--cart", "cart"], &near);
+    assert!(picture.says("cart cannot pass straight between linen-store and bin"));
+    assert_eq!(
+        lines_of(&drawn(&["--floor", "2", "--below", "800"], &near), "gap").len(),
+        0
+    );
+}
+
+#[test]
+fn mistakes_of_drives() {
+    for (arguments, words) in [
+        (
+            &["--drive", "0,0 1,1"][..],
+            "--drive needs a cart: --cart CART",
+        ),
+        (
+            &["--drive", "0,0", "--cart", "cart"],
+            "--drive needs two places or more",
+        ),
+        (
+            &["--drive", "", "--cart", "cart"],
+            "--drive needs two places or more",
+        ),
+        (
+            &["--drive", "0,0 1;1", "--cart", "cart"],
+            "`--drive` needs two whole numbers",
+        ),
+        (
+            &["--cart", "crt"],
+            "`--cart` needs the name of a shape of the map",
+        ),
+        (
+            &["--below", "-1"],
+            "`--below` needs a whole number of millimetres, and not `-1`",
+        ),
+    ] {
+        let ran = run(&[&["--floor", "2"], arguments].concat(), MAP);
+        assert_eq!((ran.status, ran.output.as_str()), (2, ""), "{ran:?}");
+        assert!(ran.errors.contains(words), "{ran:?}");
+    }
+    let ran = run(
+        &["--floor", "2", "--cart", "cart", "--drive", "0,0 2000000,0"],
+        MAP,
+    );
+    assert_eq!((ran.status, ran.output.as_str()), (1, ""), "{ran:?}");
+    assert!(
+        ran.errors
+            .contains("draw: contact is refused (3): the place (2000000, 0)"),
+        "{ran:?}"
+    );
+}

@@ -37,6 +37,14 @@ fn help_and_version() {
         &["ask", "--help"],
         &["draw", "-h"],
         &["help", "check"],
+        &["help", "gaps"],
+        &["help", "passes"],
+        &["help", "stands"],
+        &["help", "drive"],
+        &["help", "nearest"],
+        &["help", "diff"],
+        &["help", "import"],
+        &["help", "export"],
         &["help", "map"],
         &["help", "questions"],
         &["help", "refusals"],
@@ -147,7 +155,7 @@ fn examples_of_the_help() {
         .filter(|line| line.contains('|'))
         .collect();
     let ran = with_input(&["ask", "-"], lines.join("\n").as_bytes());
-    assert_eq!((ran.status, lines.len()), (0, 3), "{ran:?}");
+    assert_eq!((ran.status, lines.len()), (0, 4), "{ran:?}");
 }
 
 #[test]

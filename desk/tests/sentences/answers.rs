@@ -1,6 +1,6 @@
 //! The numbers of answers, derived from the answer of `second` and the corners of the line.
 use crate::case::Case;
-use crate::floors::{contact, entry, gap, nearest};
+use crate::floors::{contact, drive, entry, gap, nearest};
 use crate::near::{Near, places};
 use crate::said::{needs, never, rounding};
 use crate::tokens::numbers;
@@ -12,9 +12,11 @@ pub fn of_answer(case: &Case, answer: &str, said: &str) -> Result<Vec<i128>, Str
     let words: Vec<&str> = answer.split(' ').collect();
     match case.word.as_str() {
         "judge" | "furthest" | "length" | "width" | "area" => about_one(case, &words, said),
+        "box" => least_box(case, &words, said),
         "relation" | "inside" | "offer" => Ok(decided(case, words[0], said)?),
         "find" => found_direction(case, words[0], said),
         "clearance" => clearance(case, &words, said),
+        "greatest" => greatest(case, &words, said),
         "excess" => excess(case, &words, said),
         "tangents" => Ok(tangents(case, &words)),
         "passage" => passage(case, &words, said),
@@ -26,6 +28,7 @@ pub fn of_answer(case: &Case, answer: &str, said: &str) -> Result<Vec<i128>, Str
         "entry" => Ok(entry(case, &words, answer)),
         "nearest" => nearest(case, &words, said),
         "gap" => gap(case, &words, said),
+        "drive" => drive(case, &words, said),
         "contact" => contact(case, &words, said),
         _ => Ok(made(case, number(words[0]), floor(&words), answer)),
     }
@@ -79,6 +82,26 @@ fn about_one(case: &Case, words: &[&str], said: &str) -> Result<Vec<i128>, Strin
             [label, vec![w], corner(1), list.edge(position(words[0]))].concat()
         }
     })
+}
+
+/// Both sides, each t/√q rounded down, which is said of each that is not whole.
+fn least_box(case: &Case, words: &[&str], said: &str) -> Result<Vec<i128>, String> {
+    let [t, s, q] = [1, 2, 3].map(|at| number(words[at]));
+    let [along, across] = [s, t].map(|side| (side * side / q).isqrt());
+    let (first, second) = said
+        .split_once(" along its edge ")
+        .ok_or("no edge is said")?;
+    rounding(first, s, q, along)?;
+    rounding(second, t, q, across)?;
+    let edge = case.lists[0].edge(position(words[0]));
+    Ok([case.label(0), vec![along], edge, vec![across]].concat())
+}
+
+fn greatest(case: &Case, words: &[&str], said: &str) -> Result<Vec<i128>, String> {
+    let squared = number(words[0]);
+    rounding(said, squared, squared.max(1), squared.isqrt())?;
+    let corners = [1, 2].map(|at| case.corner(at - 1, position(words[at])));
+    Ok([both(case), vec![squared.isqrt()], corners.concat()].concat())
 }
 
 /// The questions that are answered by a word.
@@ -149,7 +172,7 @@ pub fn numbers_after_bar(answer: &str) -> Vec<i128> {
 fn made(case: &Case, count: i128, floor: i128, answer: &str) -> Vec<i128> {
     let subject = match case.word.as_str() {
         "bookread" => case.numbers_of_field(1),
-        "sweep" => Vec::new(),
+        "sweep" | "ring" => Vec::new(),
         "mirror" => case.label(0),
         _ => [case.label(0), case.label(1)].concat(),
     };

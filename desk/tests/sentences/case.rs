@@ -20,9 +20,9 @@ pub struct List {
     pub numbers: Vec<i64>,
 }
 
-/// Questions on two lists; `passage` has three, `bookadd` one as its third field, `nearest` and `gap` one as their
-/// second, all others one as their first.
-const TWO: [&str; 13] = [
+/// Questions on two lists; `passage` has three, `bookadd` one as its third field, `nearest`, `gap` and `drive` one as
+/// their second, all others one as their first.
+const TWO: [&str; 14] = [
     "sum",
     "parts",
     "part",
@@ -33,6 +33,7 @@ const TWO: [&str; 13] = [
     "offer",
     "find",
     "clearance",
+    "greatest",
     "excess",
     "tangents",
     "contact",
@@ -152,7 +153,7 @@ impl Case {
 pub fn list_fields(word: &str) -> &'static [usize] {
     match word {
         "tablet" | "bookread" | "pack" | "entry" => &[],
-        "nearest" | "gap" => &[1],
+        "nearest" | "gap" | "drive" => &[1],
         "bookadd" => &[2],
         "passage" => &[0, 1, 2],
         word if TWO.contains(&word) => &[0, 1],
@@ -169,7 +170,7 @@ pub fn with_names(line: &str) -> Option<String> {
         .map(|field| field.trim().to_string())
         .collect();
     let lists = list_fields(word);
-    if lists.is_empty() || word == "sweep" {
+    if lists.is_empty() || word == "sweep" || word == "ring" {
         return None;
     }
     let mut text = String::new();

@@ -43,22 +43,37 @@ pub fn gap(case: &Case, words: &[&str], said: &str) -> Result<Vec<i128>, String>
 
 pub fn contact(case: &Case, words: &[&str], said: &str) -> Result<Vec<i128>, String> {
     let labels = [case.label(1), case.label(0)].concat();
+    Ok([labels, way(case, words, said)?].concat())
+}
+
+pub fn drive(case: &Case, words: &[&str], said: &str) -> Result<Vec<i128>, String> {
+    let subject = [case.label(0), vec![floor(words)]].concat();
+    if words[0] == "never" {
+        return Ok([subject, way(case, words, said)?].concat());
+    }
+    needs(said, " is the first that ")?;
+    let name = vec![number(words[0])];
+    Ok([name, subject, way(case, &words[1..], said)?].concat())
+}
+
+/// The numbers of where on its way a cart meets something: the places are the third and the fourth field.
+fn way(case: &Case, words: &[&str], said: &str) -> Result<Vec<i128>, String> {
     let [from, to] = [2, 3].map(|at| case.numbers_of_field(at));
     let way = [from.clone(), to.clone()].concat();
     if words[0] == "never" {
         needs(said, " is clear of ")?;
-        return Ok([labels, way].concat());
+        return Ok(way);
     }
     let [n, d, safe] = [0, 1, 2].map(|at| number(words[at]));
     if n == 0 {
         needs(said, " where it begins ")?;
         never(said, "rounded down")?;
-        return Ok([labels, way].concat());
+        return Ok(way);
     }
     needs(said, " after ")?;
     let squared = from.iter().zip(&to).map(|(a, b)| (a - b) * (a - b)).sum();
     rounded_part(said, [n, d], squared, safe)?;
-    Ok([labels, vec![safe, n, d], way].concat())
+    Ok([vec![safe, n, d], way].concat())
 }
 
 /// The latest shape of a name in a log.

@@ -77,14 +77,17 @@ fn numbers_of_lists_in_the_line() {
         "merge",
         "grow",
         "sweep",
+        "ring",
         "length",
         "width",
+        "box",
         "area",
         "relation",
         "inside",
         "offer",
         "find",
         "clearance",
+        "greatest",
         "excess",
         "tangents",
         "passage",
@@ -95,6 +98,7 @@ fn numbers_of_lists_in_the_line() {
         "entry",
         "nearest",
         "gap",
+        "drive",
         "contact",
     ] {
         assert!(
@@ -120,6 +124,28 @@ fn numbers_of_named_shapes() {
         }
     }
     assert!(held > 1_300, "only {held} questions had shapes to name");
+}
+
+/// Every refusal of the words that have several sorts of them.
+#[test]
+fn numbers_of_drives_boxes_and_rings() {
+    for (word, refusals) in [
+        ("drive", &[1, 2, 3, 4, 5, 6, 7, 15, 20][..]),
+        ("greatest", &[1, 2, 3, 4, 5, 13]),
+        ("box", &[1, 2, 3, 4, 5, 10]),
+        ("ring", &[1, 2, 3, 4, 8]),
+    ] {
+        let mut seen = BTreeSet::new();
+        for question in questions(15, 2_000, word) {
+            if let Some(case) = hold(&question, &question, false) {
+                seen.insert(case.kind());
+            }
+        }
+        let refused = refusals.iter().map(|number| format!("{word} no {number}"));
+        for kind in refused.chain([format!("{word} ok")]) {
+            assert!(seen.contains(&kind), "{kind}");
+        }
+    }
 }
 
 #[test]

@@ -22,6 +22,10 @@ pub fn of_refusal(case: &Case, said: &str) -> Result<Vec<i128>, String> {
             let place = case.numbers_of_field(after("shape").unwrap_or(3) - 1);
             [place, vec![-1_000_000, 1_000_000]].concat()
         }
+        3 if case.word == "drive" && after("shape") > Some(1) => {
+            let place = case.numbers_of_field(after("shape").unwrap_or(2));
+            [place, vec![-1_000_000, 1_000_000]].concat()
+        }
         1..=5 if words.get(2) == Some(&"shape") => {
             of_list(case, number, after("shape").unwrap_or(1) - 1, &words, said)?
         }
@@ -60,8 +64,9 @@ fn bytes_of(field: &str) -> i128 {
     field.bytes().filter(u8::is_ascii_hexdigit).count() as i128 / 2
 }
 
-/// A point or a segment, which has no width.
+/// A point or a segment, which has no width and no box.
 fn flat(case: &Case, said: &str) -> Result<Vec<i128>, String> {
+    needs(said, &format!("has no {}", case.word))?;
     match case.lists[0].corners().len() {
         1 => needs(said, "is a point")?,
         _ => needs(said, "is a segment")?,
@@ -83,11 +88,20 @@ fn of_list(
     Ok(match number {
         1 if list.numbers.is_empty() => label,
         1 => [label, vec![list.numbers.len() as i128]].concat(),
-        2 => [label, vec![corners.len() as i128, 1024]].concat(),
+        2 => {
+            let closing = case.word == "ring" && corners.first() == corners.last();
+            let count = corners.len() - usize::from(closing);
+            [label, vec![count as i128, 1024]].concat()
+        }
         3 => {
             let is_far = |corner: &&[i128; 2]| corner.iter().any(|part| part.abs() > 1_000_000);
             let corner = corners.iter().find(is_far).expect("one is out of range");
             [corner.to_vec(), label, vec![-1_000_000, 1_000_000]].concat()
+        }
+        4 if case.word == "ring" => {
+            needs(said, "is no convex ring")?;
+            let at = |word: usize| corners[words[word].parse::<usize>().expect("a position")];
+            [label, at(5).to_vec(), at(7).to_vec()].concat()
         }
         4 if corners.len() == 2 => [label, corners[0].to_vec()].concat(),
         4 => side(list, label, words, said)?,
@@ -115,7 +129,8 @@ fn side(list: &List, label: Vec<i128>, words: &[&str], said: &str) -> Result<Vec
     Ok([list.corner(corner).to_vec(), label, list.edge(edge)].concat())
 }
 
-/// `clockwise` is said exactly if the corners the other way round are a shape; a repeated first corner goes before.
+/// `clockwise` is said exactly if the corners the other way round are a shape; a repeated first corner goes before. Of
+/// all other lists `ring` is said exactly if it takes them.
 fn clockwise(points: &[Point], said: &str) -> Result<(), String> {
     if points.first() == points.last() {
         return needs(said, "the last corner repeats the first");
@@ -130,9 +145,15 @@ fn clockwise(points: &[Point], said: &str) -> Result<(), String> {
         .iter()
         .flat_map(|p| [p.x as i32, p.y as i32])
         .collect();
-    match second::judge::judge(&list, 1) {
-        Ok(_) => needs(said, "clockwise"),
-        Err(_) => never(said, "clockwise order"),
+    if second::judge::judge(&list, 1).is_ok() {
+        return needs(said, "clockwise");
+    }
+    never(said, "clockwise order")?;
+    let numbers: Vec<String> = list.iter().map(i32::to_string).collect();
+    let ring = answer(format!("ring | {}", numbers.join(" ")).as_bytes());
+    match ring.starts_with("ok ") {
+        true => needs(said, "the question `ring` makes a shape"),
+        false => never(said, "ring"),
     }
 }
 
@@ -165,7 +186,7 @@ fn grown(case: &Case) -> Vec<i128> {
     match case.word.as_str() {
         "passage" => [case.label(obstacle(case)), case.label(2)].concat(),
         "contact" => [case.label(0), case.label(1)].concat(),
-        "gap" => [vec![refused_when_grown(case).0], case.label(0)].concat(),
+        "gap" | "drive" => [vec![refused_when_grown(case).0], case.label(0)].concat(),
         _ => Vec::new(),
     }
 }
@@ -186,7 +207,7 @@ fn summands(case: &Case) -> [Vec<Point>; 2] {
     match case.word.as_str() {
         "passage" => [points(obstacle(case)), mirrored(2)],
         "grow" | "contact" => [points(0), mirrored(1)],
-        "gap" => [refused_when_grown(case).1.points(), mirrored(0)],
+        "gap" | "drive" => [refused_when_grown(case).1.points(), mirrored(0)],
         _ => [points(0), points(1)],
     }
 }

@@ -50,7 +50,7 @@ fn value(text: &str, after: &str, is_negative: bool) -> i128 {
     if is_negative { -size } else { size }
 }
 
-/// The number without its point, with so many decimals.
+/// The number without its point, with the given number of decimals.
 fn halves(whole: &str, decimals: &str, places: usize) -> i128 {
     assert!(decimals.len() <= places, "decimals of {whole}.{decimals}");
     format!("{whole}{decimals:0<places$}")

@@ -38,10 +38,18 @@ fn ask_of_one(a: Shape) {
     let _ = black_box(cocklesway::furthest(a, black_box([1, 0])));
     let _ = black_box(cocklesway::length(a));
     let _ = black_box(cocklesway::width(a));
+    let _ = black_box(cocklesway::area(a));
+    let _ = black_box(cocklesway::least_box(a));
     let _ = black_box(cocklesway::mirror(a, &mut out));
     let _ = black_box(cocklesway::sweep(a, &mut out));
+    let _ = black_box(cocklesway::ring(a, &mut out));
     let _ = black_box(book.add(7, a, black_box(99)));
     let _ = black_box(book.read(7, &mut out));
+    let _ = black_box(book.entry(black_box(0), &mut out));
+    let _ = black_box(book.nearest(a, black_box(None))).map(|answer| black_box(answer.rounded()));
+    let _ = black_box(book.gap(a)).map(|answer| black_box(answer.rounded()));
+    let _ = black_box(book.contact(a, black_box([0, 0]), black_box([9, 9])));
+    let _ = black_box(book.pack_into(&mut [0; 64], black_box(None), black_box(99)));
     let (x, y) = black_box((Reading::Millimetres(1.0), Reading::Eighths(8.0)));
     let _ = black_box(cocklesway::tablet(x, y));
 }
@@ -56,9 +64,11 @@ fn ask_of_two(a: Shape, b: Shape) {
     let _ = black_box(cocklesway::offer(a, b, black_box([1, 0])));
     let _ = black_box(cocklesway::find(a, b));
     let _ = black_box(cocklesway::clearance(a, b)).map(|answer| black_box(answer.rounded()));
+    let _ = black_box(cocklesway::greatest(a, b));
     let _ = black_box(cocklesway::excess(a, b)).map(|answer| black_box(answer.up()));
     let _ = black_box(cocklesway::passage(a, b, a)).map(|answer| black_box(answer.way));
     let _ = black_box(cocklesway::tangents(a, b));
+    let _ = black_box(cocklesway::contact(a, b, black_box([0, 0]), black_box([9, 9])));
     let _ = black_box(Walk::begin(a, b));
     let walk = black_box(Walk::at(1, 0, false));
     let _ = black_box(walk.part(a, b, black_box(2), &mut out));

@@ -118,3 +118,45 @@ fn no_pair_is_nearer() {
         found += 1;
     }
 }
+
+/// Every contact of a drive with an entry, by the word for one obstacle; how often two are as early.
+#[test]
+fn no_entry_is_met_earlier() {
+    let mut dice = Dice::new(54);
+    let (mut found, mut never, mut tied) = (0, 0, 0);
+    while found < 300 || never < 100 || tied < 50 {
+        let fields = around::drive(&mut dice);
+        let [log, cart, from, to] = [0, 1, 2, 3].map(|at| &fields[at][..]);
+        let told = asked("drive", &[log, cart, from, to]);
+        let Some(held) = entries(log).filter(|_| told.starts_with("ok")) else {
+            continue;
+        };
+        let floor = told.rsplit(' ').next().expect("a floor");
+        let met = |(name, text): Held| {
+            let told = asked("contact", &[&text, cart, from, to]);
+            let words = told.strip_prefix("ok ")?.strip_suffix(floor)?.trim_end();
+            let numbers: Vec<i128> = words
+                .split(' ')
+                .filter_map(|word| word.parse().ok())
+                .collect();
+            let [n, d, _] = numbers.try_into().ok()?;
+            Some((format!("{name} {words}"), (n, d)))
+        };
+        let met: Vec<_> = held.into_iter().filter_map(met).collect();
+        let is_first = |&(n, d): &(i128, i128)| met.iter().all(|(_, (m, e))| n * e <= m * d);
+        let first: Vec<&String> = met
+            .iter()
+            .filter(|(_, at)| is_first(at))
+            .map(|(words, _)| words)
+            .collect();
+        let words = first.first().map_or("never", |words| words);
+        assert_eq!(told, format!("ok {words} {floor}"), "{fields:?}");
+        match first.len() {
+            0 => never += 1,
+            count => {
+                found += 1;
+                tied += usize::from(count > 1);
+            }
+        }
+    }
+}

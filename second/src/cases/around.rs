@@ -104,4 +104,57 @@ pub const AROUND: &[Stated] = &[
         ("gap | ", "unreadable: missing field"),
         ("gap | | 0 0 | 7", "unreadable: too many fields"),
     ]),
+    ("Ours: the first of two posts that a straight drive meets; none if it ends before them", &[
+        ("drive | 0D00010007000A000000000000005A0D0001000800F6FFFFFF000000005A | 0 0 | 0 0 | 20 0", "ok 7 1 2 10 @0"),
+        ("drive | 0D00010007000A000000000000005A0D0001000800F6FFFFFF000000005A \
+          | 0 0 | 0 0 | -20 0", "ok 8 1 2 10 @0"),
+        ("drive | 0D00010007000A000000000000005A0D0001000800F6FFFFFF000000005A \
+          | 0 0 | 20 0 | -20 0", "ok 7 1 4 10 @0"),
+        ("drive | 0D00010007000A000000000000005A0D0001000800F6FFFFFF000000005A \
+          | 0 0 | -20 0 | 20 0", "ok 8 1 4 10 @0"),
+        ("drive | 0D00010007000A000000000000005A0D0001000800F6FFFFFF000000005A | 0 0 | 0 0 | 9 0", "ok never @0"),
+        ("drive | 0D00010007000A000000000000005A0D0001000800F6FFFFFF000000005A | 0 0 | 0 1 | 20 1", "ok never @0"),
+        ("drive | 0D00010007000A000000000000005A0D0001000800F6FFFFFF000000005A \
+          | 0 0 | 10 0 | -10 0", "ok 7 0 1 0 @0"),
+        ("drive | 0D00010007000A000000000000005A0D0001000800F6FFFFFF000000005A | 3 0 | 0 0 | 14 0", "ok 7 1 2 7 @0"),
+    ]),
+    ("Ours: a cart of 20 mm meets both posts at once: the first in the log, by the latest records", &[
+        ("drive | 0D00010007000A000000000000005A0D0001000800F6FFFFFF000000005A \
+          | -10 0 10 0 | 0 -5 | 0 5", "ok 7 1 2 5 @0"),
+        ("drive | 0D00010007000A000000000000005A0D0001000800F6FFFFFF000000005A \
+          | -10 0 10 0 | 1 -5 | 1 5", "ok 7 1 2 5 @0"),
+        ("drive | 0D00010007000A000000000000005A0D0001000800F6FFFFFF000000005A \
+          | -10 0 10 0 | -1 -5 | -1 5", "ok 8 1 2 5 @0"),
+        ("drive | 0D00010007000A000000000000005A0D0001000800F6FFFFFF000000005A0D000100070014000000000000005A \
+          | -20 0 20 0 | 5 -5 | 5 5", "ok 8 1 2 5 @0"),
+        ("drive | 0D00010007000A000000000000005A0D0001000800F6FFFFFF000000005A0D000100070014000000000000005A \
+          | -20 0 20 0 | 11 -5 | 11 5", "ok 7 1 2 5 @0"),
+        ("drive | 0D00010007000A000000000000005A0D0001000800F6FFFFFF000000005A0D000100070014000000000000005A \
+          | 0 0 | 0 0 | 40 0", "ok 7 1 2 20 @0"),
+    ]),
+    ("Ours: a drive sees the shapes of its floor alone", &[
+        ("drive | 0D00010007000A000000000000005A0D0001000800F6FFFFFF000000005A0F0002000700010000000000000000005A \
+          | 0 0 | 0 0 | 20 0", "ok never @0"),
+        ("drive | 0D00010007000A000000000000005A0D0001000800F6FFFFFF000000005A0F0002000700010000000000000000005A \
+          | @1 0 0 | 4 0 | -4 0", "ok 7 1 2 4 @1"),
+        ("drive | 0D00010007000A000000000000005A0D0001000800F6FFFFFF000000005A0F0002000700010000000000000000005A \
+          | @2 0 0 | 4 0 | -4 0", "no 20"),
+    ]),
+    ("Ours: a drive is refused 1 to 5 of the cart, 15, 20, 3 of a place, the second list or the third, then 7", &[
+        ("drive | 01005A | 0 | 1000001 0 | 0 0", "no 1 shape 1"),
+        ("drive | 01005A | 1 1 0 0 | 0 0 | 0 0", "no 5 shape 1"),
+        ("drive | 01005A | 0 0 | 1000001 0 | 0 0", "no 15 place 0"),
+        ("drive | | 0 0 | 1000001 0 | 0 0", "no 20"),
+        ("drive | 0D000100080040420F00000000005A | -1 0 | 0 1000001 | -1000001 0", "no 3 shape 2"),
+        ("drive | 0D000100080040420F00000000005A | -1 0 | 0 1000000 | -1000001 0", "no 3 shape 3"),
+        ("drive | 0D000100080040420F00000000005A | -1 0 | 0 1000000 | -1000000 0", "no 7"),
+        ("drive | 0D000100080040420F00000000005A | 1 0 | 0 0 | 1000000 0", "ok 8 999999 1000000 999999 @0"),
+    ]),
+    ("Ours: what no drive past the shapes of a log is", &[
+        ("drive | | 0 0 | 0 0", "unreadable: missing field"),
+        ("drive | | 0 0 | 0 | 0 0", "unreadable: wrong count of numbers"),
+        ("drive | | 0 0 | 0 0 | 0 0 0", "unreadable: wrong count of numbers"),
+        ("drive | | 0 0 | 0 0 | 0 0 |", "unreadable: too many fields"),
+        ("drive | 0 | 0 0 | 0 0 | 0 0", "unreadable: not bytes"),
+    ]),
 ];

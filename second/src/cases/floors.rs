@@ -1,4 +1,4 @@
-//! Cases of floors (document 02, W11), worked out by hand from its words; those of the log stand with
+//! Cases of floors (document 02, W11), worked out by hand from its words; those of the log are with
 //! the log's.
 
 use super::Stated;

@@ -1,4 +1,4 @@
-//! What growing is for: a cart at a place stands to the obstacle as the place stands to the grown one.
+//! What growing is for: a cart at a place is to the obstacle as the place is to the grown one.
 
 use super::*;
 use crate::make::dice::Dice;

@@ -80,14 +80,3 @@ fn the_widest_numbers_stay_exact() {
     assert_eq!(safe(3_999_999, 3_999_999, 9_000_000), 3000);
     assert_eq!(safe(3_999_998, 3_999_999, 9_000_000), 2999);
 }
-
-#[test]
-fn products_have_all_their_bits() {
-    assert_eq!(product(u128::MAX, u128::MAX), (u128::MAX - 1, 1));
-    assert_eq!(product(u128::MAX, 2), (1, u128::MAX - 1));
-    assert_eq!(product(1 << 64, 1 << 64), (1, 0));
-    let (a, b) = (0x1234_5678_9ABC_DEF0_u128, 0xFEDC_BA98_7654_3210_u128);
-    assert_eq!(product(a, b), (0, a * b));
-    let (high, low) = product(a << 60, b << 60);
-    assert_eq!((high, low), ((a * b) >> 8, (a * b) << 120));
-}

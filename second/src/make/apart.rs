@@ -25,7 +25,7 @@ pub fn mostly(dice: &mut Dice) -> (Shape, Shape) {
     pairs::in_either_order(dice, a, b)
 }
 
-/// The same, and pairs whose faces stand against each other across a gap.
+/// The same, and pairs whose faces are opposite each other across a gap.
 pub fn near(dice: &mut Dice) -> (Shape, Shape) {
     if dice.one_in(2) {
         return mostly(dice);
@@ -168,7 +168,7 @@ fn long_ones(dice: &mut Dice) -> (Shape, Shape) {
     (a, b)
 }
 
-/// The second, moved by so many steps that all of it is past the first in the step's direction; a
+/// The second, moved by as many steps as put all of it past the first in the step's direction; a
 /// few more at times, or a few fewer, which may leave them touching or overlapping.
 pub fn away(dice: &mut Dice, a: &[Point], b: &[Point], step: Point) -> Shape {
     let short = -gap(a, b, step);

@@ -2,14 +2,17 @@
 //! that distances tie; near each other or meeting; some with names that moved, with bad records or ends.
 
 use super::dice::Dice;
-use super::edges::along;
+use super::edges::{along, shape_from_edges};
 use super::fields::{damaged_at_times, numbers_of};
 use super::shapes::{self, moved, vector};
-use super::{List, apart, floors, line, list_text, logs, numbers, pairs, tails};
+use super::{
+    List, apart, drives, floors, line, list_text, logs, numbers, pairs, shape_text, tails,
+};
 use crate::answer::answer;
 use crate::combine::{all_sums, mirror};
+use crate::hull::hull_of;
 use crate::log::{current, old_record, record};
-use crate::plane::{Shape, point};
+use crate::plane::{Point, Shape, point};
 
 /// One for each shape of a log; some hold the last byte of a record.
 const NAMES: [u16; 9] = [7, 0, 1, 2, 300, 0x5A, 0x5A00, 0x5A5A, 0xFFFF];
@@ -62,6 +65,45 @@ pub fn gap(dice: &mut Dice) -> Vec<String> {
         _ => with_room(dice),
     };
     asked(dice, cart, &others)
+}
+
+/// A log, a cart's outline, and two places: past one of the shapes or at all of them.
+pub fn drive(dice: &mut Dice) -> Vec<String> {
+    let (cart, others) = match dice.below(10) {
+        0 => large(dice),
+        1..5 => scene(dice),
+        5..7 => with_room(dice),
+        _ => return at_a_front(dice),
+    };
+    let aim = others.get(dice.below(others.len())).unwrap_or(&cart);
+    let (from, to) = drives::drive(dice, &all_sums(aim, &mirror(&cart)));
+    driven(dice, cart, &others, [from, to])
+}
+
+/// Shapes that all begin at one line, a wide cart and a drive towards the line: it may meet several at once.
+fn at_a_front(dice: &mut Dice) -> Vec<String> {
+    let turned = dice.one_in(2);
+    let placed = |c: Point| if turned { c.quarter_turned() } else { c };
+    let count = dice.between(1, 4);
+    let mut others: Vec<Shape> = Vec::new();
+    for _ in 0..count {
+        let shape = shapes::small(dice);
+        let by = point(dice.between(-9, 9), dice.pick(&[0, 0, 0, 1]) - shape[0].y);
+        others.push(hull_of(moved(&shape, by).into_iter().map(placed).collect()));
+    }
+    let (width, height) = (dice.pick(&[0, 2, 9, 20]), dice.pick(&[0, 0, 3]));
+    let sides = [point(width, 0), point(0, height)].map(placed);
+    let cart = shape_from_edges(&[sides[0], sides[1], -sides[0]]);
+    let cart = moved(&cart, vector(dice, 3));
+    let from = point(dice.between(-20, 9), dice.between(-30, -4));
+    let to = from + point(dice.between(-5, 5), dice.between(0, 40));
+    driven(dice, cart, &others, [placed(from), placed(to)])
+}
+
+fn driven(dice: &mut Dice, cart: Shape, others: &[Shape], way: [Point; 2]) -> Vec<String> {
+    let mut fields = asked(dice, cart, others);
+    fields.extend(way.map(|place| shape_text(&[place])));
+    fields
 }
 
 /// The texts of a log of shapes and of a list on their floor, mostly.

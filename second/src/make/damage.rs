@@ -151,7 +151,7 @@ fn random_list(dice: &mut Dice) -> List {
 }
 
 /// Edges in order of angle, walked in two rounds: left turns everywhere, but twice about.
-fn winding_twice(dice: &mut Dice) -> Vec<Point> {
+pub fn winding_twice(dice: &mut Dice) -> Vec<Point> {
     let steps: Vec<Point> = (0..dice.between(6, 24)).map(|_| vector(dice, 9)).collect();
     let edges = closed_edges(&steps);
     let rounds = edges
@@ -166,7 +166,7 @@ fn winding_twice(dice: &mut Dice) -> Vec<Point> {
 }
 
 /// Every second or third corner of a shape with an odd count.
-fn star(dice: &mut Dice) -> Vec<Point> {
+pub fn star(dice: &mut Dice) -> Vec<Point> {
     let count = dice.pick(&[5, 7, 9, 11, 13]);
     let shape = long::of_corners(dice, count);
     let step = dice.pick(&[2, 2, 3]);

@@ -30,7 +30,7 @@ pub fn contact(dice: &mut Dice) -> Vec<String> {
 }
 
 /// Where the cart's place begins and where it ends.
-fn drive(dice: &mut Dice, grown: &Shape) -> (Point, Point) {
+pub fn drive(dice: &mut Dice, grown: &Shape) -> (Point, Point) {
     let (from, to) = match dice.below(20) {
         0 => {
             let place = spot(dice, grown);

@@ -3,7 +3,7 @@
 use super::dice::Dice;
 use super::floors::texts;
 use super::{
-    List, apart, damage, line, numbers, pairs, passages, points, shape_text, shapes, tails,
+    List, apart, damage, line, numbers, pairs, passages, points, rings, shape_text, shapes, tails,
 };
 use crate::answer::answer;
 use crate::combine::mirror as mirror_of;
@@ -33,6 +33,30 @@ pub fn two_shapes(dice: &mut Dice) -> Vec<String> {
 
 pub fn clearance(dice: &mut Dice) -> Vec<String> {
     let lists = two_lists(dice, apart::near);
+    texts(dice, &lists)
+}
+
+/// Any two shapes, or a shape and one about it, so that distances tie.
+pub fn greatest(dice: &mut Dice) -> Vec<String> {
+    let lists = match dice.below(3) {
+        0 => two_lists(dice, pairs::about_one_centre),
+        1 => two_lists(dice, apart::near),
+        _ => two_lists(dice, pairs::any),
+    };
+    texts(dice, &lists)
+}
+
+/// Boxes tie where a shape is the same on turning by a quarter, and nearly where one corner is off.
+pub fn least_box(dice: &mut Dice) -> Vec<String> {
+    let shape = match dice.below(3) {
+        0 => shapes::any(dice),
+        1 => shapes::small(dice),
+        _ => {
+            let tied = shapes::tied(dice);
+            shapes::settled(dice, &tied)
+        }
+    };
+    let lists = damaged_at_times(dice, &[shape], 16);
     texts(dice, &lists)
 }
 
@@ -116,6 +140,11 @@ pub fn grow(dice: &mut Dice) -> Vec<String> {
 pub fn sweep(dice: &mut Dice) -> Vec<String> {
     let list = points::list(dice);
     with_room(dice, "sweep", vec![list])
+}
+
+pub fn ring(dice: &mut Dice) -> Vec<String> {
+    let list = rings::list(dice);
+    with_room(dice, "ring", vec![list])
 }
 
 /// The pairs of a list, whatever it is.

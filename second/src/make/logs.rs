@@ -121,7 +121,7 @@ pub fn small_shape(dice: &mut Dice) -> Shape {
     shapes::moved(&shape, point(dx, dy))
 }
 
-/// So many bytes that end no records or false ones: many are last bytes of records, many are 0.
+/// Bytes that end no records or false ones: many are last bytes of records, many are 0.
 pub fn noise(dice: &mut Dice, count: usize) -> Vec<u8> {
     (0..count).map(|_| byte(dice)).collect()
 }

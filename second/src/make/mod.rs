@@ -3,7 +3,7 @@
 //!
 //!     fields                the fields of each question
 //!     shapes, pairs, long   good shapes, alone and in pairs; damage: lists that are refused
-//!     points                points of sweeps; floors: those of all lists
+//!     points                points of sweeps; rings: rings; floors: those of all lists
 //!     apart                 pairs of good shapes that are mostly apart
 //!     passages              two obstacles and a cart; drives: an obstacle, a cart and two places
 //!     parts                 walks and calls of sums in parts; all of them for small sums
@@ -31,6 +31,7 @@ pub mod parts;
 mod passages;
 pub mod points;
 pub mod readings;
+pub mod rings;
 pub mod shapes;
 mod spoil;
 mod tails;
@@ -43,7 +44,7 @@ use std::io::{self, Write};
 /// The numbers of a list, x, y, x, y; all fit 32 bits.
 pub type List = Vec<i64>;
 
-/// Writes `count` lines that want an answer, after a byte order mark; others stand between them.
+/// Writes `count` lines that want an answer, after a byte order mark; others are between them.
 /// All are of the words that begin as the given one.
 pub fn write_all(seed: u64, count: usize, word: &str, to: impl Write) -> io::Result<()> {
     let wanted = |row: &&Row| row.word.starts_with(word);

@@ -1,4 +1,4 @@
-//! Pairs of good shapes that stand in a special way to each other: equal, flush, touching, nested.
+//! Pairs of good shapes that lie in a special way to each other: equal, flush, touching, nested.
 
 use super::dice::Dice;
 use super::edges::{edges_of, shape_from_edges};
@@ -21,6 +21,22 @@ pub fn any(dice: &mut Dice) -> (Shape, Shape) {
         84..90 => on_one_line(dice),
         90..98 => sharing_directions(dice),
         _ => across_the_range(dice),
+    };
+    in_either_order(dice, a, b)
+}
+
+/// A shape that is equal to its image, or nearly, and another one or itself made larger or smaller.
+pub fn about_one_centre(dice: &mut Dice) -> (Shape, Shape) {
+    let a = shapes::tied(dice);
+    let b = match dice.below(5) {
+        0 => a.clone(),
+        1 => shapes::mostly_small(dice),
+        2 => moved(&a, vector(dice, 2)),
+        3 => hull_of(a.iter().map(|&c| -c).collect()),
+        _ => {
+            let factor = dice.pick(&[2, 3]);
+            moved(&scaled(&a, factor), vector(dice, 2))
+        }
     };
     in_either_order(dice, a, b)
 }

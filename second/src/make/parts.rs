@@ -38,7 +38,7 @@ fn shapes(dice: &mut Dice) -> (Vec<String>, Vec<State>) {
     (floors::texts(dice, &lists), all)
 }
 
-/// Calls for so many corners, in a few large parts, in many small ones, or not to the end.
+/// Calls for `corners` corners, in a few large parts, in many small ones, or not to the end.
 fn calls(dice: &mut Dice, corners: usize) -> Vec<Call> {
     let most = dice.pick(&[1, 2, 3, corners / 3 + 1, corners + 1]);
     let mut left = corners;
@@ -56,7 +56,7 @@ fn calls(dice: &mut Dice, corners: usize) -> Vec<Call> {
     calls
 }
 
-/// A call where so many corners are left: mostly with room for its own, at times with a number too
+/// A call where `left` corners are left: mostly with room for its own, at times with a number too
 /// few, and at times for more corners than there are.
 fn call(dice: &mut Dice, left: usize) -> Call {
     let k = match dice.below(12) {

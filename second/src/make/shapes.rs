@@ -162,7 +162,7 @@ fn partner(x: i64, y: i64) -> Point {
 }
 
 /// Equal and nearly equal widths and lengths.
-fn tied(dice: &mut Dice) -> Shape {
+pub fn tied(dice: &mut Dice) -> Shape {
     let size = dice.pick(&[2, 5, 12, 1000, 150_000]);
     let mut edges = match dice.below(5) {
         0 => rectangle(dice, size),
@@ -184,7 +184,7 @@ fn rectangle(dice: &mut Dice, size: i64) -> Vec<Point> {
     vec![side, nearly, -side, -nearly]
 }
 
-/// The same on turning by a quarter: every width stands four times.
+/// The same on turning by a quarter: every width occurs four times.
 fn quarter_turns(dice: &mut Dice, size: i64) -> Vec<Point> {
     let mut edges = Vec::new();
     for _ in 0..dice.between(1, 3) {

@@ -72,8 +72,8 @@ fn sort_of(line: &[u8], answer: &str) -> String {
     let parts: Vec<&str> = answer.split(' ').collect();
     let found = match (&word[..], &parts[..]) {
         ("nearest", ["ok", _, found, ..]) | ("gap", ["ok", _, _, found, ..]) => Some(*found),
-        ("contact", ["ok", "0", "1", ..]) => Some("begun"),
-        ("contact", ["ok", "1", "1", ..]) => Some("ended"),
+        ("contact", ["ok", "0", "1", ..]) | ("drive", ["ok", _, "0", "1", ..]) => Some("begun"),
+        ("contact", ["ok", "1", "1", ..]) | ("drive", ["ok", _, "1", "1", ..]) => Some("ended"),
         _ => None,
     };
     if let Some(found) = found {
@@ -97,14 +97,15 @@ fn every_sort_of_answer_comes_up_often() {
         *seen.entry(sort_of(line, &answer(line))).or_default() += 1;
     }
     let often = "no 1,no 2,no 3,no 4,no 5,no 6,no 7,no 8,no 9,no 10,no 11,no 12,no 13,no 14,no 15,no 16,no 17,no 18,\
-                 no 19,no 20,judge ok,furthest ok,mirror ok,sum ok,parts ok,part ok,merge ok,grow ok,sweep ok,\
-                 length ok,area ok,width ok,relation apart,relation touching,\
+                 no 19,no 20,judge ok,furthest ok,mirror ok,sum ok,parts ok,part ok,merge ok,grow ok,sweep ok,ring ok,\
+                 length ok,area ok,width ok,box ok,relation apart,relation touching,\
                  relation overlapping,inside yes,inside no,offer yes,offer no,find ok,find none,\
-                 clearance ok,clearance cc,clearance ce,clearance ec,\
+                 clearance ok,clearance cc,clearance ce,clearance ec,greatest ok,\
                  excess inside,excess cc,excess ce,tangents ok,passage ok,passage blocked,\
                  contact never,contact begun,contact ended,contact ok,\
                  tablet ok,bookread ok,bookadd finished,bookadd cut,pack finished,pack cut,\
                  entry ok,nearest 0,nearest cc,nearest ce,nearest ec,gap 0,gap cc,gap ce,gap ec,\
+                 drive never,drive begun,drive ended,drive ok,\
                  unreadable: line too long,unreadable: unknown word,unreadable: missing field,\
                  unreadable: too many fields,unreadable: not a number of 32 bits,\
                  unreadable: too many numbers,unreadable: wrong count of numbers,\
@@ -128,6 +129,16 @@ fn every_refusal_of_a_word_comes_up_often() {
             "contact",
             "no 1,no 2,no 3 shape 1,no 3 shape 2,no 3 shape 3,no 3 shape 4,no 4,no 5,no 6,no 7,no 13",
         ),
+        (
+            "drive",
+            "no 1,no 2,no 3 shape 1,no 3 shape 2,no 3 shape 3,no 4,no 5,no 6,no 7,no 15,no 20",
+        ),
+        (
+            "greatest",
+            "no 1 shape 1,no 1 shape 2,no 2,no 3,no 4,no 5 shape 1,no 5 shape 2,no 13",
+        ),
+        ("box", "no 1,no 2,no 3,no 4,no 5,no 10"),
+        ("ring", "no 1,no 2,no 3,no 4,no 8"),
     ];
     for (word, often) in words {
         let mut input = Vec::new();

@@ -8,10 +8,10 @@ use crate::parts::{Call, State};
 use crate::plane::{Point, point};
 use crate::tablet;
 
-/// The fields of a line may hold so many numbers together.
+/// How many numbers the fields of a line may hold together.
 pub const MOST_NUMBERS: usize = 16_384;
 
-/// The output of a host's call has so many bytes at most.
+/// How many bytes the output of a host's call may have.
 pub const MOST_OUTPUT: usize = 65_536;
 
 #[derive(Clone, Copy, Debug, PartialEq, Eq)]
@@ -142,7 +142,7 @@ fn but(list: &[i32]) -> Result<Option<u16>, Unreadable> {
     name(list).map(Some)
 }
 
-/// Pairs of hexadecimal digits; spaces may stand between pairs.
+/// Pairs of hexadecimal digits; spaces may separate pairs.
 pub fn bytes(text: &[u8]) -> Option<Vec<u8>> {
     let pairs = words(text).flat_map(|word| word.chunks(2));
     pairs.map(byte).collect()

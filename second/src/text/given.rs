@@ -23,7 +23,9 @@ impl Given {
         if self.lists().any(|(_, other)| other != floor) {
             return Err(Refusal::plain(13));
         }
-        let shapes = shapes.try_into().expect("the row has so many shapes");
+        let shapes = shapes
+            .try_into()
+            .expect("the row has this number of shapes");
         Ok((shapes, floor))
     }
 
@@ -45,7 +47,9 @@ impl Given {
             _ => None,
         });
         let found: Vec<Reading> = readings.collect();
-        found.try_into().expect("the row has so many readings")
+        found
+            .try_into()
+            .expect("the row has this number of readings")
     }
 
     pub fn direction(&self) -> Point {
@@ -112,7 +116,7 @@ impl Given {
             _ => None,
         });
         let found: Vec<&[u8]> = lists.collect();
-        found.try_into().expect("the row has so many lists")
+        found.try_into().expect("the row has this number of lists")
     }
 
     /// Their floors.
@@ -122,7 +126,7 @@ impl Given {
             _ => None,
         });
         let found: Vec<u32> = floors.collect();
-        found.try_into().expect("the row has so many floors")
+        found.try_into().expect("the row has this number of floors")
     }
 
     /// How many bytes of output a host's call is lent.

@@ -31,7 +31,7 @@ pub fn trimmed(text: &[u8]) -> &[u8] {
     }
 }
 
-/// What stands between spaces.
+/// The words between spaces.
 pub fn words(text: &[u8]) -> impl Iterator<Item = &[u8]> {
     text.split(is_space).filter(|word| !word.is_empty())
 }

@@ -22,7 +22,7 @@ pub enum Unreadable {
 
 impl Unreadable {
     /// Whether a field could not be read at all. Such a fault is told before one of a field that
-    /// was read but does not hold what it should, wherever the two stand.
+    /// was read but does not hold what it should, wherever the two are.
     pub fn is_in_text(self) -> bool {
         matches!(
             self,

@@ -24,7 +24,7 @@ first c = c .before .before .admit .ensures .valid (c .enum-told .given .1)
 second : (c : tie.After-enum-told2) → Valid (c .before .before .before .before .before .before .args .b .now)
 second c = c .before .before .blamed .ensures .valid (c .enum-told2 .given .1)
 
--- the rows of the second list and 13, behind those of the first
+-- the rows of the second list and 13, after those of the first
 behind-first : (c : tie.After-enum-told) → NoneApply (shapeRows 1 (c .before .before .before .args .a .now))
 behind-first c = valid→accepted _ 1 (first c)
 

@@ -1,12 +1,12 @@
 -- A walk with carried sides goes as the walk of its definition: the recipe for the invariant of a loop that walks.
--- An invariant of the walk's place w becomes that of `walkOf s t over`, and with it stand `Carried a s` and `Carried b t`.
+-- An invariant of the walk's place w becomes that of `walkOf s t over`, together with `Carried a s` and `Carried b t`.
 --     all-passed, some-left      whether all edges are passed, by the count of those that are
 --     here-near           the corner of the sum may be added
 --     sides-walk          sides at a walk's positions have its place
 --     sides-here          the corner of the sum is the sum of the two corners
 --     first-next, second-next, corners-fit, edges-fit      what the functions on sides ask for
 --     sides-advanced      after each side went on by the sign of the product, the place is one step further
---     sides-at            and the walk stands there
+--     sides-at            and the walk is there
 use mathlib.Core.Path.{_≡_, refl, _∙_, ap₂, sym, subst}
 use mathlib.Core.Bool.{Bool, true, false, cond}
 use mathlib.Core.List.{List, [], _∷_}

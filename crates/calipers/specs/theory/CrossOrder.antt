@@ -1,7 +1,7 @@
--- The next edges of a walk compared by their cross product alone: wherever the walk stands, they differ by less than half a turn.
+-- The next edges of a walk compared by their cross product alone: wherever the walk is, they differ by less than half a turn.
 --     Gentle E         the first edge is up, and each turns by at most half a turn to the next
 --     shape-gentle     the edges of a shape are so
---     led              at a place that stands, what is before the other has it strictly to the left
+--     led              at a place of the walk, what is before the other has it strictly to the left
 --     led-passed       so the sign of the product says what the next step passes; a product with no edge is 0, and passes both
 use mathlib.Core.Path.{_≡_, refl, sym, _∙_, ap}
 use mathlib.Core.Bool.{Bool, true, false, cond, true≢false}
@@ -58,7 +58,7 @@ shape-gentle ps s = record {
         rw (edge-at ps k (omega arith), edge-at ps (k + 1) h, inner, ← flat)
         (rw inner at (edge-turn ps s k c (omega arith) (next-below (length ps) (k + 1) (omega arith))))
 
--- ---- at a place that stands
+-- ---- at a place of the walk
 
 -- f is the first of its list, or the edge before it is passed, and e lies between that and f
 pub led : {E F : List Point} (i j : ℕ) → InOrder F → Gentle F → Standing E F i j → i < length E → j < length F

@@ -3,7 +3,7 @@
 --     placesFrom-corners       the corners at the places to come are those along the joined edges to come
 --     places-corners           the corners at all places are those of the vector sum
 --     places-pass              a place passes no more edges than there are (`Passes`)
--- Which corners of all sums stand at which place is in `Visited.antt`.
+-- Which corners of all sums are at which place is in `Visited.antt`.
 use mathlib.Core.Path.{_≡_, refl, sym, _∙_, ap, ap₂}
 use mathlib.Core.List.{List, [], _∷_, map, List·Memᴰ, List·Memᴰ·not-nil, List·Memᴰ·cases-cons}
 use mathlib.Core.Logic.{_⊎_, inl, inr}

@@ -1,9 +1,9 @@
 -- A side of a walk: how it is made, and that its numbers are small.
 --     edge-inner, edge-last           the edge that leaves a corner, and the one back to the first; `edge-none`: past it
---     carried-to                      a side that stands at a corner, with its edge
+--     carried-to                      a side that is at a corner, with its edge
 --     along-edge                      the corner where it ends
 --     corner-fits, edge-adds          its corner and its edge may be added; `edge-fits`: its edge may be multiplied
---     round-end                       behind the last edge stands the first corner again
+--     round-end                       after the last edge comes the first corner again
 --     onward-end, onward-inner        one edge on where none is left, and where one is
 use mathlib.Core.Path.{_≡_, refl, sym, _∙_, ap, ap₂, subst}
 use mathlib.Core.Bool.{Bool, true, false}
@@ -51,7 +51,7 @@ edge-to A n i e h =
     ap₂ (λ (m k : ℕ). corner A (next m i) ⊖ corner A k) (e ∙ all) (round-inner (length A) i (omega arith))
     ∙ sym (edge-at A i (omega arith))
 
--- that is the position behind, and after the last corner the first
+-- that is the next position, and after the last corner the first
 pub edge-inner : (A : List Point) (n i : ℕ) → n ≡ length (edges A) → i + 1 < n → corner A (i + 1) ⊖ cornerRound A i ≡ corner (edges A) i
 edge-inner A n i e h =
     let on : next n i ≡ i + 1 = rw (ne-eqb (i + 1) n (λ q. omega arith)) in
@@ -86,7 +86,7 @@ module _ {l : List ℤ} {s : Side} (r : InRange l) (some : 0 < length (points l)
   pub edge-fits : Small (2 ^ 22) (nextOf s)
   edge-fits = small-wide edge-adds
 
--- the corner at which a side stands may be added
+-- the corner of a side may be added
 pub stands-fits : {l : List ℤ} {s : Side} → InRange l → 0 < length (points l) → Stands l s → Small (2 ^ 21) (cornerOf s)
 stands-fits {l} {s} r some c = small-corner l r (round (length (points l)) (s .at))
     (round-within (length (points l)) (s .at) some (omega (arith, c .at-in, edges-at-most (points l)))) (c .corner-is)

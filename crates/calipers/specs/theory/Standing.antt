@@ -1,4 +1,4 @@
--- Where the caliper walk stands among two lists of edges in order, E and F, of which i and j are passed.
+-- Where the caliper walk is among two lists of edges in order, E and F, of which i and j are passed.
 --     takes E i F j       whether the next step passes edge i of E: there is one, and edge j of F is not before it
 --     passed E i F j      how many edges of E are passed after the step
 --     Taken E i F j       the test as a fact; `takes-taken`, `taken-takes`; `taken-same`: passed together, they point the same way
@@ -7,7 +7,7 @@
 --     edges-less          where an edge is left, fewer are after the step
 --     Standing E F i j    each edge passed of the one list is before the next of the other
 --     standing-start, standing-advance, standing-swap      it holds at the beginning and after each step; with the lists exchanged
---     taken-before, taken-after     when edge i is passed, the edges of F before it are those passed: the cut stands at j
+--     taken-before, taken-after     when edge i is passed, the edges of F before it are those passed: the cut is at j
 use mathlib.Core.Path.{_≡_, refl, _∙_}
 use mathlib.Core.Bool.{Bool, true, false, not, cond, _&&_, false≢true}
 use mathlib.Core.List.{List}

@@ -1,6 +1,6 @@
--- Every corner of all sums of two shapes stands at a place of the caliper walk, and at the place of its two parts.
+-- Every corner of all sums of two shapes is at a place of the caliper walk, and at the place of its two parts.
 --     corner-parts        a corner of all sums is the sum of two points in one way only
---     corner-visited      it stands at some place of the walk; `place-left-in`, `place-right-in`: these are corners of the lists
+--     corner-visited      it is at some place of the walk; `place-left-in`, `place-right-in`: these are corners of the lists
 --     place-of-corner     the walk comes to two corners together where their sum is a corner of all sums
 use mathlib.Core.Path.{_≡_, sym, _∙_, ap, subst}
 use mathlib.Core.List.{List, [], _∷_, List·Memᴰ, Memᴰ·of-map}

@@ -1,7 +1,7 @@
 -- What the walk visits: the shape of all corner-plus-corner points.
 --     sum-visited           the corners visited are those of the shape, in its order
---     visited-corner        wherever the walk stands, there is a corner of the set
--- That every corner of the set stands at a place of the walk, the place of its two parts, is in `Visited`.
+--     visited-corner        wherever the walk is, there is a corner of the set
+-- That every corner of the set is at a place of the walk, the place of its two parts, is in `Visited`.
 use mathlib.Core.Path.{_≡_, _∙_, subst}
 use mathlib.Core.List.{List}
 use Prim.Native.Nat.{ℕ, _<_}

@@ -1,8 +1,8 @@
 -- Buffers that are large enough.
 --     both-small         two lists are small
---     small-enough       so many numbers hold a small list; `all-enough`: what is read of any list
+--     small-enough       the small buffers hold a small list; `all-enough`: what is read of any list
 --     combined-few       what is made of two shapes has no more corners than both
---     combined-holds     so many numbers hold it
+--     combined-holds     a buffer of both counts holds it
 use mathlib.Core.Path.{_≡_, refl, sym, subst}
 use mathlib.Core.Bool.{Bool, true, false, _&&_, true≢false}
 use mathlib.Core.List.{List, _++_}

@@ -83,7 +83,7 @@ module _ (shape : List Point) (out : List ℕ) where
     room-old : 2 * length shape ≤ most → noRoom shape old ≡ noRoom shape (wordsIn out)
     room-old fit = room-test old (room .holds (length shape)) (room .enough (length shape) fit) ∙ sym room-words
 
-    -- the shape, where no row before that is given, is one of at most so many numbers
+    -- the shape, where no row before that is given, has at most this number of numbers
     module _ (s : Shapes) (fit : NoneApply (rowsOf s) → tooMany shape ≡ false → 2 * length shape ≤ most) where
       room-agree : Agree (table (lowFloor (makes s shape old))) (table (lowFloor (makes s shape (wordsIn out)))) (Unit {0})
       unfolding lowFloor

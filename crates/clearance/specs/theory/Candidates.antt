@@ -1,4 +1,4 @@
--- The candidates, which stand in the ticket's order, and the first of those that pass.
+-- The candidates, which are in the ticket's order, and the first of those that pass.
 --     listed, unlisted                   a candidate is in the list exactly if its positions are and its corner falls on its edge
 --     least-listed, least-passes         the least is in the list, and passes if one does
 --     least-first                        those that pass are it or come after it
@@ -18,7 +18,7 @@ use Rattle.clearance.specs.Order.{Sooner, Earlier, AtOrAfter, itself, af
 
 -- ---- the ticket's order
 
--- each stands before those that follow it
+-- each is before those that follow it
 abbrev InTurn : List Candidate → Type 0
 InTurn [] = Unit {0}
 InTurn (c ∷ cs) = ((d : Candidate) → List·Memᴰ d cs → AtOrAfter c d) × InTurn cs

@@ -4,17 +4,15 @@
 --     place-exists                  some place passes
 --     facing-exists                 so some direction faces the least distance
 use mathlib.Core.Path.{_≡_, refl, sym, _∙_, ap}
-use mathlib.Core.Bool.{Bool, true, false}
+use mathlib.Core.Bool.{true}
 use mathlib.Core.Logic.{_⊎_, inl, inr}
 use mathlib.Core.List.{List, [], _∷_}
 use Prim.Native.Nat.{ℕ, _≤_, _<_}
 use native.Mathlib.Decide.{ℕ-discrete}
 use native.Mathlib.Omega.{arith}
-use borrow.Author.Tests.{ltb-true, ltb-false}
-use lib.Dec.{ltb}
 use lib.IntN.{ℤ, pos, negℤ, _+ℤ_}
 use lib.ListN.{length}
-use lib.Signed.{_≤ℤ_, _<ℤ_, ≤ℤ-refl}
+use lib.Signed.{_≤ℤ_, _<ℤ_}
 use Rattle.integer.specs.Linear.{linear, lia, _&_}
 use Rattle.plane.specs.Cut.{quarter}
 use Rattle.plane.specs.Point.{Point, corner, opposite, _⊕_, _⊖_, _∈_}
@@ -25,18 +23,18 @@ use Rattle.plane.specs.Corner.{shapeOf}
 use Rattle.plane.specs.Separation.{differences, apart}
 use Rattle.plane.specs.Clearance.{corners}
 use Rattle.plane.specs.theory.lists.Members.{position-member, member-position}
-use Rattle.plane.specs.theory.lists.Next.{following, next-below, preceding, one-or-next}
+use Rattle.plane.specs.theory.lists.Next.{following, next-below, preceding}
 use Rattle.plane.specs.theory.forms.Vector.{cross-self, value-turned, square-positive}
-use Rattle.plane.specs.theory.sum.Positions.{edge-turn, next-left}
+use Rattle.plane.specs.theory.sum.Positions.{edge-turn}
 use Rattle.plane.specs.theory.support.Support.{value-le-support, support-le}
 use Rattle.plane.specs.theory.hull.ShapeOf.{shapeOf-shape, shapeOf-support, shapeOf-corner}
-use Rattle.plane.specs.theory.forms.Vector.{turned-le, turned-back, positive-non-zero, value-sym}
+use Rattle.plane.specs.theory.forms.Vector.{positive-non-zero, value-sym}
 use Rattle.separation.specs.theory.Apart.{Separated, value-difference, differences-some, difference-member, member-difference}
 use Rattle.separation.specs.theory.Apart.{apart→direction}
-use Rattle.separation.specs.theory.Sector.{sector-weak}
 use Rattle.clearance.specs.Facing.{Lowest, Facing, StopsAtCorner, StopsOnEdge}
 use Rattle.clearance.specs.theory.First.{Held, touched-low, touched-high}
 use Rattle.clearance.specs.theory.Pairs.{Pair, pair-of, pair-value}
+use Rattle.clearance.specs.theory.Lowest.{neighbours-lowest}
 use Rattle.clearance.specs.theory.Segments.{inside-span}
 use Rattle.clearance.specs.theory.Along.{value-end}
 use Rattle.clearance.specs.theory.Closest.{Closest, at-point, at-foot, closest}
@@ -45,42 +43,12 @@ use Rattle.clearance.specs.theory.Faces.{Level, level-reached, value-qua
 
 -- ---- a shape on one side of the origin
 
-three-or-few : (n : ℕ) → (2 < n) ⊎ (n ≤ 2)
-three-or-few n = go (ltb 2 n) refl
-  where
-    go : (b : Bool) → ltb 2 n ≡ b → (2 < n) ⊎ (n ≤ 2)
-    go true e = inl (ltb-true 2 n e)
-    go false e = inr (ltb-false 2 n e)
-
 -- w is closest in its own direction if its two neighbours are no nearer
 near-neighbours : (D : List Point) → IsShape D → (k : ℕ) → k < length D → StopsAtCorner D k
     → (x : Point) → x ∈ D → value (corner D (next (length D) k)) (corner D (next (length D) k)) ≤ℤ value (corner D (next (length D) k)) x
-near-neighbours D s k h stop x m = go (three-or-few (length D)) (member-position m)
-  where
-    p : Point
-    p = corner D k
-
-    at : ℕ
-    at = next (length D) k
-
-    w : Point
-    w = corner D at
-
-    d : Point
-    d = corner D (next (length D) at)
-
-    at-in : at < length D
-    at-in = next-below (length D) k h
-
-    go : (2 < length D) ⊎ (length D ≤ 2) → (i : ℕ) × (i < length D) × (corner D i ≡ x) → value w w ≤ℤ value w x
-    go (inl three) (i, r, q) = turned-back w w x (sector-weak (opposite w) p w d x (next-left D s three k h)
-        (turned-le w w p (stop .previous)) (turned-le w w d (stop .following))
-        (rw q at (edge-turn D s k i h r)) (rw q at (edge-turn D s at i at-in r)))
-    go (inr l) (i, r, q) = pick (one-or-next (length D) k i l h r)
-      where
-        pick : (i ≡ k) ⊎ (i ≡ at) → value w w ≤ℤ value w x
-        pick (inl e) = rw (← q, e) (stop .previous)
-        pick (inr e) = rw (← q, e) (≤ℤ-refl (value w w))
+near-neighbours D s k h stop x m =
+    let (i, r, q) = member-position m in
+    rw q at (neighbours-lowest s k h (stop .previous) (stop .following) .lowest i r)
 
 -- ---- the shape of the differences of two shapes that are apart
 

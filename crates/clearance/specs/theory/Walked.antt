@@ -1,5 +1,5 @@
 -- What the search of the code comes to, for two shapes that are apart: D is the shape of their differences.
---     first-some            the first corner of D is not the origin
+--     corners-some          no corner of D is the origin
 --     stopped-facing        where the walk stopped is a direction that faces the least distance
 --     nearest-measurable    the positions of the nearest candidate are in the lists, and what it is divided by is not 0
 use mathlib.Core.Path.{_≡_, refl, sym, _∙_, ap, subst}
@@ -17,18 +17,18 @@ use Rattle.plane.specs.Point.{Point, origin, corner}
 use Rattle.plane.specs.Shape.{next, IsShape}
 use Rattle.plane.specs.Direction.{value}
 use Rattle.plane.specs.Corner.{shapeOf}
-use Rattle.plane.specs.Forms.{NonZero}
 use Rattle.plane.specs.Measure.{squared, edgeSquared}
 use Rattle.plane.specs.Separation.{differences, apart}
 use Rattle.plane.specs.Clearance.{fallsOn, Candidate, corners, onSecond, onFirst, nearest}
 use Rattle.plane.specs.theory.lists.Members.{position-member}
 use Rattle.plane.specs.theory.lists.Next.{Following, onward, closing, following}
 use Rattle.plane.specs.theory.forms.Vector.{value-origin}
-use Rattle.plane.specs.theory.hull.ShapeOf.{shapeOf-shape, shapeOf-corner}
+use Rattle.plane.specs.theory.hull.ShapeOf.{shapeOf-corner}
 use Rattle.plane.specs.theory.forms.Squared.{squared-positive}
 use Rattle.separation.specs.theory.Apart.{value-difference, differences-some, member-difference, apart→direction}
 use Rattle.clearance.specs.Facing.{Reached, Facing, StopsAtCorner, StopsOnEdge}
 use Rattle.clearance.specs.Stop.{rests, crosses, after, Stopped, at-corner, at-edge, at-first}
+use Rattle.clearance.specs.Sight.{NoOrigin}
 use Rattle.clearance.specs.Answer.{Measurable}
 use Rattle.clearance.specs.theory.First.{nearest-reached}
 use Rattle.clearance.specs.theory.Stop.{stop-corner, stop-edge, place-exists}
@@ -71,16 +71,16 @@ module _ (A B : List Point) (s : IsShape A) (t : IsShape B) (h : apart A B ≡ t
   some = differences-some A B (s .some) (t .some)
 
   -- a difference that is the origin would be of two equal corners
-  pub first-some : NonZero (corner D 0)
-  first-some = record { non-zero = clash }
+  pub corners-some : NoOrigin D
+  corners-some k l = record { non-zero = clash }
     where
-      clash : corner D 0 ≡ origin → ⊥
+      clash : corner D k ≡ origin → ⊥
       clash e =
-          let m = position-member D 0 (shapeOf-shape (differences A B) some .some) in
+          let m = position-member D k l in
           let r = member-difference A B (shapeOf-corner (differences A B) some m .member) in
           let p = apart→direction A B (s .some) (t .some) h in
           let u = p .direction in
-          lia (value u (r .left) ∷ value u (r .right) ∷ value u (corner D 0) ∷ [])
+          lia (value u (r .left) ∷ value u (r .right) ∷ value u (corner D k) ∷ [])
           (p .below (r .left) (r .right) (r .left-in) (r .right-in) & ap (value u) (r .is-difference)
           ∙ value-difference u (r .left) (r .right)
           & ap (value u) e ∙ value-origin u) (search linear depth 40) (omega arith)

@@ -1,19 +1,28 @@
 -- From three corners on the edges alone give the contact: the four sides of the box are for points and segments.
 --     edges-first     the last entry of the edges, in lowest terms, is the contact of a way that meets
-use mathlib.Core.Path.{_≡_}
-use mathlib.Core.Bool.{true}
-use mathlib.Core.List.{List}
-use Prim.Native.Nat.{ℕ, suc, _<_}
+--     wall-none, wall-box, wall-more     what the code has found before the edges, and with one edge more
+--     walls-on-way, walls-first          what it has found after all of them, in lowest terms, is that contact
+use mathlib.Core.Path.{_≡_, refl, sym, _∙_, ap}
+use mathlib.Core.Bool.{Bool, true, false, not, cond}
+use mathlib.Core.List.{List, [], _∷_}
+use Prim.Native.Nat.{ℕ, suc, _+_, _≤_, _<_}
 use native.Mathlib.Omega.{arith}
+use borrow.Author.Tests.{le-ltb, lt-ltb, ltb-false}
+use lib.Dec.{ltb}
+use lib.IntN.{pos}
 use lib.ListN.{length}
 use Rattle.plane.specs.Point.{Point}
 use Rattle.plane.specs.Shape.{IsShape}
-use Rattle.plane.specs.Distance.{Fraction}
-use Rattle.contact.specs.Contact.{OnWay, NoLater, meets, edgeNormal, past, entry, spot, arrival, edgeArrival, lowest, contact}
+use Rattle.plane.specs.Separation.{apart}
+use Rattle.plane.specs.Distance.{Fraction, over}
+use Rattle.contact.specs.Contact.{OnWay, NoLater, meets, edgeNormal, past, entry, spot, later, lastEntry, arrival}
+use Rattle.contact.specs.Contact.{edgeArrival, lowest, contact}
+use Rattle.contact.specs.Share.{lastWall}
 use Rattle.contact.specs.theory.Walls.{edges→inside}
 use Rattle.contact.specs.theory.Entry.{later-trans, entering-on-way, entering-reached, last-on-way, last-above, last-below}
 use Rattle.contact.specs.theory.Lowest.{lowest-on-way, lowest-no-later, no-later-lowest, lowest-terms, lowest-only}
 use Rattle.contact.specs.theory.Meeting.{reached→held, meets→reached, arrival-on-way, arrival-above, arrival-no-later}
+use Rattle.contact.specs.theory.Meeting.{first-on-way, met-unless-apart}
 
 module _ (t u : Point) (G : List Point) (s : IsShape G) where
   abbrev edge : ℕ → Fraction
@@ -60,3 +69,40 @@ module _ (t u : Point) (G : List Point) (s : IsShape G) where
 
         on-way : OnWay e
         on-way = lowest-on-way (edgeArrival t u G) edges-on-way
+
+  -- ---- as the code finds it
+
+  abbrev found : Bool → ℕ → Fraction
+  found few i = cond few (lastEntry (entry t u G) (4 + i)) (lastEntry edge i)
+
+  pub wall-none : 3 ≤ length G → over (pos 0) (pos 1) ≡ lastWall t u G 0
+  wall-none h = ap (λ (few : Bool). found few 0) (sym (le-ltb (length G) 3 h))
+
+  pub wall-box : length G < 3 → lastEntry (entry t u G) 4 ≡ lastWall t u G 0
+  wall-box h = ap (λ (few : Bool). found few 0) (sym (lt-ltb (length G) 3 h))
+
+  pub wall-more : (i : ℕ) → later (lastWall t u G i) (entry t u G (4 + i)) ≡ lastWall t u G (i + 1)
+  wall-more i = go (ltb (length G) 3)
+    where
+      go : (few : Bool) → later (found few i) (entry t u G (4 + i)) ≡ found few (i + 1)
+      go true = let next : suc (4 + i) ≡ 4 + (i + 1) = omega arith in ap (lastEntry (entry t u G)) next
+      go false =
+          let next : suc i ≡ i + 1 = omega arith in
+          let same : 4 + i ≡ suc (suc (suc (suc i))) = omega arith in
+          ap (λ (k : ℕ). later (lastEntry edge i) (entry t u G k)) same ∙ ap (lastEntry edge) next
+
+  pub walls-on-way : OnWay (lastWall t u G (length G))
+  unfolding arrival edgeArrival
+  walls-on-way = go (ltb (length G) 3)
+    where
+      go : (few : Bool) → OnWay (found few (length G))
+      go true = arrival-on-way t u G
+      go false = edges-on-way
+
+  pub walls-first : apart (t ∷ u ∷ []) G ≡ false → lowest (lastWall t u G (length G)) ≡ contact t u G
+  unfolding arrival edgeArrival
+  walls-first h = go (ltb (length G) 3) refl
+    where
+      go : (few : Bool) → ltb (length G) 3 ≡ few → lowest (found few (length G)) ≡ contact t u G
+      go true e = refl
+      go false e = edges-first (ltb-false (length G) 3 e) (contact t u G) (first-on-way t u G) (met-unless-apart t u G s ∙ ap not h)

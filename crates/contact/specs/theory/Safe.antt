@@ -1,6 +1,7 @@
 -- The safe millimetres of the way.
 --     safe-bounded       they are the length of the way to the contact, rounded down
---     safe-clear         on less than that nothing is met
+--     safe-before        a fraction to which the way is shorter is before the contact
+--     safe-clear         so on less than that nothing is met
 --     larger-safe        a larger shape leaves no more
 use mathlib.Core.Path.{_≡_, refl, subst}
 use mathlib.Core.Bool.{Bool, true, false}
@@ -67,24 +68,30 @@ module _ (t u : Point) (G : List Point) where
   unfolding safe
   safe-bounded = root-bounded n d (squared t u) (first-on-way t u G .begun) (first-on-way t u G .whole) (squared-nonneg t u)
 
-  -- a fraction that meets is no earlier than the contact, so the way to it is no shorter
-  pub safe-clear : IsShape G → (f : Fraction) → OnWay f
+  -- a fraction that is no earlier than the contact: the way to it is no shorter
+  pub safe-before : (f : Fraction) → OnWay f
       → (f .numerator *ℤ f .numerator *ℤ squared t u) <ℤ (pos (safe t u G) *ℤ pos (safe t u G) *ℤ (f .denominator *ℤ f .denominator))
-      → meets t u G f ≡ false
-  safe-clear s f on short = go (meets t u G f) refl
+      → NoLater (contact t u G) f → ⊥
+  safe-before f on short h = clash (n *ℤ n) (f .denominator *ℤ f .denominator) (f .numerator *ℤ f .numerator) (d *ℤ d) (squared t u)
+      (pos (safe t u G) *ℤ pos (safe t u G))
+      (squares-le n d (f .numerator) (f .denominator) (first-on-way t u G .begun) (first-on-way t u G .whole) (on .begun) (on .whole) h)
+      (safe-bounded .low) short (squared-nonneg t u) (square-above d (first-on-way t u G .whole))
+      (square-above (f .denominator) (on .whole))
     where
       clash : (P Q R S L w : ℤ) → (P *ℤ Q) ≤ℤ (R *ℤ S) → (w *ℤ S) ≤ℤ (P *ℤ L) → (R *ℤ L) <ℤ (w *ℤ Q) → pos 0 ≤ℤ L → pos 0 <ℤ S
           → pos 0 <ℤ Q → ⊥
       clash P Q R S L w h low less l a b = lia (P ∷ Q ∷ R ∷ S ∷ L ∷ w ∷ []) (h ≤×≤ l & low ≤×≤ weaken b & less <×< a)
           (search linear depth 40) (omega arith)
 
+  -- so a fraction that meets is not before it
+  pub safe-clear : IsShape G → (f : Fraction) → OnWay f
+      → (f .numerator *ℤ f .numerator *ℤ squared t u) <ℤ (pos (safe t u G) *ℤ pos (safe t u G) *ℤ (f .denominator *ℤ f .denominator))
+      → meets t u G f ≡ false
+  safe-clear s f on short = go (meets t u G f) refl
+    where
       go : (b : Bool) → meets t u G f ≡ b → b ≡ false
       go false e = refl
-      go true e = absurd (clash (n *ℤ n) (f .denominator *ℤ f .denominator) (f .numerator *ℤ f .numerator) (d *ℤ d) (squared t u)
-          (pos (safe t u G) *ℤ pos (safe t u G))
-          (squares-le n d (f .numerator) (f .denominator) (first-on-way t u G .begun) (first-on-way t u G .whole) (on .begun) (on .whole)
-          (none-earlier t u G s f on e)) (safe-bounded .low) short (squared-nonneg t u) (square-above d (first-on-way t u G .whole))
-          (square-above (f .denominator) (on .whole)))
+      go true e = absurd (safe-before f on short (none-earlier t u G s f on e))
 
 module _ (t u : Point) (G H : List Point) (s : IsShape G) (r : IsShape H) (within : inside G H ≡ true) where
   pub larger-safe : apart (t ∷ u ∷ []) G ≡ false → safe t u H ≤ safe t u G

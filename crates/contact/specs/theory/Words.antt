@@ -1,9 +1,12 @@
 -- The definitions of fractions at words.
 --     entering-begun, -inside, -never      the three cases of an entry
 --     later-first, later-second            the later of two, by comparing products
-use mathlib.Core.Path.{_≡_, refl, sym, ap}
+--     later-begun                          nothing is before the start of the way
+use mathlib.Core.Path.{_≡_, refl, sym, ap, subst}
 use mathlib.Core.Bool.{true, false, cond}
-use Prim.Native.Nat.{_*_}
+use Prim.Native.Nat.{ℕ, _*_}
+use native.Mathlib.Omega.{arith}
+use borrow.Author.Tests.{le-ltb}
 use lib.Dec.{ltb}
 use lib.IntN.{ℤ, pos, _-ℤ_}
 use lib.Signed.{_≤ℤ_, _<ℤ_}
@@ -38,3 +41,7 @@ module _ (f g : Share) where
   later-second h = ap (λ t. cond t (fraction f) (fraction g)) (sym (lt-leZ
       {x = pos (g .numerator * f .denominator)} {y = pos (f .numerator * g .denominator)}
       (ltZ-true {x = pos (f .numerator * g .denominator)} {y = pos (g .numerator * f .denominator)} h)))
+
+  pub later-begun : g .numerator ≡ 0 → fraction f ≡ later (fraction f) (fraction g)
+  later-begun e = later-first (subst (λ (n : ℕ). ltb (f .numerator * g .denominator) (n * f .denominator) ≡ false) (sym e)
+      (le-ltb (f .numerator * g .denominator) (0 * f .denominator) (omega arith)))

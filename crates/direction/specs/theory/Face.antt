@@ -1,6 +1,6 @@
 -- The face of a shape, from the smallest position that has the greatest value: three cases, by which corner beside it has that value too.
 --     face-over-end     the last of the list, where it is the first, and the two are no segment
---     face-onward       the one behind it
+--     face-onward       the one after it
 --     face-alone        neither
 use mathlib.Core.Path.{_≡_, refl, sym, _∙_, subst}
 use mathlib.Core.Bool.{Bool, true, false}

@@ -1,7 +1,7 @@
 -- Numbers as bytes: how many there are, and that they read back.
 --     pair-length, word-length, words-length      two bytes, four, and four for each number; `wordsAt-length`: as many numbers as are read
 --     words-more      the bytes of one number more; `wordsAt-at`: each number that is read
---     getD-past, pairAt-past, wordAt-past, wordsAt-past      what is read behind some bytes f does not depend on f
+--     getD-past, pairAt-past, wordAt-past, wordsAt-past      what is read after some bytes f does not depend on f
 --     pairAt-drop, wordAt-drop, wordsAt-drop, and -take      the same of a part
 --     pairAt-pair, wordsAt-words      what was written at the place p reads back
 use mathlib.Core.Path.{_≡_, refl, sym, _∙_, ap, ap₂}

@@ -1,11 +1,11 @@
--- Two pairs of shapes stand alike if the differences of the one reach as far as those of the other in every direction. Then all that is
--- asked of how the two stand to each other has the same answer.
---     Alike A B C D                     A stands to B as C to D
+-- Two pairs of shapes relate alike if the differences of the one reach as far as those of the other in every direction. Then all that is
+-- asked of how the two relate to each other has the same answer.
+--     Alike A B C D                     A is to B as C to D
 --     differences-reach                 how far the differences reach
 --     alike-apart, alike-touching       both pairs are apart, or touching, or neither
 --     alike-relation                    relation answers the same number
 --     alike-clearance                   of shapes apart, the clearance is the same fraction
---     alike-shapeOf                     the shapes of two sets stand as the sets
+--     alike-shapeOf                     the shapes of two sets relate as the sets do
 --     alike-lists                       and so do the corners that are read in the lists of their numbers
 use mathlib.Core.Path.{_≡_, sym, _∙_, ap, ap₂, subst}
 use mathlib.Core.Bool.{true, not, cond, _&&_}

@@ -1,8 +1,8 @@
--- A shape is known by how points stand to it: of two shapes that differ, a corner of the one is apart from the other.
+-- A shape is known by how points relate to it: of two shapes that differ, a corner of the one is apart from the other.
 --     answers-differ       a point inside G and not inside H is apart from H and not from G
 --     numbers-differ       and then relation answers different numbers
 --     shapes-differ        if G is not H, such a point is a corner of one of them
---     answers-known        shapes to which every point stands alike are equal
+--     answers-known        shapes to which every point relates alike are equal
 --     lost-differs         at a corner of G that H lacks, H being some of the others
 --     obstacles-known      obstacles to which the cart stands alike at every place are equal
 use mathlib.Core.Path.{_≡_, refl, sym, _∙_, ap, subst}

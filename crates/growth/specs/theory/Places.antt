@@ -2,7 +2,7 @@
 --     grown-some, grown-shape, grown-reach     the grown obstacle is a shape; how far it reaches
 --     grown-known                              a shape that reaches so far is the grown obstacle
 --     placed-shape, placed-reach               moving a shape gives a shape; how far it reaches
---     place-alike                              the cart at t stands to the obstacle as the point t to the grown obstacle
+--     place-alike                              the cart at t is to the obstacle as the point t to the grown obstacle
 --     drive-alike                              the cart driving from t to u, as the segment from t to u
 --     place-clearance, drive-clearance         of both the clearance is the same fraction
 --     drive-met, met-drive                     a drive is not apart exactly if a point of its segment is one of the grown obstacle

@@ -1,6 +1,6 @@
--- What relation and clearance reply of lists whose corners stand alike.
+-- What relation and clearance reply of lists whose corners relate alike.
 --     relation-answered      of valid shapes on one floor, relation answers its number and their floor
---     relation-replies       and of pairs that stand alike the same
+--     relation-replies       and of pairs that relate alike the same
 --     rounded-le             the root of the smaller of two fractions, rounded down, is not above that of the other
 --     clearance-fractions    where both are answered, the clearances are the same fraction
 --     clearance-rounded      and the same distance rounded down, which is the number before the floor

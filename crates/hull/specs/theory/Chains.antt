@@ -29,7 +29,7 @@ use Rattle.sorting.specs.theory.Ahead.{ahead→onward}
 use Rattle.sorting.specs.theory.Least.{inOrder-runs, inOrder-member, member-inOrder}
 use Rattle.hull.specs.theory.Trimmed.{Spans, row-between, row-bound}
 
--- ---- a list with a point before it and one behind it
+-- ---- a list with a point before it and one after it
 
 scan-append : (kept ps qs : List Point) → scan kept (ps ++ qs) ≡ scan (scan kept ps) qs
 scan-append kept [] qs = refl

@@ -68,7 +68,7 @@ neither-side s t p at = go (ltZ (turn s t p) (pos 0)) refl (ltZ (turn t s p) (po
     go false e true f = absurd (back (ltZ-true f) at)
     go false e false f = refl
 
--- at most so many corners stand on one side or the other: e is 1 if the corner is one of s and t
+-- at most this number of corners is on one side or the other: e is 1 if the corner is one of s and t
 sides-with : (s t p : Point) (e : ℕ) → e ≤ 1 → (0 < e → (p ≡ s) ⊎ (p ≡ t)) → e + (one (isRight s t p) + one (isRight t s p)) ≤ 1
 sides-with s t p zero h at = omega (arith, one-side s t p)
 sides-with s t p (suc e) h at = omega (arith, neither-side s t p (at (omega arith)))

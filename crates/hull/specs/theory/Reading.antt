@@ -1,5 +1,5 @@
 -- Two rows that are read together and pushed: the invariant of that loop and its moves.
---     Reading half P f n Q g e old l i j k     k corners stand in l, the rows from i and from j on are to come: with them the scan leaves
+--     Reading half P f n Q g e old l i j k     k corners are in l, the rows from i and from j on are to come: with them the scan leaves
 --                              what it leaves of all
 --     left-few, line-to        how many are to come; a part of a line
 --     reading-start            before the first corner

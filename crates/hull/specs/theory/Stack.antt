@@ -1,7 +1,7 @@
--- The scan on a stack that stands at the front of a buffer.
+-- The scan on a stack that is at the front of a buffer.
 --     stack-length, stack-reverse, take-stack     a stack has as many points as it says; it is the front of the list read backwards
 --     Settling, settle-drop, settle-keep, settle-short      the loop that drops corners until the new point turns left
---     settled-scanned        the point is written behind what stays
+--     settled-scanned        the point is written after what stays
 --     Scanning, scanning-start, -one, -rest, -end           the loop that reads points; `scanning-room`: there is room for the next;
 --                                                           `scanning-as`: what is to come, by another name
 --     first-scanned, chained      one point is written; with the rows, and the last point settled, it is a chain
@@ -88,7 +88,7 @@ module _ {ps : List Point} {k : ℕ} {p : Point} {kept : ℕ} (c : Settling ps k
             → push p (stack ps (suc (suc (kept - 2)))) ≡ push p (stack ps (suc (kept - 2)))
         go e = rw (e, push)
 
--- ---- the point written behind what stays
+-- ---- the point written after what stays
 
 pub settled-scanned : {l now : List ℤ} {k r : ℕ} {p : Point} → k < length (points l) → SmallTo l k → Small (2 ^ 21) p
     → Settled (points l) k p r → now ≡ stored l r p → Scanned l k (p ∷ []) now (r + 1)

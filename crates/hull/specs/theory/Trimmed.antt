@@ -1,4 +1,4 @@
--- The corners of a shape's chain that may stand on the chain from s to t.
+-- The corners of a shape's chain that may be on the chain from s to t.
 --     right-first, right-last, one-most     neither s nor t lies to the right; a test counts for 0 or 1
 --     Spans half A low high s t     A's chain of that half lies between s and t
 --     row-within, row-rises      what is taken of it is on the way round, and rises

@@ -1,5 +1,5 @@
--- Both chains in one buffer, one behind the other.
---     chains-shape      one behind the other they are the shape of both
+-- Both chains in one buffer, one after the other.
+--     chains-shape      one after the other they are the shape of both
 --     numbers-front     the numbers of the first corners are the first numbers
 --     front-put         corners at the front of a buffer, and at the front of its rest; `front-one`: one corner written there
 use mathlib.Core.Path.{_≡_, refl, sym, _∙_, ap, ap₂, subst}

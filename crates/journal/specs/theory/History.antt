@@ -2,7 +2,7 @@
 -- finished, or the one from before.
 --     after-sound, after-read    from a log with no bad record, of either kind
 --     fresh-sound, fresh-read    a new log is one, and holds nothing
---     written-sound              a log of recorded shapes is one, whatever is torn behind them
+--     written-sound              a log of recorded shapes is one, whatever is torn after them
 use mathlib.Core.Path.{_≡_, refl, sym, _∙_, ap, ap₂}
 use mathlib.Core.Bool.{Bool, true, false, cond, _&&_, _||_, and-false, and-true}
 use mathlib.Core.Logic.{⊎-elim}

@@ -1,5 +1,5 @@
 -- Judging the numbers of a record.
---     many-refused       so many numbers are no shape
+--     many-refused       too many numbers are no shape
 --     passed-answers     a test that passes the valid lists, and no others, says whether judging answers
 use mathlib.Core.Path.{_≡_, refl, sym, ap}
 use mathlib.Core.Bool.{Bool, true, false}

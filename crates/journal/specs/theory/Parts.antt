@@ -1,4 +1,4 @@
--- A front of some bytes, then zeros: what stands behind a log's records after any store of an addition.
+-- A front of some bytes, then zeros: the bytes after a log's records, once any store of an addition is made.
 --     part j t          the first j bytes of t, then as many zeros as t has bytes left
 --     part-whole        it is a whole record only if t is one and j covers it
 --     part-torn, part-short      so it is none where t is none, or j is short of it
@@ -48,7 +48,7 @@ size-part : (j : ℕ) (t : List ℕ) → 2 ≤ j → size (part j t) ≡ size t
 unfolding size pairAt
 size-part j t h = ap₂ (λ (a b : ℕ). a + 256 * b) (part-before j t 0 (omega arith)) (part-before j t 1 (omega arith))
 
--- The last byte of a whole record is not 0, so it stands before j. It is the third byte or a later one: the two bytes of the length stand
+-- The last byte of a whole record is not 0, so it is before j. It is the third byte or a later one: the two bytes of the length are
 -- before j as well, and are those of t.
 pub part-whole : (j : ℕ) (t : List ℕ) → Whole (part j t) → Whole t × (2 + size t ≤ j)
 part-whole j t w = go (decLt (1 + size (part j t)) j)

@@ -1,8 +1,8 @@
--- The whole records of a log: a log is its records, joined, and a torn rest. Behind these laws no count of steps is seen again.
+-- The whole records of a log: a log is its records, joined, and a torn rest. With these laws no count of steps is used again.
 --     whole→facts, facts→whole  what the test `whole t` says
 --     Entry r, Entries rs       r is whole, and nothing more; all of rs are
---     records-of                entries, joined, with a torn rest behind them, have these entries as their records
---     records-entries, split, end-torn, front-joined, end-le        every log is of this kind, its rest being what stands from `end b` on
+--     records-of                entries, joined, with a torn rest after them, have these entries as their records
+--     records-entries, split, end-torn, front-joined, end-le        every log is of this kind, its rest being the bytes from `end b` on
 --     records-front, records-none, end-front, end-none       how records and end compute, as a loop goes along a log
 use mathlib.Core.Path.{_≡_, refl, sym, _∙_, ap, ap₂, subst}
 use mathlib.Core.Bool.{Bool, true, false, not, cond, _&&_, and-eq-true-iff}
@@ -60,7 +60,7 @@ pub size-take : (t : List ℕ) (n : ℕ) → 2 ≤ n → size (take n t) ≡ siz
 unfolding size
 size-take t n h = pairAt-take t n 0 h
 
--- what stands behind a whole record does not matter
+-- what comes after a whole record does not matter
 whole-append : (r t : List ℕ) → Whole r → Whole (r ++ t)
 whole-append r t w = let same = size-append r t (w .two) in record {
   two = omega (arith, length-append r t, w .two);

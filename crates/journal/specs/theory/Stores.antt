@@ -75,12 +75,12 @@ clear-few false s = omega arith
 longer : (f : List ℕ) (x p : ℕ) → length f ≡ p → length (f ++ (x ∷ [])) ≡ 1 + p
 longer f x p e = omega (arith, length-append f (x ∷ []), e)
 
--- what the stores of t do behind f and x, with x taken for a byte of t
+-- what the stores of t do after f and x, with x taken for a byte of t
 shifted : (f t : List ℕ) (x p : ℕ) (u : List ℕ) → made (clears (1 + p) t) (f ++ (x ∷ []) ++ t) ≡ f ++ (x ∷ []) ++ u
     → made (clears (1 + p) t) (f ++ x ∷ t) ≡ f ++ x ∷ u
 shifted f t x p u h = ap (made (clears (1 + p) t)) (sym (append-snoc f x t)) ∙ h ∙ append-snoc f x u
 
--- the bytes t, behind f, become zeros
+-- the bytes t, after f, become zeros
 clears-made : (f t : List ℕ) (p : ℕ) → length f ≡ p → made (clears p t) (f ++ t) ≡ f ++ replicate (length t) 0
 clears-made f [] p e = refl
 clears-made f (x ∷ t) p e =
@@ -88,7 +88,7 @@ clears-made f (x ∷ t) p e =
     ∙ ap (made (cleared p x)) (shifted f t x p _ (clears-made (f ++ (x ∷ [])) t (1 + p) (longer f x p e)))
     ∙ clear-made f (replicate (length t) 0) x p e
 
--- while they do, what stands behind f is a front of them
+-- while they do, what comes after f is a front of them
 clears-before : (P : List ℕ → Type 0) (f t : List ℕ) (p : ℕ) → length f ≡ p → ((j : ℕ) → P (f ++ part j t))
     → Before P (clears p t) (f ++ t)
 clears-before P f [] p e h = tt
@@ -106,13 +106,13 @@ clears-few p (x ∷ t) =
 
 -- ---- writing
 
--- one byte, over zeros behind f
+-- one byte, over zeros after f
 put : (f : List ℕ) (n m x p : ℕ) → length f ≡ p → set (f ++ replicate (suc n + m) 0) p x ≡ (f ++ (x ∷ [])) ++ replicate (n + m) 0
 put f n m x p e =
     ap (λ (k : ℕ). set (f ++ replicate k 0) p x) (suc-add n m) ∙ set-at f 0 (replicate (n + m) 0) x p e
     ∙ sym (append-snoc f x (replicate (n + m) 0))
 
--- the record r, over zeros behind f
+-- the record r, over zeros after f
 writes-made : (f r : List ℕ) (m p : ℕ) → length f ≡ p
     → made (writes p r) (f ++ replicate (length r + m) 0) ≡ f ++ (r ++ replicate m 0)
 writes-made f [] m p e = ap (λ (k : ℕ). f ++ replicate k 0) (zero-add m)
@@ -120,7 +120,7 @@ writes-made f (x ∷ r) m p e =
     ap (made (writes (1 + p) r)) (put f (length r) m x p e)
     ∙ writes-made (f ++ (x ∷ [])) r m (1 + p) (longer f x p e) ∙ append-snoc f x (r ++ replicate m 0)
 
--- until the last byte is stored, what stands behind f is a front of the record that misses a byte
+-- until the last byte is stored, what comes after f is a front of the record that misses a byte
 writes-before : (P : List ℕ → Type 0) (f r : List ℕ) (m p : ℕ) → length f ≡ p
     → ((j : ℕ) → j < length r → P (f ++ part j (r ++ replicate m 0)))
     → Before P (writes p r) (f ++ replicate (length r + m) 0)
@@ -152,11 +152,11 @@ pub zeros-torn : (m : ℕ) → whole (replicate m 0) ≡ false
 zeros-torn m =
     ap (λ (k : ℕ). whole (replicate k 0)) (sym (length-replicate {A = ℕ} m 0)) ∙ part-short 0 (replicate m 0) (omega arith)
 
--- how many bytes are left behind the new record
+-- how many bytes are left after the new record
 abbrev pub left : List ℕ → List ℕ → ℕ
 left b r = length b - (end b + length r)
 
--- the log's records, and r behind them if so told
+-- the log's records, and r after them if so told
 abbrev pub withNew : List ℕ → List ℕ → Bool → List (List ℕ)
 withNew b r t = cond t (records b ++ (r ∷ [])) (records b)
 
@@ -176,7 +176,7 @@ module _ (b r : List ℕ) (entry : Entry r) (room : length r ≤ length b - end 
       ∙ writes-made (joined (records b)) r (left b r) (end b) (joined-length b)
       ∙ ap (λ (f : List ℕ). f ++ (r ++ replicate (left b r) 0)) (sym (front-joined b))
 
-  -- while tidying, a part of the torn rest stands behind the old records
+  -- while tidying, a part of the torn rest is after the old records
   tidying-keeps : Before (Shows (records b)) (clears (end b) (drop (end b) b)) b
   tidying-keeps =
       let rest = drop (end b) b in

@@ -1,6 +1,6 @@
 -- A pass over the records of a log that judges each.
 --     size-at, kind-at, name-at                       what the record at a place says, read there
---     next-inside, no-record, ends-whole              whether a whole record stands at a place
+--     next-inside, no-record, ends-whole              whether a whole record is at a place
 --     bad-short, -kind, -small, -length, -shape       whether the record at the front of t is bad, test by test
 --     Along b p                                       the records up to place p of b are good
 --     along-start, along-good, along-bad, along-end   the moves of the pass

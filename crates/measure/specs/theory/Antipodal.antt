@@ -33,7 +33,7 @@ use Rattle.measure.specs.theory.Chains.{chains-in, up-right, up-left, cr
 -- ---- corners that are furthest alone
 
 module _ {A : List Point} (s : IsShape A) {d : Point} {j : ℕ} (c : Cut A d j) where
-  -- a corner that alone is furthest stands at the cut
+  -- a corner that alone is furthest is at the cut
   cut-alone : (k : ℕ) → k < length A → ((i : ℕ) → i < length A → (i ≡ k → ⊥) → value d (corner A i) <ℤ value d (corner A k))
       → round (length A) j ≡ k
   cut-alone k h alone = go (eqb (round (length A) j) k) refl

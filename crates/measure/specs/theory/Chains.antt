@@ -5,7 +5,7 @@
 --     chain-turns      a later edge of a chain turns left
 --     cross-facing     the product with a vector turned round; `back-below`, `back-above`: in the other order
 --     late-cross       of up vectors, one that comes before a third comes before one that does not
---     cut-right        where the cut of a direction stands whose quarter is up: on the right-hand chain
+--     cut-right        where the cut is, for a direction whose quarter is up: on the right-hand chain
 --     cut-left         and where it is the opposite of such a one: on the left-hand chain
 use mathlib.Core.Path.{_≡_, refl, sym, _∙_, ap}
 use mathlib.Core.Bool.{Bool, true, false, not, cond}

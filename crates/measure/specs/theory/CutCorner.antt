@@ -1,4 +1,4 @@
--- Where the corner of a shape that is furthest in a direction d stands. Turn d left by a quarter: the edges before that vector lead to the
+-- Where the corner is that is furthest in a direction d. Turn d left by a quarter: the edges before that vector lead to the
 -- corner. Where the next edge points its way, the corner after is as far.
 --     Cut B d j           the edges of B before the quarter of d are the first j; `cut-made`: by those and the next
 --     cut-furthest        corner j is furthest in d

@@ -1,6 +1,6 @@
 -- Two corners of a shape at the greatest distance are antipodal. Each is furthest alone in the direction of the one from the other, which
 -- looks right for one of the two: that one is on the right-hand chain.
---     longest-antipodal     the place of the half walk at which they stand
+--     longest-antipodal     the place of the half walk at which they are
 use mathlib.Core.Path.{_≡_, refl, _∙_, ap}
 use mathlib.Core.Bool.{Bool, true, false, not, cond}
 use mathlib.Core.List.{List, [], _∷_}

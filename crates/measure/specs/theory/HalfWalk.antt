@@ -1,4 +1,4 @@
--- The half walk of a shape: where it stands, and what it comes to.
+-- The half walk of a shape: where it is, and what it comes to.
 --     antipodal-start, -step    it begins at antipodal corners, and each step leads to such
 --     half-step                 a step by `goesRight`
 --     antipodal-ahead           no step goes beyond antipodal corners, so the walk comes to all of them

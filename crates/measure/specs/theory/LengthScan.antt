@@ -1,6 +1,6 @@
 -- The search for the length along the half walk of a shape A: the best pair of positions so far.
 --     NoBetter ps k l i j     the pair (k, l) is no better than (i, j): not further apart, and if as far, not earlier
---     ToCome A t i m k l      the pair (k, l) stands at a place after (i, m) that is antipodal
+--     ToCome A t i m k l      the pair (k, l) is at a place after (i, m) that is antipodal
 --     Leads A t i m f g       every pair at the greatest distance is no better than (f, g), or is to come
 --     leads-start             at the beginning
 --     leads-keep, -replace    the moves of the loop: a step leads to a pair that is no better, or to one that is
@@ -58,7 +58,7 @@ stands-only : {A : List Point} {i m f g k l : ℕ} → Stands A i m f g → Stan
 stands-only s u = (sym (u .from-is) ∙ s .from-is, sym (u .to-is) ∙ s .to-is)
 
 module _ {A : List Point} {t : ℕ} where
-  -- antipodal corners from (i, m) on stand there, or are to come
+  -- antipodal corners from (i, m) on are there, or are to come
   place-sort : {i m a b k l : ℕ} → Antipodal A t a b → i ≤ a → m ≤ b → Stands A a b k l → ToCome A t i m k l ⊎ Stands A i m k l
   place-sort {i} {m} {a} {b} {k} {l} z x y s = go (ltb (i + m) (a + b)) refl
     where
@@ -77,7 +77,7 @@ module _ {A : List Point} {t : ℕ} where
           let p : i ≡ a = omega arith in
           let q : m ≡ b = omega arith in inr (rw (p, q) s)
 
-  -- at a place with the pair (f, g), what stands there is no better
+  -- at a place with the pair (f, g), what is there is no better
   settled : {i m f g k l : ℕ} → Stands A i m f g → ToCome A t i m k l ⊎ Stands A i m k l → ToCome A t i m k l ⊎ NoBetter A k l f g
   settled s (inl u) = inl u
   settled {f = f} {g = g} s (inr u) = let e = stands-only s u in inr (rw (e .0, e .1) (noBetter-refl A f g))
@@ -101,7 +101,7 @@ module _ {A : List Point} {t : ℕ} where
 
   module _ {i m i′ m′ f g p q : ℕ} (lead : Leads A t i m f g) (step : HalfStep A t i m i′ m′) (top : t ≤ m)
       (here : Stands A i′ m′ p q) where
-    -- what was to come stands at the new place, or is still to come
+    -- what was to come is at the new place, or is still to come
     later : {k l : ℕ} → ToCome A t i m k l → ToCome A t i′ m′ k l ⊎ NoBetter A k l p q
     later u =
         let on = antipodal-ahead (u .antipodal) step top (u .right-ahead) (u .left-ahead) (u .ahead) in

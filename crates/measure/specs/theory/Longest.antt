@@ -1,8 +1,8 @@
--- Length: the corners of a list at the greatest distance, and where they stand.
+-- Length: the corners of a list at the greatest distance, and where they are.
 --     longest-strict       of all differences the one of the greatest distance is strictly furthest in its own direction
 --     squared-le-length    no two corners are further apart than lengthSquared
 --     Longest ps i j       corners i ≤ j are that far apart
---     NotAfter i j k l     the pair (i, j) stands no later than (k, l): smaller i, or the same i and no greater j; `-trans`, `-antisym`
+--     NotAfter i j k l     the pair (i, j) is no later than (k, l): smaller i, or the same i and no greater j; `-trans`, `-antisym`
 --     length-longest, length-least             lengthFrom and lengthTo are the first such pair
 --     length-from-least, length-to-least       the smallest i, then the smallest j; `length-point`: of one corner
 use mathlib.Core.Path.{_≡_, refl, sym, _∙_}

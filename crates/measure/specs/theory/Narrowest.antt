@@ -32,7 +32,7 @@ fraction-trans : (s t u p q r : ℤ) → pos 0 <ℤ p → pos 0 <ℤ q → pos 0
 fraction-trans s t u p q r hp hq hr a b = contra≤ (λ g.
     lia (s ∷ t ∷ u ∷ p ∷ q ∷ r ∷ []) (a ≤×< hr & b ≤×< hp & g <×< hq) (search linear depth 40) (omega arith))
 
--- what stands for edge e in its comparison with f
+-- the side of edge e in its comparison with f
 abbrev wide : List Point → ℕ → ℕ → ℤ
 wide ps e f = height ps e *ℤ height ps e *ℤ edgeSquared ps f
 

@@ -1,4 +1,4 @@
--- `look` meets its contract: the record is not asked for, or a later one has its name, or it is compared.
+-- `look` meets its contract: the record is not asked for, or it is read and measured, and then kept or not.
 use mathlib.Core.Path.{_≡_, sym, _∙_, ap, subst}
 use mathlib.Core.Bool.{Bool, true, false, not}
 use mathlib.Core.List.{List}
@@ -19,7 +19,7 @@ use Rattle.endian.specs.theory.Coded.{front-is, front-length}
 use Rattle.journal.specs.Survey.{Stated}
 use Rattle.neighbours.specs.Search.{Onward}
 use Rattle.neighbours.specs.theory.Spacings.{spacing-sized}
-use Rattle.neighbours.specs.theory.Search.{here-numbers, count-fits, onward-other, onward-held, onward-kept}
+use Rattle.neighbours.specs.theory.Search.{here-numbers, count-fits, onward-other, onward-kept}
 use Rattle.neighbours.proofs.look.Statement.{statement}
 use Rattle.neighbours.proofs.look.Tie as tie
 
@@ -39,34 +39,21 @@ returns c =
       start .pre .3,
     )
 
-is-current-requires : tie.Need-is-current-requires
-is-current-requires c κs = search needs
-
-returns-2 : tie.Need-returns-2
-returns-2 c =
-    let at-head = c .before .before .before .before in
-    let start = at-head .before .before in
-    let args = start .args in (
-      onward-held (start .pre .0) (at-head .head-at .ensures) (args .floor) (args .but) (points (args .list .now)) (args .best)
-          (not-false _ (sym (c .before .is-current .ensures) ∙ not-true _ (c .if2 .taken))),
-      start .pre .3,
-    )
-
 -- what the record says, and that it is good
-stated-here : (c : tie.After-decode-arg) → let at-head = c .before .before .before .before .before in
+stated-here : (c : tie.After-decode-arg) → let at-head = c .before .before .before in
     let args = at-head .before .before .args in Stated (args .log .now) (args .p) (at-head .head-at .result)
-stated-here c = c .before .before .before .before .before .head-at .ensures
+stated-here c = c .before .before .before .head-at .ensures
 
 decode-requires : tie.Need-decode-requires
 decode-requires c κs =
-    let start = c .before .before .before .before .before .before .before in
+    let start = c .before .before .before .before .before in
     let few = count-fits (start .pre .0) (stated-here c) in
     (stated-here c .inside, omega (arith, start .pre .3))
 
 -- the buffer is as long as it was, and begins with the record's numbers
 module _ (c : tie.After-buffer) where
   abbrev at-head : tie.After-head-at
-  at-head = c .before .before .before .before .before .before .before
+  at-head = c .before .before .before .before .before
 
   abbrev start : tie.Start
   start = at-head .before .before
@@ -105,25 +92,26 @@ between-requires c κs = (start (c .before) .pre .1, decoded-valid (c .before))
 kept-requires : tie.Need-kept-requires
 kept-requires c κs =
     let at-buffer = c .before .before in
-    let pre = start at-buffer .pre in
-    (pre .2, spacing-sized _ _ (pre .1 .shape) (decoded-valid at-buffer .shape) (c .between .result) (c .between .ensures))
+    let pre = start at-buffer .pre in (
+      pre .0,
+      spacing-sized _ _ (pre .1 .shape) (decoded-valid at-buffer .shape) (c .between .result) (c .between .ensures),
+      pre .2,
+    )
 
 same-length : tie.Need-same-length
 same-length c = search needs
 
-returns-3 : tie.Need-returns-3
-returns-3 c =
+returns-2 : tie.Need-returns-2
+returns-2 c =
     let at-buffer = c .before .before .before in
-    let at-current = at-buffer .before .before .before .before in
+    let at-else = at-buffer .before .before .before in
     let args = start at-buffer .args in
     let pre = start at-buffer .pre in
     let spaced = c .before .between .ensures ∙ ap (λ l. clearanceNumbers (points (args .list .now)) (points l)) (decoded at-buffer) in (
       subst (Onward (points (args .list .now)) (args .floor) (args .but) (args .log .now) (args .p) (args .best))
           (sym (c .kept .ensures))
           (onward-kept (pre .0) (stated-here (at-buffer .before .before)) (args .floor) (args .but) (points (args .list .now))
-          (args .best) (pre .1 .shape)
-          (sym (at-current .before .before .is-asked .ensures) ∙ not-false _ (at-current .before .if1 .left))
-          (not-true _ (sym (at-current .is-current .ensures) ∙ not-false _ (at-buffer .before .before .before .if2 .left)))
+          (args .best) (pre .1 .shape) (sym (at-else .before .is-asked .ensures) ∙ not-false _ (at-else .if1 .left))
           (c .before .between .result) spaced),
       decoded-length at-buffer,
     )
@@ -135,12 +123,10 @@ look-spec =
     head-at-requires
     is-asked-requires
     returns
-    is-current-requires
-    returns-2
     decode-requires
     slice-reshare-prefix-between
     slice-aggregate-between
     between-requires
     kept-requires
     same-length
-    returns-3)
+    returns-2)

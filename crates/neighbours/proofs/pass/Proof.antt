@@ -3,12 +3,15 @@ use mathlib.Core.Path.{_≡_, sym, _∙_, subst}
 use mathlib.Core.Bool.{true}
 use Prim.Native.Nat.{ℕ, _+_, _*_, _-_, _≤_}
 use native.Mathlib.Omega.{arith}
+use borrow.Author.Needs.{needs}
 use lib.ListN.{length, drop}
 use Rattle.plane.specs.Limits.{maxCorners}
 use Rattle.plane.specs.Point.{points}
 use Rattle.journal.specs.Format.{size, whole}
+use Rattle.journal.specs.Survey.{nextAt}
 use Rattle.journal.specs.theory.Survey.{size-at, next-inside}
 use Rattle.neighbours.specs.theory.Search.{Searched, searched-start, searched-sized, searched-sound, searched-next, searched-end}
+use Rattle.neighbours.specs.theory.Search.{searched-met}
 use Rattle.neighbours.proofs.pass.Statement.{statement}
 use Rattle.neighbours.proofs.pass.Tie as tie
 
@@ -37,12 +40,33 @@ look-requires c κs =
     let found = at-loop .loop .inv .0 in
     (searched-sound found (here at-then), start .pre .1, searched-sized found (start .pre .1 .shape), at-loop .loop .inv .1)
 
+-- what is found once the record is looked at
+looked : (c : tie.After-look Inv-loop μ-loop) → let at-loop = c .before .before .before .before in
+    let args = at-loop .before .before .args in
+    let b = args .log .now in
+    Searched (points (args .list .now)) (args .floor) (args .but) b (nextAt b (at-loop .loop .p)) (c .look .result)
+looked c = let at-then = c .before .before in searched-next (at-then .before .before .loop .inv .0) (here at-then) (c .look .ensures .0)
+
+is-met-requires : tie.Need-is-met-requires Inv-loop μ-loop
+is-met-requires c κs = search needs
+
+same-length : tie.Need-same-length Inv-loop μ-loop
+same-length c =
+    let at-look = c .before .before .before in
+    at-look .look .ensures .1 ∙ sym (at-look .before .before .before .before .before .before .pre .2)
+
+returns : tie.Need-returns Inv-loop μ-loop
+returns c =
+    let at-look = c .before .before .before in
+    let start = at-look .before .before .before .before .before .before in
+    searched-met (looked at-look) (start .pre .1 .shape) (sym (c .before .is-met .ensures) ∙ c .if2 .taken)
+
 -- the next place is past the record, and still inside
-step : (c : tie.After-pair-at Inv-loop μ-loop) → let at-loop = c .before .before .before .before .before .before in
+step : (c : tie.After-pair-at Inv-loop μ-loop) → let at-loop = c .before .before .before .before .before .before .before .before in
     let log = at-loop .before .before .args .log .now in
     (c .pair-at .result ≡ size (drop (at-loop .loop .p) log)) × (at-loop .loop .p + (2 + c .pair-at .result) ≤ length log)
 step c =
-    let at-then = c .before .before .before .before in
+    let at-then = c .before .before .before .before .before .before in
     let at-loop = at-then .before .before in
     let log = at-loop .before .before .args .log .now in
     let same = c .pair-at .ensures .0 ∙ sym (size-at log (at-loop .loop .p)) in
@@ -50,7 +74,7 @@ step c =
 
 pair-at-requires : tie.Need-pair-at-requires Inv-loop μ-loop
 pair-at-requires c κs =
-    let at-then = c .before .before .before in
+    let at-then = c .before .before .before .before .before in
     omega (arith, next-inside _ (at-then .before .before .loop .p) (here at-then))
 
 add-p : tie.Need-add-p Inv-loop μ-loop
@@ -64,21 +88,19 @@ loop-less c = omega (arith, step c .1)
 
 loop-again : tie.Need-loop-again Inv-loop μ-loop
 loop-again c =
-    let at-look = c .before .before in
-    let at-then = at-look .before .before in
-    let at-loop = at-then .before .before in
+    let at-look = c .before .before .before .before in
+    let at-loop = at-look .before .before .before .before in
     let args = at-loop .before .before .args in (
       subst (λ (k : ℕ). Searched (points (args .list .now)) (args .floor) (args .but) (args .log .now) (at-loop .loop .p + (2 + k))
-          (at-look .look .result)) (sym (step c .0))
-          (searched-next (at-loop .loop .inv .0) (here at-then) (at-look .look .ensures .0)),
+          (at-look .look .result)) (sym (step c .0)) (looked at-look),
       at-look .look .ensures .1,
     )
 
-same-length : tie.Need-same-length Inv-loop μ-loop
-same-length c = let at-loop = c .before .before in at-loop .loop .inv .1 ∙ sym (at-loop .before .before .pre .2)
+same-length-2 : tie.Need-same-length-2 Inv-loop μ-loop
+same-length-2 c = let at-loop = c .before .before in at-loop .loop .inv .1 ∙ sym (at-loop .before .before .pre .2)
 
-returns : tie.Need-returns Inv-loop μ-loop
-returns c =
+returns-2 : tie.Need-returns-2 Inv-loop μ-loop
+returns-2 c =
     let at-loop = c .before .before in
     searched-end (at-loop .loop .inv .0) (at-loop .before .before .pre .1 .shape) (sym (c .before .whole-at .ensures) ∙ c .if1 .left)
 
@@ -91,10 +113,13 @@ pass-spec =
     loop-holds
     whole-at-requires
     look-requires
+    is-met-requires
+    same-length
+    returns
     pair-at-requires
     add-p
     add-p-2
     loop-less
     loop-again
-    same-length
-    returns)
+    same-length-2
+    returns-2)

@@ -1,25 +1,28 @@
 -- The search for the nearest shape, record by record.
 --     around-held, around-other, around-here    the records around, by the first record
 --     still-sized                  what is found can be compared
---     still-kept                   a record that is around is looked at; `still-end`: none is left
+--     still-kept                   a record that is around is looked at; `still-end`: none is left; `still-met`: none is nearer
 --     here-numbers, count-fits     the shape at a place
---     onward-other, onward-held, onward-kept     the record at a place is looked at
---     Searched, searched-start, searched-next, searched-end      the loop over a log
+--     onward-other, onward-kept    the record at a place is looked at
+--     Searched, searched-start, searched-next, searched-end, searched-met      the loop over a log
 use mathlib.Core.Path.{_≡_, refl, sym, _∙_, ap, ap₂, subst}
-use mathlib.Core.Bool.{Bool, true, false, not, cond, _&&_}
+use mathlib.Core.Bool.{Bool, true, false, not, cond, _&&_, true≢false}
 use mathlib.Core.List.{List, [], _∷_}
 use Prim.Native.Nat.{ℕ, _*_, _≤_}
 use native.Mathlib.Omega.{arith}
 use lib.Dec.{eqb}
 use lib.ListN.{length, drop}
-use lib.IntN.{ℤ, pos}
+use lib.IntN.{ℤ, pos, _*ℤ_}
+use lib.Signed.{_≤ℤ_}
+use Rattle.integer.specs.Linear.{linear, lia}
 use Rattle.plane.specs.Limits.{maxCorners}
 use Rattle.plane.specs.Point.{Point, points}
 use Rattle.plane.specs.Shape.{IsShape}
 use Rattle.plane.specs.Refusal.{Valid}
 use Rattle.plane.specs.Clearance.{clearanceNumbers}
-use Rattle.plane.specs.Distance.{Fraction, noMore, distance}
+use Rattle.plane.specs.Distance.{Fraction, over, noMore, distance}
 use Rattle.plane.specs.theory.lists.Flat.{points-length}
+use Rattle.clearance.specs.theory.Distance.{le-noMore, distance-nonneg}
 use Rattle.endian.specs.Bytes.{wordsAt}
 use Rattle.endian.specs.theory.Bytes.{wordsAt-length}
 use Rattle.journal.specs.Format.{whole, records, name, floor}
@@ -31,11 +34,12 @@ use Rattle.journal.specs.theory.Survey.{next-inside}
 use Rattle.journal.specs.theory.Stepping.{records-step, records-end, here-good, later-good, here-valid}
 use Rattle.neighbours.specs.Nearest.{shapeOf, isAsNear, nearestOf, nearestNumbers}
 use Rattle.neighbours.specs.Spacing.{spacingNumbers, fractionOf, Sized}
-use Rattle.neighbours.specs.Search.{nearNumbers, keptOf, NearSized, Best, Still, Onward}
+use Rattle.neighbours.specs.Search.{nearNumbers, isLatest, isNearer, isMet, keptOf, NearSized, Best, Still, Onward}
 use Rattle.neighbours.specs.declared.spacing.Spacing.{Spacing}
+use Rattle.neighbours.specs.declared.spacing.Spacing.the-variants as Spacing
 use Rattle.neighbours.specs.declared.Near.{Near}
 use Rattle.neighbours.specs.declared.Near.the-variants as Near
-use Rattle.neighbours.specs.theory.Least.{All}
+use Rattle.neighbours.specs.theory.Least.{All, all-in, leastOf-in}
 use Rattle.neighbours.specs.theory.Spacings.{spacing-fraction, spacing-sized}
 use Rattle.neighbours.specs.theory.Near.{Whole, nearest-step, good-whole, around-whole}
 
@@ -78,7 +82,7 @@ module _ (A : List Point) (s : IsShape A) where
   -- a record y is looked at
   module _ (all rest : List (List ℕ)) (y : List ℕ) (n : ℕ) (u : Spacing) (w : Whole y) (whole-rest : All Whole rest) (named : name y ≡ n)
       (spaced : spacingNumbers u ≡ clearanceNumbers A (shapeOf y)) where
-    pub still-kept : (best : Near) → Still A all best (y ∷ rest) → Still A all (keptOf best n u) rest
+    pub still-kept : (best : Near) → Still A all best (y ∷ rest) → Still A all (keptOf true n u best) rest
     still-kept Near.Nobody b = record {
       one = y;
       shape = w;
@@ -91,7 +95,7 @@ module _ (A : List Point) (s : IsShape A) where
         next : {x : Bool} → isAsNear A (b .one) y ≡ x → nearestOf A (b .one) (y ∷ rest) ≡ nearestOf A (cond x (b .one) y) rest
         next e = nearest-step A s (b .one) y rest (b .shape, (w, whole-rest)) ∙ ap (λ (x : Bool). nearestOf A (cond x (b .one) y) rest) e
 
-        go : (x : Bool) → isAsNear A (b .one) y ≡ x → Still A all (cond x (Near.Of m t) (Near.Of n u)) rest
+        go : (x : Bool) → isAsNear A (b .one) y ≡ x → Still A all (cond (not x && true) (Near.Of n u) (Near.Of m t)) rest
         go true e = record {
           one = b .one;
           shape = b .shape;
@@ -111,6 +115,42 @@ module _ (A : List Point) (s : IsShape A) where
   still-end all Near.Nobody b = sym (ap (nearestNumbers A) b)
   still-end all (Near.Of n t) b =
       ap₂ (λ (m : ℕ) (l : List ℤ). pos m ∷ l) (sym (b .name-is)) (b .spacing-is) ∙ sym (b .still)
+
+  -- a shape that is met is at 0/1, which no distance is below
+  met-nearest : (x : List ℕ) (xs : List (List ℕ)) → All Whole xs → over (pos 0) (pos 1) ≡ distance A (shapeOf x) → nearestOf A x xs ≡ x
+  unfolding isAsNear
+  met-nearest x [] a e = refl
+  met-nearest x (y ∷ ys) a e = ap (λ (t : Bool). cond t x (nearestOf A y ys)) least
+    where
+      far : Fraction
+      far = distance A (shapeOf (nearestOf A y ys))
+
+      above : pos 0 ≤ℤ far .numerator
+      above = distance-nonneg A (shapeOf (nearestOf A y ys)) s (all-in Whole (y ∷ ys) a (leastOf-in (isAsNear A) y ys))
+
+      under : (n d : ℤ) → pos 0 ≤ℤ n → (pos 0 *ℤ d) ≤ℤ (n *ℤ pos 1)
+      under n d h = lia (n ∷ d ∷ []) h (search linear depth 40) (omega arith)
+
+      least : isAsNear A x (nearestOf A y ys) ≡ true
+      least = subst (λ (f : Fraction). noMore f far ≡ true) e
+          (le-noMore (over (pos 0) (pos 1)) far (under (far .numerator) (far .denominator) above))
+
+  pub still-met : (all rest : List (List ℕ)) (best : Near) → All Whole rest → Still A all best rest → isMet best ≡ true
+      → nearNumbers best ≡ nearestNumbers A all
+  still-met all rest Near.Nobody w b e = absurd (true≢false (sym e))
+  still-met all rest (Near.Of n (Spacing.Apart d)) w b e = absurd (true≢false (sym e))
+  still-met all rest (Near.Of n Spacing.Meets) w b e =
+      ap₂ (λ (m : ℕ) (l : List ℤ). pos m ∷ l) (sym (b .name-is)) (b .spacing-is)
+      ∙ sym (b .still ∙ ap (λ (near : List ℕ). pos (name near) ∷ clearanceNumbers A (shapeOf near))
+      (met-nearest (b .one) rest w (spacing-fraction A (shapeOf (b .one)) Spacing.Meets (b .spacing-is))))
+
+-- an older record of its name is passed over
+kept-older : (n : ℕ) (u : Spacing) (best : Near) → keptOf false n u best ≡ best
+kept-older n u best = go (isNearer u best)
+  where
+    go : (x : Bool) → cond (x && false) (Near.Of n u) best ≡ best
+    go true = refl
+    go false = refl
 
 -- ---- at a place of a log
 
@@ -146,17 +186,18 @@ module _ {b : List ℕ} {p : ℕ} (sound : Sound b p) {h : Head} (st : Stated b 
     pub onward-other : (eqb (h .floor) f && not (eqb (h .name) but)) ≡ false → Onward A f but b p best best
     onward-other e = same (around-other f but here later (asked-is ∙ e))
 
-    pub onward-held : held (name here) later ≡ true → Onward A f but b p best best
-    onward-held e = same (around-held f but here later e)
-
-    pub onward-kept : IsShape A → (eqb (h .floor) f && not (eqb (h .name) but)) ≡ true → held (name here) later ≡ false → (u : Spacing)
+    pub onward-kept : IsShape A → (eqb (h .floor) f && not (eqb (h .name) but)) ≡ true → (u : Spacing)
         → spacingNumbers u ≡ clearanceNumbers A (points (wordsAt (h .count) b (h .place)))
-        → Onward A f but b p best (keptOf best (h .name) u)
-    onward-kept s asked first u spaced all x =
-        still-kept A s all (around f but later) here (h .name) u (good-whole here (here-good sound))
-        (around-whole f but later (later-good sound)) (st .name-is)
-        (spaced ∙ ap (λ l. clearanceNumbers A (points l)) (sym (st .list-is))) best
-        (subst (Still A all best) (around-at (around-here f but here later first (asked-is ∙ asked))) x)
+        → Onward A f but b p best (keptOf (isLatest b p) (h .name) u best)
+    onward-kept s asked u spaced = go (held (name here) later) refl
+      where
+        go : (x : Bool) → held (name here) later ≡ x → Onward A f but b p best (keptOf (not x) (h .name) u best)
+        go true e = subst (Onward A f but b p best) (sym (kept-older (h .name) u best)) (same (around-held f but here later e))
+        go false e = λ all x.
+            still-kept A s all (around f but later) here (h .name) u (good-whole here (here-good sound))
+            (around-whole f but later (later-good sound)) (st .name-is)
+            (spaced ∙ ap (λ l. clearanceNumbers A (points l)) (sym (st .list-is))) best
+            (subst (Still A all best) (around-at (around-here f but here later e (asked-is ∙ asked))) x)
 
 -- ---- the loop
 
@@ -181,6 +222,11 @@ module _ {A : List Point} {f but : ℕ} {b : List ℕ} {p : ℕ} {best : Near} (
     good = later-good (searched-sound w);
     still = on (around f but (records b)) (x .still);
   }
+
+  -- nothing that is left is nearer
+  pub searched-met : IsShape A → isMet best ≡ true → nearNumbers best ≡ nearestNumbers A (around f but (records b))
+  searched-met s e = still-met A s (around f but (records b)) (around f but (records (drop p b))) best
+      (around-whole f but (records (drop p b)) (x .good)) (x .still) e
 
   pub searched-end : IsShape A → whole (drop p b) ≡ false → nearNumbers best ≡ nearestNumbers A (around f but (records b))
   unfolding around

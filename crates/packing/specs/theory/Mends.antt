@@ -77,7 +77,7 @@ mended-zero (x ∷ t) (y ∷ u) = refl
 longer : (f : List ℕ) (x p : ℕ) → length f ≡ p → length (f ++ (x ∷ [])) ≡ 1 + p
 longer f x p e = omega (arith, length-append f (x ∷ []), e)
 
--- the run t stands after the bytes f
+-- the run t is after the bytes f
 mends-made : (f t u : List ℕ) (p k : ℕ) → length f ≡ p → made (take k (mends p t u)) (f ++ t) ≡ f ++ mended t u k
 mends-made f [] u p k e = ap (λ (ss : List Store). made ss (f ++ [])) (take-nil k)
 mends-made f (x ∷ t) [] p k e = ap (λ (ss : List Store). made ss (f ++ x ∷ t)) (take-nil k)

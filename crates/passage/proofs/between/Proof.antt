@@ -1,4 +1,4 @@
--- `between` meets its contract: both grown obstacles stand at the fronts of their buffers, and the corridor between them is the passage.
+-- `between` meets its contract: both grown obstacles are at the fronts of their buffers, and the corridor between them is the passage.
 use mathlib.Core.Path.{sym, _∙_, ap₂, subst}
 use mathlib.Core.List.{List}
 use Prim.Native.Nat.{_≤_}

@@ -1,5 +1,5 @@
 -- Corners at the front of a buffer.
---     overwritten-front     what is written over the front of a list stands there
+--     overwritten-front     what is written over the front of a list is there
 --     front-points          read back, they are the corners; `front-paired`: an even count of numbers
 use mathlib.Core.Path.{_≡_, sym, _∙_, ap}
 use mathlib.Core.List.{List}

@@ -43,7 +43,7 @@ module _ (ps : List Point) (shape : IsShape ps) where
   pub different : (i j : ℕ) → i < j → j < length ps → corner ps i ≡ corner ps j → ⊥
   different i j h l e = omega (arith, corner-injective ps shape i j (omega arith) l e)
 
-  -- a corner is not below one before it and one behind it
+  -- a corner is not below one before it and one after it
   no-bottom : (i k j : ℕ) → i < k → k < j → j < length ps → Precedes (corner ps k) (corner ps i) → Precedes (corner ps k) (corner ps j) → ⊥
   no-bottom zero k j a b l u v = precedes-asym (least k a (omega arith)) u
   no-bottom (suc i) k j a b l u v =

@@ -1,4 +1,4 @@
--- `log_add` meets its contract: the list is refused, or a record is bad, or the shape is added behind the last record.
+-- `log_add` meets its contract: the list is refused, or a record is bad, or the shape is added after the last record.
 use mathlib.Core.Path.{sym, _∙_}
 use borrow.Author.Needs.{needs}
 use Rattle.plane.specs.Refusal.{Valid}

@@ -20,6 +20,8 @@ use Rattle.questions.specs.declared.answer.Length.{Length}
 use Rattle.questions.specs.declared.answer.Length.the-variants as Length
 use Rattle.questions.specs.declared.answer.Width.{Width}
 use Rattle.questions.specs.declared.answer.Width.the-variants as Width
+use Rattle.questions.specs.declared.answer.LeastBox.{LeastBox}
+use Rattle.questions.specs.declared.answer.LeastBox.the-variants as LeastBox
 use Rattle.questions.specs.declared.answer.Relation.{Relation}
 use Rattle.questions.specs.declared.answer.Relation.the-variants as Relation
 use Rattle.questions.specs.declared.answer.Inside.{Inside}
@@ -46,7 +48,7 @@ use Rattle.questions.specs.declared.answer.Addition.{Addition}
 use Rattle.questions.specs.declared.answer.Addition.the-variants as Addition
 use Rattle.questions.specs.declared.answer.Entry.{Entry}
 use Rattle.questions.specs.declared.answer.Entry.the-variants as Entry
-use Rattle.questions.specs.Answer.{ofArea, ofNearest, ofGap, ofContact, ofEntry}
+use Rattle.questions.specs.Answer.{ofArea, ofBox, ofNearest, ofGap, ofContact, ofEntry}
 use Rattle.questions.specs.Answer.{ofRefusal, ofUnread, ofAnswer, ofBegun, ofPart, ofFurthest, ofLength, ofWidth, ofRelation}
 use Rattle.questions.specs.Answer.{ofInside, ofOffer, ofSeparator, ofClearance, ofExcess, ofPassage, ofTangents, ofTablet, ofAddition}
 use Rattle.reply.specs.Heard.{Room}
@@ -117,6 +119,10 @@ gap-room (Gap.No r) = refusal-room r
 pub width-room : (x : Width) → Room (ofWidth x)
 width-room (Width.Across e c t q w f) = lit≤ tt
 width-room (Width.No r) = refusal-room r
+
+pub box-room : (x : LeastBox) → Room (ofBox x)
+box-room (LeastBox.At e t s q f) = lit≤ tt
+box-room (LeastBox.No r) = refusal-room r
 
 pub relation-room : (x : Relation) → Room (ofRelation x)
 relation-room (Relation.Apart f) = lit≤ tt

@@ -1,4 +1,4 @@
--- How two shapes stand, by the origin against the edges of their differences.
+-- How two shapes relate, by the origin against the edges of their differences.
 --     originIn-inside         the numbers of `originIn` say whether the origin is outside a shape, on its rim or inside
 --     originIn-relation        of the differences of two lists: the relation
 --     refuted               a test that cannot pass

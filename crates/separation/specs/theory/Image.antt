@@ -1,6 +1,6 @@
 -- The walk round the first shape and the mirror image of the second.
 --     image-begun        it may begin
---     image-visited      the corners that it visits are those of the differences; `image-related`: how the shapes stand
+--     image-visited      the corners that it visits are those of the differences; `image-related`: how the shapes relate
 --     image-sum          the shape of the sum is that of the differences; `image-all`: all corners to come are its own
 --     differences-few    it has no more corners than both shapes together
 --     image-extends      the image reaches as far, the other way round

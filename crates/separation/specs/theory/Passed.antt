@@ -1,6 +1,6 @@
 -- The edge that a step of the walk passes, of one of the two shapes: it points the same way as the edge of the sum, and is no longer than
 -- a direction may be.
---     here-limits                  the corner at which the walk stands is a vector within the limits of a direction
+--     here-limits                  the corner of the walk is a vector within the limits of a direction
 --     normal-left, normal-right    the normal of an edge of sums with a common part
 --     passedNormal A B w v         the outer normal of the edge that a step from w to v passes: of A's if it goes on there, else of B's
 --     NormalOf e d                 d is the outer normal of a vector within the limits, which points the same way as e

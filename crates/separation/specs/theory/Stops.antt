@@ -1,7 +1,7 @@
 -- Places of the walk by their number, and the edges of the sum that leave them.
 --     sum-length                a sum has no more corners than both lists together
 --     on-below, over-end        whether the walk is over tells whether all corners are passed
---     corner-here               the corner at which it stands
+--     corner-here               its corner
 --     stop-here                 the corner where the edge that leaves a corner ends: the next one, after the last the first
 use mathlib.Core.Path.{_≡_, refl, sym, _∙_, ap, ap₂}
 use mathlib.Core.Bool.{Bool, true, false}
@@ -39,7 +39,7 @@ sum-length (a ∷ A) (b ∷ B) = path-length (a ⊕ b) (joinEdges (edges (a ∷ 
 
 -- ---- a place of the walk, and the corner there
 
--- behind the last edge, the first corner
+-- after the last edge, the first corner
 home : (A : List Point) → 0 < length A → (i : ℕ) → i ≡ length (edges A) → cornerRound A i ≡ cornerRound A 0
 home A some i e = ap (corner A) (ap (round (length A)) e ∙ round-end A some ∙ sym (round-inner (length A) 0 some))
 
@@ -72,7 +72,7 @@ module _ (a b : List ℤ) (start : At a b begun) where
   pub corner-here : (n : ℕ) → n < length corners → here (points a) (points b) (stepped (points a) (points b) n begun) ≡ corner corners n
   corner-here n h = here-stepped a b begun start n (omega (arith, ap length all)) ∙ ap (λ (ps : List Point). corner ps n) all
 
-  -- where the walk is over, it stands at the first corner again
+  -- where the walk is over, it is at the first corner again
   over-here : (n : ℕ) → stepped (points a) (points b) (suc n) begun .over ≡ true
       → here (points a) (points b) (stepped (points a) (points b) (suc n) begun) ≡ here (points a) (points b) begun
   unfolding here advanced finished

@@ -28,7 +28,7 @@ pass-requires c κs = (c .before .pre .0, c .before .pre .1, c .top .ensures)
 
 away : (c : tie.Then1) → let start = c .before .before .before in
     Outward (vectorSum (points (start .args .a .now)) (points (image (start .args .b .now)))) (at (c .before .pass .result .normal))
-away c = c .before .pass .ensures .normal-is (c .if1 .taken)
+away c = c .before .pass .ensures .0 .normal-is (c .if1 .taken)
 
 named-requires : tie.Need-named-requires
 named-requires c κs =
@@ -47,7 +47,7 @@ none : (c : tie.Else1) → let start = c .before .before .before in
     let D = vectorSum (points (start .args .a .now)) (points (image (start .args .b .now))) in
     (some (rightOf D) (length D) ≡ false) × (c .before .pass .result .count ≡ length D)
 none c =
-    let seen = c .before .pass .ensures in
+    let seen = c .before .pass .ensures .0 in
     (sym (seen .outside-is) ∙ c .if1 .left, seen .count-is (c .if1 .left))
 
 returns-2 : tie.Need-returns-2

@@ -4,7 +4,7 @@
 --     to-come                  after c corners, the others are to come; `more-to-come`: some are, unless the walk is over
 --     place-different          a different place for each count
 --     place-at, place-count    exactly the states after a count from none to all are places
---     before-count             the count of a place; `place-stands`, `place-standing`: the walk stands there
+--     before-count             the count of a place; `place-stands`, `place-standing`: the walk is there
 use mathlib.Core.Path.{_≡_, refl, sym, _∙_, ap, ap₂, subst}
 use mathlib.Core.Bool.{Bool, true, false, not, cond, _&&_, false≢true}
 use mathlib.Core.List.{List}

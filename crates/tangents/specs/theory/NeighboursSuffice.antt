@@ -1,7 +1,7 @@
 -- A corner of a shape that neither neighbour draws away is drawn away by no corner.
 --     neighbours-rest     Rests, from the corner before and the corner after
 --     better-moved, better-rests     what a step of the walk has found: a corner that draws, or that neither neighbour does
--- The idea: the step from corner p to any other is a sum of the steps to its two neighbours, each taken so many times, 0 or more
+-- The idea: the step from corner p to any other is a sum of the steps to its two neighbours, each taken 0 or more times
 -- (`sector`); what no part of a sum does, the sum does not.
 use mathlib.Core.Path.{_≡_, refl, sym, _∙_, ap, subst}
 use mathlib.Core.Bool.{Bool, true, false}

@@ -15,7 +15,7 @@ use Rattle.wide.specs.Value.{value}
 use Rattle.wide.specs.theory.Laws.{weight, Words, value-split, value-drop, value-drop-all, low-lt-weight}
 
 module _ (i h : ℕ) where
-  -- a smaller word makes a smaller number, whatever stands below
+  -- a smaller word makes a smaller number, whatever is below
   smaller : (a b : List ℕ) → i < length a → i < length b → Words a → value (drop (i + 1) a) ≡ h → value (drop (i + 1) b) ≡ h
       → getD a i 0 < getD b i 0 → value a < value b
   smaller a b ia ib ha ea eb l =
@@ -41,7 +41,7 @@ decides a b i ia ib ha hb above differ = go (ltb (getD a i 0) (getD b i 0)) refl
         let l : getD b i 0 < getD a i 0 = omega (arith, ltb-false (getD a i 0) (getD b i 0) e) in
         sym (le-ltb (value a) (value b) (omega (arith, smaller i (value (drop (i + 1) a)) b a ib ia hb (sym above) refl l)))
 
--- ---- the loop: at first nothing stands above, and at last nothing below
+-- ---- the loop: at first nothing is above, and at last nothing below
 
 pub above-none : (a b : List ℕ) → length a ≡ length b → value (drop (length a) a) ≡ value (drop (length a) b)
 above-none a b same = value-drop-all (length a) a (omega arith) ∙ sym (value-drop-all (length a) b (omega arith))

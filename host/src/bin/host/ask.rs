@@ -3,7 +3,7 @@ use crate::fault::Fault;
 use crate::fields::Kind::{self, Bytes, Calls, Floor, List, Numbers, Optional, Output, Reading};
 use crate::fields::{Call, Fields};
 use cocklesway::bytes::{self, Packed};
-use cocklesway::{Addition, Beyond, Book, Nearest, Refusal, Relation, Shape, Walk};
+use cocklesway::{Addition, Beyond, Book, Meeting, Nearest, Refusal, Relation, Shape, Walk};
 
 pub struct Row {
     pub word: &'static str,
@@ -30,14 +30,17 @@ pub const TABLE: &[Row] = &[
     Row { word: "merge", fields: &[List, List, Optional], ask: |f| two_written(f, cocklesway::merge) },
     Row { word: "grow", fields: &[List, List, Optional], ask: |f| two_written(f, cocklesway::grow) },
     Row { word: "sweep", fields: &[List, Optional], ask: |f| one_written(f, cocklesway::sweep) },
+    Row { word: "ring", fields: &[List, Optional], ask: |f| one_written(f, cocklesway::ring) },
     Row { word: "length", fields: &[List], ask: length },
     Row { word: "area", fields: &[List], ask: area },
     Row { word: "width", fields: &[List], ask: width },
+    Row { word: "box", fields: &[List], ask: least_box },
     Row { word: "relation", fields: &[List, List], ask: relation },
     Row { word: "inside", fields: &[List, List], ask: inside },
     Row { word: "offer", fields: &[List, List, Numbers], ask: offer },
     Row { word: "find", fields: &[List, List], ask: find },
     Row { word: "clearance", fields: &[List, List], ask: clearance },
+    Row { word: "greatest", fields: &[List, List], ask: greatest },
     Row { word: "excess", fields: &[List, List], ask: excess },
     Row { word: "tangents", fields: &[List, List], ask: tangents },
     Row { word: "passage", fields: &[List, List, List], ask: passage },
@@ -49,6 +52,7 @@ pub const TABLE: &[Row] = &[
     Row { word: "entry", fields: &[Bytes, Numbers, Optional], ask: entry },
     Row { word: "nearest", fields: &[Bytes, List, Optional], ask: nearest },
     Row { word: "gap", fields: &[Bytes, List], ask: gap },
+    Row { word: "drive", fields: &[Bytes, List, Numbers, Numbers], ask: drive },
     Row { word: "hjudge", fields: &[Bytes, Floor], ask: judge_bytes },
     Row { word: "hsum", fields: &[Bytes, Floor, Bytes, Floor, Output], ask: |f| bytes_written(f, bytes::sum) },
     Row { word: "hmerge", fields: &[Bytes, Floor, Bytes, Floor, Output], ask: |f| bytes_written(f, bytes::merge) },
@@ -135,6 +139,15 @@ fn width(mut fields: Fields) -> Answer {
     ))
 }
 
+fn least_box(mut fields: Fields) -> Answer {
+    let answer = cocklesway::least_box(fields.list().shape())?;
+    let (edge, height, along) = (answer.edge, answer.height, answer.along);
+    Ok(format!(
+        "ok {edge} {height} {along} {} @{}",
+        answer.squared, answer.floor
+    ))
+}
+
 fn relation(mut fields: Fields) -> Answer {
     let (a, b) = (fields.list(), fields.list());
     let answer = cocklesway::relation(a.shape(), b.shape())?;
@@ -175,6 +188,13 @@ fn clearance(mut fields: Fields) -> Answer {
     let (a, b) = (fields.list(), fields.list());
     let answer = cocklesway::clearance(a.shape(), b.shape())?;
     Ok(format!("ok {} @{}", place(answer.nearest), answer.floor))
+}
+
+fn greatest(mut fields: Fields) -> Answer {
+    let (a, b) = (fields.list(), fields.list());
+    let answer = cocklesway::greatest(a.shape(), b.shape())?;
+    let (squared, first, second) = (answer.squared, answer.first, answer.second);
+    Ok(format!("ok {squared} {first} {second} @{}", answer.floor))
 }
 
 fn excess(mut fields: Fields) -> Answer {
@@ -229,11 +249,7 @@ fn contact(mut fields: Fields) -> Answer {
     let Some(meeting) = answer.meeting else {
         return Ok(format!("ok never @{}", answer.floor));
     };
-    let (numerator, denominator, safe) = (meeting.numerator, meeting.denominator, meeting.safe);
-    Ok(format!(
-        "ok {numerator} {denominator} {safe} @{}",
-        answer.floor
-    ))
+    Ok(format!("ok {} @{}", way(meeting), answer.floor))
 }
 
 fn tablet(mut fields: Fields) -> Answer {
@@ -286,6 +302,16 @@ fn gap(mut fields: Fields) -> Answer {
     Ok(format!("ok {first} {second} {place} @{}", answer.floor))
 }
 
+fn drive(mut fields: Fields) -> Answer {
+    let (log, cart) = (fields.bytes(), fields.list());
+    let (from, to) = (fields.place()?, fields.place()?);
+    let answer = cocklesway::log_contact(&log, cart.shape(), from, to)?;
+    let Some((name, meeting)) = answer.first else {
+        return Ok(format!("ok never @{}", answer.floor));
+    };
+    Ok(format!("ok {name} {} @{}", way(meeting), answer.floor))
+}
+
 fn stored(addition: Addition) -> &'static str {
     match addition {
         Addition::Finished => "finished",
@@ -319,7 +345,7 @@ fn bytes_written(mut fields: Fields, call: BytesWritten) -> Answer {
     Ok(format!("{:#018x} |{space}{bytes}", packed.number()))
 }
 
-/// An output that holds so many numbers, or the longest answer.
+/// An output that holds the given number of numbers, or the longest answer.
 fn output(room: Option<usize>) -> Vec<[i32; 2]> {
     let most = cocklesway::limits().corners;
     vec![[0; 2]; room.map_or(most, |room| most.min(room / 2))]
@@ -356,6 +382,12 @@ fn place(nearest: Option<Nearest>) -> String {
     let (corner, edge, turn) = (across.corner, across.edge, across.turn);
     let (squared, rounded) = (across.squared, across.rounded);
     format!("{kind} {corner} {edge} {turn} {squared} {rounded}")
+}
+
+/// The fraction of the way, and the millimetres before it.
+fn way(meeting: Meeting) -> String {
+    let (numerator, denominator) = (meeting.numerator, meeting.denominator);
+    format!("{numerator} {denominator} {}", meeting.safe)
 }
 
 fn yes_or_no(yes: bool) -> &'static str {

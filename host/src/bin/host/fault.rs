@@ -63,6 +63,7 @@ fn fmt_refusal(f: &mut fmt::Formatter<'_>, refusal: Refusal) -> fmt::Result {
     }
     match refusal {
         Refusal::Side { edge, corner, .. } => write!(f, " edge {edge} corner {corner}"),
+        Refusal::NotConvex { before, corner } => write!(f, " edge {before} corner {corner}"),
         Refusal::Damaged { place } => write!(f, " place {place}"),
         Refusal::NotFinite { axis } | Refusal::NotWhole { axis } | Refusal::FarReading { axis } => {
             write!(f, " part {axis}")

@@ -4,10 +4,10 @@ use crate::words::{self, trimmed, words};
 use cocklesway::{Reading, Shape, Walk};
 use std::vec;
 
-/// The fields of a line may hold so many numbers together. Floors do not count.
+/// How many numbers the fields of a line may hold together. Floors do not count.
 const MOST_NUMBERS: usize = 16_384;
 
-/// The output of a call on bytes has so many bytes at most.
+/// How many bytes the output of a call on bytes may have.
 const MOST_OUTPUT: usize = 65_536;
 
 /// How a field is written.
@@ -171,7 +171,7 @@ impl Fields {
         })
     }
 
-    /// So many numbers.
+    /// COUNT numbers.
     fn numbers<const COUNT: usize>(&mut self) -> Result<[i32; COUNT], Unreadable> {
         let numbers = self.list().numbers;
         numbers.try_into().map_err(|_| Unreadable::WrongCount)

@@ -25,7 +25,7 @@ use fields::Fields;
 use std::io::{self, BufRead, Write};
 use words::{is_space, trimmed};
 
-/// A line has so many characters at most. Spaces after the last other character do not count.
+/// How many characters a line may have. Spaces after the last other character do not count.
 const MOST_CHARACTERS: usize = 65_536;
 
 fn main() -> io::Result<()> {

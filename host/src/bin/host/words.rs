@@ -66,7 +66,7 @@ pub fn reading(text: &[u8]) -> Option<Reading> {
     }
 }
 
-/// So many hexadecimal digits.
+/// Reads `count` hexadecimal digits.
 fn hexadecimal(word: &[u8], count: usize) -> Option<u64> {
     let all = word.len() == count && word.iter().all(u8::is_ascii_hexdigit);
     let text = str::from_utf8(word).ok().filter(|_| all)?;

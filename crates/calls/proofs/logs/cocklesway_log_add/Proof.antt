@@ -10,7 +10,7 @@ use Rattle.calls.proofs.logs.cocklesway_log_add.Statement.{statement}
 use Rattle.calls.proofs.logs.cocklesway_log_add.Tie as tie
 
 -- past the test the floor is within its limit
-low : (c : tie.Else1) → ltb maxFloor (c .before .before .before .args .floor) ≡ false
+low : (c : tie.Else1) → ltb maxFloor (c .before .before .before .args .f) ≡ false
 low c = sym (c .before .exceeds-floor .ensures) ∙ c .if1 .left
 
 exceeds-floor-requires : tie.Need-exceeds-floor-requires

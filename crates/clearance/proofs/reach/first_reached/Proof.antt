@@ -16,35 +16,36 @@ use Rattle.clearance.proofs.reach.first_reached.Tie as tie
 some : (c : tie.Start) → NonZero (at (c .args .n))
 some c = facing-some (c .pre .0 .shape .some) (c .pre .1 .shape .some) (c .pre .3)
 
-lowest-requires : tie.Need-lowest-requires
-lowest-requires c κs = (c .pre .0, c .pre .2, some c)
+near-requires : tie.Need-near-requires
+near-requires c κs = (c .pre .0, c .pre .2, some c, c .pre .4)
 
 against-requires : tie.Need-against-requires
 against-requires c κs = search needs
 
-lowest-requires-2 : tie.Need-lowest-requires-2
-lowest-requires-2 c κs =
+near-requires-2 : tie.Need-near-requires-2
+near-requires-2 c κs =
     let start = c .before .before in
     let small = start .pre .2 in (
       start .pre .1,
       subst (Small 4194304) (sym (c .against .ensures))
           (record { small-x = within-neg (small .small-x); small-y = within-neg (small .small-y) }),
       subst NonZero (sym (c .against .ensures)) (opposite-non-zero (some start)),
+      start .pre .5,
     )
 
 -- the two faces
-first-face : (c : tie.After-lowest2) → let start = c .before .before .before in
-    IsFace (at (start .args .n)) (points (start .args .a .now)) (c .before .before .lowest .result)
-first-face c = c .before .before .lowest .ensures
+first-face : (c : tie.After-near2) → let start = c .before .before .before in
+    IsFace (at (start .args .n)) (points (start .args .a .now)) (c .before .before .near .result)
+first-face c = c .before .before .near .ensures
 
-second-face : (c : tie.After-lowest2) → let start = c .before .before .before in
-    IsFace (opposite (at (start .args .n))) (points (start .args .b .now)) (c .lowest2 .result)
+second-face : (c : tie.After-near2) → let start = c .before .before .before in
+    IsFace (opposite (at (start .args .n))) (points (start .args .b .now)) (c .near2 .result)
 second-face c =
     let start = c .before .before .before in
-    subst (λ (m : Point). IsFace m (points (start .args .b .now)) (c .lowest2 .result)) (c .before .against .ensures) (c .lowest2 .ensures)
+    subst (λ (m : Point). IsFace m (points (start .args .b .now)) (c .near2 .result)) (c .before .against .ensures) (c .near2 .ensures)
 
-ends : (c : tie.After-lowest2) → let start = c .before .before .before in
-    Ends (start .args .a .now) (c .before .before .lowest .result) × Ends (start .args .b .now) (c .lowest2 .result)
+ends : (c : tie.After-near2) → let start = c .before .before .before in
+    Ends (start .args .a .now) (c .before .before .near .result) × Ends (start .args .b .now) (c .near2 .result)
 ends c =
     let pre = c .before .before .before .pre in
     let F = first-face c in
@@ -59,11 +60,11 @@ first-along-requires c κs = let both = ends c in (both .0, both .1, c .before .
 -- what the three searches found
 along-found : (c : tie.After-first-along) {r : Spot} → c .first-along .result ≡ r → let start = c .before .before .before .before in
     Tried (isAlong (at (start .args .n)) (points (start .args .a .now)) (points (start .args .b .now)))
-    (c .before .before .before .lowest .result) (c .before .lowest2 .result) r
+    (c .before .before .before .near .result) (c .before .near2 .result) r
 along-found c e =
     let args = c .before .before .before .before .args in
     let test = isAlong (at (args .n)) (points (args .a .now)) (points (args .b .now)) in
-    subst (Tried test (c .before .before .before .lowest .result) (c .before .lowest2 .result)) (sym (c .first-along .ensures) ∙ e)
+    subst (Tried test (c .before .before .before .near .result) (c .before .near2 .result)) (sym (c .first-along .ensures) ∙ e)
     (tried-is test _ _ (first-face (c .before) .ordered) (second-face (c .before) .ordered))
 
 enum-known-one : tie.Need-enum-known-one
@@ -84,15 +85,15 @@ first-foot-requires c κs = ends (c .before .before .before)
 
 second-found : (c : tie.After-first-foot) {r : Spot} → c .first-foot .result ≡ r → let at-along = c .before .before .before in
     let start = at-along .before .before .before .before in
-    let f = at-along .before .before .before .lowest .result in
-    let g = at-along .before .lowest2 .result in
+    let f = at-along .before .before .before .near .result in
+    let g = at-along .before .near2 .result in
     Tried (isFoot g (points (start .args .a .now)) (points (start .args .b .now))) f g r
 second-found c e =
     let at-face = c .before .before .before .before in
     let args = at-face .before .before .before .args in
-    let g = at-face .lowest2 .result in
+    let g = at-face .near2 .result in
     let test = isFoot g (points (args .a .now)) (points (args .b .now)) in
-    subst (Tried test (at-face .before .before .lowest .result) g) (sym (c .first-foot .ensures) ∙ e)
+    subst (Tried test (at-face .before .before .near .result) g) (sym (c .first-foot .ensures) ∙ e)
     (tried-is test _ _ (first-face at-face .ordered) (second-face at-face .ordered))
 
 enum-known-one-2 : tie.Need-enum-known-one-2
@@ -116,15 +117,15 @@ first-foot-requires-2 c κs = let both = ends (c .before .before .before .before
 first-found : (c : tie.After-first-foot2) {r : Spot} → c .first-foot2 .result ≡ r
     → let at-along = c .before .before .before .before .before .before in
     let start = at-along .before .before .before .before in
-    let f = at-along .before .before .before .lowest .result in
-    let g = at-along .before .lowest2 .result in
+    let f = at-along .before .before .before .near .result in
+    let g = at-along .before .near2 .result in
     Tried (isFoot f (points (start .args .b .now)) (points (start .args .a .now))) g f r
 first-found c e =
     let at-face = c .before .before .before .before .before .before .before in
     let args = at-face .before .before .before .args in
-    let f = at-face .before .before .lowest .result in
+    let f = at-face .before .before .near .result in
     let test = isFoot f (points (args .b .now)) (points (args .a .now)) in
-    subst (Tried test (at-face .lowest2 .result) f) (sym (c .first-foot2 .ensures) ∙ e)
+    subst (Tried test (at-face .near2 .result) f) (sym (c .first-foot2 .ensures) ∙ e)
     (tried-is test _ _ (second-face at-face .ordered) (first-face at-face .ordered))
 
 enum-known-one-3 : tie.Need-enum-known-one-3
@@ -162,6 +163,6 @@ returns-4 c =
 pub first-reached-spec : {M : Type 1} → statement M
 first-reached-spec =
     tie.close
-    (tie.spec lowest-requires against-requires lowest-requires-2 first-along-requires enum-known-one returns enum-told
+    (tie.spec near-requires against-requires near-requires-2 first-along-requires enum-known-one returns enum-told
     first-foot-requires enum-known-one-2 returns-2 enum-told-2 first-foot-requires-2 enum-known-one-3 enum-told-3 returns-3
     returns-4)

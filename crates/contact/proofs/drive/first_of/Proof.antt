@@ -1,4 +1,4 @@
--- `first_of` meets its contract: the arrival in lowest terms, unless the way is apart.
+-- `first_of` meets its contract: the last entry in lowest terms, unless the way is apart.
 use borrow.Author.Needs.{needs}
 use mathlib.Core.Path.{_≡_, sym, _∙_, ap, subst}
 use mathlib.Core.List.{[], _∷_}
@@ -14,7 +14,8 @@ use Rattle.plane.specs.theory.forms.Squared.{squared-nonneg}
 use Rattle.polygon.specs.Point.{at}
 use Rattle.contact.specs.Contact.{OnWay, lowest, contact}
 use Rattle.contact.specs.Share.{fraction}
-use Rattle.contact.specs.theory.Meeting.{arrival-on-way, first-on-way}
+use Rattle.contact.specs.theory.Meeting.{first-on-way}
+use Rattle.contact.specs.theory.Edges.{walls-on-way, walls-first}
 use Rattle.contact.specs.theory.Sides.{small-place}
 use Rattle.contact.specs.theory.Told.{whole-words, length-bounded, never-told, at-told}
 use Rattle.contact.proofs.drive.first_of.Statement.{statement}
@@ -31,8 +32,9 @@ arrival-requires c κs = search needs
 
 lowest-requires : tie.Need-lowest-requires
 lowest-requires c κs =
-    let args = c .before .before .before .args in
-    whole-words _ _ (subst OnWay (sym (c .arrival .ensures)) (arrival-on-way (at (args .t)) (at (args .u)) (points (args .list .now)))) .1
+    let start = c .before .before .before in
+    let way = walls-on-way (at (start .args .t)) (at (start .args .u)) (points (start .args .list .now)) (start .pre .0 .shape) in
+    whole-words _ _ (subst OnWay (sym (c .arrival .ensures)) way) .1
 
 squared-requires : tie.Need-squared-requires
 squared-requires c κs =
@@ -45,7 +47,12 @@ magnitude-requires c κs = rw (result-is w64 (c .squared .ok) (c .squared .ensur
 -- the contact, and the squared length of the way
 told : (c : tie.After-lowest) → let args = c .before .before .before .before .args in
     fraction (c .lowest .result) ≡ contact (at (args .t)) (at (args .u)) (points (args .list .now))
-told c = c .lowest .ensures ∙ ap lowest (c .before .arrival .ensures)
+told c =
+    let at-else = c .before .before in
+    let start = at-else .before .before in
+    c .lowest .ensures ∙ ap lowest (c .before .arrival .ensures)
+    ∙ walls-first (at (start .args .t)) (at (start .args .u)) (points (start .args .list .now)) (start .pre .0 .shape)
+    (sym (at-else .before .is-apart .ensures) ∙ at-else .if1 .left)
 
 length-is : (c : tie.After-magnitude) → let args = c .before .before .before .before .before .before .args in
     pos (c .magnitude .result) ≡ squared (at (args .t)) (at (args .u))

@@ -47,7 +47,7 @@ past-requires c κs =
     let p = start .pre in (
       small-corner _ (p .0 .inRange) _ (p .1) (c .before .before .before .corner-at .ensures),
       small-corner _ (p .0 .inRange) _ (next-below _ _ (p .1)) (end-is c),
-      small-place (p .2 .from-near),
+      search (needs, small-place),
     )
 
 past-requires-2 : tie.Need-past-requires-2
@@ -56,7 +56,7 @@ past-requires-2 c κs =
     let p = start .pre in (
       small-corner _ (p .0 .inRange) _ (p .1) (c .before .before .before .before .corner-at .ensures),
       small-corner _ (p .0 .inRange) _ (next-below _ _ (p .1)) (end-is (c .before)),
-      small-place (p .2 .to-near),
+      search (needs, small-place),
     )
 
 -- how far both places are past it

@@ -17,7 +17,7 @@ use Rattle.hull.proofs.chains.chain.Tie as tie
 put-requires : tie.Need-put-requires
 put-requires c κs = omega (arith, c .before .pre .2, points-length (c .before .args .buf .now))
 
--- the first point stands in the buffer
+-- the first point is in the buffer
 began : (c : tie.After-put) → let start = c .before .before in
     Scanned (start .args .buf .now) 0 (at (start .args .from) ∷ []) (c .put .last .0) 1
 began c =

@@ -1,4 +1,4 @@
--- `closed_at` meets its contract: behind the last corner stands the first.
+-- `closed_at` meets its contract: after the last corner comes the first.
 use mathlib.Core.Path.{_≡_, sym, _∙_, ap}
 use native.Mathlib.Omega.{arith}
 use borrow.Author.Needs.{needs}

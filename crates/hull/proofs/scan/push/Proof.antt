@@ -1,4 +1,4 @@
--- `push` meets its contract: the point is written behind what stays under it.
+-- `push` meets its contract: the point is written after what stays under it.
 use native.Mathlib.Omega.{arith}
 use borrow.Author.Needs.{needs}
 use Rattle.plane.specs.theory.lists.Flat.{points-length}

@@ -19,7 +19,7 @@ use Rattle.journal.specs.theory.Judging.{many-refused, passed-answers}
 use Rattle.journal.proofs.corners.is_shape_at.Statement.{statement}
 use Rattle.journal.proofs.corners.is_shape_at.Tie as tie
 
--- so many numbers fit the buffer
+-- the numbers fit the buffer
 fits : (c : tie.Else1) → let start = c .before .before .before in start .args .n ≤ length (start .args .buffer .now)
 fits c =
     let start = c .before .before .before in

@@ -19,7 +19,7 @@ Inv-loop log name found₀ p₀ found p = SoFar name log p found
 abbrev μ-loop : tie.MeasureT-loop
 μ-loop log name found₀ p₀ found p = length log - p
 
--- a whole record stands here
+-- a whole record is here
 here : (c : tie.Then1 Inv-loop μ-loop)
     → whole (drop (c .before .before .loop .p) (c .before .before .before .before .args .log .now)) ≡ true
 here c = sym (c .before .whole-at .ensures) ∙ c .if1 .taken

@@ -1,4 +1,4 @@
--- `write` meets its contract: the fields of a record one behind the other, each where the one before it ends.
+-- `write` meets its contract: the fields of a record one after the other, each where the one before it ends.
 use mathlib.Core.Path.{_≡_, refl, _∙_}
 use Prim.Native.Nat.{_+_, _*_, _≤_}
 use native.Mathlib.Omega.{arith}

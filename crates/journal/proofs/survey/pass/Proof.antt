@@ -16,7 +16,7 @@ Inv-loop log buffer₀ p₀ buffer p = Along log p × (length buffer ≡ 2 * max
 abbrev μ-loop : tie.MeasureT-loop
 μ-loop log buffer₀ p₀ buffer p = length log - p
 
--- a whole record stands here
+-- a whole record is here
 here : (c : tie.Then1 Inv-loop μ-loop)
     → whole (drop (c .before .before .loop .p) (c .before .before .before .before .args .log .now)) ≡ true
 here c = sym (c .before .whole-at .ensures) ∙ c .if1 .taken

@@ -1,6 +1,6 @@
 -- When two corners of a shape are furthest in one direction: they are the ends of an edge that points across it.
 --     Tied ps d r k       corner k ends the edge from r, or r the edge from k, and the edge points the way of `quarter d`
---     tied                so stand two furthest corners
+--     tied                two furthest corners are so
 --     tied-alone          and no third corner is furthest
 use mathlib.Core.Path.{_≡_, refl, sym, _∙_, ap}
 use mathlib.Core.Bool.{Bool, true, false, not}
@@ -84,7 +84,7 @@ pub data Tied (ps : List Point) (d : Point) (r k : ℕ) : Type 0 where
   behind : r ≡ next (length ps) k → SameWay (edgeOf ps k) (quarter d) → Tied ps d r k
 
 module _ (ps : List Point) (s : IsShape ps) (d : Point) where
-  -- r is furthest and the step to k goes across d: were k not next, the corner that is would stand left of that step, and further
+  -- r is furthest and the step to k goes across d: were k not next, the corner that is would be left of that step, and further
   tied-next : (r k : ℕ) → r < length ps → k < length ps → (k ≡ r → ⊥) → value d (corner ps r) ≡ support d ps
       → SameWay (corner ps k ⊖ corner ps r) (quarter d) → k ≡ next (length ps) r
   tied-next r k hr hk other far w = go (eqb k (next (length ps) r)) refl

@@ -22,7 +22,7 @@ abbrev pub Fan : Point → Point → List Point → Type 0
 Fan p q [] = Unit {0}
 Fan p q (r ∷ ps) = Left p q r × Fan p r ps
 
--- the turns at each corner from q on, where a stands before q
+-- the turns at each corner from q on, where a is before q
 abbrev pub Bends : Point → Point → List Point → Type 0
 Bends a q [] = Unit {0}
 Bends a q (r ∷ ps) = Left a q r × Bends q r ps

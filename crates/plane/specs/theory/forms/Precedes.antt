@@ -2,7 +2,7 @@
 --     Lower p q        what `Precedes p q` says, by cases; `precedes-lower` reads it, `lower-precedes` makes it
 --     precedes-trans, precedes-irrefl, precedes-asym, precedes-different
 --     not-precedes     the test is false where the order is absurd; `precedes-reversed`: where the other way round holds
---     Placed p q       p is ahead of q, the same, or behind; `placed` decides
+--     Placed p q       p comes before q, is the same, or comes after it; `placed` decides
 --     precedes-total   where neither precedes the other they are equal; `samePoint-neither`: and so says the test
 --     precedes-below, precedes-above, precedes-level      by tests of the coordinates
 --     precedes-opposite  the order of the opposite points is the other way round

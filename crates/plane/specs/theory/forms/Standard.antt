@@ -139,7 +139,7 @@ shape→ordered ps s = sorted→ordered ps (shape→sorted ps s)
 -- ---- every three in order give the left rule and the start: a turn may be read from any of its corners
 
 module _ (ps : List Point) (t : Triples ps) where
-  -- an edge up to the last corner: c is before or behind it
+  -- an edge up to the last corner: c is before or after it
   left-inner : (e c : ℕ) → suc e < length ps → c < length ps → (c ≡ e → ⊥) → (c ≡ suc e → ⊥)
       → Left (corner ps e) (corner ps (suc e)) (corner ps c)
   left-inner e c he hc a b = go (ltb c e) refl

@@ -38,7 +38,7 @@ abbrev Backwards : Point → Point → List Point → Type 0
 Backwards c b [] = NonZero (c ⊖ b)
 Backwards c b (a ∷ K) = Before (b ⊖ a) (c ⊖ b) × NonZero (c ⊖ b) × Backwards b a K
 
--- down the stack, one edge at a time: the edges from b on, to c and by acc back to the start s, are in order already; below b stands K,
+-- down the stack, one edge at a time: the edges from b on, to c and by acc back to the start s, are in order already; below b is K,
 -- whose last point is s
 closed-sorted : {s : Point} (c b : Point) (K acc F : List Point) → lastOf b K ≡ s → Backwards c b K
     → edgesTo s b acc ≡ (c ⊖ b) ∷ F → From (c ⊖ b) F → Sorted (reverseAux K (b ∷ acc))
@@ -57,7 +57,7 @@ chain-backwards : {half : Bool} (c b : Point) (K : List Point) → Chain half (c
 chain-backwards c b [] k = onward-nonzero (k .0)
 chain-backwards c b (a ∷ K) k = (onward-before (k .2 .0) (k .0) (k .1), onward-nonzero (k .0), chain-backwards b a K (k .2))
 
--- the chain down stands on the chain up, with which it shares its first point
+-- the chain down is stacked on the chain up, with which it shares its first point
 circuit-backwards : (c b a : Point) (L K : List Point) → Chain false (c ∷ b ∷ L) → Chain true (lastOf b L ∷ a ∷ K)
     → Backwards c b (L ++ (a ∷ K))
 circuit-backwards c b a [] K down climb = (onward-around (climb .0) (down .0), onward-nonzero (down .0), chain-backwards b a K climb)

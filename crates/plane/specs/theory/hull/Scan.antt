@@ -1,5 +1,5 @@
 -- The scan (`push` and `scan` of `Corner.antt`), proved once for both chains: half is true for points that run up and directions that look
--- right, false for points that run down and directions that look left. Points kept and points seen stand last first.
+-- right, false for points that run down and directions that look left. Points kept and points seen are listed last first.
 --     Chain half kept            neighbours run up (down), and every three of them turn left; Reaches, Turns: of p and the last kept
 --     Bounds d N ps              no point of ps has a value of d above N
 --     Scan half s seen p kept    the invariant: s was the first point, p is the newest, seen are all of them, kept those below p;

@@ -1,5 +1,5 @@
 -- Writing an answer into a lent output, number by number: the invariant of every loop that does.
---     Filled old answer k out    the first k numbers of the answer stand at the front, and all behind them is as it was
+--     Filled old answer k out    the first k numbers of the answer are at the front, and all after them is as it was
 --     filled-start, -put         nothing is written yet; one more number
 --     filled-corner              one more corner of an answer that is a list of corners
 --     filled-done                all is written: the output is the one that contracts speak of

@@ -1,6 +1,6 @@
 -- A list of numbers and the corners that it holds, by position.
 --     points-length           half as many corners as numbers
---     points-x, points-y      the coordinates of corner i stand at 2·i and 2·i + 1
+--     points-x, points-y      the coordinates of corner i are at 2·i and 2·i + 1
 --     Near p, points-near     both coordinates are in range; those of a list in range are
 --     points-numbers, numbers-points, numbers-length      there and back; `numbers-append`: two lists joined
 --     numbers-inRange         corners in range make numbers in range

@@ -55,7 +55,7 @@ none→admitted (oneShape a) n = accepted→valid (a .list) 1 n
 none→admitted (twoShapes a b) n = none→same a b n
 none→admitted (manyPoints a) n = accepted→points (a .list) n
 
--- 13, behind the rows of both shapes
+-- 13, after the rows of both shapes
 pub floors-first : (a b : Floored) → Valid (a .list) → Valid (b .list) → (a .floor ≡ b .floor → ⊥)
     → First (floorRow (a .floor) (b .floor)) (pairRows a b)
 floors-first a b v w f =

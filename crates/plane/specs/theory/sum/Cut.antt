@@ -1,11 +1,11 @@
--- The cut formula: where the corner furthest in a direction stands among sorted edges. Let t be the direction turned left by a quarter:
+-- The cut formula: where the corner furthest in a direction is among sorted edges. Let t be the direction turned left by a quarter:
 -- the value of the direction at an edge is the product of the edge with t, and the edges before t are a prefix of the list.
 --     toCut d E, cutSum d E     the sum of the edges before t, and of their values; `-take`, `-leave`: how they compute
 --     toCut-past, cutSum-past   past the cut there is nothing more to take
 --     value-toCut               the value of the one is the other
 --     cut-corner                the corner that the edges before t lead to is a corner of the list
 --     cut-formula               it is furthest: the support is the value of the first corner plus the cut sum; `cut-path` for a path
--- So the place of the cut depends on the direction alone, and not on the list that an edge stands in.
+-- So the place of the cut depends on the direction alone, and not on the list that an edge is in.
 use mathlib.Core.Path.{_≡_, refl, sym, _∙_, ap, subst}
 use mathlib.Core.Bool.{Bool, true, false, false≢true, true≢false}
 use mathlib.Core.List.{List, [], _∷_, List·Memᴰ·head, List·Memᴰ·tail, Memᴰ·cast}

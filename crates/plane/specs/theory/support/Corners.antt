@@ -140,7 +140,7 @@ segment-corner p q r h (List·Memᴰ·head e) = rw e (pair-corner (p ⊖ q) p q 
 segment-corner p q r h (List·Memᴰ·tail m) =
     rw (List·Memᴰ·eq-of-singleton m) (corner-same (swapped q p) (swapped p q) (pair-corner (q ⊖ p) q p (segment-rises p q h)))
 
--- ---- a polygon, turned so that the corner stands first
+-- ---- a polygon, turned so that the corner is first
 
 -- the last of a list whose pairs are related: every other is related to it
 record Last (R : Point → Point → Type 0) (ps : List Point) : Type 0 where
@@ -221,7 +221,7 @@ to-first z ps q m = go (List·Memᴰ·append-cases ps m)
     go (inl n) = List·Memᴰ·tail n
     go (inr n) = List·Memᴰ·head (List·Memᴰ·eq-of-singleton n)
 
--- the corner is in the part in front; what stands before it goes to the back, one by one
+-- the corner is in the part in front; what is before it goes to the back, one by one
 polygon-corner : {b : Point} {zs : List Point} (xs : List Point) → b ∈ zs → Triples (zs ++ xs) → 2 < length (zs ++ xs)
     → Corner (zs ++ xs) b
 polygon-corner xs (List·Memᴰ·head {x = z} {xs = zs} e) t n = rw e (polygon-first z (zs ++ xs) t n)

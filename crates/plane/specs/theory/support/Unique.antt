@@ -55,7 +55,7 @@ pub ordered-some : (A : List Point) → Ordered A → 0 < length A
 ordered-some [] o = absurd o
 ordered-some (a ∷ A) o = omega arith
 
--- both start at the point that precedes all others; about it the rest stand in the order of their turns
+-- both start at the point that precedes all others; about it the rest are in the order of their turns
 pub ordered-same : (A B : List Point) → Ordered A → Ordered B → A ⊆ B → B ⊆ A → A ≡ B
 ordered-same [] B o k f g = absurd o
 ordered-same (a ∷ A) [] o k f g = absurd k

@@ -1,4 +1,4 @@
--- `write_from` meets its contract. The invariant: k corners of the answer stand in the output, and the next comes from k places after
+-- `write_from` meets its contract. The invariant: k corners of the answer are in the output, and the next comes from k places after
 -- the start; the measure is what is left.
 use mathlib.Core.Path.{_≡_, sym, _∙_, ap, ap₂, subst}
 use mathlib.Core.List.{List}
@@ -39,7 +39,7 @@ length-kept c =
     let n = c .before .count .ensures in
     filled-length (c .loop .inv .0) (omega (arith, n, two-each start, c .loop .inv .2)) (omega (arith, n, start .pre .2, c .loop .inv .2))
 
--- what stands in the loop, said of the corners
+-- what the loop knows, said of the corners
 below : (c : tie.In-loop Inv-loop μ-loop) → c .before .loop .k < length (points (c .before .before .before .args .list .now))
 below c = omega (arith, c .before .before .count .ensures)
 

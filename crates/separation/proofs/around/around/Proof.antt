@@ -17,20 +17,20 @@ use Rattle.separation.proofs.around.around.Tie as tie
 
 inner : (c : tie.Else1) → let D = vectorSum (points (c .before .before .args .a .now)) (points (image (c .before .before .args .b .now))) in
     some (rightOf D) (length D) ≡ false
-inner c = sym (c .before .pass .ensures .outside-is) ∙ c .if1 .left
+inner c = sym (c .before .pass .ensures .0 .outside-is) ∙ c .if1 .left
 
 few : (c : tie.Then2) → let start = c .before .before .before .before in
     ltb (length (vectorSum (points (start .args .a .now)) (points (image (start .args .b .now))))) 3 ≡ true
 few c =
     let at-pass = c .before .before .before in
-    ap (λ (n : ℕ). ltb n 3) (sym (at-pass .pass .ensures .count-is (c .before .before .if1 .left)))
+    ap (λ (n : ℕ). ltb n 3) (sym (at-pass .pass .ensures .0 .count-is (c .before .before .if1 .left)))
     ∙ lt-ltb (at-pass .pass .result .count) 3 (c .if2 .taken)
 
 many : (c : tie.Else2) → let start = c .before .before .before .before in
     ltb (length (vectorSum (points (start .args .a .now)) (points (image (start .args .b .now))))) 3 ≡ false
 many c =
     let at-pass = c .before .before .before in
-    ap (λ (n : ℕ). ltb n 3) (sym (at-pass .pass .ensures .count-is (c .before .before .if1 .left)))
+    ap (λ (n : ℕ). ltb n 3) (sym (at-pass .pass .ensures .0 .count-is (c .before .before .if1 .left)))
     ∙ le-ltb (at-pass .pass .result .count) 3 (c .if2 .left)
 
 -- ---- the needs
@@ -40,7 +40,7 @@ pass-requires c κs = c .pre
 
 returns : tie.Need-returns
 unfolding originIn
-returns c = rw (sym (c .before .pass .ensures .outside-is) ∙ c .if1 .taken)
+returns c = rw (sym (c .before .pass .ensures .0 .outside-is) ∙ c .if1 .taken)
 
 is-on-requires : tie.Need-is-on-requires
 is-on-requires c κs = c .before .before .before .before .pre
@@ -62,7 +62,7 @@ returns-4 c =
     rw (
       inner (at-else .before .before),
       many at-else,
-      sym (at-else .before .before .before .pass .ensures .rim-is (at-else .before .before .if1 .left)) ∙ c .if4 .taken,
+      sym (at-else .before .before .before .pass .ensures .0 .rim-is (at-else .before .before .if1 .left)) ∙ c .if4 .taken,
     )
 
 returns-5 : tie.Need-returns-5
@@ -72,7 +72,7 @@ returns-5 c =
     rw (
       inner (at-else .before .before),
       many at-else,
-      sym (at-else .before .before .before .pass .ensures .rim-is (at-else .before .before .if1 .left)) ∙ c .if4 .left,
+      sym (at-else .before .before .before .pass .ensures .0 .rim-is (at-else .before .before .if1 .left)) ∙ c .if4 .left,
     )
 
 pub around-spec : {M : Type 1} → statement M

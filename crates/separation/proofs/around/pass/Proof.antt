@@ -1,8 +1,8 @@
--- `pass` meets its contract. The invariant: so many edges are passed and none has the origin to its right, and the walk with these two
+-- `pass` meets its contract. The invariant: `count` edges are passed and none has the origin to its right, and the walk with these two
 -- sides is as far and not over; the measure: what is left.
 use mathlib.Core.Path.{_≡_, refl, sym, _∙_, ap₂, subst}
 use mathlib.Core.Bool.{Bool, false, cond}
-use Prim.Native.Nat.{_+_, _-_}
+use Prim.Native.Nat.{ℕ, _+_, _-_, _^_, _<_}
 use native.Mathlib.Omega.{arith}
 use lib.Dec.{ltb}
 use lib.ListN.{length}
@@ -19,14 +19,12 @@ use Rattle.polygon.specs.Point.{at}
 use Rattle.polygon.specs.theory.Small.{small-wide}
 use Rattle.calipers.specs.Image.{image}
 use Rattle.calipers.specs.Side.{Carried, walkOf}
-use Rattle.calipers.specs.Walk.{here, begun, finished, advanced, At}
-use Rattle.calipers.specs.theory.Carry.{all-passed, some-left, sides-walk, sides-here, sides-advanced, sides-at}
+use Rattle.calipers.specs.Walk.{here, finished, advanced, At}
+use Rattle.calipers.specs.theory.Carry.{all-passed, some-left, sides-here, sides-advanced, sides-at}
 use Rattle.calipers.specs.theory.Carry.{here-near, first-next, corners-fit, edges-fit}
 use Rattle.calipers.specs.theory.Image.{image-count}
-use Rattle.separation.specs.theory.Image.{image-begun}
+use Rattle.separation.specs.Passing.{Passing}
 use Rattle.separation.proofs.Passing.{
-  Passing,
-  passing-start,
   passing-at,
   passing-below,
   passing-count,
@@ -44,36 +42,52 @@ Inv-loop a b top s₀ t₀ all count₀ rim₀ s t count rim =
 abbrev μ-loop : tie.MeasureT-loop
 μ-loop a b top s₀ t₀ all count₀ rim₀ s t count rim = length (vectorSum (points a) (points (image b))) - count
 
-side-at-requires : tie.Need-side-at-requires Inv-loop μ-loop
-side-at-requires c κs = (omega arith, c .pre .0 .inRange, c .pre .0 .shape .some)
+stride-requires : tie.Need-stride-requires Inv-loop μ-loop
+stride-requires c κs = c .pre
 
-side-at-requires-2 : tie.Need-side-at-requires-2 Inv-loop μ-loop
-side-at-requires-2 c κs = let pre = c .before .pre in (pre .1, pre .2, omega arith)
+-- the places after the stride, and at the beginning
+abbrev after-stride : tie.After-struct-known5 Inv-loop μ-loop → tie.After-stride Inv-loop μ-loop
+after-stride c = c .before .before .before .before .before .before .before
+
+abbrev start : tie.After-struct-known5 Inv-loop μ-loop → tie.Start Inv-loop μ-loop
+start c = after-stride c .before
 
 -- all edges of both
-all : (c : tie.After-struct-known2 Inv-loop μ-loop) → let second = c .before .before in
-    let args = second .before .before .args in
-    second .before .side-at .result .end + second .side-at2 .result .end
+all : (c : tie.After-stride Inv-loop μ-loop) → let args = c .before .args in
+    c .stride .result .s .end + c .stride .result .t .end
     ≡ length (edges (points (args .a .now))) + length (edges (points (image (args .b .now))))
-all c = let second = c .before .before in omega (arith, second .before .side-at .ensures .1 .end-is, second .side-at2 .ensures .1 .end-is)
+all c = omega (arith, c .stride .ensures .first-side .end-is, c .stride .ensures .second-side .end-is)
+
+-- their count fits
+fits : (c : tie.Start Inv-loop μ-loop) → let args = c .args in
+    length (edges (points (args .a .now))) + length (edges (points (image (args .b .now)))) < 2 ^ 63
+fits c =
+    let few = edges-at-most (points (c .args .a .now)) in
+    let too = edges-at-most (points (image (c .args .b .now))) in
+    let count = image-count (c .args .b .now) (c .pre .1) in
+    omega (arith, points-length (c .args .a .now), points-length (c .args .b .now), c .good .0, c .good .1 .0)
 
 add-all : tie.Need-add-all Inv-loop μ-loop
-add-all c =
-    let start = c .before .before .before .before in
-    let few = edges-at-most (points (start .args .a .now)) in
-    let too = edges-at-most (points (image (start .args .b .now))) in
-    let count = image-count (start .args .b .now) (start .pre .1) in
-    omega (arith, all c, points-length (start .args .a .now), points-length (start .args .b .now))
+add-all c = let at-stride = c .before .before .before .before in omega (arith, all at-stride, fits (at-stride .before))
+
+add-count : tie.Need-add-count Inv-loop μ-loop
+add-count c =
+    let at-stride = c .before .before .before .before .before .before in
+    let p = at-stride .stride .ensures in
+    omega (arith, p .first-side .at-in, p .second-side .at-in, fits (at-stride .before))
+
+sub-count : tie.Need-sub-count Inv-loop μ-loop
+sub-count c = omega (arith, after-stride c .stride .ensures .counted)
 
 loop-holds : tie.Need-loop-holds Inv-loop μ-loop
 loop-holds c =
-    let second = c .before .before in
-    let first = second .before in (
-      passing-start (image-begun _ _ (first .before .pre .0) (first .before .pre .1))
-          (sides-walk begun (first .side-at .result) (second .side-at2 .result) (first .side-at .ensures .0)
-          (second .side-at2 .ensures .0)),
-      first .side-at .ensures .1,
-      second .side-at2 .ensures .1,
+    let args = start c .args in
+    let r = after-stride c .stride .result in
+    let p = after-stride c .stride .ensures in
+    let count : p .count ≡ r .s .at + r .t .at - r .joined = omega (arith, p .counted) in (
+      subst (λ (k : ℕ). Passing (args .a .now) (image (args .b .now)) (walkOf (r .s) (r .t) false) k false) count (p .passing),
+      p .first-side,
+      p .second-side,
     )
 
 order-requires : tie.Need-order-requires Inv-loop μ-loop
@@ -85,7 +99,7 @@ next-requires c κs = let inv = c .before .before .loop .inv in first-next (pass
 next-requires-2 : tie.Need-next-requires-2 Inv-loop μ-loop
 next-requires-2 c κs =
     let at-loop = c .before .before .before in
-    let pre = at-loop .before .before .before .before .before .pre in
+    let pre = start (at-loop .before) .pre in
     (pre .1, pre .2, at-loop .loop .inv .2)
 
 here-requires : tie.Need-here-requires Inv-loop μ-loop
@@ -93,7 +107,7 @@ here-requires c κs = let inv = c .loop .inv in corners-fit (passing-at (inv .0)
 
 -- the walk after the step
 steps : (c : tie.After-next2 Inv-loop μ-loop) (end : Bool) → let at-loop = c .before .before .before .before in
-    let args = at-loop .before .before .before .before .before .args in
+    let args = start (at-loop .before) .args in
     At (args .a .now) (image (args .b .now)) (walkOf (c .before .next .result) (c .next2 .result) end)
 steps c end =
     let at-order = c .before .before in
@@ -102,7 +116,7 @@ steps c end =
     (c .before .next .result) (c .next2 .result) (c .before .next .ensures .0) (c .next2 .ensures .0)
 
 advances : (c : tie.After-next2 Inv-loop μ-loop) → let at-loop = c .before .before .before .before in
-    let args = at-loop .before .before .before .before .before .args in
+    let args = start (at-loop .before) .args in
     let m = c .before .next .result in
     let n = c .next2 .result in
     walkOf m n (finished (points (args .a .now)) (m .at) (points (image (args .b .now))) (n .at))
@@ -117,16 +131,16 @@ here-requires-2 : tie.Need-here-requires-2 Inv-loop μ-loop
 here-requires-2 c κs =
     corners-fit (steps c false) (c .before .next .ensures .1) (c .next2 .ensures .1)
 
--- where it stands before and after the step
+-- where it is before and after the step
 leaves : (c : tie.After-here2 Inv-loop μ-loop) → let at-loop = c .before .before .before .before .before in
-    let args = at-loop .before .before .before .before .before .args in
+    let args = start (at-loop .before) .args in
     at (c .before .before .before .before .here .result)
     ≡ here (points (args .a .now)) (points (image (args .b .now))) (walkOf (at-loop .loop .s) (at-loop .loop .t) false)
 leaves c = let inv = c .before .before .before .before .before .loop .inv in
     c .before .before .before .before .here .ensures ∙ sides-here (passing-at (inv .0)) (inv .1) (inv .2)
 
 arrives : (c : tie.After-here2 Inv-loop μ-loop) (end : Bool) → let at-next = c .before in
-    let args = at-next .before .before .before .before .before .before .before .before .before .args in
+    let args = start (at-next .before .before .before .before .before) .args in
     at (c .here2 .result)
     ≡ here (points (args .a .now)) (points (image (args .b .now))) (walkOf (at-next .before .next .result) (at-next .next2 .result) end)
 arrives c end = let at-next = c .before in
@@ -150,13 +164,16 @@ returns c =
     let at-cross = c .before .before in
     let at-here = at-cross .before in
     let at-next = at-here .before in
-    let inv = at-next .before .before .before .before .loop .inv in
-    passing-out (inv .0) refl (advances at-next)
-    (result-is w64 (at-cross .cross .ok) (at-cross .cross .ensures ∙ ap₂ cross (leaves at-here) (arrives at-here _)))
-    (c .before .if1 .taken) (c .passed-normal .result)
-    (c .passed-normal .ensures ∙ ap₂ (cond (ltb (at-next .before .before .before .before .loop .s .at) (at-next .before .next .result .at)))
-    (ap₂ outward (inv .1 .corner-is) (at-next .before .next .ensures .1 .corner-is))
-    (ap₂ outward (inv .2 .corner-is) (at-next .next2 .ensures .1 .corner-is)))
+    let at-loop = at-next .before .before .before .before in
+    let inv = at-loop .loop .inv in (
+      passing-out (inv .0) refl (advances at-next)
+          (result-is w64 (at-cross .cross .ok) (at-cross .cross .ensures ∙ ap₂ cross (leaves at-here) (arrives at-here _)))
+          (c .before .if1 .taken) (c .passed-normal .result)
+          (c .passed-normal .ensures ∙ ap₂ (cond (ltb (at-loop .loop .s .at) (at-next .before .next .result .at)))
+          (ap₂ outward (inv .1 .corner-is) (at-next .before .next .ensures .1 .corner-is))
+          (ap₂ outward (inv .2 .corner-is) (at-next .next2 .ensures .1 .corner-is))) _ _,
+      record { count = at-loop .loop .count; below = passing-below (inv .0) refl; moved = inv .0 .moved },
+    )
 
 either-requires : tie.Need-either-requires Inv-loop μ-loop
 either-requires c κs = tt
@@ -164,7 +181,7 @@ either-requires c κs = tt
 -- one edge more is passed
 more : (c : tie.After-either Inv-loop μ-loop) → let at-next = c .before .before .before .before in
     let at-loop = at-next .before .before .before .before in
-    let args = at-loop .before .before .before .before .before .args in
+    let args = start (at-loop .before) .args in
     let m = at-next .before .next .result in
     let n = at-next .next2 .result in
     Passing (args .a .now) (image (args .b .now))
@@ -179,32 +196,30 @@ more c =
     (result-is w64 (at-cross .cross .ok) (at-cross .cross .ensures ∙ ap₂ cross (leaves at-here) (arrives at-here _)))
     (c .before .if1 .left) (c .either .ensures)
 
-add-count : tie.Need-add-count Inv-loop μ-loop
-add-count c =
+add-count-2 : tie.Need-add-count-2 Inv-loop μ-loop
+add-count-2 c =
     let at-loop = c .before .before .before .before .before .before .before .before in
-    let start = at-loop .before .before .before .before .before in
+    let begin = start (at-loop .before) in
     let fewer = passing-count (at-loop .loop .inv .0) refl in
-    let count = image-count (start .args .b .now) (start .pre .1) in
-    omega (arith, points-length (start .args .a .now), points-length (start .args .b .now))
+    let count = image-count (begin .args .b .now) (begin .pre .1) in
+    omega (arith, points-length (begin .args .a .now), points-length (begin .args .b .now))
 
 add-if2 : tie.Need-add-if2 Inv-loop μ-loop
 add-if2 c =
     let at-next = c .before .before .before .before .before .before in
-    let start = at-next .before .before .before .before .before .before .before .before .before in
     let first = at-next .before .next .ensures .1 .at-in in
     let second = at-next .next2 .ensures .1 .at-in in
-    let few = edges-at-most (points (start .args .a .now)) in
-    let too = edges-at-most (points (image (start .args .b .now))) in
-    let count = image-count (start .args .b .now) (start .pre .1) in
-    omega (arith, points-length (start .args .a .now), points-length (start .args .b .now))
+    omega (arith, fits (start (at-next .before .before .before .before .before)))
 
 returns-2 : tie.Need-returns-2 Inv-loop μ-loop
 returns-2 c =
     let at-either = c .before .before .before in
     let at-next = at-either .before .before .before .before in
-    let at-loop = at-next .before .before .before .before in
-    passing-end (more at-either) (all-passed _ _ _ _ (at-next .before .next .ensures .1 .at-in) (at-next .next2 .ensures .1 .at-in)
-    (c .if2 .taken ∙ all (at-loop .before))) _
+    let at-loop = at-next .before .before .before .before in (
+      passing-end (more at-either) (all-passed _ _ _ _ (at-next .before .next .ensures .1 .at-in) (at-next .next2 .ensures .1 .at-in)
+          (c .if2 .taken ∙ all (after-stride (at-loop .before)))) _ _ _,
+      record { count = 0; below = omega (arith, passing-below (at-loop .loop .inv .0) refl); moved = refl },
+    )
 
 loop-less : tie.Need-loop-less Inv-loop μ-loop
 loop-less c =
@@ -216,9 +231,9 @@ loop-again c =
     let at-either = c .before .before .before in
     let at-next = at-either .before .before .before .before in
     let at-loop = at-next .before .before .before .before in
-    let args = at-loop .before .before .before .before .before .args in
+    let args = start (at-loop .before) .args in
     let on = some-left _ _ (at-next .before .next .result .at) (at-next .next2 .result .at)
-    (λ e. c .if2 .left (e ∙ sym (all (at-loop .before)))) in (
+    (λ e. c .if2 .left (e ∙ sym (all (after-stride (at-loop .before))))) in (
       subst (λ (o : Bool). Passing (args .a .now) (image (args .b .now)) (walkOf (at-next .before .next .result) (at-next .next2 .result) o)
           (at-loop .loop .count + 1) (at-either .either .result)) on (more at-either),
       at-next .before .next .ensures .1,
@@ -228,6 +243,6 @@ loop-again c =
 pub pass-spec : {M : Type 1} → statement M
 pass-spec =
     tie.close
-    (tie.spec Inv-loop μ-loop side-at-requires side-at-requires-2 add-all loop-holds here-requires order-requires next-requires
-    next-requires-2 here-requires-2 cross-requires passed-normal-requires returns either-requires add-count add-if2 returns-2 loop-less
+    (tie.spec Inv-loop μ-loop stride-requires add-all add-count sub-count loop-holds here-requires order-requires next-requires
+    next-requires-2 here-requires-2 cross-requires passed-normal-requires returns either-requires add-count-2 add-if2 returns-2 loop-less
     loop-again)

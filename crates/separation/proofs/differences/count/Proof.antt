@@ -1,4 +1,4 @@
--- `count` meets its contract. The invariant: a walk under way, so many corners on; the measure is what is left.
+-- `count` meets its contract. The invariant: a walk under way, `count` corners on; the measure is what is left.
 use mathlib.Core.Path.{_≡_, sym, _∙_, ap}
 use mathlib.Core.List.{List}
 use Prim.Native.Nat.{ℕ, _+_, _-_, _<_}

@@ -1,4 +1,4 @@
--- `write` meets its contract. The invariant: if so many corners were written when the loop began, now these are, and the walk with these
+-- `write` meets its contract. The invariant: if `count` corners were written when the loop began, now these are, and the walk with these
 -- two sides is as far and not over; the measure is what is left to write.
 use mathlib.Core.Path.{_≡_, refl, sym, _∙_, ap}
 use mathlib.Core.Bool.{true}

@@ -1,4 +1,4 @@
--- `count_on` meets its contract. The invariant: the walk with these two sides went on by so many corners, is not over, and may go on; the
+-- `count_on` meets its contract. The invariant: the walk with these two sides went on by `count` corners, is not over, and may go on; the
 -- measure is what is left to count.
 use mathlib.Core.Path.{_≡_, sym, _∙_}
 use mathlib.Core.Bool.{false}

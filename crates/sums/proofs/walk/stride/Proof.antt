@@ -1,4 +1,4 @@
--- `stride` meets its contract. The invariant: so many corners are written, and the walk with these two sides is as far, not over, and may
+-- `stride` meets its contract. The invariant: `count` corners are written, and the walk with these two sides is as far, not over, and may
 -- write more; the measure is what is left to write.
 use mathlib.Core.Bool.{false}
 use Prim.Native.Nat.{_+_, _-_, _<_}

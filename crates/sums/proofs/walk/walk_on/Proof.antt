@@ -1,4 +1,4 @@
--- `walk_on` meets its contract. The invariant: if so many corners were written when the loop began, now these are, and the walk with these
+-- `walk_on` meets its contract. The invariant: if `count` corners were written when the loop began, now these are, and the walk with these
 -- two sides is as far, not over, and may write more; the measure is what is left to write.
 use mathlib.Core.Path.{_≡_, refl, sym, _∙_, subst}
 use mathlib.Core.Bool.{false}

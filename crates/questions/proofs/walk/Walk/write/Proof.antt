@@ -28,7 +28,7 @@ one c = on (c .args .a .now) (c .args .f)
 abbrev other : tie.Start → Floored
 other c = on (c .args .b .now) (c .args .g)
 
--- the walk is not over: it stands at a place
+-- the walk is not over: it is at a place
 standing : (c : tie.Else1) → let args = c .before .args in
     At (args .a .now) (args .b .now) (state (args .self .first) (args .self .second) false)
 standing c =

@@ -1,0 +1,143 @@
+-- Which edge has the least box, found by keeping the first of the least so far.
+--     noLarger-le, larger-lt                    the test as a fact; noLarger-fractions: on numbers of ℕ, as in code
+--     Leading ps k e                            of the edges below k, e is the first with the least box
+--     leading-start, -keep, -replace, -done     the moves of the search
+--     box-leading                               of all edges it is `boxEdge`
+--     fraction-trans                            s/p ≤ t/q and t/q ≤ u/r give s/p ≤ u/r
+use mathlib.Core.Path.{_≡_, refl, sym, subst}
+use mathlib.Core.Bool.{Bool, true, false, not}
+use mathlib.Core.List.{List, [], _∷_}
+use Prim.Native.Nat.{ℕ, zero, suc, pred, _*_, _<_}
+use native.Mathlib.Omega.{arith}
+use borrow.Author.Tests.{eqb-true, eqb-false, le-leb, lt-leb, ltb-true, ltb-false}
+use lib.Dec.{eqb, leb, ltb}
+use lib.IntN.{ℤ, pos, _*ℤ_}
+use lib.ListN.{length}
+use lib.Signed.{_≤ℤ_, _<ℤ_, ≤ℤ-refl}
+use Rattle.integer.specs.Linear.{lia, linear, _&_}
+use Rattle.integer.specs.Order.{_<×<_, _≤×<_, contra≤, weaken, leZ-true, leZ-false, le-leZ}
+use Rattle.plane.specs.Point.{Point}
+use Rattle.plane.specs.Search.{every}
+use Rattle.plane.specs.Shape.{IsShape}
+use Rattle.plane.specs.Measure.{edgeSquared}
+use Rattle.plane.specs.theory.lists.Sought.{first-unique, all-every, not-every, true-not-false}
+use Rattle.measure.specs.theory.Height.{edgeSquared-positive}
+use Rattle.boxes.specs.Box.{halfRound, noLarger, boxEdge}
+
+-- bring all to the denominator p·q·r
+pub fraction-trans : (s t u p q r : ℤ) → pos 0 <ℤ p → pos 0 <ℤ q → pos 0 <ℤ r → (s *ℤ q) ≤ℤ (t *ℤ p) → (t *ℤ r) ≤ℤ (u *ℤ q)
+    → (s *ℤ r) ≤ℤ (u *ℤ p)
+fraction-trans s t u p q r hp hq hr a b = contra≤ (λ g.
+    lia (s ∷ t ∷ u ∷ p ∷ q ∷ r ∷ []) (a ≤×< hr & b ≤×< hp & g <×< hq) (search linear depth 40) (omega arith))
+
+-- what is for edge e in its comparison with f
+abbrev size : List Point → ℕ → ℕ → ℤ
+size ps e f = halfRound ps e *ℤ halfRound ps e *ℤ edgeSquared ps f
+
+pub noLarger-le : (ps : List Point) (e f : ℕ) → noLarger ps e f ≡ true → size ps e f ≤ℤ size ps f e
+unfolding noLarger
+noLarger-le ps e f h = leZ-true h
+
+pub larger-lt : (ps : List Point) (e f : ℕ) → noLarger ps e f ≡ false → size ps f e <ℤ size ps e f
+unfolding noLarger
+larger-lt ps e f h = leZ-false h
+
+noLarger-refl : (ps : List Point) (e : ℕ) → noLarger ps e e ≡ true
+unfolding noLarger
+noLarger-refl ps e = le-leZ (≤ℤ-refl (size ps e e))
+
+larger-noLarger : (ps : List Point) (e f : ℕ) → noLarger ps e f ≡ false → noLarger ps f e ≡ true
+unfolding noLarger
+larger-noLarger ps e f h = le-leZ (weaken (leZ-false {x = size ps e f} {y = size ps f e} h))
+
+-- the test as it is made on numbers of ℕ: edge f has a smaller box than e
+pub noLarger-fractions : (ps : List Point) (e f : ℕ) {t q u r : ℕ} → halfRound ps e ≡ pos t → edgeSquared ps e ≡ pos q
+    → halfRound ps f ≡ pos u → edgeSquared ps f ≡ pos r → noLarger ps e f ≡ not (ltb (u * u * q) (t * t * r))
+unfolding noLarger
+noLarger-fractions ps e f {t} {q} {u} {r} h i k l = rw (h, i, k, l) (go (ltb (u * u * q) (t * t * r)) refl)
+  where
+    go : (b : Bool) → ltb (u * u * q) (t * t * r) ≡ b → leb (t * t * r) (u * u * q) ≡ not b
+    go true p = lt-leb (t * t * r) (u * u * q) (ltb-true (u * u * q) (t * t * r) p)
+    go false p = le-leb (t * t * r) (u * u * q) (ltb-false (u * u * q) (t * t * r) p)
+
+-- ---- the first of the least so far
+
+pub record Leading (ps : List Point) (k e : ℕ) : Type 0 where
+  pub among : e < k
+  pub least : (f : ℕ) → f < k → noLarger ps e f ≡ true
+  pub sole : (f : ℕ) → f < e → noLarger ps f e ≡ false
+
+-- what holds below k and at k holds below k + 1
+one-more : (k : ℕ) (P : ℕ → Type 0) → ((f : ℕ) → f < k → P f) → P k → (f : ℕ) → f < suc k → P f
+one-more k P below here f h = go (eqb f k) refl
+  where
+    go : (b : Bool) → eqb f k ≡ b → P f
+    go true e = subst P (sym (eqb-true f k e)) here
+    go false e = below f (omega (arith, eqb-false f k e))
+
+pub leading-start : (ps : List Point) → Leading ps 1 0
+leading-start ps = record {
+  among = omega arith;
+  least = one-more 0 (λ f. noLarger ps 0 f ≡ true) (λ f h. absurd (omega arith)) (noLarger-refl ps 0);
+  sole = λ f h. absurd (omega arith);
+}
+
+pub leading-keep : {ps : List Point} {k e : ℕ} → Leading ps k e → noLarger ps e k ≡ true → Leading ps (suc k) e
+leading-keep {ps} {k} {e} l test = record {
+  among = omega (arith, l .among);
+  least = one-more k (λ f. noLarger ps e f ≡ true) (l .least) test;
+  sole = l .sole;
+}
+
+module _ (ps : List Point) (s : IsShape ps) (three : 2 < length ps) where
+  noLarger-trans : (e f g : ℕ) → e < length ps → f < length ps → g < length ps
+      → noLarger ps e f ≡ true → noLarger ps f g ≡ true → noLarger ps e g ≡ true
+  unfolding noLarger
+  noLarger-trans e f g he hf hg a b = le-leZ (fraction-trans (t e) (t f) (t g) (edgeSquared ps e) (edgeSquared ps f) (edgeSquared ps g)
+      (edgeSquared-positive ps s three e he) (edgeSquared-positive ps s three f hf) (edgeSquared-positive ps s three g hg)
+      (leZ-true {x = size ps e f} {y = size ps f e} a) (leZ-true {x = size ps f g} {y = size ps g f} b))
+    where
+      t : ℕ → ℤ
+      t e = halfRound ps e *ℤ halfRound ps e
+
+  -- k is smaller than e, which is no larger than any before k: so k is smaller than all of them
+  pub leading-replace : {k e : ℕ} → k < length ps → Leading ps k e → noLarger ps e k ≡ false → Leading ps (suc k) k
+  leading-replace {k} {e} h l test = record {
+    among = omega arith;
+    least = one-more k (λ f. noLarger ps k f ≡ true)
+        (λ f below. noLarger-trans k e f h e-in (omega arith) (larger-noLarger ps e k test) (l .least f below)) (noLarger-refl ps k);
+    sole = λ f below. go f below (noLarger ps f k) refl;
+  }
+    where
+      e-in : e < length ps
+      e-in = omega (arith, l .among)
+
+      go : (f : ℕ) → f < k → (b : Bool) → noLarger ps f k ≡ b → b ≡ false
+      go f below false q = refl
+      go f below true q = true-not-false (noLarger-trans e f k e-in (omega arith) h (l .least f below) q) test
+
+  leading-of : (k : ℕ) → k < length ps → (e : ℕ) × Leading ps (suc k) e
+  leading-of zero h = (0, leading-start ps)
+  leading-of (suc k) h = go (leading-of k (omega arith))
+    where
+      go : (e : ℕ) × Leading ps (suc k) e → (e : ℕ) × Leading ps (suc (suc k)) e
+      go (e, l) = keep (noLarger ps e (suc k)) refl
+        where
+          keep : (b : Bool) → noLarger ps e (suc k) ≡ b → (e : ℕ) × Leading ps (suc (suc k)) e
+          keep true q = (e, leading-keep l q)
+          keep false q = (suc k, leading-replace h l q)
+
+pub leading-done : {ps : List Point} {e : ℕ} → Leading ps (length ps) e → boxEdge ps ≡ e
+unfolding boxEdge
+leading-done {ps} {e} l = first-unique (λ k. every (noLarger ps k) (length ps)) (length ps) e
+    (omega (arith, l .among)) (λ h. all-every (noLarger ps e) (length ps) (l .least))
+    (λ k h. not-every (noLarger ps k) (length ps) e (l .among) (l .sole k h))
+
+pub box-leading : (ps : List Point) → IsShape ps → 2 < length ps → Leading ps (length ps) (boxEdge ps)
+box-leading ps s three = go (leading-of ps s three (pred (length ps)) (omega arith))
+  where
+    all : suc (pred (length ps)) ≡ length ps
+    all = omega arith
+
+    go : (e : ℕ) × Leading ps (suc (pred (length ps))) e → Leading ps (length ps) (boxEdge ps)
+    go (e, l) = let last = subst (λ k. Leading ps k e) all l in subst (Leading ps (length ps)) (sym (leading-done last)) last

@@ -1,0 +1,91 @@
+-- `trace` meets its contract: the different neighbours from the least on, then the corners among them.
+use mathlib.Core.Path.{sym, _∙_, ap, subst}
+use mathlib.Core.List.{List}
+use Prim.Native.Nat.{ℕ, _≤_, _<_}
+use native.Mathlib.Omega.{arith}
+use borrow.Author.Needs.{needs}
+use lib.ListN.{length}
+use Rattle.plane.specs.Point.{Point, points, corner}
+use Rattle.ring.specs.Round.{distinct, sensed, bends}
+use Rattle.ring.specs.Ring.{ringPlaces}
+use Rattle.ring.specs.Places.{Placed, Held}
+use Rattle.ring.specs.theory.Steps.{opened-le, opened-some, least-below}
+use Rattle.ring.specs.theory.Under.{under-at, places-under, places-some, places-few, places-are, corners-are}
+use Rattle.ring.proofs.trace.Statement.{statement}
+use Rattle.ring.proofs.trace.Tie as tie
+
+open-count-requires : tie.Need-open-count-requires
+open-count-requires c κs = search needs
+
+-- the positions that were found
+module _ (c : tie.After-distinct) where
+  abbrev begin : tie.Start
+  begin = c .before .before .before .before .before .before
+
+  abbrev ps : List Point
+  ps = points (begin .args .list .now)
+
+  found : Held (ringPlaces ps) (c .distinct .result) (c .distinct .last .1 .1 .1 .0)
+  found =
+      let n = c .before .before .before .open-count .result in
+      let s = c .before .before .least .result in
+      subst (λ (xs : List ℕ). Held xs (c .distinct .result) (c .distinct .last .1 .1 .1 .0))
+      (places-are ps n s (c .before .before .before .open-count .ensures) (c .before .before .least .ensures)) (c .distinct .ensures)
+
+least-requires : tie.Need-least-requires
+least-requires c κs = omega (arith, c .open-count .ensures, opened-le (λ p. p) (points (c .before .before .before .args .list .now)))
+
+distinct-requires : tie.Need-distinct-requires
+distinct-requires c κs =
+    let at-count = c .before .before in
+    let start = at-count .before .before .before in
+    let ps = points (start .args .list .now) in
+    let n = at-count .open-count .ensures in (
+      omega (arith, n, opened-le (λ p. p) ps),
+      subst (λ (k : ℕ). k < at-count .open-count .result) (sym (c .before .least .ensures))
+          (least-below (corner ps) (at-count .open-count .result) (omega (arith, n, opened-some (λ p. p) ps (start .pre .1)))),
+      omega (arith, n, start .pre .2),
+    )
+
+slice-reshare-prefix-corners : tie.Need-slice-reshare-prefix-corners
+slice-reshare-prefix-corners c = search needs
+
+slice-aggregate-corners : tie.Need-slice-aggregate-corners
+slice-aggregate-corners c =
+    let at = c .before .before .before in
+    found at .counted ∙ ap length (sym (found at .front))
+
+corners-requires : tie.Need-corners-requires
+corners-requires c κs =
+    let at = c .before .before .before .before in
+    let start = begin at in
+    let ps = points (start .args .list .now) in
+    let front = sym (found at .front) in (
+      subst (Placed (start .args .list .now)) front
+          (record { near = start .pre .0; below = λ j h. under-at (length ps) (ringPlaces ps) (places-under ps (start .pre .1)) j h }),
+      subst (λ (xs : List ℕ). 0 < length xs) front (places-some ps (start .pre .1)),
+      subst (λ (xs : List ℕ). length xs ≤ length (start .args .bent .now)) front
+          (omega (arith, places-few ps (start .pre .1), start .pre .3)),
+    )
+
+same-length : tie.Need-same-length
+same-length c = search needs
+
+same-length-2 : tie.Need-same-length-2
+same-length-2 c = search needs
+
+returns : tie.Need-returns
+returns c =
+    let at-corners = c .before .before in
+    let at = at-corners .before .before .before .before .before in
+    let ps = points (begin at .args .list .now) in
+    let f = corner ps in
+    subst (λ (xs : List ℕ). Held xs (at-corners .corners .result) (at-corners .corners .last .1 .1 .0)) (corners-are ps)
+    (subst (λ (xs : List ℕ). Held (bends f (sensed f xs)) (at-corners .corners .result) (at-corners .corners .last .1 .1 .0))
+    (found at .front) (at-corners .corners .ensures))
+
+pub trace-spec : {M : Type 1} → statement M
+trace-spec =
+    tie.close
+    (tie.spec open-count-requires least-requires distinct-requires slice-reshare-prefix-corners slice-aggregate-corners
+    corners-requires same-length same-length-2 returns)
