@@ -42,9 +42,6 @@ returns c = never-told _ _ _ (c .before .is-beyond .ensures (c .if1 .taken))
 top-requires : tie.Need-top-requires
 top-requires c κs = c .before .before .pre .1 .shape .some
 
-slice-aggregate-write : tie.Need-slice-aggregate-write
-slice-aggregate-write c = search needs
-
 write-requires : tie.Need-write-requires
 unfolding grown
 write-requires c κs =
@@ -76,14 +73,5 @@ returns-2 c =
 pub first-spec : {M : Type 1} → statement M
 first-spec =
     tie.close
-    (tie.spec
-    is-beyond-requires
-    returns
-    top-requires
-    slice-aggregate-write
-    write-requires
-    mul-grown
-    array-share-prefix-grown
-    slice-aggregate-first-of
-    first-of-requires
-    returns-2)
+    (tie.spec is-beyond-requires returns top-requires (λ c. search needs) write-requires mul-grown array-share-prefix-grown
+    slice-aggregate-first-of first-of-requires returns-2)

@@ -23,14 +23,8 @@ told : (N O : List Point) {t : Bool} → inside N O ≡ t
     → cond t (pos 0 ∷ []) (cornerNumbers N O (outermost N O) (nearest (corner N (outermost N O) ∷ []) O)) ≡ excessNumbers N O
 told N O e = ap (λ (t : Bool). cond t (pos 0 ∷ []) (cornerNumbers N O (outermost N O) (nearest (corner N (outermost N O) ∷ []) O))) (sym e)
 
-inside-requires : tie.Need-inside-requires
-inside-requires c κs = search needs
-
 returns : tie.Need-returns
 returns c = told _ _ (sym (c .before .inside .ensures) ∙ c .if1 .taken)
-
-outermost-requires : tie.Need-outermost-requires
-outermost-requires c κs = search needs
 
 corner-at-requires : tie.Need-corner-at-requires
 corner-at-requires c κs =
@@ -86,4 +80,4 @@ returns-2 c =
 pub beyond-spec : {M : Type 1} → statement M
 beyond-spec =
     tie.close
-    (tie.spec inside-requires returns outermost-requires corner-at-requires nearest-requires rounded-requires returns-2)
+    (tie.spec (λ c κs. search needs) returns (λ c κs. search needs) corner-at-requires nearest-requires rounded-requires returns-2)

@@ -5,15 +5,6 @@ use Rattle.neighbours.specs.Search.{isNearer, NearSized}
 use Rattle.neighbours.proofs.is_nearer.Statement.{statement}
 use Rattle.neighbours.proofs.is_nearer.Tie as tie
 
-enum-known-best : tie.Need-enum-known-best
-enum-known-best c = search needs
-
-enum-told : tie.Need-enum-told
-enum-told c = search needs
-
-returns : tie.Need-returns
-returns c = search needs
-
 is-less-requires : tie.Need-is-less-requires
 is-less-requires c κs =
     let start = c .before .before .before in
@@ -25,4 +16,4 @@ returns-2 c =
     c .is-less .ensures ∙ sym (ap (isNearer (at-best .before .before .args .spacing)) (at-best .best .given .1))
 
 pub is-nearer-spec : {M : Type 1} → statement M
-is-nearer-spec = tie.close (tie.spec enum-known-best enum-told returns is-less-requires returns-2)
+is-nearer-spec = tie.close (tie.spec (λ c. search needs) (λ c. search needs) (λ c. search needs) is-less-requires returns-2)

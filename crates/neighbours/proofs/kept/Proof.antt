@@ -16,16 +16,10 @@ kept-by : (now : Bool) (n : ℕ) (s : Spacing) (best : Near) {x y : Bool} → is
     → cond (x && y) (Near.Of n s) best ≡ keptOf now n s best
 kept-by now n s best h k = ap₂ (λ (x y : Bool). cond (x && y) (Near.Of n s) best) (sym h) (sym k)
 
-is-nearer-requires : tie.Need-is-nearer-requires
-is-nearer-requires c κs = search needs
-
 returns : tie.Need-returns
 returns c =
     let args = c .before .before .before .args in
     kept-by _ (args .name) (args .spacing) (args .best) (sym (c .before .is-nearer .ensures) ∙ not-true _ (c .if1 .taken)) refl
-
-is-current-requires : tie.Need-is-current-requires
-is-current-requires c κs = search needs
 
 returns-2 : tie.Need-returns-2
 returns-2 c =
@@ -42,5 +36,4 @@ returns-3 c =
     (sym (c .before .is-current .ensures) ∙ not-false _ (c .if2 .left))
 
 pub kept-spec : {M : Type 1} → statement M
-kept-spec =
-    tie.close (tie.spec is-nearer-requires returns is-current-requires returns-2 returns-3)
+kept-spec = tie.close (tie.spec (λ c κs. search needs) returns (λ c κs. search needs) returns-2 returns-3)

@@ -23,12 +23,6 @@ use Rattle.neighbours.specs.theory.Search.{here-numbers, count-fits, onw
 use Rattle.neighbours.proofs.look.Statement.{statement}
 use Rattle.neighbours.proofs.look.Tie as tie
 
-head-at-requires : tie.Need-head-at-requires
-head-at-requires c κs = search needs
-
-is-asked-requires : tie.Need-is-asked-requires
-is-asked-requires c κs = search needs
-
 returns : tie.Need-returns
 returns c =
     let at-head = c .before .before in
@@ -98,9 +92,6 @@ kept-requires c κs =
       pre .2,
     )
 
-same-length : tie.Need-same-length
-same-length c = search needs
-
 returns-2 : tie.Need-returns-2
 returns-2 c =
     let at-buffer = c .before .before .before in
@@ -119,14 +110,5 @@ returns-2 c =
 pub look-spec : {M : Type 1} → statement M
 look-spec =
     tie.close
-    (tie.spec
-    head-at-requires
-    is-asked-requires
-    returns
-    decode-requires
-    slice-reshare-prefix-between
-    slice-aggregate-between
-    between-requires
-    kept-requires
-    same-length
-    returns-2)
+    (tie.spec (λ c κs. search needs) (λ c κs. search needs) returns decode-requires slice-reshare-prefix-between slice-aggregate-between
+    between-requires kept-requires (λ c. search needs) returns-2)

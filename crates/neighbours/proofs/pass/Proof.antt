@@ -47,9 +47,6 @@ looked : (c : tie.After-look Inv-loop μ-loop) → let at-loop = c .before .befo
     Searched (points (args .list .now)) (args .floor) (args .but) b (nextAt b (at-loop .loop .p)) (c .look .result)
 looked c = let at-then = c .before .before in searched-next (at-then .before .before .loop .inv .0) (here at-then) (c .look .ensures .0)
 
-is-met-requires : tie.Need-is-met-requires Inv-loop μ-loop
-is-met-requires c κs = search needs
-
 same-length : tie.Need-same-length Inv-loop μ-loop
 same-length c =
     let at-look = c .before .before .before in
@@ -107,19 +104,5 @@ returns-2 c =
 pub pass-spec : {M : Type 1} → statement M
 pass-spec =
     tie.close
-    (tie.spec
-    Inv-loop
-    μ-loop
-    loop-holds
-    whole-at-requires
-    look-requires
-    is-met-requires
-    same-length
-    returns
-    pair-at-requires
-    add-p
-    add-p-2
-    loop-less
-    loop-again
-    same-length-2
-    returns-2)
+    (tie.spec Inv-loop μ-loop loop-holds whole-at-requires look-requires (λ c κs. search needs) same-length returns pair-at-requires add-p
+    add-p-2 loop-less loop-again same-length-2 returns-2)

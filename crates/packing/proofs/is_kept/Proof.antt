@@ -37,9 +37,6 @@ returns c =
     let later = held (name (recordAt b (args .p))) (records (drop (nextAt b (args .p)) b)) in
     sym (ap (λ (t : Bool). not t && not later) (eq-eqb _ (args .but) (name-read at-name ∙ c .if1 .taken)))
 
-is-current-requires : tie.Need-is-current-requires
-is-current-requires c κs = search needs
-
 returns-2 : tie.Need-returns-2
 unfolding isOther
 returns-2 c =
@@ -52,4 +49,4 @@ returns-2 c =
     ∙ sym (ap (λ (t : Bool). not t && not later) (ne-eqb _ (args .but) (λ e. at-else .if1 .left (sym (name-read at-name) ∙ e))))
 
 pub is-kept-spec : {M : Type 1} → statement M
-is-kept-spec = tie.close (tie.spec add-pair-at pair-at-requires returns is-current-requires returns-2)
+is-kept-spec = tie.close (tie.spec add-pair-at pair-at-requires returns (λ c κs. search needs) returns-2)

@@ -27,9 +27,6 @@ is-full-requires c κs =
     let start = c .before .before in
     let end = start .pre .2 in omega (arith, end, end-le (start .args .log .now))
 
-same-length : tie.Need-same-length
-same-length c = search needs
-
 returns : tie.Need-returns
 returns c =
     let start = c .before .before .before .before in
@@ -42,9 +39,6 @@ returns c =
 add-requires : tie.Need-add-requires
 add-requires c κs = (c .before .before .before .before .before .pre .2, room (c .before))
 
-same-length-2 : tie.Need-same-length-2
-same-length-2 c = search needs
-
 returns-2 : tie.Need-returns-2
 returns-2 c =
     let at-add = c .before .before .before in
@@ -53,9 +47,6 @@ returns-2 c =
     let end = start .pre .2 in
     add-done _ _ _ _ _ (start .pre .0) (start .pre .1) (omega (arith, room at-room, end)) (c .if2 .taken) (at-add .add .ensures .0)
     (at-add .add .ensures .1)
-
-same-length-3 : tie.Need-same-length-3
-same-length-3 c = search needs
 
 returns-3 : tie.Need-returns-3
 returns-3 c =
@@ -69,4 +60,4 @@ returns-3 c =
 pub add-behind-spec : {M : Type 1} → statement M
 add-behind-spec =
     tie.close
-    (tie.spec is-full-requires same-length returns add-requires same-length-2 returns-2 same-length-3 returns-3)
+    (tie.spec is-full-requires (λ c. search needs) returns add-requires (λ c. search needs) returns-2 (λ c. search needs) returns-3)

@@ -18,15 +18,6 @@ shape c = on (c .args .list .now) (c .args .floor)
 valid : (c : tie.After-enum-told) → Valid (c .before .before .before .args .list .now)
 valid c = c .before .before .admit .ensures .valid (c .enum-told .given .1)
 
-admit-requires : tie.Need-admit-requires
-admit-requires c κs = search needs
-
-enum-known-refusal : tie.Need-enum-known-refusal
-enum-known-refusal c = search needs
-
-enum-told : tie.Need-enum-told
-enum-told c = search needs
-
 returns : tie.Need-returns
 returns c = shapes-refused (askArea (shape (c .before .before .before .before)))
     (c .before .before .before .admit .ensures .no _ (c .before .refusal .given .1)) .0
@@ -40,4 +31,4 @@ returns-2 c =
     all-answered (askArea a) (valid (c .before)) tt (ap (λ z. z ∷ pos (a .floor) ∷ []) (sym (c .twice-area .ensures)))
 
 pub area-spec : {M : Type 1} → statement M
-area-spec = tie.close (tie.spec admit-requires enum-known-refusal returns enum-told twice-area-requires returns-2)
+area-spec = tie.close (tie.spec (λ c κs. search needs) (λ c. search needs) returns (λ c. search needs) twice-area-requires returns-2)

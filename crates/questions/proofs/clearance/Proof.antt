@@ -27,15 +27,6 @@ other c = on (c .args .b .now) (c .args .g)
 shapes : (c : tie.After-enum-told) → let start = c .before .before .before in Same (one start) (other start)
 shapes c = c .before .before .admit-pair .ensures .valid (c .enum-told .given .1)
 
-admit-pair-requires : tie.Need-admit-pair-requires
-admit-pair-requires c κs = search needs
-
-enum-known-refusal : tie.Need-enum-known-refusal
-enum-known-refusal c = search needs
-
-enum-told : tie.Need-enum-told
-enum-told c = search needs
-
 returns : tie.Need-returns
 returns c =
     let start = c .before .before .before .before in
@@ -44,9 +35,6 @@ returns c =
 
 relation-requires : tie.Need-relation-requires
 relation-requires c κs = let both = shapes c in (both .first-valid, both .second-valid)
-
-enum-told-2 : tie.Need-enum-told-2
-enum-told-2 c = search needs
 
 -- where they are apart, and where they are not
 apart-numbers : (A B : List Point) {t : Bool} → apart A B ≡ t → cond t (numbersOf A B (nearest A B)) (pos 0 ∷ []) ≡ clearanceNumbers A B
@@ -68,9 +56,6 @@ ready c = related-apart _ _ (ap numberOf (sym (c .enum-told2 .given .1)) ∙ c .
 nearest-requires : tie.Need-nearest-requires
 nearest-requires c κs = let both = shapes (c .before .before .before) in (both .first-valid, both .second-valid, ready c)
 
-measured-requires : tie.Need-measured-requires
-measured-requires c κs = search needs
-
 returns-3 : tie.Need-returns-3
 returns-3 c =
     let at-told = c .before .before in
@@ -81,5 +66,5 @@ returns-3 c =
 pub clearance-spec : {M : Type 1} → statement M
 clearance-spec =
     tie.close
-    (tie.spec admit-pair-requires enum-known-refusal returns enum-told relation-requires enum-told-2 returns-2 nearest-requires
-    measured-requires returns-3)
+    (tie.spec (λ c κs. search needs) (λ c. search needs) returns (λ c. search needs) relation-requires (λ c. search needs) returns-2
+    nearest-requires (λ c κs. search needs) returns-3)

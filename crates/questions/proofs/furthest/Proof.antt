@@ -54,33 +54,15 @@ judged-direction c =
 passed : (c : tie.After-enum-told2) → NoneApply (directionRows (towards (c .before .before .before .before .before .before)))
 passed c = judged-direction (c .before .before) .valid (c .enum-told2 .given .1)
 
-admit-requires : tie.Need-admit-requires
-admit-requires c κs = search needs
-
-enum-known-refusal : tie.Need-enum-known-refusal
-enum-known-refusal c = search needs
-
-enum-told : tie.Need-enum-told
-enum-told c = search needs
-
 returns : tie.Need-returns
 returns c = shapes-refused (asked (c .before .before .before .before))
     (c .before .before .before .admit .ensures .no _ (c .before .refusal .given .1)) .0
-
-admit-direction-requires : tie.Need-admit-direction-requires
-admit-direction-requires c κs = search needs
-
-enum-known-refusal-2 : tie.Need-enum-known-refusal-2
-enum-known-refusal-2 c = search needs
 
 returns-2 : tie.Need-returns-2
 returns-2 c =
     let at-judged = c .before .before .before in
     rest-refused (asked (at-judged .before .before .before .before)) (valid (at-judged .before))
     (judged-direction at-judged .no _ (c .before .refusal2 .given .1)) .0
-
-enum-told-2 : tie.Need-enum-told-2
-enum-told-2 c = search needs
 
 face-towards-requires : tie.Need-face-towards-requires
 face-towards-requires c κs =
@@ -114,5 +96,5 @@ returns-3 c =
 pub furthest-spec : {M : Type 1} → statement M
 furthest-spec =
     tie.close
-    (tie.spec admit-requires enum-known-refusal returns enum-told admit-direction-requires enum-known-refusal-2 returns-2 enum-told-2
-    face-towards-requires returns-3)
+    (tie.spec (λ c κs. search needs) (λ c. search needs) returns (λ c. search needs) (λ c κs. search needs) (λ c. search needs) returns-2
+    (λ c. search needs) face-towards-requires returns-3)

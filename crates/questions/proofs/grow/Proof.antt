@@ -43,19 +43,10 @@ judged c =
     fit-judged (grown (args .obstacle .now) (args .cart .now)) (c .before .is-far .ensures) (args .out .now)
     (c .before .before .reckon .ensures) (c .fits2 .ensures)
 
-admit-pair-requires : tie.Need-admit-pair-requires
-admit-pair-requires c κs = search needs
-
-enum-known-refusal : tie.Need-enum-known-refusal
-enum-known-refusal c = search needs
-
 returns : tie.Need-returns
 returns c =
     shapes-refused (asked (c .before .before .before .before))
     (c .before .before .before .admit-pair .ensures .no _ (c .before .refusal .given .1))
-
-enum-told : tie.Need-enum-told
-enum-told c = search needs
 
 top-requires : tie.Need-top-requires
 top-requires c κs = shapes c .second-valid .shape .some
@@ -66,20 +57,11 @@ reckon-requires c κs = let both = shapes (c .before) in (both .first-valid, bot
 is-far-requires : tie.Need-is-far-requires
 is-far-requires c κs = let both = shapes (c .before .before) in (both .first-valid, both .second-valid)
 
-fits-requires : tie.Need-fits-requires
-fits-requires c κs = search needs
-
-enum-known-refusal-2 : tie.Need-enum-known-refusal-2
-enum-known-refusal-2 c = search needs
-
 returns-2 : tie.Need-returns-2
 returns-2 c =
     let at-fits = c .before .before .before in
     let at-told = at-fits .before .before .before .before in
     rest-refused (asked (at-told .before .before .before)) (shapes at-told) (judged at-fits .no _ (c .before .refusal2 .given .1))
-
-enum-told-2 : tie.Need-enum-told-2
-enum-told-2 c = search needs
 
 -- past this judging no row applies
 passed : (c : tie.After-enum-told2) → let args = c .before .before .before .before .before .before .before .before .before .args in
@@ -94,9 +76,6 @@ write-requires c κs =
     let v = shapes (at-top .before) .second-valid in
     (search needs, search needs, at-top .top .ensures, room-there _ _ (passed at-passed))
 
-same-length : tie.Need-same-length
-same-length c = search needs
-
 returns-3 : tie.Need-returns-3
 returns-3 c =
     let at-write = c .before in
@@ -109,5 +88,5 @@ returns-3 c =
 pub grow-spec : {M : Type 1} → statement M
 grow-spec =
     tie.close
-    (tie.spec admit-pair-requires enum-known-refusal returns enum-told top-requires reckon-requires is-far-requires fits-requires
-    enum-known-refusal-2 returns-2 enum-told-2 write-requires same-length returns-3)
+    (tie.spec (λ c κs. search needs) (λ c. search needs) returns (λ c. search needs) top-requires reckon-requires is-far-requires
+    (λ c κs. search needs) (λ c. search needs) returns-2 (λ c. search needs) write-requires (λ c. search needs) returns-3)

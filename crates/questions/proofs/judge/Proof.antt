@@ -19,21 +19,9 @@ asked c = askJudge (on (c .args .list .now) (c .args .floor))
 valid : (c : tie.After-enum-told) → Valid (c .before .before .before .args .list .now)
 valid c = c .before .before .admit .ensures .valid (c .enum-told .given .1)
 
-admit-requires : tie.Need-admit-requires
-admit-requires c κs = search needs
-
-enum-known-refusal : tie.Need-enum-known-refusal
-enum-known-refusal c = search needs
-
-enum-told : tie.Need-enum-told
-enum-told c = search needs
-
 returns : tie.Need-returns
 returns c = shapes-refused (asked (c .before .before .before .before))
     (c .before .before .before .admit .ensures .no _ (c .before .refusal .given .1)) .0
-
-count-requires : tie.Need-count-requires
-count-requires c κs = search needs
 
 returns-2 : tie.Need-returns-2
 returns-2 c =
@@ -41,4 +29,4 @@ returns-2 c =
     all-answered (asked start) (valid (c .before)) tt (ap (λ (n : ℕ). pos n ∷ pos (start .args .floor) ∷ []) (c .count .ensures))
 
 pub judge-spec : {M : Type 1} → statement M
-judge-spec = tie.close (tie.spec admit-requires enum-known-refusal returns enum-told count-requires returns-2)
+judge-spec = tie.close (tie.spec (λ c κs. search needs) (λ c. search needs) returns (λ c. search needs) (λ c κs. search needs) returns-2)

@@ -16,15 +16,6 @@ shape c = on (c .args .list .now) (c .args .floor)
 valid : (c : tie.After-enum-told) → Valid (c .before .before .before .args .list .now)
 valid c = c .before .before .admit .ensures .valid (c .enum-told .given .1)
 
-admit-requires : tie.Need-admit-requires
-admit-requires c κs = search needs
-
-enum-known-refusal : tie.Need-enum-known-refusal
-enum-known-refusal c = search needs
-
-enum-told : tie.Need-enum-told
-enum-told c = search needs
-
 returns : tie.Need-returns
 returns c = shapes-refused (askLength (shape (c .before .before .before .before)))
     (c .before .before .before .admit .ensures .no _ (c .before .refusal .given .1)) .0
@@ -38,4 +29,4 @@ returns-2 c =
     all-answered (askLength a) (valid (c .before)) tt (length-values a (c .furthest-pair .ensures))
 
 pub length-spec : {M : Type 1} → statement M
-length-spec = tie.close (tie.spec admit-requires enum-known-refusal returns enum-told furthest-pair-requires returns-2)
+length-spec = tie.close (tie.spec (λ c κs. search needs) (λ c. search needs) returns (λ c. search needs) furthest-pair-requires returns-2)

@@ -11,26 +11,8 @@ use Rattle.questions.proofs.log_add.Tie as tie
 valid : (c : tie.After-enum-told) → Valid (c .before .before .before .before .args .list .now)
 valid c = c .before .before .admit .ensures .valid (c .enum-told .given .1)
 
-admit-requires : tie.Need-admit-requires
-admit-requires c κs = search needs
-
-enum-known-refusal : tie.Need-enum-known-refusal
-enum-known-refusal c = search needs
-
 returns : tie.Need-returns
 returns c = add-refused _ _ _ _ _ (c .before .before .before .admit .ensures .no _ (c .before .refusal .given .1))
-
-enum-told : tie.Need-enum-told
-enum-told c = search needs
-
-survey-requires : tie.Need-survey-requires
-survey-requires c κs = search needs
-
-enum-known-place : tie.Need-enum-known-place
-enum-known-place c = search needs
-
-enum-known-end : tie.Need-enum-known-end
-enum-known-end c = search needs
 
 add-behind-requires : tie.Need-add-behind-requires
 add-behind-requires c κs =
@@ -38,23 +20,14 @@ add-behind-requires c κs =
     let told = surveyed-ends _ _ (sym (at-end .before .before .survey .ensures) ∙ at-end .end .given .1) in
     (valid (at-end .before .before .before .before), told .0, told .1)
 
-same-length : tie.Need-same-length
-same-length c = search needs
-
 returns-2 : tie.Need-returns-2
 returns-2 c =
     let at-place = c .before in
     add-damaged _ _ _ _ _ (valid (at-place .before .before .before .before)) _
     (sym (at-place .before .before .survey .ensures) ∙ at-place .place .given .1)
 
-same-length-2 : tie.Need-same-length-2
-same-length-2 c = search needs
-
-returns-3 : tie.Need-returns-3
-returns-3 c = search needs
-
 pub log-add-spec : {M : Type 1} → statement M
 log-add-spec =
     tie.close
-    (tie.spec admit-requires enum-known-refusal returns enum-told survey-requires enum-known-place enum-known-end
-    add-behind-requires same-length returns-2 same-length-2 returns-3)
+    (tie.spec (λ c κs. search needs) (λ c. search needs) returns (λ c. search needs) (λ c κs. search needs) (λ c. search needs)
+    (λ c. search needs) add-behind-requires (λ c. search needs) returns-2 (λ c. search needs) (λ c. search needs))

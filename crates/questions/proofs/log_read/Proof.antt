@@ -20,26 +20,11 @@ found : (c : tie.After-place2) → let start = c .before .before .before .before
     LatestAt (start .args .name) (start .args .log .now) (c .place2 .given .0 .0) (c .place2 .given .0 .1 .0) (c .place2 .given .0 .1 .1 .0)
 found c = subst (Latest _ _) (c .place2 .given .1) (c .before .before .latest .ensures)
 
-survey-requires : tie.Need-survey-requires
-survey-requires c κs = search needs
-
-enum-known-place : tie.Need-enum-known-place
-enum-known-place c = search needs
-
 returns : tie.Need-returns
 returns c = read-damaged _ _ _ _ (sym (c .before .before .before .survey .ensures) ∙ c .before .place .given .1)
 
-enum-told : tie.Need-enum-told
-enum-told c = search needs
-
 latest-requires : tie.Need-latest-requires
 latest-requires c κs = sound c
-
-enum-known-place-2 : tie.Need-enum-known-place-2
-enum-known-place-2 c = search needs
-
-enum-told-2 : tie.Need-enum-told-2
-enum-told-2 c = search needs
 
 returns-2 : tie.Need-returns-2
 returns-2 c =
@@ -54,9 +39,6 @@ returns-3 c =
 decode-requires : tie.Need-decode-requires
 decode-requires c κs = (found (c .before .before .before) .inside, omega (arith, c .before .if1 .left))
 
-same-length : tie.Need-same-length
-same-length c = search needs
-
 returns-4 : tie.Need-returns-4
 returns-4 c =
     let at-room = c .before .before .before in
@@ -67,5 +49,5 @@ returns-4 c =
 pub log-read-spec : {M : Type 1} → statement M
 log-read-spec =
     tie.close
-    (tie.spec survey-requires enum-known-place returns enum-told latest-requires enum-known-place-2 enum-told-2 returns-2
-    returns-3 decode-requires same-length returns-4)
+    (tie.spec (λ c κs. search needs) (λ c. search needs) returns (λ c. search needs) latest-requires (λ c. search needs) (λ c. search needs)
+    returns-2 returns-3 decode-requires (λ c. search needs) returns-4)

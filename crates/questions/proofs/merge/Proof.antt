@@ -20,15 +20,6 @@ other c = on (c .args .b .now) (c .args .g)
 shapes : (c : tie.After-enum-told) → let start = c .before .before .before in Same (one start) (other start)
 shapes c = c .before .before .admit-pair .ensures .valid (c .enum-told .given .1)
 
-admit-pair-requires : tie.Need-admit-pair-requires
-admit-pair-requires c κs = search needs
-
-enum-known-refusal : tie.Need-enum-known-refusal
-enum-known-refusal c = search needs
-
-enum-told : tie.Need-enum-told
-enum-told c = search needs
-
 returns : tie.Need-returns
 returns c =
     let start = c .before .before .before .before in
@@ -37,9 +28,6 @@ returns c =
 
 merge-requires : tie.Need-merge-requires
 merge-requires c κs = let good = shapes (c .before) in (good .first-valid, good .second-valid)
-
-same-length : tie.Need-same-length
-same-length c = search needs
 
 returns-2 : tie.Need-returns-2
 returns-2 c =
@@ -52,4 +40,5 @@ returns-2 c =
 
 pub merge-spec : {M : Type 1} → statement M
 merge-spec =
-    tie.close (tie.spec admit-pair-requires enum-known-refusal returns enum-told merge-requires same-length returns-2)
+    tie.close
+    (tie.spec (λ c κs. search needs) (λ c. search needs) returns (λ c. search needs) merge-requires (λ c. search needs) returns-2)

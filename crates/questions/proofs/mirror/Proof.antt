@@ -26,15 +26,6 @@ asked c = askMirror (on (c .args .list .now) (c .args .floor)) (c .args .out .no
 valid : (c : tie.After-enum-told) → Valid (c .before .before .before .args .list .now)
 valid c = c .before .before .admit .ensures .valid (c .enum-told .given .1)
 
-admit-requires : tie.Need-admit-requires
-admit-requires c κs = search needs
-
-enum-known-refusal : tie.Need-enum-known-refusal
-enum-known-refusal c = search needs
-
-enum-told : tie.Need-enum-told
-enum-told c = search needs
-
 returns : tie.Need-returns
 returns c = shapes-refused (asked (c .before .before .before .before))
     (c .before .before .before .admit .ensures .no _ (c .before .refusal .given .1))
@@ -55,12 +46,6 @@ mirror-requires c κs =
     let at-else = c .before in
     (valid (at-else .before), omega (arith, at-else .if1 .left, doubled (at-else .before)))
 
-count-requires : tie.Need-count-requires
-count-requires c κs = search needs
-
-same-length : tie.Need-same-length
-same-length c = search needs
-
 returns-3 : tie.Need-returns-3
 returns-3 c =
     let at-mirror = c .before .before in
@@ -76,4 +61,5 @@ returns-3 c =
 pub mirror-spec : {M : Type 1} → statement M
 mirror-spec =
     tie.close
-    (tie.spec admit-requires enum-known-refusal returns enum-told returns-2 mirror-requires count-requires same-length returns-3)
+    (tie.spec (λ c κs. search needs) (λ c. search needs) returns (λ c. search needs) returns-2 mirror-requires (λ c κs. search needs)
+    (λ c. search needs) returns-3)

@@ -44,12 +44,6 @@ right : (c : tie.After-enum-told3) → let args = c .before .before .before .bef
     NoneApply (sizeRows (grown (points (args .right .now)) (points (args .cart .now))))
 right c = c .before .before .admit-grown2 .ensures .valid (c .enum-told3 .given .1)
 
-admit-three-requires : tie.Need-admit-three-requires
-admit-three-requires c κs = search needs
-
-enum-known-refusal : tie.Need-enum-known-refusal
-enum-known-refusal c = search needs
-
 returns : tie.Need-returns
 returns c =
     let at-three = c .before .before .before in
@@ -57,14 +51,8 @@ returns c =
     rest-refused (asked start) tt (refuses-append (grownRows (one start) (two start) (three start))
     (at-three .admit-three .ensures .no _ (c .before .refusal .given .1))) .0
 
-enum-told : tie.Need-enum-told
-enum-told c = search needs
-
 admit-grown-requires : tie.Need-admit-grown-requires
 admit-grown-requires c κs = let all = shapes c in (all .first-valid, all .third-valid)
-
-enum-known-refusal-2 : tie.Need-enum-known-refusal-2
-enum-known-refusal-2 c = search needs
 
 returns-2 : tie.Need-returns-2
 returns-2 c =
@@ -75,14 +63,8 @@ returns-2 c =
     (refuses-append (sizeRows (grown (points (start .args .right .now)) (points (start .args .cart .now))))
     (at-left .admit-grown .ensures .no _ (c .before .refusal2 .given .1)))) .0
 
-enum-told-2 : tie.Need-enum-told-2
-enum-told-2 c = search needs
-
 admit-grown-requires-2 : tie.Need-admit-grown-requires-2
 admit-grown-requires-2 c κs = let all = shapes (c .before .before .before) in (all .second-valid, all .third-valid)
-
-enum-known-refusal-3 : tie.Need-enum-known-refusal-3
-enum-known-refusal-3 c = search needs
 
 returns-3 : tie.Need-returns-3
 returns-3 c =
@@ -94,9 +76,6 @@ returns-3 c =
     (refuses-join (sizeRows (grown (points (start .args .left .now)) (points (start .args .cart .now)))) (left at-left)
     (at-right .admit-grown2 .ensures .no _ (c .before .refusal3 .given .1)))) .0
 
-enum-told-3 : tie.Need-enum-told-3
-enum-told-3 c = search needs
-
 between-requires : tie.Need-between-requires
 between-requires c κs =
     let at-left = c .before .before .before in
@@ -107,9 +86,6 @@ between-requires c κs =
       grown-valid _ _ (all .first-valid .shape .some) (all .third-valid .shape .some) (left at-left),
       grown-valid _ _ (all .second-valid .shape .some) (all .third-valid .shape .some) (right c),
     )
-
-passed-requires : tie.Need-passed-requires
-passed-requires c κs = search needs
 
 returns-4 : tie.Need-returns-4
 returns-4 c =
@@ -123,5 +99,6 @@ returns-4 c =
 pub passage-spec : {M : Type 1} → statement M
 passage-spec =
     tie.close
-    (tie.spec admit-three-requires enum-known-refusal returns enum-told admit-grown-requires enum-known-refusal-2 returns-2 enum-told-2
-    admit-grown-requires-2 enum-known-refusal-3 returns-3 enum-told-3 between-requires passed-requires returns-4)
+    (tie.spec (λ c κs. search needs) (λ c. search needs) returns (λ c. search needs) admit-grown-requires (λ c. search needs) returns-2
+    (λ c. search needs) admit-grown-requires-2 (λ c. search needs) returns-3 (λ c. search needs) between-requires (λ c κs. search needs)
+    returns-4)

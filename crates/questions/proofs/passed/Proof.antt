@@ -12,12 +12,6 @@ use Rattle.passage.specs.declared.corridor.Way.{Way}
 use Rattle.questions.proofs.passed.Statement.{statement}
 use Rattle.questions.proofs.passed.Tie as tie
 
-enum-told : tie.Need-enum-told
-enum-told c = search needs
-
-enum-known-found : tie.Need-enum-known-found
-enum-known-found c = search needs
-
 -- what is told of a way
 told : {x y : Way} (floor : ℕ) → x ≡ y → answered (wayNumbers y ++ (pos floor ∷ [])) ≡ answered (wayNumbers x ++ (pos floor ∷ []))
 told floor e = ap (λ (w : Way). answered (wayNumbers w ++ (pos floor ∷ []))) (sym e)
@@ -36,4 +30,4 @@ returns-2 c =
     rw (u, v, low, high) (told (c .before .before .before .args .floor) (at .1))
 
 pub passed-spec : {M : Type 1} → statement M
-passed-spec = tie.close (tie.spec enum-told enum-known-found returns returns-2)
+passed-spec = tie.close (tie.spec (λ c. search needs) (λ c. search needs) returns returns-2)

@@ -9,15 +9,6 @@ use Rattle.separation.specs.Answer.{numberOf}
 use Rattle.questions.proofs.stand.Statement.{statement}
 use Rattle.questions.proofs.stand.Tie as tie
 
-enum-told : tie.Need-enum-told
-enum-told c = search needs
-
-enum-told-2 : tie.Need-enum-told-2
-enum-told-2 c = search needs
-
-enum-told-3 : tie.Need-enum-told-3
-enum-told-3 c = search needs
-
 returns : tie.Need-returns
 returns c = ap (λ (p : Relation). answered (numberOf p ∷ pos (c .before .before .args .floor) ∷ [])) (sym (c .enum-told .given .1))
 
@@ -28,4 +19,4 @@ returns-3 : tie.Need-returns-3
 returns-3 c = ap (λ (p : Relation). answered (numberOf p ∷ pos (c .before .before .args .floor) ∷ [])) (sym (c .enum-told3 .given .1))
 
 pub stand-spec : {M : Type 1} → statement M
-stand-spec = tie.close (tie.spec enum-told enum-told-2 enum-told-3 returns returns-2 returns-3)
+stand-spec = tie.close (tie.spec (λ c. search needs) (λ c. search needs) (λ c. search needs) returns returns-2 returns-3)

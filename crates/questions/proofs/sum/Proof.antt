@@ -37,19 +37,10 @@ judged c =
     fit-judged (wholeSum (args .a .now) (args .b .now)) (c .before .is-far .ensures) (args .out .now)
     (c .before .before .reckon .ensures) (c .fits2 .ensures)
 
-admit-pair-requires : tie.Need-admit-pair-requires
-admit-pair-requires c κs = search needs
-
-enum-known-refusal : tie.Need-enum-known-refusal
-enum-known-refusal c = search needs
-
 returns : tie.Need-returns
 returns c =
     shapes-refused (asked (c .before .before .before .before))
     (c .before .before .before .admit-pair .ensures .no _ (c .before .refusal .given .1))
-
-enum-told : tie.Need-enum-told
-enum-told c = search needs
 
 reckon-requires : tie.Need-reckon-requires
 reckon-requires c κs = let both = shapes c in (both .first-valid, both .second-valid)
@@ -57,20 +48,11 @@ reckon-requires c κs = let both = shapes c in (both .first-valid, both .second-
 is-far-requires : tie.Need-is-far-requires
 is-far-requires c κs = let both = shapes (c .before) in (both .first-valid, both .second-valid)
 
-fits-requires : tie.Need-fits-requires
-fits-requires c κs = search needs
-
-enum-known-refusal-2 : tie.Need-enum-known-refusal-2
-enum-known-refusal-2 c = search needs
-
 returns-2 : tie.Need-returns-2
 returns-2 c =
     let at-fits = c .before .before .before in
     let at-told = at-fits .before .before .before in
     rest-refused (asked (at-told .before .before .before)) (shapes at-told) (judged at-fits .no _ (c .before .refusal2 .given .1))
-
-enum-told-2 : tie.Need-enum-told-2
-enum-told-2 c = search needs
 
 -- past this judging no row applies
 passed : (c : tie.After-enum-told2) → let args = c .before .before .before .before .before .before .before .before .args in
@@ -82,9 +64,6 @@ sum-requires c κs =
     let at-passed = c .before in
     let both = shapes (at-passed .before .before .before .before .before) in
     (both .first-valid, both .second-valid, room-there _ _ (passed at-passed))
-
-same-length : tie.Need-same-length
-same-length c = search needs
 
 returns-3 : tie.Need-returns-3
 returns-3 c =
@@ -98,5 +77,5 @@ returns-3 c =
 pub sum-spec : {M : Type 1} → statement M
 sum-spec =
     tie.close
-    (tie.spec admit-pair-requires enum-known-refusal returns enum-told reckon-requires is-far-requires fits-requires enum-known-refusal-2
-    returns-2 enum-told-2 sum-requires same-length returns-3)
+    (tie.spec (λ c κs. search needs) (λ c. search needs) returns (λ c. search needs) reckon-requires is-far-requires (λ c κs. search needs)
+    (λ c. search needs) returns-2 (λ c. search needs) sum-requires (λ c. search needs) returns-3)

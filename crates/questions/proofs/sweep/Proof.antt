@@ -15,15 +15,6 @@ swept c = on (c .args .list .now) (c .args .floor)
 valid : (c : tie.After-enum-told) → ValidPoints (c .before .before .before .args .list .now)
 valid c = c .before .before .admit-points .ensures .valid (c .enum-told .given .1)
 
-admit-points-requires : tie.Need-admit-points-requires
-admit-points-requires c κs = search needs
-
-enum-known-refusal : tie.Need-enum-known-refusal
-enum-known-refusal c = search needs
-
-enum-told : tie.Need-enum-told
-enum-told c = search needs
-
 returns : tie.Need-returns
 returns c =
     let start = c .before .before .before .before in
@@ -33,12 +24,10 @@ returns c =
 sweep-requires : tie.Need-sweep-requires
 sweep-requires c κs = valid (c .before)
 
-same-length : tie.Need-same-length
-same-length c = search needs
-
 returns-2 : tie.Need-returns-2
 returns-2 c = c .before .sweep .ensures
 
 pub sweep-spec : {M : Type 1} → statement M
 sweep-spec =
-    tie.close (tie.spec admit-points-requires enum-known-refusal returns enum-told sweep-requires same-length returns-2)
+    tie.close
+    (tie.spec (λ c κs. search needs) (λ c. search needs) returns (λ c. search needs) sweep-requires (λ c. search needs) returns-2)

@@ -14,30 +14,6 @@ use borrow.Author.Needs.{needs}
 use Rattle.questions.proofs.tablet.Statement.{statement}
 use Rattle.questions.proofs.tablet.Tie as tie
 
-read-part-requires : tie.Need-read-part-requires
-read-part-requires c κs = search needs
-
-enum-known-refusal : tie.Need-enum-known-refusal
-enum-known-refusal c = search needs
-
-enum-known-m : tie.Need-enum-known-m
-enum-known-m c = search needs
-
-read-part-requires-2 : tie.Need-read-part-requires-2
-read-part-requires-2 c κs = search needs
-
-enum-known-refusal-2 : tie.Need-enum-known-refusal-2
-enum-known-refusal-2 c = search needs
-
-enum-known-n : tie.Need-enum-known-n
-enum-known-n c = search needs
-
-double-requires : tie.Need-double-requires
-double-requires c κs = search needs
-
-double-requires-2 : tie.Need-double-requires-2
-double-requires-2 c κs = search needs
-
 returns : tie.Need-returns
 returns c =
     let start = c .before .before .before .before in
@@ -77,15 +53,5 @@ returns-3 c =
 pub tablet-spec : {M : Type 1} → statement M
 tablet-spec =
     tie.close
-    (tie.spec
-    read-part-requires
-    enum-known-refusal
-    enum-known-m
-    read-part-requires-2
-    enum-known-refusal-2
-    enum-known-n
-    double-requires
-    double-requires-2
-    returns
-    returns-2
-    returns-3)
+    (tie.spec (λ c κs. search needs) (λ c. search needs) (λ c. search needs) (λ c κs. search needs) (λ c. search needs) (λ c. search needs)
+    (λ c κs. search needs) (λ c κs. search needs) returns returns-2 returns-3)

@@ -33,15 +33,6 @@ other c = on (c .args .b .now) (c .args .g)
 shapes : (c : tie.After-enum-told) → let start = c .before .before .before in Same (one start) (other start)
 shapes c = c .before .before .admit-pair .ensures .valid (c .enum-told .given .1)
 
-admit-pair-requires : tie.Need-admit-pair-requires
-admit-pair-requires c κs = search needs
-
-enum-known-refusal : tie.Need-enum-known-refusal
-enum-known-refusal c = search needs
-
-enum-told : tie.Need-enum-told
-enum-told c = search needs
-
 returns : tie.Need-returns
 returns c =
     let start = c .before .before .before .before in
@@ -50,9 +41,6 @@ returns c =
 
 relation-requires : tie.Need-relation-requires
 relation-requires c κs = let both = shapes c in (both .first-valid, both .second-valid)
-
-enum-told-2 : tie.Need-enum-told-2
-enum-told-2 c = search needs
 
 returns-2 : tie.Need-returns-2
 returns-2 c =
@@ -113,5 +101,5 @@ returns-3 c =
 pub tangents-spec : {M : Type 1} → statement M
 tangents-spec =
     tie.close
-    (tie.spec admit-pair-requires enum-known-refusal returns enum-told relation-requires enum-told-2 returns-2 line-requires
-    line-requires-2 line-requires-3 line-requires-4 returns-3)
+    (tie.spec (λ c κs. search needs) (λ c. search needs) returns (λ c. search needs) relation-requires (λ c. search needs) returns-2
+    line-requires line-requires-2 line-requires-3 line-requires-4 returns-3)

@@ -10,21 +10,6 @@ use Rattle.reply.proofs.of_box.Tie as tie
 told : {x y : LeastBox} → x ≡ y → crossed (ofBox y) ≡ crossed (ofBox x)
 told e = ap (λ (x : LeastBox). crossed (ofBox x)) (sym e)
 
-enum-known-answer : tie.Need-enum-known-answer
-enum-known-answer c = search needs
-
-cast-answered5 : tie.Need-cast-answered5
-cast-answered5 c = search needs
-
-answered5-requires : tie.Need-answered5-requires
-answered5-requires c κs = search needs
-
-enum-known-answer-2 : tie.Need-enum-known-answer-2
-enum-known-answer-2 c = search needs
-
-of-refusal-requires : tie.Need-of-refusal-requires
-of-refusal-requires c κs = search needs
-
 returns : tie.Need-returns
 returns c = c .answered5 .ensures ∙ told (c .before .before .answer .given .1)
 
@@ -34,4 +19,4 @@ returns-2 c = c .of-refusal .ensures ∙ told (c .before .before .answer2 .given
 pub of-box-spec : {M : Type 1} → statement M
 of-box-spec =
     tie.close
-    (tie.spec enum-known-answer cast-answered5 answered5-requires enum-known-answer-2 of-refusal-requires returns returns-2)
+    (tie.spec (λ c. search needs) (λ c. search needs) (λ c κs. search needs) (λ c. search needs) (λ c κs. search needs) returns returns-2)

@@ -13,24 +13,6 @@ use Rattle.reply.proofs.of_inside.Tie as tie
 told : {x y : Inside} → x ≡ y → crossed (ofInside y) ≡ crossed (ofInside x)
 told e = ap (λ (x : Inside). crossed (ofInside x)) (sym e)
 
-enum-known-answer : tie.Need-enum-known-answer
-enum-known-answer c = search needs
-
-flag-requires : tie.Need-flag-requires
-flag-requires c κs = search needs
-
-cast-answered2 : tie.Need-cast-answered2
-cast-answered2 c = search needs
-
-answered2-requires : tie.Need-answered2-requires
-answered2-requires c κs = search needs
-
-enum-known-answer-2 : tie.Need-enum-known-answer-2
-enum-known-answer-2 c = search needs
-
-of-refusal-requires : tie.Need-of-refusal-requires
-of-refusal-requires c κs = search needs
-
 returns : tie.Need-returns
 returns c =
     let at = c .before .before .before .answer .given in
@@ -43,5 +25,5 @@ returns-2 c = c .of-refusal .ensures ∙ told (c .before .before .answer2 .given
 pub of-inside-spec : {M : Type 1} → statement M
 of-inside-spec =
     tie.close
-    (tie.spec enum-known-answer flag-requires cast-answered2 answered2-requires enum-known-answer-2 of-refusal-requires returns
-    returns-2)
+    (tie.spec (λ c. search needs) (λ c κs. search needs) (λ c. search needs) (λ c κs. search needs) (λ c. search needs)
+    (λ c κs. search needs) returns returns-2)

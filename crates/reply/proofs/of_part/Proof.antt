@@ -13,24 +13,6 @@ use Rattle.reply.proofs.of_part.Tie as tie
 told : {x y : Part} → x ≡ y → crossed (ofPart y) ≡ crossed (ofPart x)
 told e = ap (λ (x : Part). crossed (ofPart x)) (sym e)
 
-enum-known-answer : tie.Need-enum-known-answer
-enum-known-answer c = search needs
-
-flag-requires : tie.Need-flag-requires
-flag-requires c κs = search needs
-
-cast-answered5 : tie.Need-cast-answered5
-cast-answered5 c = search needs
-
-answered5-requires : tie.Need-answered5-requires
-answered5-requires c κs = search needs
-
-enum-known-answer-2 : tie.Need-enum-known-answer-2
-enum-known-answer-2 c = search needs
-
-of-refusal-requires : tie.Need-of-refusal-requires
-of-refusal-requires c κs = search needs
-
 returns : tie.Need-returns
 returns c =
     let at = c .before .before .before .answer .given in
@@ -46,5 +28,5 @@ returns-2 c = c .of-refusal .ensures ∙ told (c .before .before .answer2 .given
 pub of-part-spec : {M : Type 1} → statement M
 of-part-spec =
     tie.close
-    (tie.spec enum-known-answer flag-requires cast-answered5 answered5-requires enum-known-answer-2 of-refusal-requires returns
-    returns-2)
+    (tie.spec (λ c. search needs) (λ c κs. search needs) (λ c. search needs) (λ c κs. search needs) (λ c. search needs)
+    (λ c κs. search needs) returns returns-2)

@@ -16,42 +16,6 @@ use Rattle.reply.proofs.of_passage.Tie as tie
 told : {x y : Passage} → x ≡ y → crossed (ofPassage y) ≡ crossed (ofPassage x)
 told e = ap (λ (x : Passage). crossed (ofPassage x)) (sym e)
 
-enum-known-answer : tie.Need-enum-known-answer
-enum-known-answer c = search needs
-
-cast-answered2 : tie.Need-cast-answered2
-cast-answered2 c = search needs
-
-answered2-requires : tie.Need-answered2-requires
-answered2-requires c κs = search needs
-
-enum-known-answer-2 : tie.Need-enum-known-answer-2
-enum-known-answer-2 c = search needs
-
-extended-requires : tie.Need-extended-requires
-extended-requires c κs = search needs
-
-extended-requires-2 : tie.Need-extended-requires-2
-extended-requires-2 c κs = search needs
-
-bits-requires : tie.Need-bits-requires
-bits-requires c κs = search needs
-
-bits-requires-2 : tie.Need-bits-requires-2
-bits-requires-2 c κs = search needs
-
-cast-answered7 : tie.Need-cast-answered7
-cast-answered7 c = search needs
-
-answered7-requires : tie.Need-answered7-requires
-answered7-requires c κs = search needs
-
-enum-known-answer-3 : tie.Need-enum-known-answer-3
-enum-known-answer-3 c = search needs
-
-of-refusal-requires : tie.Need-of-refusal-requires
-of-refusal-requires c κs = search needs
-
 returns : tie.Need-returns
 returns c = c .answered2 .ensures ∙ told (c .before .before .answer .given .1)
 
@@ -77,5 +41,6 @@ returns-3 c = c .of-refusal .ensures ∙ told (c .before .before .answer3 .given
 pub of-passage-spec : {M : Type 1} → statement M
 of-passage-spec =
     tie.close
-    (tie.spec enum-known-answer cast-answered2 answered2-requires enum-known-answer-2 extended-requires extended-requires-2 bits-requires
-    bits-requires-2 cast-answered7 answered7-requires enum-known-answer-3 of-refusal-requires returns returns-2 returns-3)
+    (tie.spec (λ c. search needs) (λ c. search needs) (λ c κs. search needs) (λ c. search needs) (λ c κs. search needs)
+    (λ c κs. search needs) (λ c κs. search needs) (λ c κs. search needs) (λ c. search needs) (λ c κs. search needs) (λ c. search needs)
+    (λ c κs. search needs) returns returns-2 returns-3)

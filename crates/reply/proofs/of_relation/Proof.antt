@@ -10,39 +10,6 @@ use Rattle.reply.proofs.of_relation.Tie as tie
 told : {x y : Relation} → x ≡ y → crossed (ofRelation y) ≡ crossed (ofRelation x)
 told e = ap (λ (x : Relation). crossed (ofRelation x)) (sym e)
 
-enum-known-answer : tie.Need-enum-known-answer
-enum-known-answer c = search needs
-
-cast-answered2 : tie.Need-cast-answered2
-cast-answered2 c = search needs
-
-answered2-requires : tie.Need-answered2-requires
-answered2-requires c κs = search needs
-
-enum-known-answer-2 : tie.Need-enum-known-answer-2
-enum-known-answer-2 c = search needs
-
-cast-answered2-2 : tie.Need-cast-answered2-2
-cast-answered2-2 c = search needs
-
-answered2-requires-2 : tie.Need-answered2-requires-2
-answered2-requires-2 c κs = search needs
-
-enum-known-answer-3 : tie.Need-enum-known-answer-3
-enum-known-answer-3 c = search needs
-
-cast-answered2-3 : tie.Need-cast-answered2-3
-cast-answered2-3 c = search needs
-
-answered2-requires-3 : tie.Need-answered2-requires-3
-answered2-requires-3 c κs = search needs
-
-enum-known-answer-4 : tie.Need-enum-known-answer-4
-enum-known-answer-4 c = search needs
-
-of-refusal-requires : tie.Need-of-refusal-requires
-of-refusal-requires c κs = search needs
-
 returns : tie.Need-returns
 returns c = c .answered2 .ensures ∙ told (c .before .before .answer .given .1)
 
@@ -58,6 +25,6 @@ returns-4 c = c .of-refusal .ensures ∙ told (c .before .before .answer4 .given
 pub of-relation-spec : {M : Type 1} → statement M
 of-relation-spec =
     tie.close
-    (tie.spec enum-known-answer cast-answered2 answered2-requires enum-known-answer-2 cast-answered2-2 answered2-requires-2
-    enum-known-answer-3 cast-answered2-3 answered2-requires-3 enum-known-answer-4 of-refusal-requires returns returns-2
-    returns-3 returns-4)
+    (tie.spec (λ c. search needs) (λ c. search needs) (λ c κs. search needs) (λ c. search needs) (λ c. search needs) (λ c κs. search needs)
+    (λ c. search needs) (λ c. search needs) (λ c κs. search needs) (λ c. search needs) (λ c κs. search needs) returns returns-2 returns-3
+    returns-4)

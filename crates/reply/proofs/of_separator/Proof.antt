@@ -16,36 +16,6 @@ use Rattle.reply.proofs.of_separator.Tie as tie
 told : {x y : Separator} → x ≡ y → crossed (ofSeparator y) ≡ crossed (ofSeparator x)
 told e = ap (λ (x : Separator). crossed (ofSeparator x)) (sym e)
 
-enum-known-answer : tie.Need-enum-known-answer
-enum-known-answer c = search needs
-
-extended-requires : tie.Need-extended-requires
-extended-requires c κs = search needs
-
-extended-requires-2 : tie.Need-extended-requires-2
-extended-requires-2 c κs = search needs
-
-cast-answered4 : tie.Need-cast-answered4
-cast-answered4 c = search needs
-
-answered4-requires : tie.Need-answered4-requires
-answered4-requires c κs = search needs
-
-enum-known-answer-2 : tie.Need-enum-known-answer-2
-enum-known-answer-2 c = search needs
-
-cast-answered2 : tie.Need-cast-answered2
-cast-answered2 c = search needs
-
-answered2-requires : tie.Need-answered2-requires
-answered2-requires c κs = search needs
-
-enum-known-answer-3 : tie.Need-enum-known-answer-3
-enum-known-answer-3 c = search needs
-
-of-refusal-requires : tie.Need-of-refusal-requires
-of-refusal-requires c κs = search needs
-
 returns : tie.Need-returns
 returns c =
     let found = c .before .before .before in
@@ -63,5 +33,5 @@ returns-3 c = c .of-refusal .ensures ∙ told (c .before .before .answer3 .given
 pub of-separator-spec : {M : Type 1} → statement M
 of-separator-spec =
     tie.close
-    (tie.spec enum-known-answer extended-requires extended-requires-2 cast-answered4 answered4-requires enum-known-answer-2
-    cast-answered2 answered2-requires enum-known-answer-3 of-refusal-requires returns returns-2 returns-3)
+    (tie.spec (λ c. search needs) (λ c κs. search needs) (λ c κs. search needs) (λ c. search needs) (λ c κs. search needs)
+    (λ c. search needs) (λ c. search needs) (λ c κs. search needs) (λ c. search needs) (λ c κs. search needs) returns returns-2 returns-3)

@@ -16,24 +16,6 @@ use Rattle.reply.proofs.of_tablet.Tie as tie
 told : {x y : Tablet} → x ≡ y → crossed (ofTablet y .reply) ≡ crossed (ofTablet x .reply)
 told e = ap (λ (x : Tablet). crossed (ofTablet x .reply)) (sym e)
 
-enum-known-answer : tie.Need-enum-known-answer
-enum-known-answer c = search needs
-
-extended-requires : tie.Need-extended-requires
-extended-requires c κs = search needs
-
-extended-requires-2 : tie.Need-extended-requires-2
-extended-requires-2 c κs = search needs
-
-answered2-requires : tie.Need-answered2-requires
-answered2-requires c κs = search needs
-
-enum-known-answer-2 : tie.Need-enum-known-answer-2
-enum-known-answer-2 c = search needs
-
-of-unread-requires : tie.Need-of-unread-requires
-of-unread-requires c κs = search needs
-
 returns : tie.Need-returns
 returns c =
     let found = c .before .before .before in
@@ -48,5 +30,5 @@ returns-2 c = c .of-unread .ensures ∙ told (c .before .before .answer2 .given 
 pub of-tablet-spec : {M : Type 1} → statement M
 of-tablet-spec =
     tie.close
-    (tie.spec enum-known-answer extended-requires extended-requires-2 answered2-requires enum-known-answer-2 of-unread-requires
-    returns returns-2)
+    (tie.spec (λ c. search needs) (λ c κs. search needs) (λ c κs. search needs) (λ c κs. search needs) (λ c. search needs)
+    (λ c κs. search needs) returns returns-2)

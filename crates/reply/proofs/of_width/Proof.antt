@@ -10,21 +10,6 @@ use Rattle.reply.proofs.of_width.Tie as tie
 told : {x y : Width} → x ≡ y → crossed (ofWidth y) ≡ crossed (ofWidth x)
 told e = ap (λ (x : Width). crossed (ofWidth x)) (sym e)
 
-enum-known-answer : tie.Need-enum-known-answer
-enum-known-answer c = search needs
-
-cast-answered6 : tie.Need-cast-answered6
-cast-answered6 c = search needs
-
-answered6-requires : tie.Need-answered6-requires
-answered6-requires c κs = search needs
-
-enum-known-answer-2 : tie.Need-enum-known-answer-2
-enum-known-answer-2 c = search needs
-
-of-refusal-requires : tie.Need-of-refusal-requires
-of-refusal-requires c κs = search needs
-
 returns : tie.Need-returns
 returns c = c .answered6 .ensures ∙ told (c .before .before .answer .given .1)
 
@@ -34,4 +19,4 @@ returns-2 c = c .of-refusal .ensures ∙ told (c .before .before .answer2 .given
 pub of-width-spec : {M : Type 1} → statement M
 of-width-spec =
     tie.close
-    (tie.spec enum-known-answer cast-answered6 answered6-requires enum-known-answer-2 of-refusal-requires returns returns-2)
+    (tie.spec (λ c. search needs) (λ c. search needs) (λ c κs. search needs) (λ c. search needs) (λ c κs. search needs) returns returns-2)

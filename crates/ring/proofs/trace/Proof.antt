@@ -14,9 +14,6 @@ use Rattle.ring.specs.theory.Under.{under-at, places-under, places-some,
 use Rattle.ring.proofs.trace.Statement.{statement}
 use Rattle.ring.proofs.trace.Tie as tie
 
-open-count-requires : tie.Need-open-count-requires
-open-count-requires c κs = search needs
-
 -- the positions that were found
 module _ (c : tie.After-distinct) where
   abbrev begin : tie.Start
@@ -47,9 +44,6 @@ distinct-requires c κs =
       omega (arith, n, start .pre .2),
     )
 
-slice-reshare-prefix-corners : tie.Need-slice-reshare-prefix-corners
-slice-reshare-prefix-corners c = search needs
-
 slice-aggregate-corners : tie.Need-slice-aggregate-corners
 slice-aggregate-corners c =
     let at = c .before .before .before in
@@ -68,12 +62,6 @@ corners-requires c κs =
           (omega (arith, places-few ps (start .pre .1), start .pre .3)),
     )
 
-same-length : tie.Need-same-length
-same-length c = search needs
-
-same-length-2 : tie.Need-same-length-2
-same-length-2 c = search needs
-
 returns : tie.Need-returns
 returns c =
     let at-corners = c .before .before in
@@ -87,5 +75,5 @@ returns c =
 pub trace-spec : {M : Type 1} → statement M
 trace-spec =
     tie.close
-    (tie.spec open-count-requires least-requires distinct-requires slice-reshare-prefix-corners slice-aggregate-corners
-    corners-requires same-length same-length-2 returns)
+    (tie.spec (λ c κs. search needs) least-requires distinct-requires (λ c. search needs) slice-aggregate-corners corners-requires
+    (λ c. search needs) (λ c. search needs) returns)

@@ -28,27 +28,12 @@ judged c =
     fit-judged _ (c .before .some-outside .ensures ∙ numbers-outside _ (start .pre)) (start .args .out .now)
     (exact (c .before .before .count .ensures)) (c .fits2 .ensures)
 
-count-requires : tie.Need-count-requires
-count-requires c κs = search needs
-
-some-outside-requires : tie.Need-some-outside-requires
-some-outside-requires c κs = search needs
-
-fits-requires : tie.Need-fits-requires
-fits-requires c κs = search needs
-
-enum-known-refusal : tie.Need-enum-known-refusal
-enum-known-refusal c = search needs
-
 returns : tie.Need-returns
 returns c =
     let at-fits = c .before .before .before in
     let start = at-fits .before .before .before in
     rest-refused (makes (noShape (start .args .floor)) (points (start .args .shape .now)) (start .args .out .now)) tt
     (judged at-fits .no _ (c .before .refusal .given .1))
-
-enum-told : tie.Need-enum-told
-enum-told c = search needs
 
 -- past the judging no row applies, and there is room
 passed : (c : tie.After-enum-told) → let args = c .before .before .before .before .before .args in
@@ -64,9 +49,6 @@ room c =
 copy-requires : tie.Need-copy-requires
 copy-requires c κs = (omega arith, omega (arith, room (c .before)))
 
-same-length : tie.Need-same-length
-same-length c = search needs
-
 returns-2 : tie.Need-returns-2
 returns-2 c =
     let at-copy = c .before in
@@ -79,4 +61,5 @@ returns-2 c =
 pub deliver-spec : {M : Type 1} → statement M
 deliver-spec =
     tie.close
-    (tie.spec count-requires some-outside-requires fits-requires enum-known-refusal returns enum-told copy-requires same-length returns-2)
+    (tie.spec (λ c κs. search needs) (λ c κs. search needs) (λ c κs. search needs) (λ c. search needs) returns (λ c. search needs)
+    copy-requires (λ c. search needs) returns-2)

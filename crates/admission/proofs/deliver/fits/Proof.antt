@@ -17,20 +17,11 @@ use Rattle.admission.proofs.deliver.fits.Tie as tie
 good : (c : tie.After-enum-told) → let args = c .before .before .before .args in NoneApply (sizedRows (args .n) (args .far))
 good c = c .before .before .sized .ensures .valid (c .enum-told .given .1)
 
-sized-requires : tie.Need-sized-requires
-sized-requires c κs = search needs
-
-enum-known-refusal : tie.Need-enum-known-refusal
-enum-known-refusal c = search needs
-
 returns : tie.Need-returns
 returns c =
     let args = c .before .before .before .before .args in
     turns-away (refuses-append (row 8 (ltb (args .room) (2 * args .n)) [] ∷ [])
     (c .before .before .before .sized .ensures .no _ (c .before .refusal .given .1)))
-
-enum-told : tie.Need-enum-told
-enum-told c = search needs
 
 mul-if1 : tie.Need-mul-if1
 unfolding maxCorners
@@ -48,4 +39,4 @@ returns-3 c =
     (le-ltb _ _ (c .if1 .left), tt))
 
 pub fits-spec : {M : Type 1} → statement M
-fits-spec = tie.close (tie.spec sized-requires enum-known-refusal returns enum-told mul-if1 returns-2 returns-3)
+fits-spec = tie.close (tie.spec (λ c κs. search needs) (λ c. search needs) returns (λ c. search needs) mul-if1 returns-2 returns-3)

@@ -13,9 +13,6 @@ use Rattle.admission.proofs.deliver.sized.Tie as tie
 row-6 : (c : tie.Else1) → ltb maxCorners (c .before .before .args .n) ≡ false
 row-6 c = sym (c .before .exceeds-corners .ensures) ∙ c .if1 .left
 
-exceeds-corners-requires : tie.Need-exceeds-corners-requires
-exceeds-corners-requires c κs = search needs
-
 returns : tie.Need-returns
 returns c = turns-away (refuses (here (sym (c .before .exceeds-corners .ensures) ∙ c .if1 .taken)))
 
@@ -26,4 +23,4 @@ returns-3 : tie.Need-returns-3
 returns-3 c = passes (row-6 (c .before), (c .if2 .left, tt))
 
 pub sized-spec : {M : Type 1} → statement M
-sized-spec = tie.close (tie.spec exceeds-corners-requires returns returns-2 returns-3)
+sized-spec = tie.close (tie.spec (λ c κs. search needs) returns returns-2 returns-3)

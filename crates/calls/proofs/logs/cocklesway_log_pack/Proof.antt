@@ -5,19 +5,10 @@ use borrow.Author.Needs.{needs}
 use Rattle.calls.proofs.logs.cocklesway_log_pack.Statement.{statement}
 use Rattle.calls.proofs.logs.cocklesway_log_pack.Tie as tie
 
-log-pack-requires : tie.Need-log-pack-requires
-log-pack-requires c κs = search needs
-
-of-addition-requires : tie.Need-of-addition-requires
-of-addition-requires c κs = search needs
-
-same-length : tie.Need-same-length
-same-length c = search needs
-
 returns : tie.Need-returns
 returns c =
     let asked = c .before .before .before .log-pack .ensures in
     (c .of-addition .ensures ∙ ap crossed (asked .0), asked .1)
 
 pub cocklesway-log-pack-spec : {M : Type 1} → statement M
-cocklesway-log-pack-spec = tie.close (tie.spec log-pack-requires of-addition-requires same-length returns)
+cocklesway-log-pack-spec = tie.close (tie.spec (λ c κs. search needs) (λ c κs. search needs) (λ c. search needs) returns)

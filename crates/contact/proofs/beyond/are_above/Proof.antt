@@ -30,15 +30,6 @@ add-x c = machine-fits (search (machine, bounded) depth 40) tt
 add-y : tie.Need-add-y
 add-y c = machine-fits (search (machine, bounded) depth 40) tt
 
-are-greater-requires : tie.Need-are-greater-requires
-are-greater-requires c κs = search needs
-
-are-greater-requires-2 : tie.Need-are-greater-requires-2
-are-greater-requires-2 c κs = search needs
-
-either-requires : tie.Need-either-requires
-either-requires c κs = search needs
-
 returns : tie.Need-returns
 returns c =
     let second = c .before in
@@ -50,4 +41,4 @@ returns c =
     (second .are-greater2 .ensures ∙ same (read (t .small-y)) (read (u .small-y)) (sum-is (p .small-y) (q .small-y)))
 
 pub are-above-spec : {M : Type 1} → statement M
-are-above-spec = tie.close (tie.spec add-x add-y are-greater-requires are-greater-requires-2 either-requires returns)
+are-above-spec = tie.close (tie.spec add-x add-y (λ c κs. search needs) (λ c κs. search needs) (λ c κs. search needs) returns)

@@ -13,12 +13,6 @@ use Rattle.contact.specs.theory.Beyond.{grown-above, grown-below}
 use Rattle.contact.proofs.beyond.is_beyond.Statement.{statement}
 use Rattle.contact.proofs.beyond.is_beyond.Tie as tie
 
-extent-of-requires : tie.Need-extent-of-requires
-extent-of-requires c κs = search needs
-
-extent-of-requires-2 : tie.Need-extent-of-requires-2
-extent-of-requires-2 c κs = search needs
-
 -- the sums of what the two reach, and the places, are small
 module _ (c : tie.After-extent-of2) where
   abbrev start : tie.Start
@@ -79,12 +73,5 @@ returns-2 c =
 pub is-beyond-spec : {M : Type 1} → statement M
 is-beyond-spec =
     tie.close
-    (tie.spec
-    extent-of-requires
-    extent-of-requires-2
-    are-above-requires
-    returns
-    opposite-requires
-    opposite-requires-2
-    are-above-requires-2
-    returns-2)
+    (tie.spec (λ c κs. search needs) (λ c κs. search needs) are-above-requires returns opposite-requires opposite-requires-2
+    are-above-requires-2 returns-2)

@@ -21,14 +21,8 @@ use Rattle.contact.specs.theory.Told.{whole-words, length-bounded, never
 use Rattle.contact.proofs.drive.first_of.Statement.{statement}
 use Rattle.contact.proofs.drive.first_of.Tie as tie
 
-is-apart-requires : tie.Need-is-apart-requires
-is-apart-requires c κs = search needs
-
 returns : tie.Need-returns
 returns c = never-told _ _ _ (sym (c .before .is-apart .ensures) ∙ c .if1 .taken)
-
-arrival-requires : tie.Need-arrival-requires
-arrival-requires c κs = search needs
 
 lowest-requires : tie.Need-lowest-requires
 lowest-requires c κs =
@@ -79,12 +73,5 @@ returns-2 c =
 pub first-of-spec : {M : Type 1} → statement M
 first-of-spec =
     tie.close
-    (tie.spec
-    is-apart-requires
-    returns
-    arrival-requires
-    lowest-requires
-    squared-requires
-    magnitude-requires
-    millimetres-requires
+    (tie.spec (λ c κs. search needs) returns (λ c κs. search needs) lowest-requires squared-requires magnitude-requires millimetres-requires
     returns-2)

@@ -19,9 +19,6 @@ Inv-loop list t u n last₀ i₀ last i =
 abbrev μ-loop : tie.MeasureT-loop
 μ-loop list t u n last₀ i₀ last i = n - i
 
-count-requires : tie.Need-count-requires Inv-loop μ-loop
-count-requires c κs = search needs
-
 start-requires : tie.Need-start-requires Inv-loop μ-loop
 start-requires c κs = c .before .pre
 
@@ -32,12 +29,6 @@ edge-entry-requires : tie.Need-edge-entry-requires Inv-loop μ-loop
 edge-entry-requires c κs =
     let start = c .before .before .before .before in
     (start .pre .0, omega (arith, c .before .loop .inv .1), start .pre .1)
-
-later-requires : tie.Need-later-requires Inv-loop μ-loop
-later-requires c κs = search needs
-
-add-i : tie.Need-add-i Inv-loop μ-loop
-add-i c = search needs
 
 loop-less : tie.Need-loop-less Inv-loop μ-loop
 loop-less c = omega arith
@@ -64,15 +55,5 @@ returns c =
 pub arrival-spec : {M : Type 1} → statement M
 arrival-spec =
     tie.close
-    (tie.spec
-    Inv-loop
-    μ-loop
-    count-requires
-    start-requires
-    loop-holds
-    edge-entry-requires
-    later-requires
-    add-i
-    loop-less
-    loop-again
-    returns)
+    (tie.spec Inv-loop μ-loop (λ c κs. search needs) start-requires loop-holds edge-entry-requires (λ c κs. search needs)
+    (λ c. search needs) loop-less loop-again returns)

@@ -21,18 +21,6 @@ use Rattle.contact.specs.theory.Sides.{near-place, small-place, edge-ent
 use Rattle.contact.proofs.walls.edge_entry.Statement.{statement}
 use Rattle.contact.proofs.walls.edge_entry.Tie as tie
 
-corner-at-requires : tie.Need-corner-at-requires
-corner-at-requires c κs = search needs
-
-count-requires : tie.Need-count-requires
-count-requires c κs = search needs
-
-next-requires : tie.Need-next-requires
-next-requires c κs = search needs
-
-corner-at-requires-2 : tie.Need-corner-at-requires-2
-corner-at-requires-2 c κs = search needs
-
 -- the second corner
 end-is : (c : tie.After-corner-at2) → let args = c .before .before .before .before .args in let G = points (args .list .now) in
     at (c .corner-at2 .result) ≡ corner G (next (length G) (args .i))
@@ -94,12 +82,5 @@ returns c =
 pub edge-entry-spec : {M : Type 1} → statement M
 edge-entry-spec =
     tie.close
-    (tie.spec
-    corner-at-requires
-    count-requires
-    next-requires
-    corner-at-requires-2
-    past-requires
-    past-requires-2
-    entering-requires
-    returns)
+    (tie.spec (λ c κs. search needs) (λ c κs. search needs) (λ c κs. search needs) (λ c κs. search needs) past-requires past-requires-2
+    entering-requires returns)

@@ -8,17 +8,11 @@ use Rattle.contact.specs.theory.Edges.{wall-none, wall-box}
 use Rattle.contact.proofs.walls.start.Statement.{statement}
 use Rattle.contact.proofs.walls.start.Tie as tie
 
-count-requires : tie.Need-count-requires
-count-requires c κs = search needs
-
 returns : tie.Need-returns
 returns c =
     let start = c .before .before in
     wall-none (at (start .args .t)) (at (start .args .u)) (points (start .args .list .now)) (start .pre .0 .shape)
     (omega (arith, c .before .count .ensures))
-
-box-arrival-requires : tie.Need-box-arrival-requires
-box-arrival-requires c κs = search needs
 
 returns-2 : tie.Need-returns-2
 returns-2 c =
@@ -29,4 +23,4 @@ returns-2 c =
     (omega (arith, at-else .before .count .ensures))
 
 pub start-spec : {M : Type 1} → statement M
-start-spec = tie.close (tie.spec count-requires returns box-arrival-requires returns-2)
+start-spec = tie.close (tie.spec (λ c κs. search needs) returns (λ c κs. search needs) returns-2)

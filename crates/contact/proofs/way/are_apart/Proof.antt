@@ -7,18 +7,6 @@ use Rattle.separation.specs.theory.Around.{related-apart, related-not-apart}
 use Rattle.contact.proofs.way.are_apart.Statement.{statement}
 use Rattle.contact.proofs.way.are_apart.Tie as tie
 
-relation-requires : tie.Need-relation-requires
-relation-requires c κs = search needs
-
-enum-told : tie.Need-enum-told
-enum-told c = search needs
-
-enum-told-2 : tie.Need-enum-told-2
-enum-told-2 c = search needs
-
-enum-told-3 : tie.Need-enum-told-3
-enum-told-3 c = search needs
-
 returns : tie.Need-returns
 returns c = sym (related-apart _ _ (ap numberOf (sym (c .enum-told .given .1)) ∙ c .before .before .relation .ensures))
 
@@ -33,4 +21,4 @@ returns-3 c = sym (related-not-apart _ _ (omega arith)
 pub are-apart-spec : {M : Type 1} → statement M
 are-apart-spec =
     tie.close
-    (tie.spec relation-requires enum-told enum-told-2 enum-told-3 returns returns-2 returns-3)
+    (tie.spec (λ c κs. search needs) (λ c. search needs) (λ c. search needs) (λ c. search needs) returns returns-2 returns-3)

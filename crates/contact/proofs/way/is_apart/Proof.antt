@@ -5,19 +5,10 @@ use Rattle.contact.specs.theory.Way.{way-back, way-still}
 use Rattle.contact.proofs.way.is_apart.Statement.{statement}
 use Rattle.contact.proofs.way.is_apart.Tie as tie
 
-precedes-requires : tie.Need-precedes-requires
-precedes-requires c κs = search needs
-
 is-segment-apart-requires : tie.Need-is-segment-apart-requires
 is-segment-apart-requires c κs =
     let start = c .before .before in
     (start .pre .0, start .pre .1, sym (c .before .precedes .ensures) ∙ c .if1 .taken)
-
-returns : tie.Need-returns
-returns c = search needs
-
-precedes-requires-2 : tie.Need-precedes-requires-2
-precedes-requires-2 c κs = search needs
 
 is-segment-apart-requires-2 : tie.Need-is-segment-apart-requires-2
 is-segment-apart-requires-2 c κs =
@@ -27,9 +18,6 @@ is-segment-apart-requires-2 c κs =
 returns-2 : tie.Need-returns-2
 returns-2 c = let start = c .before .before .before .before .before in
     c .is-segment-apart2 .ensures ∙ way-back _ _ _ (start .pre .0 .shape .some)
-
-is-place-apart-requires : tie.Need-is-place-apart-requires
-is-place-apart-requires c κs = search needs
 
 returns-3 : tie.Need-returns-3
 returns-3 c =
@@ -42,12 +30,5 @@ returns-3 c =
 pub is-apart-spec : {M : Type 1} → statement M
 is-apart-spec =
     tie.close
-    (tie.spec
-    precedes-requires
-    is-segment-apart-requires
-    returns
-    precedes-requires-2
-    is-segment-apart-requires-2
-    returns-2
-    is-place-apart-requires
-    returns-3)
+    (tie.spec (λ c κs. search needs) is-segment-apart-requires (λ c. search needs) (λ c κs. search needs) is-segment-apart-requires-2
+    returns-2 (λ c κs. search needs) returns-3)

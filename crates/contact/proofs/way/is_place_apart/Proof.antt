@@ -12,9 +12,6 @@ use Rattle.contact.proofs.Places.{place-read}
 use Rattle.contact.proofs.way.is_place_apart.Statement.{statement}
 use Rattle.contact.proofs.way.is_place_apart.Tie as tie
 
-slice-aggregate-are-apart : tie.Need-slice-aggregate-are-apart
-slice-aggregate-are-apart c = search needs
-
 are-apart-requires : tie.Need-are-apart-requires
 are-apart-requires c κs =
     let p = c .before .before .pre in
@@ -26,4 +23,4 @@ returns c =
     c .are-apart .ensures ∙ ap (λ (l : List ℤ). apart (points l) (points (start .args .list .now))) (place-read _ (start .pre .1))
 
 pub is-place-apart-spec : {M : Type 1} → statement M
-is-place-apart-spec = tie.close (tie.spec slice-aggregate-are-apart are-apart-requires returns)
+is-place-apart-spec = tie.close (tie.spec (λ c. search needs) are-apart-requires returns)

@@ -12,9 +12,6 @@ use Rattle.contact.proofs.Places.{segment-read}
 use Rattle.contact.proofs.way.is_segment_apart.Statement.{statement}
 use Rattle.contact.proofs.way.is_segment_apart.Tie as tie
 
-slice-aggregate-are-apart : tie.Need-slice-aggregate-are-apart
-slice-aggregate-are-apart c = search needs
-
 are-apart-requires : tie.Need-are-apart-requires
 are-apart-requires c κs =
     let start = c .before .before .before in
@@ -31,4 +28,4 @@ returns c =
     c .are-apart .ensures ∙ ap (λ (l : List ℤ). apart (points l) (points (start .args .list .now))) (segment-read _ _ (start .pre .1))
 
 pub is-segment-apart-spec : {M : Type 1} → statement M
-is-segment-apart-spec = tie.close (tie.spec slice-aggregate-are-apart are-apart-requires returns)
+is-segment-apart-spec = tie.close (tie.spec (λ c. search needs) are-apart-requires returns)

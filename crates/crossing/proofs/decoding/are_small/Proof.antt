@@ -4,12 +4,6 @@ use borrow.Author.Needs.{needs}
 use Rattle.crossing.proofs.decoding.are_small.Statement.{statement}
 use Rattle.crossing.proofs.decoding.are_small.Tie as tie
 
-is-small-requires : tie.Need-is-small-requires
-is-small-requires c κs = search needs
-
-is-small-requires-2 : tie.Need-is-small-requires-2
-is-small-requires-2 c κs = search needs
-
 returns : tie.Need-returns
 returns c = rw (sym (c .before .before .is-small .ensures) ∙ c .before .if1 .taken) (c .is-small2 .ensures)
 
@@ -17,4 +11,4 @@ returns-2 : tie.Need-returns-2
 returns-2 c = rw (sym (c .before .is-small .ensures) ∙ c .if1 .left) (c .if1 .left)
 
 pub are-small-spec : {M : Type 1} → statement M
-are-small-spec = tie.close (tie.spec is-small-requires is-small-requires-2 returns returns-2)
+are-small-spec = tie.close (tie.spec (λ c κs. search needs) (λ c κs. search needs) returns returns-2)

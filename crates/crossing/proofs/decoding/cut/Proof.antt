@@ -15,12 +15,6 @@ returns c = record {
   parity = refl;
 }
 
-sub-result : tie.Need-sub-result
-sub-result c = search needs
-
-add-result : tie.Need-add-result
-add-result c = search needs
-
 returns-2 : tie.Need-returns-2
 unfolding maxCorners
 returns-2 c = record {
@@ -31,4 +25,4 @@ returns-2 c = record {
 }
 
 pub cut-spec : {M : Type 1} → statement M
-cut-spec = tie.close (tie.spec returns sub-result add-result returns-2)
+cut-spec = tie.close (tie.spec returns (λ c. search needs) (λ c. search needs) returns-2)

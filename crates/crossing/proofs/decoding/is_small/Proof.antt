@@ -5,12 +5,9 @@ use borrow.Author.Needs.{needs}
 use Rattle.crossing.proofs.decoding.is_small.Statement.{statement}
 use Rattle.crossing.proofs.decoding.is_small.Tie as tie
 
-mul-result : tie.Need-mul-result
-mul-result c = search needs
-
 returns : tie.Need-returns
 unfolding smallBytes
 returns c = refl
 
 pub is-small-spec : {M : Type 1} → statement M
-is-small-spec = tie.close (tie.spec mul-result returns)
+is-small-spec = tie.close (tie.spec (λ c. search needs) returns)

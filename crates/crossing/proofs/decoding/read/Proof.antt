@@ -24,14 +24,8 @@ holds c =
 returns : tie.Need-returns
 returns c = (omega arith, none-alike _ (c .if1 .taken))
 
-cut-requires : tie.Need-cut-requires
-cut-requires c κs = search needs
-
 decode-requires : tie.Need-decode-requires
 decode-requires c κs = (omega (arith, c .before .cut .ensures .within), omega (arith, holds (c .before)))
-
-same-length : tie.Need-same-length
-same-length c = search needs
 
 returns-2 : tie.Need-returns-2
 returns-2 c =
@@ -47,4 +41,4 @@ returns-2 c =
     )
 
 pub read-spec : {M : Type 1} → statement M
-read-spec = tie.close (tie.spec returns cut-requires decode-requires same-length returns-2)
+read-spec = tie.close (tie.spec returns (λ c κs. search needs) decode-requires (λ c. search needs) returns-2)

@@ -17,26 +17,11 @@ bounds : (c : tie.Start) → let r = c .args .t1 in
     × (getD (r .carried) 1 0 + getD (r .values) 0 0 < 65536) × (getD (r .carried) 2 0 + getD (r .values) 1 0 < 65536)
 bounds c = let r = c .args .t1 in bounded (r .number) (r .count) (r .values) (r .carried) (three c) (c .pre)
 
-element-copy-out-first : tie.Need-element-copy-out-first
-element-copy-out-first c = search needs
-
-element-copy-out-first-2 : tie.Need-element-copy-out-first-2
-element-copy-out-first-2 c = search needs
-
 add-first : tie.Need-add-first
 add-first c = let b = bounds (c .before .before) in record { fits = omega (arith, b .0, b .1, b .2, b .3) }
 
-element-copy-out-second : tie.Need-element-copy-out-second
-element-copy-out-second c = search needs
-
-element-copy-out-second-2 : tie.Need-element-copy-out-second-2
-element-copy-out-second-2 c = search needs
-
 add-second : tie.Need-add-second
 add-second c = let b = bounds (c .before .before .before .before) in record { fits = omega (arith, b .0, b .1, b .2, b .3) }
-
-element-copy-out-result : tie.Need-element-copy-out-result
-element-copy-out-result c = search needs
 
 mul-result : tie.Need-mul-result
 mul-result c = let b = bounds (c .before .before .before .before .before) in record { fits = omega (arith, b .0, b .1, b .2, b .3) }
@@ -63,18 +48,5 @@ returns c = let r = c .before .before .before .before .before .args .t1 in
 pub packed-reply-spec : {M : Type 1} → statement M
 packed-reply-spec =
     tie.close
-    (tie.spec
-    element-copy-out-first
-    element-copy-out-first-2
-    add-first
-    element-copy-out-second
-    element-copy-out-second-2
-    add-second
-    element-copy-out-result
-    mul-result
-    add-result
-    mul-result-2
-    add-result-2
-    mul-result-3
-    add-result-3
-    returns)
+    (tie.spec (λ c. search needs) (λ c. search needs) add-first (λ c. search needs) (λ c. search needs) add-second (λ c. search needs)
+    mul-result add-result mul-result-2 add-result-2 mul-result-3 add-result-3 returns)

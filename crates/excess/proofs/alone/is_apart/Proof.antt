@@ -12,21 +12,6 @@ use Rattle.excess.proofs.Reading.{reads-back}
 use Rattle.excess.proofs.alone.is_apart.Statement.{statement}
 use Rattle.excess.proofs.alone.is_apart.Tie as tie
 
-slice-aggregate-relation : tie.Need-slice-aggregate-relation
-slice-aggregate-relation c = search needs
-
-relation-requires : tie.Need-relation-requires
-relation-requires c κs = search needs
-
-enum-told : tie.Need-enum-told
-enum-told c = search needs
-
-enum-told-2 : tie.Need-enum-told-2
-enum-told-2 c = search needs
-
-enum-told-3 : tie.Need-enum-told-3
-enum-told-3 c = search needs
-
 -- the list of two numbers holds the point
 one : (c : tie.After-relation) → let start = c .before .before .before in
     let O = points (start .args .shape .now) in
@@ -56,4 +41,5 @@ returns-3 c =
 pub is-apart-spec : {M : Type 1} → statement M
 is-apart-spec =
     tie.close
-    (tie.spec slice-aggregate-relation relation-requires enum-told enum-told-2 enum-told-3 returns returns-2 returns-3)
+    (tie.spec (λ c. search needs) (λ c κs. search needs) (λ c. search needs) (λ c. search needs) (λ c. search needs) returns returns-2
+    returns-3)

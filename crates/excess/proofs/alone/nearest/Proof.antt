@@ -9,12 +9,6 @@ use Rattle.excess.proofs.Reading.{reads-back}
 use Rattle.excess.proofs.alone.nearest.Statement.{statement}
 use Rattle.excess.proofs.alone.nearest.Tie as tie
 
-slice-aggregate-nearest : tie.Need-slice-aggregate-nearest
-slice-aggregate-nearest c = search needs
-
-nearest-requires : tie.Need-nearest-requires
-nearest-requires c κs = search needs
-
 returns : tie.Need-returns
 returns c =
     let start = c .before .before .before in
@@ -23,4 +17,4 @@ returns c =
     ∙ ap (λ (ps : List Point). numbersOf ps O (nearest ps O)) (reads-back (at (start .args .p)) (start .pre .0))
 
 pub nearest-spec : {M : Type 1} → statement M
-nearest-spec = tie.close (tie.spec slice-aggregate-nearest nearest-requires returns)
+nearest-spec = tie.close (tie.spec (λ c. search needs) (λ c κs. search needs) returns)

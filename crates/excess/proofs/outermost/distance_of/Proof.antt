@@ -5,9 +5,6 @@ use Rattle.excess.specs.theory.Found.{corner-valid, found-far, none-far}
 use Rattle.excess.proofs.outermost.distance_of.Statement.{statement}
 use Rattle.excess.proofs.outermost.distance_of.Tie as tie
 
-corner-at-requires : tie.Need-corner-at-requires
-corner-at-requires c κs = search needs
-
 is-apart-requires : tie.Need-is-apart-requires
 is-apart-requires c κs =
     let pre = c .before .pre in (corner-valid _ (pre .0) _ (pre .2) (c .corner-at .ensures), pre .1)
@@ -20,9 +17,6 @@ nearest-requires c κs =
       pre .1,
       sym (c .before .is-apart .ensures) ∙ c .if1 .taken,
     )
-
-measured-requires : tie.Need-measured-requires
-measured-requires c κs = search needs
 
 returns : tie.Need-returns
 returns c =
@@ -38,6 +32,4 @@ returns-2 c =
     none-far _ _ (at-corner .before .pre .1 .shape) _ (at-corner .corner-at .ensures) (sym (c .before .is-apart .ensures) ∙ c .if1 .left)
 
 pub distance-of-spec : {M : Type 1} → statement M
-distance-of-spec =
-    tie.close
-    (tie.spec corner-at-requires is-apart-requires nearest-requires measured-requires returns returns-2)
+distance-of-spec = tie.close (tie.spec (λ c κs. search needs) is-apart-requires nearest-requires (λ c κs. search needs) returns returns-2)

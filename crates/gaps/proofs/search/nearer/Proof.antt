@@ -13,12 +13,6 @@ use Rattle.gaps.specs.declared.search.Best.the-variants as Best
 use Rattle.gaps.proofs.search.nearer.Statement.{statement}
 use Rattle.gaps.proofs.search.nearer.Tie as tie
 
-enum-known-best : tie.Need-enum-known-best
-enum-known-best c = search needs
-
-enum-told : tie.Need-enum-told
-enum-told c = search needs
-
 returns : tie.Need-returns
 returns c = let args = c .before .before .args in sym (ap (nearer (args .p) (args .q) (args .spacing)) (c .enum-told .given .1))
 
@@ -53,4 +47,4 @@ returns-3 c =
     ∙ compared (args .p) (args .q) (old .0 .0) (old .0 .1 .0) (args .spacing) (old .0 .1 .1 .0) test)
 
 pub nearer-spec : {M : Type 1} → statement M
-nearer-spec = tie.close (tie.spec enum-known-best enum-told returns is-less-requires returns-2 returns-3)
+nearer-spec = tie.close (tie.spec (λ c. search needs) (λ c. search needs) returns is-less-requires returns-2 returns-3)

@@ -27,9 +27,6 @@ pairs-are c e = let args = c .args in ap (λ (t : Bool). cond t (pairAt (args .l
 is-on : (c : tie.Else1) → let args = c .before .before .before .args in isOn (args .floor) (args .log .now) (args .q) ≡ true
 is-on c = sym (c .before .is-on .ensures) ∙ not-false _ (c .if1 .left)
 
-is-on-requires : tie.Need-is-on-requires
-is-on-requires c κs = search needs
-
 returns : tie.Need-returns
 returns c =
     let start = c .before .before .before in
@@ -46,12 +43,6 @@ grow-at-requires c κs =
     let at-else = c .before .before in
     let pre = at-else .before .before .before .pre in
     (pre .2, pre .3, pre .4, pre .5, walk-fits _ (pre .0) (pre .2 .here) (is-on at-else))
-
-mul-between : tie.Need-mul-between
-mul-between c = search needs
-
-slice-reshare-prefix-between : tie.Need-slice-reshare-prefix-between
-slice-reshare-prefix-between c = search needs
 
 slice-aggregate-between : tie.Need-slice-aggregate-between
 slice-aggregate-between c = sym (front-length (c .before .before .before .grow-at .ensures .0))
@@ -81,12 +72,6 @@ nearer-requires c κs =
     let start = c .before .before .before .before .before .before .before .before .before .before in
     comparable _ _ (c .between .result) (start .args .best) (start .pre .6) (found c .sized)
 
-same-length : tie.Need-same-length
-same-length c = search needs
-
-same-length-2 : tie.Need-same-length-2
-same-length-2 c = search needs
-
 returns-2 : tie.Need-returns-2
 returns-2 c =
     let at-between = c .before in
@@ -107,5 +92,5 @@ returns-2 c =
 pub tried-spec : {M : Type 1} → statement M
 tried-spec =
     tie.close
-    (tie.spec is-on-requires returns grow-at-requires mul-between slice-reshare-prefix-between slice-aggregate-between between-requires
-    nearer-requires same-length same-length-2 returns-2)
+    (tie.spec (λ c κs. search needs) returns grow-at-requires (λ c. search needs) (λ c. search needs) slice-aggregate-between
+    between-requires nearer-requires (λ c. search needs) (λ c. search needs) returns-2)

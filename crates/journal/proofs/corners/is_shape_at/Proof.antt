@@ -26,9 +26,6 @@ fits c =
     let few = ltb-false maxCorners (start .args .n / 2) (sym (c .before .exceeds-corners .ensures) ∙ c .if1 .left) in
     omega (arith, start .pre .1, start .pre .2)
 
-exceeds-corners-requires : tie.Need-exceeds-corners-requires
-exceeds-corners-requires c κs = search needs
-
 returns : tie.Need-returns
 unfolding tooMany
 returns c =
@@ -59,12 +56,6 @@ slice-aggregate-passes c =
     let at-decode = c .before .before in
     sym (length-take-le _ (at-decode .decode .last .1 .1 .1 .0) (omega (arith, kept (c .before), fits (at-decode .before .before))))
 
-passes-requires : tie.Need-passes-requires
-passes-requires c κs = search needs
-
-same-length : tie.Need-same-length
-same-length c = search needs
-
 returns-2 : tie.Need-returns-2
 returns-2 c =
     let at-buffer = c .before .before in
@@ -80,5 +71,5 @@ returns-2 c =
 pub is-shape-at-spec : {M : Type 1} → statement M
 is-shape-at-spec =
     tie.close
-    (tie.spec exceeds-corners-requires returns decode-requires slice-reshare-prefix-passes slice-aggregate-passes
-    passes-requires same-length returns-2)
+    (tie.spec (λ c κs. search needs) returns decode-requires slice-reshare-prefix-passes slice-aggregate-passes (λ c κs. search needs)
+    (λ c. search needs) returns-2)

@@ -24,9 +24,6 @@ name-read c = c .pair-at2 .ensures .0 ∙ sym (name-at _ _) ∙ sym (name-here (
 pair-at-requires : tie.Need-pair-at-requires
 pair-at-requires c κs = omega (arith, next-inside _ (c .before .args .p) (c .before .pre .here))
 
-add-is-held : tie.Need-add-is-held
-add-is-held c = search needs
-
 add-is-held-2 : tie.Need-add-is-held-2
 add-is-held-2 c =
     let start = c .before .before in
@@ -62,4 +59,5 @@ returns c =
 
 pub is-current-spec : {M : Type 1} → statement M
 is-current-spec =
-    tie.close (tie.spec pair-at-requires add-is-held add-is-held-2 add-pair-at pair-at-requires-2 is-held-requires returns)
+    tie.close
+    (tie.spec pair-at-requires (λ c. search needs) add-is-held-2 add-pair-at pair-at-requires-2 is-held-requires returns)

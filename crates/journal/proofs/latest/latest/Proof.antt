@@ -44,9 +44,6 @@ whole-at-requires c κs = c .loop .inv .inside
 head-at-requires : tie.Need-head-at-requires Inv-loop μ-loop
 head-at-requires c κs = so-far-sound (c .before .before .loop .inv) (here c)
 
-newer-requires : tie.Need-newer-requires Inv-loop μ-loop
-newer-requires c κs = search needs
-
 pair-at-requires : tie.Need-pair-at-requires Inv-loop μ-loop
 pair-at-requires c κs =
     let at-then = c .before .before in
@@ -82,5 +79,5 @@ returns c =
 pub latest-spec : {M : Type 1} → statement M
 latest-spec =
     tie.close
-    (tie.spec Inv-loop μ-loop loop-holds whole-at-requires head-at-requires newer-requires pair-at-requires add-p add-p-2 loop-less
+    (tie.spec Inv-loop μ-loop loop-holds whole-at-requires head-at-requires (λ c κs. search needs) pair-at-requires add-p add-p-2 loop-less
     loop-again returns)

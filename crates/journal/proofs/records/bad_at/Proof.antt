@@ -67,18 +67,12 @@ add-pair-at c = omega (arith, inside (c .before .before))
 pair-at-requires-2 : tie.Need-pair-at-requires-2
 pair-at-requires-2 c κs = omega (arith, inside (c .before .before), least c)
 
-is-other-requires : tie.Need-is-other-requires
-is-other-requires c κs = search needs
-
 returns-2 : tie.Need-returns-2
 returns-2 c =
     let at-kind = c .before .before in
     let start = at-kind .before .before .before .before in
     let other = ap otherKind (kind-read at-kind) ∙ sym (c .before .is-other .ensures) ∙ c .if2 .taken in
     (sym (bad-kind _ (least (at-kind .before)) other), start .pre .1)
-
-fixed-bytes-requires : tie.Need-fixed-bytes-requires
-fixed-bytes-requires c κs = search needs
 
 returns-3 : tie.Need-returns-3
 returns-3 c =
@@ -114,9 +108,6 @@ is-shape-at-requires c κs =
     let big = long at-3 in
     (omega arith, eighth _ (at-4 .if4 .left), at-1 .before .before .before .pre .1)
 
-same-length : tie.Need-same-length
-same-length c = search needs
-
 returns-5 : tie.Need-returns-5
 returns-5 c =
     let at-shape = c .before in
@@ -138,5 +129,5 @@ returns-5 c =
 pub bad-at-spec : {M : Type 1} → statement M
 bad-at-spec =
     tie.close
-    (tie.spec pair-at-requires returns add-pair-at pair-at-requires-2 is-other-requires returns-2 fixed-bytes-requires returns-3
-    returns-4 add-is-shape-at add-is-shape-at-2 is-shape-at-requires same-length returns-5)
+    (tie.spec pair-at-requires returns add-pair-at pair-at-requires-2 (λ c κs. search needs) returns-2 (λ c κs. search needs) returns-3
+    returns-4 add-is-shape-at add-is-shape-at-2 is-shape-at-requires (λ c. search needs) returns-5)

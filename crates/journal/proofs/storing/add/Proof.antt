@@ -7,15 +7,6 @@ use Rattle.journal.specs.theory.Storing.{ran-stores}
 use Rattle.journal.proofs.storing.add.Statement.{statement}
 use Rattle.journal.proofs.storing.add.Tie as tie
 
-clear-requires : tie.Need-clear-requires
-clear-requires c κs = search needs
-
-write-requires : tie.Need-write-requires
-write-requires c κs = search needs
-
-same-length : tie.Need-same-length
-same-length c = search needs
-
 returns : tie.Need-returns
 returns c =
     let at-clear = c .before .before .before .before .before .before in
@@ -26,4 +17,4 @@ returns c =
     (at-clear .clear .ensures) (c .before .before .write .ensures .0) (c .before .before .write .ensures .1)
 
 pub add-spec : {M : Type 1} → statement M
-add-spec = tie.close (tie.spec clear-requires write-requires same-length returns)
+add-spec = tie.close (tie.spec (λ c κs. search needs) (λ c κs. search needs) (λ c. search needs) returns)

@@ -10,18 +10,6 @@ use Rattle.journal.specs.theory.Read.{recorded-length}
 use Rattle.journal.proofs.storing.is_full.Statement.{statement}
 use Rattle.journal.proofs.storing.is_full.Tie as tie
 
-sub-result : tie.Need-sub-result
-sub-result c = search needs
-
-add-result : tie.Need-add-result
-add-result c = search needs
-
-mul-result : tie.Need-mul-result
-mul-result c = search needs
-
-add-result-2 : tie.Need-add-result-2
-add-result-2 c = search needs
-
 returns : tie.Need-returns
 returns c n f =
     let args = c .args in
@@ -30,4 +18,4 @@ returns c n f =
     ap (ltb (length (args .log .now) - args .end)) count
 
 pub is-full-spec : {M : Type 1} → statement M
-is-full-spec = tie.close (tie.spec sub-result add-result mul-result add-result-2 returns)
+is-full-spec = tie.close (tie.spec (λ c. search needs) (λ c. search needs) (λ c. search needs) (λ c. search needs) returns)

@@ -4,20 +4,11 @@ use Rattle.journal.specs.theory.Storing.{ran-kept, ran-cleared}
 use Rattle.journal.proofs.storing.tidy.Statement.{statement}
 use Rattle.journal.proofs.storing.tidy.Tie as tie
 
-slice-read-if1 : tie.Need-slice-read-if1
-slice-read-if1 c = search needs
-
 returns : tie.Need-returns
 returns c = ran-kept _ _ _ _ (c .if1 .taken)
-
-byte-requires : tie.Need-byte-requires
-byte-requires c κs = search needs
-
-same-length : tie.Need-same-length
-same-length c = search needs
 
 returns-2 : tie.Need-returns-2
 returns-2 c = ran-cleared _ _ (c .before .before .before .before .if1 .left) (c .before .before .byte .ensures)
 
 pub tidy-spec : {M : Type 1} → statement M
-tidy-spec = tie.close (tie.spec slice-read-if1 returns byte-requires same-length returns-2)
+tidy-spec = tie.close (tie.spec (λ c. search needs) returns (λ c κs. search needs) (λ c. search needs) returns-2)

@@ -24,45 +24,21 @@ room-4 c =
     let at-3 = c .before .before .before .before in
     ran-length (c .pair2 .ensures) ∙ ran-length (at-3 .pair .ensures) ∙ room-2 (at-3 .before .before .before .before)
 
-mul-size : tie.Need-mul-size
-mul-size c = search needs
-
-add-size : tie.Need-add-size
-add-size c = search needs
-
-add-last : tie.Need-add-last
-add-last c = search needs
-
 add-last-2 : tie.Need-add-last-2
 add-last-2 c = omega (arith, inside (c .before))
 
-cast-low : tie.Need-cast-low
-cast-low c = search needs
-
 byte-requires : tie.Need-byte-requires
 byte-requires c κs = omega (arith, inside (c .before .before))
-
-add-byte : tie.Need-add-byte
-add-byte c = search needs
-
-cast-byte : tie.Need-cast-byte
-cast-byte c = search needs
 
 byte-requires-2 : tie.Need-byte-requires-2
 byte-requires-2 c κs =
     let at-1 = c .before .before .before in
     omega (arith, inside (at-1 .before .before .before), ran-length (at-1 .byte .ensures))
 
-add-pair : tie.Need-add-pair
-add-pair c = search needs
-
 pair-requires : tie.Need-pair-requires
 pair-requires c κs =
     let at-2 = c .before .before .before in
     omega (arith, inside (at-2 .before .before .before .before .before .before .before), room-2 at-2)
-
-add-pair-2 : tie.Need-add-pair-2
-add-pair-2 c = search needs
 
 pair-requires-2 : tie.Need-pair-requires-2
 pair-requires-2 c κs =
@@ -70,17 +46,11 @@ pair-requires-2 c κs =
     let at-2 = at-3 .before .before .before .before in
     omega (arith, inside (at-2 .before .before .before .before .before .before .before), room-2 at-2, ran-length (at-3 .pair .ensures))
 
-add-pair-3 : tie.Need-add-pair-3
-add-pair-3 c = search needs
-
 pair-requires-3 : tie.Need-pair-requires-3
 pair-requires-3 c κs =
     let at-4 = c .before .before .before in
     let at-2 = at-4 .before .before .before .before .before .before .before .before in
     omega (arith, inside (at-2 .before .before .before .before .before .before .before), room-4 at-4)
-
-add-words : tie.Need-add-words
-add-words c = search needs
 
 words-requires : tie.Need-words-requires
 words-requires c κs =
@@ -98,9 +68,6 @@ byte-requires-3 c κs =
     let same = ran-length (at-6 .words .ensures) ∙ ran-length (at-5 .pair3 .ensures) ∙ room-4 at-4 in
     omega (arith, inside (at-2 .before .before .before .before .before .before .before))
 
-same-length : tie.Need-same-length
-same-length c = search needs
-
 returns : tie.Need-returns
 returns c =
     let at-6 = c .before .before .before .before .before .before in
@@ -116,5 +83,6 @@ returns c =
 pub write-spec : {M : Type 1} → statement M
 write-spec =
     tie.close
-    (tie.spec mul-size add-size add-last add-last-2 cast-low byte-requires add-byte cast-byte byte-requires-2 add-pair pair-requires
-    add-pair-2 pair-requires-2 add-pair-3 pair-requires-3 add-words words-requires byte-requires-3 same-length returns)
+    (tie.spec (λ c. search needs) (λ c. search needs) (λ c. search needs) add-last-2 (λ c. search needs) byte-requires (λ c. search needs)
+    (λ c. search needs) byte-requires-2 (λ c. search needs) pair-requires (λ c. search needs) pair-requires-2 (λ c. search needs)
+    pair-requires-3 (λ c. search needs) words-requires byte-requires-3 (λ c. search needs) returns)

@@ -17,14 +17,8 @@ Inv-loop list n top end s₀ t₀ best₀ s t best = Search list n top end s t b
 abbrev μ-loop : tie.MeasureT-loop
 μ-loop list n top end s₀ t₀ best₀ s t best = top + end - (s .at + t .at)
 
-count-requires : tie.Need-count-requires Inv-loop μ-loop
-count-requires c κs = search needs
-
 top-requires : tie.Need-top-requires Inv-loop μ-loop
 top-requires c κs = c .before .pre .shape .some
-
-sides-requires : tie.Need-sides-requires Inv-loop μ-loop
-sides-requires c κs = search needs
 
 side-at-requires : tie.Need-side-at-requires Inv-loop μ-loop
 side-at-requires c κs = let v = c .before .before .before .pre in (omega arith, v .inRange, v .shape .some)
@@ -90,9 +84,6 @@ goes-on c =
 apart-requires-2 : tie.Need-apart-requires-2 Inv-loop μ-loop
 apart-requires-2 c κs = half-corners (goes-on c .1)
 
-better-requires : tie.Need-better-requires Inv-loop μ-loop
-better-requires c κs = search needs
-
 loop-less : tie.Need-loop-less Inv-loop μ-loop
 loop-less c = goes-on (c .before .before) .2
 
@@ -109,5 +100,6 @@ returns c = search-done (c .before .before .before .loop .inv) (omega (arith, c 
 pub longest-spec : {M : Type 1} → statement M
 longest-spec =
     tie.close
-    (tie.spec Inv-loop μ-loop count-requires top-requires sides-requires side-at-requires side-at-requires-2 apart-requires loop-holds
-    add-if1 add-if1-2 goes-right-requires next-requires next-requires-2 apart-requires-2 better-requires loop-less loop-again returns)
+    (tie.spec Inv-loop μ-loop (λ c κs. search needs) top-requires (λ c κs. search needs) side-at-requires side-at-requires-2 apart-requires
+    loop-holds add-if1 add-if1-2 goes-right-requires next-requires next-requires-2 apart-requires-2 (λ c κs. search needs) loop-less
+    loop-again returns)

@@ -17,9 +17,6 @@ abbrev μ-loop : tie.MeasureT-loop
 top-requires : tie.Need-top-requires Inv-loop μ-loop
 top-requires c κs = c .pre .0 .shape .some
 
-sides-requires : tie.Need-sides-requires Inv-loop μ-loop
-sides-requires c κs = search needs
-
 side-at-requires : tie.Need-side-at-requires Inv-loop μ-loop
 side-at-requires c κs = let v = c .before .before .pre .0 in (omega arith, v .inRange, v .shape .some)
 
@@ -45,20 +42,11 @@ add-if1-2 c = let inv = c .before .before .loop .inv in omega (arith, half-room 
 goes-right-requires : tie.Need-goes-right-requires Inv-loop μ-loop
 goes-right-requires c κs = half-edges (c .before .before .before .loop .inv .half)
 
-pick-requires : tie.Need-pick-requires Inv-loop μ-loop
-pick-requires c κs = search needs
-
-pick-requires-2 : tie.Need-pick-requires-2 Inv-loop μ-loop
-pick-requires-2 c κs = search needs
-
 measured-requires : tie.Need-measured-requires Inv-loop μ-loop
 measured-requires c κs =
     let at-right = c .before .before in
     sweep-fits (at-right .before .before .before .before .loop .inv) (at-right .goes-right .result) (c .before .pick .ensures)
     (c .pick2 .ensures)
-
-narrower-requires : tie.Need-narrower-requires Inv-loop μ-loop
-narrower-requires c κs = search needs
 
 next-requires : tie.Need-next-requires Inv-loop μ-loop
 next-requires c κs =
@@ -92,6 +80,6 @@ returns c = sweep-done (c .before .before .before .loop .inv) (omega (arith, c .
 pub narrowest-spec : {M : Type 1} → statement M
 narrowest-spec =
     tie.close
-    (tie.spec Inv-loop μ-loop top-requires sides-requires side-at-requires side-at-requires-2 loop-holds add-if1 add-if1-2
-    goes-right-requires pick-requires pick-requires-2 measured-requires narrower-requires next-requires next-requires-2 loop-less loop-again
-    returns)
+    (tie.spec Inv-loop μ-loop top-requires (λ c κs. search needs) side-at-requires side-at-requires-2 loop-holds add-if1 add-if1-2
+    goes-right-requires (λ c κs. search needs) (λ c κs. search needs) measured-requires (λ c κs. search needs) next-requires next-requires-2
+    loop-less loop-again returns)

@@ -11,12 +11,6 @@ use Rattle.neighbours.specs.theory.Spacings.{apart-numbers}
 use Rattle.neighbours.proofs.spacing.between.Statement.{statement}
 use Rattle.neighbours.proofs.spacing.between.Tie as tie
 
-relation-requires : tie.Need-relation-requires
-relation-requires c κs = search needs
-
-enum-told : tie.Need-enum-told
-enum-told c = search needs
-
 -- past the relation the shapes are apart
 ready : (c : tie.After-enum-told) → let args = c .before .before .before .args in
     apart (points (args .a .now)) (points (args .b .now)) ≡ true
@@ -24,12 +18,6 @@ ready c = related-apart _ _ (ap numberOf (sym (c .enum-told .given .1)) ∙ c .b
 
 nearest-requires : tie.Need-nearest-requires
 nearest-requires c κs = let start = c .before .before .before in (start .pre .0, start .pre .1, ready c)
-
-enum-told-2 : tie.Need-enum-told-2
-enum-told-2 c = search needs
-
-enum-told-3 : tie.Need-enum-told-3
-enum-told-3 c = search needs
 
 returns : tie.Need-returns
 returns c = c .nearest .ensures ∙ apart-numbers _ _ (ready (c .before))
@@ -45,12 +33,5 @@ returns-3 c = apart-numbers _ _ (related-not-apart _ _ {n = 2} (omega arith)
 pub between-spec : {M : Type 1} → statement M
 between-spec =
     tie.close
-    (tie.spec
-    relation-requires
-    enum-told
-    nearest-requires
-    enum-told-2
-    enum-told-3
-    returns
-    returns-2
+    (tie.spec (λ c κs. search needs) (λ c. search needs) nearest-requires (λ c. search needs) (λ c. search needs) returns returns-2
     returns-3)

@@ -20,26 +20,11 @@ found : (c : tie.After-head) → let start = c .before .before .before .before .
     EntryAt (start .args .log .now) (start .args .k) (c .head .given .0 .0)
 found c = subst (Entered _ _) (c .head .given .1) (c .before .before .entry .ensures)
 
-survey-requires : tie.Need-survey-requires
-survey-requires c κs = search needs
-
-enum-known-place : tie.Need-enum-known-place
-enum-known-place c = search needs
-
 returns : tie.Need-returns
 returns c = entry-damaged _ _ _ _ (sym (c .before .before .before .survey .ensures) ∙ c .before .place .given .1)
 
-enum-told : tie.Need-enum-told
-enum-told c = search needs
-
 entry-requires : tie.Need-entry-requires
 entry-requires c κs = sound c
-
-enum-known-head : tie.Need-enum-known-head
-enum-known-head c = search needs
-
-enum-told-2 : tie.Need-enum-told-2
-enum-told-2 c = search needs
 
 returns-2 : tie.Need-returns-2
 returns-2 c =
@@ -54,9 +39,6 @@ returns-3 c =
 decode-requires : tie.Need-decode-requires
 decode-requires c κs = (found (c .before .before .before .before) .stated .inside, omega (arith, c .before .if1 .left))
 
-same-length : tie.Need-same-length
-same-length c = search needs
-
 returns-4 : tie.Need-returns-4
 returns-4 c =
     let at-decode = c .before .before in
@@ -68,5 +50,5 @@ returns-4 c =
 pub log-entry-spec : {M : Type 1} → statement M
 log-entry-spec =
     tie.close
-    (tie.spec survey-requires enum-known-place returns enum-told entry-requires enum-known-head enum-told-2 returns-2 returns-3
-    decode-requires same-length returns-4)
+    (tie.spec (λ c κs. search needs) (λ c. search needs) returns (λ c. search needs) entry-requires (λ c. search needs) (λ c. search needs)
+    returns-2 returns-3 decode-requires (λ c. search needs) returns-4)

@@ -23,38 +23,20 @@ use Rattle.questions.proofs.books.log_gap.Tie as tie
 abbrev lent : tie.Start → Floored
 lent c = on (c .args .cart .now) (c .args .floor)
 
-admit-requires : tie.Need-admit-requires
-admit-requires c κs = search needs
-
-enum-known-refusal : tie.Need-enum-known-refusal
-enum-known-refusal c = search needs
-
 returns : tie.Need-returns
 returns c =
     let at-admit = c .before .before .before in
     gap-refused _ (lent (at-admit .before .before)) (at-admit .admit .ensures .no _ (c .before .refusal .given .1))
 
-enum-told : tie.Need-enum-told
-enum-told c = search needs
-
 -- past the judging the cart is a shape
 valid : (c : tie.After-enum-told) → Valid (c .before .before .before .before .args .cart .now)
 valid c = c .before .before .admit .ensures .valid (c .enum-told .given .1)
-
-survey-requires : tie.Need-survey-requires
-survey-requires c κs = search needs
-
-enum-known-place : tie.Need-enum-known-place
-enum-known-place c = search needs
 
 returns-2 : tie.Need-returns-2
 returns-2 c =
     let at-told = c .before .before .before .before in
     gap-damaged _ (lent (at-told .before .before .before .before)) (valid at-told) _
     (sym (c .before .before .before .survey .ensures) ∙ c .before .place .given .1)
-
-enum-told-2 : tie.Need-enum-told-2
-enum-told-2 c = search needs
 
 -- past the survey no record is bad
 sound : (c : tie.After-enum-told2) → damaged (records (c .before .before .before .before .before .before .before .args .log .now)) ≡ false
@@ -79,9 +61,6 @@ two c = omega (arith, c .before .count .ensures, c .if1 .left)
 admit-sizes-requires : tie.Need-admit-sizes-requires
 admit-sizes-requires c κs = let at-sound = c .before .before in (sound at-sound, valid (at-sound .before .before .before))
 
-enum-known-refusal-2 : tie.Need-enum-known-refusal-2
-enum-known-refusal-2 c = search needs
-
 returns-4 : tie.Need-returns-4
 returns-4 c =
     let at-sizes = c .before .before .before in
@@ -90,9 +69,6 @@ returns-4 c =
     let at-told = at-sound .before .before .before in
     gap-large _ (lent (at-told .before .before .before .before)) (valid at-told) (sound at-sound) (two at-else)
     (at-sizes .admit-sizes .ensures .no _ (c .before .refusal2 .given .1))
-
-enum-told-3 : tie.Need-enum-told-3
-enum-told-3 c = search needs
 
 -- past the sizes every grown shape is one
 sized : (c : tie.After-enum-told3)
@@ -105,12 +81,6 @@ gap-requires c κs =
     let at-sound = c .before .before .before .before .before in
     (sound at-sound, valid (at-sound .before .before .before), sized c)
 
-enum-known-first : tie.Need-enum-known-first
-enum-known-first c = search needs
-
-enum-told-4 : tie.Need-enum-told-4
-enum-told-4 c = search needs
-
 returns-5 : tie.Need-returns-5
 returns-5 c =
     let at-gap = c .before .before in
@@ -118,9 +88,6 @@ returns-5 c =
     let args = at-else .before .before .before .before .before .before .before .before .before .args in
     absurd (some-pair (points (args .cart .now)) (onFloor (args .floor) (args .log .now)) (two at-else)
     (ap numbersOf (sym (c .enum-told4 .given .1)) ∙ at-gap .gap .ensures))
-
-paired-requires : tie.Need-paired-requires
-paired-requires c κs = search needs
 
 returns-6 : tie.Need-returns-6
 returns-6 c =
@@ -137,6 +104,6 @@ returns-6 c =
 pub log-gap-spec : {M : Type 1} → statement M
 log-gap-spec =
     tie.close
-    (tie.spec admit-requires enum-known-refusal returns enum-told survey-requires enum-known-place returns-2 enum-told-2 count-requires
-    returns-3 admit-sizes-requires enum-known-refusal-2 returns-4 enum-told-3 gap-requires enum-known-first enum-told-4 returns-5
-    paired-requires returns-6)
+    (tie.spec (λ c κs. search needs) (λ c. search needs) returns (λ c. search needs) (λ c κs. search needs) (λ c. search needs) returns-2
+    (λ c. search needs) count-requires returns-3 admit-sizes-requires (λ c. search needs) returns-4 (λ c. search needs) gap-requires
+    (λ c. search needs) (λ c. search needs) returns-5 (λ c κs. search needs) returns-6)

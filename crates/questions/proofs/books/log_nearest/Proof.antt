@@ -11,36 +11,18 @@ use Rattle.questions.specs.theory.Books.{nearest-refused, nearest-damage
 use Rattle.questions.proofs.books.log_nearest.Statement.{statement}
 use Rattle.questions.proofs.books.log_nearest.Tie as tie
 
-admit-requires : tie.Need-admit-requires
-admit-requires c κs = search needs
-
-enum-known-refusal : tie.Need-enum-known-refusal
-enum-known-refusal c = search needs
-
 returns : tie.Need-returns
 returns c =
     nearest-refused _ _ _ _ (c .before .before .before .admit .ensures .no _ (c .before .refusal .given .1))
-
-enum-told : tie.Need-enum-told
-enum-told c = search needs
 
 -- past the judging the list is a shape
 valid : (c : tie.After-enum-told) → Valid (c .before .before .before .before .args .list .now)
 valid c = c .before .before .admit .ensures .valid (c .enum-told .given .1)
 
-survey-requires : tie.Need-survey-requires
-survey-requires c κs = search needs
-
-enum-known-place : tie.Need-enum-known-place
-enum-known-place c = search needs
-
 returns-2 : tie.Need-returns-2
 returns-2 c =
     let at-told = c .before .before .before .before in
     nearest-damaged _ _ _ _ (valid at-told) _ (sym (c .before .before .before .survey .ensures) ∙ c .before .place .given .1)
-
-enum-told-2 : tie.Need-enum-told-2
-enum-told-2 c = search needs
 
 -- past the survey no record is bad
 sound : (c : tie.After-enum-told2) → damaged (records (c .before .before .before .before .before .before .before .args .log .now)) ≡ false
@@ -49,20 +31,11 @@ sound c = surveyed-ends _ (c .enum-told2 .given .0 .0) (sym (c .before .before .
 nearest-requires : tie.Need-nearest-requires
 nearest-requires c κs = (sound c, valid (c .before .before .before))
 
-enum-known-name : tie.Need-enum-known-name
-enum-known-name c = search needs
-
-enum-told-3 : tie.Need-enum-told-3
-enum-told-3 c = search needs
-
 returns-3 : tie.Need-returns-3
 returns-3 c =
     let at-sound = c .before .before .before in
     nearest-nobody _ _ _ _ (valid (at-sound .before .before .before)) (sound at-sound)
     (ap nearNumbers (sym (c .enum-told3 .given .1)) ∙ c .before .before .nearest .ensures)
-
-named-requires : tie.Need-named-requires
-named-requires c κs = search needs
 
 returns-4 : tie.Need-returns-4
 returns-4 c =
@@ -75,18 +48,5 @@ returns-4 c =
 pub log-nearest-spec : {M : Type 1} → statement M
 log-nearest-spec =
     tie.close
-    (tie.spec
-    admit-requires
-    enum-known-refusal
-    returns
-    enum-told
-    survey-requires
-    enum-known-place
-    returns-2
-    enum-told-2
-    nearest-requires
-    enum-known-name
-    enum-told-3
-    returns-3
-    named-requires
-    returns-4)
+    (tie.spec (λ c κs. search needs) (λ c. search needs) returns (λ c. search needs) (λ c κs. search needs) (λ c. search needs) returns-2
+    (λ c. search needs) nearest-requires (λ c. search needs) (λ c. search needs) returns-3 (λ c κs. search needs) returns-4)

@@ -6,15 +6,6 @@ use Rattle.questions.specs.theory.Packing.{pack-damaged}
 use Rattle.questions.proofs.books.log_pack.Statement.{statement}
 use Rattle.questions.proofs.books.log_pack.Tie as tie
 
-survey-requires : tie.Need-survey-requires
-survey-requires c κs = search needs
-
-enum-known-place : tie.Need-enum-known-place
-enum-known-place c = search needs
-
-enum-told : tie.Need-enum-told
-enum-told c = search needs
-
 pack-sound-requires : tie.Need-pack-sound-requires
 pack-sound-requires c κs =
     let at-end = c .before in
@@ -25,12 +16,8 @@ returns c =
     let at-place = c .before in
     pack-damaged _ _ _ _ _ (sym (at-place .before .before .survey .ensures) ∙ at-place .place .given .1)
 
-same-length : tie.Need-same-length
-same-length c = search needs
-
-returns-2 : tie.Need-returns-2
-returns-2 c = search needs
-
 pub log-pack-spec : {M : Type 1} → statement M
 log-pack-spec =
-    tie.close (tie.spec survey-requires enum-known-place enum-told pack-sound-requires returns same-length returns-2)
+    tie.close
+    (tie.spec (λ c κs. search needs) (λ c. search needs) (λ c. search needs) pack-sound-requires returns (λ c. search needs)
+    (λ c. search needs))

@@ -9,15 +9,6 @@ use Rattle.neighbours.specs.declared.spacing.Spacing.{Spacing}
 use Rattle.questions.proofs.books.named.Statement.{statement}
 use Rattle.questions.proofs.books.named.Tie as tie
 
-enum-told : tie.Need-enum-told
-enum-told c = search needs
-
-enum-known-spacing : tie.Need-enum-known-spacing
-enum-known-spacing c = search needs
-
-placed-requires : tie.Need-placed-requires
-placed-requires c κs = search needs
-
 returns : tie.Need-returns
 returns c =
     let args = c .before .before .args in
@@ -31,4 +22,4 @@ returns-2 c =
     (sym (c .before .before .spacing .given .1))
 
 pub named-spec : {M : Type 1} → statement M
-named-spec = tie.close (tie.spec enum-told enum-known-spacing placed-requires returns returns-2)
+named-spec = tie.close (tie.spec (λ c. search needs) (λ c. search needs) (λ c κs. search needs) returns returns-2)

@@ -14,9 +14,6 @@ room : (c : tie.Else1) → let args = c .before .before .before .before .args in
     length (packed (args .old .now) (args .but)) ≤ length (args .new .now)
 room c = omega (arith, c .if1 .left, c .before .packed-length .ensures)
 
-packed-length-requires : tie.Need-packed-length-requires
-packed-length-requires c κs = search needs
-
 returns : tie.Need-returns
 returns c =
     let start = c .before .before .before .before in
@@ -26,18 +23,12 @@ returns c =
 pack-requires : tie.Need-pack-requires
 pack-requires c κs = (c .before .before .before .before .before .pre, room (c .before))
 
-same-length : tie.Need-same-length
-same-length c = search needs
-
 returns-2 : tie.Need-returns-2
 returns-2 c =
     let at-pack = c .before .before .before in
     let at-room = at-pack .before .before in
     let start = at-room .before .before .before .before in
     pack-done _ _ _ _ (start .pre) (room at-room) (c .if2 .taken) (at-pack .pack .ensures .0) (at-pack .pack .ensures .1)
-
-same-length-2 : tie.Need-same-length-2
-same-length-2 c = search needs
 
 returns-3 : tie.Need-returns-3
 returns-3 c =
@@ -48,4 +39,5 @@ returns-3 c =
 
 pub pack-sound-spec : {M : Type 1} → statement M
 pack-sound-spec =
-    tie.close (tie.spec packed-length-requires returns pack-requires same-length returns-2 same-length-2 returns-3)
+    tie.close
+    (tie.spec (λ c κs. search needs) returns pack-requires (λ c. search needs) returns-2 (λ c. search needs) returns-3)

@@ -9,15 +9,6 @@ use Rattle.neighbours.specs.declared.spacing.Spacing.{Spacing}
 use Rattle.questions.proofs.books.paired.Statement.{statement}
 use Rattle.questions.proofs.books.paired.Tie as tie
 
-enum-told : tie.Need-enum-told
-enum-told c = search needs
-
-enum-known-spacing : tie.Need-enum-known-spacing
-enum-known-spacing c = search needs
-
-spaced-requires : tie.Need-spaced-requires
-spaced-requires c κs = search needs
-
 returns : tie.Need-returns
 returns c =
     let args = c .before .before .args in
@@ -32,4 +23,4 @@ returns-2 c =
     (sym (c .before .before .spacing .given .1))
 
 pub paired-spec : {M : Type 1} → statement M
-paired-spec = tie.close (tie.spec enum-told enum-known-spacing spaced-requires returns returns-2)
+paired-spec = tie.close (tie.spec (λ c. search needs) (λ c. search needs) (λ c κs. search needs) returns returns-2)

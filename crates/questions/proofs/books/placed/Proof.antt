@@ -9,15 +9,6 @@ use Rattle.clearance.specs.declared.measured.Distance.{Distance}
 use Rattle.questions.proofs.books.placed.Statement.{statement}
 use Rattle.questions.proofs.books.placed.Tie as tie
 
-enum-known-distance : tie.Need-enum-known-distance
-enum-known-distance c = search needs
-
-enum-known-distance-2 : tie.Need-enum-known-distance-2
-enum-known-distance-2 c = search needs
-
-enum-known-distance-3 : tie.Need-enum-known-distance-3
-enum-known-distance-3 c = search needs
-
 returns : tie.Need-returns
 returns c =
     let args = c .before .before .before .args in
@@ -34,12 +25,4 @@ returns-3 c =
     ap (λ (d : Distance). answered (pos (args .name) ∷ valuesOf d ++ (pos (args .floor) ∷ []))) (sym (c .before .distance3 .given .1))
 
 pub placed-spec : {M : Type 1} → statement M
-placed-spec =
-    tie.close
-    (tie.spec
-    enum-known-distance
-    enum-known-distance-2
-    enum-known-distance-3
-    returns
-    returns-2
-    returns-3)
+placed-spec = tie.close (tie.spec (λ c. search needs) (λ c. search needs) (λ c. search needs) returns returns-2 returns-3)

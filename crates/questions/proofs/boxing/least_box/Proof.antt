@@ -23,15 +23,6 @@ shape c = on (c .args .list .now) (c .args .floor)
 valid : (c : tie.After-enum-told) → Valid (c .before .before .before .args .list .now)
 valid c = c .before .before .admit .ensures .valid (c .enum-told .given .1)
 
-admit-requires : tie.Need-admit-requires
-admit-requires c κs = search needs
-
-enum-known-refusal : tie.Need-enum-known-refusal
-enum-known-refusal c = search needs
-
-enum-told : tie.Need-enum-told
-enum-told c = search needs
-
 -- past the count there are three corners
 three : (c : tie.Else1) → 3 ≤ length (points (c .before .before .before .before .before .args .list .now))
 three c = omega (arith, c .if1 .left, c .before .count .ensures)
@@ -39,9 +30,6 @@ three c = omega (arith, c .if1 .left, c .before .count .ensures)
 returns : tie.Need-returns
 returns c = shapes-refused (askBox (shape (c .before .before .before .before)))
     (c .before .before .before .admit .ensures .no _ (c .before .refusal .given .1)) .0
-
-count-requires : tie.Need-count-requires
-count-requires c κs = search needs
 
 returns-2 : tie.Need-returns-2
 returns-2 c =
@@ -62,4 +50,5 @@ returns-3 c =
 pub least-box-spec : {M : Type 1} → statement M
 least-box-spec =
     tie.close
-    (tie.spec admit-requires enum-known-refusal returns enum-told count-requires returns-2 least-box-requires returns-3)
+    (tie.spec (λ c κs. search needs) (λ c. search needs) returns (λ c. search needs) (λ c κs. search needs) returns-2 least-box-requires
+    returns-3)

@@ -20,15 +20,6 @@ other c = on (c .args .old .now) (c .args .g)
 shapes : (c : tie.After-enum-told) → let start = c .before .before .before in Same (one start) (other start)
 shapes c = c .before .before .admit-pair .ensures .valid (c .enum-told .given .1)
 
-admit-pair-requires : tie.Need-admit-pair-requires
-admit-pair-requires c κs = search needs
-
-enum-known-refusal : tie.Need-enum-known-refusal
-enum-known-refusal c = search needs
-
-enum-told : tie.Need-enum-told
-enum-told c = search needs
-
 returns : tie.Need-returns
 returns c =
     let start = c .before .before .before .before in
@@ -37,9 +28,6 @@ returns c =
 
 beyond-requires : tie.Need-beyond-requires
 beyond-requires c κs = let both = shapes c in (both .first-valid, both .second-valid)
-
-told-requires : tie.Need-told-requires
-told-requires c κs = search needs
 
 returns-2 : tie.Need-returns-2
 returns-2 c =
@@ -51,4 +39,4 @@ returns-2 c =
 pub excess-spec : {M : Type 1} → statement M
 excess-spec =
     tie.close
-    (tie.spec admit-pair-requires enum-known-refusal returns enum-told beyond-requires told-requires returns-2)
+    (tie.spec (λ c κs. search needs) (λ c. search needs) returns (λ c. search needs) beyond-requires (λ c κs. search needs) returns-2)

@@ -9,21 +9,6 @@ use borrow.Author.Needs.{needs}
 use Rattle.questions.proofs.coordinate.read_part.Statement.{statement}
 use Rattle.questions.proofs.coordinate.read_part.Tie as tie
 
-read-requires : tie.Need-read-requires
-read-requires c κs = search needs
-
-enum-known-n : tie.Need-enum-known-n
-enum-known-n c = search needs
-
-enum-told : tie.Need-enum-told
-enum-told c = search needs
-
-enum-told-2 : tie.Need-enum-told-2
-enum-told-2 c = search needs
-
-enum-told-3 : tie.Need-enum-told-3
-enum-told-3 c = search needs
-
 returns : tie.Need-returns
 returns c =
     sym (c .before .before .before .read .ensures) ∙ c .before .n .given .1
@@ -50,13 +35,5 @@ returns-4 c =
 pub read-part-spec : {M : Type 1} → statement M
 read-part-spec =
     tie.close
-    (tie.spec
-    read-requires
-    enum-known-n
-    enum-told
-    enum-told-2
-    enum-told-3
-    returns
-    returns-2
-    returns-3
-    returns-4)
+    (tie.spec (λ c κs. search needs) (λ c. search needs) (λ c. search needs) (λ c. search needs) (λ c. search needs) returns returns-2
+    returns-3 returns-4)

@@ -12,9 +12,6 @@ use Rattle.admission.specs.theory.Judged.{refuses, passes, turns-away}
 use Rattle.questions.proofs.driving.admit_place.Statement.{statement}
 use Rattle.questions.proofs.driving.admit_place.Tie as tie
 
-outside-requires : tie.Need-outside-requires
-outside-requires c κs = search needs
-
 -- row 3, by both tests
 either : (x y : ℤ) {a b : Bool} → outside x ≡ a → outside y ≡ b → someOutside (x ∷ y ∷ []) ≡ (a || (b || false))
 unfolding someOutside
@@ -29,9 +26,6 @@ y-is c e = sym (c .outside2 .ensures ∙ ap outside (result-is w32 (c .before .s
 returns : tie.Need-returns
 returns c = turns-away (refuses (here (either _ _ (x-is (c .before) (c .if1 .taken)) refl)))
 
-outside-requires-2 : tie.Need-outside-requires-2
-outside-requires-2 c κs = search needs
-
 returns-2 : tie.Need-returns-2
 returns-2 c = turns-away (refuses (here (either _ _ (x-is (c .before .before .before .before) (c .before .before .before .if1 .left))
     (y-is (c .before) (c .if2 .taken)))))
@@ -41,5 +35,4 @@ returns-3 c = passes (either _ _ (x-is (c .before .before .before .before) (c .b
     (y-is (c .before) (c .if2 .left)))
 
 pub admit-place-spec : {M : Type 1} → statement M
-admit-place-spec =
-    tie.close (tie.spec outside-requires returns outside-requires-2 returns-2 returns-3)
+admit-place-spec = tie.close (tie.spec (λ c κs. search needs) returns (λ c κs. search needs) returns-2 returns-3)

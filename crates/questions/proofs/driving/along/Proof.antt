@@ -48,34 +48,16 @@ to-near : (c : tie.After-enum-told4)
     someOutside (p .x ∷ p .y ∷ []) ≡ false
 to-near c = c .before .before .admit-place2 .ensures .valid (c .enum-told4 .given .1)
 
-admit-requires : tie.Need-admit-requires
-admit-requires c κs = search needs
-
-enum-known-refusal : tie.Need-enum-known-refusal
-enum-known-refusal c = search needs
-
 returns : tie.Need-returns
 returns c =
     let at-admit = c .before .before .before in
     drive-refused _ (lent (at-admit .before .before)) _ _ (at-admit .admit .ensures .no _ (c .before .refusal .given .1))
-
-enum-told : tie.Need-enum-told
-enum-told c = search needs
-
-survey-requires : tie.Need-survey-requires
-survey-requires c κs = search needs
-
-enum-known-place : tie.Need-enum-known-place
-enum-known-place c = search needs
 
 returns-2 : tie.Need-returns-2
 returns-2 c =
     let at-told = c .before .before .before .before in
     drive-damaged _ (lent (at-start at-told)) _ _ (valid at-told) _
     (sym (c .before .before .before .survey .ensures) ∙ c .before .place .given .1)
-
-enum-told-2 : tie.Need-enum-told-2
-enum-told-2 c = search needs
 
 is-empty-requires : tie.Need-is-empty-requires
 is-empty-requires c κs = sound c
@@ -86,12 +68,6 @@ returns-3 c =
     let at-told = at-sound .before .before .before in
     drive-empty _ (lent (at-start at-told)) _ _ (valid at-told) (sound at-sound) (sym (c .before .is-empty .ensures) ∙ c .if1 .taken)
 
-admit-place-requires : tie.Need-admit-place-requires
-admit-place-requires c κs = search needs
-
-enum-known-refusal-2 : tie.Need-enum-known-refusal-2
-enum-known-refusal-2 c = search needs
-
 returns-4 : tie.Need-returns-4
 returns-4 c =
     let at-from = c .before .before .before in
@@ -100,15 +76,6 @@ returns-4 c =
     let at-told = at-sound .before .before .before in
     drive-far _ (lent (at-start at-told)) _ _ (valid at-told) (sound at-sound) (some at-else)
     (at-from .admit-place .ensures .no _ (c .before .refusal2 .given .1))
-
-enum-told-3 : tie.Need-enum-told-3
-enum-told-3 c = search needs
-
-admit-place-requires-2 : tie.Need-admit-place-requires-2
-admit-place-requires-2 c κs = search needs
-
-enum-known-refusal-3 : tie.Need-enum-known-refusal-3
-enum-known-refusal-3 c = search needs
 
 returns-5 : tie.Need-returns-5
 returns-5 c =
@@ -120,16 +87,10 @@ returns-5 c =
     drive-beyond _ (lent (at-start at-told)) _ _ (valid at-told) (sound at-sound) (some at-else) (from-near at-from)
     (at-to .admit-place2 .ensures .no _ (c .before .refusal3 .given .1))
 
-enum-told-4 : tie.Need-enum-told-4
-enum-told-4 c = search needs
-
 admit-sizes-requires : tie.Need-admit-sizes-requires
 admit-sizes-requires c κs =
     let at-sound = c .before .before .before .before .before .before .before .before in
     (sound at-sound, valid (at-sound .before .before .before))
-
-enum-known-refusal-4 : tie.Need-enum-known-refusal-4
-enum-known-refusal-4 c = search needs
 
 returns-6 : tie.Need-returns-6
 returns-6 c =
@@ -141,9 +102,6 @@ returns-6 c =
     let at-told = at-sound .before .before .before in
     drive-large _ (lent (at-start at-told)) _ _ (valid at-told) (sound at-sound) (some at-else) (from-near at-from) (to-near at-to)
     (at-sizes .admit-sizes .ensures .no _ (c .before .refusal4 .given .1))
-
-enum-told-5 : tie.Need-enum-told-5
-enum-told-5 c = search needs
 
 -- past the sizes every grown shape is one
 sized : (c : tie.After-enum-told5)
@@ -163,9 +121,6 @@ first-requires c κs =
       sized c,
     )
 
-reached-requires : tie.Need-reached-requires
-reached-requires c κs = search needs
-
 returns-7 : tie.Need-returns-7
 returns-7 c =
     let at-sized = c .before .before in
@@ -181,7 +136,7 @@ returns-7 c =
 pub along-spec : {M : Type 1} → statement M
 along-spec =
     tie.close
-    (tie.spec admit-requires enum-known-refusal returns enum-told survey-requires enum-known-place returns-2 enum-told-2
-    is-empty-requires returns-3 admit-place-requires enum-known-refusal-2 returns-4 enum-told-3 admit-place-requires-2
-    enum-known-refusal-3 returns-5 enum-told-4 admit-sizes-requires enum-known-refusal-4 returns-6 enum-told-5 first-requires
-    reached-requires returns-7)
+    (tie.spec (λ c κs. search needs) (λ c. search needs) returns (λ c. search needs) (λ c κs. search needs) (λ c. search needs) returns-2
+    (λ c. search needs) is-empty-requires returns-3 (λ c κs. search needs) (λ c. search needs) returns-4 (λ c. search needs)
+    (λ c κs. search needs) (λ c. search needs) returns-5 (λ c. search needs) admit-sizes-requires (λ c. search needs) returns-6
+    (λ c. search needs) first-requires (λ c κs. search needs) returns-7)

@@ -9,9 +9,6 @@ use Rattle.contact.specs.Contact.{askContact}
 use Rattle.questions.proofs.driving.contact.Statement.{statement}
 use Rattle.questions.proofs.driving.contact.Tie as tie
 
-driven-requires : tie.Need-driven-requires
-driven-requires c κs = search needs
-
 returns : tie.Need-returns
 returns c =
     let start = c .before in
@@ -22,4 +19,4 @@ returns c =
     (ap₂ point (toZ-ofZ (fits .x)) (toZ-ofZ (fits .y))) (ap₂ point (toZ-ofZ (fits .u)) (toZ-ofZ (fits .v)))
 
 pub contact-spec : {M : Type 1} → statement M
-contact-spec = tie.close (tie.spec driven-requires returns)
+contact-spec = tie.close (tie.spec (λ c κs. search needs) returns)

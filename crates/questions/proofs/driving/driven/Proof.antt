@@ -51,25 +51,10 @@ grown-fits : (c : tie.After-enum-told4)
     NoneApply (rows start)
 grown-fits c = c .before .before .admit-grown .ensures .valid (c .enum-told4 .given .1)
 
-admit-pair-requires : tie.Need-admit-pair-requires
-admit-pair-requires c κs = search needs
-
-enum-known-refusal : tie.Need-enum-known-refusal
-enum-known-refusal c = search needs
-
 returns : tie.Need-returns
 returns c =
     let at-pair = c .before .before .before in
     shapes-refused (asked (at-pair .before)) (at-pair .admit-pair .ensures .no _ (c .before .refusal .given .1)) .0
-
-enum-told : tie.Need-enum-told
-enum-told c = search needs
-
-admit-place-requires : tie.Need-admit-place-requires
-admit-place-requires c κs = search needs
-
-enum-known-refusal-2 : tie.Need-enum-known-refusal-2
-enum-known-refusal-2 c = search needs
 
 returns-2 : tie.Need-returns-2
 returns-2 c =
@@ -78,15 +63,6 @@ returns-2 c =
     let start = at-told .before .before .before in
     rest-refused (asked start) (shapes at-told) (refuses-append (placeRow 4 (at (start .args .to)) ∷ rows start)
     (at-from .admit-place .ensures .no _ (c .before .refusal2 .given .1))) .0
-
-enum-told-2 : tie.Need-enum-told-2
-enum-told-2 c = search needs
-
-admit-place-requires-2 : tie.Need-admit-place-requires-2
-admit-place-requires-2 c κs = search needs
-
-enum-known-refusal-3 : tie.Need-enum-known-refusal-3
-enum-known-refusal-3 c = search needs
 
 returns-3 : tie.Need-returns-3
 returns-3 c =
@@ -97,14 +73,8 @@ returns-3 c =
     rest-refused (asked start) (shapes at-told) (refuses-join (placeRow 3 (at (start .args .from)) ∷ []) (from-near at-from, tt)
     (refuses-append (rows start) (at-to .admit-place2 .ensures .no _ (c .before .refusal3 .given .1)))) .0
 
-enum-told-3 : tie.Need-enum-told-3
-enum-told-3 c = search needs
-
 admit-grown-requires : tie.Need-admit-grown-requires
 admit-grown-requires c κs = let all = shapes (c .before .before .before .before .before .before) in (all .first-valid, all .second-valid)
-
-enum-known-refusal-4 : tie.Need-enum-known-refusal-4
-enum-known-refusal-4 c = search needs
 
 returns-4 : tie.Need-returns-4
 returns-4 c =
@@ -117,9 +87,6 @@ returns-4 c =
     (refuses-join (placeRow 3 (at (start .args .from)) ∷ placeRow 4 (at (start .args .to)) ∷ []) (from-near at-from, (to-near at-to, tt))
     (at-grown .admit-grown .ensures .no _ (c .before .refusal4 .given .1))) .0
 
-enum-told-4 : tie.Need-enum-told-4
-enum-told-4 c = search needs
-
 first-requires : tie.Need-first-requires
 first-requires c κs =
     let at-to = c .before .before .before in
@@ -130,9 +97,6 @@ first-requires c κs =
       grown-valid _ _ (all .first-valid .shape .some) (all .second-valid .shape .some) (grown-fits c),
       record { from-near = in-range _ (from-near at-from); to-near = in-range _ (to-near at-to) },
     )
-
-met-requires : tie.Need-met-requires
-met-requires c κs = search needs
 
 returns-5 : tie.Need-returns-5
 returns-5 c =
@@ -147,23 +111,6 @@ returns-5 c =
 pub driven-spec : {M : Type 1} → statement M
 driven-spec =
     tie.close
-    (tie.spec
-    admit-pair-requires
-    enum-known-refusal
-    returns
-    enum-told
-    admit-place-requires
-    enum-known-refusal-2
-    returns-2
-    enum-told-2
-    admit-place-requires-2
-    enum-known-refusal-3
-    returns-3
-    enum-told-3
-    admit-grown-requires
-    enum-known-refusal-4
-    returns-4
-    enum-told-4
-    first-requires
-    met-requires
-    returns-5)
+    (tie.spec (λ c κs. search needs) (λ c. search needs) returns (λ c. search needs) (λ c κs. search needs) (λ c. search needs) returns-2
+    (λ c. search needs) (λ c κs. search needs) (λ c. search needs) returns-3 (λ c. search needs) admit-grown-requires (λ c. search needs)
+    returns-4 (λ c. search needs) first-requires (λ c κs. search needs) returns-5)

@@ -9,9 +9,6 @@ use Rattle.drives.specs.Drive.{askDrive}
 use Rattle.questions.proofs.driving.log_contact.Statement.{statement}
 use Rattle.questions.proofs.driving.log_contact.Tie as tie
 
-along-requires : tie.Need-along-requires
-along-requires c κs = search needs
-
 returns : tie.Need-returns
 returns c =
     let start = c .before .before in
@@ -22,4 +19,4 @@ returns c =
     (ap₂ point (toZ-ofZ (fits .x)) (toZ-ofZ (fits .y))) (ap₂ point (toZ-ofZ (fits .u)) (toZ-ofZ (fits .v)))
 
 pub log-contact-spec : {M : Type 1} → statement M
-log-contact-spec = tie.close (tie.spec along-requires returns)
+log-contact-spec = tie.close (tie.spec (λ c κs. search needs) returns)

@@ -10,12 +10,6 @@ use Rattle.contact.specs.declared.drive.Meeting.{Meeting}
 use Rattle.questions.proofs.driving.met.Statement.{statement}
 use Rattle.questions.proofs.driving.met.Tie as tie
 
-enum-told : tie.Need-enum-told
-enum-told c = search needs
-
-enum-known-found : tie.Need-enum-known-found
-enum-known-found c = search needs
-
 -- what is told of a meeting
 same : {x y : Meeting} (floor : ℕ)
     → x ≡ y → answered (meetingNumbers y ++ (pos floor ∷ [])) ≡ answered (meetingNumbers x ++ (pos floor ∷ []))
@@ -28,4 +22,4 @@ returns-2 : tie.Need-returns-2
 returns-2 c = same (c .before .before .before .args .floor) (c .before .found .given .1)
 
 pub met-spec : {M : Type 1} → statement M
-met-spec = tie.close (tie.spec enum-told enum-known-found returns returns-2)
+met-spec = tie.close (tie.spec (λ c. search needs) (λ c. search needs) returns returns-2)

@@ -10,12 +10,6 @@ use Rattle.drives.specs.declared.Soonest.{Soonest}
 use Rattle.questions.proofs.driving.reached.Statement.{statement}
 use Rattle.questions.proofs.driving.reached.Tie as tie
 
-enum-told : tie.Need-enum-told
-enum-told c = search needs
-
-enum-known-found : tie.Need-enum-known-found
-enum-known-found c = search needs
-
 -- what is told of what is found
 same : {x y : Soonest} (floor : ℕ)
     → x ≡ y → answered (foundNumbers y ++ (pos floor ∷ [])) ≡ answered (foundNumbers x ++ (pos floor ∷ []))
@@ -28,4 +22,4 @@ returns-2 : tie.Need-returns-2
 returns-2 c = same (c .before .before .before .args .floor) (c .before .found .given .1)
 
 pub reached-spec : {M : Type 1} → statement M
-reached-spec = tie.close (tie.spec enum-told enum-known-found returns returns-2)
+reached-spec = tie.close (tie.spec (λ c. search needs) (λ c. search needs) returns returns-2)

@@ -24,23 +24,11 @@ merge-requires c κs =
       ),
     )
 
-mul-deliver : tie.Need-mul-deliver
-mul-deliver c = search needs
-
-slice-reshare-prefix-deliver : tie.Need-slice-reshare-prefix-deliver
-slice-reshare-prefix-deliver c = search needs
-
 slice-aggregate-deliver : tie.Need-slice-aggregate-deliver
 slice-aggregate-deliver c = sym (front-length (c .before .before .merge .ensures))
 
 deliver-requires : tie.Need-deliver-requires
 deliver-requires c κs = front-paired (c .before .before .before .merge .ensures)
-
-same-length : tie.Need-same-length
-same-length c = search needs
-
-same-length-2 : tie.Need-same-length-2
-same-length-2 c = search needs
 
 returns : tie.Need-returns
 returns c =
@@ -54,5 +42,5 @@ returns c =
 pub merge-in-spec : {M : Type 1} → statement M
 merge-in-spec =
     tie.close
-    (tie.spec merge-requires mul-deliver slice-reshare-prefix-deliver slice-aggregate-deliver deliver-requires same-length same-length-2
-    returns)
+    (tie.spec merge-requires (λ c. search needs) (λ c. search needs) slice-aggregate-deliver deliver-requires (λ c. search needs)
+    (λ c. search needs) returns)

@@ -6,9 +6,6 @@ use Rattle.plane.specs.theory.lists.Flat.{points-length}
 use Rattle.questions.proofs.merging.merge_large.Statement.{statement}
 use Rattle.questions.proofs.merging.merge_large.Tie as tie
 
-slice-aggregate-merge-in : tie.Need-slice-aggregate-merge-in
-slice-aggregate-merge-in c = search needs
-
 merge-in-requires : tie.Need-merge-in-requires
 unfolding maxCorners
 merge-in-requires c κs =
@@ -19,11 +16,5 @@ merge-in-requires c κs =
     let other = points-length (start .args .b .now) in
     (u, v, omega (arith, u .few, v .few, u .paired, v .paired, one, other))
 
-same-length : tie.Need-same-length
-same-length c = search needs
-
-returns : tie.Need-returns
-returns c = search needs
-
 pub merge-large-spec : {M : Type 1} → statement M
-merge-large-spec = tie.close (tie.spec slice-aggregate-merge-in merge-in-requires same-length returns)
+merge-large-spec = tie.close (tie.spec (λ c. search needs) merge-in-requires (λ c. search needs) (λ c. search needs))

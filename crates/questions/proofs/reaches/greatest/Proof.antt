@@ -18,15 +18,6 @@ other c = on (c .args .b .now) (c .args .g)
 shapes : (c : tie.After-enum-told) → let start = c .before .before .before in Same (one start) (other start)
 shapes c = c .before .before .admit-pair .ensures .valid (c .enum-told .given .1)
 
-admit-pair-requires : tie.Need-admit-pair-requires
-admit-pair-requires c κs = search needs
-
-enum-known-refusal : tie.Need-enum-known-refusal
-enum-known-refusal c = search needs
-
-enum-told : tie.Need-enum-told
-enum-told c = search needs
-
 returns : tie.Need-returns
 returns c =
     let start = c .before .before .before .before in
@@ -44,4 +35,6 @@ returns-2 c =
     (rw (found .squared-is, found .from-is, found .to-is) refl)
 
 pub greatest-spec : {M : Type 1} → statement M
-greatest-spec = tie.close (tie.spec admit-pair-requires enum-known-refusal returns enum-told furthest-corners-requires returns-2)
+greatest-spec =
+    tie.close
+    (tie.spec (λ c κs. search needs) (λ c. search needs) returns (λ c. search needs) furthest-corners-requires returns-2)

@@ -40,21 +40,6 @@ carried xs i = refused 4 (1 ∷ getD xs (previous (length xs) i) 0 ∷ getD xs i
 find-requires : tie.Need-find-requires
 find-requires c κs = placed (c .before)
 
-previous-requires : tie.Need-previous-requires
-previous-requires c κs = search needs
-
-mul-t9 : tie.Need-mul-t9
-mul-t9 c = search needs
-
-shared-slice-read-t11 : tie.Need-shared-slice-read-t11
-shared-slice-read-t11 c = search needs
-
-mul-t12 : tie.Need-mul-t12
-mul-t12 c = search needs
-
-shared-slice-read-t14 : tie.Need-shared-slice-read-t14
-shared-slice-read-t14 c = search needs
-
 returns : tie.Need-returns
 returns c =
     let at-previous = c .before .before in
@@ -71,9 +56,6 @@ returns c =
     ∙ ap (λ (k : ℕ). refused 4 (1 ∷ getD places k 0 ∷ getD places i 0 ∷ [])) (sym (at-previous .previous .ensures .0)) in
     rest-refused (asked start) tt (subst (Refuses (ringRows (start .args .list .now) (start .args .out .now))) same
     (inward-refuses (start .args .list .now) (start .args .out .now) (start .pre .0) inside))
-
-mul-if2 : tie.Need-mul-if2
-mul-if2 c = search needs
 
 -- past the first test no corner turns in
 convex : (c : tie.Else1) → let start = c .before .before .before in
@@ -92,9 +74,6 @@ returns-2 c =
 write-requires : tie.Need-write-requires
 write-requires c κs = (placed (c .before .before .before .before .before), c .before .if2 .left)
 
-same-length : tie.Need-same-length
-same-length c = search needs
-
 returns-3 : tie.Need-returns-3
 returns-3 c =
     let at-write = c .before in
@@ -111,5 +90,5 @@ returns-3 c =
 pub told-spec : {M : Type 1} → statement M
 told-spec =
     tie.close
-    (tie.spec find-requires previous-requires mul-t9 shared-slice-read-t11 mul-t12 shared-slice-read-t14 returns mul-if2 returns-2
-    write-requires same-length returns-3)
+    (tie.spec find-requires (λ c κs. search needs) (λ c. search needs) (λ c. search needs) (λ c. search needs) (λ c. search needs) returns
+    (λ c. search needs) returns-2 write-requires (λ c. search needs) returns-3)

@@ -19,15 +19,6 @@ other c = on (c .args .b .now) (c .args .g)
 shapes : (c : tie.After-enum-told) → let start = c .before .before .before in Same (one start) (other start)
 shapes c = c .before .before .admit-pair .ensures .valid (c .enum-told .given .1)
 
-admit-pair-requires : tie.Need-admit-pair-requires
-admit-pair-requires c κs = search needs
-
-enum-known-refusal : tie.Need-enum-known-refusal
-enum-known-refusal c = search needs
-
-enum-told : tie.Need-enum-told
-enum-told c = search needs
-
 returns : tie.Need-returns
 returns c =
     let start = c .before .before .before .before in
@@ -35,9 +26,6 @@ returns c =
 
 find-requires : tie.Need-find-requires
 find-requires c κs = let both = shapes c in (both .first-valid, both .second-valid)
-
-told-requires : tie.Need-told-requires
-told-requires c κs = search needs
 
 returns-2 : tie.Need-returns-2
 returns-2 c =
@@ -51,4 +39,6 @@ returns-2 c =
     }
 
 pub find-spec : {M : Type 1} → statement M
-find-spec = tie.close (tie.spec admit-pair-requires enum-known-refusal returns enum-told find-requires told-requires returns-2)
+find-spec =
+    tie.close
+    (tie.spec (λ c κs. search needs) (λ c. search needs) returns (λ c. search needs) find-requires (λ c κs. search needs) returns-2)

@@ -50,33 +50,15 @@ judged-direction c =
 passed : (c : tie.After-enum-told2) → NoneApply (directionRows (offered (c .before .before .before .before .before .before)))
 passed c = judged-direction (c .before .before) .valid (c .enum-told2 .given .1)
 
-admit-pair-requires : tie.Need-admit-pair-requires
-admit-pair-requires c κs = search needs
-
-enum-known-refusal : tie.Need-enum-known-refusal
-enum-known-refusal c = search needs
-
-enum-told : tie.Need-enum-told
-enum-told c = search needs
-
 returns : tie.Need-returns
 returns c = shapes-refused (asked (c .before .before .before .before))
     (c .before .before .before .admit-pair .ensures .no _ (c .before .refusal .given .1)) .0
-
-admit-direction-requires : tie.Need-admit-direction-requires
-admit-direction-requires c κs = search needs
-
-enum-known-direction : tie.Need-enum-known-direction
-enum-known-direction c = search needs
 
 returns-2 : tie.Need-returns-2
 returns-2 c =
     let at-judged = c .before .before .before in
     rest-refused (asked (at-judged .before .before .before .before)) (shapes (at-judged .before))
     (judged-direction at-judged .no _ (c .before .direction .given .1)) .0
-
-enum-told-2 : tie.Need-enum-told-2
-enum-told-2 c = search needs
 
 is-below-requires : tie.Need-is-below-requires
 is-below-requires c κs =
@@ -96,5 +78,5 @@ returns-3 c =
 pub offer-spec : {M : Type 1} → statement M
 offer-spec =
     tie.close
-    (tie.spec admit-pair-requires enum-known-refusal returns enum-told admit-direction-requires enum-known-direction returns-2 enum-told-2
-    is-below-requires returns-3)
+    (tie.spec (λ c κs. search needs) (λ c. search needs) returns (λ c. search needs) (λ c κs. search needs) (λ c. search needs) returns-2
+    (λ c. search needs) is-below-requires returns-3)

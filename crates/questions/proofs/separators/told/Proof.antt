@@ -11,12 +11,6 @@ use Rattle.separator.specs.Separator.{separatorNumbers}
 use Rattle.questions.proofs.separators.told.Statement.{statement}
 use Rattle.questions.proofs.separators.told.Tie as tie
 
-enum-known-found : tie.Need-enum-known-found
-enum-known-found c = search needs
-
-enum-told : tie.Need-enum-told
-enum-told c = search needs
-
 returns : tie.Need-returns
 returns c =
     ap₂ (λ (u v : ℤ). answered (pos 1 ∷ u ∷ v ∷ pos (c .before .before .before .args .floor) ∷ []))
@@ -29,4 +23,4 @@ returns-2 c =
     ap (λ (x : Separator). answered (separatorNumbers x ++ (pos (c .before .before .args .floor) ∷ []))) (sym (c .enum-told .given .1))
 
 pub told-spec : {M : Type 1} → statement M
-told-spec = tie.close (tie.spec enum-known-found enum-told returns returns-2)
+told-spec = tie.close (tie.spec (λ c. search needs) (λ c. search needs) returns returns-2)

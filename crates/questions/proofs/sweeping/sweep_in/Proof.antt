@@ -15,23 +15,11 @@ sweep-requires c κs =
     let args = start .args in
     (start .pre .0, omega (arith, start .pre .1, points-length (args .list .now), points-length (args .shape .now)))
 
-mul-deliver : tie.Need-mul-deliver
-mul-deliver c = search needs
-
-slice-reshare-prefix-deliver : tie.Need-slice-reshare-prefix-deliver
-slice-reshare-prefix-deliver c = search needs
-
 slice-aggregate-deliver : tie.Need-slice-aggregate-deliver
 slice-aggregate-deliver c = sym (front-length (c .before .before .sweep .ensures))
 
 deliver-requires : tie.Need-deliver-requires
 deliver-requires c κs = front-paired (c .before .before .before .sweep .ensures)
-
-same-length : tie.Need-same-length
-same-length c = search needs
-
-same-length-2 : tie.Need-same-length-2
-same-length-2 c = search needs
 
 returns : tie.Need-returns
 returns c =
@@ -44,5 +32,5 @@ returns c =
 pub sweep-in-spec : {M : Type 1} → statement M
 sweep-in-spec =
     tie.close
-    (tie.spec sweep-requires mul-deliver slice-reshare-prefix-deliver slice-aggregate-deliver deliver-requires same-length same-length-2
-    returns)
+    (tie.spec sweep-requires (λ c. search needs) (λ c. search needs) slice-aggregate-deliver deliver-requires (λ c. search needs)
+    (λ c. search needs) returns)

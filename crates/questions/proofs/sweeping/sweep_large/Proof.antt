@@ -6,9 +6,6 @@ use Rattle.plane.specs.theory.lists.Flat.{points-length}
 use Rattle.questions.proofs.sweeping.sweep_large.Statement.{statement}
 use Rattle.questions.proofs.sweeping.sweep_large.Tie as tie
 
-slice-aggregate-sweep-in : tie.Need-slice-aggregate-sweep-in
-slice-aggregate-sweep-in c = search needs
-
 sweep-in-requires : tie.Need-sweep-in-requires
 unfolding maxPoints
 sweep-in-requires c κs =
@@ -16,11 +13,5 @@ sweep-in-requires c κs =
     let v = start .pre in
     (v, omega (arith, v .few, v .paired, points-length (start .args .list .now)))
 
-same-length : tie.Need-same-length
-same-length c = search needs
-
-returns : tie.Need-returns
-returns c = search needs
-
 pub sweep-large-spec : {M : Type 1} → statement M
-sweep-large-spec = tie.close (tie.spec slice-aggregate-sweep-in sweep-in-requires same-length returns)
+sweep-large-spec = tie.close (tie.spec (λ c. search needs) sweep-in-requires (λ c. search needs) (λ c. search needs))

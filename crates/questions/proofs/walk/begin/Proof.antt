@@ -22,34 +22,19 @@ asked c = askBegin (one c) (other c)
 shapes : (c : tie.After-enum-told) → let start = c .before .before .before in Same (one start) (other start)
 shapes c = c .before .before .admit-pair .ensures .valid (c .enum-told .given .1)
 
-admit-pair-requires : tie.Need-admit-pair-requires
-admit-pair-requires c κs = search needs
-
-enum-known-refusal : tie.Need-enum-known-refusal
-enum-known-refusal c = search needs
-
 returns : tie.Need-returns
 returns c =
     shapes-refused (asked (c .before .before .before .before))
     (c .before .before .before .admit-pair .ensures .no _ (c .before .refusal .given .1)) .0
 
-enum-told : tie.Need-enum-told
-enum-told c = search needs
-
 survey-requires : tie.Need-survey-requires
 survey-requires c κs = let both = shapes c in (both .first-valid, both .second-valid)
-
-enum-known-refusal-2 : tie.Need-enum-known-refusal-2
-enum-known-refusal-2 c = search needs
 
 returns-2 : tie.Need-returns-2
 returns-2 c =
     let at-survey = c .before .before .before in
     rest-refused (asked (at-survey .before .before .before .before)) (shapes (at-survey .before))
     (at-survey .survey .ensures .no _ (c .before .refusal2 .given .1)) .0
-
-enum-told-2 : tie.Need-enum-told-2
-enum-told-2 c = search needs
 
 returns-3 : tie.Need-returns-3
 returns-3 c =
@@ -60,4 +45,5 @@ returns-3 c =
 pub begin-spec : {M : Type 1} → statement M
 begin-spec =
     tie.close
-    (tie.spec admit-pair-requires enum-known-refusal returns enum-told survey-requires enum-known-refusal-2 returns-2 enum-told-2 returns-3)
+    (tie.spec (λ c κs. search needs) (λ c. search needs) returns (λ c. search needs) survey-requires (λ c. search needs) returns-2
+    (λ c. search needs) returns-3)

@@ -5,15 +5,6 @@ use Rattle.admission.specs.theory.Delivery.{sized-rows, judged-by}
 use Rattle.questions.proofs.walk.survey.Statement.{statement}
 use Rattle.questions.proofs.walk.survey.Tie as tie
 
-reckon-requires : tie.Need-reckon-requires
-reckon-requires c κs = search needs
-
-is-far-requires : tie.Need-is-far-requires
-is-far-requires c κs = search needs
-
-sized-requires : tie.Need-sized-requires
-sized-requires c κs = search needs
-
 returns : tie.Need-returns
 returns c =
     let args = c .before .before .before .args in
@@ -21,4 +12,4 @@ returns c =
     (c .sized .ensures)
 
 pub survey-spec : {M : Type 1} → statement M
-survey-spec = tie.close (tie.spec reckon-requires is-far-requires sized-requires returns)
+survey-spec = tie.close (tie.spec (λ c κs. search needs) (λ c κs. search needs) (λ c κs. search needs) returns)

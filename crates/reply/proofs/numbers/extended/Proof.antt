@@ -12,13 +12,10 @@ use Rattle.reply.proofs.numbers.extended.Tie as tie
 cast-bits : tie.Need-cast-bits
 cast-bits c = rw (toZ-ofZ (c .fits .z)) (sfits-widen tt (c .fits .z))
 
-bits-requires : tie.Need-bits-requires
-bits-requires c κs = search needs
-
 returns : tie.Need-returns
 returns c =
     let z = c .before .fits .z in
     c .bits .ensures ∙ ap bits (ap (λ (n : ℤ). toZ w64 (ofZ w64 n)) (toZ-ofZ z) ∙ toZ-ofZ {w = w64} (sfits-widen tt z))
 
 pub extended-spec : {M : Type 1} → statement M
-extended-spec = tie.close (tie.spec cast-bits bits-requires returns)
+extended-spec = tie.close (tie.spec cast-bits (λ c κs. search needs) returns)

@@ -10,114 +10,6 @@ use Rattle.reply.proofs.refusals.of_refusal.Tie as tie
 told : {x y : Refusal} → x ≡ y → crossed (ofRefusal y) ≡ crossed (ofRefusal x)
 told e = ap (λ (x : Refusal). crossed (ofRefusal x)) (sym e)
 
-enum-known-refusal : tie.Need-enum-known-refusal
-enum-known-refusal c = search needs
-
-refused1-requires : tie.Need-refused1-requires
-refused1-requires c κs = search needs
-
-enum-known-refusal-2 : tie.Need-enum-known-refusal-2
-enum-known-refusal-2 c = search needs
-
-refused1-requires-2 : tie.Need-refused1-requires-2
-refused1-requires-2 c κs = search needs
-
-enum-known-refusal-3 : tie.Need-enum-known-refusal-3
-enum-known-refusal-3 c = search needs
-
-refused1-requires-3 : tie.Need-refused1-requires-3
-refused1-requires-3 c κs = search needs
-
-enum-known-refusal-4 : tie.Need-enum-known-refusal-4
-enum-known-refusal-4 c = search needs
-
-refused3-requires : tie.Need-refused3-requires
-refused3-requires c κs = search needs
-
-enum-known-refusal-5 : tie.Need-enum-known-refusal-5
-enum-known-refusal-5 c = search needs
-
-refused1-requires-4 : tie.Need-refused1-requires-4
-refused1-requires-4 c κs = search needs
-
-enum-told : tie.Need-enum-told
-enum-told c = search needs
-
-refused0-requires : tie.Need-refused0-requires
-refused0-requires c κs = search needs
-
-enum-told-2 : tie.Need-enum-told-2
-enum-told-2 c = search needs
-
-refused0-requires-2 : tie.Need-refused0-requires-2
-refused0-requires-2 c κs = search needs
-
-enum-told-3 : tie.Need-enum-told-3
-enum-told-3 c = search needs
-
-refused0-requires-3 : tie.Need-refused0-requires-3
-refused0-requires-3 c κs = search needs
-
-enum-told-4 : tie.Need-enum-told-4
-enum-told-4 c = search needs
-
-refused0-requires-4 : tie.Need-refused0-requires-4
-refused0-requires-4 c κs = search needs
-
-enum-told-5 : tie.Need-enum-told-5
-enum-told-5 c = search needs
-
-refused0-requires-5 : tie.Need-refused0-requires-5
-refused0-requires-5 c κs = search needs
-
-enum-told-6 : tie.Need-enum-told-6
-enum-told-6 c = search needs
-
-refused0-requires-6 : tie.Need-refused0-requires-6
-refused0-requires-6 c κs = search needs
-
-enum-told-7 : tie.Need-enum-told-7
-enum-told-7 c = search needs
-
-refused0-requires-7 : tie.Need-refused0-requires-7
-refused0-requires-7 c κs = search needs
-
-enum-told-8 : tie.Need-enum-told-8
-enum-told-8 c = search needs
-
-refused0-requires-8 : tie.Need-refused0-requires-8
-refused0-requires-8 c κs = search needs
-
-enum-told-9 : tie.Need-enum-told-9
-enum-told-9 c = search needs
-
-refused0-requires-9 : tie.Need-refused0-requires-9
-refused0-requires-9 c κs = search needs
-
-enum-known-refusal-6 : tie.Need-enum-known-refusal-6
-enum-known-refusal-6 c = search needs
-
-refused1-requires-5 : tie.Need-refused1-requires-5
-refused1-requires-5 c κs = search needs
-
-enum-told-10 : tie.Need-enum-told-10
-enum-told-10 c = search needs
-
-refused0-requires-10 : tie.Need-refused0-requires-10
-refused0-requires-10 c κs = search needs
-
-enum-told-11 : tie.Need-enum-told-11
-enum-told-11 c = search needs
-
-refused0-requires-11 : tie.Need-refused0-requires-11
-refused0-requires-11 c κs = search needs
-
-enum-told-12 : tie.Need-enum-told-12
-enum-told-12 c = search needs
-
-refused0-requires-12 : tie.Need-refused0-requires-12
-refused0-requires-12 c κs = search needs
-
 returns : tie.Need-returns
 returns c = c .refused1 .ensures ∙ told (c .before .before .refusal .given .1)
 
@@ -175,11 +67,11 @@ returns-18 c = c .refused012 .ensures ∙ told (c .before .enum-told12 .given .1
 pub of-refusal-spec : {M : Type 1} → statement M
 of-refusal-spec =
     tie.close
-    (tie.spec enum-known-refusal refused1-requires enum-known-refusal-2 refused1-requires-2 enum-known-refusal-3
-    refused1-requires-3 enum-known-refusal-4 refused3-requires enum-known-refusal-5 refused1-requires-4 enum-told
-    refused0-requires enum-told-2 refused0-requires-2 enum-told-3 refused0-requires-3 enum-told-4 refused0-requires-4
-    enum-told-5 refused0-requires-5 enum-told-6 refused0-requires-6 enum-told-7 refused0-requires-7 enum-told-8
-    refused0-requires-8 enum-told-9 refused0-requires-9 enum-known-refusal-6 refused1-requires-5 enum-told-10
-    refused0-requires-10 enum-told-11 refused0-requires-11 enum-told-12 refused0-requires-12 returns returns-2
-    returns-3 returns-4 returns-5 returns-6 returns-7 returns-8 returns-9 returns-10 returns-11 returns-12 returns-13
-    returns-14 returns-15 returns-16 returns-17 returns-18)
+    (tie.spec (λ c. search needs) (λ c κs. search needs) (λ c. search needs) (λ c κs. search needs) (λ c. search needs)
+    (λ c κs. search needs) (λ c. search needs) (λ c κs. search needs) (λ c. search needs) (λ c κs. search needs) (λ c. search needs)
+    (λ c κs. search needs) (λ c. search needs) (λ c κs. search needs) (λ c. search needs) (λ c κs. search needs) (λ c. search needs)
+    (λ c κs. search needs) (λ c. search needs) (λ c κs. search needs) (λ c. search needs) (λ c κs. search needs) (λ c. search needs)
+    (λ c κs. search needs) (λ c. search needs) (λ c κs. search needs) (λ c. search needs) (λ c κs. search needs) (λ c. search needs)
+    (λ c κs. search needs) (λ c. search needs) (λ c κs. search needs) (λ c. search needs) (λ c κs. search needs) (λ c. search needs)
+    (λ c κs. search needs) returns returns-2 returns-3 returns-4 returns-5 returns-6 returns-7 returns-8 returns-9 returns-10 returns-11
+    returns-12 returns-13 returns-14 returns-15 returns-16 returns-17 returns-18)

@@ -9,12 +9,6 @@ use Rattle.separation.specs.theory.Image.{image-extends}
 use Rattle.separation.proofs.differences.is_far.Statement.{statement}
 use Rattle.separation.proofs.differences.is_far.Tie as tie
 
-extent-of-requires : tie.Need-extent-of-requires
-extent-of-requires c κs = search needs
-
-extent-of-requires-2 : tie.Need-extent-of-requires-2
-extent-of-requires-2 c κs = search needs
-
 is-far-requires : tie.Need-is-far-requires
 is-far-requires c κs =
     let at-second = c .before .before .before in
@@ -33,4 +27,4 @@ returns c =
     (c .before .extent-of2 .ensures) (image-extends B (at-second .extent-of .ensures))
 
 pub is-far-spec : {M : Type 1} → statement M
-is-far-spec = tie.close (tie.spec extent-of-requires extent-of-requires-2 is-far-requires returns)
+is-far-spec = tie.close (tie.spec (λ c κs. search needs) (λ c κs. search needs) is-far-requires returns)

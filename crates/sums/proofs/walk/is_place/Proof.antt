@@ -17,12 +17,6 @@ use Rattle.sums.specs.theory.PlaceTest.{place-test}
 use Rattle.sums.proofs.walk.is_place.Statement.{statement}
 use Rattle.sums.proofs.walk.is_place.Tie as tie
 
-sides-requires : tie.Need-sides-requires
-sides-requires c κs = search needs
-
-sides-requires-2 : tie.Need-sides-requires-2
-sides-requires-2 c κs = search needs
-
 -- past the first two tests the edges are there
 first-in : (c : tie.Else1) → let start = c .before .before .before in start .args .i ≤ length (edges (points (start .args .a .now)))
 first-in c = omega (arith, c .before .before .sides .ensures, c .if1 .left)
@@ -98,9 +92,6 @@ add-ends c = omega (arith, few (c .before .before), corners-small)
 add-ends-2 : tie.Need-add-ends-2
 add-ends-2 c = omega (arith, few (c .before .before), corners-small)
 
-ends-requires : tie.Need-ends-requires
-ends-requires c κs = search needs
-
 returns-3 : tie.Need-returns-3
 returns-3 c =
     let args = c .before .before .before .before .before .before .args in
@@ -152,5 +143,5 @@ returns-5 c =
 pub is-place-spec : {M : Type 1} → statement M
 is-place-spec =
     tie.close
-    (tie.spec sides-requires sides-requires-2 returns returns-2 add-ends add-ends-2 ends-requires returns-3 follows-requires
-    follows-requires-2 returns-4 returns-5)
+    (tie.spec (λ c κs. search needs) (λ c κs. search needs) returns returns-2 add-ends add-ends-2 (λ c κs. search needs) returns-3
+    follows-requires follows-requires-2 returns-4 returns-5)

@@ -152,9 +152,6 @@ add-if1 c =
       at-next .next2 .ensures .1 .at-in,
     )
 
-arrived-requires : tie.Need-arrived-requires Inv-loop μ-loop
-arrived-requires c κs = search needs
-
 same-length : tie.Need-same-length Inv-loop μ-loop
 same-length c =
     let at-put = c .before .before .before .before .before .before .before .before in
@@ -170,9 +167,6 @@ returns c =
     (at-next .before .next .ensures .0) (at-next .next2 .ensures .0) (at-next .before .next .ensures .1) (at-next .next2 .ensures .1)
     (c .before .if1 .taken ∙ all (at-loop .before .before .before .before .before .before)))
     _ (c .arrived .ensures .0) (c .arrived .ensures .1)
-
-arrived-requires-2 : tie.Need-arrived-requires-2 Inv-loop μ-loop
-arrived-requires-2 c κs = search needs
 
 same-length-2 : tie.Need-same-length-2 Inv-loop μ-loop
 same-length-2 c =
@@ -210,5 +204,5 @@ pub walk-on-spec : {M : Type 1} → statement M
 walk-on-spec =
     tie.close
     (tie.spec Inv-loop μ-loop side-at-requires side-at-requires-2 add-all stride-requires loop-holds here-requires put-requires add-count
-    order-requires next-requires next-requires-2 add-if1 arrived-requires same-length returns arrived-requires-2 same-length-2 returns-2
-    loop-less loop-again)
+    order-requires next-requires next-requires-2 add-if1 (λ c κs. search needs) same-length returns (λ c κs. search needs) same-length-2
+    returns-2 loop-less loop-again)

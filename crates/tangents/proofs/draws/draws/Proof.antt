@@ -17,19 +17,10 @@ use Rattle.tangents.specs.theory.DrawsTest.{draws-off, draws-beside, dra
 use Rattle.tangents.proofs.draws.draws.Statement.{statement}
 use Rattle.tangents.proofs.draws.draws.Tie as tie
 
-step-requires : tie.Need-step-requires
-step-requires c κs = search needs
-
-step-requires-2 : tie.Need-step-requires-2
-step-requires-2 c κs = search needs
-
 cross-requires : tie.Need-cross-requires
 cross-requires c κs =
     let pre = c .before .before .pre in
     (small-step (pre .0) (pre .1) (c .before .step .ensures), small-step (pre .0) (pre .2) (c .step2 .ensures))
-
-on-side-requires : tie.Need-on-side-requires
-on-side-requires c κs = search needs
 
 -- the turn, and the two tests on it
 turn-is : (c : tie.After-cross) → let args = c .before .before .before .args in
@@ -54,9 +45,6 @@ other-side-is c =
 returns : tie.Need-returns
 returns c = sym (draws-off _ _ _ _ (sym (side-is (c .before)) ∙ not-true _ (c .if1 .taken)))
 
-on-side-requires-2 : tie.Need-on-side-requires-2
-on-side-requires-2 c κs = search needs
-
 returns-2 : tie.Need-returns-2
 returns-2 c =
     let first = c .before .before in
@@ -78,4 +66,5 @@ returns-3 c =
 pub draws-spec : {M : Type 1} → statement M
 draws-spec =
     tie.close
-    (tie.spec step-requires step-requires-2 cross-requires on-side-requires returns on-side-requires-2 returns-2 dot-requires returns-3)
+    (tie.spec (λ c κs. search needs) (λ c κs. search needs) cross-requires (λ c κs. search needs) returns (λ c κs. search needs) returns-2
+    dot-requires returns-3)

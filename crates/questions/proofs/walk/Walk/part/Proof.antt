@@ -28,20 +28,11 @@ told : (c : tie.After-is-place) {t : Bool} → c .is-place .result ≡ t → let
     isPlace (args .a .now) (args .b .now) (stateOf (args .self)) ≡ t
 told c e = sym (c .is-place .ensures) ∙ e
 
-admit-pair-requires : tie.Need-admit-pair-requires
-admit-pair-requires c κs = search needs
-
-enum-known-refusal : tie.Need-enum-known-refusal
-enum-known-refusal c = search needs
-
 returns : tie.Need-returns
 returns c =
     let start = c .before .before .before .before in
     shapes-refused (askPart (one start) (other start) (stateOf (start .args .self)) (start .args .k) (start .args .out .now))
     (c .before .before .before .admit-pair .ensures .no _ (c .before .refusal .given .1))
-
-enum-told : tie.Need-enum-told
-enum-told c = search needs
 
 is-place-requires : tie.Need-is-place-requires
 is-place-requires c κs = let both = shapes c in (both .first-valid, both .second-valid)
@@ -56,9 +47,6 @@ returns-2 c =
 survey-requires : tie.Need-survey-requires
 survey-requires c κs = let both = shapes (c .before .before) in (both .first-valid, both .second-valid)
 
-enum-known-whole : tie.Need-enum-known-whole
-enum-known-whole c = search needs
-
 returns-3 : tie.Need-returns-3
 returns-3 c =
     let at-survey = c .before .before .before in
@@ -66,9 +54,6 @@ returns-3 c =
     part-surveyed (one start) (other start) (stateOf (start .args .self)) (start .args .k) (start .args .out .now)
     (shapes (at-survey .before .before .before)) (told (at-survey .before .before) (not-false _ (at-survey .before .if1 .left)))
     (at-survey .survey .ensures .no _ (c .before .whole .given .1))
-
-enum-told-2 : tie.Need-enum-told-2
-enum-told-2 c = search needs
 
 write-requires : tie.Need-write-requires
 write-requires c κs =
@@ -79,14 +64,11 @@ write-requires c κs =
       at-survey .survey .ensures .valid (at-told .enum-told2 .given .1),
     )
 
-same-length : tie.Need-same-length
-same-length c = search needs
-
 returns-4 : tie.Need-returns-4
 returns-4 c = c .before .write .ensures
 
 pub part-spec : {M : Type 1} → statement M
 part-spec =
     tie.close
-    (tie.spec admit-pair-requires enum-known-refusal returns enum-told is-place-requires returns-2 survey-requires enum-known-whole
-    returns-3 enum-told-2 write-requires same-length returns-4)
+    (tie.spec (λ c κs. search needs) (λ c. search needs) returns (λ c. search needs) is-place-requires returns-2 survey-requires
+    (λ c. search needs) returns-3 (λ c. search needs) write-requires (λ c. search needs) returns-4)

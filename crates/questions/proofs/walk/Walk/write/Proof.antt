@@ -85,9 +85,6 @@ walk-on-requires : tie.Need-walk-on-requires
 walk-on-requires c κs =
     let positive = c .before .before .before in (standing (positive .before), omega (arith, positive .if2 .left), room (c .before))
 
-same-length : tie.Need-same-length
-same-length c = search needs
-
 returns-4 : tie.Need-returns-4
 returns-4 c =
     let at-walk = c .before in
@@ -106,4 +103,4 @@ returns-4 c =
     (at-walk .walk-on .ensures .1 ∙ ap (λ (ps : List Point). overwritten (numbers ps) (args .out .now)) due-is)
 
 pub write-spec : {M : Type 1} → statement M
-write-spec = tie.close (tie.spec returns returns-2 has-room-requires returns-3 walk-on-requires same-length returns-4)
+write-spec = tie.close (tie.spec returns returns-2 has-room-requires returns-3 walk-on-requires (λ c. search needs) returns-4)
