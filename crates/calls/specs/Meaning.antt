@@ -19,8 +19,8 @@ use Rattle.plane.specs.Question.{Question, values, reply, output, makes}
 use Rattle.endian.specs.Bytes.{words, wordsAt}
 use Rattle.separator.specs.Separator.{Finds, separatorNumbers}
 use Rattle.journal.specs.Adding.{added}
-use Rattle.reply.specs.Told.{bits, crossed}
-use Rattle.reply.specs.Heard.{numberOf, valuesOf}
+use Rattle.wire.specs.Told.{bits, crossed}
+use Rattle.wire.specs.Heard.{numberOf, valuesOf}
 use Rattle.passage.specs.Passage.{askPassage}
 use Rattle.crossing.specs.LowFloor.{lowFloor, lowPassage, Numbered}
 use Rattle.calls.specs.Calls.{SeparatorTold, addedLow}

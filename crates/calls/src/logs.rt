@@ -9,7 +9,7 @@ ghost use Rattle.journal.specs.Current.{askEntry};
 ghost use Rattle.neighbours.specs.Nearest.{askNearest};
 ghost use Rattle.gaps.specs.Gap.{askGap};
 ghost use Rattle.drives.specs.Drive.{askDrive};
-ghost use Rattle.reply.specs.Told.{crossed, numbers};
+ghost use Rattle.wire.specs.Told.{crossed, numbers};
 ghost use Rattle.crossing.specs.LowFloor.{lowFloor};
 ghost use Rattle.calls.specs.Calls.{addedLow};
 use crossing::floors;

@@ -3,7 +3,7 @@
 ghost use mathlib.Core.Path.{_≡_};
 ghost use Rattle.plane.specs.Floor.{on};
 ghost use Rattle.plane.specs.Question.{reply};
-ghost use Rattle.reply.specs.Told.{crossed, numbers};
+ghost use Rattle.wire.specs.Told.{crossed, numbers};
 ghost use Rattle.crossing.specs.LowFloor.{lowPassage};
 use crossing::floors;
 use reply::Reply;

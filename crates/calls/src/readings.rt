@@ -1,7 +1,7 @@
 // The call for a corner of the surveyor's tablet.
 ghost use mathlib.Core.Path.{_≡_};
 ghost use Rattle.tablet.specs.Reading.{tabletReply};
-ghost use Rattle.reply.specs.Told.{crossed, numbers};
+ghost use Rattle.wire.specs.Told.{crossed, numbers};
 ghost use Rattle.crossing.specs.Reading.{reading as Reading·reading};
 use crossing::readings;
 use reply::Reply;

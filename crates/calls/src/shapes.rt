@@ -5,7 +5,7 @@ ghost use Rattle.plane.specs.Floor.{on};
 ghost use Rattle.plane.specs.Question.{reply, output, askJudge, askFurthest, askMirror, askSweep, askLength, askWidth};
 ghost use Rattle.area.specs.Area.{askArea};
 ghost use Rattle.boxes.specs.Box.{askBox};
-ghost use Rattle.reply.specs.Told.{crossed, numbers};
+ghost use Rattle.wire.specs.Told.{crossed, numbers};
 ghost use Rattle.crossing.specs.LowFloor.{lowFloor, lowRing};
 use crossing::floors;
 use polygon::limits;

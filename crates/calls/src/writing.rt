@@ -3,7 +3,7 @@ ghost use mathlib.Core.Path.{_≡_};
 ghost use lib.ListN.{length};
 ghost use Rattle.plane.specs.Floor.{on};
 ghost use Rattle.plane.specs.Question.{reply, output};
-ghost use Rattle.reply.specs.Told.{crossed, numbers};
+ghost use Rattle.wire.specs.Told.{crossed, numbers};
 ghost use Rattle.crossing.specs.Packing.{packed};
 ghost use Rattle.crossing.specs.Bytes.{wordsIn, bytesAfter};
 ghost use Rattle.crossing.specs.Passing.{Holds, combined, asked};

@@ -12,7 +12,7 @@ use native.Mathlib.Omega.{arith}
 use lib.IntN.{pos}
 use lib.ListN.{getD}
 use Rattle.plane.specs.Reply.{Reply, answered, refused}
-use Rattle.reply.specs.Told.{bits}
+use Rattle.wire.specs.Told.{bits}
 
 abbrev pub refusalField : Reply → ℕ
 refusalField (answered values) = 0

@@ -24,7 +24,7 @@ use Rattle.plane.specs.Refusal.{badCount, tooMany, Valid}
 use Rattle.plane.specs.Corner.{shapeOf, sums}
 use Rattle.plane.specs.Floor.{Floored, on, corners, twoShapes}
 use Rattle.plane.specs.Question.{Question, makes}
-use Rattle.reply.specs.Told.{crossed}
+use Rattle.wire.specs.Told.{crossed}
 use Rattle.crossing.specs.LowFloor.{lowFloor}
 use Rattle.crossing.specs.Bytes.{wordsIn, listOf}
 use Rattle.crossing.specs.Packing.{packed}

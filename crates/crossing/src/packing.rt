@@ -1,5 +1,5 @@
 // A reply packed into one number. No other code packs one.
-ghost use Rattle.reply.specs.Told.{numbers};
+ghost use Rattle.wire.specs.Told.{numbers};
 ghost use Rattle.crossing.specs.Passing.{Narrow, Packs};
 use reply::Reply;
 

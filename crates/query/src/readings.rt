@@ -4,9 +4,9 @@ ghost use lib.Ieee.{binary64, nanBits};
 use questions::Reading;
 use questions::answer::Tablet;
 use reply::Reply;
-use reply::refusals;
 use text::fields;
 use text::readings;
+use wire::refusals;
 
 // The weight of the sign, of the exponent, and the exponent of an infinity or a NaN.
 const SIGN: u64 = 0x8000000000000000;

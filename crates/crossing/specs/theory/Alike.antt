@@ -21,7 +21,7 @@ use Rattle.plane.specs.theory.lists.Flat.{points-length}
 use Rattle.plane.specs.theory.refusals.Accept.{count-good}
 use Rattle.endian.specs.Bytes.{wordsAt}
 use Rattle.endian.specs.theory.Bytes.{wordsAt-length}
-use Rattle.reply.specs.Told.{crossed}
+use Rattle.wire.specs.Told.{crossed}
 use Rattle.crossing.specs.Bytes.{listOf, bytesAfter}
 use Rattle.crossing.specs.Packing.{packed}
 use Rattle.crossing.specs.Passing.{Alike, equal, odd, many, Cut, Packs}

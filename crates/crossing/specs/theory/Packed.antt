@@ -10,7 +10,7 @@ use native.Mathlib.Omega.{arith}
 use lib.ListN.{length, getD}
 use Rattle.plane.specs.Reply.{Reply, answered, refused}
 use Rattle.plane.specs.Question.{Question, reply}
-use Rattle.reply.specs.Told.{crossed}
+use Rattle.wire.specs.Told.{crossed}
 use Rattle.crossing.specs.Packing.{refusalField, shapeField, firstField, secondField, packed, Fits}
 use Rattle.crossing.specs.Passing.{Narrow, Packs}
 

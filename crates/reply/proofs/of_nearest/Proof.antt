@@ -1,34 +1,16 @@
 -- `of_nearest` meets its contract, case by case.
-use mathlib.Core.Path.{_≡_, _∙_, ap, sym}
-use Rattle.questions.specs.declared.answer.Nearest.{Nearest}
-use Rattle.questions.specs.Answer.{ofNearest}
-use Rattle.reply.specs.Told.{crossed}
+use mathlib.Core.Path.{_∙_}
+use Rattle.answers.specs.Answer.{ofNearest}
+use Rattle.wire.specs.theory.Bits.{told}
 use borrow.Author.Needs.{needs}
 use Rattle.reply.proofs.of_nearest.Statement.{statement}
 use Rattle.reply.proofs.of_nearest.Tie as tie
-
-told : {x y : Nearest} → x ≡ y → crossed (ofNearest y) ≡ crossed (ofNearest x)
-told e = ap (λ (x : Nearest). crossed (ofNearest x)) (sym e)
-
-returns : tie.Need-returns
-returns c = c .answered3 .ensures ∙ told (c .before .before .answer .given .1)
-
-returns-2 : tie.Need-returns-2
-returns-2 c = c .answered7 .ensures ∙ told (c .before .before .answer2 .given .1)
-
-returns-3 : tie.Need-returns-3
-returns-3 c = c .answered8 .ensures ∙ told (c .before .before .answer3 .given .1)
-
-returns-4 : tie.Need-returns-4
-returns-4 c = c .answered82 .ensures ∙ told (c .before .before .answer4 .given .1)
-
-returns-5 : tie.Need-returns-5
-returns-5 c = c .of-refusal .ensures ∙ told (c .before .before .answer5 .given .1)
 
 pub of-nearest-spec : {M : Type 1} → statement M
 of-nearest-spec =
     tie.close
     (tie.spec (λ c. search needs) (λ c. search needs) (λ c. search needs) (λ c κs. search needs) (λ c. search needs) (λ c. search needs)
-    (λ c. search needs) (λ c κs. search needs) (λ c. search needs) (λ c. search needs) (λ c. search needs) (λ c κs. search needs)
-    (λ c. search needs) (λ c. search needs) (λ c. search needs) (λ c κs. search needs) (λ c. search needs) (λ c κs. search needs) returns
-    returns-2 returns-3 returns-4 returns-5)
+    (λ c. search needs) (λ c κs. search needs) (λ c. search needs) (λ c κs. search needs)
+    (λ c. c .answered3 .ensures ∙ told ofNearest (c .before .before .answer .given .1))
+    (λ c. c .named .ensures ∙ told ofNearest (c .before .before .answer2 .given .1))
+    (λ c. c .of-refusal .ensures ∙ told ofNearest (c .before .before .answer3 .given .1)))

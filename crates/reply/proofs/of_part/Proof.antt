@@ -1,17 +1,14 @@
 -- `of_part` meets its contract, case by case.
-use mathlib.Core.Path.{_≡_, _∙_, ap, sym}
+use mathlib.Core.Path.{_∙_, ap}
 use mathlib.Core.List.{[], _∷_}
 use lib.IntN.{ℤ, pos}
 use Rattle.plane.specs.Reply.{answered}
-use Rattle.questions.specs.declared.answer.Part.{Part}
-use Rattle.questions.specs.Answer.{ofPart}
-use Rattle.reply.specs.Told.{crossed}
+use Rattle.part_questions.specs.Answer.{ofPart}
+use Rattle.wire.specs.theory.Bits.{told}
+use Rattle.wire.specs.Told.{crossed}
 use borrow.Author.Needs.{needs}
 use Rattle.reply.proofs.of_part.Statement.{statement}
 use Rattle.reply.proofs.of_part.Tie as tie
-
-told : {x y : Part} → x ≡ y → crossed (ofPart y) ≡ crossed (ofPart x)
-told e = ap (λ (x : Part). crossed (ofPart x)) (sym e)
 
 returns : tie.Need-returns
 returns c =
@@ -20,13 +17,11 @@ returns c =
     let floor = at .0 .1 .1 .0 in
     c .answered5 .ensures
     ∙ ap (λ (z : ℤ). crossed (answered (pos (at .0 .0) ∷ pos (walk .first) ∷ pos (walk .second) ∷ z ∷ pos floor ∷ [])))
-    (c .before .flag .ensures) ∙ told (at .1)
-
-returns-2 : tie.Need-returns-2
-returns-2 c = c .of-refusal .ensures ∙ told (c .before .before .answer2 .given .1)
+    (c .before .flag .ensures) ∙ told ofPart (at .1)
 
 pub of-part-spec : {M : Type 1} → statement M
 of-part-spec =
     tie.close
     (tie.spec (λ c. search needs) (λ c κs. search needs) (λ c. search needs) (λ c κs. search needs) (λ c. search needs)
-    (λ c κs. search needs) returns returns-2)
+    (λ c κs. search needs) returns
+    (λ c. c .of-refusal .ensures ∙ told ofPart (c .before .before .answer2 .given .1)))

@@ -1,23 +1,16 @@
 -- `of_passage` meets its contract, case by case.
-use mathlib.Core.Path.{_≡_, _∙_, ap, ap₂, sym}
+use mathlib.Core.Path.{_∙_, ap₂}
 use mathlib.Core.List.{[], _∷_}
 use Prim.Native.Nat.{ℕ}
 use lib.IntN.{pos}
 use mir.Syntax.{w32, w64}
 use Rattle.plane.specs.Reply.{answered}
-use Rattle.questions.specs.declared.answer.Passage.{Passage}
-use Rattle.questions.specs.Answer.{ofPassage}
-use Rattle.reply.specs.Told.{bits, crossed}
-use Rattle.reply.proofs.ReadBack.{kept-bits}
+use Rattle.answers.specs.Answer.{ofPassage}
+use Rattle.wire.specs.Told.{bits, crossed}
+use Rattle.wire.specs.theory.Bits.{told, kept-bits}
 use borrow.Author.Needs.{needs}
 use Rattle.reply.proofs.of_passage.Statement.{statement}
 use Rattle.reply.proofs.of_passage.Tie as tie
-
-told : {x y : Passage} → x ≡ y → crossed (ofPassage y) ≡ crossed (ofPassage x)
-told e = ap (λ (x : Passage). crossed (ofPassage x)) (sym e)
-
-returns : tie.Need-returns
-returns c = c .answered2 .ensures ∙ told (c .before .before .answer .given .1)
 
 returns-2 : tie.Need-returns-2
 returns-2 c =
@@ -33,14 +26,13 @@ returns-2 c =
     ∷ pos (at .0 .1 .1 .1 .1 .0) ∷ pos (at .0 .1 .1 .1 .1 .1 .0) ∷ []))) u v
     ∙ ap₂ (λ (m n : ℕ). crossed (answered (pos 1 ∷ pos (bits (at .0 .0)) ∷ pos (bits (at .0 .1 .0)) ∷ pos m ∷ pos n
     ∷ pos (at .0 .1 .1 .1 .1 .0) ∷ pos (at .0 .1 .1 .1 .1 .1 .0) ∷ []))) low high
-    ∙ told (at .1)
-
-returns-3 : tie.Need-returns-3
-returns-3 c = c .of-refusal .ensures ∙ told (c .before .before .answer3 .given .1)
+    ∙ told ofPassage (at .1)
 
 pub of-passage-spec : {M : Type 1} → statement M
 of-passage-spec =
     tie.close
     (tie.spec (λ c. search needs) (λ c. search needs) (λ c κs. search needs) (λ c. search needs) (λ c κs. search needs)
     (λ c κs. search needs) (λ c κs. search needs) (λ c κs. search needs) (λ c. search needs) (λ c κs. search needs) (λ c. search needs)
-    (λ c κs. search needs) returns returns-2 returns-3)
+    (λ c κs. search needs)
+    (λ c. c .answered2 .ensures ∙ told ofPassage (c .before .before .answer .given .1)) returns-2
+    (λ c. c .of-refusal .ensures ∙ told ofPassage (c .before .before .answer3 .given .1)))

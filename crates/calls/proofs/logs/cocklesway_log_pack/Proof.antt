@@ -1,6 +1,6 @@
 -- `cocklesway_log_pack` meets its contract: the reply of `log_pack`, crossed, and its run.
 use mathlib.Core.Path.{_∙_, ap}
-use Rattle.reply.specs.Told.{crossed}
+use Rattle.wire.specs.Told.{crossed}
 use borrow.Author.Needs.{needs}
 use Rattle.calls.proofs.logs.cocklesway_log_pack.Statement.{statement}
 use Rattle.calls.proofs.logs.cocklesway_log_pack.Tie as tie

@@ -1,6 +1,6 @@
 -- `cocklesway_log_read` meets its contract: the reply of `log_read`, crossed, and its output.
 use mathlib.Core.Path.{_∙_, ap}
-use Rattle.reply.specs.Told.{crossed}
+use Rattle.wire.specs.Told.{crossed}
 use borrow.Author.Needs.{needs}
 use Rattle.calls.proofs.logs.cocklesway_log_read.Statement.{statement}
 use Rattle.calls.proofs.logs.cocklesway_log_read.Tie as tie

@@ -3,7 +3,7 @@ use mathlib.Core.Path.{_≡_, sym, _∙_, ap}
 use mathlib.Core.Bool.{false}
 use lib.Dec.{ltb}
 use Rattle.plane.specs.Limits.{maxFloor}
-use Rattle.reply.specs.Told.{crossed}
+use Rattle.wire.specs.Told.{crossed}
 use Rattle.crossing.specs.theory.Low.{low-fits}
 use Rattle.crossing.specs.theory.Passages.{all-low, passage-within, passage-above}
 use borrow.Author.Needs.{needs}

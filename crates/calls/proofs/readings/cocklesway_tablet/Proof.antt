@@ -2,7 +2,7 @@
 use mathlib.Core.Path.{_∙_, ap, ap₂}
 use Rattle.tablet.specs.declared.reading.Reading.{Reading}
 use Rattle.tablet.specs.Reading.{tabletReply, Sent}
-use Rattle.reply.specs.Told.{crossed}
+use Rattle.wire.specs.Told.{crossed}
 use borrow.Author.Needs.{needs}
 use Rattle.calls.proofs.readings.cocklesway_tablet.Statement.{statement}
 use Rattle.calls.proofs.readings.cocklesway_tablet.Tie as tie

@@ -15,7 +15,7 @@ use Rattle.plane.specs.Floor.{Floored, on, Shapes, twoShapes, rowsOf}
 use Rattle.plane.specs.Question.{Question, reply}
 use Rattle.plane.specs.theory.refusals.Asked.{none→admitted}
 use Rattle.endian.specs.Bytes.{words}
-use Rattle.reply.specs.Told.{crossed}
+use Rattle.wire.specs.Told.{crossed}
 use Rattle.crossing.specs.Passing.{Room, combined, asked}
 use Rattle.calls.specs.theory.Fits.{made-fits}
 use Rattle.crossing.specs.theory.Packed.{placed, narrow}

@@ -1,6 +1,6 @@
 -- `barred` meets its contract: the list is refused, or 13 is due.
 use mathlib.Core.Path.{_∙_, ap}
-use Rattle.reply.specs.Told.{crossed}
+use Rattle.wire.specs.Told.{crossed}
 use Rattle.crossing.specs.theory.High.{barred-refused, barred-shape}
 use borrow.Author.Needs.{needs}
 use Rattle.crossing.proofs.floors.barred.Statement.{statement}

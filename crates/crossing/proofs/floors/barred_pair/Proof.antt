@@ -1,6 +1,6 @@
 -- `barred_pair` meets its contract: the first list is refused, or the second, or 13 is due.
 use mathlib.Core.Path.{_∙_, ap}
-use Rattle.reply.specs.Told.{crossed}
+use Rattle.wire.specs.Told.{crossed}
 use Rattle.crossing.specs.theory.High.{barred-refused, barred-shapes}
 use Rattle.plane.specs.Refusal.{shapeRows, Valid}
 use Rattle.plane.specs.theory.refusals.Accept.{valid→accepted}

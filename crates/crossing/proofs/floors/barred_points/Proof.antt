@@ -1,6 +1,6 @@
 -- `barred_points` meets its contract: the points are refused, or 13 is due.
 use mathlib.Core.Path.{_∙_, ap}
-use Rattle.reply.specs.Told.{crossed}
+use Rattle.wire.specs.Told.{crossed}
 use Rattle.crossing.specs.theory.High.{barred-refused, barred-points}
 use borrow.Author.Needs.{needs}
 use Rattle.crossing.proofs.floors.barred_points.Statement.{statement}

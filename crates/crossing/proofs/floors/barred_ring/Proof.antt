@@ -1,6 +1,6 @@
 -- `barred_ring` meets its contract: the ring's points are refused, or 13 is due.
 use mathlib.Core.Path.{_∙_, ap}
-use Rattle.reply.specs.Told.{crossed}
+use Rattle.wire.specs.Told.{crossed}
 use Rattle.crossing.specs.theory.High.{barred-refused}
 use Rattle.crossing.specs.theory.Rings.{ring-barred}
 use borrow.Author.Needs.{needs}

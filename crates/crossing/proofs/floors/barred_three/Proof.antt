@@ -4,7 +4,7 @@ use mathlib.Core.List.{_++_}
 use Rattle.plane.specs.Refusal.{shapeRows, Valid}
 use Rattle.plane.specs.theory.refusals.Accept.{valid→accepted}
 use Rattle.admission.specs.theory.Judged.{refuses-append, refuses-join}
-use Rattle.reply.specs.Told.{crossed}
+use Rattle.wire.specs.Told.{crossed}
 use Rattle.crossing.specs.theory.High.{barred-refused}
 use Rattle.crossing.specs.theory.Passages.{barred-three}
 use borrow.Author.Needs.{needs}
