@@ -13,7 +13,7 @@ pub extern "C" fn cocklesway_tablet(x_eighths: bool, x: f64, y_eighths: bool, y:
     ensures { λ r. ⌜
         numbers r ≡ crossed (tabletReply (Reading·reading «x_eighths» x) (Reading·reading «y_eighths» y)) ⌝ }
 {
-    reply::of_tablet(questions::tablet(
+    reply::of_tablet(tablet_questions::tablet(
         readings::reading(x_eighths, x),
         readings::reading(y_eighths, y),
     ))

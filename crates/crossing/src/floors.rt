@@ -11,7 +11,7 @@ ghost use Rattle.wire.specs.Told.{crossed, numbers};
 ghost use Rattle.crossing.specs.LowFloor.{barred as LowFloor·barred};
 use admission::Admission;
 use polygon::limits;
-use questions::answer::Refusal;
+use answers::Refusal;
 use reply::Reply;
 use wire::refusals;
 

@@ -20,5 +20,7 @@ of-distance-spec =
     (tie.spec (λ c. search needs) (λ c κs. search needs) (λ c. search needs) (λ c κs. search needs) (λ c. search needs)
     (λ c κs. search needs)
     (λ c. c .answered6 .ensures ∙ told (numbersOf (c .before .before .before .before .args .floor)) (c .before .before .distance .given .1))
-    (λ c. c .answered7 .ensures ∙ told (numbersOf (c .before .before .before .before .args .floor)) (c .before .before .distance2 .given .1))
-    (λ c. c .answered72 .ensures ∙ told (numbersOf (c .before .before .before .before .args .floor)) (c .before .before .distance3 .given .1)))
+    (λ c. c .answered7 .ensures
+    ∙ told (numbersOf (c .before .before .before .before .args .floor)) (c .before .before .distance2 .given .1))
+    (λ c. c .answered72 .ensures
+    ∙ told (numbersOf (c .before .before .before .before .args .floor)) (c .before .before .distance3 .given .1)))

@@ -37,5 +37,6 @@ of-gap-spec =
     (λ c. search needs) (λ c. search needs) (λ c. search needs) (λ c κs. search needs) preceded-requires (λ c. search needs)
     (λ c κs. search needs)
     (λ c. c .answered4 .ensures ∙ told ofGap (c .before .before .answer .given .1))
-    (λ c. c .preceded .ensures (named-numbers (c .before)) (c .before .named .ensures) ∙ told ofGap (c .before .before .before .answer2 .given .1))
+    (λ c. c .preceded .ensures (named-numbers (c .before)) (c .before .named .ensures)
+    ∙ told ofGap (c .before .before .before .answer2 .given .1))
     (λ c. c .of-refusal .ensures ∙ told ofGap (c .before .before .answer3 .given .1)))

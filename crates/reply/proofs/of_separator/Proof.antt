@@ -18,7 +18,8 @@ returns c =
     let at = found .before .answer .given in
     let u = kept-bits w32 (at .0 .0) (found .known-told .given .0 .1) (c .before .before .extended .ensures) in
     let v = kept-bits w32 (at .0 .1 .0) (found .known-told .given .1 .0 .1) (c .before .extended2 .ensures) in
-    c .answered4 .ensures ∙ ap₂ (λ (m n : ℕ). crossed (answered (pos 1 ∷ pos m ∷ pos n ∷ pos (at .0 .1 .1 .0) ∷ []))) u v ∙ told ofSeparator (at .1)
+    c .answered4 .ensures ∙ ap₂ (λ (m n : ℕ). crossed (answered (pos 1 ∷ pos m ∷ pos n ∷ pos (at .0 .1 .1 .0) ∷ []))) u v
+    ∙ told ofSeparator (at .1)
 
 pub of-separator-spec : {M : Type 1} → statement M
 of-separator-spec =

@@ -13,12 +13,6 @@ use Rattle.calls.proofs.logs.cocklesway_log_add.Tie as tie
 low : (c : tie.Else1) → ltb maxFloor (c .before .before .before .args .f) ≡ false
 low c = sym (c .before .exceeds-floor .ensures) ∙ c .if1 .left
 
-returns : tie.Need-returns
-returns c = added-above _ _ _ _ _ (sym (c .before .before .exceeds-floor .ensures) ∙ c .before .if1 .taken) (c .barred .ensures)
-
-cast-log-add : tie.Need-cast-log-add
-cast-log-add c = low-fits _ (low (c .before))
-
 returns-2 : tie.Need-returns-2
 returns-2 c =
     added-within _ _ _ _ _ (low (c .before .before .before .before .before)) (c .of-addition .ensures)
@@ -27,5 +21,6 @@ returns-2 c =
 pub cocklesway-log-add-spec : {M : Type 1} → statement M
 cocklesway-log-add-spec =
     tie.close
-    (tie.spec (λ c κs. search needs) (λ c κs. search needs) returns cast-log-add (λ c κs. search needs) (λ c κs. search needs)
-    (λ c. search needs) returns-2)
+    (tie.spec (λ c κs. search needs) (λ c κs. search needs)
+    (λ c. added-above _ _ _ _ _ (sym (c .before .before .exceeds-floor .ensures) ∙ c .before .if1 .taken) (c .barred .ensures))
+    (λ c. low-fits _ (low (c .before))) (λ c κs. search needs) (λ c κs. search needs) (λ c. search needs) returns-2)

@@ -19,15 +19,6 @@ returns : tie.Need-returns
 returns c = c .barred-three .ensures
     ∙ ap crossed (passage-above _ _ _ (sym (c .before .before .exceeds-three .ensures) ∙ c .before .if1 .taken))
 
-cast-passage : tie.Need-cast-passage
-cast-passage c = low-fits _ (low c .0)
-
-cast-passage-2 : tie.Need-cast-passage-2
-cast-passage-2 c = low-fits _ (low c .1)
-
-cast-passage-3 : tie.Need-cast-passage-3
-cast-passage-3 c = low-fits _ (low c .2)
-
 returns-2 : tie.Need-returns-2
 returns-2 c = c .of-passage .ensures
     ∙ ap crossed (c .before .passage .ensures ∙ passage-within _ _ _ (low (c .before .before) .0))
@@ -35,5 +26,7 @@ returns-2 c = c .of-passage .ensures
 pub cocklesway-passage-spec : {M : Type 1} → statement M
 cocklesway-passage-spec =
     tie.close
-    (tie.spec (λ c κs. search needs) (λ c κs. search needs) returns cast-passage cast-passage-2 cast-passage-3 (λ c κs. search needs)
-    (λ c κs. search needs) returns-2)
+    (tie.spec (λ c κs. search needs) (λ c κs. search needs) returns
+    (λ c. low-fits _ (low c .0))
+    (λ c. low-fits _ (low c .1))
+    (λ c. low-fits _ (low c .2)) (λ c κs. search needs) (λ c κs. search needs) returns-2)

@@ -20,9 +20,6 @@ returns c =
     ring-above (on (args .list .now) (args .floor)) (args .out .now)
     (sym (c .before .before .exceeds-floor .ensures) ∙ c .before .if1 .taken) (c .barred-ring .ensures)
 
-cast-ring : tie.Need-cast-ring
-cast-ring c = low-fits _ (low c)
-
 returns-2 : tie.Need-returns-2
 returns-2 c =
     let args = c .before .before .before .before .before .before .args in
@@ -32,5 +29,5 @@ returns-2 c =
 pub cocklesway-ring-spec : {M : Type 1} → statement M
 cocklesway-ring-spec =
     tie.close
-    (tie.spec (λ c κs. search needs) (λ c κs. search needs) returns cast-ring (λ c κs. search needs) (λ c κs. search needs)
-    (λ c. search needs) returns-2)
+    (tie.spec (λ c κs. search needs) (λ c κs. search needs) returns
+    (λ c. low-fits _ (low c)) (λ c κs. search needs) (λ c κs. search needs) (λ c. search needs) returns-2)

@@ -18,7 +18,8 @@ returns c =
 returns-2 : tie.Need-returns-2
 returns-2 c =
     let args = c .before .before .before .args in
-    ap (λ (w : Spacing). answered (pos (args .name) ∷ pos (args .other) ∷ spacingNumbers w ++ (pos (args .floor) ∷ []))) (sym (c .before .spacing .given .1))
+    ap (λ (w : Spacing). answered (pos (args .name) ∷ pos (args .other) ∷ spacingNumbers w ++ (pos (args .floor) ∷ [])))
+    (sym (c .before .spacing .given .1))
 
 pub paired-spec : {M : Type 1} → statement M
 paired-spec = tie.close (tie.spec (λ c. search needs) (λ c. search needs) returns returns-2)
