@@ -23,7 +23,6 @@ ghost use Rattle.answers.specs.Answer.{ofAnswer, ofRelation, ofInside, ofCleara
 ghost use Rattle.passage.specs.Passage.{askPassage};
 ghost use Rattle.passage.specs.Corridor.{wayNumbers};
 use admission::Admission;
-use admission::deliver;
 use answers::Answer;
 use answers::Clearance;
 use answers::Inside;
@@ -41,8 +40,8 @@ use sums::size;
 // Edges of equal direction make one step, so no three corners of the answer are in line. Refused, with the output as it
 // was: 1 to 5 of the first shape, then of the second; different floors; then an answer of too many corners, one out of
 // range, and too small an output. On success all after the written numbers is kept.
-// Ruled out: parallel corners kept; segment passed once; origin for every sum; second shape judged first; far sum
-// written; too large a sum written.
+// Ruled out: parallel corners kept; segment passed once; origin for every sum; second shape judged first; too
+// large a sum written.
 pub fn sum(a: &[i32], f: u16, b: &[i32], g: u16, out: &mut [i32]) -> Answer
     ensures { λ r. ⌜
         (ofAnswer r ≡ reply (askSum (on (now (a .entry)) f) (on (now (b .entry)) g) (now (out .entry))))
@@ -52,7 +51,7 @@ pub fn sum(a: &[i32], f: u16, b: &[i32], g: u16, out: &mut [i32]) -> Answer
         return Answer::No(refusal);
     }
     let n = size::reckon(a, b, out.len());
-    if let Admission::No(refusal) = deliver::fits(n, size::is_far(a, b), out.len()) {
+    if let Admission::No(refusal) = delivery::fits(n, size::is_far(a, b), out.len()) {
         return Answer::No(refusal);
     }
     Answer::Corners {
@@ -95,7 +94,7 @@ pub fn grow(obstacle: &[i32], f: u16, cart: &[i32], g: u16, out: &mut [i32]) -> 
     }
     let top = peak::top(cart);
     let n = differences::reckon(obstacle, cart, top, out.len());
-    if let Admission::No(refusal) = deliver::fits(
+    if let Admission::No(refusal) = delivery::fits(
         n,
         differences::is_far(obstacle, cart),
         out.len(),

@@ -7,7 +7,6 @@ ghost use Rattle.plane.specs.Refusal.{Valid};
 ghost use Rattle.plane.specs.Floor.{on};
 ghost use Rattle.plane.specs.Question.{reply, output, askMerge};
 ghost use Rattle.answers.specs.Answer.{ofAnswer};
-use admission::deliver;
 use answers::Answer;
 use polygon::limits;
 
@@ -79,5 +78,5 @@ fn merge_in(a: &[i32], b: &[i32], floor: u16, shape: &mut [i32], out: &mut [i32]
         ≡ output (askMerge (on (now (a .entry)) floor) (on (now (b .entry)) floor) (now (out .entry)))) ⌝ }
 {
     let n = hull::merge(a, b, shape);
-    deliver::deliver(&shape[..2 * n], floor, out)
+    delivery::deliver(&shape[..2 * n], floor, out)
 }

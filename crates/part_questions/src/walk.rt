@@ -15,7 +15,6 @@ use crate::answer::Begun;
 use crate::answer::Part;
 use admission::Admission;
 use admission::answer::Refusal;
-use admission::deliver;
 use polygon::limits;
 use sums::size;
 
@@ -31,7 +30,7 @@ pub struct Walk {
 // Begins a sum in parts, of a on floor f and b on floor g: the walk for the first of them. Refused as the sum is: 1 to
 // 5 of the first shape, then of the second; different floors; then a sum of too many corners, and one out of range. No
 // output is asked for yet.
-// Ruled out: too large a sum begun.
+// Ruled out: too large a sum begun; far sum begun.
 pub fn begin(a: &[i32], f: u16, b: &[i32], g: u16) -> Begun
     ensures { λ r. ⌜ ofBegun r ≡ reply (askBegin (on (now (a .entry)) f) (on (now (b .entry)) g)) ⌝ }
 {
@@ -125,5 +124,5 @@ fn survey(a: &[i32], b: &[i32]) -> Admission
         (sizeRows (wholeSum (now (a .entry)) (now (b .entry)))) r ⌝ }
 {
     let n = size::reckon(a, b, limits::SHAPE_NUMBERS);
-    deliver::sized(n, size::is_far(a, b))
+    delivery::sized(n, size::is_far(a, b))
 }

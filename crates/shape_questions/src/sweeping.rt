@@ -7,7 +7,6 @@ ghost use Rattle.plane.specs.Sweep.{ValidPoints};
 ghost use Rattle.plane.specs.Floor.{on};
 ghost use Rattle.plane.specs.Question.{reply, output, askSweep};
 ghost use Rattle.answers.specs.Answer.{ofAnswer};
-use admission::deliver;
 use answers::Answer;
 use polygon::limits;
 
@@ -69,5 +68,5 @@ fn sweep_in(list: &[i32], floor: u16, shape: &mut [i32], out: &mut [i32]) -> Ans
         × (now (out .exit) ≡ output (askSweep (on (now (list .entry)) floor) (now (out .entry)))) ⌝ }
 {
     let n = hull::sweep(list, shape);
-    deliver::deliver(&shape[..2 * n], floor, out)
+    delivery::deliver(&shape[..2 * n], floor, out)
 }

@@ -12,7 +12,7 @@ use Rattle.plane.specs.Floor.{Floored, on, Same}
 use Rattle.plane.specs.Question.{Question, askGrow}
 use Rattle.admission.specs.Admission.{Judged}
 use Rattle.admission.specs.theory.Door.{shapes-refused, rest-refused, all-written}
-use Rattle.admission.specs.theory.Delivery.{fit-judged, room-there}
+use Rattle.delivery.specs.theory.Delivery.{fit-judged, room-there}
 use Rattle.pair_questions.proofs.grow.Statement.{statement}
 use Rattle.pair_questions.proofs.grow.Tie as tie
 

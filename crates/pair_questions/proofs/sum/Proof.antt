@@ -10,7 +10,7 @@ use Rattle.plane.specs.Question.{Question, askSum}
 use Rattle.sums.specs.PlaceAfter.{wholeSum}
 use Rattle.admission.specs.Admission.{Judged}
 use Rattle.admission.specs.theory.Door.{shapes-refused, rest-refused, all-written}
-use Rattle.admission.specs.theory.Delivery.{fit-judged, room-there}
+use Rattle.delivery.specs.theory.Delivery.{fit-judged, room-there}
 use Rattle.pair_questions.proofs.sum.Statement.{statement}
 use Rattle.pair_questions.proofs.sum.Tie as tie
 

@@ -1,6 +1,6 @@
 -- `admit_grown` meets its contract: the size of the differences is judged.
 use borrow.Author.Needs.{needs}
-use Rattle.admission.specs.theory.Delivery.{sized-rows, judged-by}
+use Rattle.delivery.specs.theory.Delivery.{sized-rows, judged-by}
 use Rattle.growth.specs.Grown.{grown}
 use Rattle.passage.proofs.admit_grown.Statement.{statement}
 use Rattle.passage.proofs.admit_grown.Tie as tie

@@ -15,7 +15,7 @@ use Rattle.plane.specs.Reply.{Row, NoneApply}
 use Rattle.plane.specs.Refusal.{Valid}
 use Rattle.plane.specs.Output.{sizeRows}
 use Rattle.admission.specs.theory.Judged.{passes, turns-away}
-use Rattle.admission.specs.theory.Delivery.{judged-by}
+use Rattle.delivery.specs.theory.Delivery.{judged-by}
 use Rattle.admission.specs.Admission.{Judged}
 use Rattle.growth.specs.Grown.{grown}
 use Rattle.journal.specs.Survey.{recordAt}

@@ -5,7 +5,7 @@ use borrow.Author.Needs.{needs}
 use Rattle.plane.specs.Floor.{on, twoShapes}
 use Rattle.plane.specs.theory.lists.Flat.{points-length}
 use Rattle.polygon.specs.theory.Fronts.{front-length}
-use Rattle.admission.specs.theory.Delivery.{front-paired, made-delivered}
+use Rattle.delivery.specs.theory.Delivery.{front-paired, made-delivered}
 use Rattle.pair_questions.proofs.merging.merge_in.Statement.{statement}
 use Rattle.pair_questions.proofs.merging.merge_in.Tie as tie
 

@@ -1,7 +1,7 @@
 -- `survey` meets its contract: the sum is judged by its size.
 use borrow.Author.Needs.{needs}
 use Rattle.sums.specs.PlaceAfter.{wholeSum}
-use Rattle.admission.specs.theory.Delivery.{sized-rows, judged-by}
+use Rattle.delivery.specs.theory.Delivery.{sized-rows, judged-by}
 use Rattle.part_questions.proofs.walk.survey.Statement.{statement}
 use Rattle.part_questions.proofs.walk.survey.Tie as tie
 

@@ -5,7 +5,7 @@ use borrow.Author.Needs.{needs}
 use Rattle.plane.specs.Floor.{on}
 use Rattle.plane.specs.theory.lists.Flat.{points-length}
 use Rattle.polygon.specs.theory.Fronts.{front-length}
-use Rattle.admission.specs.theory.Delivery.{front-paired, sweep-delivered}
+use Rattle.delivery.specs.theory.Delivery.{front-paired, sweep-delivered}
 use Rattle.shape_questions.proofs.sweeping.sweep_in.Statement.{statement}
 use Rattle.shape_questions.proofs.sweeping.sweep_in.Tie as tie
 

@@ -31,9 +31,9 @@ use Rattle.plane.specs.theory.sweep.SweepSize.{sweep-size}
 use Rattle.polygon.specs.Front.{Front}
 use Rattle.polygon.specs.theory.Fronts.{front-points, front-length}
 use Rattle.sums.specs.Size.{Reckoned, exact, enough, many}
 use Rattle.admission.specs.declared.Admission.{Admission}
 use Rattle.admission.specs.Admission.{Refuses, Judged}
-use Rattle.admission.specs.Fit.{sizedRows, fitRows}
+use Rattle.delivery.specs.Fit.{sizedRows, fitRows}
 
 -- ---- the size of a shape
 

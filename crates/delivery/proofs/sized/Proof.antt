@@ -5,9 +5,9 @@ use lib.Dec.{ltb}
 use borrow.Author.Needs.{needs}
 use Rattle.plane.specs.Limits.{maxCorners}
 use Rattle.plane.specs.Reply.{here, later}
 use Rattle.admission.specs.theory.Judged.{refuses, passes, turns-away}
-use Rattle.admission.proofs.deliver.sized.Statement.{statement}
-use Rattle.admission.proofs.deliver.sized.Tie as tie
+use Rattle.delivery.proofs.sized.Statement.{statement}
+use Rattle.delivery.proofs.sized.Tie as tie
 
 -- row 6 does not apply
 row-6 : (c : tie.Else1) → ltb maxCorners (c .before .before .args .n) ≡ false

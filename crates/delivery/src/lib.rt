@@ -1,4 +1,5 @@
-// Inner functions: an answer that is a shape, judged by its size, and written to the lent output.
+// An answer that is a shape: judged by its size, and written to the lent output. Inner functions; callers ask the crate
+// `questions`.
 ghost use mathlib.Core.Path.{_≡_};
 ghost use Prim.Native.Nat.{_%_};
 ghost use lib.ListN.{length};
@@ -6,12 +7,12 @@ ghost use Rattle.plane.specs.Point.{points};
 ghost use Rattle.plane.specs.Reply.{NoneApply};
 ghost use Rattle.plane.specs.Floor.{noShape};
 ghost use Rattle.plane.specs.Question.{reply, output, makes};
 ghost use Rattle.admission.specs.Answer.{ofAnswer};
 ghost use Rattle.admission.specs.Admission.{Judged};
-ghost use Rattle.admission.specs.Fit.{sizedRows, fitRows};
-use crate::Admission;
-use crate::answer::Answer;
-use crate::answer::Refusal;
+ghost use Rattle.delivery.specs.Fit.{sizedRows, fitRows};
+use admission::Admission;
+use admission::answer::Answer;
+use admission::answer::Refusal;
 use polygon::corners;
 use polygon::limits;
 use polygon::numbers;

@@ -13,11 +13,11 @@ use Rattle.plane.specs.Floor.{noShape}
 use Rattle.plane.specs.Question.{makes}
 use Rattle.plane.specs.theory.lists.Flat.{points-length}
 use Rattle.sums.specs.Size.{exact}
 use Rattle.admission.specs.Admission.{Judged}
 use Rattle.admission.specs.theory.Door.{rest-refused, all-written}
-use Rattle.admission.specs.theory.Delivery.{fit-judged, room-there, numbers-outside, copied}
-use Rattle.admission.proofs.deliver.deliver.Statement.{statement}
-use Rattle.admission.proofs.deliver.deliver.Tie as tie
+use Rattle.delivery.specs.theory.Delivery.{fit-judged, room-there, numbers-outside, copied}
+use Rattle.delivery.proofs.deliver.Statement.{statement}
+use Rattle.delivery.proofs.deliver.Tie as tie
 
 -- its size is judged by the rows of the shape
 judged : (c : tie.After-fits2) → let args = c .before .before .before .args in

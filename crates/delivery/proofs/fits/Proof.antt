@@ -8,10 +8,10 @@ use lib.Dec.{ltb}
 use Rattle.plane.specs.Limits.{maxCorners}
 use Rattle.plane.specs.Reply.{row, NoneApply, here}
 use Rattle.plane.specs.theory.refusals.Rows.{none-join}
-use Rattle.admission.specs.Fit.{sizedRows}
+use Rattle.delivery.specs.Fit.{sizedRows}
 use Rattle.admission.specs.theory.Judged.{refuses, refuses-append, refuses-join, passes, turns-away}
-use Rattle.admission.proofs.deliver.fits.Statement.{statement}
-use Rattle.admission.proofs.deliver.fits.Tie as tie
+use Rattle.delivery.proofs.fits.Statement.{statement}
+use Rattle.delivery.proofs.fits.Tie as tie
 
 -- past its size neither 6 nor 7 applies
 good : (c : tie.After-enum-told) → let args = c .before .before .before .args in NoneApply (sizedRows (args .n) (args .far))
