@@ -10,8 +10,8 @@ ghost use Rattle.ring.specs.Ring.{listRows};
 ghost use Rattle.wire.specs.Told.{crossed, numbers};
 ghost use Rattle.crossing.specs.LowFloor.{barred as LowFloor·barred};
 use admission::Admission;
-use polygon::limits;
 use answers::Refusal;
+use polygon::limits;
 use reply::Reply;
 use wire::refusals;
 

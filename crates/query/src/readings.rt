@@ -1,9 +1,9 @@
 // A corner of two readings: doubles made of their bits, and bits of doubles.
 ghost use mathlib.Core.Path.{_≡_};
 ghost use lib.Ieee.{binary64, nanBits};
-use tablet::reading::Reading;
 use answers::Tablet;
 use reply::Reply;
+use tablet::reading::Reading;
 use text::fields;
 use text::readings;
 use wire::refusals;
