@@ -10,9 +10,9 @@ ghost use Rattle.ring.specs.Ring.{listRows};
 ghost use Rattle.wire.specs.Told.{crossed, numbers};
 ghost use Rattle.crossing.specs.LowFloor.{barred as LowFloor·barred};
 use admission::Admission;
-use answers::Refusal;
+use admission::answer::Refusal;
 use polygon::limits;
-use reply::Reply;
+use wire::Reply;
 use wire::refusals;
 
 // Whether one of two floors is above its limit.

@@ -2,7 +2,7 @@
 use mathlib.Core.Path.{sym, _∙_}
 use borrow.Author.Tests.{leb-true}
 use Rattle.plane.specs.Limits.{maxCorners}
-use Rattle.crossing.specs.Passing.{smallBytes}
+use Rattle.bytewise.specs.Passing.{smallBytes}
 use Rattle.calls.specs.theory.Few.{small-enough, all-enough}
 use borrow.Author.Needs.{needs}
 use Rattle.calls.proofs.bytes.cocklesway_judge_bytes.Statement.{statement}

@@ -9,10 +9,10 @@ use lib.Seq.{length-take-le}
 use Rattle.plane.specs.Floor.{on}
 use Rattle.plane.specs.Question.{Question}
 use Rattle.crossing.specs.LowFloor.{lowFloor}
-use Rattle.crossing.specs.Bytes.{wordsIn}
-use Rattle.crossing.specs.Packing.{packed}
-use Rattle.crossing.specs.Passing.{combined, asked}
-use Rattle.crossing.specs.theory.Alike.{pair-reply, pair-bytes}
+use Rattle.bytewise.specs.Bytes.{wordsIn}
+use Rattle.bytewise.specs.Packing.{packed}
+use Rattle.bytewise.specs.Passing.{combined, asked}
+use Rattle.bytewise.specs.theory.Alike.{pair-reply, pair-bytes}
 use Rattle.calls.specs.theory.Few.{combined-holds}
 use borrow.Author.Needs.{needs}
 use Rattle.calls.proofs.lent.combine.Statement.{statement}

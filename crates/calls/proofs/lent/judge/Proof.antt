@@ -7,8 +7,8 @@ use Rattle.plane.specs.Floor.{on}
 use Rattle.plane.specs.Question.{askJudge}
 use Rattle.crossing.specs.LowFloor.{lowFloor}
 use Rattle.calls.specs.theory.Fits.{judged-fits}
-use Rattle.crossing.specs.theory.Packed.{narrow}
-use Rattle.crossing.specs.theory.Alike.{one-packed}
+use Rattle.bytewise.specs.theory.Packed.{narrow}
+use Rattle.bytewise.specs.theory.Alike.{one-packed}
 use borrow.Author.Needs.{needs}
 use Rattle.calls.proofs.lent.judge.Statement.{statement}
 use Rattle.calls.proofs.lent.judge.Tie as tie

@@ -7,8 +7,8 @@ use Rattle.plane.specs.Floor.{on}
 use Rattle.plane.specs.Question.{askRelation}
 use Rattle.crossing.specs.LowFloor.{lowFloor}
 use Rattle.calls.specs.theory.Fits.{relation-fits}
-use Rattle.crossing.specs.theory.Packed.{narrow}
-use Rattle.crossing.specs.theory.Alike.{pair-packed}
+use Rattle.bytewise.specs.theory.Packed.{narrow}
+use Rattle.bytewise.specs.theory.Alike.{pair-packed}
 use borrow.Author.Needs.{needs}
 use Rattle.calls.proofs.lent.relation.Statement.{statement}
 use Rattle.calls.proofs.lent.relation.Tie as tie

@@ -16,9 +16,9 @@ use Rattle.plane.specs.Question.{Question, reply}
 use Rattle.plane.specs.theory.refusals.Asked.{none→admitted}
 use Rattle.endian.specs.Bytes.{words}
 use Rattle.wire.specs.Told.{crossed}
-use Rattle.crossing.specs.Passing.{Room, combined, asked}
+use Rattle.bytewise.specs.Passing.{Room, combined, asked}
 use Rattle.calls.specs.theory.Fits.{made-fits}
-use Rattle.crossing.specs.theory.Packed.{placed, narrow}
+use Rattle.bytewise.specs.theory.Packed.{placed, narrow}
 use Rattle.calls.specs.theory.Stored.{made-delivered, made-stored}
 use borrow.Author.Needs.{needs}
 use Rattle.calls.proofs.writing.combine.Statement.{statement}

@@ -8,12 +8,12 @@ use lib.ListN.{length}
 use Rattle.endian.specs.Bytes.{wordsAt}
 use Rattle.endian.specs.theory.Bytes.{wordsAt-length}
 use Rattle.endian.specs.theory.Coded.{front-is}
-use Rattle.crossing.specs.Bytes.{listOf}
-use Rattle.crossing.specs.Passing.{Alike}
-use Rattle.crossing.specs.theory.Alike.{none-alike, cut-alike}
+use Rattle.bytewise.specs.Bytes.{listOf}
+use Rattle.bytewise.specs.Passing.{Alike}
+use Rattle.bytewise.specs.theory.Alike.{none-alike, cut-alike}
 use borrow.Author.Needs.{needs}
-use Rattle.crossing.proofs.decoding.read.Statement.{statement}
-use Rattle.crossing.proofs.decoding.read.Tie as tie
+use Rattle.bytewise.proofs.decoding.read.Statement.{statement}
+use Rattle.bytewise.proofs.decoding.read.Tie as tie
 
 -- what is read has room in the buffer
 holds : (c : tie.After-cut) → c .cut .result ≤ length (c .before .before .before .args .numbers .now)

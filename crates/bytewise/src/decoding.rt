@@ -4,8 +4,8 @@ ghost use mathlib.Core.Bool.{_&&_};
 ghost use Prim.Native.Nat.{_≤_};
 ghost use lib.Dec.{leb};
 ghost use lib.ListN.{length, take};
-ghost use Rattle.crossing.specs.Bytes.{listOf};
-ghost use Rattle.crossing.specs.Passing.{Alike, Cut, Enough, smallBytes};
+ghost use Rattle.bytewise.specs.Bytes.{listOf};
+ghost use Rattle.bytewise.specs.Passing.{Alike, Cut, Enough, smallBytes};
 use polygon::limits;
 
 // More numbers than a shape may have, whether their count is even or odd.

@@ -22,10 +22,10 @@ use Rattle.plane.specs.theory.refusals.Accept.{count-good}
 use Rattle.endian.specs.Bytes.{wordsAt}
 use Rattle.endian.specs.theory.Bytes.{wordsAt-length}
 use Rattle.wire.specs.Told.{crossed}
-use Rattle.crossing.specs.Bytes.{listOf, bytesAfter}
-use Rattle.crossing.specs.Packing.{packed}
-use Rattle.crossing.specs.Passing.{Alike, equal, odd, many, Cut, Packs}
-use Rattle.crossing.specs.theory.Agree.{Agree, both, agree-same, agree-join, agree-map, same-reply, same-bytes}
+use Rattle.bytewise.specs.Bytes.{listOf, bytesAfter}
+use Rattle.bytewise.specs.Packing.{packed}
+use Rattle.bytewise.specs.Passing.{Alike, equal, odd, many, Cut, Packs}
+use Rattle.bytewise.specs.theory.Agree.{Agree, both, agree-same, agree-join, agree-map, same-reply, same-bytes}
 
 -- ---- lists that are cut
 

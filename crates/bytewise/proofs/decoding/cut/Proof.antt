@@ -3,8 +3,8 @@ use mathlib.Core.Path.{refl}
 use native.Mathlib.Omega.{arith}
 use Rattle.plane.specs.Limits.{maxCorners}
 use borrow.Author.Needs.{needs}
-use Rattle.crossing.proofs.decoding.cut.Statement.{statement}
-use Rattle.crossing.proofs.decoding.cut.Tie as tie
+use Rattle.bytewise.proofs.decoding.cut.Statement.{statement}
+use Rattle.bytewise.proofs.decoding.cut.Tie as tie
 
 returns : tie.Need-returns
 unfolding maxCorners

@@ -1,7 +1,7 @@
 // A reply packed into one number. No other code packs one.
 ghost use Rattle.wire.specs.Told.{numbers};
-ghost use Rattle.crossing.specs.Passing.{Narrow, Packs};
-use reply::Reply;
+ghost use Rattle.bytewise.specs.Passing.{Narrow, Packs};
+use wire::Reply;
 
 // Packs a byte, a byte, two bytes and two bytes, from the low end: the refusal, the shape that it blames, and two
 // numbers, which a refusal carries or which are the values of an answer. Of each of these a reply has one, and 0 for

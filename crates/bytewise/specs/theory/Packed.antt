@@ -11,8 +11,8 @@ use lib.ListN.{length, getD}
 use Rattle.plane.specs.Reply.{Reply, answered, refused}
 use Rattle.plane.specs.Question.{Question, reply}
 use Rattle.wire.specs.Told.{crossed}
-use Rattle.crossing.specs.Packing.{refusalField, shapeField, firstField, secondField, packed, Fits}
-use Rattle.crossing.specs.Passing.{Narrow, Packs}
+use Rattle.bytewise.specs.Packing.{refusalField, shapeField, firstField, secondField, packed, Fits}
+use Rattle.bytewise.specs.Passing.{Narrow, Packs}
 
 -- ---- fields
 

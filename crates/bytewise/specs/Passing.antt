@@ -25,9 +25,9 @@ use Rattle.plane.specs.Corner.{shapeOf, sums}
 use Rattle.plane.specs.Floor.{Floored, on, corners, twoShapes}
 use Rattle.plane.specs.Question.{Question, makes}
 use Rattle.wire.specs.Told.{crossed}
 use Rattle.crossing.specs.LowFloor.{lowFloor}
-use Rattle.crossing.specs.Bytes.{wordsIn, listOf}
-use Rattle.crossing.specs.Packing.{packed}
+use Rattle.bytewise.specs.Bytes.{wordsIn, listOf}
+use Rattle.bytewise.specs.Packing.{packed}
 
 pub data Alike (l s : List ℤ) : Type 0 where
   equal : s ≡ l → Alike l s

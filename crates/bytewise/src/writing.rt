@@ -1,6 +1,6 @@
 // The room of an output in bytes, in numbers.
 ghost use Prim.Native.Nat.{_≤_};
-ghost use Rattle.crossing.specs.Passing.{Room};
+ghost use Rattle.bytewise.specs.Passing.{Room};
 
 // Returns for how many numbers of an answer the bytes have room, at most the given number.
 // Ruled out: room counted in numbers.

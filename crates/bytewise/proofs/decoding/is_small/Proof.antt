@@ -1,9 +1,9 @@
 -- `is_small` meets its contract. The limit is opened here, against the code's constant.
 use mathlib.Core.Path.{refl}
-use Rattle.crossing.specs.Passing.{smallBytes}
+use Rattle.bytewise.specs.Passing.{smallBytes}
 use borrow.Author.Needs.{needs}
-use Rattle.crossing.proofs.decoding.is_small.Statement.{statement}
-use Rattle.crossing.proofs.decoding.is_small.Tie as tie
+use Rattle.bytewise.proofs.decoding.is_small.Statement.{statement}
+use Rattle.bytewise.proofs.decoding.is_small.Tie as tie
 
 returns : tie.Need-returns
 unfolding smallBytes

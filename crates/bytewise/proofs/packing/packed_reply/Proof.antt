@@ -3,10 +3,10 @@ use mathlib.Core.Path.{_≡_}
 use native.Mathlib.Omega.{arith}
 use Prim.Native.Nat.{_+_, _<_}
 use lib.ListN.{length, getD}
-use Rattle.crossing.specs.theory.Packed.{bounded, packed-parts}
+use Rattle.bytewise.specs.theory.Packed.{bounded, packed-parts}
 use borrow.Author.Needs.{needs}
-use Rattle.crossing.proofs.packing.packed_reply.Statement.{statement}
-use Rattle.crossing.proofs.packing.packed_reply.Tie as tie
+use Rattle.bytewise.proofs.packing.packed_reply.Statement.{statement}
+use Rattle.bytewise.proofs.packing.packed_reply.Tie as tie
 
 -- an array of three
 three : (c : tie.Start) → length (c .args .t1 .carried) ≡ 3

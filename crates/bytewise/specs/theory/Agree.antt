@@ -16,7 +16,7 @@ use Rattle.plane.specs.theory.refusals.Rows.{Outcome, given, passed, outcome, f
 use Rattle.plane.specs.theory.refusals.Rows.{given-output, none-output}
 use Rattle.plane.specs.theory.refusals.Asked.{asked-given, asked-none}
 use Rattle.endian.specs.Bytes.{words}
-use Rattle.crossing.specs.Bytes.{bytesAfter}
+use Rattle.bytewise.specs.Bytes.{bytesAfter}
 
 pub data Agree (vs ws : List Row) (T : Type 0) : Type 0 where
   both : {v w : Row} → First v vs → First w ws → v .number ≡ w .number → v .carries ≡ w .carries → Agree vs ws T

@@ -1,8 +1,8 @@
 -- `are_small` meets its contract, case by case.
 use mathlib.Core.Path.{sym, _∙_}
 use borrow.Author.Needs.{needs}
-use Rattle.crossing.proofs.decoding.are_small.Statement.{statement}
-use Rattle.crossing.proofs.decoding.are_small.Tie as tie
+use Rattle.bytewise.proofs.decoding.are_small.Statement.{statement}
+use Rattle.bytewise.proofs.decoding.are_small.Tie as tie
 
 returns : tie.Need-returns
 returns c = rw (sym (c .before .before .is-small .ensures) ∙ c .before .if1 .taken) (c .is-small2 .ensures)

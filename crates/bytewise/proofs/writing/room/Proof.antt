@@ -1,7 +1,7 @@
 -- `room` meets its contract.
 use native.Mathlib.Omega.{arith}
-use Rattle.crossing.proofs.writing.room.Statement.{statement}
-use Rattle.crossing.proofs.writing.room.Tie as tie
+use Rattle.bytewise.proofs.writing.room.Statement.{statement}
+use Rattle.bytewise.proofs.writing.room.Tie as tie
 
 returns : tie.Need-returns
 returns c = (omega arith, record { holds = λ n h. omega (arith, h, c .if1 .taken); enough = λ n h k. omega (arith, h) })
