@@ -8,6 +8,7 @@ use Rattle.plane.specs.Face.{Furthest}
 use Rattle.plane.specs.theory.lists.Next.{next-below}
 use Rattle.polygon.specs.Point.{at, Small}
 use Rattle.polygon.specs.theory.Small.{small-edge, small-wide}
+use Rattle.boxes.specs.theory.Climb.{climbs-same}
 use Rattle.boxes.proofs.jaws.closed.Statement.{statement}
 use Rattle.boxes.proofs.jaws.closed.Tie as tie
 
@@ -29,13 +30,18 @@ furthest-from-requires c κs =
       valid = pre .valid;
       three = pre .three;
       small = subst (Small (2 ^ 22)) (sym (c .quarter .ensures)) (record { small-x = within-neg (wide .small-y); small-y = wide .small-x });
-      within = pre .high-in;
+      climbs = climbs-same (c .quarter .ensures ∙ ap quarter (c .before .edge-at .ensures)) (pre .high-climbs);
     }
 
 furthest-from-requires-2 : tie.Need-furthest-from-requires-2
 furthest-from-requires-2 c κs =
     let pre = c .before .before .before .pre in
-    record { valid = pre .valid; three = pre .three; small = small-wide (small (c .before .before)); within = pre .far-in }
+    record {
+      valid = pre .valid;
+      three = pre .three;
+      small = small-wide (small (c .before .before));
+      climbs = climbs-same (c .before .before .edge-at .ensures) (pre .far-climbs);
+    }
 
 opposite-requires : tie.Need-opposite-requires
 opposite-requires c κs = small (c .before .before .before)
@@ -49,7 +55,7 @@ furthest-from-requires-3 c κs =
       three = pre .three;
       small = subst (Small (2 ^ 22)) (sym (c .opposite .ensures))
           (record { small-x = within-neg (wide .small-x); small-y = within-neg (wide .small-y) });
-      within = pre .near-in;
+      climbs = climbs-same (c .opposite .ensures ∙ ap opposite (c .before .before .before .before .edge-at .ensures)) (pre .near-climbs);
     }
 
 returns : tie.Need-returns
