@@ -30,7 +30,6 @@ pub fn furthest_from(list: &[i32], d: Point, start: usize) -> usize
 }
 
 // Whether the next corner is further.
-// Ruled out: level corner passed over.
 fn rises(list: &[i32], d: Point, i: usize) -> bool
     requires { ⌜ Valid (now list) × (i < length (points (now list))) × Small (2 ^ 22) (at d) ⌝ }
     ensures { λ r. ⌜ r ≡ ltZ (pos 0) (value (at d) (corner (points (now (list .entry)))

@@ -26,6 +26,7 @@ pub struct Jaws {
 }
 
 // Returns the calipers closed on the first edge. The corner furthest from it is on the way to the one furthest back.
+// Ruled out: corner furthest back sought too early.
 pub fn first(list: &[i32]) -> Jaws
     requires { ⌜ Valid (now list) × (2 < length (points (now list))) ⌝ }
     ensures { λ r. ⌜ Holds (points (now (list .entry))) 0 r ⌝ }

@@ -1,13 +1,14 @@
--- The search for the length: the invariant of the loop, and its moves.
---     kept-level                            what is kept of two pairs at the same distance
---     Search l n top end s t best           the best pair so far, at a place of the half walk
---     search-start, -next, -done            its moves; at the end: the answer
+-- The search for the length: the moves of `Search`.
+--     kept-level                    what is kept of two pairs at the same distance
+--     apart-inner, pair-bounds      the pair of two sides where the first corner does not come again
+--     pair-kept                     if it comes after the best, it is taken only if it is further apart
+--     search-start, -next, -done    at the end: the answer; `search-inner`, `search-bounds`: a step as long as that is so
 use mathlib.Core.Path.{_≡_, refl, sym, _∙_, ap, ap₂, subst}
 use mathlib.Core.Bool.{Bool, true, false, cond}
 use mathlib.Core.List.{List}
 use Prim.Native.Nat.{ℕ, _+_, _≤_, _<_}
 use native.Mathlib.Omega.{arith}
-use borrow.Author.Tests.{eqb-false, le-leb, leb-true}
+use borrow.Author.Tests.{eqb-true, eqb-false, ne-eqb, le-leb, leb-true}
 use lib.Dec.{eqb}
 use lib.IntN.{ℤ, pos}
 use lib.ListN.{length}
@@ -24,20 +25,17 @@ use Rattle.calipers.specs.Side.{cornerOf}
 use Rattle.calipers.specs.declared.side.Side.{Side}
 use Rattle.measure.specs.declared.Length.{Length}
 use Rattle.measure.specs.Answer.{IsLength}
-use Rattle.measure.specs.Comparison.{NoBetter, Stands}
-use Rattle.measure.specs.Half.{HalfStep}
-use Rattle.measure.specs.Scan.{HalfAt, apartAt, Behind, Earlier, best-first, next-first, Kept, kept, replaced}
-use Rattle.measure.specs.theory.LengthScan.{Leads, leads-start, leads-keep, leads-replace, leads-done}
+use Rattle.measure.specs.Comparison.{NotAfter, sooner, level, NoBetter, Stands}
+use Rattle.measure.specs.Half.{HalfStep, right, left}
+use Rattle.measure.specs.Partway.{Leads, Apart, Search}
+use Rattle.measure.specs.Scan.{HalfAt, pairAt, apartAt, Behind, Earlier, best-first, next-first, Kept, kept, replaced}
+use Rattle.measure.specs.theory.LengthScan.{leads-start, leads-keep, leads-replace, leads-done}
 
 -- ---- the better of two pairs
 
 pub kept-level : {best next r : Length} → best .squared ≡ next .squared → Earlier best next r → Kept best next r
 kept-level e (best-first g n) = kept g (record { no-further = omega (arith, e); no-earlier = λ h. n })
 kept-level e (next-first g n) = replaced g (record { no-further = omega (arith, e); no-earlier = λ h. n })
-
--- the squared distance that a pair carries is its own
-pub record Apart (A : List Point) (p : Length) : Type 0 where
-  pub distance : pos (p .squared) ≡ squared (corner A (p .from)) (corner A (p .to))
 
 behind-noBetter : {A : List Point} {p q : Length} → Apart A p → Apart A q → Behind p q
     → NoBetter A (p .from) (p .to) (q .from) (q .to)
@@ -89,14 +87,25 @@ module _ {l : List ℤ} {top n : ℕ} {s t : Side} (h : HalfAt l top s t) (count
           omega (arith, rw q at (place .to-is), eqb-false (t .at) (length A) q, h .left-side .at-in, edges-at-most A),
         )
 
--- ---- the loop
+-- ---- the pair of two sides, before the last corner
 
-pub record Search (l : List ℤ) (n top end : ℕ) (s t : Side) (best : Length) : Type 0 where
-  pub half : HalfAt l top s t
-  pub count : n ≡ length (points l)
-  pub sides : end ≡ length (edges (points l))
-  pub apart : Apart (points l) best
-  pub leads : Leads (points l) top (s .at) (t .at) (best .from) (best .to)
+pub apart-inner : (n : ℕ) (s t : Side) → t .at < n → apartAt n s t ≡ pairAt s t
+unfolding apartAt pairAt
+apart-inner n s t h = rw (ne-eqb (t .at) n (λ q. omega arith)) refl
+
+pub pair-bounds : {p : Length} (s t : Side) → p ≡ pairAt s t → (p .from ≤ s .at) × (p .to ≤ t .at)
+unfolding pairAt
+pair-bounds s t e = (omega (arith, ap (λ (p : Length). p .from) e), omega (arith, ap (λ (p : Length). p .to) e))
+
+-- a pair that comes after the best is taken only if it is further apart
+pub pair-kept : {best next : Length} → best .from ≤ next .from → best .to ≤ next .to → next .squared ≤ best .squared → Kept best next best
+pair-kept {best} {next} a b h = kept refl (record { no-further = h; no-earlier = λ g. order (eqb (best .from) (next .from)) refl })
+  where
+    order : (c : Bool) → eqb (best .from) (next .from) ≡ c → NotAfter (best .from) (best .to) (next .from) (next .to)
+    order true q = level (eqb-true (best .from) (next .from) q) b
+    order false q = sooner (omega (arith, a, eqb-false (best .from) (next .from) q))
+
+-- ---- the loop
 
 module _ {l : List ℤ} {n top end : ℕ} where
   pub search-start : {s t : Side} {best : Length} → HalfAt l top s t → n ≡ length (points l) → end ≡ length (edges (points l))
@@ -126,6 +135,21 @@ module _ {l : List ℤ} {n top end : ℕ} where
         go (replaced q b) = let order = place-in-order h (g .count) e in subst (Search l n top end s′ t′) (sym q) (after own
             (leads-replace (g .leads) step (g .half .antipodal .left-from) (place h (g .count) e) (order .0) (order .1)
             (behind-noBetter (g .apart) own b)))
+
+    -- before the last corner
+    module _ {s′ t′ : Side} (h : HalfAt l top s′ t′) (step : HalfStep (points l) top (s .at) (t .at) (s′ .at) (t′ .at))
+        (inner : t .at + 2 < end) where
+      grows : {k m : ℕ} → HalfStep (points l) top (s .at) (t .at) k m → (s .at ≤ k) × (t .at ≤ m) × (m ≤ t .at + 1)
+      grows (right a b) = (omega arith, omega arith, omega arith)
+      grows (left a b) = (omega arith, omega arith, omega arith)
+
+      pub search-bounds : best .from ≤ s .at → best .to ≤ t .at → (best .from ≤ s′ .at) × (best .to ≤ t′ .at)
+      search-bounds a b = let on = grows step in (omega (arith, on .0), omega (arith, on .1))
+
+      pub search-inner : {r : Length} → Kept best (pairAt s′ t′) r → Search l n top end s′ t′ r
+      search-inner k =
+          let below : t′ .at < n = omega (arith, grows step .2, inner, g .sides, g .count, edges-at-most (points l)) in
+          search-next h step (sym (apart-inner n s′ t′ below)) k
 
     pub search-done : top + end ≤ s .at + t .at → IsLength (points l) best
     search-done h =
