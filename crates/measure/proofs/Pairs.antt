@@ -2,11 +2,12 @@
 --     kept-level                    what is kept of two pairs at the same distance
 --     apart-inner, pair-bounds      the pair of two sides where the first corner does not come again
 --     pair-kept                     if it comes after the best, it is taken only if it is further apart
---     search-start, -next, -done    at the end: the answer; `search-inner`, `search-bounds`: a step as long as that is so
+--     search-start, -next, -done    at the end: the answer
+--     Onward, onward-inner          a step as long as the first corner does not come again
 use mathlib.Core.Path.{_≡_, refl, sym, _∙_, ap, ap₂, subst}
 use mathlib.Core.Bool.{Bool, true, false, cond}
 use mathlib.Core.List.{List}
-use Prim.Native.Nat.{ℕ, _+_, _≤_, _<_}
+use Prim.Native.Nat.{ℕ, _+_, _-_, _^_, _≤_, _<_}
 use native.Mathlib.Omega.{arith}
 use borrow.Author.Tests.{eqb-true, eqb-false, ne-eqb, le-leb, leb-true}
 use lib.Dec.{eqb}
@@ -20,7 +21,7 @@ use Rattle.plane.specs.Forms.{edges}
 use Rattle.plane.specs.Cycle.{cornerRound}
 use Rattle.plane.specs.theory.forms.Squared.{squared-nonneg, squared-sym}
 use Rattle.plane.specs.theory.sum.Positions.{round-inner, edges-at-most}
-use Rattle.polygon.specs.Point.{at}
+use Rattle.polygon.specs.Point.{at, Small}
 use Rattle.calipers.specs.Side.{cornerOf}
 use Rattle.calipers.specs.declared.side.Side.{Side}
 use Rattle.measure.specs.declared.Length.{Length}
@@ -30,6 +31,7 @@ use Rattle.measure.specs.Half.{HalfStep, right, left}
 use Rattle.measure.specs.Partway.{Leads, Apart, Search}
 use Rattle.measure.specs.Scan.{HalfAt, pairAt, apartAt, Behind, Earlier, best-first, next-first, Kept, kept, replaced}
 use Rattle.measure.specs.theory.LengthScan.{leads-start, leads-keep, leads-replace, leads-done}
+use Rattle.measure.proofs.Stepped.{half-corners}
 
 -- ---- the better of two pairs
 
@@ -136,22 +138,39 @@ module _ {l : List ℤ} {n top end : ℕ} where
             (leads-replace (g .leads) step (g .half .antipodal .left-from) (place h (g .count) e) (order .0) (order .1)
             (behind-noBetter (g .apart) own b)))
 
-    -- before the last corner
-    module _ {s′ t′ : Side} (h : HalfAt l top s′ t′) (step : HalfStep (points l) top (s .at) (t .at) (s′ .at) (t′ .at))
-        (inner : t .at + 2 < end) where
-      grows : {k m : ℕ} → HalfStep (points l) top (s .at) (t .at) k m → (s .at ≤ k) × (t .at ≤ m) × (m ≤ t .at + 1)
-      grows (right a b) = (omega arith, omega arith, omega arith)
-      grows (left a b) = (omega arith, omega arith, omega arith)
-
-      pub search-bounds : best .from ≤ s .at → best .to ≤ t .at → (best .from ≤ s′ .at) × (best .to ≤ t′ .at)
-      search-bounds a b = let on = grows step in (omega (arith, on .0), omega (arith, on .1))
-
-      pub search-inner : {r : Length} → Kept best (pairAt s′ t′) r → Search l n top end s′ t′ r
-      search-inner k =
-          let below : t′ .at < n = omega (arith, grows step .2, inner, g .sides, g .count, edges-at-most (points l)) in
-          search-next h step (sym (apart-inner n s′ t′ below)) k
-
     pub search-done : top + end ≤ s .at + t .at → IsLength (points l) best
     search-done h =
         let done = leads-done (g .leads) (omega (arith, g .sides)) in
         record { squared-is = g .apart .distance ∙ sym (done .0); from-is = sym (done .1); to-is = sym (done .2) }
+
+-- ---- a step before the last corner
+
+-- what a step from the best pair so far leads to
+pub record Onward (l : List ℤ) (n top end : ℕ) (s t : Side) (best : Length) (s′ t′ : Side) : Type 0 where
+  pub ready : Small (2 ^ 21) (cornerOf s′) × Small (2 ^ 21) (cornerOf t′) × (best .from ≤ s′ .at) × (best .to ≤ t′ .at)
+  pub fewer : top + end - (s′ .at + t′ .at) < top + end - (s .at + t .at)
+  pub again : {r : Length} → Kept best (pairAt s′ t′) r × (r .from ≤ s′ .at) × (r .to ≤ t′ .at)
+      → Search l n top end s′ t′ r × (r .from ≤ s′ .at) × (r .to ≤ t′ .at)
+
+grows : {A : List Point} {t i m k l : ℕ} → HalfStep A t i m k l → (i ≤ k) × (m ≤ l) × (l ≤ m + 1)
+grows (right a b) = (omega arith, omega arith, omega arith)
+grows (left a b) = (omega arith, omega arith, omega arith)
+
+pub onward-inner : {l : List ℤ} {n top end : ℕ} {s t s′ t′ : Side} {best : Length} → Search l n top end s t best → best .from ≤ s .at
+    → best .to ≤ t .at → t .at + 2 < end
+    → HalfStep (points l) top (s .at) (t .at) (s′ .at) (t′ .at) × HalfAt l top s′ t′
+    × (top + end - (s′ .at + t′ .at) < top + end - (s .at + t .at)) → Onward l n top end s t best s′ t′
+onward-inner {l} {n} {top} {end} {s} {t} {s′} {t′} {best} g a b inner (step, half, less) = record {
+  ready = (corners .0, corners .1, omega (arith, on .0, a), omega (arith, on .1, b));
+  fewer = less;
+  again = λ k. (search-next g half step (sym (apart-inner n s′ t′ below)) (k .0), k .1, k .2);
+}
+  where
+    corners : Small (2 ^ 21) (cornerOf s′) × Small (2 ^ 21) (cornerOf t′)
+    corners = half-corners half
+
+    on : (s .at ≤ s′ .at) × (t .at ≤ t′ .at) × (t′ .at ≤ t .at + 1)
+    on = grows step
+
+    below : t′ .at < n
+    below = omega (arith, on .2, inner, g .sides, g .count, edges-at-most (points l))

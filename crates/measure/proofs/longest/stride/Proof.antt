@@ -1,18 +1,23 @@
 -- `stride` meets its contract. The invariant: the best pair of the places passed, which all come before this one; the measure is how many
 -- steps are to come at most.
-use mathlib.Core.Path.{refl, _∙_}
+use mathlib.Core.Path.{_≡_, refl, _∙_}
+use mathlib.Core.Bool.{Bool, not, cond}
 use Prim.Native.Nat.{_+_, _-_, _≤_, _<_}
 use native.Mathlib.Omega.{arith}
+use lib.IntN.{pos}
+use lib.Signed.{ltZ}
 use mir.Syntax.{w64}
+use mir.Val.{toZ, ofZ}
 use Rattle.integer.specs.Machine.{result-is}
 use Rattle.plane.specs.Point.{points}
-use Rattle.measure.specs.Half.{HalfStep}
+use Rattle.calipers.specs.declared.side.Side.{Side}
+use Rattle.calipers.specs.Side.{onward, Carried}
 use Rattle.measure.specs.Partway.{Search}
 use Rattle.measure.specs.Scan.{HalfAt}
 use Rattle.measure.specs.theory.Chains.{chains-in}
 use Rattle.measure.proofs.Stepped.{Inside, half-start, half-edges, half-corners, half-room, half-on}
 use Rattle.measure.proofs.Stepped.{inside-on, inside-left, inside-told}
-use Rattle.measure.proofs.Pairs.{apart-inner, pair-bounds, search-start, search-bounds, search-inner}
+use Rattle.measure.proofs.Pairs.{apart-inner, pair-bounds, search-start, Onward, onward-inner}
 use Rattle.measure.proofs.longest.stride.Statement.{statement}
 use Rattle.measure.proofs.longest.stride.Tie as tie
 
@@ -59,91 +64,78 @@ inside c = c .before .are-inside .ensures (c .if1 .taken)
 order-requires : tie.Need-order-requires Inv-loop μ-loop
 order-requires c κs = half-edges (c .before .before .loop .inv .0 .half)
 
--- ---- a step on the right-hand chain
+-- the sign alone tells the step: where it leads
+stepped : (c : tie.After-order Inv-loop μ-loop) {b : Bool} {s′ t′ : Side} → ltZ (toZ w64 (ofZ w64 (c .order .result))) (pos 0) ≡ b
+    → let at-loop = c .before .before .before in
+    let args = at-loop .before .before .before .before .args in
+    let s = at-loop .loop .s in
+    let t = at-loop .loop .t in
+    let l = args .list .now in
+    (s′ .at ≡ cond (not b) (s .at) (onward (points l) (s .at))) × Carried l s′
+    → (t′ .at ≡ cond b (t .at) (onward (points l) (t .at))) × Carried l t′
+    → Onward l (args .n) (args .top) (args .end) s t (at-loop .loop .best) s′ t′
+stepped c e a b =
+    let at-inside = c .before in
+    let inv = at-inside .before .before .loop .inv in
+    let half = inv .0 .half in
+    onward-inner (inv .0) (inv .1) (inv .2) (inside at-inside .1) (half-on half (inv .0 .sides)
+    (inside-on half (inv .0 .sides) (inside at-inside))
+    (inside-told half (inv .0 .sides) (inside at-inside) (result-is w64 (c .order .ok) (c .order .ensures)) e) a b)
+
+-- both sides can go on
+ready : (c : tie.Then1 Inv-loop μ-loop) → let at-loop = c .before .before in
+    (at-loop .loop .s .at + 2 < at-loop .loop .s .end) × (at-loop .loop .t .at + 2 < at-loop .loop .t .end)
+ready c = let inv = c .before .before .loop .inv .0 in inside-left (inv .half) (inv .sides) (inside c)
+
+-- ---- on the right-hand chain
 
 ahead-requires : tie.Need-ahead-requires Inv-loop μ-loop
 ahead-requires c κs =
     let at-inside = c .before .before in
-    let inv = at-inside .before .before .loop .inv .0 in
-    let v = inv .half .valid in
-    (inv .half .right-side, v .inRange, v .shape .some, inside-left (inv .half) (inv .sides) (inside at-inside) .0)
+    let half = at-inside .before .before .loop .inv .0 .half in
+    (half .right-side, half .valid .inRange, half .valid .shape .some, ready at-inside .0)
 
 right-on : (c : tie.After-ahead Inv-loop μ-loop) → let at-loop = c .before .before .before .before .before in
     let args = at-loop .before .before .before .before .args in
-    let s = at-loop .loop .s in
-    let t = at-loop .loop .t in
-    let s′ = c .ahead .result in
-    HalfStep (points (args .list .now)) (args .top) (s .at) (t .at) (s′ .at) (t .at) × HalfAt (args .list .now) (args .top) s′ t
-    × (args .top + args .end - (s′ .at + t .at) < args .top + args .end - (s .at + t .at))
+    Onward (args .list .now) (args .n) (args .top) (args .end) (at-loop .loop .s) (at-loop .loop .t) (at-loop .loop .best)
+    (c .ahead .result) (at-loop .loop .t)
 right-on c =
     let at-order = c .before .before in
-    let at-inside = at-order .before in
-    let inv = at-inside .before .before .loop .inv .0 in
-    half-on (inv .half) (inv .sides) (inside-on (inv .half) (inv .sides) (inside at-inside))
-    (inside-told (inv .half) (inv .sides) (inside at-inside) (result-is w64 (at-order .order .ok) (at-order .order .ensures))
-    (c .before .if2 .taken)) (c .ahead .ensures) (refl, inv .half .left-side)
+    stepped at-order (c .before .if2 .taken) (c .ahead .ensures) (refl, at-order .before .before .before .loop .inv .0 .half .left-side)
 
 longer-requires : tie.Need-longer-requires Inv-loop μ-loop
-longer-requires c κs =
-    let at-inside = c .before .before .before in
-    let inv = at-inside .before .before .loop .inv in
-    let on = right-on c in
-    let corners = half-corners (on .1) in
-    let bounds = search-bounds (inv .0) (on .1) (on .0) (inside at-inside .1) (inv .1) (inv .2) in
-    (corners .0, corners .1, bounds .0, bounds .1)
+longer-requires c κs = right-on c .ready
 
 loop-less : tie.Need-loop-less Inv-loop μ-loop
-loop-less c = right-on (c .before) .2
+loop-less c = right-on (c .before) .fewer
 
 loop-again : tie.Need-loop-again Inv-loop μ-loop
-loop-again c =
-    let at-inside = c .before .before .before .before in
-    let on = right-on (c .before) in
-    let kept = c .longer .ensures in
-    (search-inner (at-inside .before .before .loop .inv .0) (on .1) (on .0) (inside at-inside .1) (kept .0), kept .1, kept .2)
+loop-again c = right-on (c .before) .again (c .longer .ensures)
 
--- ---- and on the left-hand one
+-- ---- on the left-hand one
 
 ahead-requires-2 : tie.Need-ahead-requires-2 Inv-loop μ-loop
 ahead-requires-2 c κs =
     let at-inside = c .before .before in
-    let inv = at-inside .before .before .loop .inv .0 in
-    let v = inv .half .valid in
-    (inv .half .left-side, v .inRange, v .shape .some, inside-left (inv .half) (inv .sides) (inside at-inside) .1)
+    let half = at-inside .before .before .loop .inv .0 .half in
+    (half .left-side, half .valid .inRange, half .valid .shape .some, ready at-inside .1)
 
 left-on : (c : tie.After-ahead2 Inv-loop μ-loop) → let at-loop = c .before .before .before .before .before in
     let args = at-loop .before .before .before .before .args in
-    let s = at-loop .loop .s in
-    let t = at-loop .loop .t in
-    let t′ = c .ahead2 .result in
-    HalfStep (points (args .list .now)) (args .top) (s .at) (t .at) (s .at) (t′ .at) × HalfAt (args .list .now) (args .top) s t′
-    × (args .top + args .end - (s .at + t′ .at) < args .top + args .end - (s .at + t .at))
+    Onward (args .list .now) (args .n) (args .top) (args .end) (at-loop .loop .s) (at-loop .loop .t) (at-loop .loop .best)
+    (at-loop .loop .s) (c .ahead2 .result)
 left-on c =
     let at-order = c .before .before in
-    let at-inside = at-order .before in
-    let inv = at-inside .before .before .loop .inv .0 in
-    half-on (inv .half) (inv .sides) (inside-on (inv .half) (inv .sides) (inside at-inside))
-    (inside-told (inv .half) (inv .sides) (inside at-inside) (result-is w64 (at-order .order .ok) (at-order .order .ensures))
-    (c .before .if2 .left)) (refl, inv .half .right-side) (c .ahead2 .ensures)
+    stepped at-order (c .before .if2 .left) (refl, at-order .before .before .before .loop .inv .0 .half .right-side) (c .ahead2 .ensures)
 
 longer-requires-2 : tie.Need-longer-requires-2 Inv-loop μ-loop
-longer-requires-2 c κs =
-    let at-inside = c .before .before .before in
-    let inv = at-inside .before .before .loop .inv in
-    let on = left-on c in
-    let corners = half-corners (on .1) in
-    let bounds = search-bounds (inv .0) (on .1) (on .0) (inside at-inside .1) (inv .1) (inv .2) in
-    (corners .0, corners .1, bounds .0, bounds .1)
+longer-requires-2 c κs = left-on c .ready
 
 loop-less-2 : tie.Need-loop-less-2 Inv-loop μ-loop
-loop-less-2 c = left-on (c .before) .2
+loop-less-2 c = left-on (c .before) .fewer
 
 loop-again-2 : tie.Need-loop-again-2 Inv-loop μ-loop
-loop-again-2 c =
-    let at-inside = c .before .before .before .before in
-    let on = left-on (c .before) in
-    let kept = c .longer2 .ensures in
-    (search-inner (at-inside .before .before .loop .inv .0) (on .1) (on .0) (inside at-inside .1) (kept .0), kept .1, kept .2)
+loop-again-2 c = left-on (c .before) .again (c .longer2 .ensures)
 
 returns : tie.Need-returns Inv-loop μ-loop
 returns c = c .before .before .loop .inv .0

@@ -1,10 +1,13 @@
 -- `stride` meets its contract. The invariant: the best of the edges passed; the measure is how many steps are to come.
 use mathlib.Core.Path.{_≡_, refl}
-use mathlib.Core.Bool.{true, false}
-use Prim.Native.Nat.{_+_, _-_}
+use mathlib.Core.Bool.{Bool, true, false}
+use Prim.Native.Nat.{_+_, _-_, _<_}
 use native.Mathlib.Omega.{arith}
 use borrow.Author.Needs.{needs}
+use lib.IntN.{pos}
+use lib.Signed.{ltZ}
 use mir.Syntax.{w64}
+use mir.Val.{toZ, ofZ}
 use Rattle.integer.specs.Machine.{result-is}
 use Rattle.plane.specs.Turn.{cross}
 use Rattle.polygon.specs.Point.{at}
@@ -46,18 +49,25 @@ inside c = c .before .are-inside .ensures (c .if1 .taken)
 order-requires : tie.Need-order-requires Inv-loop μ-loop
 order-requires c κs = half-edges (c .before .before .loop .inv .half)
 
--- ---- a step on the right-hand chain
-
-right-told : (c : tie.Then2 Inv-loop μ-loop) → let at-loop = c .before .before .before .before in
+-- the sign alone tells the step, and one is to come
+told : (c : tie.After-order Inv-loop μ-loop) {b : Bool} → ltZ (toZ w64 (ofZ w64 (c .order .result))) (pos 0) ≡ b
+    → let at-loop = c .before .before .before in
     let args = at-loop .before .before .before .args in
     let s = at-loop .loop .s in
     let t = at-loop .loop .t in
-    true ≡ goesRight (args .top) (args .end) (s .at) (t .at) (cross (nextOf s) (nextOf t))
-right-told c =
-    let at-order = c .before in
-    let inv = at-order .before .before .before .loop .inv in
-    inside-told (inv .half) (inv .sides) (inside (at-order .before)) (result-is w64 (at-order .order .ok) (at-order .order .ensures))
-    (c .if2 .taken)
+    (s .at + t .at < args .top + args .end) × (b ≡ goesRight (args .top) (args .end) (s .at) (t .at) (cross (nextOf s) (nextOf t)))
+told c e =
+    let inv = c .before .before .before .loop .inv in (
+      inside-on (inv .half) (inv .sides) (inside (c .before)),
+      inside-told (inv .half) (inv .sides) (inside (c .before)) (result-is w64 (c .order .ok) (c .order .ensures)) e,
+    )
+
+-- both sides can go on
+ready : (c : tie.Then1 Inv-loop μ-loop) → let at-loop = c .before .before in
+    (at-loop .loop .s .at + 2 < at-loop .loop .s .end) × (at-loop .loop .t .at + 2 < at-loop .loop .t .end)
+ready c = let inv = c .before .before .loop .inv in inside-left (inv .half) (inv .sides) (inside c)
+
+-- ---- a step on the right-hand chain
 
 measured-requires : tie.Need-measured-requires Inv-loop μ-loop
 measured-requires c κs = sweep-fits (c .before .before .before .before .loop .inv) true refl refl
@@ -65,37 +75,24 @@ measured-requires c κs = sweep-fits (c .before .before .before .before .loop .i
 ahead-requires : tie.Need-ahead-requires Inv-loop μ-loop
 ahead-requires c κs =
     let at-inside = c .before .before .before .before in
-    let inv = at-inside .before .before .loop .inv in
-    (inv .half .valid, inv .half .right-side, inside-left (inv .half) (inv .sides) (inside at-inside) .0)
+    let half = at-inside .before .before .loop .inv .half in (half .valid, half .right-side, ready at-inside .0)
 
 loop-less : tie.Need-loop-less Inv-loop μ-loop
 loop-less c =
     let at-right = c .before .before .before in
-    let at-inside = at-right .before .before in
-    let inv = at-inside .before .before .loop .inv in
-    half-on (inv .half) (inv .sides) (inside-on (inv .half) (inv .sides) (inside at-inside)) (right-told at-right) (c .ahead .ensures)
-    (refl, inv .half .left-side) .2
+    let inv = at-right .before .before .before .before .loop .inv in
+    let e = told (at-right .before) (at-right .if2 .taken) in
+    half-on (inv .half) (inv .sides) (e .0) (e .1) (c .ahead .ensures) (refl, inv .half .left-side) .2
 
 loop-again : tie.Need-loop-again Inv-loop μ-loop
 loop-again c =
     let at-right = c .before .before .before in
-    let at-inside = at-right .before .before in
-    let inv = at-inside .before .before .loop .inv in
-    sweep-next inv true refl refl (inside-on (inv .half) (inv .sides) (inside at-inside)) (right-told at-right) (c .ahead .ensures)
-    (refl, inv .half .left-side) (c .before .before .measured .ensures) (c .before .narrower .ensures)
+    let inv = at-right .before .before .before .before .loop .inv in
+    let e = told (at-right .before) (at-right .if2 .taken) in
+    sweep-next inv true refl refl (e .0) (e .1) (c .ahead .ensures) (refl, inv .half .left-side) (c .before .before .measured .ensures)
+    (c .before .narrower .ensures)
 
 -- ---- and on the left-hand one
-
-left-told : (c : tie.Else2 Inv-loop μ-loop) → let at-loop = c .before .before .before .before in
-    let args = at-loop .before .before .before .args in
-    let s = at-loop .loop .s in
-    let t = at-loop .loop .t in
-    false ≡ goesRight (args .top) (args .end) (s .at) (t .at) (cross (nextOf s) (nextOf t))
-left-told c =
-    let at-order = c .before in
-    let inv = at-order .before .before .before .loop .inv in
-    inside-told (inv .half) (inv .sides) (inside (at-order .before)) (result-is w64 (at-order .order .ok) (at-order .order .ensures))
-    (c .if2 .left)
 
 measured-requires-2 : tie.Need-measured-requires-2 Inv-loop μ-loop
 measured-requires-2 c κs = sweep-fits (c .before .before .before .before .loop .inv) false refl refl
@@ -103,24 +100,22 @@ measured-requires-2 c κs = sweep-fits (c .before .before .before .before .loop 
 ahead-requires-2 : tie.Need-ahead-requires-2 Inv-loop μ-loop
 ahead-requires-2 c κs =
     let at-inside = c .before .before .before .before in
-    let inv = at-inside .before .before .loop .inv in
-    (inv .half .valid, inv .half .left-side, inside-left (inv .half) (inv .sides) (inside at-inside) .1)
+    let half = at-inside .before .before .loop .inv .half in (half .valid, half .left-side, ready at-inside .1)
 
 loop-less-2 : tie.Need-loop-less-2 Inv-loop μ-loop
 loop-less-2 c =
     let at-left = c .before .before .before in
-    let at-inside = at-left .before .before in
-    let inv = at-inside .before .before .loop .inv in
-    half-on (inv .half) (inv .sides) (inside-on (inv .half) (inv .sides) (inside at-inside)) (left-told at-left)
-    (refl, inv .half .right-side) (c .ahead2 .ensures) .2
+    let inv = at-left .before .before .before .before .loop .inv in
+    let e = told (at-left .before) (at-left .if2 .left) in
+    half-on (inv .half) (inv .sides) (e .0) (e .1) (refl, inv .half .right-side) (c .ahead2 .ensures) .2
 
 loop-again-2 : tie.Need-loop-again-2 Inv-loop μ-loop
 loop-again-2 c =
     let at-left = c .before .before .before in
-    let at-inside = at-left .before .before in
-    let inv = at-inside .before .before .loop .inv in
-    sweep-next inv false refl refl (inside-on (inv .half) (inv .sides) (inside at-inside)) (left-told at-left)
-    (refl, inv .half .right-side) (c .ahead2 .ensures) (c .before .before .measured2 .ensures) (c .before .narrower2 .ensures)
+    let inv = at-left .before .before .before .before .loop .inv in
+    let e = told (at-left .before) (at-left .if2 .left) in
+    sweep-next inv false refl refl (e .0) (e .1) (refl, inv .half .right-side) (c .ahead2 .ensures) (c .before .before .measured2 .ensures)
+    (c .before .narrower2 .ensures)
 
 returns : tie.Need-returns Inv-loop μ-loop
 returns c = c .before .before .loop .inv
