@@ -25,22 +25,18 @@ pub struct Jaws {
     pub near: usize,
 }
 
-// Returns the calipers closed on the first edge. The corner furthest from it is on the way to the one furthest back.
+// Returns the calipers closed on the first edge. The corner furthest from it is on the way to the one furthest back. It
+// repeats `closed`, which is called from one place, so that it becomes part of the loop there.
 // Ruled out: corner furthest back sought too early.
 pub fn first(list: &[i32]) -> Jaws
     requires { ⌜ Valid (now list) × (2 < length (points (now list))) ⌝ }
     ensures { λ r. ⌜ Holds (points (now (list .entry))) 0 r ⌝ }
 {
-    let high = climb::furthest_from(list, quarter(climb::edge_at(list, 0)), 1);
-    closed(
-        list,
-        0,
-        Jaws {
-            high,
-            far: 1,
-            near: high,
-        },
-    )
+    let along = climb::edge_at(list, 0);
+    let far = climb::furthest_from(list, along, 1);
+    let high = climb::furthest_from(list, quarter(along), 1);
+    let near = climb::furthest_from(list, point::opposite(along), high);
+    Jaws { high, far, near }
 }
 
 // Returns the calipers closed on an edge, each on its way from where it was.

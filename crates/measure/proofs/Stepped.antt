@@ -70,9 +70,12 @@ module _ {l : List ℤ} {n : ℕ} {s t : Side} (h : HalfAt l n s t) where
 
     pub inside-left : (s .at + 2 < s .end) × (t .at + 2 < t .end)
     inside-left = (
-      omega (arith, inside .0, h .right-side .end-is, h .chains .within, edges-some (points l) (omega (arith, inside .0, h .chains .within))),
+      omega (arith, inside .0, h .right-side .end-is, h .chains .within, edges-some (points l) many),
       omega (arith, inside .1, h .left-side .end-is, all),
     )
+      where
+        many : 1 < length (points l)
+        many = omega (arith, inside .0, h .chains .within)
 
     pub inside-told : {z : ℤ} → z ≡ cross (nextOf s) (nextOf t) → {b : Bool} → ltZ z (pos 0) ≡ b
         → b ≡ goesRight n m (s .at) (t .at) (cross (nextOf s) (nextOf t))

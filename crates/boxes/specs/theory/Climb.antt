@@ -2,8 +2,8 @@
 --     rises-up, rises-not      whether the next corner is further, by the value of the edge
 --     rising-not-found         then this corner is not the one that `furthest` finds
 --     climbed                  a corner is on the way up if the one before it is no further
---     climbs-here              a furthest corner is; `climbs-same`: of two names of a direction
---     climbs-turned            in a direction further to the left too
+--     climbs-turned            so is a corner that is furthest in a direction further to the right
+--     climbs-same              of two names of a direction
 --     still n i f              how many steps from i round to f; still-less: one less after a step, unless i is f
 use mathlib.Core.Path.{_≡_, refl, sym, _∙_, ap, subst}
 use mathlib.Core.Bool.{Bool, true, false, cond}
@@ -57,9 +57,6 @@ turned-before d e a p c t left before after level = contra≤ (λ g. lia
 
 pub climbs-same : {d e : Point} {ps : List Point} {i : ℕ} → d ≡ e → Climbs e ps i → Climbs d ps i
 climbs-same {ps = ps} {i = i} h c = subst (λ (d : Point). Climbs d ps i) (sym h) c
-
-pub climbs-here : {d : Point} {ps : List Point} {i : ℕ} → Furthest d ps i → Climbs d ps i
-climbs-here f = record { within = f .within; reached = λ h. f }
 
 module _ (ps : List Point) (d : Point) where
   pub rising-not-found : 0 < length ps → (i j : ℕ) → j < length ps → value d (corner ps i) <ℤ value d (corner ps j)

@@ -20,7 +20,7 @@ use Rattle.plane.specs.Direction.{value, support, greater}
 use Rattle.plane.specs.Measure.{edgeSquared, widthEdge}
 use Rattle.plane.specs.Corner.{shapeOf, sums}
 use Rattle.plane.specs.Forms.{NonZero}
-use Rattle.plane.specs.Cut.{quarter, outward}
+use Rattle.plane.specs.Cut.{quarter}
 use Rattle.plane.specs.theory.lists.Members.{point-discrete, position-member, member-position, sums-member, sums-some, member-sums}
 use Rattle.plane.specs.theory.lists.Next.{next-below}
 use Rattle.plane.specs.theory.forms.Vector.{square-positive, value-⊕}
@@ -147,14 +147,8 @@ module _ (ps : List Point) (s : IsShape ps) (three : 2 < length ps) where
   -- ---- across an edge of the sum
 
   module _ (e : ℕ) (h : e < length R) where
-    abbrev u : Point
-    u = corner R e
-
-    abbrev v : Point
-    v = corner R (next (length R) e)
-
     abbrev n : Point
-    n = outward u v
+    n = outOf R e
 
     out : Outermost R e
     out = outermost R shape R-three e h
@@ -162,7 +156,7 @@ module _ (ps : List Point) (s : IsShape ps) (three : 2 < length ps) where
     edge-no-smaller : NoSmaller ps n
     edge-no-smaller = go (parts (position-member R e h)) (parts (position-member R (next (length R) e) (next-below (length R) e h)))
       where
-        go : Parts u → Parts v → NoSmaller ps n
+        go : Parts (corner R e) → Parts (corner R (next (length R) e)) → NoSmaller ps n
         go r t = pick (point-discrete (r .left) (t .left))
           where
             pick : Dec (r .left ≡ t .left) → NoSmaller ps n

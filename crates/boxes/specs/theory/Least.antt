@@ -12,14 +12,14 @@ use borrow.Author.Tests.{eqb-true, eqb-false}
 use lib.Dec.{eqb, ltb}
 use lib.IntN.{ℤ, pos, _*ℤ_}
 use lib.ListN.{length}
-use lib.Signed.{_≤ℤ_, _<ℤ_, ≤ℤ-refl}
-use Rattle.integer.specs.Order.{weaken, leZ-true, leZ-false, le-leZ}
+use lib.Signed.{_≤ℤ_, _<ℤ_}
+use Rattle.integer.specs.Order.{leZ-true, leZ-false}
 use Rattle.plane.specs.Point.{Point}
 use Rattle.plane.specs.Search.{every}
 use Rattle.plane.specs.Shape.{IsShape}
 use Rattle.plane.specs.Measure.{edgeSquared}
 use Rattle.plane.specs.theory.lists.Sought.{first-unique, all-every, not-every, true-not-false}
-use Rattle.measure.specs.theory.Fractions.{squares-trans, squares-numbers}
+use Rattle.measure.specs.theory.Fractions.{squares-refl, squares-total, squares-trans, squares-numbers}
 use Rattle.measure.specs.theory.Height.{edgeSquared-positive}
 use Rattle.boxes.specs.Box.{halfRound, noLarger, boxEdge}
 
@@ -34,14 +34,6 @@ noLarger-le ps e f h = leZ-true h
 pub larger-lt : (ps : List Point) (e f : ℕ) → noLarger ps e f ≡ false → size ps f e <ℤ size ps e f
 unfolding noLarger
 larger-lt ps e f h = leZ-false h
-
-noLarger-refl : (ps : List Point) (e : ℕ) → noLarger ps e e ≡ true
-unfolding noLarger
-noLarger-refl ps e = le-leZ (≤ℤ-refl (size ps e e))
-
-larger-noLarger : (ps : List Point) (e f : ℕ) → noLarger ps e f ≡ false → noLarger ps f e ≡ true
-unfolding noLarger
-larger-noLarger ps e f h = le-leZ (weaken (leZ-false {x = size ps e f} {y = size ps f e} h))
 
 -- the test as it is made on numbers of ℕ: edge f has a smaller box than e
 pub noLarger-fractions : (ps : List Point) (e f : ℕ) {t q u r : ℕ} → halfRound ps e ≡ pos t → edgeSquared ps e ≡ pos q
@@ -65,9 +57,10 @@ one-more k P below here f h = go (eqb f k) refl
     go false e = below f (omega (arith, eqb-false f k e))
 
 pub leading-start : (ps : List Point) → Leading ps 1 0
+unfolding noLarger
 leading-start ps = record {
   among = omega arith;
-  least = one-more 0 (λ f. noLarger ps 0 f ≡ true) (λ f h. absurd (omega arith)) (noLarger-refl ps 0);
+  least = one-more 0 (λ f. noLarger ps 0 f ≡ true) (λ f h. absurd (omega arith)) (squares-refl (halfRound ps) (edgeSquared ps) 0);
   sole = λ f h. absurd (omega arith);
 }
 
@@ -87,10 +80,12 @@ module _ (ps : List Point) (s : IsShape ps) (three : 2 < length ps) where
 
   -- k is smaller than e, which is no larger than any before k: so k is smaller than all of them
   pub leading-replace : {k e : ℕ} → k < length ps → Leading ps k e → noLarger ps e k ≡ false → Leading ps (suc k) k
+  unfolding noLarger
   leading-replace {k} {e} h l test = record {
     among = omega arith;
     least = one-more k (λ f. noLarger ps k f ≡ true)
-        (λ f below. noLarger-trans k e f h e-in (omega arith) (larger-noLarger ps e k test) (l .least f below)) (noLarger-refl ps k);
+        (λ f below. noLarger-trans k e f h e-in (omega arith) (squares-total (halfRound ps) (edgeSquared ps) e k test)
+        (l .least f below)) (squares-refl (halfRound ps) (edgeSquared ps) k);
     sole = λ f below. go f below (noLarger ps f k) refl;
   }
     where

@@ -1,7 +1,7 @@
 -- Fractions t·t/q over positions, compared by products as the tests of width and box compare them.
---     fraction-trans     s/p ≤ t/q and t/q ≤ u/r give s/p ≤ u/r
---     squares-trans      the same of the test
---     squares-numbers    the test as it is made on numbers of ℕ
+--     fraction-trans                   s/p ≤ t/q and t/q ≤ u/r give s/p ≤ u/r
+--     squares-refl, -total, -trans     the test is a total order
+--     squares-numbers                  the test as it is made on numbers of ℕ
 use mathlib.Core.Path.{_≡_, refl}
 use mathlib.Core.Bool.{Bool, true, false, not}
 use mathlib.Core.List.{[], _∷_}
@@ -10,9 +10,9 @@ use native.Mathlib.Omega.{arith}
 use borrow.Author.Tests.{le-leb, lt-leb, ltb-true, ltb-false}
 use lib.Dec.{leb, ltb}
 use lib.IntN.{ℤ, pos, _*ℤ_}
-use lib.Signed.{_≤ℤ_, _<ℤ_, leZ}
+use lib.Signed.{_≤ℤ_, _<ℤ_, ≤ℤ-refl, leZ}
 use Rattle.integer.specs.Linear.{lia, linear, _&_}
-use Rattle.integer.specs.Order.{_<×<_, _≤×<_, contra≤, leZ-true, le-leZ}
+use Rattle.integer.specs.Order.{_<×<_, _≤×<_, contra≤, weaken, leZ-true, leZ-false, le-leZ}
 
 -- bring all to the denominator p·q·r
 pub fraction-trans : (s t u p q r : ℤ) → pos 0 <ℤ p → pos 0 <ℤ q → pos 0 <ℤ r → (s *ℤ q) ≤ℤ (t *ℤ p) → (t *ℤ r) ≤ℤ (u *ℤ q)
@@ -24,6 +24,12 @@ module _ (t q : ℕ → ℤ) where
   -- what is for e in its comparison with f
   abbrev part : ℕ → ℕ → ℤ
   part e f = t e *ℤ t e *ℤ q f
+
+  pub squares-refl : (e : ℕ) → leZ (part e e) (part e e) ≡ true
+  squares-refl e = le-leZ (≤ℤ-refl (part e e))
+
+  pub squares-total : (e f : ℕ) → leZ (part e f) (part f e) ≡ false → leZ (part f e) (part e f) ≡ true
+  squares-total e f h = le-leZ (weaken (leZ-false {x = part e f} {y = part f e} h))
 
   pub squares-trans : (e f g : ℕ) → pos 0 <ℤ q e → pos 0 <ℤ q f → pos 0 <ℤ q g
       → leZ (part e f) (part f e) ≡ true → leZ (part f g) (part g f) ≡ true → leZ (part e g) (part g e) ≡ true

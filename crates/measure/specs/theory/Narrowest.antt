@@ -15,14 +15,14 @@ use borrow.Author.Tests.{ltb-true, ltb-false}
 use lib.Dec.{ltb}
 use lib.IntN.{ℤ, pos, _*ℤ_}
 use lib.ListN.{length}
-use lib.Signed.{_≤ℤ_, _<ℤ_, ≤ℤ-refl}
-use Rattle.integer.specs.Order.{weaken, leZ-true, leZ-false, le-leZ, lt-leZ}
+use lib.Signed.{_≤ℤ_, _<ℤ_}
+use Rattle.integer.specs.Order.{leZ-true, leZ-false, le-leZ, lt-leZ}
 use Rattle.plane.specs.Point.{Point}
 use Rattle.plane.specs.Search.{every}
 use Rattle.plane.specs.Shape.{IsShape}
 use Rattle.plane.specs.Measure.{height, edgeSquared, noWider, widthEdge}
 use Rattle.plane.specs.theory.lists.Sought.{first-unique, all-every, not-every, true-not-false}
-use Rattle.measure.specs.theory.Fractions.{squares-trans, squares-numbers}
+use Rattle.measure.specs.theory.Fractions.{squares-refl, squares-total, squares-trans, squares-numbers}
 use Rattle.measure.specs.theory.Height.{edgeSquared-positive}
 use Rattle.measure.specs.Comparison.{Narrowest}
 
@@ -48,11 +48,11 @@ lt-wider ps e f h = lt-leZ h
 
 noWider-refl : (ps : List Point) (e : ℕ) → noWider ps e e ≡ true
 unfolding noWider
-noWider-refl ps e = le-leZ (≤ℤ-refl (wide ps e e))
+noWider-refl ps e = squares-refl (height ps) (edgeSquared ps) e
 
 wider-noWider : (ps : List Point) (e f : ℕ) → noWider ps e f ≡ false → noWider ps f e ≡ true
 unfolding noWider
-wider-noWider ps e f h = le-leZ (weaken (leZ-false {x = wide ps e f} {y = wide ps f e} h))
+wider-noWider ps e f = squares-total (height ps) (edgeSquared ps) e f
 
 module _ (ps : List Point) (s : IsShape ps) (long : 2 < length ps) where
   noWider-trans : (e f g : ℕ) → e < length ps → f < length ps → g < length ps

@@ -153,7 +153,8 @@ module _ (ps : List Point) (s : IsShape ps) (three : 2 < length ps) (k : ℤ) (l
         go p q = pick (point-discrete (p .left) (q .left)) (point-discrete (p .right) (q .right))
           where
             pick : Dec (p .left ≡ q .left) → Dec (p .right ≡ q .right) → NoNarrower ps n
-            pick (no f) g = tied-no-narrower ps s three n (p .left-in) (q .left-in) f size (left-highest n p (out .top)) (left-highest n q (out .also))
+            pick (no f) g = tied-no-narrower ps s three n (p .left-in) (q .left-in) f size
+                (left-highest n p (out .top)) (left-highest n q (out .also))
             pick (yes f) (no g) = turned-back (tied-no-narrower ps s three (opposite n) (p .right-in) (q .right-in) g
                 (rw (turned-square n) size) (right-lowest n p (out .top)) (right-lowest n q (out .also)))
             pick (yes f) (yes g) = absurd (out .different (p .is ∙ ap₂ (λ (y z : Point). times k (y ⊕ opposite z)) f g ∙ sym (q .is)))

@@ -25,7 +25,8 @@ stride-requires : tie.Need-stride-requires Inv-loop μ-loop
 stride-requires c κs =
     let at-top = c .before in
     let v = at-top .before .before .pre in
-    (record { valid = v; chains = chains-found (v .shape) (at-top .top .ensures); sides = c .sides .ensures }, at-top .before .count .ensures)
+    let chains = chains-found (v .shape) (at-top .top .ensures) in
+    (record { valid = v; chains = chains; sides = c .sides .ensures }, at-top .before .count .ensures)
 
 loop-holds : tie.Need-loop-holds Inv-loop μ-loop
 loop-holds c = c .before .before .before .stride .ensures

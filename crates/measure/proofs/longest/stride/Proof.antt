@@ -143,5 +143,5 @@ returns c = c .before .before .loop .inv .0
 pub stride-spec : {M : Type 1} → statement M
 stride-spec =
     tie.close
-    (tie.spec Inv-loop μ-loop side-at-requires side-at-requires-2 apart-requires loop-holds are-inside-requires order-requires ahead-requires
-    longer-requires loop-less loop-again ahead-requires-2 longer-requires-2 loop-less-2 loop-again-2 returns)
+    (tie.spec Inv-loop μ-loop side-at-requires side-at-requires-2 apart-requires loop-holds are-inside-requires order-requires
+    ahead-requires longer-requires loop-less loop-again ahead-requires-2 longer-requires-2 loop-less-2 loop-again-2 returns)

@@ -54,8 +54,8 @@ loop-less c =
     let at-right = c .before .before .before in
     let at-test = at-right .before .before in
     let inv = at-test .before .before .before .loop .inv in
-    half-on (inv .half) (inv .sides) (omega (arith, at-test .if1 .taken)) (sym (at-right .if2 .taken) ∙ at-right .before .goes-right .ensures)
-    (c .next .ensures) (refl, inv .half .left-side) .2
+    half-on (inv .half) (inv .sides) (omega (arith, at-test .if1 .taken))
+    (sym (at-right .if2 .taken) ∙ at-right .before .goes-right .ensures) (c .next .ensures) (refl, inv .half .left-side) .2
 
 loop-again : tie.Need-loop-again Inv-loop μ-loop
 loop-again c =
