@@ -4,8 +4,8 @@ use native.Mathlib.Omega.{arith}
 use Rattle.plane.specs.Limits.{corners-small}
 use Rattle.plane.specs.Point.{Point, points, corner, _⊖_}
 use Rattle.polygon.specs.theory.Small.{small-corner}
-use Rattle.boxes.proofs.jaws.edge_at.Statement.{statement}
-use Rattle.boxes.proofs.jaws.edge_at.Tie as tie
+use Rattle.boxes.proofs.climb.edge_at.Statement.{statement}
+use Rattle.boxes.proofs.climb.edge_at.Tie as tie
 
 add-round : tie.Need-add-round
 add-round c = omega (arith, c .pre .1, c .pre .0 .few, corners-small)
