@@ -4,6 +4,7 @@ use mathlib.Core.Bool.{Bool, cond, _&&_}
 use Prim.Native.Nat.{ℕ}
 use borrow.Author.Needs.{needs}
 use borrow.Author.Tests.{not-true, not-false}
+use Rattle.neighbours.specs.Spacing.{fractionOf}
 use Rattle.neighbours.specs.Search.{isNearer, keptOf}
 use Rattle.neighbours.specs.declared.spacing.Spacing.{Spacing}
 use Rattle.neighbours.specs.declared.Near.{Near}
@@ -12,7 +13,7 @@ use Rattle.neighbours.proofs.kept.Statement.{statement}
 use Rattle.neighbours.proofs.kept.Tie as tie
 
 -- by what the two tests say
-kept-by : (now : Bool) (n : ℕ) (s : Spacing) (best : Near) {x y : Bool} → isNearer s best ≡ x → now ≡ y
+kept-by : (now : Bool) (n : ℕ) (s : Spacing) (best : Near) {x y : Bool} → isNearer (fractionOf s) best ≡ x → now ≡ y
     → cond (x && y) (Near.Of n s) best ≡ keptOf now n s best
 kept-by now n s best h k = ap₂ (λ (x y : Bool). cond (x && y) (Near.Of n s) best) (sym h) (sym k)
 

@@ -61,15 +61,6 @@ pair-at-requires c κs =
     let at-then = c .before .before .before .before .before in
     omega (arith, next-inside _ (at-then .before .before .loop .p) (here at-then))
 
-add-p : tie.Need-add-p Inv-loop μ-loop
-add-p c = omega (arith, c .pair-at .ensures .1)
-
-add-p-2 : tie.Need-add-p-2 Inv-loop μ-loop
-add-p-2 c = omega (arith, step c .1)
-
-loop-less : tie.Need-loop-less Inv-loop μ-loop
-loop-less c = omega (arith, step c .1)
-
 loop-again : tie.Need-loop-again Inv-loop μ-loop
 loop-again c =
     let at-told = c .before in
@@ -94,4 +85,5 @@ pub pass-spec : {M : Type 1} → statement M
 pass-spec =
     tie.close
     (tie.spec Inv-loop μ-loop loop-holds whole-at-requires admit-at-requires (λ c. search needs) (λ c. search needs) returns
-    (λ c. search needs) pair-at-requires add-p add-p-2 loop-less loop-again same-length-2 returns-2)
+    (λ c. search needs) pair-at-requires (λ c. omega (arith, c .pair-at .ensures .1)) (λ c. omega (arith, step c .1))
+    (λ c. omega (arith, step c .1)) loop-again same-length-2 returns-2)
