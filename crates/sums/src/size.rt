@@ -10,9 +10,9 @@ ghost use Rattle.plane.specs.Corner.{shapeOf, sums};
 ghost use Rattle.calipers.specs.Walk.{At};
 ghost use Rattle.sums.specs.Advance.{state, nextCorners};
 ghost use Rattle.sums.specs.Size.{Reckoned};
+use crate::extent;
 use calipers::side;
 use polygon::corners;
-use polygon::extent;
 use polygon::limits;
 
 // Returns the number of corners of a sum that is to be written to an output of `room` numbers. Where the corners of
@@ -89,5 +89,5 @@ pub fn is_far(a: &[i32], b: &[i32]) -> bool
     ensures { λ r. ⌜ r
         ≡ someOutside (numbers (shapeOf (sums (points (now (a .entry))) (points (now (b .entry)))))) ⌝ }
 {
-    extent::is_far(extent::extent_of(a), extent::extent_of(b))
+    polygon::extent::is_far(extent::extent_of(a), extent::extent_of(b))
 }
