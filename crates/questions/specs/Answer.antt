@@ -6,7 +6,7 @@ use mathlib.Core.List.{[], _∷_, _++_}
 use lib.IntN.{pos}
 use Rattle.plane.specs.Reply.{Reply, answered, refused}
 use Rattle.tablet.specs.Reading.{Sent}
-use Rattle.sums.specs.Part.{walkNumbers}
+use Rattle.parts.specs.Part.{walkNumbers}
 pub use Rattle.admission.specs.Answer.{ofRefusal, ofAnswer}
 use Rattle.questions.specs.Walk.{stateOf}
 use Rattle.questions.specs.declared.answer.Begun.{Begun}

@@ -2,11 +2,12 @@
 --     walked-start, -more          its moves: nothing yet, one corner more; `walked-inside`: one more where edges are left
 --     walked-over, -spent          its ends: no edge is left, or k corners are passed; `Ended`: these are all the next corners
 --     sideOf-carried, walked-with  the side at a position is carried; a walk with other sides at the same positions
+--     edges-sum                    the edges of both lists together are a number that fits; `all-edges`: the ends of both sides
 --     walked-at, -below, -here     the walk is at a place; a corner is to come, and the two sides are at it
 use mathlib.Core.Path.{_≡_, refl, sym, _∙_, ap, subst}
 use mathlib.Core.Bool.{Bool, true, false, cond}
 use mathlib.Core.List.{List}
-use Prim.Native.Nat.{ℕ, _+_, _≤_, _<_, zero-le}
+use Prim.Native.Nat.{ℕ, _+_, _^_, _≤_, _<_, zero-le}
 use native.Mathlib.Numerals.{add-one}
 use native.Mathlib.Omega.{arith}
 use borrow.Author.Tests.{ltb-true, ltb-false}
@@ -18,6 +19,8 @@ use lib.Signed.{ltZ}
 use Rattle.plane.specs.Point.{Point, points, corner, origin, _⊕_}
 use Rattle.plane.specs.Turn.{cross}
 use Rattle.plane.specs.Forms.{edges}
+use Rattle.plane.specs.theory.lists.Flat.{points-length}
+use Rattle.plane.specs.theory.sum.Positions.{edges-at-most}
 use Rattle.calipers.specs.declared.side.Side.{Side}
 use Rattle.calipers.specs.Side.{cornerOf, nextOf, onward, Carried, walkOf}
 use Rattle.sums.specs.Advance.{state, sideOf, nextCorners, Walked}
@@ -42,6 +45,14 @@ passed-one A false i m e = go (ltb i (length (edges A))) refl
 
 pub sideOf-carried : (l : List ℤ) (i : ℕ) → i ≤ length (edges (points l)) → Carried l (sideOf l i)
 sideOf-carried l i h = record { at-in = h; end-is = refl; corner-is = refl; edge-is = refl }
+
+pub edges-sum : (a b : List ℤ) → length a < 2 ^ 63 → length b < 2 ^ 63
+    → length (edges (points a)) + length (edges (points b)) < 2 ^ 63
+edges-sum a b h l = omega (arith, h, l, edges-at-most (points a), edges-at-most (points b), points-length a, points-length b)
+
+pub all-edges : {a b : List ℤ} {s t : Side} → Carried a s → Carried b t
+    → s .end + t .end ≡ length (edges (points a)) + length (edges (points b))
+all-edges u v = omega (arith, u .end-is, v .end-is)
 
 -- how many of the corners to come are next
 taken-below : (k n : ℕ) (ps : List Point) → n < k → n < length ps → n < length (take k ps)

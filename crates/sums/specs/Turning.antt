@@ -1,5 +1,6 @@
 -- Where the corners of a list cease to go on in a direction, between two positions. Our own, not of document 01.
---     Turning ps d from to r    the corner before r goes on in d to corner r, and r does not to the next; at `from` and `to` nothing is said
+--     Turning ps d from to r    the corner before r goes on in d to corner r, and r does not to the next; nothing is said
+--                               of a corner before `from`, and of that at `to`
 --     crossing p q              the point with the x of p and the y of q
 -- What it means: `Outermost.antt` of the theory: between the right positions of a shape it is the corner furthest in d.
 use mathlib.Core.Path.{_≡_}

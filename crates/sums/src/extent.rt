@@ -17,8 +17,8 @@ use polygon::point;
 use polygon::point::Point;
 use polygon::rules;
 
-// Returns how far the corners of a shape reach. They go up to the highest and then down; on the way up they go right and
-// then left, and on the way down left and then right.
+// Returns how far the corners of a shape reach. They go up to the highest and then down; on the way up they go right
+// and then left, and on the way down left and then right.
 // Ruled out: left side looked for on the way up.
 pub fn extent_of(list: &[i32]) -> Extent
     requires { ⌜ Valid (now list) ⌝ }

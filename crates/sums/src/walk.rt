@@ -95,8 +95,8 @@ fn stride(a: &[i32], b: &[i32], k: usize, s: Side, t: Side, out: &mut [i32]) -> 
     }
 }
 
-// Returns whether of two shapes with m and n edges, of which i and j are passed, both have three left, and more than one
-// corner of k may follow `count`.
+// Returns whether two shapes with m and n edges, of which i and j are passed, both have three left, and more than one
+// corner may come after `count` of k.
 pub fn inside(i: usize, m: usize, j: usize, n: usize, count: usize, k: usize) -> bool
     requires { ⌜ (i < 2 ^ 63) × (j < 2 ^ 63) × (count < 2 ^ 63) ⌝ }
     ensures { λ r. ⌜ (r ≡ true → (i + 2 < m) × (j + 2 < n) × (count + 1 < k)) ⌝ }

@@ -17,7 +17,7 @@ use Rattle.integer.specs.Ring.{ring, reify}
 use Rattle.integer.specs.Linear.{lia, linear, _&_}
 use Rattle.integer.specs.Order.{contra<, contra≤, le-of-eq, le-antisym, lt-or-le, weaken}
 use Rattle.plane.specs.Cycle.{round}
-use Rattle.plane.specs.Point.{Point, point, corner, opposite, _∈_}
+use Rattle.plane.specs.Point.{Point, point, corner, opposite}
 use Rattle.plane.specs.Shape.{next, precedes, IsShape}
 use Rattle.plane.specs.Direction.{value, support}
 use Rattle.plane.specs.Corner.{mirrored}
@@ -140,7 +140,8 @@ module _ (ps : List Point) (s : IsShape ps) where
             & lowest (next (length ps) t) (next-below (length ps) t top-in)) (search linear depth 40) (omega arith))
 
     rises : (k : ℕ) → suc k ≡ t → value upward (corner ps k) ≤ℤ value upward (corner ps t)
-    rises k e = subst (λ (i : ℕ). value upward (corner ps k) ≤ℤ value upward (corner ps i)) (after-is k t e top-in) (top .goes k (omega arith) e)
+    rises k e = subst (λ (i : ℕ). value upward (corner ps k) ≤ℤ value upward (corner ps i)) (after-is k t e top-in)
+        (top .goes k (omega arith) e)
 
     pub highest : (c : ℕ) → c < length ps → value upward (corner ps c) ≤ℤ value upward (corner ps t)
     highest c h = go t refl
@@ -166,7 +167,8 @@ module _ (ps : List Point) (s : IsShape ps) where
               let back = way .stops (ltb-true r t q) in
               let next-in = next-below (length ps) r right-in in
               from-start ps s rightward unit-right r c right-in h (weaken back)
-              (subst (λ (i : ℕ). value upward (corner ps i) <ℤ value upward (corner ps (next (length ps) r))) e (higher (next (length ps) r) next-in
+              (subst (λ (i : ℕ). value upward (corner ps i) <ℤ value upward (corner ps (next (length ps) r))) e
+              (higher (next (length ps) r) next-in
               (subst (λ (i : ℕ). value rightward (corner ps (next (length ps) r)) <ℤ value rightward (corner ps i)) (sym e) back)))
               (subst (λ (i : ℕ). value upward (corner ps i) ≤ℤ value upward (corner ps c)) e (lowest c h))
           go zero e false q =
@@ -196,7 +198,8 @@ module _ (ps : List Point) (s : IsShape ps) where
               (lower-strict (corner ps (next (length ps) t)) (corner ps t) (below back (ltb t (length ps - 1)) refl))
               (lower-by (corner ps c) (corner ps t) (highest c h))
             where
-              below : value leftward (corner ps (next (length ps) t)) <ℤ value leftward (corner ps t) → (b : Bool) → ltb t (length ps - 1) ≡ b
+              below : value leftward (corner ps (next (length ps) t)) <ℤ value leftward (corner ps t) → (b : Bool)
+                  → ltb t (length ps - 1) ≡ b
                   → value upward (corner ps (next (length ps) t)) <ℤ value upward (corner ps t)
               below back true q = top .stops (ltb-true t (length ps - 1) q)
               below back false q =
@@ -220,7 +223,8 @@ module _ (ps : List Point) (s : IsShape ps) where
               let closing = next-end (length ps) k (omega (arith, e, way .within, ltb-false l (length ps) q)) in
               let next-in = next-below (length ps) k k-in in
               to-end ps s leftward unit-left (next (length ps) k) c next-in h k k-in refl (way .goes k m e)
-              (low closing k k-in) (low closing (next (length ps) (next (length ps) k)) (next-below (length ps) (next (length ps) k) next-in))
+              (low closing k k-in)
+              (low closing (next (length ps) (next (length ps) k)) (next-below (length ps) (next (length ps) k) next-in))
               (low closing c h)
             where
               low : next (length ps) k ≡ 0 → (i : ℕ) → i < length ps

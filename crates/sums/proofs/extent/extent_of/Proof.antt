@@ -1,14 +1,13 @@
 -- `extent_of` meets its contract: the corners at which they cease to go up, right and left are the outermost.
-use mathlib.Core.Path.{_≡_, sym, _∙_, ap, ap₂, subst}
-use Prim.Native.Nat.{ℕ, _-_, _^_, _<_}
-use native.Mathlib.Omega.{arith}
+use mathlib.Core.Path.{sym, _∙_, ap, ap₂, subst}
+use Prim.Native.Nat.{ℕ, _-_, _^_}
 use borrow.Author.Needs.{needs}
 use lib.ListN.{length}
 use Rattle.plane.specs.Point.{points, corner, opposite}
-use Rattle.polygon.specs.Point.{at, Small}
+use Rattle.polygon.specs.Point.{Small}
 use Rattle.polygon.specs.theory.Small.{small-corner}
 use Rattle.sums.specs.Turning.{Turning, crossing}
-use Rattle.sums.specs.theory.Outermost.{upward, rightward, leftward, extended}
+use Rattle.sums.specs.theory.Outermost.{upward, leftward, extended}
 use Rattle.sums.proofs.extent.extent_of.Statement.{statement}
 use Rattle.sums.proofs.extent.extent_of.Tie as tie
 
@@ -49,7 +48,8 @@ returns c =
     extended ps (start .pre .shape) (top at-top) (at-turning .before .turning2 .ensures) (left at-turning)
     (at-across .across .ensures ∙ ap₂ crossing (at-across .before .before .corner-at .ensures) (at-across .before .corner-at2 .ensures))
     (c .opposite .ensures ∙ ap opposite (c .before .across2 .ensures ∙ ap₂ crossing
-    (c .before .before .before .corner-at3 .ensures ∙ ap (corner ps) (at-round .round .ensures .0)) (c .before .before .corner-at4 .ensures)))
+    (c .before .before .before .corner-at3 .ensures ∙ ap (corner ps) (at-round .round .ensures .0))
+    (c .before .before .corner-at4 .ensures)))
 
 pub extent-of-spec : {M : Type 1} → statement M
 extent-of-spec =

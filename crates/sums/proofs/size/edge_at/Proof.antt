@@ -2,7 +2,7 @@
 use mathlib.Core.Path.{_∙_, ap₂}
 use native.Mathlib.Omega.{arith}
 use borrow.Author.Needs.{needs}
-use Rattle.plane.specs.Point.{points, _⊖_}
+use Rattle.plane.specs.Point.{_⊖_}
 use Rattle.plane.specs.theory.lists.Flat.{points-length}
 use Rattle.polygon.specs.theory.Small.{small-corner}
 use Rattle.sums.proofs.size.edge_at.Statement.{statement}
@@ -13,8 +13,10 @@ add-corner-at c = let start = c .before in omega (arith, start .pre .0, points-l
 
 step-requires : tie.Need-step-requires
 step-requires c κs =
-    let pre = c .before .before .pre in
-    (small-corner _ (pre .1) _ (omega (arith, pre .0)) (c .before .corner-at .ensures), small-corner _ (pre .1) _ (pre .0) (c .corner-at2 .ensures))
+    let pre = c .before .before .pre in (
+      small-corner _ (pre .1) _ (omega (arith, pre .0)) (c .before .corner-at .ensures),
+      small-corner _ (pre .1) _ (pre .0) (c .corner-at2 .ensures),
+    )
 
 returns : tie.Need-returns
 returns c = c .step .ensures ∙ ap₂ (λ p q. q ⊖ p) (c .before .before .corner-at .ensures) (c .before .corner-at2 .ensures)

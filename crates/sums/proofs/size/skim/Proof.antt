@@ -84,7 +84,8 @@ inside-requires c κs = (first-small c, second-small c, count-small c)
 -- both shapes have three edges left, and more than one corner may be counted
 three : (c : tie.Then1 Inv-loop μ-loop) → let at-loop = c .before .before in
     let args = at-loop .before .before .before .args in
-    (at-loop .loop .first + 2 < length (edges (points (args .a .now)))) × (at-loop .loop .second + 2 < length (edges (points (args .b .now))))
+    (at-loop .loop .first + 2 < length (edges (points (args .a .now))))
+    × (at-loop .loop .second + 2 < length (edges (points (args .b .now))))
     × (at-loop .loop .count + 1 < args .k)
 three c =
     let at-loop = c .before .before in
@@ -160,13 +161,16 @@ loop-again c =
     let b = start .args .b .now in
     let left = three at-then in
     let product = toZ w64 (ofZ w64 (at-cross .cross .result)) in
-    let first = edge-there a (start .pre .0 .first-near) _ (corners-there at-then .0) (at-cross .before .before .edge-at .ensures) (left .0) in
+    let first = edge-there a (start .pre .0 .first-near) _ (corners-there at-then .0)
+    (at-cross .before .before .edge-at .ensures) (left .0) in
     let second = edge-there b (start .pre .0 .second-near) _ (corners-there at-then .1)
     (at-cross .before .edge-at2 .ensures) (left .1) in
     walked-inside (at-loop .loop .inv) (result-is w64 (at-cross .cross .ok) (at-cross .cross .ensures ∙ ap₂ cross first second))
     (sideOf a (c .before .one-more .result)) (sideOf b (c .one-more2 .result))
-    (passed-at a (ltZ product (pos 0)) _ _ (c .before .one-more .ensures) (left .0)) (passed-at b (ltZ (pos 0) product) _ _ (c .one-more2 .ensures) (left .1))
-    (passed-carried a (ltZ product (pos 0)) _ _ (c .before .one-more .ensures) (left .0)) (passed-carried b (ltZ (pos 0) product) _ _ (c .one-more2 .ensures) (left .1))
+    (passed-at a (ltZ product (pos 0)) _ _ (c .before .one-more .ensures) (left .0))
+    (passed-at b (ltZ (pos 0) product) _ _ (c .one-more2 .ensures) (left .1))
+    (passed-carried a (ltZ product (pos 0)) _ _ (c .before .one-more .ensures) (left .0))
+    (passed-carried b (ltZ (pos 0) product) _ _ (c .one-more2 .ensures) (left .1))
     (left .0) (left .1) (left .2)
 
 returns : tie.Need-returns Inv-loop μ-loop
