@@ -3,7 +3,7 @@ ghost use mathlib.Core.Path.{_≡_};
 ghost use Rattle.plane.specs.Floor.{on};
 ghost use Rattle.plane.specs.Question.{reply, output};
 ghost use Rattle.sums.specs.Advance.{state};
-ghost use Rattle.sums.specs.Part.{askBegin, askPart};
+ghost use Rattle.parts.specs.Part.{askBegin, askPart};
 ghost use Rattle.wire.specs.Told.{crossed, numbers};
 ghost use Rattle.crossing.specs.LowFloor.{lowFloor};
 use crossing::floors;

@@ -3,7 +3,7 @@
 use mathlib.Core.List.{[], _∷_, _++_}
 use lib.IntN.{pos}
 use Rattle.plane.specs.Reply.{Reply, answered}
-use Rattle.sums.specs.Part.{walkNumbers}
+use Rattle.parts.specs.Part.{walkNumbers}
 use Rattle.admission.specs.Answer.{ofRefusal}
 use Rattle.part_questions.specs.Walk.{stateOf}
 use Rattle.part_questions.specs.declared.answer.Begun.{Begun}

@@ -7,7 +7,7 @@ ghost use Rattle.plane.specs.Output.{sizeRows};
 ghost use Rattle.plane.specs.Floor.{on, Same};
 ghost use Rattle.plane.specs.Question.{reply, output};
 ghost use Rattle.sums.specs.PlaceAfter.{wholeSum, isPlace};
-ghost use Rattle.sums.specs.Part.{askBegin, askPart};
+ghost use Rattle.parts.specs.Part.{askBegin, askPart};
 ghost use Rattle.admission.specs.Admission.{Judged};
 ghost use Rattle.part_questions.specs.Answer.{ofBegun, ofPart};
 ghost use Rattle.part_questions.specs.Walk.{stateOf};

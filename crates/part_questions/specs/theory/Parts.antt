@@ -19,8 +19,8 @@ use Rattle.plane.specs.theory.lists.Flat.{numbers-length}
 use Rattle.plane.specs.theory.refusals.Rows.{none-join}
 use Rattle.calipers.specs.Walk.{Walk}
 use Rattle.sums.specs.PlaceAfter.{wholeSum, isPlace}
-use Rattle.sums.specs.Part.{partCorners, handedBack, walkNumbers, askPart}
-use Rattle.sums.specs.theory.Parts.{part-none}
+use Rattle.parts.specs.Part.{partCorners, handedBack, walkNumbers, askPart}
+use Rattle.parts.specs.theory.Parts.{part-none}
 use Rattle.admission.specs.Admission.{Refuses}
 use Rattle.admission.specs.theory.Judged.{refuses, refuses-append, refuses-join}
 use Rattle.admission.specs.theory.Door.{rest-refused, all-written}

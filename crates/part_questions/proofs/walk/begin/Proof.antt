@@ -3,7 +3,7 @@ use mathlib.Core.Path.{refl}
 use borrow.Author.Needs.{needs}
 use Rattle.plane.specs.Floor.{Floored, on, Same}
 use Rattle.plane.specs.Question.{Question}
-use Rattle.sums.specs.Part.{askBegin}
+use Rattle.parts.specs.Part.{askBegin}
 use Rattle.admission.specs.theory.Door.{shapes-refused, rest-refused, all-answered}
 use Rattle.part_questions.proofs.walk.begin.Statement.{statement}
 use Rattle.part_questions.proofs.walk.begin.Tie as tie

@@ -1,6 +1,6 @@
 -- `is_place` meets its contract: test by test, and the places are told by these tests.
 use mathlib.Core.Path.{_≡_, sym, _∙_, ap}
-use mathlib.Core.Bool.{Bool, _&&_}
+use mathlib.Core.Bool.{Bool, true, false, _&&_}
 use Prim.Native.Nat.{_+_, _-_, _≤_}
 use native.Mathlib.Omega.{arith}
 use borrow.Author.Needs.{needs}
@@ -92,14 +92,20 @@ add-ends c = omega (arith, few (c .before .before), corners-small)
 add-ends-2 : tie.Need-add-ends-2
 add-ends-2 c = omega (arith, few (c .before .before), corners-small)
 
-returns-3 : tie.Need-returns-3
-returns-3 c =
-    let args = c .before .before .before .before .before .before .args in
+-- the test of the end, once it is known
+told : (c : tie.After-ends) (t : Bool) → c .ends .result ≡ t → let args = c .before .before .before .before .before .args in
     let E = edges (points (args .a .now)) in
     let F = edges (points (args .b .now)) in
-    ap (λ (t : Bool). t && (follows E (args .i) F (args .j) && follows F (args .j) E (args .i)))
-    (sym (not-true (c .before .ends .result) (c .if3 .taken)))
-    ∙ tested (c .before)
+    (t && (follows E (args .i) F (args .j) && follows F (args .j) E (args .i)))
+    ≡ isPlace (args .a .now) (args .b .now) (state (args .i) (args .j) (args .over))
+told c t e =
+    let args = c .before .before .before .before .before .args in
+    let E = edges (points (args .a .now)) in
+    let F = edges (points (args .b .now)) in
+    ap (λ (t : Bool). t && (follows E (args .i) F (args .j) && follows F (args .j) E (args .i))) (sym e) ∙ tested c
+
+returns-3 : tie.Need-returns-3
+returns-3 c = told (c .before) false (not-true (c .before .ends .result) (c .if3 .taken))
 
 -- past these tests it is a place if both lists follow
 both-follow : (c : tie.Else3) → let args = c .before .before .before .before .before .before .args in
@@ -107,13 +113,7 @@ both-follow : (c : tie.Else3) → let args = c .before .before .before .before .
     let F = edges (points (args .b .now)) in
     (follows E (args .i) F (args .j) && follows F (args .j) E (args .i))
     ≡ isPlace (args .a .now) (args .b .now) (state (args .i) (args .j) (args .over))
-both-follow c =
-    let args = c .before .before .before .before .before .before .args in
-    let E = edges (points (args .a .now)) in
-    let F = edges (points (args .b .now)) in
-    ap (λ (t : Bool). t && (follows E (args .i) F (args .j) && follows F (args .j) E (args .i)))
-    (sym (not-false (c .before .ends .result) (c .if3 .left)))
-    ∙ tested (c .before)
+both-follow c = told (c .before) true (not-false (c .before .ends .result) (c .if3 .left))
 
 follows-requires : tie.Need-follows-requires
 follows-requires c κs =

@@ -5,7 +5,7 @@ use borrow.Author.Needs.{needs}
 use borrow.Author.Tests.{not-true, not-false}
 use Rattle.plane.specs.Floor.{Floored, on, Same}
 use Rattle.sums.specs.PlaceAfter.{isPlace}
-use Rattle.sums.specs.Part.{askPart}
+use Rattle.parts.specs.Part.{askPart}
 use Rattle.admission.specs.theory.Door.{shapes-refused}
 use Rattle.part_questions.specs.Walk.{stateOf}
 use Rattle.part_questions.specs.theory.Parts.{part-off-place, part-surveyed}

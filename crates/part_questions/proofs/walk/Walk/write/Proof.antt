@@ -13,9 +13,9 @@ use Rattle.plane.specs.Floor.{Floored, on}
 use Rattle.plane.specs.Output.{overwritten}
 use Rattle.calipers.specs.Walk.{At}
 use Rattle.sums.specs.Advance.{state, nextCorners, Advanced}
-use Rattle.sums.specs.Part.{partCorners}
+use Rattle.parts.specs.Part.{partCorners}
 use Rattle.sums.specs.theory.Reached.{place-standing}
-use Rattle.sums.specs.theory.Parts.{part-remaining, part-advanced}
+use Rattle.parts.specs.theory.Parts.{part-remaining, part-advanced}
 use Rattle.part_questions.specs.Walk.{stateOf}
 use Rattle.part_questions.specs.theory.Parts.{part-little-room, part-done, part-idle}
 use Rattle.part_questions.proofs.walk.Walk.write.Statement.{statement}

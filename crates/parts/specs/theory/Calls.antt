@@ -17,12 +17,12 @@ use Rattle.plane.specs.Output.{sizeRows, noRoom}
 use Rattle.plane.specs.Floor.{Floored, Same}
 use Rattle.plane.specs.theory.lists.Flat.{numbers-append, numbers-length}
 use Rattle.calipers.specs.Walk.{Walk, begun}
 use Rattle.sums.specs.PlaceAfter.{wholeSum, placeAfter}
-use Rattle.sums.specs.Part.{partCorners, handedBack}
-use Rattle.sums.specs.Calls.{Calls, stop, part, refusal, total}
+use Rattle.parts.specs.Part.{partCorners, handedBack}
+use Rattle.parts.specs.Calls.{Calls, stop, part, refusal, total}
 use Rattle.sums.specs.theory.Reached.{place-at}
-use Rattle.sums.specs.theory.Parts.{part-from, handed-from, part-in, over-all}
-use Rattle.sums.specs.theory.PartAnswers.{part-known, part-written, part-answered}
+use Rattle.parts.specs.theory.Parts.{part-from, handed-from, part-in, over-all}
+use Rattle.parts.specs.theory.PartAnswers.{part-known, part-written, part-answered}
 
 take-own : (k : ℕ) (ps : List Point) → take (length (take k ps)) ps ≡ take k ps
 take-own zero ps = refl

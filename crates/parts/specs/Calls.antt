@@ -12,7 +12,7 @@ use Rattle.plane.specs.Reply.{answered, refused}
 use Rattle.plane.specs.Floor.{Floored}
 use Rattle.plane.specs.Question.{reply, output}
 use Rattle.calipers.specs.Walk.{Walk}
-use Rattle.sums.specs.Part.{walkNumbers, askPart}
+use Rattle.parts.specs.Part.{walkNumbers, askPart}
 
 pub data Calls (a b : Floored) : Walk → List ℕ → List ℤ → Walk → Type 0 where
   stop : {w : Walk} → Calls a b w [] [] w

@@ -21,9 +21,9 @@ use Rattle.plane.specs.theory.refusals.Asked.{asked-given, asked-refused, asked
 use Rattle.plane.specs.theory.refusals.Asked.{rest-given, rest-none}
 use Rattle.polygon.specs.theory.Fronts.{overwritten-front}
 use Rattle.calipers.specs.Walk.{Walk}
 use Rattle.sums.specs.PlaceAfter.{wholeSum, isPlace}
-use Rattle.sums.specs.Part.{handedBack, walkNumbers, askBegin, askPart}
+use Rattle.parts.specs.Part.{handedBack, walkNumbers, askBegin, askPart}
 use Rattle.sums.specs.theory.Reached.{walk-equal}
 
 -- 1 and 0 say whether a walk is over
 flag-known : (o p : Bool) → _≡_ {A = ℤ} (cond o (pos 1) (pos 0)) (cond p (pos 1) (pos 0)) → o ≡ p

@@ -14,13 +14,13 @@ use lib.ListN.{length, take, drop, length-take, length-drop}
 use lib.Seq.{take-nil}
 use Rattle.plane.specs.Point.{Point, points}
 use Rattle.plane.specs.Refusal.{Valid}
 use Rattle.sums.specs.declared.walk.Advance.{Advance}
 use Rattle.calipers.specs.Walk.{Walk, begun, advanced, stepped, remaining}
 use Rattle.sums.specs.Advance.{nextCorners, reached, Advanced}
 use Rattle.sums.specs.PlaceAfter.{wholeSum, placeAfter, isPlace}
-use Rattle.sums.specs.Part.{partCorners, handedBack}
+use Rattle.parts.specs.Part.{partCorners, handedBack}
 use Rattle.calipers.specs.theory.Steps.{remaining-over}
 use Rattle.sums.specs.theory.Reached.{to-come, more-to-come, before-count, place-count}
 
 stepped-more : (A B : List Point) (w : Walk) (c n : ℕ) → stepped A B n (stepped A B c w) ≡ stepped A B (c + n) w
 stepped-more A B w c zero = ap (λ (m : ℕ). stepped A B m w) (let e : c ≡ c + 0 = omega arith in e)

@@ -17,9 +17,9 @@ use Rattle.plane.specs.Output.{Written, noRoom, overwritten}
 use Rattle.plane.specs.Floor.{Floored, on}
 use Rattle.plane.specs.Question.{reply, output, written}
 use Rattle.calipers.specs.Walk.{Walk, takes, passed, finished, advanced}
 use Rattle.sums.specs.Advance.{state}
 use Rattle.sums.specs.PlaceAfter.{sameWalk, isPlace, cornersBefore}
-use Rattle.sums.specs.Part.{partCorners, handedBack, askBegin, askPart}
+use Rattle.parts.specs.Part.{partCorners, handedBack, askBegin, askPart}
 
 -- what the definition gives, and what is stated
 pub record Case : Type 0 where
