@@ -3,6 +3,7 @@
 --     Legible b p        the record at place p is inside the log, and long enough for what a record of its kind says
 --     recordAt b p       the record at place p; `nextAt b p` the place after it
 --     Sound b p          there is a whole record at place p, and none from there on is bad
+--     Reached b p        the same with or without a record there: p is inside the log, and no record from there on is bad
 --     Stated b p h       h is what the record at place p says: its name, its floor, and where its numbers are and how many
 --     newer n h r        what is found once a record with this head is looked at: it replaces what was found if it has the name
 --     Latest n b r       this of the latest record of the name n, or nowhere
@@ -41,6 +42,10 @@ nextAt b p = p + (2 + size (drop p b))
 
 pub record Sound (b : List ℕ) (p : ℕ) : Type 0 where
   pub here : whole (drop p b) ≡ true
+  pub good : damaged (records (drop p b)) ≡ false
+
+pub record Reached (b : List ℕ) (p : ℕ) : Type 0 where
+  pub inside : p ≤ length b
   pub good : damaged (records (drop p b)) ≡ false
 
 pub record Stated (b : List ℕ) (p : ℕ) (h : Head) : Type 0 where

@@ -6,7 +6,7 @@ ghost use lib.ListN.{length, take, drop};
 ghost use Rattle.plane.specs.Limits.{maxCorners};
 ghost use Rattle.journal.specs.Format.{size as Format·size, kind as Format·kind, floor};
 ghost use Rattle.journal.specs.Format.{whole, bad, fixedBytes, otherKind};
-ghost use Rattle.journal.specs.Survey.{Legible};
+ghost use Rattle.journal.specs.Survey.{Legible, nextAt};
 use crate::corners;
 
 // The kind of a record that says its floor: the one that is written.
@@ -41,6 +41,14 @@ pub fn whole_at(log: &[u8], p: usize) -> bool
         return false;
     }
     log[p + 1 + size] == LAST_BYTE
+}
+
+// Returns the place after the whole record at a place.
+pub fn next_at(log: &[u8], p: usize) -> usize
+    requires { ⌜ whole (drop p (now log)) ≡ true ⌝ }
+    ensures { λ r. ⌜ r ≡ nextAt (now (log .entry)) p ⌝ }
+{
+    p + (2 + endian::pair_at(log, p))
 }
 
 // Whether the whole record at a place is one of another kind or a wrong length, or has corners that are no shape. The

@@ -31,7 +31,7 @@ fn pass(log: &[u8], buffer: &mut [i32]) -> Surveyed
         if records::bad_at(log, p, buffer) {
             return Surveyed::Bad(p);
         }
-        p += 2 + endian::pair_at(log, p);
+        p = records::next_at(log, p);
     }
     Surveyed::Ends(p)
 }
