@@ -12,9 +12,6 @@ use crate::head::Head;
 use crate::marks;
 use crate::records;
 
-// A log that has so few records that a look ahead is quicker than a table, unless they are points.
-const SHORT: usize = 1024;
-
 // What the current record at a position says, or that there are too few.
 pub enum Listed {
     At(Head),
@@ -27,15 +24,12 @@ pub fn entry(log: &[u8], k: usize) -> Listed
     requires { ⌜ damaged (records (now log)) ≡ false ⌝ }
     ensures { λ r. ⌜ Entered (now (log .entry)) k r ⌝ }
 {
-    if log.len() < SHORT {
-        return nth(log, k, &[]);
+    if marks::serves(log) {
+        let mut table = [0u32; marks::PLACES];
+        marks::mark(log, &mut table);
+        return nth(log, k, &table);
     }
-    if marks::LONG <= log.len() {
-        return nth(log, k, &[]);
-    }
-    let mut table = [0u32; marks::PLACES];
-    marks::mark(log, &mut table);
-    nth(log, k, &table)
+    nth(log, k, &[])
 }
 
 // The same, with a table of the log's last places, or with an empty one.

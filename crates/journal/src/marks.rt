@@ -1,5 +1,5 @@
-// Inner function: a table of the places where names come last.
-ghost use mathlib.Core.Bool.{false};
+// Inner functions: a table of the places where names come last.
+ghost use mathlib.Core.Bool.{true, false};
 ghost use mathlib.Core.Path.{_≡_};
 ghost use Prim.Native.Nat.{_<_};
 ghost use lib.ListN.{length};
@@ -11,8 +11,18 @@ use crate::records;
 // How many places a table has: one for each value of a name's last ten bits.
 pub const PLACES: usize = 1024;
 
-// A log that a table cannot be made of, since a place may need more than 32 bits.
-pub const LONG: usize = 4294967296;
+// Shorter logs have few records, and a look ahead is quicker than a table to clear.
+const SHORT: usize = 1024;
+
+// Places of logs below this length have at most 32 bits.
+const LONG: usize = 4294967296;
+
+// Whether a table serves a log.
+pub fn serves(log: &[u8]) -> bool
+    ensures { λ r. ⌜ (r ≡ true → length (now (log .entry)) < 4294967296) ⌝ }
+{
+    SHORT <= log.len() && log.len() < LONG
+}
 
 // Notes, for each value of a name's last ten bits, the place of the last record that has it.
 pub fn mark(log: &[u8], table: &mut [u32])

@@ -1,6 +1,7 @@
 -- A table of where names come last, filled in one pass and used in another.
 --     Marking b t u p                  the table u is t after the records up to place p of b
 --     marking-start, -next, -end       the moves of the pass that fills it
+--     marked-empty                     a table without places says nothing
 --     marked-next                      what it says of the records from the next place on
 --     marked-none                      a record at its place, or after it, is the last of its name
 --     marked-held                      a record before its place is not, if it has the name of the record there
@@ -8,6 +9,7 @@ use mathlib.Core.Path.{_≡_, refl, sym, _∙_, ap, ap₂, subst}
 use mathlib.Core.Bool.{Bool, true, false, cond, _||_, or-true}
 use mathlib.Core.List.{List, [], _∷_}
 use Prim.Native.Nat.{ℕ, zero, suc, _+_, _%_, _≤_, _<_}
+use native.Mathlib.Nat.{not-suc-le-zero}
 use native.Mathlib.Omega.{arith}
 use borrow.Author.Tests.{eqb-true, eqb-false, eq-eqb, ne-eqb}
 use lib.Dec.{eqb}
@@ -88,6 +90,10 @@ module _ {b t u : List ℕ} {p : ℕ} (f : Marking b t u p) where
   }
 
 -- ---- using it
+
+-- a table without places
+pub marked-empty : (b : List ℕ) (p : ℕ) → Marked b [] p
+marked-empty b p h l = absurd (not-suc-le-zero l)
 
 -- the place is that of a record from p on
 pub record Later (b : List ℕ) (p last : ℕ) : Type 0 where
