@@ -6,5 +6,4 @@ pub mod head;
 pub mod latest;
 pub mod marks;
 pub mod records;
-pub mod storing;
 pub mod survey;

@@ -69,7 +69,6 @@ use coordinate::Coordinate;
 pub use driving::contact;
 pub use driving::log_contact;
 use journal::latest::Found;
-use journal::storing;
 use journal::survey::Surveyed;
 use passage::corridor::Way;
 use polygon::corners;

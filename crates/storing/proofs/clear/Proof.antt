@@ -3,9 +3,9 @@ use mathlib.Core.Path.{_≡_, subst}
 use Prim.Native.Nat.{ℕ, suc, _-_, _≤_}
 use native.Mathlib.Omega.{arith}
 use lib.ListN.{length}
 use Rattle.journal.specs.theory.Storing.{ran-length, Cleared, cleared-start, cleared-next}
-use Rattle.journal.proofs.storing.clear.Statement.{statement}
-use Rattle.journal.proofs.storing.clear.Tie as tie
+use Rattle.storing.proofs.clear.Statement.{statement}
+use Rattle.storing.proofs.clear.Tie as tie
 
 abbrev Inv-loop : tie.InvT-loop
 Inv-loop log₀ from allowed left₀ p₀ log left p = (from ≤ p) × Cleared allowed log₀ p left log

@@ -1,11 +1,11 @@
 -- `add` meets its contract: what is torn is cleared, then the record is written.
 use native.Mathlib.Omega.{arith}
 use borrow.Author.Needs.{needs}
 use Rattle.journal.specs.Format.{recorded}
 use Rattle.journal.specs.theory.Read.{recorded-length}
 use Rattle.journal.specs.theory.Storing.{ran-stores}
-use Rattle.journal.proofs.storing.add.Statement.{statement}
-use Rattle.journal.proofs.storing.add.Tie as tie
+use Rattle.storing.proofs.add.Statement.{statement}
+use Rattle.storing.proofs.add.Tie as tie
 
 returns : tie.Need-returns
 returns c =

@@ -4,10 +4,10 @@ use Prim.Native.Nat.{_+_, _*_, _≤_}
 use native.Mathlib.Omega.{arith}
 use borrow.Author.Needs.{needs}
 use lib.ListN.{length}
 use Rattle.journal.specs.theory.Read.{recorded-length}
 use Rattle.journal.specs.theory.Storing.{ran-length, ran-pair, ran-recorded}
-use Rattle.journal.proofs.storing.write.Statement.{statement}
-use Rattle.journal.proofs.storing.write.Tie as tie
+use Rattle.storing.proofs.write.Statement.{statement}
+use Rattle.storing.proofs.write.Tie as tie
 
 -- the record is inside the log
 inside : (c : tie.Start) → c .args .p + (9 + 4 * length (c .args .list .now)) ≤ length (c .args .log .now)

@@ -4,9 +4,9 @@ use borrow.Author.Needs.{needs}
 use mir.Syntax.{w32}
 use mir.Val.{ofZ}
 use mir.Facts.{toZ-ofZ}
 use Rattle.journal.specs.theory.Storing.{ran-word}
-use Rattle.journal.proofs.storing.word.Statement.{statement}
-use Rattle.journal.proofs.storing.word.Tie as tie
+use Rattle.storing.proofs.word.Statement.{statement}
+use Rattle.storing.proofs.word.Tie as tie
 
 returns : tie.Need-returns
 returns c =

@@ -5,10 +5,10 @@ use native.Mathlib.Omega.{arith}
 use borrow.Author.Needs.{needs}
 use lib.Dec.{ltb}
 use lib.ListN.{length}
 use Rattle.journal.specs.Format.{recorded}
 use Rattle.journal.specs.theory.Read.{recorded-length}
-use Rattle.journal.proofs.storing.is_full.Statement.{statement}
-use Rattle.journal.proofs.storing.is_full.Tie as tie
+use Rattle.storing.proofs.is_full.Statement.{statement}
+use Rattle.storing.proofs.is_full.Tie as tie
 
 returns : tie.Need-returns
 returns c n f =

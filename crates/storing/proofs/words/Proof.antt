@@ -9,11 +9,11 @@ use lib.ListN.{length, take}
 use lib.Seq.{take-length}
 use mir.Facts.{toZ-ofZ}
 use Rattle.endian.specs.Bytes.{words}
 use Rattle.journal.specs.Adding.{writes}
 use Rattle.journal.specs.Allowance.{Ran}
 use Rattle.journal.specs.theory.Storing.{ran-length, ran-start, ran-more}
-use Rattle.journal.proofs.storing.words.Statement.{statement}
-use Rattle.journal.proofs.storing.words.Tie as tie
+use Rattle.storing.proofs.words.Statement.{statement}
+use Rattle.storing.proofs.words.Tie as tie
 
 abbrev Inv-loop : tie.InvT-loop
 Inv-loop log₀ p list allowed left₀ i₀ log left i = (i ≤ length list) × Ran allowed (writes p (words (take i list))) log₀ left log

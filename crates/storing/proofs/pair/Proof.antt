@@ -1,8 +1,8 @@
 -- `pair` meets its contract: two bytes, the lower first.
 use borrow.Author.Needs.{needs}
 use Rattle.journal.specs.theory.Storing.{ran-pair}
-use Rattle.journal.proofs.storing.pair.Statement.{statement}
-use Rattle.journal.proofs.storing.pair.Tie as tie
+use Rattle.storing.proofs.pair.Statement.{statement}
+use Rattle.storing.proofs.pair.Tie as tie
 
 returns : tie.Need-returns
 returns c =

@@ -1,14 +1,15 @@
-// Inner functions: an addition, byte by byte, with no more stores than it is allowed.
+// Adding a record to a log, byte by byte, with no more stores than are allowed. Inner functions; callers ask the crate
+// `questions`. The definitions are those of the crate `journal`.
 ghost use mathlib.Core.Path.{_≡_};
 ghost use mathlib.Core.List.{[], _∷_};
 ghost use Prim.Native.Nat.{ℕ, _+_, _*_, _-_, _≤_, _<_};
 ghost use lib.Dec.{leb, ltb};
 ghost use lib.ListN.{length, take, drop, getD};
 ghost use Rattle.endian.specs.Bytes.{pair as Bytes·pair, word as Bytes·word, words as Bytes·words};
 ghost use Rattle.journal.specs.Format.{recorded};
 ghost use Rattle.journal.specs.Adding.{clears, writes, stores, made, end as Adding·end};
 ghost use Rattle.journal.specs.Allowance.{Ran, cleared};
-use crate::records;
+use journal::records;
 
 // Whether a record of the list, whatever its name and floor, has too little room from a place on: two bytes for the
 // length, and what it counts.

@@ -1,9 +1,9 @@
 -- `byte` meets its contract: one store, if one is left.
 use native.Mathlib.Omega.{arith}
 use borrow.Author.Needs.{needs}
 use Rattle.journal.specs.theory.Storing.{ran-byte}
-use Rattle.journal.proofs.storing.byte.Statement.{statement}
-use Rattle.journal.proofs.storing.byte.Tie as tie
+use Rattle.storing.proofs.byte.Statement.{statement}
+use Rattle.storing.proofs.byte.Tie as tie
 
 returns-2 : tie.Need-returns-2
 returns-2 c = ran-byte _ _ _ _ (omega (arith, c .if1 .left))

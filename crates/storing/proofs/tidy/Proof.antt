@@ -1,8 +1,8 @@
 -- `tidy` meets its contract: a byte that is 0 is left alone.
 use borrow.Author.Needs.{needs}
 use Rattle.journal.specs.theory.Storing.{ran-kept, ran-cleared}
-use Rattle.journal.proofs.storing.tidy.Statement.{statement}
-use Rattle.journal.proofs.storing.tidy.Tie as tie
+use Rattle.storing.proofs.tidy.Statement.{statement}
+use Rattle.storing.proofs.tidy.Tie as tie
 
 returns : tie.Need-returns
 returns c = ran-kept _ _ _ _ (c .if1 .taken)
