@@ -1,5 +1,6 @@
 // Adding a record to a log, byte by byte, with no more stores than are allowed. Inner functions; callers ask the crate
 // `questions`. The definitions are those of the crate `journal`.
+ghost use mathlib.Core.Bool.{true};
 ghost use mathlib.Core.Path.{_≡_};
 ghost use mathlib.Core.List.{[], _∷_};
 ghost use Prim.Native.Nat.{ℕ, _+_, _*_, _-_, _≤_, _<_};
@@ -8,7 +9,7 @@ ghost use lib.ListN.{length, take, drop, getD};
 ghost use Rattle.endian.specs.Bytes.{pair as Bytes·pair, word as Bytes·word, words as Bytes·words};
 ghost use Rattle.journal.specs.Format.{recorded};
 ghost use Rattle.journal.specs.Adding.{clears, writes, stores, made, end as Adding·end};
-ghost use Rattle.journal.specs.Allowance.{Ran, cleared};
+ghost use Rattle.journal.specs.Allowance.{Blank, Ran, cleared};
 use journal::records;
 
 // Whether a record of the list, whatever its name and floor, has too little room from a place on: two bytes for the
@@ -62,6 +63,9 @@ fn clear(log: &mut [u8], from: usize, allowed: usize) -> usize
     requires { ⌜ from ≤ length (now log) ⌝ }
     ensures { λ r. ⌜ Ran allowed (clears from (drop from (now (log .entry)))) (now (log .entry)) r (now (log .exit)) ⌝ }
 {
+    if is_blank(log, from) {
+        return allowed;
+    }
     let mut left = allowed;
     let mut p = log.len();
     while from < p {
@@ -69,6 +73,22 @@ fn clear(log: &mut [u8], from: usize, allowed: usize) -> usize
         left = tidy(log, p, left);
     }
     left
+}
+
+// Whether all bytes from a place on are 0, as they most often are. There is no exit from the loop, so that several
+// bytes are compared at a time.
+fn is_blank(log: &[u8], from: usize) -> bool
+    ensures { λ r. ⌜ (r ≡ true → Blank (now (log .entry)) from) ⌝ }
+{
+    let mut most = 0u8;
+    let mut p = from;
+    while p < log.len() {
+        if most < log[p] {
+            most = log[p];
+        }
+        p += 1;
+    }
+    most == 0
 }
 
 // Stores 0 at a place if another byte is there. How many stores are left.
