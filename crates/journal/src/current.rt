@@ -1,8 +1,7 @@
 // Inner functions: the records that count, each the latest of its name.
 ghost use mathlib.Core.Bool.{false, not};
 ghost use mathlib.Core.Path.{_≡_};
-ghost use Prim.Native.Nat.{_≤_};
-ghost use lib.ListN.{length, drop};
+ghost use lib.ListN.{drop};
 ghost use Rattle.journal.specs.Format.{records, name as Format·name};
 ghost use Rattle.journal.specs.Reading.{damaged, held};
 ghost use Rattle.journal.specs.Survey.{recordAt, nextAt, Sound, Reached, Entered};

@@ -10,7 +10,7 @@ use lib.Dec.{eqb}
 use lib.ListN.{drop}
 use Rattle.journal.specs.Format.{whole, records, name}
 use Rattle.journal.specs.Reading.{held}
-use Rattle.journal.specs.Survey.{recordAt, nextAt, Reached}
+use Rattle.journal.specs.Survey.{nextAt, Reached}
 use Rattle.journal.specs.theory.Stepping.{records-step, records-end, name-here, reached-sound, reached-next}
 
 pub record Ahead (n : ℕ) (b : List ℕ) (from p : ℕ) : Type 0 where
@@ -25,7 +25,8 @@ module _ {n : ℕ} {b : List ℕ} {from p : ℕ} (f : Ahead n b from p) where
     step : (t : Bool) → eqb (name (drop p b)) n ≡ t → held n (records (drop from b)) ≡ (t || held n (records (drop (nextAt b p) b)))
     step t e =
         f .still ∙ ap (held n) (records-step b p w)
-        ∙ ap (λ (x : Bool). x || held n (records (drop (nextAt b p) b))) (ap (λ (k : ℕ). eqb k n) (name-here (reached-sound (f .reached) w)) ∙ e)
+        ∙ ap (λ (x : Bool). x || held n (records (drop (nextAt b p) b)))
+        (ap (λ (k : ℕ). eqb k n) (name-here (reached-sound (f .reached) w)) ∙ e)
 
     pub ahead-found : name (drop p b) ≡ n → true ≡ held n (records (drop from b))
     ahead-found e = sym (step true (eq-eqb (name (drop p b)) n e))

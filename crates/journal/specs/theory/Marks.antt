@@ -18,7 +18,7 @@ use lib.Seq.{getD-set-same, getD-set-other}
 use Rattle.journal.specs.Format.{size, whole, records, name}
 use Rattle.journal.specs.Reading.{damaged, held}
 use Rattle.journal.specs.Survey.{recordAt, nextAt, Sound, Reached}
-use Rattle.journal.specs.Marks.{lastPlace, MarkedAt, Marked}
+use Rattle.journal.specs.Marks.{lastPlace, Marked}
 use Rattle.journal.specs.theory.Read.{size-front}
 use Rattle.journal.specs.theory.Stepping.{records-step, records-end, sound-next, reached-start, reached-sound, reached-next}
 

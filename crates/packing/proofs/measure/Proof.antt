@@ -1,6 +1,5 @@
 -- `measure` meets its contract. The invariant: n bytes are kept up to p; the measure is what is left.
 use mathlib.Core.Path.{_≡_, sym, _∙_, subst}
-use mathlib.Core.Logic.{inl, inr}
 use mathlib.Core.Bool.{true}
 use Prim.Native.Nat.{ℕ, _+_, _-_, _≤_}
 use native.Mathlib.Omega.{arith}
@@ -69,8 +68,8 @@ loop-again c =
     let at-loop = at-then .before .before in
     let args = at-loop .before .before .before .args in
     let kept = sym (c .before .is-kept .ensures) ∙ c .if2 .taken in
-    subst (λ (q : ℕ). Measured (args .old .now) (args .but) q (at-loop .loop .n + (q - at-loop .loop .p)) × Marked (args .old .now) (args .table .now) q)
-    (sym (at-next .next-at .ensures))
+    subst (λ (q : ℕ). Measured (args .old .now) (args .but) q (at-loop .loop .n + (q - at-loop .loop .p))
+    × Marked (args .old .now) (args .table .now) q) (sym (at-next .next-at .ensures))
     (measured-kept (at-loop .loop .inv .0) (here at-then) kept, marked-next (at-loop .loop .inv .1) (here at-then))
 
 loop-less-2 : tie.Need-loop-less-2 Inv-loop μ-loop

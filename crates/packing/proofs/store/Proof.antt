@@ -1,18 +1,16 @@
 -- `store` meets its contract. The invariant: up to place p of the old log, the bytes before place q of the new run are done; the measure is
 -- what is left of the old log.
-use mathlib.Core.Path.{_≡_, sym, _∙_, ap, subst}
-use mathlib.Core.Logic.{inl, inr}
+use mathlib.Core.Path.{_≡_, sym, _∙_, subst}
 use mathlib.Core.Bool.{true}
 use Prim.Native.Nat.{ℕ, _+_, _-_, _≤_}
 use native.Mathlib.Omega.{arith}
-use lib.ListN.{length, take, drop}
-use Rattle.journal.specs.Format.{size, whole}
+use lib.ListN.{length, drop}
+use Rattle.journal.specs.Format.{whole}
 use Rattle.journal.specs.Survey.{nextAt}
 use Rattle.journal.specs.Marks.{Marked}
 use Rattle.journal.specs.theory.Survey.{next-inside}
 use Rattle.journal.specs.theory.Stepping.{reached-sound}
 use Rattle.journal.specs.theory.Marks.{marked-next}
-use Rattle.packing.specs.Copying.{Copied}
 use Rattle.packing.specs.theory.Copying.{copied-length}
 use Rattle.packing.specs.theory.Passes.{Packs, packs-start, packs-length, packs-few, packs-skip, packs-room, packs-copy}
 use Rattle.packing.specs.theory.Passes.{packs-end}
@@ -38,7 +36,8 @@ inside c = next-inside _ _ (here (c .before))
 
 -- a record that is kept has room in the new run
 room : (c : tie.Then2 Inv-loop μ-loop) → let at-loop = c .before .before .before .before .before in
-    at-loop .loop .q + (c .before .before .next-at .result - at-loop .loop .p) ≤ length (at-loop .before .before .before .before .args .new .now)
+    at-loop .loop .q + (c .before .before .next-at .result - at-loop .loop .p)
+    ≤ length (at-loop .before .before .before .before .args .new .now)
 room c =
     let at-next = c .before .before in
     let at-then = at-next .before in
@@ -108,8 +107,9 @@ loop-again-2 c =
     let at-then = at-next .before in
     let at-loop = at-then .before .before in
     let args = at-loop .before .before .before .before .args in
-    subst (λ (i : ℕ). Packs (args .allowed) (args .old .now) (args .new .now) (args .but) i (at-loop .loop .q) (at-loop .loop .need) (at-loop .loop .new)
-        × Marked (args .old .now) (args .table .now) i) (sym (at-next .next-at .ensures)) (
+    subst (λ (i : ℕ). Packs (args .allowed) (args .old .now) (args .new .now) (args .but) i (at-loop .loop .q) (at-loop .loop .need)
+    (at-loop .loop .new)
+    × Marked (args .old .now) (args .table .now) i) (sym (at-next .next-at .ensures)) (
       packs-skip (at-loop .loop .inv .0) (here at-then) (sym (c .before .is-kept .ensures) ∙ c .if2 .left),
       marked-next (at-loop .loop .inv .1) (here at-then),
     )
@@ -128,7 +128,8 @@ returns : tie.Need-returns Inv-loop μ-loop
 returns c =
     let at-blank = c .before .before in
     let at-end = at-blank .before .before in
-    packs-end (at-end .before .before .loop .inv .0) (sym (at-end .before .whole-at .ensures) ∙ at-end .if1 .left) (at-blank .blank .ensures)
+    packs-end (at-end .before .before .loop .inv .0) (sym (at-end .before .whole-at .ensures) ∙ at-end .if1 .left)
+    (at-blank .blank .ensures)
 
 pub store-spec : {M : Type 1} → statement M
 store-spec =

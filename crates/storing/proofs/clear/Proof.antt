@@ -1,4 +1,5 @@
--- `clear` meets its contract. Where all bytes are 0, nothing is stored. The invariant: the bytes from p on are cleared, and those before it as they were; the measure is p.
+-- `clear` meets its contract. Where all bytes are 0, nothing is stored. The invariant: the bytes from p on are cleared, and those before
+-- it as they were; the measure is p.
 use mathlib.Core.Path.{_≡_, subst}
 use Prim.Native.Nat.{ℕ, suc, _-_, _≤_}
 use native.Mathlib.Omega.{arith}
@@ -60,7 +61,8 @@ same-length-2 c = room (c .before)
 returns-2 : tie.Need-returns-2 Inv-loop μ-loop
 returns-2 c =
     let at-loop = c .before in
-    moved at-loop (at-loop .before .before .before .before .before .args .from) (omega (arith, c .loop-test .left, at-loop .loop .inv .0)) .ran
+    moved at-loop (at-loop .before .before .before .before .before .args .from)
+    (omega (arith, c .loop-test .left, at-loop .loop .inv .0)) .ran
 
 pub clear-spec : {M : Type 1} → statement M
 clear-spec =

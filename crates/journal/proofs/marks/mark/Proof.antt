@@ -1,11 +1,9 @@
 -- `mark` meets its contract. The invariant: the table is filled as far as p; the measure is what is left of the log.
-use mathlib.Core.Path.{_≡_, sym, _∙_, subst}
-use mathlib.Core.Bool.{true}
-use Prim.Native.Nat.{ℕ, _-_, _%_}
+use mathlib.Core.Path.{sym, _∙_, subst}
+use Prim.Native.Nat.{_-_, _%_}
 use native.Mathlib.Omega.{arith}
-use lib.ListN.{length, set, drop}
-use Rattle.journal.specs.Format.{whole, name}
-use Rattle.journal.specs.Survey.{recordAt, Sound}
+use lib.ListN.{length, set}
+use Rattle.journal.specs.Survey.{Sound}
 use Rattle.journal.specs.theory.Survey.{name-at, next-inside}
 use Rattle.journal.specs.theory.Stepping.{name-here, name-inside, reached-sound}
 use Rattle.journal.specs.theory.Marks.{Marking, marking-start, marking-next, marking-end}

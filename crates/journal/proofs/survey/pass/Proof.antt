@@ -1,17 +1,16 @@
 -- `pass` meets its contract. The invariant: the records up to p are good; the measure is what is left.
-use mathlib.Core.Path.{_≡_, sym, _∙_, subst}
+use mathlib.Core.Path.{_≡_, refl, sym, _∙_, subst}
 use mathlib.Core.Bool.{true}
-use Prim.Native.Nat.{_*_, _-_}
+use Prim.Native.Nat.{_-_}
 use native.Mathlib.Omega.{arith}
 use lib.ListN.{length, drop}
-use Rattle.plane.specs.Limits.{maxCorners}
 use Rattle.journal.specs.Format.{whole}
 use Rattle.journal.specs.theory.Survey.{Along, next-inside, along-start, along-good, along-bad, along-end}
 use Rattle.journal.proofs.survey.pass.Statement.{statement}
 use Rattle.journal.proofs.survey.pass.Tie as tie
 
 abbrev Inv-loop : tie.InvT-loop
-Inv-loop log buffer₀ p₀ buffer p = Along log p × (length buffer ≡ 2 * maxCorners)
+Inv-loop log buffer₀ p₀ buffer p = Along log p × (length buffer ≡ length buffer₀)
 
 abbrev μ-loop : tie.MeasureT-loop
 μ-loop log buffer₀ p₀ buffer p = length log - p
@@ -22,18 +21,21 @@ here : (c : tie.Then1 Inv-loop μ-loop)
 here c = sym (c .before .whole-at .ensures) ∙ c .if1 .taken
 
 loop-holds : tie.Need-loop-holds Inv-loop μ-loop
-loop-holds c = (along-start _, c .before .pre)
+loop-holds c = (along-start _, refl)
 
 whole-at-requires : tie.Need-whole-at-requires Inv-loop μ-loop
 whole-at-requires c κs = c .loop .inv .0 .inside
 
 bad-at-requires : tie.Need-bad-at-requires Inv-loop μ-loop
-bad-at-requires c κs = let at-then = c .before in (here at-then, at-then .before .before .loop .inv .1)
+bad-at-requires c κs =
+    let at-then = c .before in
+    let at-loop = at-then .before .before in
+    (here at-then, λ n l m. omega (arith, at-loop .before .before .pre n l m, at-loop .loop .inv .1))
 
 same-length : tie.Need-same-length Inv-loop μ-loop
 same-length c =
     let at-bad = c .before .before in
-    at-bad .bad-at .ensures .1 ∙ sym (at-bad .before .before .before .before .before .before .pre)
+    at-bad .bad-at .ensures .1 ∙ at-bad .before .before .before .before .loop .inv .1
 
 returns : tie.Need-returns Inv-loop μ-loop
 returns c =
@@ -56,11 +58,11 @@ loop-again c =
     let at-loop = at-then .before .before in (
       subst (Along (at-loop .before .before .args .log .now)) (sym (c .next-at .ensures))
           (along-good (at-loop .loop .inv .0) (here at-then) (sym (at-bad .bad-at .ensures .0) ∙ at-else .if2 .left)),
-      at-bad .bad-at .ensures .1,
+      at-bad .bad-at .ensures .1 ∙ at-loop .loop .inv .1,
     )
 
 same-length-2 : tie.Need-same-length-2 Inv-loop μ-loop
-same-length-2 c = let at-loop = c .before .before in at-loop .loop .inv .1 ∙ sym (at-loop .before .before .pre)
+same-length-2 c = c .before .before .loop .inv .1
 
 returns-2 : tie.Need-returns-2 Inv-loop μ-loop
 returns-2 c =
