@@ -111,7 +111,8 @@ module _ (b : List ℕ) (h p q : ℕ) where
   module _ {i : ℕ} (w : whole (drop i b) ≡ true) (r : Reached b i) (up : Within i) where
     within-next : Within (nextAt b i)
     within-next n x =
-        up n (ap (held n) (records-step b i w) ∙ ap (λ (y : Bool). eqb (name (recordAt b i)) n || y) x ∙ or-true (eqb (name (recordAt b i)) n))
+        up n (ap (held n) (records-step b i w) ∙ ap (λ (y : Bool). eqb (name (recordAt b i)) n || y) x
+        ∙ or-true (eqb (name (recordAt b i)) n))
 
     later-here : Later b q i
     later-here = let n = name (recordAt b i) in record {

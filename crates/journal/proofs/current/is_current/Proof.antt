@@ -39,7 +39,8 @@ returns c =
     let at-name = c .before in
     let at-next = at-name .before in
     ap not (c .is-held .ensures
-    ∙ ap₂ (λ (q n : ℕ). held n (records (drop q (at-next .before .before .args .log .now)))) (at-next .next-at .ensures) (name-read at-name))
+    ∙ ap₂ (λ (q n : ℕ). held n (records (drop q (at-next .before .before .args .log .now)))) (at-next .next-at .ensures)
+    (name-read at-name))
 
 pub is-current-spec : {M : Type 1} → statement M
 is-current-spec = tie.close (tie.spec next-at-requires add-pair-at pair-at-requires is-held-requires returns)

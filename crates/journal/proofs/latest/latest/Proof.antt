@@ -50,7 +50,8 @@ loop-again c =
     let at-loop = at-then .before .before in
     let args = at-loop .before .before .args in
     subst (λ (r : Found). SoFar (args .name) (args .log .now) (c .next-at .result) r) (sym (at-new .newer .ensures))
-    (subst (λ (q : ℕ). SoFar (args .name) (args .log .now) q (newer (args .name) (at-head .head-at .result) (at-loop .loop .found))) (sym (c .next-at .ensures))
+    (subst (λ (q : ℕ). SoFar (args .name) (args .log .now) q (newer (args .name) (at-head .head-at .result) (at-loop .loop .found)))
+    (sym (c .next-at .ensures))
     (so-far-next (at-loop .loop .inv) (here at-then) (at-head .head-at .ensures)))
 
 returns : tie.Need-returns Inv-loop μ-loop
