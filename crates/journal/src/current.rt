@@ -52,6 +52,7 @@ fn nth(log: &[u8], k: usize, table: &[u32]) -> Listed
 
 // Whether no later record has the name of the record at a place. A record at its place of the table, or after it, is
 // the last of its name, and one before a record of its name there is not. Others are looked up.
+// Ruled out: record before its place counted.
 pub fn is_latest(log: &[u8], p: usize, table: &[u32]) -> bool
     requires { ⌜ Sound (now log) p × Marked (now log) (now table) p ⌝ }
     ensures { λ r. ⌜ r ≡ not (held (Format·name (recordAt (now (log .entry)) p))
