@@ -11,17 +11,27 @@ use crate::records;
 // How many places a table has: one for each value of a name's last ten bits.
 pub const PLACES: usize = 1024;
 
-// Shorter logs have few records, and a look ahead is quicker than a table to clear.
-const SHORT: usize = 1024;
+// If no record is after this place, a look ahead takes less time than a table.
+const SHORT: usize = 512;
 
 // Places of logs below this length have at most 32 bits.
 const LONG: usize = 4294967296;
 
-// Whether a table serves a log.
+// Whether a table serves a log: there are records enough, and a place has at most 32 bits.
 pub fn serves(log: &[u8]) -> bool
     ensures { λ r. ⌜ (r ≡ true → length (now (log .entry)) < 4294967296) ⌝ }
 {
-    SHORT <= log.len() && log.len() < LONG
+    if LONG <= log.len() {
+        return false;
+    }
+    let mut p = 0;
+    while records::whole_at(log, p) {
+        if SHORT <= p {
+            return true;
+        }
+        p = records::next_at(log, p);
+    }
+    false
 }
 
 // Notes, for each value of a name's last ten bits, the place of the last record that has it.
