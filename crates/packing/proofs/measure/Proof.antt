@@ -1,7 +1,7 @@
 -- `measure` meets its contract. The invariant: n bytes are kept up to p; the measure is what is left.
 use mathlib.Core.Path.{_≡_, sym, _∙_, subst}
 use mathlib.Core.Bool.{true}
-use Prim.Native.Nat.{ℕ, _+_, _-_, _≤_}
+use Prim.Native.Nat.{_-_, _≤_}
 use native.Mathlib.Omega.{arith}
 use lib.ListN.{length, drop}
 use Rattle.journal.specs.Format.{whole}
@@ -31,6 +31,12 @@ inside : (c : tie.After-next-at Inv-loop μ-loop) → let at-loop = c .before .b
     nextAt old (at-loop .loop .p) ≤ length old
 inside c = next-inside _ _ (here (c .before))
 
+-- the table says the same of the records after it
+marked : (c : tie.After-next-at Inv-loop μ-loop) → let args = c .before .before .before .before .before .before .args in
+    Marked (args .old .now) (args .table .now) (c .next-at .result)
+marked c =
+    subst (Marked _ _) (sym (c .next-at .ensures)) (marked-next (c .before .before .before .loop .inv .1) (here (c .before)))
+
 loop-holds : tie.Need-loop-holds Inv-loop μ-loop
 loop-holds c = let pre = c .before .before .pre in (measured-start _ _ (pre .0), pre .1)
 
@@ -52,11 +58,8 @@ add-n : tie.Need-add-n Inv-loop μ-loop
 add-n c =
     let at-next = c .before .before in
     let at-then = at-next .before in
-    omega (
-      arith,
-      measured-fits (at-then .before .before .loop .inv .0) (here at-then) (sym (c .before .is-kept .ensures) ∙ c .if2 .taken),
-      at-next .next-at .ensures,
-    )
+    let kept = sym (c .before .is-kept .ensures) ∙ c .if2 .taken in
+    omega (arith, measured-fits (at-then .before .before .loop .inv .0) (here at-then) (at-next .next-at .ensures) kept)
 
 loop-less : tie.Need-loop-less Inv-loop μ-loop
 loop-less c = let at-next = c .before .before in omega (arith, at-next .next-at .ensures, inside at-next)
@@ -64,13 +67,8 @@ loop-less c = let at-next = c .before .before in omega (arith, at-next .next-at 
 loop-again : tie.Need-loop-again Inv-loop μ-loop
 loop-again c =
     let at-next = c .before .before in
-    let at-then = at-next .before in
-    let at-loop = at-then .before .before in
-    let args = at-loop .before .before .before .args in
     let kept = sym (c .before .is-kept .ensures) ∙ c .if2 .taken in
-    subst (λ (q : ℕ). Measured (args .old .now) (args .but) q (at-loop .loop .n + (q - at-loop .loop .p))
-    × Marked (args .old .now) (args .table .now) q) (sym (at-next .next-at .ensures))
-    (measured-kept (at-loop .loop .inv .0) (here at-then) kept, marked-next (at-loop .loop .inv .1) (here at-then))
+    (measured-kept (at-next .before .before .before .loop .inv .0) (here (at-next .before)) (at-next .next-at .ensures) kept, marked at-next)
 
 loop-less-2 : tie.Need-loop-less-2 Inv-loop μ-loop
 loop-less-2 c = let at-next = c .before .before in omega (arith, at-next .next-at .ensures, inside at-next)
@@ -78,13 +76,9 @@ loop-less-2 c = let at-next = c .before .before in omega (arith, at-next .next-a
 loop-again-2 : tie.Need-loop-again-2 Inv-loop μ-loop
 loop-again-2 c =
     let at-next = c .before .before in
-    let at-then = at-next .before in
-    let at-loop = at-then .before .before in
-    let args = at-loop .before .before .before .args in
+    let inv = at-next .before .before .before .loop .inv .0 in
     let skipped = sym (c .before .is-kept .ensures) ∙ c .if2 .left in
-    subst (λ (q : ℕ). Measured (args .old .now) (args .but) q (at-loop .loop .n) × Marked (args .old .now) (args .table .now) q)
-    (sym (at-next .next-at .ensures))
-    (measured-skipped (at-loop .loop .inv .0) (here at-then) skipped, marked-next (at-loop .loop .inv .1) (here at-then))
+    (measured-skipped inv (here (at-next .before)) (at-next .next-at .ensures) skipped, marked at-next)
 
 returns : tie.Need-returns Inv-loop μ-loop
 returns c =

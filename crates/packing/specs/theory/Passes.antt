@@ -89,8 +89,8 @@ module _ {b : List ℕ} {but p n : ℕ} (f : Measured b but p n) where
   measured-end w = omega (arith, f .still, ap length (packed-end b p but w))
 
   module _ (w : whole (drop p b) ≡ true) where
-    pub measured-kept : kept b p but ≡ true → Measured b but (nextAt b p) (n + (nextAt b p - p))
-    measured-kept k = record {
+    pub measured-kept : {q : ℕ} → q ≡ nextAt b p → kept b p but ≡ true → Measured b but q (n + (q - p))
+    measured-kept {q} e k = subst (λ (i : ℕ). Measured b but i (n + (i - p))) (sym e) (record {
       reached = reached-next (f .reached) w;
       still =
           omega (
@@ -100,17 +100,17 @@ module _ {b : List ℕ} {but p n : ℕ} (f : Measured b but p n) where
             length-append (recordAt b p) (later b p but),
             record-length b p but w,
           );
-    }
+    })
 
-    pub measured-skipped : kept b p but ≡ false → Measured b but (nextAt b p) n
-    measured-skipped k = record {
+    pub measured-skipped : {q : ℕ} → q ≡ nextAt b p → kept b p but ≡ false → Measured b but q n
+    measured-skipped {q} e k = subst (λ (i : ℕ). Measured b but i n) (sym e) (record {
       reached = reached-next (f .reached) w;
       still = omega (arith, f .still, ap length (packed-skipped b p but w k));
-    }
+    })
 
     -- the count stays below the log's length
-    pub measured-fits : kept b p but ≡ true → n + (nextAt b p - p) ≤ length b
-    measured-fits k = omega (arith, measured-kept k .still, packed-le b but)
+    pub measured-fits : {q : ℕ} → q ≡ nextAt b p → kept b p but ≡ true → n + (q - p) ≤ length b
+    measured-fits e k = omega (arith, measured-kept e k .still, packed-le b but)
 
 -- ---- storing
 
