@@ -67,8 +67,9 @@ loop-less c = let at-next = c .before .before in omega (arith, at-next .next-at 
 loop-again : tie.Need-loop-again Inv-loop μ-loop
 loop-again c =
     let at-next = c .before .before in
+    let inv = at-next .before .before .before .loop .inv .0 in
     let kept = sym (c .before .is-kept .ensures) ∙ c .if2 .taken in
-    (measured-kept (at-next .before .before .before .loop .inv .0) (here (at-next .before)) (at-next .next-at .ensures) kept, marked at-next)
+    (measured-kept inv (here (at-next .before)) (at-next .next-at .ensures) kept, marked at-next)
 
 loop-less-2 : tie.Need-loop-less-2 Inv-loop μ-loop
 loop-less-2 c = let at-next = c .before .before in omega (arith, at-next .next-at .ensures, inside at-next)
