@@ -15,7 +15,6 @@ use answers::Addition;
 use answers::Answer;
 use answers::Refusal;
 use journal::latest::Found;
-use journal::storing;
 use journal::survey::Surveyed;
 
 // Writes the corners of the latest record of a name at the front of the output, and answers how many they are, and the

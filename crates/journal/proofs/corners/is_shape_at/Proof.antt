@@ -1,5 +1,5 @@
 -- `is_shape_at` meets its contract: too many numbers are no shape, and others have room in the buffer.
-use mathlib.Core.Path.{_≡_, sym, _∙_, ap}
+use mathlib.Core.Path.{_≡_, refl, sym, _∙_, ap}
 use Prim.Native.Nat.{ℕ, _/_, _≤_}
 use native.Mathlib.Omega.{arith}
 use borrow.Author.Needs.{needs}
@@ -24,7 +24,7 @@ fits : (c : tie.Else1) → let start = c .before .before .before in start .args 
 fits c =
     let start = c .before .before .before in
     let few = ltb-false maxCorners (start .args .n / 2) (sym (c .before .exceeds-corners .ensures) ∙ c .if1 .left) in
-    omega (arith, start .pre .1, start .pre .2)
+    start .pre .2 (start .args .n) (omega (arith, start .pre .0)) (omega (arith, few, start .pre .1))
 
 returns : tie.Need-returns
 unfolding tooMany
@@ -34,7 +34,7 @@ returns c =
     let l = wordsAt (args .n) (args .log .now) (args .p) in
     let count : length (points l) ≡ args .n / 2 =
     points-length l ∙ ap (λ (k : ℕ). k / 2) (wordsAt-length (args .log .now) (args .n) (args .p)) in
-    (many-refused l (ap (ltb maxCorners) count ∙ sym (c .before .exceeds-corners .ensures) ∙ c .if1 .taken), start .pre .2)
+    (many-refused l (ap (ltb maxCorners) count ∙ sym (c .before .exceeds-corners .ensures) ∙ c .if1 .taken), refl)
 
 decode-requires : tie.Need-decode-requires
 decode-requires c κs = (c .before .before .before .before .pre .0, fits (c .before))
@@ -65,7 +65,7 @@ returns-2 c =
     let count = wordsAt-length (args .log .now) (args .n) (args .p) in (
       passed-answers _ _ (c .passes .ensures)
           ∙ ap (λ m. isAnswer (judged m)) (front-is l (args .buffer .now) _ (at-buffer .before .decode .ensures) (args .n) count),
-      kept at-buffer ∙ start .pre .2,
+      kept at-buffer,
     )
 
 pub is-shape-at-spec : {M : Type 1} → statement M

@@ -1,5 +1,5 @@
 -- `bad_at` meets its contract: the tests of a whole record, one by one.
-use mathlib.Core.Path.{_≡_, sym, _∙_, ap, ap₂}
+use mathlib.Core.Path.{_≡_, refl, sym, _∙_, ap, ap₂}
 use mathlib.Core.Bool.{false, not}
 use Prim.Native.Nat.{ℕ, _+_, _-_, _/_, _%_, _≤_}
 use native.Mathlib.Omega.{arith}
@@ -59,7 +59,7 @@ pair-at-requires c κs = omega (arith, inside c, whole→facts _ (c .before .pre
 returns : tie.Need-returns
 returns c =
     let start = c .before .before .before in
-    (sym (bad-short _ (omega (arith, c .if1 .taken, size-read (c .before)))), start .pre .1)
+    (sym (bad-short _ (omega (arith, c .if1 .taken, size-read (c .before)))), refl)
 
 add-pair-at : tie.Need-add-pair-at
 add-pair-at c = omega (arith, inside (c .before .before))
@@ -72,21 +72,21 @@ returns-2 c =
     let at-kind = c .before .before in
     let start = at-kind .before .before .before .before in
     let other = ap otherKind (kind-read at-kind) ∙ sym (c .before .is-other .ensures) ∙ c .if2 .taken in
-    (sym (bad-kind _ (least (at-kind .before)) other), start .pre .1)
+    (sym (bad-kind _ (least (at-kind .before)) other), refl)
 
 returns-3 : tie.Need-returns-3
 returns-3 c =
     let at-fixed = c .before in
     let at-1 = at-fixed .before .before .before .before in
     let same = size-read (at-1 .before) in
-    (sym (bad-small _ (least at-1) (omega (arith, c .if3 .taken, fixed-read at-fixed))), at-1 .before .before .before .pre .1)
+    (sym (bad-small _ (least at-1) (omega (arith, c .if3 .taken, fixed-read at-fixed))), refl)
 
 returns-4 : tie.Need-returns-4
 returns-4 c =
     let at-3 = c .before in
     let at-1 = at-3 .before .before .before .before .before in
     let left = ap (λ (n : ℕ). n % 8) (sym (rest (at-3 .before))) in
-    (sym (bad-length _ (least at-1) (long at-3) (λ e. c .if4 .taken (left ∙ e))), at-1 .before .before .before .pre .1)
+    (sym (bad-length _ (least at-1) (long at-3) (λ e. c .if4 .taken (left ∙ e))), refl)
 
 add-is-shape-at : tie.Need-add-is-shape-at
 add-is-shape-at c = let at-1 = c .before .before .before .before .before .before in omega (arith, inside (at-1 .before .before), least at-1)
