@@ -4,12 +4,13 @@ ghost use mathlib.Core.Path.{_≡_};
 ghost use Prim.Native.Nat.{_^_};
 ghost use Rattle.plane.specs.Point.{points, corner};
 ghost use Rattle.plane.specs.Refusal.{Valid};
+ghost use Rattle.plane.specs.Separation.{relationNumber};
 ghost use Rattle.plane.specs.VectorSum.{vectorSum};
 ghost use Rattle.polygon.specs.Peak.{Peak};
 ghost use Rattle.polygon.specs.Point.{at, Small};
 ghost use Rattle.calipers.specs.Image.{image};
 ghost use Rattle.separation.specs.Answer.{numberOf};
-ghost use Rattle.separation.specs.Around.{Passed, originIn, originOn};
+ghost use Rattle.separation.specs.Around.{Passed, originOn};
 ghost use Rattle.separation.specs.Passing.{Stood};
 use crate::answer::Relation;
 use crate::normal;
@@ -32,12 +33,12 @@ pub struct Sides {
     pub second: usize,
 }
 
-// Apart if the origin is outside, touching if on the rim, else overlapping.
-pub fn around(a: &[i32], b: &[i32], top: usize) -> Relation
-    requires { ⌜ Valid (now a) × Valid (now b) × Peak (points (now b)) top ⌝ }
-    ensures { λ r. ⌜ numberOf r ≡ originIn (vectorSum (points (now (a .entry))) (points (image (now (b .entry))))) ⌝ }
+// How the shapes relate, by what the pass saw: apart if the origin is outside, touching if on the rim, else overlapping.
+pub fn related(a: &[i32], b: &[i32], top: usize, sides: Sides) -> Relation
+    requires { ⌜ Valid (now a) × Valid (now b) × Peak (points (now b)) top
+        × Passed (vectorSum (points (now a)) (points (image (now b)))) sides ⌝ }
+    ensures { λ r. ⌜ numberOf r ≡ relationNumber (points (now (a .entry))) (points (now (b .entry))) ⌝ }
 {
-    let sides = pass(a, b, top);
     if sides.outside {
         return Relation::Apart;
     }

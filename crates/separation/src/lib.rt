@@ -23,7 +23,8 @@ pub fn relation(a: &[i32], b: &[i32]) -> Relation
     requires { ⌜ Valid (now a) × Valid (now b) ⌝ }
     ensures { λ r. ⌜ numberOf r ≡ relationNumber (points (now (a .entry))) (points (now (b .entry))) ⌝ }
 {
-    around::around(a, b, peak::top(b))
+    let top = peak::top(b);
+    around::related(a, b, top, around::pass(a, b, top))
 }
 
 // Whether the first shape is inside the second: a point and a segment by their ends, a polygon by a walk round both.
