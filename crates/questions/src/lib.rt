@@ -64,6 +64,7 @@ use answer::Tangents;
 use answer::Width;
 pub use boxing::least_box;
 pub use changes::excess;
+use clearance::Spacing;
 use clearance::measured::Distance;
 use coordinate::Coordinate;
 pub use driving::contact;
@@ -344,10 +345,10 @@ pub fn clearance(a: &[i32], f: u16, b: &[i32], g: u16) -> Clearance
     if let Admission::No(refusal) = admission::admit_pair(a, f, b, g) {
         return Clearance::No(refusal);
     }
-    let separation::answer::Relation::Apart = separation::relation(a, b) else {
-        return Clearance::None { floor: f };
-    };
-    measured(clearance::nearest(a, b), f)
+    match clearance::between(a, b) {
+        Spacing::Meets => Clearance::None { floor: f },
+        Spacing::Apart(found) => measured(found, f),
+    }
 }
 
 // How near two shapes are, as an answer.
