@@ -15,7 +15,6 @@ use Rattle.plane.specs.Turn.{cross}
 use Rattle.plane.specs.Forms.{edges}
 use Rattle.plane.specs.theory.lists.Flat.{points-length}
 use Rattle.plane.specs.theory.lists.Sought.{either-false}
-use Rattle.plane.specs.theory.sum.Positions.{edges-at-most}
 use Rattle.plane.specs.VectorSum.{vectorSum}
 use Rattle.plane.specs.Cut.{outward}
 use Rattle.polygon.specs.Point.{at}
@@ -27,6 +26,7 @@ use Rattle.calipers.specs.theory.Carry.{all-passed, some-left, sides-here, side
 use Rattle.calipers.specs.theory.Carry.{here-near, first-next, corners-fit, edges-fit}
 use Rattle.calipers.specs.theory.Image.{image-count}
 use Rattle.separation.specs.Passing.{Passing}
+use Rattle.separation.specs.theory.Image.{image-few, image-sides}
 use Rattle.separation.proofs.Passing.{
   passing-at,
   passing-below,
@@ -58,23 +58,16 @@ after-stride c = c .before .before .before .before .before .before .before
 abbrev start : tie.After-struct-known5 Inv-loop μ-loop → tie.Start Inv-loop μ-loop
 start c = after-stride c .before
 
--- all edges of both
-all : (c : tie.After-stride Inv-loop μ-loop) → let args = c .before .args in
-    c .stride .result .s .end + c .stride .result .t .end
-    ≡ length (edges (points (args .a .now))) + length (edges (points (image (args .b .now))))
-all c = omega (arith, c .stride .ensures .first-side .end-is, c .stride .ensures .second-side .end-is)
-
 -- their count fits
 fits : (c : tie.Start Inv-loop μ-loop) → let args = c .args in
     length (edges (points (args .a .now))) + length (edges (points (image (args .b .now)))) < 2 ^ 63
-fits c =
-    let few = edges-at-most (points (c .args .a .now)) in
-    let too = edges-at-most (points (image (c .args .b .now))) in
-    let count = image-count (c .args .b .now) (c .pre .1) in
-    omega (arith, points-length (c .args .a .now), points-length (c .args .b .now), c .good .0, c .good .1 .0)
+fits c = omega (arith, image-few _ _ (c .pre .0) (c .pre .1), c .good .0, c .good .1 .0)
 
 add-all : tie.Need-add-all Inv-loop μ-loop
-add-all c = let at-stride = c .before .before .before .before in omega (arith, all at-stride, fits (at-stride .before))
+add-all c =
+    let at-stride = c .before .before .before .before in
+    let p = at-stride .stride .ensures in
+    omega (arith, image-sides (p .first-side) (p .second-side), fits (at-stride .before))
 
 add-count : tie.Need-add-count Inv-loop μ-loop
 add-count c =
@@ -202,13 +195,15 @@ returns c =
     let at-cross = at-either .before in
     let at-next = at-cross .before .before in
     let at-loop = at-next .before .before .before .before in
+    let strode = after-stride (at-loop .before) .stride .ensures in
     let inv = at-loop .loop .inv in (
       passing-stop (inv .0) refl (advances at-next) (turn-is at-cross _) (at-either .either .ensures) (c .passed-normal .result)
           (c .passed-normal .ensures ∙ ap₂ (cond (ltb (at-loop .loop .s .at) (at-next .before .next .result .at)))
           (ap₂ outward (inv .1 .corner-is) (at-next .before .next .ensures .1 .corner-is))
           (ap₂ outward (inv .2 .corner-is) (at-next .next2 .ensures .1 .corner-is)))
           (λ o. all-passed _ _ _ _ (at-next .before .next .ensures .1 .at-in) (at-next .next2 .ensures .1 .at-in)
-          (eqb-true _ _ (other-is o (sym (at-test .either2 .ensures) ∙ c .before .if1 .taken)) ∙ all (after-stride (at-loop .before)))) _ _,
+          (eqb-true _ _ (other-is o (sym (at-test .either2 .ensures) ∙ c .before .if1 .taken))
+          ∙ image-sides (strode .first-side) (strode .second-side))) _ _,
       record { count = at-loop .loop .count; below = passing-below (inv .0) refl; moved = inv .0 .moved },
     )
 
@@ -224,11 +219,12 @@ loop-again c =
     let at-cross = at-either .before in
     let at-next = at-cross .before .before in
     let at-loop = at-next .before .before .before .before in
+    let strode = after-stride (at-loop .before) .stride .ensures in
     let inv = at-loop .loop .inv in
     let args = start (at-loop .before) .args in
     let neither = either-false _ _ (sym (at-test .either2 .ensures) ∙ c .if1 .left) in
     let on = some-left _ _ (at-next .before .next .result .at) (at-next .next2 .result .at)
-    (λ e. eqb-false _ _ (neither .1) (e ∙ sym (all (after-stride (at-loop .before))))) in (
+    (λ e. eqb-false _ _ (neither .1) (e ∙ sym (image-sides (strode .first-side) (strode .second-side)))) in (
       subst (λ (o : Bool). Passing (args .a .now) (image (args .b .now)) (walkOf (at-next .before .next .result) (at-next .next2 .result) o)
           (at-loop .loop .count + 1) (at-either .either .result)) on
           (passing-more (inv .0) refl (advances at-next) (turn-is at-cross _) (neither .0) (at-either .either .ensures)),

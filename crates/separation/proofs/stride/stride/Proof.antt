@@ -11,8 +11,6 @@ use Rattle.integer.specs.Machine.{result-is}
 use Rattle.plane.specs.Point.{points}
 use Rattle.plane.specs.Refusal.{InRange, Valid}
 use Rattle.plane.specs.Forms.{edges}
-use Rattle.plane.specs.theory.lists.Flat.{points-length}
-use Rattle.plane.specs.theory.sum.Positions.{edges-at-most}
 use Rattle.polygon.specs.Peak.{Peak}
 use Rattle.polygon.specs.Point.{at, Small}
 use Rattle.polygon.specs.theory.Small.{small-wide}
@@ -20,9 +18,8 @@ use Rattle.calipers.specs.declared.side.Side.{Side}
 use Rattle.calipers.specs.Image.{image}
 use Rattle.calipers.specs.Side.{nextOf, Carried}
 use Rattle.calipers.specs.theory.Carry.{sides-here, here-near, first-next, corners-fit, edges-fit}
-use Rattle.calipers.specs.theory.Image.{image-edges}
 use Rattle.separation.specs.Passing.{Strode}
-use Rattle.separation.specs.theory.Image.{image-begun}
+use Rattle.separation.specs.theory.Image.{image-begun, image-few}
 use Rattle.separation.proofs.Striding.{strode-start, strode-at, strode-first, strode-second, strode-both, strode-same, goes-on}
 use Rattle.separation.proofs.stride.stride.Statement.{statement}
 use Rattle.separation.proofs.stride.stride.Tie as tie
@@ -50,21 +47,14 @@ begins c =
 -- the edges that are passed fit
 bound : (c : tie.Start Inv-loop μ-loop) {s t : Side} {joined : ℕ} → Strode (c .args .a .now) (image (c .args .b .now)) s t joined
     → s .at + t .at < 2 ^ 63
-bound c p =
-    let a = c .args .a .now in
-    let b = c .args .b .now in
-    omega (
-      arith,
-      p .first-side .at-in,
-      p .second-side .at-in,
-      edges-at-most (points a),
-      points-length a,
-      c .good .0,
-      image-edges b (c .pre .1),
-      edges-at-most (points b),
-      points-length b,
-      c .good .1 .0,
-    )
+bound c p = omega (
+  arith,
+  p .first-side .at-in,
+  p .second-side .at-in,
+  image-few _ _ (c .pre .0) (c .pre .1),
+  c .good .0,
+  c .good .1 .0,
+)
 
 are-inside-requires : tie.Need-are-inside-requires Inv-loop μ-loop
 are-inside-requires c κs = let fits = bound (c .before .before) (begins c) in (omega (arith, fits), omega (arith, fits))
