@@ -18,7 +18,7 @@ use polygon::peak;
 
 // Whether two shapes are apart, touching or overlapping, by a walk round their differences: the sum of the first and
 // the mirror image of the second.
-// Ruled out: touching read as apart; less or equal for less; segments in line by normals only.
+// Ruled out: touching read as apart; segments in line by normals only.
 pub fn relation(a: &[i32], b: &[i32]) -> Relation
     requires { ⌜ Valid (now a) × Valid (now b) ⌝ }
     ensures { λ r. ⌜ numberOf r ≡ relationNumber (points (now (a .entry))) (points (now (b .entry))) ⌝ }

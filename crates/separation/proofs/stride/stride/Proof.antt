@@ -36,13 +36,16 @@ side-at-requires c κs = (omega arith, c .pre .0 .inRange, c .pre .0 .shape .som
 side-at-requires-2 : tie.Need-side-at-requires-2 Inv-loop μ-loop
 side-at-requires-2 c κs = let pre = c .before .pre in (pre .1, pre .2, omega arith)
 
--- the walk begins
-begins : (c : tie.After-side-at2 Inv-loop μ-loop) → let args = c .before .before .args in
-    Strode (args .a .now) (image (args .b .now)) (c .before .side-at .result) (c .side-at2 .result) 0
-begins c =
+alone-requires : tie.Need-alone-requires Inv-loop μ-loop
+alone-requires c κs =
     let first = c .before in
-    strode-start (image-begun _ _ (first .before .pre .0) (first .before .pre .1)) (first .side-at .ensures .0) (c .side-at2 .ensures .0)
-    (first .side-at .ensures .1) (c .side-at2 .ensures .1)
+    let pre = first .before .pre in (
+      pre .0,
+      pre .1,
+      pre .2,
+      strode-start (image-begun _ _ (pre .0) (pre .1)) (first .side-at .ensures .0) (c .side-at2 .ensures .0) (first .side-at .ensures .1)
+          (c .side-at2 .ensures .1),
+    )
 
 -- the edges that are passed fit
 bound : (c : tie.Start Inv-loop μ-loop) {s t : Side} {joined : ℕ} → Strode (c .args .a .now) (image (c .args .b .now)) s t joined
@@ -57,17 +60,17 @@ bound c p = omega (
 )
 
 are-inside-requires : tie.Need-are-inside-requires Inv-loop μ-loop
-are-inside-requires c κs = let fits = bound (c .before .before) (begins c) in (omega (arith, fits), omega (arith, fits))
+are-inside-requires c κs = let fits = bound (c .before .before .before) (c .alone .ensures) in (omega (arith, fits), omega (arith, fits))
 
 returns : tie.Need-returns Inv-loop μ-loop
-returns c = begins (c .before .before)
+returns c = c .before .before .alone .ensures
 
 loop-holds : tie.Need-loop-holds Inv-loop μ-loop
 loop-holds c =
-    let three = c .before .are-inside .ensures (not-false _ (c .if1 .left)) in (begins (c .before .before), three .0, three .1)
+    let three = c .before .are-inside .ensures (not-false _ (c .if1 .left)) in (c .before .before .alone .ensures, three .0, three .1)
 
 abbrev start : tie.At-loop Inv-loop μ-loop → tie.Start Inv-loop μ-loop
-start c = c .before .before .before .before .before
+start c = c .before .before .before .before .before .before
 
 here-requires : tie.Need-here-requires Inv-loop μ-loop
 here-requires c κs = let p = c .loop .inv .0 in corners-fit (strode-at p) (p .first-side) (p .second-side)
@@ -148,7 +151,7 @@ further c =
     let product = result-is w64 (o .order .ok) (o .order .ensures) in
     elim (c .if2 .came) [
       | inl q ↦ (
-        strode-same (q .4) (q .5) (q .6) (strode-first p (inv .1) (inv .2) product (o .before .here .ensures) (q .2 .left)
+        strode-same (q .4) (q .5) (q .6) (strode-first p product (o .before .here .ensures) (q .2 .left) (inv .1) (inv .2)
             (q .0 .taken) (result-is w64 (q .1 .ok) (q .1 .ensures)) _ (q .3 .ensures .0) (q .3 .ensures .1)),
         omega (
           arith,
@@ -161,7 +164,7 @@ further c =
       )
       | inr r ↦ elim r [
         | inl q ↦ (
-          strode-same (q .5) (q .6) (q .7) (strode-second p (inv .1) (inv .2) product (o .before .here .ensures) (q .3 .left)
+          strode-same (q .5) (q .6) (q .7) (strode-second p product (o .before .here .ensures) (q .3 .left) (inv .1) (inv .2)
               (q .1 .taken) (result-is w64 (q .2 .ok) (q .2 .ensures)) _ (q .4 .ensures .0) (q .4 .ensures .1)),
           omega (
             arith,
@@ -173,7 +176,7 @@ further c =
           ),
         )
         | inr q ↦ (
-          strode-same (q .6) (q .7) (q .8) (strode-both p (inv .1) (inv .2) product (o .before .here .ensures) (q .3 .left)
+          strode-same (q .6) (q .7) (q .8) (strode-both p product (o .before .here .ensures) (q .3 .left) (inv .1) (inv .2)
               (q .0 .left) (q .1 .left) (result-is w64 (q .2 .ok) (q .2 .ensures)) _ _ (q .4 .ensures .0) (q .5 .ensures .0)
               (q .4 .ensures .1) (q .5 .ensures .1)),
           omega (
@@ -208,6 +211,6 @@ loop-again c =
 pub stride-spec : {M : Type 1} → statement M
 stride-spec =
     tie.close
-    (tie.spec Inv-loop μ-loop side-at-requires side-at-requires-2 are-inside-requires returns loop-holds here-requires order-requires
+    (tie.spec Inv-loop μ-loop side-at-requires side-at-requires-2 alone-requires are-inside-requires returns loop-holds here-requires order-requires
     moment-requires returns-2 ahead-requires moment-requires-2 returns-3 ahead-requires-2 joint-moment-requires returns-4
     ahead-requires-3 ahead-requires-4 add-joined are-inside-requires-2 returns-5 loop-less loop-again)
