@@ -31,6 +31,7 @@ use answers::Passage;
 use answers::Refusal;
 use answers::Relation;
 use answers::Tangents;
+use clearance::Spacing;
 use passage::corridor::Way;
 use polygon::peak;
 use separation::differences;
@@ -161,12 +162,9 @@ pub fn clearance(a: &[i32], f: u16, b: &[i32], g: u16) -> Clearance
     if let Admission::No(refusal) = admission::admit_pair(a, f, b, g) {
         return Clearance::No(refusal);
     }
-    let separation::answer::Relation::Apart = separation::relation(a, b) else {
-        return Clearance::None { floor: f };
-    };
-    Clearance::Apart {
-        distance: clearance::nearest(a, b),
-        floor: f,
+    match clearance::between(a, b) {
+        Spacing::Meets => Clearance::None { floor: f },
+        Spacing::Apart(distance) => Clearance::Apart { distance, floor: f },
     }
 }
 

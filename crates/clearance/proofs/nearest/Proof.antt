@@ -1,48 +1,19 @@
--- `nearest` meets its contract: the first candidate that is reached in a direction that faces the least distance is the nearest.
-use mathlib.Core.Path.{sym, _∙_, ap, subst}
-use Rattle.plane.specs.Point.{points}
-use Rattle.plane.specs.Clearance.{numbersOf}
-use Rattle.clearance.specs.Answer.{Measurable}
-use Rattle.clearance.specs.theory.Walked.{nearest-measurable}
+-- `nearest` meets its contract: what is found from where the pass stopped.
 use Rattle.clearance.proofs.nearest.Statement.{statement}
 use Rattle.clearance.proofs.nearest.Tie as tie
 
 top-requires : tie.Need-top-requires
 top-requires c κs = c .pre .1 .shape .some
 
-sought-requires : tie.Need-sought-requires
-sought-requires c κs = let pre = c .before .pre in (pre .0, pre .1, pre .2, c .top .ensures)
+pass-requires : tie.Need-pass-requires
+pass-requires c κs = let pre = c .before .pre in (pre .0, pre .1, c .top .ensures)
 
-place-requires : tie.Need-place-requires
-place-requires c κs = c .before .before .pre .0 .shape .some
-
-place-requires-2 : tie.Need-place-requires-2
-place-requires-2 c κs = c .before .before .top .ensures .within
-
-first-reached-requires : tie.Need-first-reached-requires
-first-reached-requires c κs =
-    let at-sought = c .before .before in
-    let pre = at-sought .before .before .pre in
-    (pre .0, pre .1, at-sought .sought .ensures .0, at-sought .sought .ensures .1, c .before .place .ensures, c .place2 .ensures)
-
-measured-requires : tie.Need-measured-requires
-measured-requires c κs =
-    let at-sought = c .before .before .before in
-    let start = at-sought .before .before in
-    let A = points (start .args .a .now) in
-    let B = points (start .args .b .now) in (
-      start .pre .0 .inRange,
-      start .pre .1 .inRange,
-      subst (Measurable A B) (sym (c .first-reached .ensures))
-          (nearest-measurable A B (start .pre .0 .shape .some) (start .pre .1 .shape .some) _ (at-sought .sought .ensures .1)),
-    )
+found-requires : tie.Need-found-requires
+found-requires c κs =
+    let pre = c .before .before .pre in (pre .0, pre .1, pre .2, c .before .top .ensures, c .pass .ensures .1)
 
 returns : tie.Need-returns
-returns c =
-    let start = c .before .before .before .before .before .before in
-    c .measured .ensures ∙ ap (numbersOf (points (start .args .a .now)) (points (start .args .b .now))) (c .before .first-reached .ensures)
+returns c = c .found .ensures
 
 pub nearest-spec : {M : Type 1} → statement M
-nearest-spec =
-    tie.close
-    (tie.spec top-requires sought-requires place-requires place-requires-2 first-reached-requires measured-requires returns)
+nearest-spec = tie.close (tie.spec top-requires pass-requires found-requires returns)
