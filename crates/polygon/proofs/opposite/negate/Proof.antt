@@ -93,7 +93,8 @@ loop-again c =
     let list = map negℤ (drop (args .from) (args .list .now)) in (
       omega arith,
       ap₂ (λ (l : List ℤ) (x : ℤ). set l (args .to + i) x) (at-loop .loop .inv .1) (written c)
-          ∙ paste-suc (args .out .now) (args .to) list i (pos 0) (omega (arith, at-loop .before .pre .1)) (omega (arith, enough (at-loop .before)))
+          ∙ paste-suc (args .out .now) (args .to) list i (pos 0) (omega (arith, at-loop .before .pre .1))
+          (omega (arith, enough (at-loop .before)))
           ∙ ap (paste (args .out .now) (args .to) list) (sym (add-one i)),
     )
 
