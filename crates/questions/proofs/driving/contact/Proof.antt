@@ -5,7 +5,7 @@ use mir.Facts.{toZ-ofZ}
 use Rattle.plane.specs.Point.{Point, point}
 use Rattle.plane.specs.Floor.{on}
 use Rattle.plane.specs.Question.{reply}
-use Rattle.contact.specs.Contact.{askContact}
+use Rattle.motion.specs.Contact.{askContact}
 use Rattle.questions.proofs.driving.contact.Statement.{statement}
 use Rattle.questions.proofs.driving.contact.Tie as tie
 
