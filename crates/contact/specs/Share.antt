@@ -4,11 +4,12 @@
 --     meetingNumbers m      the numbers of what the code returns
 --     lastWall t u G i      the last entry of the box and i edges; of a shape of three corners or more, of i edges alone
 --     Arrived t u G i r     r has the last entry of the way so far, and of the way back
+--     Met t u G r           r shows whether the way is apart from G, and if it is not, where it first meets G
 --     exceed f g            f and g, parts of a way from its two ends, are together more than the way
 --     boxCorner h l d       the corner furthest in direction d of the box with these greatest coordinates, h of points and l of opposites
 --     isPast h l d p q      p and q are further in direction d than that; isBeside h l d p q: or both in the opposite direction
 use mathlib.Core.Path.{_≡_}
-use mathlib.Core.Bool.{Bool, cond, _&&_, _||_}
+use mathlib.Core.Bool.{Bool, false, cond, _&&_, _||_}
 use mathlib.Core.List.{List, [], _∷_}
 use Prim.Native.Nat.{ℕ, suc, _+_}
 use lib.Dec.{ltb}
@@ -18,9 +19,10 @@ use lib.Signed.{ltZ}
 use Rattle.plane.specs.Limits.{maxCoordinate}
 use Rattle.plane.specs.Point.{Point, point, opposite}
 use Rattle.plane.specs.Direction.{value}
+use Rattle.plane.specs.Separation.{apart}
 use Rattle.plane.specs.Distance.{Fraction, over}
 use Rattle.polygon.specs.Point.{Small}
-use Rattle.motion.specs.Contact.{entry, lastEntry}
+use Rattle.motion.specs.Contact.{OnWay, entry, lastEntry, lowest, contact}
 use Rattle.contact.specs.declared.share.Share.{Share}
 use Rattle.contact.specs.declared.walls.BothWays.{BothWays}
 use Rattle.contact.specs.declared.drive.Meeting.{Meeting}
@@ -46,6 +48,11 @@ pub record Arrived (t u : Point) (G : List Point) (i : ℕ) (r : BothWays) : Typ
 
 abbrev pub exceed : Fraction → Fraction → Bool
 exceed f g = ltZ ((f .denominator -ℤ f .numerator) *ℤ g .denominator) (g .numerator *ℤ f .denominator)
+
+pub record Met (t u : Point) (G : List Point) (r : BothWays) : Type 0 where
+  pub on-way : OnWay (fraction (r .there))
+  pub apart-is : apart (t ∷ u ∷ []) G ≡ exceed (fraction (r .there)) (fraction (r .back))
+  pub first-is : apart (t ∷ u ∷ []) G ≡ false → lowest (fraction (r .there)) ≡ contact t u G
 
 -- of one coordinate
 abbrev pub boxPart : ℤ → ℤ → ℤ → ℤ

@@ -1,8 +1,10 @@
 // Inner functions: where a way enters the walls of a shape.
+ghost use mathlib.Core.Bool.{_&&_};
 ghost use mathlib.Core.Path.{_≡_};
 ghost use Prim.Native.Nat.{_+_, _<_, _^_};
-ghost use lib.IntN.{negℤ};
+ghost use lib.IntN.{pos, negℤ};
 ghost use lib.ListN.{length};
+ghost use lib.Signed.{ltZ};
 ghost use Rattle.integer.specs.Bound.{Within};
 ghost use Rattle.plane.specs.Limits.{maxCoordinate};
 ghost use Rattle.plane.specs.Point.{points};
@@ -10,7 +12,7 @@ ghost use Rattle.plane.specs.Turn.{turn};
 ghost use Rattle.plane.specs.Refusal.{Valid};
 ghost use Rattle.polygon.specs.Point.{at, Small};
 ghost use Rattle.motion.specs.Contact.{edgeNormal, past as Contact·past, entering, entry, lastEntry};
-ghost use Rattle.contact.specs.Share.{fraction, Places, lastWall, Arrived};
+ghost use Rattle.contact.specs.Share.{fraction, Places, lastWall, Met};
 use crate::share;
 use crate::share::Share;
 use polygon::corners;
@@ -24,11 +26,12 @@ pub struct BothWays {
     pub back: Share,
 }
 
-// The last entries through the walls of a shape: its edges, and the box about a point or a segment.
+// The last entries through the walls of a shape: its edges, and the box about a point or a segment. An edge that both
+// ends are past ends the loop: then the way is apart, and each entry is taken to be at the end of its way.
 // Ruled out: edge left taken for one entered.
 pub fn arrivals(list: &[i32], t: Point, u: Point) -> BothWays
     requires { ⌜ Valid (now list) × Places (at t) (at u) ⌝ }
-    ensures { λ r. ⌜ Arrived (at t) (at u) (points (now (list .entry))) (length (points (now (list .entry)))) r ⌝ }
+    ensures { λ r. ⌜ Met (at t) (at u) (points (now (list .entry))) r ⌝ }
 {
     let n = corners::count(list);
     let mut there = start(list, t, u);
@@ -37,11 +40,30 @@ pub fn arrivals(list: &[i32], t: Point, u: Point) -> BothWays
     while i < n {
         let a = edge_past(list, i, t);
         let b = edge_past(list, i, u);
+        if are_past(a, b) {
+            return BothWays {
+                there: Share {
+                    numerator: 1,
+                    denominator: 1,
+                },
+                back: Share {
+                    numerator: 1,
+                    denominator: 1,
+                },
+            };
+        }
         there = share::later(there, share::entering(a, b));
         back = share::later(back, share::entering(b, a));
         i += 1;
     }
     BothWays { there, back }
+}
+
+// Whether two numbers are above 0.
+fn are_past(a: i64, b: i64) -> bool
+    ensures { λ r. ⌜ r ≡ (ltZ (pos 0) a && ltZ (pos 0) b) ⌝ }
+{
+    0 < a && 0 < b
 }
 
 // What the edges are added to: the start of the way if there are three or more, and else the entry into the box.

@@ -3,8 +3,9 @@
 --     walls-on-way, walls-first          what is found after all of them, in lowest terms, is the contact of a way that meets
 --     within-reached, back-within        two ways that do not pass each other, wall by wall, and at a place that meets
 --     walls-apart                        the way is apart exactly if both arrivals are together more than the way
-use mathlib.Core.Path.{_≡_, refl, sym, _∙_, ap}
-use mathlib.Core.Bool.{Bool, true, false, not, cond}
+--     all-met, out-met                   so the loop shows it after all walls, and at a wall that both ends are past
+use mathlib.Core.Path.{_≡_, refl, sym, _∙_, ap, ap₂, subst}
+use mathlib.Core.Bool.{Bool, true, false, not, cond, _&&_, true≢false}
 use mathlib.Core.List.{List, [], _∷_}
 use Prim.Native.Nat.{ℕ, suc, _+_, _≤_, _<_}
 use native.Mathlib.Omega.{arith}
@@ -12,9 +13,9 @@ use borrow.Author.Tests.{le-ltb, lt-ltb, ltb-false}
 use lib.Dec.{ltb}
 use lib.IntN.{ℤ, pos, _-ℤ_, _*ℤ_}
 use lib.ListN.{length}
-use lib.Signed.{leZ, _≤ℤ_}
+use lib.Signed.{leZ, ltZ, _≤ℤ_, _<ℤ_}
 use Rattle.integer.specs.Linear.{linear, lia, _&_}
-use Rattle.integer.specs.Order.{_<×<_, _≤×≤_, contra≤, weaken, leZ-true, leZ-false, ltZ-false, le-ltZ}
+use Rattle.integer.specs.Order.{_<×<_, _≤×≤_, contra≤, weaken, leZ-true, leZ-false, ltZ-true, ltZ-false, le-ltZ}
 use Rattle.plane.specs.Point.{Point}
 use Rattle.plane.specs.Shape.{IsShape}
 use Rattle.plane.specs.Separation.{apart}
@@ -27,7 +28,9 @@ use Rattle.motion.specs.theory.Entry.{Reached, later-trans}
 use Rattle.motion.specs.theory.Meeting.{reached→held, reached→meets, arrival-on-way, arrival-above, arrival-below}
 use Rattle.motion.specs.theory.Meeting.{not-past, first-on-way, common-met, met-not-apart, met-unless-apart}
 use Rattle.motion.specs.theory.Edges.{edges-on-way, edge-above, edges-no-later, edges-first}
-use Rattle.contact.specs.Share.{lastWall, exceed}
+use Rattle.contact.specs.Share.{lastWall, exceed, Arrived, Met}
+use Rattle.contact.specs.declared.walls.BothWays.{BothWays}
+use Rattle.contact.specs.theory.Beyond.{both, past-apart}
 
 -- ---- one wall
 
@@ -158,3 +161,26 @@ module _ (t u : Point) (G : List Point) (s : IsShape G) where
           back-within _ _ h (found-on-way t u G s few) (found-on-way u t G s few) on (found-below t u G s few h on held)
           (found-below u t G s few (back h) (back-on-way h on) (λ i k. back-reached _ _ h (held i k))))
           (λ e. met-not-apart t u G (s .some) _ (found-on-way t u G s few) (found-meets few c e))
+
+  -- ---- as the loop ends
+
+  pub all-met : {r : BothWays} → Arrived t u G (length G) r → Met t u G r
+  all-met a = record {
+    on-way = subst OnWay (sym (a .there-is)) (walls-on-way t u G s);
+    apart-is = walls-apart ∙ sym (ap₂ exceed (a .there-is) (a .back-is));
+    first-is = λ h. ap lowest (a .there-is) ∙ walls-first t u G s h;
+  }
+
+  -- a wall that both ends are past
+  pub out-met : (e : Point) {a b : ℤ} → a ≡ past G e t → b ≡ past G e u → (ltZ (pos 0) a && ltZ (pos 0) b) ≡ true
+      → Met t u G (record { there = record { numerator = 1; denominator = 1 }; back = record { numerator = 1; denominator = 1 } })
+  out-met e {a} {b} i j k = record {
+    on-way = record { begun = record { le = tt }; ended = record { le = tt }; whole = record { lt = tt } };
+    apart-is = away;
+    first-is = λ h. absurd (true≢false (sym away ∙ h));
+  }
+    where
+      away : apart (t ∷ u ∷ []) G ≡ true
+      away = let (p, q) = both (ltZ (pos 0) a) (ltZ (pos 0) b) k in
+          past-apart t u G s e (subst (λ (z : ℤ). pos 0 <ℤ z) i (ltZ-true {x = pos 0} {y = a} p))
+          (subst (λ (z : ℤ). pos 0 <ℤ z) j (ltZ-true {x = pos 0} {y = b} q))

@@ -1,5 +1,6 @@
 -- A way that has the box about a shape on the other side of a line is apart from it.
---     beyond-apart       both ends are past a line that has all of a shape on its other side
+--     past-apart         both ends are past a line that has all of a shape on its other side
+--     by-first, both     two tests
 --     beside-apart       both are past the box about it in a direction, or in the opposite one
 --     grown-extends      the box about a grown obstacle: supports add
 --     corner-small, opposite-small, step-opposite, way-small     the numbers on the way there
@@ -45,20 +46,27 @@ up = point (pos 0) (pos 1)
 
 module _ (t u : Point) (G : List Point) (s : IsShape G) where
   -- a place of the way that meets would be past the line as well
-  pub beyond-apart : (e : Point) → support e G <ℤ value e t → support e G <ℤ value e u → apart (t ∷ u ∷ []) G ≡ true
-  unfolding past
-  beyond-apart e a b = go (apart (t ∷ u ∷ []) G) refl
+  pub past-apart : (e : Point) → pos 0 <ℤ past G e t → pos 0 <ℤ past G e u → apart (t ∷ u ∷ []) G ≡ true
+  past-apart e a b = go (apart (t ∷ u ∷ []) G) refl
     where
-      beyond : (p : Point) → support e G <ℤ value e p → pos 0 <ℤ past G e p
-      beyond p h = lia (support e G ∷ value e p ∷ []) h (search linear depth 40) (omega arith)
-
       go : (x : Bool) → apart (t ∷ u ∷ []) G ≡ x → x ≡ true
       go true h = refl
       go false h =
           let (f, on, met) = common-met t u G s (not-apart-common (t ∷ u ∷ []) G (omega arith) (s .some) h) in
-          absurd (never (past G e t) (past G e u) f on (beyond t a) (beyond u b) (meets→reached t u G (s .some) f (on .whole) met e))
+          absurd (never (past G e t) (past G e u) f on a b (meets→reached t u G (s .some) f (on .whole) met e))
 
-both : (a b : Bool) → (a && b) ≡ true → (a ≡ true) × (b ≡ true)
+  beyond-apart : (e : Point) → support e G <ℤ value e t → support e G <ℤ value e u → apart (t ∷ u ∷ []) G ≡ true
+  unfolding past
+  beyond-apart e a b = past-apart e (beyond t a) (beyond u b)
+    where
+      beyond : (p : Point) → support e G <ℤ value e p → pos 0 <ℤ past G e p
+      beyond p h = lia (support e G ∷ value e p ∷ []) h (search linear depth 40) (omega arith)
+
+-- two tests, by what the first one says
+pub by-first : (y : Bool) {x z : Bool} → x ≡ z → (z && y) ≡ (x && y)
+by-first y h = ap (λ (w : Bool). w && y) (sym h)
+
+pub both : (a b : Bool) → (a && b) ≡ true → (a ≡ true) × (b ≡ true)
 both true b h = (refl, h)
 both false b h = absurd (true≢false (sym h))
 
@@ -112,8 +120,8 @@ module _ (G : List Point) (some : 0 < length G) {e : Extent} (x : Extends G e) w
       (search linear depth 40) (omega arith)
 
   module _ (t u : Point) (s : IsShape G) where
-    past-apart : (d : Point) → isPast (at (e .high)) (at (e .low)) d t u ≡ true → apart (t ∷ u ∷ []) G ≡ true
-    past-apart d k =
+    box-apart : (d : Point) → isPast (at (e .high)) (at (e .low)) d t u ≡ true → apart (t ∷ u ∷ []) G ≡ true
+    box-apart d k =
         let far = value d (boxCorner (at (e .high)) (at (e .low)) d) in
         let (i, j) = both (ltZ far (value d t)) (ltZ far (value d u)) k in
         beyond-apart t u G s d (further (value d t) i) (further (value d u) j)
@@ -128,8 +136,8 @@ module _ (G : List Point) (some : 0 < length G) {e : Extent} (x : Extends G e) w
       where
         go : (b : Bool) → isPast (at (e .high)) (at (e .low)) d t u ≡ b → (b || isPast (at (e .high)) (at (e .low)) (opposite d) t u) ≡ true
             → apart (t ∷ u ∷ []) G ≡ true
-        go true h k = past-apart d h
-        go false h k = past-apart (opposite d) k
+        go true h k = box-apart d h
+        go false h k = box-apart (opposite d) k
 
 -- ---- a grown obstacle
 

@@ -1,6 +1,5 @@
 -- `is_past` meets its contract: the corner of the box is as small as its ends.
 use mathlib.Core.Path.{_≡_, sym, _∙_, ap, ap₂, subst}
-use mathlib.Core.Bool.{Bool, _&&_}
 use Prim.Native.Nat.{_^_}
 use borrow.Author.Needs.{needs}
 use mir.Syntax.{w64}
@@ -12,7 +11,7 @@ use Rattle.polygon.specs.Point.{at, Small}
 use Rattle.polygon.specs.theory.Small.{small-wide}
 use Rattle.contact.specs.Share.{boxCorner}
 use Rattle.contact.specs.theory.Sides.{small-place}
-use Rattle.contact.specs.theory.Beyond.{corner-small}
+use Rattle.contact.specs.theory.Beyond.{by-first, corner-small}
 use Rattle.contact.proofs.beyond.is_past.Statement.{statement}
 use Rattle.contact.proofs.beyond.is_past.Tie as tie
 
@@ -25,10 +24,6 @@ dot-requires-2 c κs = let pre = c .before .before .pre in (small-wide (pre .2),
 
 dot-requires-3 : tie.Need-dot-requires-3
 dot-requires-3 c κs = let pre = c .before .before .before .before .pre in (small-wide (pre .2), small-wide (small-place (pre .3 .to-near)))
-
--- by what the first test says
-by-first : (y : Bool) {x z : Bool} → x ≡ z → (z && y) ≡ (x && y)
-by-first y h = ap (λ (w : Bool). w && y) (sym h)
 
 reach-is : (c : tie.After-dot) → let args = c .before .before .args in
     toZ w64 (ofZ w64 (c .dot .result)) ≡ value (at (args .d)) (boxCorner (at (args .e .high)) (at (args .e .low)) (at (args .d)))

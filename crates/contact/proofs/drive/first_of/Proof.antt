@@ -1,6 +1,6 @@
 -- `first_of` meets its contract: the last entry in lowest terms, unless the way is apart.
 use borrow.Author.Needs.{needs}
-use mathlib.Core.Path.{_≡_, sym, _∙_, ap, ap₂, subst}
+use mathlib.Core.Path.{_≡_, sym, _∙_, ap, subst}
 use mathlib.Core.List.{[], _∷_}
 use Prim.Native.Nat.{ℕ}
 use native.Mathlib.Omega.{arith}
@@ -16,34 +16,24 @@ use Rattle.polygon.specs.Point.{at}
 use Rattle.motion.specs.Contact.{OnWay, lowest, contact}
 use Rattle.contact.specs.Share.{fraction, exceed}
 use Rattle.motion.specs.theory.Meeting.{first-on-way}
-use Rattle.contact.specs.theory.Arrivals.{walls-on-way, walls-first, walls-apart}
 use Rattle.contact.specs.theory.Sides.{small-place}
 use Rattle.contact.specs.theory.Told.{whole-words, length-bounded, never-told, at-told}
 use Rattle.contact.proofs.drive.first_of.Statement.{statement}
 use Rattle.contact.proofs.drive.first_of.Tie as tie
 
--- the arrival is on the way
-arrived : (c : tie.After-arrivals) → OnWay (fraction (c .arrivals .result .there))
-arrived c = let start = c .before in
-    subst OnWay (sym (c .arrivals .ensures .there-is))
-    (walls-on-way (at (start .args .t)) (at (start .args .u)) (points (start .args .list .now)) (start .pre .0 .shape))
-
 exceed-requires : tie.Need-exceed-requires
-exceed-requires c κs = whole-words _ _ (arrived c) .0
+exceed-requires c κs = whole-words _ _ (c .arrivals .ensures .on-way) .0
 
 -- the way is apart as the test says
 apart-is : (c : tie.After-exceed) → let args = c .before .before .args in
     apart (at (args .t) ∷ at (args .u) ∷ []) (points (args .list .now)) ≡ c .exceed .result
-apart-is c =
-    let start = c .before .before in
-    walls-apart (at (start .args .t)) (at (start .args .u)) (points (start .args .list .now)) (start .pre .0 .shape)
-    ∙ sym (c .exceed .ensures ∙ ap₂ exceed (c .before .arrivals .ensures .there-is) (c .before .arrivals .ensures .back-is))
+apart-is c = c .before .arrivals .ensures .apart-is ∙ sym (c .exceed .ensures)
 
 returns : tie.Need-returns
 returns c = never-told _ _ _ (apart-is (c .before) ∙ c .if1 .taken)
 
 lowest-requires : tie.Need-lowest-requires
-lowest-requires c κs = whole-words _ _ (arrived (c .before .before)) .1
+lowest-requires c κs = whole-words _ _ (c .before .before .arrivals .ensures .on-way) .1
 
 squared-requires : tie.Need-squared-requires
 squared-requires c κs =
@@ -58,10 +48,7 @@ told : (c : tie.After-lowest) → let args = c .before .before .before .before .
     fraction (c .lowest .result) ≡ contact (at (args .t)) (at (args .u)) (points (args .list .now))
 told c =
     let at-else = c .before in
-    let start = at-else .before .before .before in
-    c .lowest .ensures ∙ ap lowest (at-else .before .before .arrivals .ensures .there-is)
-    ∙ walls-first (at (start .args .t)) (at (start .args .u)) (points (start .args .list .now)) (start .pre .0 .shape)
-    (apart-is (at-else .before) ∙ at-else .if1 .left)
+    c .lowest .ensures ∙ at-else .before .before .arrivals .ensures .first-is (apart-is (at-else .before) ∙ at-else .if1 .left)
 
 length-is : (c : tie.After-magnitude) → let args = c .before .before .before .before .before .before .args in
     pos (c .magnitude .result) ≡ squared (at (args .t)) (at (args .u))

@@ -15,7 +15,7 @@ use Rattle.polygon.specs.Point.{at}
 use Rattle.motion.specs.Contact.{edgeNormal, past, entering, later}
 use Rattle.contact.specs.declared.walls.BothWays.{BothWays}
 use Rattle.contact.specs.Share.{Places, Arrived}
-use Rattle.contact.specs.theory.Arrivals.{wall-more}
+use Rattle.contact.specs.theory.Arrivals.{wall-more, all-met, out-met}
 use Rattle.contact.proofs.walls.arrivals.Statement.{statement}
 use Rattle.contact.proofs.walls.arrivals.Tie as tie
 
@@ -66,15 +66,25 @@ to-is : (c : tie.After-edge-past2 Inv-loop μ-loop) → let at-loop = c .before 
     ≡ past (points (args .list .now)) (edgeNormal (points (args .list .now)) (at-loop .loop .i)) (at (args .u))
 to-is c = result-is w64 (c .edge-past2 .ok) (c .edge-past2 .ensures .0)
 
+-- both ends are past one wall
+returns : tie.Need-returns Inv-loop μ-loop
+returns c =
+    let at-past = c .before .before in
+    let at-loop = at-past .before .before .before in
+    let start = at-loop .before .before .before .before in
+    let G = points (start .args .list .now) in
+    out-met (at (start .args .t)) (at (start .args .u)) G (start .pre .0 .shape) (edgeNormal G (at-loop .loop .i))
+    (from-is (at-past .before)) (to-is at-past) (sym (c .before .are-past .ensures) ∙ c .if1 .taken)
+
 entering-requires : tie.Need-entering-requires Inv-loop μ-loop
-entering-requires c κs = (
-  bounded (c .before .edge-past .ok) (c .before .edge-past .ensures .1),
-  bounded (c .edge-past2 .ok) (c .edge-past2 .ensures .1),
-)
+entering-requires c κs =
+    let to = c .before .before in
+    let from = to .before in
+    (bounded (from .edge-past .ok) (from .edge-past .ensures .1), bounded (to .edge-past2 .ok) (to .edge-past2 .ensures .1))
 
 entering-requires-2 : tie.Need-entering-requires-2 Inv-loop μ-loop
 entering-requires-2 c κs =
-    let to = c .before .before in
+    let to = c .before .before .before .before in
     let from = to .before in
     (bounded (to .edge-past2 .ok) (to .edge-past2 .ensures .1), bounded (from .edge-past .ok) (from .edge-past .ensures .1))
 
@@ -84,7 +94,7 @@ loop-less c = omega arith
 loop-again : tie.Need-loop-again Inv-loop μ-loop
 loop-again c =
     let at-later = c .before .before in
-    let at-past = at-later .before .before in
+    let at-past = at-later .before .before .before .before in
     let at-loop = at-past .before .before .before in
     let inv = at-loop .loop .inv in
     let args = at-loop .before .before .before .before .args in
@@ -99,17 +109,19 @@ loop-again c =
       },
     )
 
-returns : tie.Need-returns Inv-loop μ-loop
-returns c =
+returns-2 : tie.Need-returns-2 Inv-loop μ-loop
+returns-2 c =
     let inv = c .before .loop .inv in
-    let args = c .before .before .before .before .before .args in
-    let all : c .before .loop .i ≡ length (points (args .list .now)) = omega (arith, inv .0, inv .1) in
+    let start = c .before .before .before .before .before in
+    let G = points (start .args .list .now) in
+    let all : c .before .loop .i ≡ length G = omega (arith, inv .0, inv .1) in
     let found : BothWays = record { there = c .before .loop .there; back = c .before .loop .back } in
-    subst (λ (i : ℕ). Arrived (at (args .t)) (at (args .u)) (points (args .list .now)) i found) all (inv .2)
+    all-met (at (start .args .t)) (at (start .args .u)) G (start .pre .0 .shape)
+    (subst (λ (i : ℕ). Arrived (at (start .args .t)) (at (start .args .u)) G i found) all (inv .2))
 
 pub arrivals-spec : {M : Type 1} → statement M
 arrivals-spec =
     tie.close
     (tie.spec Inv-loop μ-loop (λ c κs. search needs) (λ c κs. search needs) start-requires-2 loop-holds edge-past-requires
-    edge-past-requires-2 entering-requires (λ c κs. search needs) entering-requires-2 (λ c κs. search needs) (λ c. search needs) loop-less
-    loop-again returns)
+    edge-past-requires-2 (λ c κs. search needs) returns entering-requires (λ c κs. search needs) entering-requires-2
+    (λ c κs. search needs) (λ c. search needs) loop-less loop-again returns-2)
