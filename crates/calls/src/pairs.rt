@@ -7,7 +7,7 @@ ghost use Rattle.plane.specs.Question.{reply, output, askSum, askMerge, askGrow
 ghost use Rattle.plane.specs.Question.{askClearance, askTangents};
 ghost use Rattle.reach.specs.Greatest.{askGreatest};
 ghost use Rattle.excess.specs.Excess.{askExcess};
-ghost use Rattle.contact.specs.Contact.{askContact};
+ghost use Rattle.motion.specs.Contact.{askContact};
 ghost use Rattle.wire.specs.Told.{crossed, numbers};
 ghost use Rattle.crossing.specs.LowFloor.{lowFloor};
 ghost use Rattle.calls.specs.Calls.{SeparatorTold};

@@ -11,7 +11,7 @@ ghost use Rattle.plane.specs.Reply.{answered};
 ghost use Rattle.plane.specs.Question.{reply};
 ghost use Rattle.polygon.specs.Point.{at};
 ghost use Rattle.admission.specs.Admission.{Judged};
-ghost use Rattle.contact.specs.Contact.{askContact, placeRow};
+ghost use Rattle.motion.specs.Contact.{askContact, placeRow};
 ghost use Rattle.contact.specs.Share.{meetingNumbers};
 ghost use Rattle.drives.specs.Drive.{askDrive};
 ghost use Rattle.drives.specs.Search.{foundNumbers};

@@ -13,7 +13,7 @@ use Rattle.polygon.specs.Point.{at}
 use Rattle.polygon.specs.Front.{Front}
 use Rattle.polygon.specs.theory.Fronts.{overwritten-front, front-points, front-length}
 use Rattle.growth.specs.Grown.{grown}
-use Rattle.contact.specs.Contact.{contactNumbers}
+use Rattle.motion.specs.Contact.{contactNumbers}
 use Rattle.contact.specs.theory.Told.{never-told}
 use Rattle.contact.proofs.first.Statement.{statement}
 use Rattle.contact.proofs.first.Tie as tie

@@ -5,7 +5,7 @@ use mir.Facts.{toZ-ofZ}
 use Rattle.plane.specs.Point.{Point, point}
 use Rattle.plane.specs.Floor.{on}
 use Rattle.plane.specs.Question.{reply}
-use Rattle.contact.specs.Contact.{askContact}
+use Rattle.motion.specs.Contact.{askContact}
 use Rattle.drive_questions.proofs.contact.Statement.{statement}
 use Rattle.drive_questions.proofs.contact.Tie as tie
 

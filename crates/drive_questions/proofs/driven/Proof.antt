@@ -15,8 +15,8 @@ use Rattle.admission.specs.theory.Judged.{refuses-append, refuses-join}
 use Rattle.admission.specs.theory.Door.{shapes-refused, rest-refused}
 use Rattle.growth.specs.Grown.{grown}
 use Rattle.passage.specs.theory.Found.{grown-valid}
-use Rattle.contact.specs.Contact.{placeRow, askContact}
-use Rattle.contact.specs.theory.Replies.{contact-answers}
+use Rattle.motion.specs.Contact.{placeRow, askContact}
+use Rattle.motion.specs.theory.Replies.{contact-answers}
 use Rattle.drive_questions.proofs.Places.{in-range}
 use Rattle.drive_questions.proofs.driven.Statement.{statement}
 use Rattle.drive_questions.proofs.driven.Tie as tie

@@ -7,7 +7,7 @@ use Rattle.plane.specs.Limits.{maxFloor}
 use Rattle.plane.specs.Point.{Point, point}
 use Rattle.plane.specs.Floor.{on}
 use Rattle.plane.specs.Question.{reply}
-use Rattle.contact.specs.Contact.{askContact}
+use Rattle.motion.specs.Contact.{askContact}
 use Rattle.crossing.specs.theory.Low.{low-fits, both-low, within-told}
 use Rattle.crossing.specs.theory.High.{above-pair}
 use borrow.Author.Needs.{needs}

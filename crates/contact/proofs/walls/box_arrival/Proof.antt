@@ -3,7 +3,7 @@ use borrow.Author.Needs.{needs}
 use mathlib.Core.Path.{_∙_, ap, ap₂}
 use lib.IntN.{pos}
 use Rattle.plane.specs.Distance.{over}
-use Rattle.contact.specs.Contact.{later}
+use Rattle.motion.specs.Contact.{later}
 use Rattle.contact.proofs.walls.box_arrival.Statement.{statement}
 use Rattle.contact.proofs.walls.box_arrival.Tie as tie
 

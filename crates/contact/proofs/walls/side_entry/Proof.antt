@@ -8,7 +8,7 @@ use Rattle.integer.specs.Machine.{machine, known, machine-fits, machine-is}
 use Rattle.plane.specs.Point.{points}
 use Rattle.polygon.specs.Point.{at}
 use Rattle.polygon.specs.theory.Small.{small-wide}
-use Rattle.contact.specs.Contact.{past, entering}
+use Rattle.motion.specs.Contact.{past, entering}
 use Rattle.contact.specs.theory.Sides.{small-place, small-side, side-value, side-support, side-past}
 use Rattle.contact.proofs.walls.side_entry.Statement.{statement}
 use Rattle.contact.proofs.walls.side_entry.Tie as tie
