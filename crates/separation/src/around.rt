@@ -33,7 +33,8 @@ pub struct Sides {
     pub second: usize,
 }
 
-// How the shapes relate, by what the pass saw: apart if the origin is outside, touching if on the rim, else overlapping.
+// How the shapes relate, by what the pass saw: apart if the origin is outside, touching if on the rim, else
+// overlapping.
 pub fn related(a: &[i32], b: &[i32], top: usize, sides: Sides) -> Relation
     requires { ⌜ Valid (now a) × Valid (now b) × Peak (points (now b)) top
         × Passed (vectorSum (points (now a)) (points (image (now b)))) sides ⌝ }

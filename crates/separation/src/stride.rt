@@ -1,5 +1,5 @@
-// Inner functions: the walk round the differences of two shapes as long as both have three edges left, or the first is a
-// point and the second has, and the origin is strictly to the left of each edge. No step tests for the end of both
+// Inner functions: the walk round the differences of two shapes as long as both have three edges left, or the first is
+// a point and the second has, and the origin is strictly to the left of each edge. No step tests for the end of both
 // shapes, and the turn is taken by the passed edge: that is quicker.
 ghost use mathlib.Core.Path.{_≡_};
 ghost use Prim.Native.Nat.{_^_};
