@@ -52,7 +52,8 @@ answers : (c : tie.After-between) {vs : List ℤ} → let start = c .before .bef
     → answered (vs ++ (pos (start .args .f) ∷ [])) ≡ reply (askClearance (one start) (other start))
 answers c e =
     let start = c .before .before .before .before in
-    all-answered (askClearance (one start) (other start)) (shapes (c .before)) tt (ap (λ (vs : List ℤ). vs ++ (pos (start .args .f) ∷ [])) e)
+    all-answered (askClearance (one start) (other start)) (shapes (c .before)) tt
+    (ap (λ (vs : List ℤ). vs ++ (pos (start .args .f) ∷ [])) e)
 
 returns-2 : tie.Need-returns-2
 returns-2 c = let at-between = c .before .before in

@@ -123,7 +123,8 @@ returns c =
     let at-loop = at-next .before .before .before in
     let pre = at-loop .before .before .before .before .before .before .pre in
     let over = all-passed _ _ _ _ (at-next .before .next .ensures .1 .at-in) (at-next .next2 .ensures .1 .at-in)
-    (c .if1 .taken ∙ image-sides (at-loop .before .before .before .before .before .side-at .ensures .1) (at-loop .before .before .before .before .side-at2 .ensures .1)) in
+    (c .if1 .taken ∙ image-sides (at-loop .before .before .before .before .before .side-at .ensures .1)
+    (at-loop .before .before .before .before .side-at2 .ensures .1)) in
     leads-done (pre .0) (pre .1) (pre .2) (at-loop .loop .inv .0) (ap (λ (w : Walk). w .over) (sym (advances at-next)) ∙ over)
 
 pair-requires-2 : tie.Need-pair-requires-2 Inv-loop μ-loop
@@ -146,7 +147,8 @@ loop-less c =
     let F = edges (points (image (args .b .now))) in
     edges-less E F _ _ (first-step at-next) (second-step at-next) (λ h k. at-else .if1 .left (omega (
       arith,
-      image-sides (at-loop .before .before .before .before .before .side-at .ensures .1) (at-loop .before .before .before .before .side-at2 .ensures .1),
+      image-sides (at-loop .before .before .before .before .before .side-at .ensures .1)
+          (at-loop .before .before .before .before .side-at2 .ensures .1),
       first-step at-next ∙ passed-ended E _ F _ h,
       second-step at-next ∙ passed-ended F _ E _ k,
       inv .1 .at-in,
@@ -161,7 +163,9 @@ loop-again c =
     let start = at-loop .before .before .before .before .before .before in
     let m = at-next .before .next .result in
     let n = at-next .next2 .result in
-    let on = some-left _ _ (m .at) (n .at) (λ e. at-else .if1 .left (e ∙ sym (image-sides (at-loop .before .before .before .before .before .side-at .ensures .1) (at-loop .before .before .before .before .side-at2 .ensures .1)))) in (
+    let on = some-left _ _ (m .at) (n .at) (λ e. at-else .if1 .left (e ∙ sym (
+    image-sides (at-loop .before .before .before .before .before .side-at .ensures .1)
+    (at-loop .before .before .before .before .side-at2 .ensures .1)))) in (
       leads-next (start .pre .0) (start .pre .1) (start .pre .2) (at-loop .loop .inv .0) (steps at-next false) refl
           (ap (walkOf m n) (sym on) ∙ advances at-next) (c .before .pair2 .ensures) (c .better .ensures),
       at-next .before .next .ensures .1,

@@ -267,7 +267,8 @@ returns-3 c =
     let at-first = at-loop .before in
     let is = c .seen3 .ensures in
     let over = all-passed _ _ _ _ (at-next .before .next .ensures .1 .at-in) (at-next .next2 .ensures .1 .at-in)
-    (c .before .if3 .taken ∙ image-sides (at-first .before .before .before .before .side-at .ensures .1) (at-first .before .before .before .side-at2 .ensures .1)) in (
+    (c .before .if3 .taken ∙ image-sides (at-first .before .before .before .before .side-at .ensures .1)
+    (at-first .before .before .before .side-at2 .ensures .1)) in (
       subst (Small 4194304) (sym (is .1)) (small-wide (here-near (placed (start at-loop)) (first-here at-first))),
       record {
         found-is = λ h. absurd (false≢true (sym (is .0) ∙ h));
@@ -288,7 +289,8 @@ loop-less c =
     let F = edges (points (image (args .b .now))) in
     edges-less E F _ _ (first-step at-next) (second-step at-next) (λ h k. c .if3 .left (omega (
       arith,
-      image-sides (at-loop .before .before .before .before .before .side-at .ensures .1) (at-loop .before .before .before .before .side-at2 .ensures .1),
+      image-sides (at-loop .before .before .before .before .before .side-at .ensures .1)
+          (at-loop .before .before .before .before .side-at2 .ensures .1),
       first-step at-next ∙ passed-ended E _ F _ h,
       second-step at-next ∙ passed-ended F _ E _ k,
       inv .1 .at-in,
@@ -303,7 +305,8 @@ loop-again c =
     let at-loop = at-next .before .before .before in
     let args = start at-loop .args in
     let on = some-left _ _ (at-next .before .next .result .at) (at-next .next2 .result .at)
-    (λ e. c .if3 .left (e ∙ sym (image-sides (at-loop .before .before .before .before .before .side-at .ensures .1) (at-loop .before .before .before .before .side-at2 .ensures .1)))) in (
+    (λ e. c .if3 .left (e ∙ sym (image-sides (at-loop .before .before .before .before .before .side-at .ensures .1)
+    (at-loop .before .before .before .before .side-at2 .ensures .1)))) in (
       λ k below moved. subst (λ (o : Bool). Looking (args .a .now) (image (args .b .now)) k
           (walkOf (at-next .before .next .result) (at-next .next2 .result) o) (at (at-here .before .here2 .result))) on
           (looking-more (at-loop .loop .inv .0 k below moved) refl (advances at-next) (leaves at-here) (arrives at-here _)

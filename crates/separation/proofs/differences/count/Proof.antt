@@ -97,7 +97,8 @@ returns c =
     let start = at-loop .before .before .before .before .before in
     walked-over (at-loop .loop .inv) (result-is w64 (at-next .before .before .order .ok) (at-next .before .before .order .ensures)) _ _
     (at-next .before .next .ensures .0) (at-next .next2 .ensures .0) (at-next .before .next .ensures .1) (at-next .next2 .ensures .1)
-    (c .if1 .taken ∙ image-sides (at-loop .before .before .before .before .side-at .ensures .1) (at-loop .before .before .before .side-at2 .ensures .1)) .counted
+    (c .if1 .taken ∙ image-sides (at-loop .before .before .before .before .side-at .ensures .1)
+    (at-loop .before .before .before .side-at2 .ensures .1)) .counted
     ∙ ap length (image-all _ _ (start .pre .0) (start .pre .1) (most (start .args .a .now) (start .args .b .now)) (omega arith))
 
 loop-less : tie.Need-loop-less Inv-loop μ-loop
@@ -111,7 +112,8 @@ loop-again c =
     let at-loop = at-next .before .before .before in
     walked-more (at-loop .loop .inv) (result-is w64 (at-next .before .before .order .ok) (at-next .before .before .order .ensures)) _ _
     (at-next .before .next .ensures .0) (at-next .next2 .ensures .0) (at-next .before .next .ensures .1) (at-next .next2 .ensures .1)
-    (λ e. c .if1 .left (e ∙ sym (image-sides (at-loop .before .before .before .before .side-at .ensures .1) (at-loop .before .before .before .side-at2 .ensures .1)))) (λ e. omega (arith, below at-loop))
+    (λ e. c .if1 .left (e ∙ sym (image-sides (at-loop .before .before .before .before .side-at .ensures .1)
+    (at-loop .before .before .before .side-at2 .ensures .1)))) (λ e. omega (arith, below at-loop))
 
 pub count-spec : {M : Type 1} → statement M
 count-spec =

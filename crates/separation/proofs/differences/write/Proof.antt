@@ -151,7 +151,8 @@ returns c =
     let end = walked-over (written at-loop .walked)
     (result-is w64 (at-next .before .before .order .ok) (at-next .before .before .order .ensures)) m n
     (at-next .before .next .ensures .0) (at-next .next2 .ensures .0) (at-next .before .next .ensures .1) (at-next .next2 .ensures .1)
-    (c .if1 .taken ∙ image-sides (at-loop .before .before .before .before .before .before .before .before .before .side-at .ensures .1) (at-loop .before .before .before .before .before .before .before .before .side-at2 .ensures .1)) in
+    (c .if1 .taken ∙ image-sides (at-loop .before .before .before .before .before .before .before .before .before .side-at .ensures .1)
+    (at-loop .before .before .before .before .before .before .before .before .side-at2 .ensures .1)) in
     let went = progress-done (written at-loop) (at-put .before .here .ensures) (at-put .put .ensures) end
     (record { count = at-loop .loop .count + 1; first = m .at; second = n .at; over = true }) refl refl in
     let all-next = image-all _ _ (start .pre .0) (start .pre .1) (enough (start .args .a .now) (start .args .b .now)) (omega arith) in
@@ -171,7 +172,9 @@ loop-again c = λ old p.
     progress-more inv (at-put .before .here .ensures) (at-put .put .ensures)
     (walked-more (inv .walked) (result-is w64 (at-next .before .before .order .ok) (at-next .before .before .order .ensures)) _ _
     (at-next .before .next .ensures .0) (at-next .next2 .ensures .0) (at-next .before .next .ensures .1) (at-next .next2 .ensures .1)
-    (λ e. c .if1 .left (e ∙ sym (image-sides (at-loop .before .before .before .before .before .before .before .before .before .side-at .ensures .1) (at-loop .before .before .before .before .before .before .before .before .side-at2 .ensures .1))))
+    (λ e. c .if1 .left (e ∙ sym (
+    image-sides (at-loop .before .before .before .before .before .before .before .before .before .side-at .ensures .1)
+    (at-loop .before .before .before .before .before .before .before .before .side-at2 .ensures .1))))
     (λ e. omega (arith, below at-loop)))
 
 pub write-spec : {M : Type 1} → statement M

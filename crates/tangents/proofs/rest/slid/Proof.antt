@@ -1,4 +1,5 @@
--- `slid` meets its contract. The invariant: the walk is where it began, or came to a corner that draws; the measure: how many corners draw away from it.
+-- `slid` meets its contract. The invariant: the walk is where it began, or came to a corner that draws; the measure: how many corners draw
+-- away from it.
 use mathlib.Core.Path.{_≡_, refl, sym, _∙_, subst}
 use mathlib.Core.Bool.{true}
 use Prim.Native.Nat.{ℕ, _<_}
