@@ -33,12 +33,12 @@ returns : tie.Need-returns
 returns c = (clear (c .before), c .found .ensures)
 
 returns-2 : tie.Need-returns-2
-returns-2 c =
-    related-not-apart _ _ {n = 1} (omega arith) (ap numberOf (sym (c .enum-told2 .given .1)) ∙ c .before .before .related .ensures)
+returns-2 c = related-not-apart _ _ {n = 1} (omega arith)
+    (ap numberOf (sym (c .enum-told2 .given .1)) ∙ c .before .before .related .ensures)
 
 returns-3 : tie.Need-returns-3
-returns-3 c =
-    related-not-apart _ _ {n = 2} (omega arith) (ap numberOf (sym (c .enum-told3 .given .1)) ∙ c .before .before .related .ensures)
+returns-3 c = related-not-apart _ _ {n = 2} (omega arith)
+    (ap numberOf (sym (c .enum-told3 .given .1)) ∙ c .before .before .related .ensures)
 
 pub between-spec : {M : Type 1} → statement M
 between-spec =

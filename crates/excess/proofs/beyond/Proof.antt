@@ -83,8 +83,8 @@ returns-3 c =
     let at-spacing = at-found .before .before in
     let at-else = at-spacing .before .before .before in
     c .rounded .ensures ∙ ap (λ (k : ℕ). upNumbers k (at-found .found .given .0 .0)) (at-spacing .before .before .outermost .ensures)
-    ∙ found-up (points (at-else .before .before .args .new .now)) _ (at-else .before .before .pre .1 .shape) (clear (at-spacing .before))
-    (at-found .found .given .0 .0)
+    ∙ found-up (points (at-else .before .before .args .new .now)) _ (at-else .before .before .pre .1 .shape)
+    (clear (at-spacing .before)) (at-found .found .given .0 .0)
     (known at-spacing (at-found .found .given .1) .1)
     ∙ told _ _ (sym (at-else .before .inside .ensures) ∙ at-else .if1 .left)
 

@@ -163,8 +163,8 @@ loop-again c =
     let start = at-loop .before .before .before .before .before .before in
     let m = at-next .before .next .result in
     let n = at-next .next2 .result in
-    let on = some-left _ _ (m .at) (n .at) (λ e. at-else .if1 .left
-    (e ∙ sym (image-sides (at-loop .before .before .before .before .before .side-at .ensures .1)
+    let on = some-left _ _ (m .at) (n .at) (λ e. at-else .if1 .left (e ∙ sym (
+    image-sides (at-loop .before .before .before .before .before .side-at .ensures .1)
     (at-loop .before .before .before .before .side-at2 .ensures .1)))) in (
       leads-next (start .pre .0) (start .pre .1) (start .pre .2) (at-loop .loop .inv .0) (steps at-next false) refl
           (ap (walkOf m n) (sym on) ∙ advances at-next) (c .before .pair2 .ensures) (c .better .ensures),

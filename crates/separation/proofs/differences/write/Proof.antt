@@ -172,8 +172,9 @@ loop-again c = λ old p.
     progress-more inv (at-put .before .here .ensures) (at-put .put .ensures)
     (walked-more (inv .walked) (result-is w64 (at-next .before .before .order .ok) (at-next .before .before .order .ensures)) _ _
     (at-next .before .next .ensures .0) (at-next .next2 .ensures .0) (at-next .before .next .ensures .1) (at-next .next2 .ensures .1)
-    (λ e. c .if1 .left (e ∙ sym (image-sides (at-loop .before .before .before .before .before .before .before .before .before .side-at
-    .ensures .1) (at-loop .before .before .before .before .before .before .before .before .side-at2 .ensures .1))))
+    (λ e. c .if1 .left (e ∙ sym (
+    image-sides (at-loop .before .before .before .before .before .before .before .before .before .side-at .ensures .1)
+    (at-loop .before .before .before .before .before .before .before .before .side-at2 .ensures .1))))
     (λ e. omega (arith, below at-loop)))
 
 pub write-spec : {M : Type 1} → statement M

@@ -212,6 +212,5 @@ pub stride-spec : {M : Type 1} → statement M
 stride-spec =
     tie.close
     (tie.spec Inv-loop μ-loop side-at-requires side-at-requires-2 alone-requires are-inside-requires returns loop-holds here-requires
-    order-requires
-    moment-requires returns-2 ahead-requires moment-requires-2 returns-3 ahead-requires-2 joint-moment-requires returns-4
+    order-requires moment-requires returns-2 ahead-requires moment-requires-2 returns-3 ahead-requires-2 joint-moment-requires returns-4
     ahead-requires-3 ahead-requires-4 add-joined are-inside-requires-2 returns-5 loop-less loop-again)

@@ -12,8 +12,7 @@ returns : tie.Need-returns
 returns c =
     let args = c .before .before .args in (
       c .next .ensures .1,
-      subst (λ (b : Bool). Beside b (args .n) (args .i) (c .next .result)) (sym (c .before .if1 .taken))
-          (c .next .ensures .0),
+      subst (λ (b : Bool). Beside b (args .n) (args .i) (c .next .result)) (sym (c .before .if1 .taken)) (c .next .ensures .0),
     )
 
 previous-requires : tie.Need-previous-requires
@@ -23,8 +22,7 @@ returns-2 : tie.Need-returns-2
 returns-2 c =
     let args = c .before .before .args in (
       c .previous .ensures .0,
-      subst (λ (b : Bool). Beside b (args .n) (args .i) (c .previous .result)) (sym (c .before .if1 .left))
-          (c .previous .ensures .1),
+      subst (λ (b : Bool). Beside b (args .n) (args .i) (c .previous .result)) (sym (c .before .if1 .left)) (c .previous .ensures .1),
     )
 
 pub beside-spec : {M : Type 1} → statement M
