@@ -20,8 +20,10 @@ use ring::places;
 use ring::standard;
 use ring::turns;
 
-// The numbers of few points: a small buffer takes less time to clear.
-const FEW_NUMBERS: usize = 256;
+// Few points, and their numbers: a small buffer takes less time to clear.
+const FEW_POINTS: usize = 128;
+
+const FEW_NUMBERS: usize = 2 * FEW_POINTS;
 
 // Writes the standard list with the corners of a ring at the front of the output, and answers how many they are. The
 // ring may be closed by its first point or open, in either sense, begun anywhere, with neighbours repeated and with
@@ -81,9 +83,32 @@ fn traced(list: &[i32], n: usize, start: usize, floor: u16, out: &mut [i32]) -> 
     ensures { λ r. ⌜ (ofAnswer r ≡ reply (askRing (on (now (list .entry)) floor) (now (out .entry))))
         × (now (out .exit) ≡ output (askRing (on (now (list .entry)) floor) (now (out .entry)))) ⌝ }
 {
+    if n <= FEW_POINTS {
+        let mut few = [0usize; FEW_POINTS];
+        let mut corners = [0usize; FEW_POINTS];
+        return traced_in(list, n, start, floor, &mut few, &mut corners, out);
+    }
     let mut kept = [0usize; limits::MAX_POINTS];
     let mut bent = [0usize; limits::MAX_POINTS];
-    let m = ring::trace(list, n, start, &mut kept, &mut bent);
+    traced_in(list, n, start, floor, &mut kept, &mut bent, out)
+}
+
+// The same in lent buffers.
+fn traced_in(
+    list: &[i32],
+    n: usize,
+    start: usize,
+    floor: u16,
+    kept: &mut [usize],
+    bent: &mut [usize],
+    out: &mut [i32],
+) -> Answer
+    requires { ⌜ ValidRing (now list) × Started (points (now list)) n start × (n ≤ length (now kept))
+        × (n ≤ length (now bent)) ⌝ }
+    ensures { λ r. ⌜ (ofAnswer r ≡ reply (askRing (on (now (list .entry)) floor) (now (out .entry))))
+        × (now (out .exit) ≡ output (askRing (on (now (list .entry)) floor) (now (out .entry)))) ⌝ }
+{
+    let m = ring::trace(list, n, start, kept, bent);
     told(list, floor, &bent[..m], out)
 }
 

@@ -1,27 +1,20 @@
--- `traced` meets its contract: the positions of the corners are found, and then told.
-use mathlib.Core.Path.{sym, _∙_, ap}
+-- `traced` meets its contract: the buffers hold the positions of all points.
 use native.Mathlib.Omega.{arith}
 use borrow.Author.Needs.{needs}
-use lib.ListN.{length}
 use Rattle.plane.specs.Limits.{maxPoints}
 use Rattle.questions.proofs.rings.traced.Statement.{statement}
 use Rattle.questions.proofs.rings.traced.Tie as tie
 
-trace-requires : tie.Need-trace-requires
+traced-in-requires-2 : tie.Need-traced-in-requires-2
 unfolding maxPoints
-trace-requires c κs =
-    let pre = c .before .before .pre in
-    let v = pre .0 in
+traced-in-requires-2 c κs =
+    let pre = c .before .before .before .before .pre in
+    let few = pre .0 .few in
     let all = pre .1 .all in
-    (v .inRange, v .some, pre .1, omega (arith, all, v .few), omega (arith, all, v .few))
-
-slice-aggregate-told : tie.Need-slice-aggregate-told
-slice-aggregate-told c =
-    let held = c .before .before .before .trace .ensures in
-    held .counted ∙ ap length (sym (held .front))
+    (pre .0, pre .1, omega arith, omega arith)
 
 pub traced-spec : {M : Type 1} → statement M
 traced-spec =
     tie.close
-    (tie.spec (λ c. search needs) (λ c. search needs) trace-requires (λ c. search needs) slice-aggregate-told (λ c κs. search needs)
-    (λ c. search needs) (λ c. search needs))
+    (tie.spec (λ c. search needs) (λ c. search needs) (λ c κs. search needs) (λ c. search needs) (λ c. search needs) (λ c. search needs)
+    (λ c. search needs) traced-in-requires-2 (λ c. search needs) (λ c. search needs))
