@@ -1,5 +1,6 @@
 -- `told` meets its contract: a corner that turns in is 4, too little room is 8, and else the corners are written.
-use mathlib.Core.Path.{sym, _∙_, ap, subst}
+use mathlib.Core.Path.{_≡_, sym, _∙_, ap, subst}
+use mathlib.Core.Bool.{false}
 use mathlib.Core.List.{List, [], _∷_, map}
 use Prim.Native.Nat.{ℕ, _*_, _≤_, _<_}
 use borrow.Author.Needs.{needs}
@@ -12,10 +13,10 @@ use Rattle.plane.specs.Floor.{on}
 use Rattle.plane.specs.Question.{Question}
 use Rattle.admission.specs.Admission.{Refuses}
 use Rattle.admission.specs.theory.Door.{rest-refused, all-written}
-use Rattle.ring.specs.Ring.{previous, ringCorners, firstInward, ringRows, askRing}
+use Rattle.ring.specs.Ring.{previous, ringCorners, firstInward, inwardRow, ringRows, askRing}
 use Rattle.ring.specs.Places.{Placed}
 use Rattle.ring.specs.theory.Under.{under-at, corners-under}
-use Rattle.ring.specs.theory.Answers.{inward-refuses, room-refuses, ring-passes}
+use Rattle.ring.specs.theory.Answers.{none-inward, inward-refuses, room-refuses, ring-passes}
 use Rattle.shape_questions.proofs.rings.told.Statement.{statement}
 use Rattle.shape_questions.proofs.rings.told.Tie as tie
 
@@ -58,17 +59,17 @@ returns c =
     (inward-refuses (start .args .list .now) (start .args .out .now) (start .pre .0) inside))
 
 -- past the first test no corner turns in
-convex : (c : tie.Else1) → let start = c .before .before .before in
-    length (ringCorners (ps start)) ≤ firstInward (ps start) (ringCorners (ps start))
-convex c =
+quiet : (c : tie.Else1) → inwardRow (ps (c .before .before .before)) .applies ≡ false
+quiet c =
     let start = c .before .before .before in
-    subst (λ (xs : List ℕ). length xs ≤ firstInward (ps start) xs) (start .pre .1)
-    (subst (λ (k : ℕ). length (start .args .places .now) ≤ k) (c .before .find .ensures) (c .if1 .left))
+    none-inward (start .args .list .now) (start .args .out .now) (start .pre .0)
+    (subst (λ (xs : List ℕ). length xs ≤ firstInward (ps start) xs) (start .pre .1)
+    (subst (λ (k : ℕ). length (start .args .places .now) ≤ k) (c .before .find .ensures) (c .if1 .left)))
 
 returns-2 : tie.Need-returns-2
 returns-2 c =
     let start = c .before .before .before .before in
-    rest-refused (asked start) tt (room-refuses (start .args .list .now) (start .args .out .now) (start .pre .0) (convex (c .before))
+    rest-refused (asked start) tt (room-refuses (start .args .list .now) (start .args .out .now) (start .pre .0) (quiet (c .before))
     (subst (λ (xs : List ℕ). length (start .args .out .now) < 2 * length xs) (start .pre .1) (c .if2 .taken)))
 
 write-requires : tie.Need-write-requires
@@ -83,7 +84,7 @@ returns-3 c =
     let e = start .pre .1 in
     let room = subst (λ (xs : List ℕ). 2 * length xs ≤ length (start .args .out .now)) e (at-room .if2 .left) in
     all-written (asked start) tt
-    (ring-passes (start .args .list .now) (start .args .out .now) (start .pre .0) (convex (at-room .before)) room)
+    (ring-passes (start .args .list .now) (start .args .out .now) (start .pre .0) (quiet (at-room .before)) room)
     (ap (λ (n : ℕ). pos n ∷ pos (start .args .floor) ∷ []) (ap length e ∙ sym (length-map (ringCorners (ps start)) f)))
     (at-write .write .ensures ∙ ap (λ (xs : List ℕ). overwritten (numbers (map f xs)) (start .args .out .now)) e)
 
