@@ -11,7 +11,6 @@ ghost use Rattle.polygon.specs.Extent.{Extends};
 ghost use Rattle.polygon.specs.Point.{at, Small};
 ghost use Rattle.growth.specs.Grown.{grown};
 ghost use Rattle.contact.specs.Share.{Places, isBeside, isPast, boxCorner, boxPart};
-use polygon::extent;
 use polygon::extent::Extent;
 use polygon::point;
 use polygon::point::Point;
@@ -48,8 +47,8 @@ fn grown_extent(obstacle: &[i32], cart: &[i32]) -> Extent
     ensures { λ r. ⌜ Extends (grown (points (now (obstacle .entry))) (points (now (cart .entry)))) r ⌝ }
     ensures { λ r. ⌜ Small (2 ^ 22) (at (r .high)) × Small (2 ^ 22) (at (r .low)) ⌝ }
 {
-    let e = extent::extent_of(obstacle);
-    let f = extent::extent_of(cart);
+    let e = sums::extent::extent_of(obstacle);
+    let f = sums::extent::extent_of(cart);
     Extent {
         high: point::step(point::opposite(f.low), e.high),
         low: point::step(point::opposite(f.high), e.low),

@@ -1,6 +1,5 @@
 -- `grown_extent` meets its contract: supports add, and a step from an opposite is a sum.
 use Prim.Native.Nat.{_^_}
-use borrow.Author.Needs.{needs}
 use Rattle.plane.specs.Point.{opposite}
 use Rattle.polygon.specs.Point.{at, Small}
 use Rattle.polygon.specs.theory.Extents.{extends-small}
@@ -51,4 +50,4 @@ returns c =
 pub grown-extent-spec : {M : Type 1} → statement M
 grown-extent-spec =
     tie.close
-    (tie.spec (λ c κs. search needs) (λ c κs. search needs) opposite-requires step-requires opposite-requires-2 step-requires-2 returns)
+    (tie.spec (λ c κs. c .pre .0) (λ c κs. c .before .pre .1) opposite-requires step-requires opposite-requires-2 step-requires-2 returns)

@@ -1,6 +1,5 @@
 -- `is_far` meets its contract: supports add, and the image reaches as far as the shape, the other way round.
 use mathlib.Core.Path.{_∙_}
-use borrow.Author.Needs.{needs}
 use Rattle.plane.specs.Point.{points}
 use Rattle.plane.specs.Corner.{mirrored}
 use Rattle.plane.specs.theory.lists.Members.{mirrored-some}
@@ -27,4 +26,4 @@ returns c =
     (c .before .extent-of2 .ensures) (image-extends B (at-second .extent-of .ensures))
 
 pub is-far-spec : {M : Type 1} → statement M
-is-far-spec = tie.close (tie.spec (λ c κs. search needs) (λ c κs. search needs) is-far-requires returns)
+is-far-spec = tie.close (tie.spec (λ c κs. c .pre .1) (λ c κs. c .before .before .before .pre .0) is-far-requires returns)
