@@ -51,7 +51,7 @@ pub fn count_on(a: &[i32], b: &[i32], i: usize, j: usize, k: usize) -> usize
     requires { ⌜ At (now a) (now b) (state i j false) × (0 < k) ⌝ }
     ensures { λ r. ⌜ r ≡ length (nextCorners (now (a .entry)) (now (b .entry)) (state i j false) k) ⌝ }
 {
-    let far = skim(a, b, i, j, k);
+    let far = begin(a, b, i, j, k);
     let mut s = side::side_at(a, far.first);
     let mut t = side::side_at(b, far.second);
     let all = s.end + t.end;
@@ -75,6 +75,28 @@ struct Tally {
     count: usize,
     first: usize,
     second: usize,
+}
+
+// Counts ahead where the shapes have corners in like numbers. Where one has few, a branch on the order of edges can be
+// predicted, and the count of sides is quicker.
+fn begin(a: &[i32], b: &[i32], i: usize, j: usize, k: usize) -> Tally
+    requires { ⌜ At (now a) (now b) (state i j false) × (0 < k) ⌝ }
+    ensures { λ r. ⌜ Walked (now (a .entry)) (now (b .entry)) (state i j false) k (r .count)
+        (sideOf (now (a .entry)) (r .first)) (sideOf (now (b .entry)) (r .second)) ⌝ }
+{
+    if are_alike(corners::count(a), corners::count(b)) {
+        return skim(a, b, i, j, k);
+    }
+    Tally {
+        count: 0,
+        first: i,
+        second: j,
+    }
+}
+
+// Returns whether neither number is more than four times the other.
+fn are_alike(m: usize, n: usize) -> bool {
+    m / 4 <= n && n / 4 <= m
 }
 
 // Counts as long as both shapes have three edges left and more than one corner may be counted. Both edges are read at

@@ -37,18 +37,18 @@ add-all c =
     omega (arith, all c, edges-sum (start .args .a .now) (start .args .b .now) (omega (arith, sizes .0)) (omega (arith, sizes .1 .0)))
 
 side-at-requires : tie.Need-side-at-requires Inv-loop μ-loop
-side-at-requires c κs = let p = c .before .pre .0 in (c .skim .ensures .first-side .at-in, p .first-near, p .first-shape .some)
+side-at-requires c κs = let p = c .before .pre .0 in (c .begin .ensures .first-side .at-in, p .first-near, p .first-shape .some)
 
 side-at-requires-2 : tie.Need-side-at-requires-2 Inv-loop μ-loop
 side-at-requires-2 c κs =
-    let p = c .before .before .pre .0 in (c .before .skim .ensures .second-side .at-in, p .second-near, p .second-shape .some)
+    let p = c .before .before .pre .0 in (c .before .begin .ensures .second-side .at-in, p .second-near, p .second-shape .some)
 
 loop-holds : tie.Need-loop-holds Inv-loop μ-loop
 loop-holds c =
     let at-second = c .before .before in
     let first = at-second .before .side-at .ensures in
     let second = at-second .side-at2 .ensures in
-    walked-with (at-second .before .before .skim .ensures) _ _ (first .0) (second .0) (first .1) (second .1)
+    walked-with (at-second .before .before .begin .ensures) _ _ (first .0) (second .0) (first .1) (second .1)
 
 add-count : tie.Need-add-count Inv-loop μ-loop
 add-count c =
