@@ -45,21 +45,11 @@ pub fn between(a: &[i32], b: &[i32]) -> Spacing
     }
 }
 
-// Where two shapes that are apart are nearest, and how near.
+// Where two shapes that are apart are nearest, and how near: the first of the least candidates. A walk round their
+// differences finds the direction, which leaves one or two corners of each shape; of these the first that are reached.
+// The walk begins where i edges of the first shape and j of the mirror image of the second are passed, whose peak is at
+// position top.
 // Ruled out: only one edge of a parallel pair tried; rounded up.
-pub fn nearest(a: &[i32], b: &[i32]) -> Distance
-    requires { ⌜ Valid (now a) × Valid (now b) × (apart (points (now a)) (points (now b)) ≡ true) ⌝ }
-    ensures { λ r. ⌜ valuesOf r ≡ numbersOf (points (now (a .entry))) (points (now (b .entry)))
-        (Clearance·nearest (points (now (a .entry))) (points (now (b .entry)))) ⌝ }
-{
-    let top = peak::top(b);
-    let sides = around::pass(a, b, top);
-    found(a, b, top, sides.first, sides.second)
-}
-
-// The same: the first of the least candidates. A walk round their differences finds the direction, which leaves one or
-// two corners of each shape; of these the first that are reached. The walk begins where i edges of the first shape and
-// j of the mirror image of the second are passed, whose peak is at position top.
 fn found(a: &[i32], b: &[i32], top: usize, i: usize, j: usize) -> Distance
     requires { ⌜ Valid (now a) × Valid (now b) × (apart (points (now a)) (points (now b)) ≡ true)
         × Peak (points (now b)) top × Stood (now a) (image (now b)) i j ⌝ }

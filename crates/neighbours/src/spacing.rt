@@ -11,7 +11,6 @@ ghost use Rattle.extents.specs.Far.{Bounded};
 use clearance::measured::Distance;
 use polygon::extent;
 use polygon::extent::Extent;
-use separation::answer::Relation;
 
 // Shapes that have a point in common; or shapes that are apart, with the place where they are nearest.
 pub enum Spacing {
@@ -30,10 +29,9 @@ pub fn between(a: &[i32], b: &[i32]) -> Spacing
     requires { ⌜ Valid (now a) × Valid (now b) ⌝ }
     ensures { λ r. ⌜ spacingNumbers r ≡ clearanceNumbers (points (now (a .entry))) (points (now (b .entry))) ⌝ }
 {
-    match separation::relation(a, b) {
-        Relation::Apart => Spacing::Apart(clearance::nearest(a, b)),
-        Relation::Touching => Spacing::Meets,
-        Relation::Overlapping => Spacing::Meets,
+    match clearance::between(a, b) {
+        clearance::Spacing::Meets => Spacing::Meets,
+        clearance::Spacing::Apart(distance) => Spacing::Apart(distance),
     }
 }
 

@@ -112,7 +112,7 @@ pub fn grow(obstacle: &[i32], f: u16, cart: &[i32], g: u16, out: &mut [i32]) -> 
 // point, and segments of which one ends on the other; segments that cross overlap. A point or a segment that meets a
 // polygon touches it if it meets the rim only, and overlaps it otherwise. A polygon overlaps itself and every polygon
 // that is inside it. Refused: 1 to 5 of the first shape, then of the second; different floors.
-// Ruled out: touching read as apart; less or equal for less; segments in line by normals only.
+// Ruled out: touching read as apart; segments in line by normals only.
 pub fn relation(a: &[i32], f: u16, b: &[i32], g: u16) -> Relation
     ensures { λ r. ⌜ ofRelation r ≡ reply (askRelation (on (now (a .entry)) f) (on (now (b .entry)) g)) ⌝ }
 {

@@ -12,7 +12,7 @@ use Rattle.plane.specs.Floor.{on}
 use Rattle.plane.specs.Output.{overwritten}
 use Rattle.plane.specs.Question.{Question}
 use Rattle.plane.specs.theory.lists.Flat.{points-numbers, numbers-length}
-use Rattle.admission.specs.theory.Delivery.{copied}
+use Rattle.delivery.specs.theory.Delivery.{copied}
 use Rattle.admission.specs.theory.Door.{rest-refused, all-written}
 use Rattle.ring.specs.Ring.{ringShape, inwardRow, askRing}
 use Rattle.ring.specs.theory.Outline.{shape→quiet}
