@@ -37,6 +37,15 @@ pub fn drawn(random: &mut Random, n: usize, outline: Outline) -> Case {
     case
 }
 
+/// The same with half of the corners, each of them twice, so that a ring has as many points.
+pub fn drawn_twice(random: &mut Random, n: usize, outline: Outline) -> Case {
+    let mut case = drawn(random, n / 2, outline);
+    let points = case.a.as_chunks::<2>().0;
+    let twice = points[1..].iter().flat_map(|p| [*p, *p]);
+    case.a = twice.flatten().collect();
+    case
+}
+
 /// Two shapes that overlap, the second with 4 corners less; neither is inside the other if they are in general
 /// position.
 pub fn crossing(random: &mut Random, n: usize, outline: Outline) -> Case {

@@ -1,8 +1,8 @@
 //! The rows of the tables: a question, and cases for which it does its work.
 use crate::pairs::{
-    Make, alike, apart, beside_cart, crossing, drawn, driving_in, driving_past, far, kept, large,
-    merged, moved_away, nested, passing, scattered, shuffled, single, stocked, stocked_for_cart,
-    stocked_for_drive, stuck, summed, twice, under_cart,
+    Make, alike, apart, beside_cart, crossing, drawn, drawn_twice, driving_in, driving_past, far,
+    kept, large, merged, moved_away, nested, passing, scattered, shuffled, single, stocked,
+    stocked_for_cart, stocked_for_drive, stuck, summed, twice, under_cart,
 };
 use crate::plain::MOST;
 use crate::runs::*;
@@ -117,7 +117,7 @@ the calls of a host, on bytes: both shapes of their sums have the column's corne
     },
 ];
 
-const QUESTIONS: [Row; 34] = [
+const QUESTIONS: [Row; 35] = [
     ("judge", JUDGE, single),
     ("furthest", FURTHEST, single),
     ("mirror", MIRROR, single),
@@ -134,6 +134,7 @@ const QUESTIONS: [Row; 34] = [
     ("sweep, points anywhere", SWEEP, scattered),
     ("sweep, all corners", SWEEP, shuffled),
     ("ring, clockwise", RING, drawn),
+    ("ring, points twice", RING, drawn_twice),
     ("relation, apart", RELATION, apart),
     ("relation, overlapping", RELATION, crossing),
     ("inside, yes", INSIDE, nested),

@@ -57,19 +57,20 @@ impl Box {
     }
 }
 
-/// The first of the least boxes. The corner that is furthest back is sought from the one that is furthest off, past all
-/// edges that go straight off.
+/// The first of the least boxes. On the first edge the corner that is furthest back is sought from the one that is
+/// furthest off.
 #[inline(always)]
 fn least(corners: &[Corner]) -> Box {
     let n = corners.len();
-    let [mut forward, mut off, mut back] = [Held::at(corners, 1); 3];
+    let [mut forward, mut off] = [Held::at(corners, 1); 2];
+    let first = edge(corners[0], corners[1]);
+    off.pass(corners, |next| cross(first, next) > 0);
+    let mut back = off;
     let mut best = Box::NONE;
     for (i, &corner) in corners.iter().enumerate() {
         let e = edge(corner, corners[after(i, n)]);
         forward.pass(corners, |next| dot(e, next) > 0);
-        off = off.max(forward);
         off.pass(corners, |next| cross(e, next) > 0);
-        back = back.max(off);
         back.pass(corners, |next| dot(e, next) < 0);
         let found = Box {
             edge: i,
@@ -86,11 +87,9 @@ fn least(corners: &[Corner]) -> Box {
     best
 }
 
-/// A corner that is held: how many edges lead to it from the first corner on, its position, and the edge that leaves
-/// it.
+/// A corner that is held: its position, and the edge that leaves it.
 #[derive(Clone, Copy)]
 struct Held {
-    steps: usize,
     at: usize,
     edge: Edge,
 }
@@ -99,32 +98,14 @@ impl Held {
     #[inline(always)]
     fn at(corners: &[Corner], at: usize) -> Held {
         let edge = edge(corners[at], corners[after(at, corners.len())]);
-        Held {
-            steps: at,
-            at,
-            edge,
-        }
+        Held { at, edge }
     }
 
     /// Goes on as long as the next edge does.
     #[inline(always)]
     fn pass(&mut self, corners: &[Corner], goes_on: impl Fn(Edge) -> bool) {
         while goes_on(self.edge) {
-            let steps = self.steps + 1;
-            *self = Held {
-                steps,
-                ..Held::at(corners, after(self.at, corners.len()))
-            };
-        }
-    }
-
-    /// The one that went further.
-    #[inline(always)]
-    fn max(self, other: Held) -> Held {
-        if self.steps < other.steps {
-            other
-        } else {
-            self
+            *self = Held::at(corners, after(self.at, corners.len()));
         }
     }
 }

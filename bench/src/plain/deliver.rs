@@ -15,7 +15,7 @@ impl Buffer {
     #[inline(always)]
     pub fn empty() -> Buffer {
         Buffer {
-            corners: [MaybeUninit::uninit(); 2 * MOST + 2],
+            corners: [const { MaybeUninit::uninit() }; 2 * MOST + 2],
             length: 0,
         }
     }
@@ -61,7 +61,7 @@ impl Buffer {
 
     /// The corners.
     #[inline(always)]
-    fn corners(&self) -> &[Corner] {
+    pub fn corners(&self) -> &[Corner] {
         // SAFETY: all below the length were written.
         unsafe { self.corners[..self.length].assume_init_ref() }
     }

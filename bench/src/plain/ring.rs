@@ -1,8 +1,9 @@
-//! A ring as people draw it: from its lowest point on, one pass joins what is straight and sees that the ring goes up
-//! and then down, always to the left. What fails the pass is looked at again.
+//! A ring as people draw it: its points from the lowest on are a shape most often. If they are not, one pass joins
+//! what is straight and sees that the ring goes up and then down, always to the left. What fails the pass is looked at
+//! again.
 use super::corner::{Corner, Edge, cross, dot, edge, is_up};
 use super::deliver::{Buffer, deliver_near};
-use super::judge::{on_one_floor, some_outside};
+use super::judge::{on_one_floor, some_outside, top};
 use super::sweep::MOST_POINTS;
 use crate::reply::Numbers;
 
@@ -21,6 +22,11 @@ fn asked(list: &[i32], floor: u32, answer: &mut Buffer) -> Result<(), Numbers> {
     let points = admitted(list)?;
     on_one_floor(floor, floor)?;
     let ring = Ring::of(points);
+    ring.arrange(answer);
+    if top(answer.corners()).is_some() {
+        return Ok(());
+    }
+    *answer = Buffer::empty();
     match ring.corners(answer) {
         Some(()) => Ok(()),
         None => ring.looked_at_again(answer),
@@ -47,6 +53,19 @@ fn admitted(list: &[i32]) -> Result<&[Corner], Numbers> {
     Ok(points)
 }
 
+/// The position of the first of the lowest points.
+#[inline(always)]
+fn lowest(points: &[Corner]) -> usize {
+    let mut lowest = 0;
+    for (k, p) in points.iter().enumerate() {
+        let best = points[lowest];
+        if p[1] < best[1] || (p[1] == best[1] && p[0] < best[0]) {
+            lowest = k;
+        }
+    }
+    lowest
+}
+
 /// Points on the way round, from the lowest on, in the sense in which the ring turns left there.
 struct Ring<'a> {
     points: &'a [Corner],
@@ -57,10 +76,7 @@ struct Ring<'a> {
 impl<'a> Ring<'a> {
     #[inline(always)]
     fn of(points: &'a [Corner]) -> Ring<'a> {
-        let key = |p: &Corner| (i64::from(p[1]) << 32) + i64::from(p[0]);
-        let least = points.iter().map(key).min();
-        let lowest = points.iter().position(|p| Some(key(p)) == least);
-        let lowest = lowest.unwrap_or(0);
+        let lowest = lowest(points);
         let (before, after) = (&points[..lowest], &points[lowest..]);
         let low = after[0];
         let other = |p: &&Corner| **p != low;
@@ -72,6 +88,22 @@ impl<'a> Ring<'a> {
             points,
             lowest,
             clockwise,
+        }
+    }
+
+    /// Fills in all points.
+    #[inline(always)]
+    fn arrange(&self, answer: &mut Buffer) {
+        let (before, after) = self.points.split_at(self.lowest);
+        // SAFETY: there are no more points than corners of a shape.
+        let mut push = |p: &Corner| unsafe { answer.push(*p) };
+        if self.clockwise {
+            push(&after[0]);
+            before.iter().rev().for_each(&mut push);
+            after[1..].iter().rev().for_each(&mut push);
+        } else {
+            after.iter().for_each(&mut push);
+            before.iter().for_each(&mut push);
         }
     }
 

@@ -1,7 +1,6 @@
-// Inner functions: lists judged, each once, before a question is asked of them, and the direction of a question; and
-// shapes delivered. Callers ask the crate `questions`.
+// Inner functions: lists judged, each once, before a question is asked of them, and the direction of a question.
+// Callers ask the crate `questions`.
 pub mod answer;
-pub mod deliver;
 
 ghost use mathlib.Core.List.{[], _∷_};
 ghost use mathlib.Core.Path.{_≡_};

@@ -1,2 +1,3 @@
+pub mod Aim
 pub mod Sizes
 pub mod Walk

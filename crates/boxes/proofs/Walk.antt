@@ -1,5 +1,5 @@
 -- What the search for the least box knows when it has measured the edges below k.
---     Walk l k j b                        the calipers j are at corners, and b is the first of the least boxes so far
+--     Walk l k j b                        the calipers j are closed on the last of them, and b is the first of the least boxes so far
 --     walk-start, walk-next, walk-done    the moves of the search
 use mathlib.Core.Path.{_≡_, refl, sym, subst, _∙_, ap}
 use mathlib.Core.Bool.{Bool, true, false, not, cond}
@@ -15,15 +15,16 @@ use Rattle.boxes.specs.Box.{noLarger}
 use Rattle.boxes.specs.declared.Boxed.{Boxed}
 use Rattle.boxes.specs.declared.jaws.Jaws.{Jaws}
 use Rattle.boxes.specs.Scan.{Holds, Closing, Boxes, isSmaller, IsBox}
+use Rattle.boxes.specs.theory.Held.{holds-closing}
 use Rattle.boxes.specs.theory.Least.{noLarger-fractions, Leading, leading-start, leading-keep, leading-replace, leading-done}
 
 pub record Walk (l : List ℤ) (k : ℕ) (j : Jaws) (b : Boxed) : Type 0 where
   pub valid : Valid l
   pub three : 2 < length (points l)
   pub edges-in : k ≤ length (points l)
-  pub high-in : j .high < length (points l)
-  pub far-in : j .far < length (points l)
-  pub near-in : j .near < length (points l)
+  pub last : ℕ
+  pub last-is : last + 1 ≡ k
+  pub holds : Holds (points l) last j
   pub leading : Leading (points l) k (b .edge)
   pub boxes : Boxes (points l) b
 
@@ -33,23 +34,18 @@ walk-start {l} v three h e boxes = record {
   valid = v;
   three = three;
   edges-in = omega arith;
-  high-in = h .high-furthest .within;
-  far-in = h .far-furthest .within;
-  near-in = h .near-furthest .within;
+  last = 0;
+  last-is = refl;
+  holds = h;
   leading = subst (Leading (points l) 1) (sym e) (leading-start (points l));
   boxes = boxes;
 }
 
 module _ {l : List ℤ} {k : ℕ} {j : Jaws} {best : Boxed} (w : Walk l k j best) where
+  -- the next edge is further to the left, and so is each direction that the calipers close in
   pub walk-closing : k < length (points l) → Closing l k j
-  walk-closing h = record {
-    valid = w .valid;
-    three = w .three;
-    edge-in = h;
-    high-in = w .high-in;
-    far-in = w .far-in;
-    near-in = w .near-in;
-  }
+  walk-closing h = subst (λ e. Closing l e j) (w .last-is)
+      (holds-closing (w .valid) (w .three) (omega (arith, w .last-is)) (w .holds))
 
   -- the box found on edge k is taken only if it is smaller
   pub walk-next : {i : Jaws} {found r : Boxed} → k < length (points l) → Holds (points l) k i → found .edge ≡ k → Boxes (points l) found
@@ -61,9 +57,9 @@ module _ {l : List ℤ} {k : ℕ} {j : Jaws} {best : Boxed} (w : Walk l k j best
         valid = w .valid;
         three = w .three;
         edges-in = omega arith;
-        high-in = holds .high-furthest .within;
-        far-in = holds .far-furthest .within;
-        near-in = holds .near-furthest .within;
+        last = k;
+        last-is = refl;
+        holds = holds;
         leading = rw add-one leading;
         boxes = own;
       }

@@ -28,10 +28,11 @@ use Rattle.plane.specs.Question.{values, reply}
 use Rattle.strips.specs.Strip.{spread}
 use Rattle.strips.specs.OwnDirection.{outOf}
 use Rattle.growth.specs.Grown.{placed}
-use Rattle.boxes.specs.Box.{around, halfRound, NoLargerBox, askBox}
+use Rattle.strips.specs.theory.Answers.{three-answered}
+use Rattle.boxes.specs.Box.{around, halfRound, NoLargerBox, boxNumbers, askBox}
 use Rattle.boxes.specs.theory.Compared.{box-no-larger, inside-around, mirrored-no-larger, no-larger-mirrored}
 use Rattle.boxes.specs.theory.Compared.{moved-no-larger, no-larger-moved}
-use Rattle.boxes.specs.theory.Answers.{three-answered, answered-no-smaller, answered-attains, answered-fraction}
+use Rattle.boxes.specs.theory.Answers.{answered-no-smaller, answered-attains, answered-fraction}
 use Rattle.boxes.specs.theory.Answers.{answered-in, answered-turns, answered-turned, answered-spread, answered-spread-had}
 use Rattle.boxes.specs.theory.Answers.{answered-least, answered-first}
 
@@ -100,4 +101,4 @@ module _ (A : List Point) (s : IsShape A) (three : 2 < length A) where
 -- ---- replies
 
 pub three-corners-have-a-box : (a : Floored) → Valid (a .list) → 2 < length (corners a) → reply (askBox a) ≡ answered (values (askBox a))
-three-corners-have-a-box a v three = three-answered a v three
+three-corners-have-a-box a v three = three-answered a (boxNumbers (corners a)) v three

@@ -3,8 +3,7 @@ ghost use mathlib.Core.Path.{_≡_};
 ghost use Prim.Native.Nat.{_<_, _^_};
 ghost use lib.IntN.{pos};
 ghost use lib.ListN.{length};
-ghost use Rattle.plane.specs.Point.{points, corner, _⊖_};
-ghost use Rattle.plane.specs.Shape.{next};
+ghost use Rattle.plane.specs.Point.{points};
 ghost use Rattle.plane.specs.Refusal.{Valid};
 ghost use Rattle.plane.specs.Cut.{quarter as Cut·quarter};
 ghost use Rattle.plane.specs.Measure.{height as Measure·height, edgeSquared};
@@ -26,12 +25,26 @@ pub struct Jaws {
     pub near: usize,
 }
 
+// Returns the calipers closed on the first edge. The corner furthest from it is on the way to the one furthest back. It
+// repeats `closed`, which is called from one place, so that it becomes part of the loop there.
+// Ruled out: corner furthest back sought too early.
+pub fn first(list: &[i32]) -> Jaws
+    requires { ⌜ Valid (now list) × (2 < length (points (now list))) ⌝ }
+    ensures { λ r. ⌜ Holds (points (now (list .entry))) 0 r ⌝ }
+{
+    let along = climb::edge_at(list, 0);
+    let far = climb::furthest_from(list, along, 1);
+    let high = climb::furthest_from(list, quarter(along), 1);
+    let near = climb::furthest_from(list, point::opposite(along), high);
+    Jaws { high, far, near }
+}
+
 // Returns the calipers closed on an edge, each on its way from where it was.
 pub fn closed(list: &[i32], edge: usize, from: Jaws) -> Jaws
     requires { ⌜ Closing (now list) edge from ⌝ }
     ensures { λ r. ⌜ Holds (points (now (list .entry))) edge r ⌝ }
 {
-    let along = edge_at(list, edge);
+    let along = climb::edge_at(list, edge);
     let high = climb::furthest_from(list, quarter(along), from.high);
     let far = climb::furthest_from(list, along, from.far);
     let near = climb::furthest_from(list, point::opposite(along), from.near);
@@ -54,7 +67,7 @@ pub fn along(list: &[i32], edge: usize, at: Jaws) -> u64
 {
     let near = corners::corner_at(list, at.near);
     let far = corners::corner_at(list, at.far);
-    magnitude::magnitude(point::dot(edge_at(list, edge), point::step(near, far)))
+    magnitude::magnitude(point::dot(climb::edge_at(list, edge), point::step(near, far)))
 }
 
 // Returns the squared length of the edge.
@@ -62,21 +75,8 @@ pub fn squared(list: &[i32], edge: usize) -> u64
     requires { ⌜ Valid (now list) × (edge < length (points (now list))) ⌝ }
     ensures { λ r. ⌜ edgeSquared (points (now (list .entry))) edge ≡ pos r ⌝ }
 {
-    let along = edge_at(list, edge);
+    let along = climb::edge_at(list, edge);
     magnitude::magnitude(point::dot(along, along))
-}
-
-// Returns the edge that leaves a corner, as a vector.
-fn edge_at(list: &[i32], edge: usize) -> Point
-    requires { ⌜ Valid (now list) × (edge < length (points (now list))) ⌝ }
-    ensures { λ r. ⌜ at r ≡ corner (points (now (list .entry))) (next (length (points (now (list .entry)))) edge)
-        ⊖ corner (points (now (list .entry))) edge ⌝ }
-{
-    let end = edges::round(list, edge + 1);
-    point::step(
-        corners::corner_at(list, edge),
-        corners::corner_at(list, end),
-    )
 }
 
 // Returns a vector turned left by a quarter.

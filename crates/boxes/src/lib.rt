@@ -32,15 +32,7 @@ pub fn least_box(list: &[i32]) -> Boxed
     ensures { λ r. ⌜ IsBox (points (now (list .entry))) r ⌝ }
 {
     let n = corners::count(list);
-    let mut at = jaws::closed(
-        list,
-        0,
-        Jaws {
-            high: 0,
-            far: 0,
-            near: 0,
-        },
-    );
+    let mut at = jaws::first(list);
     let mut best = measured(list, 0, at);
     let mut edge = 1;
     while edge < n {

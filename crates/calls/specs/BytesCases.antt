@@ -17,8 +17,8 @@ use Rattle.plane.specs.Separation.{inside, apart, notLeft, onRim, touching, rel
 use Rattle.plane.specs.Question.{Question, reply}
 use Rattle.endian.specs.Bytes.{pair, pairAt, word, wordAt, words, wordsAt}
 use Rattle.crossing.specs.LowFloor.{lowFloor}
-use Rattle.crossing.specs.Bytes.{listOf, askJudgeBytes, askRelationBytes, askSumBytes, askMergeBytes, bytesAfter}
-use Rattle.crossing.specs.Packing.{fields, packed}
+use Rattle.bytewise.specs.Bytes.{listOf, askJudgeBytes, askRelationBytes, askSumBytes, askMergeBytes, bytesAfter}
+use Rattle.bytewise.specs.Packing.{fields, packed}
 
 -- the number that is answered, and the output bytes afterwards
 pub record Told : Type 0 where

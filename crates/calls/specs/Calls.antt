@@ -16,7 +16,7 @@ use Rattle.plane.specs.Question.{table, reply}
 use Rattle.separator.specs.Separator.{Finds, askSeparator}
 use Rattle.separator.specs.declared.Separator.{Separator}
 use Rattle.journal.specs.Adding.{Added, added}
-use Rattle.reply.specs.Told.{crossed}
+use Rattle.wire.specs.Told.{crossed}
 use Rattle.crossing.specs.LowFloor.{lowFloor, barred}
 
 pub record SeparatorTold (a b : Floored) (ns : List ℕ) : Type 0 where

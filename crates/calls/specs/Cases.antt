@@ -15,7 +15,7 @@ use Rattle.plane.specs.Output.{noRoom, overwritten}
 use Rattle.plane.specs.Separation.{inside, apart, notLeft, onRim, touching, relationNumber}
 use Rattle.plane.specs.Floor.{on}
 use Rattle.plane.specs.Question.{Question, reply, output, askJudge, askMirror, askRelation, askSum, askWidth}
-use Rattle.reply.specs.Told.{padded, crossed}
+use Rattle.wire.specs.Told.{padded, crossed}
 use Rattle.crossing.specs.LowFloor.{lowFloor}
 
 -- the numbers that are told and the output afterwards, and those that are stated

@@ -19,14 +19,14 @@ use Rattle.plane.specs.Question.{Question, values, reply, output, makes}
 use Rattle.endian.specs.Bytes.{words, wordsAt}
 use Rattle.separator.specs.Separator.{Finds, separatorNumbers}
 use Rattle.journal.specs.Adding.{added}
-use Rattle.reply.specs.Told.{bits, crossed}
-use Rattle.reply.specs.Heard.{numberOf, valuesOf}
+use Rattle.wire.specs.Told.{bits, crossed}
+use Rattle.wire.specs.Heard.{numberOf, valuesOf}
 use Rattle.passage.specs.Passage.{askPassage}
 use Rattle.crossing.specs.LowFloor.{lowFloor, lowPassage, Numbered}
 use Rattle.calls.specs.Calls.{SeparatorTold, addedLow}
-use Rattle.crossing.specs.Bytes.{wordsIn, askJudgeBytes, askRelationBytes, askSumBytes, askMergeBytes, bytesAfter}
-use Rattle.crossing.specs.Packing.{packed, Unpacked, packed-back}
-use Rattle.crossing.specs.Passing.{Room}
+use Rattle.bytewise.specs.Bytes.{wordsIn, askJudgeBytes, askRelationBytes, askSumBytes, askMergeBytes, bytesAfter}
+use Rattle.bytewise.specs.Packing.{packed, Unpacked, packed-back}
+use Rattle.bytewise.specs.Passing.{Room}
 use Rattle.crossing.specs.theory.Low.{within}
 use Rattle.crossing.specs.theory.Passages as passages
 use Rattle.calls.specs.theory.Thirteen as thirteen

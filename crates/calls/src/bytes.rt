@@ -7,11 +7,11 @@ ghost use mathlib.Core.Path.{_≡_};
 ghost use Prim.Native.Nat.{_≤_};
 ghost use lib.ListN.{length};
 ghost use Rattle.plane.specs.Question.{reply};
-ghost use Rattle.crossing.specs.Packing.{packed};
-ghost use Rattle.crossing.specs.Bytes.{askJudgeBytes, askRelationBytes, askSumBytes, askMergeBytes, bytesAfter};
-ghost use Rattle.crossing.specs.Passing.{askBytes, smallBytes};
+ghost use Rattle.bytewise.specs.Packing.{packed};
+ghost use Rattle.bytewise.specs.Bytes.{askJudgeBytes, askRelationBytes, askSumBytes, askMergeBytes, bytesAfter};
+ghost use Rattle.bytewise.specs.Passing.{askBytes, smallBytes};
 use crate::lent;
-use crossing::decoding;
+use bytewise::decoding;
 use polygon::limits;
 
 // Judges whether the bytes hold a shape, and returns how many corners it has. Refused: 1 to 5, where a count of bytes

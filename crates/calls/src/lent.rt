@@ -2,13 +2,13 @@
 ghost use mathlib.Core.Path.{_≡_};
 ghost use lib.ListN.{length};
 ghost use Rattle.plane.specs.Question.{reply};
-ghost use Rattle.crossing.specs.Packing.{packed};
-ghost use Rattle.crossing.specs.Bytes.{askJudgeBytes, askRelationBytes, bytesAfter};
-ghost use Rattle.crossing.specs.Passing.{Enough, Spacious, askBytes};
+ghost use Rattle.bytewise.specs.Packing.{packed};
+ghost use Rattle.bytewise.specs.Bytes.{askJudgeBytes, askRelationBytes, bytesAfter};
+ghost use Rattle.bytewise.specs.Passing.{Enough, Spacious, askBytes};
 use crate::pairs;
 use crate::shapes;
 use crate::writing;
-use crossing::decoding;
+use bytewise::decoding;
 
 // Judges the list.
 pub fn judge(list: &[u8], floor: u32, numbers: &mut [i32]) -> u64
@@ -16,7 +16,7 @@ pub fn judge(list: &[u8], floor: u32, numbers: &mut [i32]) -> u64
     ensures { λ r. ⌜ r ≡ packed (reply (askJudgeBytes (now (list .entry)) floor)) ⌝ }
 {
     let n = decoding::read(list, numbers);
-    crossing::packing::packed_reply(shapes::cocklesway_judge(&numbers[..n], floor))
+    bytewise::packing::packed_reply(shapes::cocklesway_judge(&numbers[..n], floor))
 }
 
 // Asks how the shapes are to each other.
@@ -26,7 +26,7 @@ pub fn relation(a: &[u8], f: u32, b: &[u8], g: u32, first: &mut [i32], second: &
 {
     let m = decoding::read(a, first);
     let n = decoding::read(b, second);
-    crossing::packing::packed_reply(pairs::cocklesway_relation(&first[..m], f, &second[..n], g))
+    bytewise::packing::packed_reply(pairs::cocklesway_relation(&first[..m], f, &second[..n], g))
 }
 
 // Asks for the merge of the shapes, or for their sum.

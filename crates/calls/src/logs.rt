@@ -9,7 +9,7 @@ ghost use Rattle.journal.specs.Current.{askEntry};
 ghost use Rattle.neighbours.specs.Nearest.{askNearest};
 ghost use Rattle.gaps.specs.Gap.{askGap};
 ghost use Rattle.drives.specs.Drive.{askDrive};
-ghost use Rattle.reply.specs.Told.{crossed, numbers};
+ghost use Rattle.wire.specs.Told.{crossed, numbers};
 ghost use Rattle.crossing.specs.LowFloor.{lowFloor};
 ghost use Rattle.calls.specs.Calls.{addedLow};
 use crossing::floors;
@@ -22,7 +22,7 @@ pub extern "C" fn cocklesway_log_read(log: &[u8], name: u16, out: &mut [i32]) ->
     ensures { λ r. ⌜ (numbers r ≡ crossed (reply (askRead (now (log .entry)) name (now (out .entry)))))
         × (now (out .exit) ≡ output (askRead (now (log .entry)) name (now (out .entry)))) ⌝ }
 {
-    reply::of_answer(questions::log_read(log, name, out))
+    reply::of_answer(log_questions::log_read(log, name, out))
 }
 
 // Writes the corners of the current shape at a position, and answers how many, its name and its floor.
@@ -31,7 +31,7 @@ pub extern "C" fn cocklesway_log_entry(log: &[u8], k: usize, out: &mut [i32]) ->
     ensures { λ r. ⌜ (numbers r ≡ crossed (reply (askEntry (now (log .entry)) k (now (out .entry)))))
         × (now (out .exit) ≡ output (askEntry (now (log .entry)) k (now (out .entry)))) ⌝ }
 {
-    reply::of_entry(questions::books::log_entry(log, k, out))
+    reply::of_entry(log_questions::books::log_entry(log, k, out))
 }
 
 // Adds the shape to the log with at most as many stores as are allowed. Answers 1 if it finished, 0 if it was cut.
@@ -52,7 +52,7 @@ pub extern "C" fn cocklesway_log_add(
     if limits::exceeds_floor(f) {
         return floors::barred(list);
     }
-    reply::of_addition(questions::log_add(log, name, f as u16, list, allowed))
+    reply::of_addition(log_questions::log_add(log, name, f as u16, list, allowed))
 }
 
 // Packs the old log into the new run with at most as many stores as are allowed, without the records of the name `but`;
@@ -63,7 +63,7 @@ pub extern "C" fn cocklesway_log_pack(old: &[u8], new: &mut [u8], but: u32, allo
         (numbers r ≡ crossed (remade (now (old .entry)) but (now (new .entry)) allowed .reply))
         × (now (new .exit) ≡ remade (now (old .entry)) but (now (new .entry)) allowed .log) ⌝ }
 {
-    reply::of_addition(questions::books::log_pack(old, new, but, allowed))
+    reply::of_addition(log_questions::books::log_pack(old, new, but, allowed))
 }
 
 // Answers the name of the nearest current shape on the floor, `but` left out, and what clearance answers of the two. A
@@ -76,7 +76,7 @@ pub extern "C" fn cocklesway_log_nearest(log: &[u8], list: &[i32], floor: u32, b
     if limits::exceeds_floor(floor) {
         return floors::barred(list);
     }
-    reply::of_nearest(questions::books::log_nearest(log, list, floor as u16, but))
+    reply::of_nearest(log_questions::books::log_nearest(log, list, floor as u16, but))
 }
 
 // Answers the names of the two current shapes on the floor with the narrowest gap, both grown by the cart, and what
@@ -89,7 +89,7 @@ pub extern "C" fn cocklesway_log_gap(log: &[u8], cart: &[i32], floor: u32) -> Re
     if limits::exceeds_floor(floor) {
         return floors::barred(cart);
     }
-    reply::of_gap(questions::books::log_gap(log, cart, floor as u16))
+    reply::of_gap(log_questions::books::log_gap(log, cart, floor as u16))
 }
 
 // Answers the name of the current shape on the floor that a cart meets first that drives straight from (x, y) to
@@ -111,5 +111,5 @@ pub extern "C" fn cocklesway_log_contact(
     if limits::exceeds_floor(floor) {
         return floors::barred(cart);
     }
-    reply::of_drive(questions::log_contact(log, cart, floor as u16, x, y, u, v))
+    reply::of_drive(drive_questions::log_contact(log, cart, floor as u16, x, y, u, v))
 }

@@ -7,12 +7,12 @@ ghost use Rattle.plane.specs.Question.{reply, output, askSum, askMerge, askGrow
 ghost use Rattle.plane.specs.Question.{askClearance, askTangents};
 ghost use Rattle.reach.specs.Greatest.{askGreatest};
 ghost use Rattle.excess.specs.Excess.{askExcess};
-ghost use Rattle.contact.specs.Contact.{askContact};
-ghost use Rattle.reply.specs.Told.{crossed, numbers};
+ghost use Rattle.motion.specs.Contact.{askContact};
+ghost use Rattle.wire.specs.Told.{crossed, numbers};
 ghost use Rattle.crossing.specs.LowFloor.{lowFloor};
 ghost use Rattle.calls.specs.Calls.{SeparatorTold};
 use crossing::floors;
-use questions::separators;
+use pair_questions::separators;
 use reply::Reply;
 
 // Writes the sum, and answers how many corners it has.
@@ -26,7 +26,7 @@ pub extern "C" fn cocklesway_sum(a: &[i32], f: u32, b: &[i32], g: u32, out: &mut
     if floors::exceeds(f, g) {
         return floors::barred_pair(a, b);
     }
-    reply::of_answer(questions::sum(a, f as u16, b, g as u16, out))
+    reply::of_answer(pair_questions::sum(a, f as u16, b, g as u16, out))
 }
 
 // Writes the merge, and answers how many corners it has.
@@ -40,7 +40,7 @@ pub extern "C" fn cocklesway_merge(a: &[i32], f: u32, b: &[i32], g: u32, out: &m
     if floors::exceeds(f, g) {
         return floors::barred_pair(a, b);
     }
-    reply::of_answer(questions::merge(a, f as u16, b, g as u16, out))
+    reply::of_answer(pair_questions::merge(a, f as u16, b, g as u16, out))
 }
 
 // Writes the obstacle grown by the cart's outline, and answers how many corners it has.
@@ -60,7 +60,7 @@ pub extern "C" fn cocklesway_grow(
     if floors::exceeds(f, g) {
         return floors::barred_pair(obstacle, cart);
     }
-    reply::of_answer(questions::grow(obstacle, f as u16, cart, g as u16, out))
+    reply::of_answer(pair_questions::grow(obstacle, f as u16, cart, g as u16, out))
 }
 
 // Answers 0 for apart, 1 for touching, 2 for overlapping.
@@ -72,7 +72,7 @@ pub extern "C" fn cocklesway_relation(a: &[i32], f: u32, b: &[i32], g: u32) -> R
     if floors::exceeds(f, g) {
         return floors::barred_pair(a, b);
     }
-    reply::of_relation(questions::relation(a, f as u16, b, g as u16))
+    reply::of_relation(pair_questions::relation(a, f as u16, b, g as u16))
 }
 
 // Answers 1 if the first shape is inside the second, else 0.
@@ -84,7 +84,7 @@ pub extern "C" fn cocklesway_inside(a: &[i32], f: u32, b: &[i32], g: u32) -> Rep
     if floors::exceeds(f, g) {
         return floors::barred_pair(a, b);
     }
-    reply::of_inside(questions::inside(a, f as u16, b, g as u16))
+    reply::of_inside(pair_questions::inside(a, f as u16, b, g as u16))
 }
 
 // Answers 1 if the direction (u, v) is accepted as the reason that the shapes are apart, else 0.
@@ -119,7 +119,7 @@ pub extern "C" fn cocklesway_clearance(a: &[i32], f: u32, b: &[i32], g: u32) -> 
     if floors::exceeds(f, g) {
         return floors::barred_pair(a, b);
     }
-    reply::of_clearance(questions::clearance(a, f as u16, b, g as u16))
+    reply::of_clearance(pair_questions::clearance(a, f as u16, b, g as u16))
 }
 
 // Answers the greatest squared distance of a point of one shape and a point of the other, and two corners that have it.
@@ -131,7 +131,7 @@ pub extern "C" fn cocklesway_greatest(a: &[i32], f: u32, b: &[i32], g: u32) -> R
     if floors::exceeds(f, g) {
         return floors::barred_pair(a, b);
     }
-    reply::of_greatest(questions::greatest(a, f as u16, b, g as u16))
+    reply::of_greatest(pair_questions::reaches::greatest(a, f as u16, b, g as u16))
 }
 
 // Answers how far the new shape a reaches beyond the old shape b.
@@ -143,7 +143,7 @@ pub extern "C" fn cocklesway_excess(a: &[i32], f: u32, b: &[i32], g: u32) -> Rep
     if floors::exceeds(f, g) {
         return floors::barred_pair(a, b);
     }
-    reply::of_excess(questions::excess(a, f as u16, b, g as u16))
+    reply::of_excess(pair_questions::changes::excess(a, f as u16, b, g as u16))
 }
 
 // Answers the four lines that just touch both shapes.
@@ -155,7 +155,7 @@ pub extern "C" fn cocklesway_tangents(a: &[i32], f: u32, b: &[i32], g: u32) -> R
     if floors::exceeds(f, g) {
         return floors::barred_pair(a, b);
     }
-    reply::of_tangents(questions::tangents(a, f as u16, b, g as u16))
+    reply::of_tangents(pair_questions::tangents(a, f as u16, b, g as u16))
 }
 
 // Answers where a cart that drives straight from (x, y) to (u, v) first meets the obstacle; 0 if it never does.
@@ -176,5 +176,5 @@ pub extern "C" fn cocklesway_contact(
     if floors::exceeds(f, g) {
         return floors::barred_pair(obstacle, cart);
     }
-    reply::of_contact(questions::contact(obstacle, f as u16, cart, g as u16, x, y, u, v))
+    reply::of_contact(drive_questions::contact(obstacle, f as u16, cart, g as u16, x, y, u, v))
 }

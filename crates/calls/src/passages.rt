@@ -3,7 +3,7 @@
 ghost use mathlib.Core.Path.{_≡_};
 ghost use Rattle.plane.specs.Floor.{on};
 ghost use Rattle.plane.specs.Question.{reply};
-ghost use Rattle.reply.specs.Told.{crossed, numbers};
+ghost use Rattle.wire.specs.Told.{crossed, numbers};
 ghost use Rattle.crossing.specs.LowFloor.{lowPassage};
 use crossing::floors;
 use reply::Reply;
@@ -24,5 +24,5 @@ pub extern "C" fn cocklesway_passage(
     if floors::exceeds_three(f, g, h) {
         return floors::barred_three(left, right, cart);
     }
-    reply::of_passage(questions::passage(left, f as u16, right, g as u16, cart, h as u16))
+    reply::of_passage(pair_questions::passage(left, f as u16, right, g as u16, cart, h as u16))
 }

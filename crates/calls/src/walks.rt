@@ -3,12 +3,12 @@ ghost use mathlib.Core.Path.{_≡_};
 ghost use Rattle.plane.specs.Floor.{on};
 ghost use Rattle.plane.specs.Question.{reply, output};
 ghost use Rattle.sums.specs.Advance.{state};
-ghost use Rattle.sums.specs.Part.{askBegin, askPart};
-ghost use Rattle.reply.specs.Told.{crossed, numbers};
+ghost use Rattle.parts.specs.Part.{askBegin, askPart};
+ghost use Rattle.wire.specs.Told.{crossed, numbers};
 ghost use Rattle.crossing.specs.LowFloor.{lowFloor};
 use crossing::floors;
-use questions::walk;
-use questions::walk::Walk;
+use part_questions::walk;
+use part_questions::walk::Walk;
 use reply::Reply;
 
 // Answers where a sum in parts begins: the edges passed of either shape, and 1 if the walk is over.

@@ -3,12 +3,12 @@ ghost use mathlib.Core.Path.{_≡_};
 ghost use lib.ListN.{length};
 ghost use Rattle.plane.specs.Floor.{on};
 ghost use Rattle.plane.specs.Question.{reply, output};
-ghost use Rattle.reply.specs.Told.{crossed, numbers};
-ghost use Rattle.crossing.specs.Packing.{packed};
-ghost use Rattle.crossing.specs.Bytes.{wordsIn, bytesAfter};
-ghost use Rattle.crossing.specs.Passing.{Holds, combined, asked};
+ghost use Rattle.wire.specs.Told.{crossed, numbers};
+ghost use Rattle.bytewise.specs.Packing.{packed};
+ghost use Rattle.bytewise.specs.Bytes.{wordsIn, bytesAfter};
+ghost use Rattle.bytewise.specs.Passing.{Holds, combined, asked};
 use crate::pairs;
-use crossing::writing;
+use bytewise::writing;
 use reply::Reply;
 
 // Asks for the merge of two lists, or for their sum, into a buffer of numbers; then writes their bytes and packs the
@@ -33,7 +33,7 @@ pub fn combine(
     let n = writing::room(out.len(), shape.len());
     let reply = ask(merged, a, f, b, g, &mut shape[..n]);
     endian::encode(shape, 2 * reply.values[0] as usize, out);
-    crossing::packing::packed_reply(reply)
+    bytewise::packing::packed_reply(reply)
 }
 
 // Asks for the merge of two lists, or for their sum.

@@ -18,7 +18,6 @@ use calipers::side;
 use calipers::side::Side;
 use polygon::point;
 use polygon::point::Point;
-use separation::around;
 
 // What a walk found: whether a place, the direction there, and how many edges of each shape it had passed.
 pub struct Sight {
@@ -28,16 +27,16 @@ pub struct Sight {
     pub second: usize,
 }
 
-// Looks for the closest place from the first edge on that has the origin to its right. Before it there is none, unless
-// a corner is so sharp that the origin is to the right of one of its edges alone: then all are looked at.
-pub fn facing(a: &[i32], b: &[i32], top: usize) -> Sight
-    requires { ⌜ Valid (now a) × Valid (now b) × Peak (points (now b)) top
+// Looks for the closest place from the edge on where i edges of the first shape and j of the second are passed: the
+// first that has the origin to its right, if any has. Before it there is none, unless a corner is so sharp that the
+// origin is to the right of one of its edges alone: then all are looked at.
+pub fn facing(a: &[i32], b: &[i32], top: usize, i: usize, j: usize) -> Sight
+    requires { ⌜ Valid (now a) × Valid (now b) × Peak (points (now b)) top × Stood (now a) (image (now b)) i j
         × NoOrigin (vectorSum (points (now a)) (points (image (now b)))) ⌝ }
     ensures { λ r. ⌜ Small (2 ^ 22) (at (r .n))
         × Stopped (vectorSum (points (now (a .entry))) (points (image (now (b .entry))))) (at (r .n)) ⌝ }
 {
-    let sides = around::pass(a, b, top);
-    let near = look(a, b, top, sides.first, sides.second);
+    let near = look(a, b, top, i, j);
     if near.found {
         return near;
     }

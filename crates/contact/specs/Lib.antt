@@ -1,6 +1,3 @@
--- First contact on a straight drive: the definitions; what they mean; cases; then the theory.
-pub mod Contact
+-- First contact as the code finds it: what it works on, then the theory. What contact is: crate `motion`.
 pub mod Share
-pub mod Meaning
-pub mod Cases
 pub mod theory

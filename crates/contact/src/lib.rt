@@ -3,14 +3,13 @@ mod beyond;
 pub mod drive;
 pub mod share;
 mod walls;
-mod way;
 
 ghost use mathlib.Core.Path.{_≡_};
 ghost use Rattle.plane.specs.Point.{points, numbers};
 ghost use Rattle.plane.specs.Refusal.{Valid};
 ghost use Rattle.polygon.specs.Point.{at};
 ghost use Rattle.growth.specs.Grown.{grown};
-ghost use Rattle.contact.specs.Contact.{contactNumbers};
+ghost use Rattle.motion.specs.Contact.{contactNumbers};
 ghost use Rattle.contact.specs.Share.{Places, meetingNumbers};
 use drive::Meeting;
 use polygon::limits;

@@ -5,9 +5,9 @@ ghost use lib.Dec.{ltb};
 ghost use Rattle.integer.specs.Bound.{Within};
 ghost use Rattle.divisor.specs.Divisor.{gcd};
 ghost use Rattle.plane.specs.Measure.{rootBelow};
-ghost use Rattle.contact.specs.Contact.{entering as Contact·entering, later as Contact·later};
-ghost use Rattle.contact.specs.Contact.{lowest as Contact·lowest};
-ghost use Rattle.contact.specs.Share.{fraction};
+ghost use Rattle.motion.specs.Contact.{entering as Contact·entering, later as Contact·later};
+ghost use Rattle.motion.specs.Contact.{lowest as Contact·lowest};
+ghost use Rattle.contact.specs.Share.{fraction, exceed as Share·exceed};
 use measure::magnitude;
 use wide::arithmetic;
 
@@ -56,6 +56,20 @@ pub fn later(f: Share, g: Share) -> Share
     } else {
         f
     }
+}
+
+// Whether a part of a way from its start, and one from its end, are together more than the way.
+// Ruled out: way into a shape taken for apart.
+pub fn exceed(f: Share, g: Share) -> bool
+    requires { ⌜ f .numerator ≤ f .denominator ⌝ }
+    ensures { λ r. ⌜ r ≡ Share·exceed (fraction f) (fraction g) ⌝ }
+{
+    is_less(
+        f.denominator - f.numerator,
+        g.denominator,
+        g.numerator,
+        f.denominator,
+    )
 }
 
 // Whether a·b is less than c·d.

@@ -7,13 +7,13 @@ ghost use Rattle.plane.specs.Limits.{maxFloor};
 ghost use Rattle.plane.specs.Refusal.{shapeRows};
 ghost use Rattle.plane.specs.Sweep.{pointRows};
 ghost use Rattle.ring.specs.Ring.{listRows};
-ghost use Rattle.reply.specs.Told.{crossed, numbers};
+ghost use Rattle.wire.specs.Told.{crossed, numbers};
 ghost use Rattle.crossing.specs.LowFloor.{barred as LowFloor·barred};
 use admission::Admission;
+use admission::answer::Refusal;
 use polygon::limits;
-use questions::answer::Refusal;
-use reply::Reply;
-use reply::refusals;
+use wire::Reply;
+use wire::refusals;
 
 // Whether one of two floors is above its limit.
 // Ruled out: second floor not looked at.

@@ -1,7 +1,7 @@
 // A reading of the tablet, from a double and its unit.
 ghost use mathlib.Core.Path.{_≡_};
 ghost use Rattle.crossing.specs.Reading.{reading as Reading·reading};
-use questions::Reading;
+use tablet::reading::Reading;
 
 // Returns a reading that carries the double.
 // Ruled out: eighths read as millimetres.

@@ -11,7 +11,7 @@ use Rattle.plane.specs.Distance.{over}
 use Rattle.plane.specs.Floor.{Floored, corners}
 use Rattle.journal.specs.Format.{name}
 use Rattle.journal.specs.Current.{keep}
-use Rattle.contact.specs.Contact.{contact, safe}
+use Rattle.motion.specs.Contact.{contact, safe}
 use Rattle.gaps.specs.Gap.{grownOf, onFloor}
 use Rattle.drives.specs.Drive.{isMet, isAsSoon, firstMet}
 

@@ -22,7 +22,7 @@ use Rattle.growth.specs.Grown.{grown}
 use Rattle.journal.specs.Format.{fixedBytes, recordedAs, recorded, size, whole, records, kind, name, floor, list}
 use Rattle.journal.specs.Format.{wrongLength, otherKind, bad}
 use Rattle.journal.specs.Current.{isOther, isAround, around}
-use Rattle.contact.specs.Contact.{past, entering, arrival, lowest, safe}
+use Rattle.motion.specs.Contact.{past, entering, arrival, lowest, safe}
 use Rattle.gaps.specs.Gap.{grownOf}
 use Rattle.drives.specs.Drive.{isMet, isAsSoon, askDrive}
 

@@ -21,7 +21,7 @@ use Rattle.plane.specs.Question.{Question, asks}
 use Rattle.journal.specs.Format.{name}
 use Rattle.journal.specs.Reading.{damageRow}
 use Rattle.journal.specs.Current.{keep, tooFewRow}
-use Rattle.contact.specs.Contact.{contact, safe, placeRow}
+use Rattle.motion.specs.Contact.{contact, safe, placeRow}
 use Rattle.gaps.specs.Gap.{grownOf, onFloor, sizeRowsOf}
 
 unfoldable pub isMet : List Point → Point → Point → List ℕ → Bool

@@ -30,13 +30,12 @@ use Rattle.journal.specs.Format.{recorded, records, content}
 use Rattle.journal.specs.Reading.{damaged, held}
 use Rattle.journal.specs.Adding.{added}
 use Rattle.journal.specs.History.{isFinished}
-use Rattle.contact.specs.Contact.{OnWay, NoLater, cartMeets, askContact}
+use Rattle.motion.specs.Contact.{OnWay, NoLater, cartMeets, askContact}
 use Rattle.gaps.specs.Gap.{grownOf, onFloor}
 use Rattle.drives.specs.Drive.{metNumbers, driveNumbers, driveRows, askDrive}
 use Rattle.drives.specs.Answered.{isFirst, Told}
 use Rattle.drives.specs.theory.Replies.{drive-admitted, drive-answers, empty-refused, departure-refused, destination-refused}
-use Rattle.drives.specs.theory.Replies.{never-exactly}
-use Rattle.drives.specs.theory.Told.{one-told, told-in, told-met, told-first, told-tie, told-clear, told-contact}
+use Rattle.drives.specs.theory.Told.{never-exactly, one-told, told-in, told-met, told-first, told-tie, told-clear, told-contact}
 use Rattle.drives.specs.theory.Additions.{unfinished-drive, elsewhere-drive, settled-drive}
 
 module _ (b : List ℕ) (cart : Floored) (t u : Point) where

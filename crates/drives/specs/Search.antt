@@ -22,7 +22,7 @@ use Rattle.journal.specs.Format.{records, name}
 use Rattle.journal.specs.Reading.{held}
 use Rattle.journal.specs.Current.{keep}
 use Rattle.journal.specs.Survey.{recordAt, nextAt}
-use Rattle.contact.specs.Contact.{contact, safe, contactNumbers}
+use Rattle.motion.specs.Contact.{contact, safe, contactNumbers}
 use Rattle.contact.specs.Share.{meetingNumbers}
 use Rattle.contact.specs.declared.drive.Meeting.{Meeting}
 use Rattle.contact.specs.declared.drive.Meeting.the-variants as Meeting

@@ -136,7 +136,7 @@ fn kept(log: &[u8], p: usize, meeting: Meeting, best: Soonest) -> Soonest
 }
 
 // Whether a fraction of the way comes before what was found.
-// Ruled out: last contact for first; later shape on a tie.
+// Ruled out: later shape on a tie.
 fn is_sooner(numerator: u64, denominator: u64, best: Soonest) -> bool
     ensures { λ r. ⌜ r ≡ isSooner numerator denominator best ⌝ }
 {

@@ -9,6 +9,7 @@ ghost use Rattle.plane.specs.Refusal.{Valid};
 ghost use Rattle.excess.specs.Excess.{outermost as Excess·outermost};
 ghost use Rattle.excess.specs.Answer.{farOf, HasFar};
 use crate::alone;
+use clearance::Spacing;
 use clearance::measured::Distance;
 use polygon::corners;
 
@@ -40,14 +41,13 @@ fn distance_of(new: &[i32], i: usize, old: &[i32]) -> Far
     requires { ⌜ Valid (now new) × Valid (now old) × (i < length (points (now new))) ⌝ }
     ensures { λ r. ⌜ HasFar (points (now (new .entry))) (points (now (old .entry))) i r ⌝ }
 {
-    let p = corners::corner_at(new, i);
-    if alone::is_apart(p, old) {
-        return measured(i, alone::nearest(p, old));
-    }
-    Far {
-        corner: i,
-        turn: 0,
-        squared: 1,
+    match alone::spacing(corners::corner_at(new, i), old) {
+        Spacing::Meets => Far {
+            corner: i,
+            turn: 0,
+            squared: 1,
+        },
+        Spacing::Apart(found) => measured(i, found),
     }
 }
 

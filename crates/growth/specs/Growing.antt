@@ -108,7 +108,7 @@ cart-is-as-near-as-its-place A B s r t h = place-clearance A B r t s h
 -- ---- driving
 
 module _ (A B : List Point) (a : 0 < length A) (b : 0 < length B) (t u : Point) where
-  -- driving straight from t to u, the cart stands to the obstacle as the segment from t to u to the grown obstacle: apart
+  -- driving straight from t to u, the cart relates to the obstacle as the segment from t to u to the grown one: apart
   pub drive-is-apart-as-its-segment : apart (driven A t u) B ≡ apart (t ∷ u ∷ []) (grown B A)
   drive-is-apart-as-its-segment = alike-apart (driven A t u) B (t ∷ u ∷ []) (grown B A) (drive-alike A B a b t u)
 
@@ -199,7 +199,7 @@ module _ (G H : List Point) (s : IsShape G) (r : IsShape H) where
   pub equal-answers-equal-shapes : ((t : Point) → relationNumber (t ∷ []) G ≡ relationNumber (t ∷ []) H) → G ≡ H
   equal-answers-equal-shapes same = answers-known G H s r same
 
--- and obstacles to which a cart stands alike at all places are equal: nothing is lost by growing
+-- and obstacles to which a cart relates alike at all places are equal: nothing is lost by growing
 pub equal-answers-equal-obstacles : (A B C : List Point) → 0 < length A → IsShape B → IsShape C
     → ((t : Point) → relationNumber (placed A t) B ≡ relationNumber (placed A t) C) → B ≡ C
 equal-answers-equal-obstacles A B C a s r same = obstacles-known A B C a s r same

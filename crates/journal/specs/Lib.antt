@@ -6,6 +6,7 @@ pub mod Adding
 pub mod Facts
 pub mod History
 pub mod Survey
+pub mod Marks
 pub mod Allowance
 pub mod Cases
 pub mod Meaning

@@ -1,8 +1,10 @@
 -- What passes over a log tell of it. Our own, not of document 02.
 --     surveyed b         where the first bad record is, or where the last whole record ends if none is bad
 --     Legible b p        the record at place p is inside the log, and long enough for what a record of its kind says
+--     Ample b l          the list l has room for the numbers of any shape that a record of the log b may have
 --     recordAt b p       the record at place p; `nextAt b p` the place after it
 --     Sound b p          there is a whole record at place p, and none from there on is bad
+--     Reached b p        the same with or without a record there: p is inside the log, and no record from there on is bad
 --     Stated b p h       h is what the record at place p says: its name, its floor, and where its numbers are and how many
 --     newer n h r        what is found once a record with this head is looked at: it replaces what was found if it has the name
 --     Latest n b r       this of the latest record of the name n, or nowhere
@@ -13,6 +15,7 @@ use mathlib.Core.List.{List, []}
 use Prim.Native.Nat.{ℕ, _+_, _*_, _%_, _≤_, _<_}
 use lib.Dec.{eqb}
 use lib.ListN.{length, getD, take, drop}
+use Rattle.plane.specs.Limits.{maxCorners}
 use Rattle.endian.specs.Bytes.{wordsAt}
 use Rattle.journal.specs.Format.{fixedBytes, size, whole, records, kind, name, floor, list}
 use Rattle.journal.specs.Reading.{damaged, badPlace, held, latest}
@@ -33,6 +36,9 @@ pub record Legible (b : List ℕ) (p : ℕ) : Type 0 where
   pub inside : p + (2 + size (drop p b)) ≤ length b
   pub long : fixedBytes (kind (drop p b)) ≤ size (drop p b)
 
+abbrev pub Ample : {X : Type 0} → List ℕ → List X → Type 0
+Ample b buffer = (n : ℕ) → 4 * n ≤ length b → n ≤ 2 * maxCorners → n ≤ length buffer
+
 abbrev pub recordAt : List ℕ → ℕ → List ℕ
 recordAt b p = let t = drop p b in take (2 + size t) t
 
@@ -41,6 +47,10 @@ nextAt b p = p + (2 + size (drop p b))
 
 pub record Sound (b : List ℕ) (p : ℕ) : Type 0 where
   pub here : whole (drop p b) ≡ true
+  pub good : damaged (records (drop p b)) ≡ false
+
+pub record Reached (b : List ℕ) (p : ℕ) : Type 0 where
+  pub inside : p ≤ length b
   pub good : damaged (records (drop p b)) ≡ false
 
 pub record Stated (b : List ℕ) (p : ℕ) (h : Head) : Type 0 where

@@ -10,6 +10,7 @@
 --     Survey                  a pass that judges records
 --     Stepping                any loop over the records of a log
 --     Latest, Ahead           the latest of a name; whether a name is held from a place on
+--     Marks                   the last places of names, in a table
 --     Nth                     the current record at a position
 --     Storing                 stores made as far as they are allowed
 pub mod Records
@@ -26,5 +27,6 @@ pub mod Survey
 pub mod Stepping
 pub mod Latest
 pub mod Ahead
+pub mod Marks
 pub mod Nth
 pub mod Storing

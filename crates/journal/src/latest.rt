@@ -28,7 +28,7 @@ pub fn latest(log: &[u8], name: u16) -> Found
     let mut p = 0;
     while records::whole_at(log, p) {
         found = newer(head::head_at(log, p), name, found);
-        p += 2 + endian::pair_at(log, p);
+        p = records::next_at(log, p);
     }
     found
 }

@@ -4,6 +4,6 @@ mod corners;
 pub mod current;
 pub mod head;
 pub mod latest;
+pub mod marks;
 pub mod records;
-pub mod storing;
 pub mod survey;

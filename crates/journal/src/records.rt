@@ -1,12 +1,11 @@
 // Inner functions: the record at a place of a log.
 ghost use mathlib.Core.Bool.{true};
 ghost use mathlib.Core.Path.{_≡_};
-ghost use Prim.Native.Nat.{_+_, _*_, _≤_};
+ghost use Prim.Native.Nat.{_+_, _≤_};
 ghost use lib.ListN.{length, take, drop};
-ghost use Rattle.plane.specs.Limits.{maxCorners};
 ghost use Rattle.journal.specs.Format.{size as Format·size, kind as Format·kind, floor};
 ghost use Rattle.journal.specs.Format.{whole, bad, fixedBytes, otherKind};
-ghost use Rattle.journal.specs.Survey.{Legible};
+ghost use Rattle.journal.specs.Survey.{Legible, Ample, nextAt};
 use crate::corners;
 
 // The kind of a record that says its floor: the one that is written.
@@ -43,12 +42,21 @@ pub fn whole_at(log: &[u8], p: usize) -> bool
     log[p + 1 + size] == LAST_BYTE
 }
 
+// Returns the place after the whole record at a place.
+pub fn next_at(log: &[u8], p: usize) -> usize
+    requires { ⌜ whole (drop p (now log)) ≡ true ⌝ }
+    ensures { λ r. ⌜ r ≡ nextAt (now (log .entry)) p ⌝ }
+{
+    p + (2 + endian::pair_at(log, p))
+}
+
 // Whether the whole record at a place is one of another kind or a wrong length, or has corners that are no shape. The
-// least length is tested first, since a record may end before its kind. The buffer holds the corners of any shape.
+// least length is tested first, since a record may end before its kind. The buffer holds the corners of any
+// shape in the log.
 pub fn bad_at(log: &[u8], p: usize, buffer: &mut [i32]) -> bool
-    requires { ⌜ (whole (drop p (now log)) ≡ true) × (length (now buffer) ≡ 2 * maxCorners) ⌝ }
+    requires { ⌜ (whole (drop p (now log)) ≡ true) × Ample (now log) (now buffer) ⌝ }
     ensures { λ r. ⌜ (r ≡ bad (take (2 + Format·size (drop p (now (log .entry)))) (drop p (now (log .entry)))))
-        × (length (now (buffer .exit)) ≡ 2 * maxCorners) ⌝ }
+        × (length (now (buffer .exit)) ≡ length (now (buffer .entry))) ⌝ }
 {
     let size = endian::pair_at(log, p);
     if size < PLAIN_BYTES {

@@ -1,9 +1,9 @@
 -- The edges that the half walk passes, and the better of two of them.
---     passedAt t i m                the edges passed at place (i, m), for top t; `right-more`, `left-more`: one more
---     BestOf A P b, MeasuredAt A b  b is the best of the edges of which P holds; it is measured
+--     MeasuredAt A b                b is measured
 --     turn-kept                     no corner is right of the edge that is carried
 --     measured-at                   an edge, measured at a corner of greatest turn
 --     chosen-best                   the better of two is the best of one edge more
+--     right-more, left-more         one edge more is passed
 use mathlib.Core.Path.{_≡_, refl, sym, _∙_, ap, ap₂, subst}
 use mathlib.Core.Bool.{Bool, true, false}
 use mathlib.Core.List.{List}
@@ -29,20 +29,14 @@ use Rattle.polygon.specs.Point.{at}
 use Rattle.calipers.specs.declared.side.Side.{Side}
 use Rattle.calipers.specs.Side.{cornerOf, nextOf, Carried}
 use Rattle.measure.specs.declared.narrowest.Across.{Across}
-use Rattle.measure.specs.Comparison.{Measured, Width}
+use Rattle.measure.specs.Comparison.{Measured}
+use Rattle.measure.specs.Partway.{passedAt, BestOf}
 use Rattle.measure.specs.Scan.{measuredAt, Chosen, stays, gives-way}
 use Rattle.measure.specs.theory.Height.{edgeSquared-value}
 use Rattle.measure.specs.theory.Narrowest.{More}
 use Rattle.measure.specs.theory.WidthScan.{width-keep, width-replace}
 
--- the edges passed at place (i, m), for top t
-abbrev pub passedAt : ℕ → ℕ → ℕ → ℕ → Type 0
-passedAt t i m f = (f < i) ⊎ ((t ≤ f) × (f < m))
-
--- the best of some edges, and a measured one
-abbrev pub BestOf : List Point → (ℕ → Type 0) → Across → Type 0
-BestOf A P b = Width A P (b .edge) (b .corner) (b .turn) (b .squared)
-
+-- a measured edge
 abbrev pub MeasuredAt : List Point → Across → Type 0
 MeasuredAt A b = Measured A (b .edge) (b .corner) (b .turn) (b .squared)
 

@@ -1,13 +1,15 @@
--- The search for the length: the invariant of the loop, and its moves.
---     kept-level                            what is kept of two pairs at the same distance
---     Search l n top end s t best           the best pair so far, at a place of the half walk
---     search-start, -next, -done            its moves; at the end: the answer
+-- The search for the length: the moves of `Search`.
+--     kept-level                    what is kept of two pairs at the same distance
+--     apart-inner, pair-bounds      the pair of two sides where the first corner does not come again
+--     pair-kept                     if it comes after the best, it is taken only if it is further apart
+--     search-start, -next, -done    at the end: the answer
+--     Onward, onward-inner          a step as long as the first corner does not come again
 use mathlib.Core.Path.{_≡_, refl, sym, _∙_, ap, ap₂, subst}
 use mathlib.Core.Bool.{Bool, true, false, cond}
 use mathlib.Core.List.{List}
-use Prim.Native.Nat.{ℕ, _+_, _≤_, _<_}
+use Prim.Native.Nat.{ℕ, _+_, _-_, _^_, _≤_, _<_}
 use native.Mathlib.Omega.{arith}
-use borrow.Author.Tests.{eqb-false, le-leb, leb-true}
+use borrow.Author.Tests.{eqb-true, eqb-false, ne-eqb, le-leb, leb-true}
 use lib.Dec.{eqb}
 use lib.IntN.{ℤ, pos}
 use lib.ListN.{length}
@@ -19,25 +21,23 @@ use Rattle.plane.specs.Forms.{edges}
 use Rattle.plane.specs.Cycle.{cornerRound}
 use Rattle.plane.specs.theory.forms.Squared.{squared-nonneg, squared-sym}
 use Rattle.plane.specs.theory.sum.Positions.{round-inner, edges-at-most}
-use Rattle.polygon.specs.Point.{at}
+use Rattle.polygon.specs.Point.{at, Small}
 use Rattle.calipers.specs.Side.{cornerOf}
 use Rattle.calipers.specs.declared.side.Side.{Side}
 use Rattle.measure.specs.declared.Length.{Length}
 use Rattle.measure.specs.Answer.{IsLength}
-use Rattle.measure.specs.Comparison.{NoBetter, Stands}
-use Rattle.measure.specs.Half.{HalfStep}
-use Rattle.measure.specs.Scan.{HalfAt, apartAt, Behind, Earlier, best-first, next-first, Kept, kept, replaced}
-use Rattle.measure.specs.theory.LengthScan.{Leads, leads-start, leads-keep, leads-replace, leads-done}
+use Rattle.measure.specs.Comparison.{NotAfter, sooner, level, NoBetter, Stands}
+use Rattle.measure.specs.Half.{HalfStep, right, left}
+use Rattle.measure.specs.Partway.{Leads, Apart, Search}
+use Rattle.measure.specs.Scan.{HalfAt, pairAt, apartAt, Behind, Earlier, best-first, next-first, Kept, kept, replaced}
+use Rattle.measure.specs.theory.LengthScan.{leads-start, leads-keep, leads-replace, leads-done}
+use Rattle.measure.proofs.Stepped.{half-corners}
 
 -- ---- the better of two pairs
 
 pub kept-level : {best next r : Length} → best .squared ≡ next .squared → Earlier best next r → Kept best next r
 kept-level e (best-first g n) = kept g (record { no-further = omega (arith, e); no-earlier = λ h. n })
 kept-level e (next-first g n) = replaced g (record { no-further = omega (arith, e); no-earlier = λ h. n })
-
--- the squared distance that a pair carries is its own
-pub record Apart (A : List Point) (p : Length) : Type 0 where
-  pub distance : pos (p .squared) ≡ squared (corner A (p .from)) (corner A (p .to))
 
 behind-noBetter : {A : List Point} {p q : Length} → Apart A p → Apart A q → Behind p q
     → NoBetter A (p .from) (p .to) (q .from) (q .to)
@@ -89,14 +89,25 @@ module _ {l : List ℤ} {top n : ℕ} {s t : Side} (h : HalfAt l top s t) (count
           omega (arith, rw q at (place .to-is), eqb-false (t .at) (length A) q, h .left-side .at-in, edges-at-most A),
         )
 
--- ---- the loop
+-- ---- the pair of two sides, before the last corner
 
-pub record Search (l : List ℤ) (n top end : ℕ) (s t : Side) (best : Length) : Type 0 where
-  pub half : HalfAt l top s t
-  pub count : n ≡ length (points l)
-  pub sides : end ≡ length (edges (points l))
-  pub apart : Apart (points l) best
-  pub leads : Leads (points l) top (s .at) (t .at) (best .from) (best .to)
+pub apart-inner : (n : ℕ) (s t : Side) → t .at < n → apartAt n s t ≡ pairAt s t
+unfolding apartAt pairAt
+apart-inner n s t h = rw (ne-eqb (t .at) n (λ q. omega arith)) refl
+
+pub pair-bounds : {p : Length} (s t : Side) → p ≡ pairAt s t → (p .from ≤ s .at) × (p .to ≤ t .at)
+unfolding pairAt
+pair-bounds s t e = (omega (arith, ap (λ (p : Length). p .from) e), omega (arith, ap (λ (p : Length). p .to) e))
+
+-- a pair that comes after the best is taken only if it is further apart
+pub pair-kept : {best next : Length} → best .from ≤ next .from → best .to ≤ next .to → next .squared ≤ best .squared → Kept best next best
+pair-kept {best} {next} a b h = kept refl (record { no-further = h; no-earlier = λ g. order (eqb (best .from) (next .from)) refl })
+  where
+    order : (c : Bool) → eqb (best .from) (next .from) ≡ c → NotAfter (best .from) (best .to) (next .from) (next .to)
+    order true q = level (eqb-true (best .from) (next .from) q) b
+    order false q = sooner (omega (arith, a, eqb-false (best .from) (next .from) q))
+
+-- ---- the loop
 
 module _ {l : List ℤ} {n top end : ℕ} where
   pub search-start : {s t : Side} {best : Length} → HalfAt l top s t → n ≡ length (points l) → end ≡ length (edges (points l))
@@ -131,3 +142,35 @@ module _ {l : List ℤ} {n top end : ℕ} where
     search-done h =
         let done = leads-done (g .leads) (omega (arith, g .sides)) in
         record { squared-is = g .apart .distance ∙ sym (done .0); from-is = sym (done .1); to-is = sym (done .2) }
+
+-- ---- a step before the last corner
+
+-- what a step from the best pair so far leads to
+pub record Onward (l : List ℤ) (n top end : ℕ) (s t : Side) (best : Length) (s′ t′ : Side) : Type 0 where
+  pub ready : Small (2 ^ 21) (cornerOf s′) × Small (2 ^ 21) (cornerOf t′) × (best .from ≤ s′ .at) × (best .to ≤ t′ .at)
+  pub fewer : top + end - (s′ .at + t′ .at) < top + end - (s .at + t .at)
+  pub again : {r : Length} → Kept best (pairAt s′ t′) r × (r .from ≤ s′ .at) × (r .to ≤ t′ .at)
+      → Search l n top end s′ t′ r × (r .from ≤ s′ .at) × (r .to ≤ t′ .at)
+
+grows : {A : List Point} {t i m k l : ℕ} → HalfStep A t i m k l → (i ≤ k) × (m ≤ l) × (l ≤ m + 1)
+grows (right a b) = (omega arith, omega arith, omega arith)
+grows (left a b) = (omega arith, omega arith, omega arith)
+
+pub onward-inner : {l : List ℤ} {n top end : ℕ} {s t s′ t′ : Side} {best : Length} → Search l n top end s t best → best .from ≤ s .at
+    → best .to ≤ t .at → t .at + 2 < end
+    → HalfStep (points l) top (s .at) (t .at) (s′ .at) (t′ .at) × HalfAt l top s′ t′
+    × (top + end - (s′ .at + t′ .at) < top + end - (s .at + t .at)) → Onward l n top end s t best s′ t′
+onward-inner {l} {n} {top} {end} {s} {t} {s′} {t′} {best} g a b inner (step, half, less) = record {
+  ready = (corners .0, corners .1, omega (arith, on .0, a), omega (arith, on .1, b));
+  fewer = less;
+  again = λ k. (search-next g half step (sym (apart-inner n s′ t′ below)) (k .0), k .1, k .2);
+}
+  where
+    corners : Small (2 ^ 21) (cornerOf s′) × Small (2 ^ 21) (cornerOf t′)
+    corners = half-corners half
+
+    on : (s .at ≤ s′ .at) × (t .at ≤ t′ .at) × (t′ .at ≤ t .at + 1)
+    on = grows step
+
+    below : t′ .at < n
+    below = omega (arith, on .2, inner, g .sides, g .count, edges-at-most (points l))

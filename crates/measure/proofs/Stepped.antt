@@ -3,19 +3,23 @@
 --     half-edges, half-corners       their edges may be multiplied, their corners subtracted
 --     half-room                      their positions may be added
 --     half-on                        a step by `goesRight` leads on, to antipodal corners, and fewer are to come
-use mathlib.Core.Path.{_≡_, _∙_, ap₂}
+--     Inside, inside-told            where no chain ends soon the sign of the product alone tells the step
+--     inside-left, inside-on         three edges are left of either side, and a step is to come
+use mathlib.Core.Path.{_≡_, sym, _∙_, ap, ap₂}
 use mathlib.Core.Bool.{Bool, not, cond}
 use mathlib.Core.List.{List}
 use Prim.Native.Nat.{ℕ, _+_, _-_, _^_, _≤_, _<_}
 use native.Mathlib.Omega.{arith}
-use lib.IntN.{ℤ}
+use borrow.Author.Tests.{ne-eqb}
+use lib.IntN.{ℤ, pos}
 use lib.ListN.{length}
+use lib.Signed.{ltZ}
 use Rattle.plane.specs.Limits.{corners-small}
 use Rattle.plane.specs.Point.{points}
 use Rattle.plane.specs.Refusal.{Valid}
 use Rattle.plane.specs.Turn.{cross}
 use Rattle.plane.specs.Forms.{edges}
-use Rattle.plane.specs.theory.sum.Positions.{edges-at-most}
+use Rattle.plane.specs.theory.sum.Positions.{edges-at-most, edges-some}
 use Rattle.polygon.specs.Point.{at, Small}
 use Rattle.calipers.specs.declared.side.Side.{Side}
 use Rattle.calipers.specs.Side.{cornerOf, nextOf, onward, Carried}
@@ -24,6 +28,10 @@ use Rattle.measure.specs.Half.{Chains, goesRight, HalfStep, right, left}
 use Rattle.measure.specs.Scan.{HalfAt}
 use Rattle.measure.specs.theory.Chains.{chains-in}
 use Rattle.measure.specs.theory.HalfWalk.{antipodal-start, antipodal-step, half-step}
+
+-- both chains have an edge after the next one
+abbrev pub Inside : ℕ → ℕ → Side → Side → Type 0
+Inside n m s t = (s .at + 1 < n) × (t .at + 2 < m)
 
 pub half-start : {l : List ℤ} {n : ℕ} {s t : Side} → Valid l → Chains (points l) n → (s .at ≡ 0) × Carried l s → (t .at ≡ n) × Carried l t
     → HalfAt l n s t
@@ -54,6 +62,25 @@ module _ {l : List ℤ} {n : ℕ} {s t : Side} (h : HalfAt l n s t) where
     omega (arith, h .right-side .at-in, h .left-side .at-in, edges-at-most (points l), h .valid .few, corners-small),
     omega (arith, chains-in (h .chains), edges-at-most (points l), h .valid .few, corners-small),
   )
+
+  -- no chain ends soon
+  module _ {m : ℕ} (all : m ≡ length (edges (points l))) (inside : Inside n m s t) where
+    pub inside-on : s .at + t .at < n + m
+    inside-on = omega (arith, inside .0, inside .1)
+
+    pub inside-left : (s .at + 2 < s .end) × (t .at + 2 < t .end)
+    inside-left = (
+      omega (arith, inside .0, h .right-side .end-is, h .chains .within, edges-some (points l) many),
+      omega (arith, inside .1, h .left-side .end-is, all),
+    )
+      where
+        many : 1 < length (points l)
+        many = omega (arith, inside .0, h .chains .within)
+
+    pub inside-told : {z : ℤ} → z ≡ cross (nextOf s) (nextOf t) → {b : Bool} → ltZ z (pos 0) ≡ b
+        → b ≡ goesRight n m (s .at) (t .at) (cross (nextOf s) (nextOf t))
+    inside-told e q = rw (ne-eqb (s .at) n (λ r. omega (arith, inside .0)), ne-eqb (t .at) m (λ r. omega (arith, inside .1)))
+        (sym q ∙ ap (λ (x : ℤ). ltZ x (pos 0)) e)
 
   -- the side of the right-hand chain has moved, or that of the left-hand one
   module _ {m : ℕ} (all : m ≡ length (edges (points l))) (on : s .at + t .at < n + m) {w : Bool}

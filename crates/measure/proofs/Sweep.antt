@@ -1,8 +1,7 @@
--- The search for the width: the invariant of the loop, and its moves.
---     Sweep l top end s t best       the best of the edges passed so far, at a place of the half walk
---     sweep-start, -next             its moves
---     sweep-fits                     what a step measures can be multiplied
---     sweep-done                     at the end: the best of all edges
+-- The search for the width: the moves of `Sweep`.
+--     sweep-start, -next     its moves
+--     sweep-fits             what a step measures can be multiplied
+--     sweep-done             at the end: the best of all edges
 use mathlib.Core.Path.{_≡_, refl, _∙_, ap₂, subst}
 use mathlib.Core.Bool.{Bool, true, false, not, cond}
 use mathlib.Core.List.{List}
@@ -25,22 +24,17 @@ use Rattle.calipers.specs.theory.Sides.{onward-inner}
 use Rattle.measure.specs.declared.narrowest.Across.{Across}
 use Rattle.measure.specs.Comparison.{none}
 use Rattle.measure.specs.Half.{goesRight, HalfStep, right, left}
+use Rattle.measure.specs.Partway.{passedAt, BestOf, Sweep}
 use Rattle.measure.specs.Scan.{HalfAt, Fits, measuredAt, Chosen, Best}
 use Rattle.measure.specs.theory.Passed.{turn-right, turn-left}
 use Rattle.measure.specs.theory.WidthScan.{width-same}
-use Rattle.measure.proofs.Edges.{passedAt, BestOf, turn-kept, measured-at, chosen-best, right-more, left-more}
+use Rattle.measure.proofs.Edges.{turn-kept, measured-at, chosen-best, right-more, left-more}
 use Rattle.measure.proofs.Stepped.{half-edges, half-corners, half-on}
 
 -- where the right-hand chain stays, the left-hand one has an edge to pass
 left-inside : {A : List Point} {t i m k l : ℕ} → HalfStep A t i m k l → k ≡ i → m < length (edges A)
 left-inside (right g c) e = absurd (omega arith)
 left-inside (left g c) e = g
-
-pub record Sweep (l : List ℤ) (top end : ℕ) (s t : Side) (best : Across) : Type 0 where
-  pub half : HalfAt l top s t
-  pub three : 2 < length (points l)
-  pub sides : end ≡ length (edges (points l))
-  pub best-so-far : BestOf (points l) (passedAt top (s .at) (t .at)) best
 
 module _ {l : List ℤ} {top end : ℕ} where
   pub sweep-start : {s t : Side} → HalfAt l top s t → 2 < length (points l) → end ≡ length (edges (points l)) → s .at ≡ 0 → t .at ≡ top

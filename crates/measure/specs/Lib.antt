@@ -4,6 +4,7 @@ pub mod Answer
 pub mod Comparison
 pub mod Half
 pub mod Scan
+pub mod Partway
 pub mod Extremes
 pub mod Meaning
 pub mod theory

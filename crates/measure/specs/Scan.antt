@@ -1,6 +1,7 @@
 -- What the searches for length and width know along the half walk. Its sides are s on the right-hand chain and t on the left-hand one.
 --     HalfAt l n s t          they are at antipodal corners of the shape l, whose top is corner n
---     apartAt n s t           the pair of corners at these two sides, of n corners, with its squared distance
+--     pairAt s t              the positions of these two sides, with the squared distance of their corners
+--     apartAt n s t           the same, of n corners: after the last comes the first, which is then given first
 --     Behind p q              the pair p is no better than q: not further apart, and if as far, not earlier
 --     Earlier best next r     r is the pair of the two that comes first, by its first position and then by its second
 --     Kept best next r        r is the better of two pairs: further apart, then earlier
@@ -42,6 +43,9 @@ pub record HalfAt (l : List ℤ) (n : ℕ) (s t : Side) : Type 0 where
   pub antipodal : Antipodal (points l) n (s .at) (t .at)
 
 -- ---- length
+
+unfoldable pub pairAt : Side → Side → Length
+pairAt s t = record { squared = natAbs (squared (cornerOf s) (cornerOf t)); from = s .at; to = t .at }
 
 unfoldable pub apartAt : ℕ → Side → Side → Length
 apartAt n s t = record {

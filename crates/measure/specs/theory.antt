@@ -8,6 +8,7 @@ pub mod FurthestApart
 pub mod LengthScan
 pub mod Height
 pub mod Passed
+pub mod Fractions
 pub mod Narrowest
 pub mod Rounded
 pub mod WidthScan

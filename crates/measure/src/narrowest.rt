@@ -1,12 +1,12 @@
 // Inner functions: the edge across which a shape is narrowest. When the half walk passes an edge of one chain, it
 // is at the corner of the other that is furthest from it.
-ghost use mathlib.Core.Bool.{cond};
 ghost use mathlib.Core.Path.{_≡_};
 ghost use Prim.Native.Nat.{_<_};
 ghost use lib.ListN.{length};
 ghost use Rattle.plane.specs.Point.{points};
 ghost use Rattle.plane.specs.Refusal.{Valid};
 ghost use Rattle.measure.specs.Comparison.{Facing};
+ghost use Rattle.measure.specs.Partway.{Begins, Sweep};
 ghost use Rattle.measure.specs.Scan.{Fits, measuredAt, Chosen, Best, Opposed};
 use crate::half;
 use crate::magnitude;
@@ -24,6 +24,13 @@ pub struct Across {
     pub squared: u64,
 }
 
+// Two sides on the half walk, and the best edge so far.
+struct Partway {
+    s: Side,
+    t: Side,
+    best: Across,
+}
+
 // The first of all edges with the least width. Before any is measured, the width is 1/0.
 pub fn narrowest(list: &[i32]) -> Across
     requires { ⌜ Valid (now list) × (2 < length (points (now list))) ⌝ }
@@ -31,6 +38,27 @@ pub fn narrowest(list: &[i32]) -> Across
 {
     let top = peak::top(list);
     let end = edges::sides(list);
+    let from = stride(list, top, end);
+    let mut s = from.s;
+    let mut t = from.t;
+    let mut best = from.best;
+    while s.at + t.at < top + end {
+        if half::goes_right(top, end, s, t) {
+            best = narrower(best, measured(s, t));
+            s = side::next(list, s, false);
+        } else {
+            best = narrower(best, measured(t, s));
+            t = side::next(list, t, false);
+        }
+    }
+    best
+}
+
+// The half walk as long as both chains have edges left: one branch by the sign, and no test for the end of a chain.
+fn stride(list: &[i32], top: usize, end: usize) -> Partway
+    requires { ⌜ Begins (now list) top end × (2 < length (points (now list))) ⌝ }
+    ensures { λ r. ⌜ Sweep (now (list .entry)) top end (r .s) (r .t) (r .best) ⌝ }
+{
     let mut s = side::side_at(list, 0);
     let mut t = side::side_at(list, top);
     let mut best = Across {
@@ -39,20 +67,16 @@ pub fn narrowest(list: &[i32]) -> Across
         turn: 1,
         squared: 0,
     };
-    while s.at + t.at < top + end {
-        let right = half::goes_right(top, end, s, t);
-        best = narrower(best, measured(pick(right, s, t), pick(right, t, s)));
-        s = side::next(list, s, !right);
-        t = side::next(list, t, right);
+    while half::are_inside(top, end, s, t) {
+        if side::order(s, t) < 0 {
+            best = narrower(best, measured(s, t));
+            s = half::ahead(list, s);
+        } else {
+            best = narrower(best, measured(t, s));
+            t = half::ahead(list, t);
+        }
     }
-    best
-}
-
-// One of two sides.
-fn pick(first: bool, s: Side, t: Side) -> Side
-    ensures { λ r. ⌜ r ≡ cond first s t ⌝ }
-{
-    if first { s } else { t }
+    Partway { s, t, best }
 }
 
 // The edge of s, measured at the corner of t.

@@ -1,7 +1,7 @@
 // The nearest current shape of a floor. Inner functions; callers ask the crate `questions`.
 pub mod spacing;
 
-ghost use mathlib.Core.Bool.{false, not, _&&_};
+ghost use mathlib.Core.Bool.{true, false, not, _&&_};
 ghost use mathlib.Core.Path.{_≡_};
 ghost use Prim.Native.Nat.{_*_};
 ghost use lib.Dec.{eqb};
@@ -14,12 +14,17 @@ ghost use Rattle.journal.specs.Reading.{damaged};
 ghost use Rattle.journal.specs.Current.{around};
 ghost use Rattle.journal.specs.Survey.{Sound};
 ghost use Rattle.neighbours.specs.Nearest.{nearestNumbers};
-ghost use Rattle.neighbours.specs.Spacing.{Sized};
-ghost use Rattle.neighbours.specs.Search.{nearNumbers, isLatest, isNearer, isMet, keptOf, NearSized, Onward};
+ghost use Rattle.polygon.specs.Extent.{Extends};
+ghost use Rattle.extents.specs.Far.{Bounded};
+ghost use Rattle.neighbours.specs.Spacing.{fractionOf, Sized};
+ghost use Rattle.neighbours.specs.Search.{nearNumbers, isLatest, isNearer, isMet, keptOf, NearSized};
+ghost use Rattle.neighbours.specs.Search.{NotNearer, Onward};
 use journal::current;
 use journal::head;
 use journal::head::Head;
 use journal::records;
+use polygon::extent;
+use polygon::extent::Extent;
 use polygon::limits;
 use spacing::Spacing;
 
@@ -47,10 +52,11 @@ fn pass(log: &[u8], list: &[i32], floor: u16, but: usize, buffer: &mut [i32]) ->
     ensures { λ r. ⌜ nearNumbers r
         ≡ nearestNumbers (points (now (list .entry))) (around floor but (records (now (log .entry)))) ⌝ }
 {
+    let extent = extent::extent_of(list);
     let mut best = Near::Nobody;
     let mut p = 0;
     while records::whole_at(log, p) {
-        best = look(log, p, list, floor, but, best, buffer);
+        best = look(log, p, list, extent, floor, but, best, buffer);
         if is_met(best) {
             return best;
         }
@@ -59,17 +65,20 @@ fn pass(log: &[u8], list: &[i32], floor: u16, but: usize, buffer: &mut [i32]) ->
     best
 }
 
-// Returns what is found once the record at a place is looked at.
+// Returns what is found once the record at a place is looked at. The box about the given shape and that about the
+// record's show of most records that they are not nearer.
 fn look(
     log: &[u8],
     p: usize,
     list: &[i32],
+    extent: Extent,
     floor: u16,
     but: usize,
     best: Near,
     buffer: &mut [i32],
 ) -> Near
-    requires { ⌜ Sound (now log) p × Valid (now list) × NearSized best × (length (now buffer) ≡ 2 * maxCorners) ⌝ }
+    requires { ⌜ Sound (now log) p × Valid (now list) × NearSized best × (length (now buffer) ≡ 2 * maxCorners)
+        × Extends (points (now list)) extent ⌝ }
     ensures { λ r. ⌜ Onward (points (now (list .entry))) floor but (now (log .entry)) p best r
         × (length (now (buffer .exit)) ≡ 2 * maxCorners) ⌝ }
 {
@@ -78,13 +87,26 @@ fn look(
         return best;
     }
     endian::decode(log, head.place, head.count, buffer);
-    kept(
-        log,
-        p,
-        head.name,
-        spacing::between(list, &buffer[..head.count]),
-        best,
-    )
+    let shape = &buffer[..head.count];
+    if is_passed(extent, shape, best) {
+        return best;
+    }
+    kept(log, p, head.name, spacing::between(list, shape), best)
+}
+
+// Returns whether boxes show that a shape is not nearer than what was found. If nothing was found, none do.
+fn is_passed(extent: Extent, shape: &[i32], best: Near) -> bool
+    requires { ⌜ Bounded extent × Valid (now shape) × NearSized best ⌝ }
+    ensures { λ r. ⌜ (r ≡ true → NotNearer extent (points (now (shape .entry))) best) ⌝ }
+{
+    let Near::Of {
+        name,
+        spacing: held,
+    } = best
+    else {
+        return false;
+    };
+    spacing::is_far(extent, shape, held)
 }
 
 // Returns whether a record is on the floor and has another name than `but`.
@@ -116,7 +138,7 @@ fn kept(log: &[u8], p: usize, name: u16, spacing: Spacing, best: Near) -> Near
 // Returns whether a distance is less than that of what was found. Any is, if nothing was found.
 fn is_nearer(spacing: Spacing, best: Near) -> bool
     requires { ⌜ Sized spacing × NearSized best ⌝ }
-    ensures { λ r. ⌜ r ≡ isNearer spacing best ⌝ }
+    ensures { λ r. ⌜ r ≡ isNearer (fractionOf spacing) best ⌝ }
 {
     let Near::Of {
         name,

@@ -1,14 +1,16 @@
 // Inner functions: how far apart two shapes are, and which of two distances is the less.
 ghost use mathlib.Core.Path.{_≡_};
-ghost use mathlib.Core.Bool.{not};
+ghost use mathlib.Core.Bool.{true, not};
 ghost use Rattle.plane.specs.Point.{points};
 ghost use Rattle.plane.specs.Refusal.{Valid};
 ghost use Rattle.plane.specs.Clearance.{clearanceNumbers};
 ghost use Rattle.plane.specs.Distance.{noMore};
 ghost use Rattle.neighbours.specs.Spacing.{spacingNumbers, apartFraction, fractionOf};
-ghost use Rattle.neighbours.specs.Spacing.{ApartSized, Sized, HasRatio};
+ghost use Rattle.neighbours.specs.Spacing.{ApartSized, Sized, HasRatio, Beyond};
+ghost use Rattle.extents.specs.Far.{Bounded};
 use clearance::measured::Distance;
-use separation::answer::Relation;
+use polygon::extent;
+use polygon::extent::Extent;
 
 // Shapes that have a point in common; or shapes that are apart, with the place where they are nearest.
 pub enum Spacing {
@@ -27,10 +29,9 @@ pub fn between(a: &[i32], b: &[i32]) -> Spacing
     requires { ⌜ Valid (now a) × Valid (now b) ⌝ }
     ensures { λ r. ⌜ spacingNumbers r ≡ clearanceNumbers (points (now (a .entry))) (points (now (b .entry))) ⌝ }
 {
-    match separation::relation(a, b) {
-        Relation::Apart => Spacing::Apart(clearance::nearest(a, b)),
-        Relation::Touching => Spacing::Meets,
-        Relation::Overlapping => Spacing::Meets,
+    match clearance::between(a, b) {
+        clearance::Spacing::Meets => Spacing::Meets,
+        clearance::Spacing::Apart(distance) => Spacing::Apart(distance),
     }
 }
 
@@ -43,6 +44,16 @@ pub fn is_less(v: Spacing, w: Spacing) -> bool
     let one = as_ratio(v);
     let other = as_ratio(w);
     wide::fraction_less(one.turn, one.squared, other.turn, other.squared)
+}
+
+// Returns whether boxes show that two shapes are no nearer than a distance: the box that is given, and that about a
+// shape. False says nothing of the shapes.
+pub fn is_far(extent: Extent, shape: &[i32], w: Spacing) -> bool
+    requires { ⌜ Bounded extent × Valid (now shape) × Sized w ⌝ }
+    ensures { λ r. ⌜ (r ≡ true → Beyond extent (points (now (shape .entry))) (fractionOf w)) ⌝ }
+{
+    let ratio = as_ratio(w);
+    extents::are_far(extent, extent::extent_of(shape), ratio.turn, ratio.squared)
 }
 
 // Returns the distance as a ratio. Two corners at the squared distance d are at d·d/d.

@@ -11,7 +11,6 @@ ghost use Rattle.growth.specs.Grown.{grown};
 ghost use Rattle.passage.specs.Passage.{passageNumbers};
 ghost use Rattle.passage.specs.Corridor.{wayNumbers};
 use admission::Admission;
-use admission::deliver;
 use corridor::Way;
 use polygon::limits;
 use polygon::peak;
@@ -43,5 +42,5 @@ pub fn admit_grown(obstacle: &[i32], cart: &[i32]) -> Admission
         (sizeRows (grown (points (now (obstacle .entry))) (points (now (cart .entry))))) r ⌝ }
 {
     let n = differences::reckon(obstacle, cart, peak::top(cart), limits::SHAPE_NUMBERS);
-    deliver::sized(n, differences::is_far(obstacle, cart))
+    delivery::sized(n, differences::is_far(obstacle, cart))
 }

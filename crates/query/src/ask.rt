@@ -5,12 +5,12 @@ use crate::replies;
 use crate::table;
 use crate::table::Entry;
 use crate::table::Question;
-use questions::SHAPE_NUMBERS;
-use questions::books;
-use questions::rings;
-use questions::separators;
-use questions::walk;
+use log_questions::books;
+use pair_questions::separators;
+use part_questions::walk;
+use polygon::limits::SHAPE_NUMBERS;
 use reply::Reply;
+use shape_questions::rings;
 use text::fields;
 use text::fields::name;
 use text::fields::room;
@@ -111,31 +111,31 @@ fn told(
     let g = fields::floor(line, 1);
     let h = fields::floor(line, 2);
     match question {
-        Question::Judge => reply::of_answer(questions::judge(a, f)),
-        Question::Furthest => reply::of_furthest(questions::furthest(a, f, u(b), v(b))),
-        Question::Mirror => reply::of_answer(questions::mirror(a, f, out)),
-        Question::Sum => reply::of_answer(questions::sum(a, f, b, g, out)),
+        Question::Judge => reply::of_answer(shape_questions::judge(a, f)),
+        Question::Furthest => reply::of_furthest(shape_questions::furthest(a, f, u(b), v(b))),
+        Question::Mirror => reply::of_answer(shape_questions::mirror(a, f, out)),
+        Question::Sum => reply::of_answer(pair_questions::sum(a, f, b, g, out)),
         Question::Parts => reply::of_begun(walk::begin(a, f, b, g)),
         Question::Part => reply::of_part(parts::part(a, f, b, g, c, d, out)),
-        Question::Merge => reply::of_answer(questions::merge(a, f, b, g, out)),
-        Question::Grow => reply::of_answer(questions::grow(a, f, b, g, out)),
-        Question::Sweep => reply::of_answer(questions::sweep(a, f, out)),
+        Question::Merge => reply::of_answer(pair_questions::merge(a, f, b, g, out)),
+        Question::Grow => reply::of_answer(pair_questions::grow(a, f, b, g, out)),
+        Question::Sweep => reply::of_answer(shape_questions::sweep(a, f, out)),
         Question::Ring => reply::of_answer(rings::ring(a, f, out)),
-        Question::Length => reply::of_length(questions::length(a, f)),
-        Question::Area => reply::of_area(questions::area(a, f)),
-        Question::Width => reply::of_width(questions::width(a, f)),
-        Question::Box => reply::of_box(questions::least_box(a, f)),
-        Question::Relation => reply::of_relation(questions::relation(a, f, b, g)),
-        Question::Inside => reply::of_inside(questions::inside(a, f, b, g)),
+        Question::Length => reply::of_length(shape_questions::length(a, f)),
+        Question::Area => reply::of_area(shape_questions::area(a, f)),
+        Question::Width => reply::of_width(shape_questions::width(a, f)),
+        Question::Box => reply::of_box(shape_questions::boxing::least_box(a, f)),
+        Question::Relation => reply::of_relation(pair_questions::relation(a, f, b, g)),
+        Question::Inside => reply::of_inside(pair_questions::inside(a, f, b, g)),
         Question::Offer => reply::of_offer(separators::offer(a, f, b, g, u(c), v(c))),
         Question::Find => reply::of_separator(separators::find(a, f, b, g)),
-        Question::Clearance => reply::of_clearance(questions::clearance(a, f, b, g)),
-        Question::Greatest => reply::of_greatest(questions::greatest(a, f, b, g)),
-        Question::Excess => reply::of_excess(questions::excess(a, f, b, g)),
-        Question::Tangents => reply::of_tangents(questions::tangents(a, f, b, g)),
-        Question::Passage => reply::of_passage(questions::passage(a, f, b, g, c, h)),
+        Question::Clearance => reply::of_clearance(pair_questions::clearance(a, f, b, g)),
+        Question::Greatest => reply::of_greatest(pair_questions::reaches::greatest(a, f, b, g)),
+        Question::Excess => reply::of_excess(pair_questions::changes::excess(a, f, b, g)),
+        Question::Tangents => reply::of_tangents(pair_questions::tangents(a, f, b, g)),
+        Question::Passage => reply::of_passage(pair_questions::passage(a, f, b, g, c, h)),
         Question::Contact => {
-            let met = questions::contact(a, f, b, g, u(c), v(c), u(d), v(d));
+            let met = drive_questions::contact(a, f, b, g, u(c), v(c), u(d), v(d));
             reply::of_contact(met)
         }
         Question::Tablet => readings::tablet(line),
@@ -157,8 +157,8 @@ fn of_log(
     let g = fields::floor(line, 1);
     let h = fields::floor(line, 2);
     match question {
-        Question::LogRead => reply::of_answer(questions::log_read(log, name(b), out)),
-        Question::LogAdd => reply::of_addition(questions::log_add(log, name(b), h, c, room(d))),
+        Question::LogRead => reply::of_answer(log_questions::log_read(log, name(b), out)),
+        Question::LogAdd => reply::of_addition(log_questions::log_add(log, name(b), h, c, room(d))),
         Question::LogEntry => reply::of_entry(books::log_entry(log, fields::count(b, 0), out)),
         Question::LogNearest => {
             let near = books::log_nearest(log, b, g, fields::but(c) as usize);
@@ -166,7 +166,7 @@ fn of_log(
         }
         Question::LogGap => reply::of_gap(books::log_gap(log, b, g)),
         Question::LogContact => {
-            let met = questions::log_contact(log, b, g, u(c), v(c), u(d), v(d));
+            let met = drive_questions::log_contact(log, b, g, u(c), v(c), u(d), v(d));
             reply::of_drive(met)
         }
         _ => {

@@ -1,9 +1,9 @@
 // The questions on a sum in parts: calls from the beginning on, and one call from any state of a walk.
 use crate::replies;
 use crate::replies::Form;
-use questions::SHAPE_NUMBERS;
-use questions::answer::Part;
-use questions::walk::Walk;
+use part_questions::answer::Part;
+use part_questions::walk::Walk;
+use polygon::limits::SHAPE_NUMBERS;
 use text::fields;
 use text::output;
 

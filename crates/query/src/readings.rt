@@ -1,12 +1,12 @@
 // A corner of two readings: doubles made of their bits, and bits of doubles.
 ghost use mathlib.Core.Path.{_≡_};
 ghost use lib.Ieee.{binary64, nanBits};
-use questions::Reading;
-use questions::answer::Tablet;
+use answers::Tablet;
 use reply::Reply;
-use reply::refusals;
+use tablet::reading::Reading;
 use text::fields;
 use text::readings;
+use wire::refusals;
 
 // The weight of the sign, of the exponent, and the exponent of an infinity or a NaN.
 const SIGN: u64 = 0x8000000000000000;
@@ -19,7 +19,7 @@ const ONES: u64 = 2047;
 pub fn tablet(line: &[u8]) -> Reply {
     let x = reading(fields::reading(line, 0));
     let y = reading(fields::reading(line, 1));
-    match questions::tablet(x, y) {
+    match tablet_questions::tablet(x, y) {
         Tablet::Corner { sent, x: _, y: _ } => Reply {
             number: 0,
             carried: [0, 0, 0],

@@ -1,5 +1,3 @@
--- A reply as numbers for a host, and how they are read back; then its theory.
-pub mod Told
-pub mod Heard
+-- What the replies of the questions are held to; then its theory.
 pub mod Meaning
 pub mod theory

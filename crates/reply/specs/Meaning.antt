@@ -1,69 +1,37 @@
--- What the numbers of a reply mean. The theorems are proved in the theory; here they are only cited.
-use mathlib.Core.Path.{_≡_, refl}
-use mathlib.Core.List.{List, map}
-use Prim.Native.Nat.{ℕ, _≤_}
-use lib.IntN.{ℤ, pos}
-use lib.ListN.{length}
-use mir.Syntax.{w64}
-use mir.Val.{SFits, toZ}
-use mir.Facts.{toZ-ofZ}
-use Rattle.plane.specs.Reply.{Reply, answered, refused}
+-- No answer is cut when it crosses. The theorems are proved in the theory; here they are only cited.
 use Rattle.admission.specs.declared.answer.Refusal.{Refusal}
-use Rattle.questions.specs.declared.answer.Unread.{Unread}
+use Rattle.answers.specs.declared.Unread.{Unread}
 use Rattle.admission.specs.declared.answer.Answer.{Answer}
-use Rattle.questions.specs.declared.answer.Begun.{Begun}
-use Rattle.questions.specs.declared.answer.Part.{Part}
-use Rattle.questions.specs.declared.answer.Furthest.{Furthest}
-use Rattle.questions.specs.declared.answer.Length.{Length}
-use Rattle.questions.specs.declared.answer.Width.{Width}
-use Rattle.questions.specs.declared.answer.LeastBox.{LeastBox}
-use Rattle.questions.specs.declared.answer.Relation.{Relation}
-use Rattle.questions.specs.declared.answer.Inside.{Inside}
-use Rattle.questions.specs.declared.answer.Offer.{Offer}
-use Rattle.questions.specs.declared.answer.Separator.{Separator}
-use Rattle.questions.specs.declared.answer.Excess.{Excess}
-use Rattle.questions.specs.declared.answer.Contact.{Contact}
-use Rattle.questions.specs.declared.answer.Passage.{Passage}
-use Rattle.questions.specs.declared.answer.Clearance.{Clearance}
-use Rattle.questions.specs.declared.answer.Nearest.{Nearest}
-use Rattle.questions.specs.declared.answer.Tangents.{Tangents}
-use Rattle.questions.specs.declared.answer.Tablet.{Tablet}
-use Rattle.questions.specs.declared.answer.Addition.{Addition}
-use Rattle.questions.specs.declared.answer.Entry.{Entry}
-use Rattle.questions.specs.declared.answer.Area.{Area}
-use Rattle.questions.specs.declared.answer.Gap.{Gap}
-use Rattle.questions.specs.Answer.{ofArea, ofBox, ofNearest, ofGap, ofContact, ofEntry}
-use Rattle.questions.specs.Answer.{ofRefusal, ofUnread, ofAnswer, ofBegun, ofPart, ofFurthest, ofLength, ofWidth, ofRelation}
-use Rattle.questions.specs.Answer.{ofInside, ofOffer, ofSeparator, ofClearance, ofExcess, ofPassage, ofTangents, ofTablet, ofAddition}
-use Rattle.reply.specs.Told.{bits, crossed}
-use Rattle.reply.specs.Heard.{numberOf, countOf, carriedOf, valuesOf, heard, Room, Signed}
-use Rattle.reply.specs.theory.ReadBack.{refused-back, answered-back, heard-back, same-reply}
+use Rattle.part_questions.specs.declared.answer.Begun.{Begun}
+use Rattle.part_questions.specs.declared.answer.Part.{Part}
+use Rattle.answers.specs.declared.Furthest.{Furthest}
+use Rattle.answers.specs.declared.Length.{Length}
+use Rattle.answers.specs.declared.Width.{Width}
+use Rattle.answers.specs.declared.LeastBox.{LeastBox}
+use Rattle.answers.specs.declared.Relation.{Relation}
+use Rattle.answers.specs.declared.Inside.{Inside}
+use Rattle.answers.specs.declared.Offer.{Offer}
+use Rattle.answers.specs.declared.Separator.{Separator}
+use Rattle.answers.specs.declared.Excess.{Excess}
+use Rattle.answers.specs.declared.Contact.{Contact}
+use Rattle.answers.specs.declared.Passage.{Passage}
+use Rattle.answers.specs.declared.Clearance.{Clearance}
+use Rattle.answers.specs.declared.Nearest.{Nearest}
+use Rattle.answers.specs.declared.Tangents.{Tangents}
+use Rattle.answers.specs.declared.Tablet.{Tablet}
+use Rattle.answers.specs.declared.Addition.{Addition}
+use Rattle.answers.specs.declared.Entry.{Entry}
+use Rattle.answers.specs.declared.Area.{Area}
+use Rattle.answers.specs.declared.Gap.{Gap}
+use Rattle.answers.specs.declared.Drive.{Drive}
+use Rattle.answers.specs.declared.Greatest.{Greatest}
+use Rattle.answers.specs.Answer.{ofDrive, ofGreatest}
+use Rattle.answers.specs.Answer.{ofArea, ofBox, ofNearest, ofGap, ofContact, ofEntry}
+use Rattle.answers.specs.Answer.{ofRefusal, ofUnread, ofAnswer, ofFurthest, ofLength, ofWidth, ofRelation}
+use Rattle.answers.specs.Answer.{ofInside, ofOffer, ofSeparator, ofClearance, ofExcess, ofPassage, ofTangents, ofTablet, ofAddition}
+use Rattle.wire.specs.Heard.{Room}
 use Rattle.reply.specs.theory.Roomy as room
-
--- ---- a reply is read back from its numbers
-
-pub refusal-read-back : (n : ℕ) (c : List ℕ) → length c ≤ 3
-    → (numberOf (crossed (refused n c)) ≡ n) × (countOf (crossed (refused n c)) ≡ length c) × (carriedOf (crossed (refused n c)) ≡ c)
-refusal-read-back n c h = refused-back n c h
-
-pub answer-read-back : (vs : List ℤ) → length vs ≤ 9
-    → (numberOf (crossed (answered vs)) ≡ 0) × (countOf (crossed (answered vs)) ≡ length vs)
-    × (valuesOf (crossed (answered vs)) ≡ map bits vs)
-answer-read-back vs h = answered-back vs h
-
--- a value that is not below 0 is its own bits; one that fits 64 bits with a sign is read from them with its sign
-pub unsigned-read-back : (n : ℕ) → bits (pos n) ≡ n
-unsigned-read-back n = refl
-
-pub signed-read-back : (z : ℤ) → SFits w64 z → toZ w64 (bits z) ≡ z
-signed-read-back z f = toZ-ofZ f
-
-pub reply-read-back : (r : Reply) → Signed r → heard (crossed r) ≡ r
-reply-read-back r f = heard-back r f
-
--- replies with the same numbers are the same, so that a promise about the numbers is one about the reply
-pub reply-known : (r s : Reply) → Signed r → Signed s → crossed r ≡ crossed s → r ≡ s
-reply-known r s f g e = same-reply r s f g e
+use Rattle.part_questions.specs.Answer.{ofBegun, ofPart}
 
 -- ---- nothing is cut: each answer has at most nine values, and each refusal has a number and carries at most three
 
@@ -138,3 +106,9 @@ addition-has-room x = room.addition-room x
 
 pub entry-has-room : (x : Entry) → Room (ofEntry x)
 entry-has-room x = room.entry-room x
+
+pub drive-has-room : (x : Drive) → Room (ofDrive x)
+drive-has-room x = room.drive-room x
+
+pub greatest-has-room : (x : Greatest) → Room (ofGreatest x)
+greatest-has-room x = room.greatest-room x

@@ -1,3 +1,2 @@
--- The theory of the reply, which only proves: that it is read back from its numbers, and that every answer has room.
-pub mod ReadBack
+-- The theory, which only proves: that every answer has room.
 pub mod Roomy

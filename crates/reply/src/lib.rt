@@ -1,49 +1,44 @@
 // The one reply of every question, as numbers for a host: an answer enum does not cross to one. No other code turns an
 // answer or a refusal into numbers.
-mod numbers;
-pub mod refusals;
-
 ghost use mathlib.Core.Path.{_≡_};
-ghost use Rattle.questions.specs.Answer.{ofAnswer, ofBegun, ofPart, ofFurthest, ofLength};
-ghost use Rattle.questions.specs.Answer.{ofWidth, ofRelation, ofInside, ofOffer, ofSeparator, ofClearance, ofTangents};
-ghost use Rattle.questions.specs.Answer.{ofArea, ofExcess, ofNearest, ofGap, ofContact, ofDrive, ofPassage, ofTablet};
-ghost use Rattle.questions.specs.Answer.{ofAddition, ofEntry, ofGreatest, ofBox};
-ghost use Rattle.reply.specs.Told.{crossed, numbers};
-use questions::answer::Addition;
-use questions::answer::Answer;
-use questions::answer::Area;
-use questions::answer::Begun;
-use questions::answer::Clearance;
-use questions::answer::Contact;
-use questions::answer::Drive;
-use questions::answer::Entry;
-use questions::answer::Excess;
-use questions::answer::Furthest;
-use questions::answer::Gap;
-use questions::answer::Greatest;
-use questions::answer::Inside;
-use questions::answer::LeastBox;
-use questions::answer::Length;
-use questions::answer::Nearest;
-use questions::answer::Offer;
-use questions::answer::Part;
-use questions::answer::Passage;
-use questions::answer::Relation;
-use questions::answer::Separator;
-use questions::answer::Tablet;
-use questions::answer::Tangents;
-use questions::answer::Width;
-
-// `number` is 0 for an answer, else the refusal's. `count` says how many of `values` an answer has, or how many of
-// `carried` a refusal has; the rest is 0. The values are in document 01's order, the floor last. A value below 0 is its
-// two's complement in 64 bits.
-#[repr(C)]
-pub struct Reply {
-    pub number: u64,
-    pub carried: [u64; 3],
-    pub count: u64,
-    pub values: [u64; 9],
-}
+ghost use mathlib.Core.List.{[], _∷_, _++_};
+ghost use lib.IntN.{pos};
+ghost use Rattle.plane.specs.Reply.{answered};
+ghost use Rattle.clearance.specs.Answer.{valuesOf};
+ghost use Rattle.part_questions.specs.Answer.{ofBegun, ofPart};
+ghost use Rattle.answers.specs.Answer.{ofAnswer, ofFurthest, ofLength};
+ghost use Rattle.answers.specs.Answer.{ofWidth, ofRelation, ofInside, ofOffer, ofSeparator, ofClearance, ofTangents};
+ghost use Rattle.answers.specs.Answer.{ofArea, ofExcess, ofNearest, ofGap, ofContact, ofDrive, ofPassage, ofTablet};
+ghost use Rattle.answers.specs.Answer.{ofAddition, ofEntry, ofGreatest, ofBox};
+ghost use Rattle.wire.specs.Told.{crossed, numbers};
+use answers::Addition;
+use answers::Answer;
+use answers::Area;
+use answers::Clearance;
+use answers::Contact;
+use answers::Distance;
+use answers::Drive;
+use answers::Entry;
+use answers::Excess;
+use answers::Furthest;
+use answers::Gap;
+use answers::Greatest;
+use answers::Inside;
+use answers::LeastBox;
+use answers::Length;
+use answers::Nearest;
+use answers::Offer;
+use answers::Passage;
+use answers::Relation;
+use answers::Separator;
+use answers::Tablet;
+use answers::Tangents;
+use answers::Width;
+use part_questions::answer::Begun;
+use part_questions::answer::Part;
+pub use wire::Reply;
+use wire::numbers;
+use wire::refusals;
 
 // Returns how many corners a shape has that was judged or written.
 pub fn of_answer(answer: Answer) -> Reply
@@ -221,60 +216,43 @@ pub fn of_separator(answer: Separator) -> Reply
     }
 }
 
-// Returns 0 for not apart, 1 for two corners, 2 for a corner of the first shape and an edge of the second, 3 for the
-// reverse; the positions; of two corners their squared distance, else turn and squared edge; the rounded distance.
+// Returns 0 for not apart, else the numbers of the distance.
 pub fn of_clearance(answer: Clearance) -> Reply
     ensures { λ r. ⌜ numbers r ≡ crossed (ofClearance answer) ⌝ }
 {
     match answer {
         Clearance::None { floor } => numbers::answered2(0, floor as u64),
-        Clearance::Corners {
+        Clearance::Apart { distance, floor } => of_distance(distance, floor as u64),
+        Clearance::No(refusal) => refusals::of_refusal(refusal),
+    }
+}
+
+// Returns 1 for two corners, 2 for a corner of the first shape and an edge of the second, 3 for the reverse; the
+// positions; of two corners their squared distance, else turn and squared edge; the rounded distance.
+fn of_distance(distance: Distance, floor: u64) -> Reply
+    ensures { λ r. ⌜ numbers r ≡ crossed (answered (valuesOf distance ++ (pos floor ∷ []))) ⌝ }
+{
+    match distance {
+        Distance::Corners {
             first,
             second,
             squared,
             rounded,
-            floor,
-        } => numbers::answered6(
-            1,
-            first as u64,
-            second as u64,
-            squared,
-            rounded,
-            floor as u64,
-        ),
-        Clearance::CornerEdge {
+        } => numbers::answered6(1, first as u64, second as u64, squared, rounded, floor),
+        Distance::OnSecond {
             corner,
             edge,
             turn,
             squared,
             rounded,
-            floor,
-        } => numbers::answered7(
-            2,
-            corner as u64,
-            edge as u64,
-            turn,
-            squared,
-            rounded,
-            floor as u64,
-        ),
-        Clearance::EdgeCorner {
+        } => numbers::answered7(2, corner as u64, edge as u64, turn, squared, rounded, floor),
+        Distance::OnFirst {
             corner,
             edge,
             turn,
             squared,
             rounded,
-            floor,
-        } => numbers::answered7(
-            3,
-            corner as u64,
-            edge as u64,
-            turn,
-            squared,
-            rounded,
-            floor as u64,
-        ),
-        Clearance::No(refusal) => refusals::of_refusal(refusal),
+        } => numbers::answered7(3, corner as u64, edge as u64, turn, squared, rounded, floor),
     }
 }
 
@@ -299,60 +277,20 @@ pub fn of_nearest(answer: Nearest) -> Reply
 {
     match answer {
         Nearest::Meets { name, floor } => numbers::answered3(name as u64, 0, floor as u64),
-        Nearest::Corners {
+        Nearest::Apart {
             name,
-            first,
-            second,
-            squared,
-            rounded,
+            distance,
             floor,
-        } => numbers::answered7(
-            name as u64,
-            1,
-            first as u64,
-            second as u64,
-            squared,
-            rounded,
-            floor as u64,
-        ),
-        Nearest::CornerEdge {
-            name,
-            corner,
-            edge,
-            turn,
-            squared,
-            rounded,
-            floor,
-        } => numbers::answered8(
-            name as u64,
-            2,
-            corner as u64,
-            edge as u64,
-            turn,
-            squared,
-            rounded,
-            floor as u64,
-        ),
-        Nearest::EdgeCorner {
-            name,
-            corner,
-            edge,
-            turn,
-            squared,
-            rounded,
-            floor,
-        } => numbers::answered8(
-            name as u64,
-            3,
-            corner as u64,
-            edge as u64,
-            turn,
-            squared,
-            rounded,
-            floor as u64,
-        ),
+        } => named(name as u64, distance, floor as u64),
         Nearest::No(refusal) => refusals::of_refusal(refusal),
     }
+}
+
+// Returns a name, and then the numbers of a distance.
+fn named(name: u64, distance: Distance, floor: u64) -> Reply
+    ensures { λ r. ⌜ numbers r ≡ crossed (answered (pos name ∷ valuesOf distance ++ (pos floor ∷ []))) ⌝ }
+{
+    numbers::preceded(name, of_distance(distance, floor))
 }
 
 // Returns the names of the two shapes with the narrowest gap, and then the numbers of `of_clearance`.
@@ -363,64 +301,12 @@ pub fn of_gap(answer: Gap) -> Reply
         Gap::Meets { name, other, floor } => {
             numbers::answered4(name as u64, other as u64, 0, floor as u64)
         }
-        Gap::Corners {
+        Gap::Apart {
             name,
             other,
-            first,
-            second,
-            squared,
-            rounded,
+            distance,
             floor,
-        } => numbers::answered8(
-            name as u64,
-            other as u64,
-            1,
-            first as u64,
-            second as u64,
-            squared,
-            rounded,
-            floor as u64,
-        ),
-        Gap::CornerEdge {
-            name,
-            other,
-            corner,
-            edge,
-            turn,
-            squared,
-            rounded,
-            floor,
-        } => numbers::answered9(
-            name as u64,
-            other as u64,
-            2,
-            corner as u64,
-            edge as u64,
-            turn,
-            squared,
-            rounded,
-            floor as u64,
-        ),
-        Gap::EdgeCorner {
-            name,
-            other,
-            corner,
-            edge,
-            turn,
-            squared,
-            rounded,
-            floor,
-        } => numbers::answered9(
-            name as u64,
-            other as u64,
-            3,
-            corner as u64,
-            edge as u64,
-            turn,
-            squared,
-            rounded,
-            floor as u64,
-        ),
+        } => numbers::preceded(name as u64, named(other as u64, distance, floor as u64)),
         Gap::No(refusal) => refusals::of_refusal(refusal),
     }
 }

@@ -26,7 +26,9 @@ use Rattle.ring.specs.Ring.{openRing, fromLeast, ringCorners, ringShape,
 use Rattle.ring.specs.theory.Under.{under-at, corners-under}
 use Rattle.ring.specs.theory.Outline.{ring-corners, ring-points, ring-support, ring-is-shape-of, quiet→shape, shape→quiet}
 use Rattle.ring.specs.theory.Natural.{same-points, opened-again, closed-is-same}
-use Rattle.ring.specs.theory.Readings.{shape-is-own-ring, begun-anywhere, read-backwards}
+use Rattle.ring.specs.theory.Begun.{begun-anywhere}
+use Rattle.ring.specs.theory.Backwards.{read-backwards}
+use Rattle.ring.specs.theory.Own.{shape-is-own-ring}
 use Rattle.ring.specs.theory.Valid.{answered-passes, answered-valid}
 
 module _ (ps : List Point) (some : 0 < length ps) where

@@ -2,7 +2,8 @@
 // points in line. Its corners are found by their positions in the list. Nothing is filled up. Our own, not of
 // documents 01 and 02.
 pub mod inward;
-mod places;
+pub mod places;
+pub mod standard;
 pub mod turns;
 
 ghost use mathlib.Core.List.{map};
@@ -14,7 +15,7 @@ ghost use Rattle.plane.specs.Refusal.{InRange};
 ghost use Rattle.plane.specs.Output.{overwritten};
 ghost use Rattle.admission.specs.Admission.{Judged};
 ghost use Rattle.ring.specs.Ring.{openRing, ringCorners, listRows, ValidRing};
-ghost use Rattle.ring.specs.Places.{Placed, Held};
+ghost use Rattle.ring.specs.Places.{Started, Placed, Held};
 use admission::Admission;
 use admission::answer::Refusal;
 use polygon::corners;
@@ -47,16 +48,15 @@ pub fn open_count(list: &[i32]) -> usize
     places::less_closing(list, n, 0, n - 1)
 }
 
-// Writes the positions of the ring's corners to the front of `bent`, from the least corner on, in the sense in which it
-// turns left there, and returns how many they are. The first buffer is for the positions of different neighbours.
-pub fn trace(list: &[i32], kept: &mut [usize], bent: &mut [usize]) -> usize
-    requires { ⌜ InRange (now list) × (0 < length (points (now list)))
-        × (length (openRing (points (now list))) ≤ length (now kept))
-        × (length (openRing (points (now list))) ≤ length (now bent)) ⌝ }
+// Writes the positions of the corners of a ring of n points to the front of `bent`, from the least corner on, in the
+// sense in which it turns left there, and returns how many they are. The first buffer is for the positions of different
+// neighbours.
+pub fn trace(list: &[i32], n: usize, start: usize, kept: &mut [usize], bent: &mut [usize]) -> usize
+    requires { ⌜ InRange (now list) × (0 < length (points (now list))) × Started (points (now list)) n start
+        × (n ≤ length (now kept)) × (n ≤ length (now bent)) ⌝ }
     ensures { λ r. ⌜ Held (ringCorners (points (now (list .entry)))) r (now (bent .exit)) ⌝ }
 {
-    let n = open_count(list);
-    let m = places::distinct(list, n, places::least(list, n), kept);
+    let m = places::distinct(list, n, start, kept);
     turns::corners(list, &kept[..m], bent)
 }
 

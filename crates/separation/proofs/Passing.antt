@@ -76,9 +76,9 @@ module _ {a b : List ℤ} where
           side-is = ap (λ (z : ℤ). ltZ z (pos 0)) (t ∙ passing-corners cross)
 
           pub passing-out : ltZ turn (pos 0) ≡ true → (normal : Code·Point) → at normal ≡ passedNormal (points a) (points b) walk after
-              → (first second : ℕ)
-              → Passed D (record { count = count; outside = true; rim = rim; normal = normal; first = first; second = second })
-          passing-out h normal n first second = record {
+              → (seen : ℕ) (new : Bool) (first second : ℕ)
+              → Passed D (record { count = seen; outside = true; rim = new; normal = normal; first = first; second = second })
+          passing-out h normal n seen new first second = record {
             outside-is = sym (some-here (rightOf D) (length D) count passing-below (sym side-is ∙ h));
             count-is = λ k. absurd (true≢false k);
             rim-is = λ k. absurd (true≢false k);
@@ -96,3 +96,19 @@ module _ {a b : List ℤ} where
                 ∙ ap (λ (x : Bool). some (notLeft D) count || x) (sym (notLeft-cross D count))
                 ∙ ap (some (notLeft D)) (sym (add-one count));
           }
+
+-- the walk ends at an edge: it has the origin to its right, or it is the last
+pub passing-stop : {a b : List ℤ} {walk : Walk} {count : ℕ} {rim : Bool} → Passing a b walk count rim → walk .over ≡ false
+    → {after : Walk} → after ≡ advanced (points a) (points b) walk
+    → {turn : ℤ} → turn ≡ cross (here (points a) (points b) walk) (here (points a) (points b) after)
+    → {new : Bool} → new ≡ (rim || leZ turn (pos 0))
+    → (normal : Code·Point) → at normal ≡ passedNormal (points a) (points b) walk after
+    → (ltZ turn (pos 0) ≡ false → after .over ≡ true) → (first second : ℕ)
+    → Passed (vectorSum (points a) (points b))
+    (record { count = count + 1; outside = ltZ turn (pos 0); rim = new; normal = normal; first = first; second = second })
+passing-stop {a} {b} {walk} {count} p on e {turn} t {new} h normal n end first second = go (ltZ turn (pos 0)) refl
+  where
+    go : (out : Bool) → ltZ turn (pos 0) ≡ out → Passed (vectorSum (points a) (points b))
+        (record { count = count + 1; outside = out; rim = new; normal = normal; first = first; second = second })
+    go true o = passing-out p on e t o normal n _ _ first second
+    go false o = passing-end (passing-more p on e t o h) (end o) normal first second

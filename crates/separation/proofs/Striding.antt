@@ -2,11 +2,12 @@
 --     strode-start                             no edge is passed
 --     strode-at                                the walk is at a place of the lists; `strode-same`: of equal sides
 --     strode-first, strode-second, -both       the one side goes on, or the other, or both
+--     strode-alone                             the second side goes on, where the first has no edge left
 --     goes-on                                  where a side goes on, it is one edge further
 use mathlib.Core.Path.{_≡_, refl, sym, _∙_, ap, ap₂, subst}
 use mathlib.Core.Bool.{true, false, cond}
 use mathlib.Core.List.{List, [], _∷_}
-use Prim.Native.Nat.{ℕ, _+_, _<_}
+use Prim.Native.Nat.{ℕ, _+_, _≤_, _<_}
 use native.Mathlib.Omega.{arith}
 use lib.IntN.{ℤ, pos}
 use lib.ListN.{length}
@@ -18,10 +19,11 @@ use Rattle.plane.specs.Point.{Point, points, _⊕_}
 use Rattle.plane.specs.Turn.{cross}
 use Rattle.plane.specs.Forms.{edges}
 use Rattle.plane.specs.Cycle.{cornerRound}
+use Rattle.plane.specs.theory.forms.Vector.{cross-origin}
 use Rattle.calipers.specs.declared.side.Side.{Side}
 use Rattle.calipers.specs.Side.{cornerOf, nextOf, onward, Carried, walkOf}
 use Rattle.calipers.specs.Walk.{begun, finished, advanced, At}
-use Rattle.calipers.specs.theory.Sides.{along-edge, onward-inner}
+use Rattle.calipers.specs.theory.Sides.{along-edge, onward-inner, onward-end, edge-none}
 use Rattle.calipers.specs.theory.Carry.{some-left, sides-walk, sides-here, sides-advanced, sides-at}
 use Rattle.separation.specs.Passing.{Strode}
 use Rattle.separation.proofs.Passing.{passing-start, passing-at, passing-more}
@@ -77,8 +79,8 @@ module _ {a b : List ℤ} {s t : Side} {joined : ℕ} (p : Strode a b s t joined
   edges-left : s .end + t .end ≡ length (edges (points a)) + length (edges (points b))
   edges-left = omega (arith, p .first-side .end-is, p .second-side .end-is)
 
-  module _ (h : s .at + 2 < s .end) (l : t .at + 2 < t .end) {c : ℤ} (is : c ≡ cross (nextOf s) (nextOf t)) {from : Point}
-      (from-is : from ≡ cornerOf s ⊕ cornerOf t) {turn : ℤ} (left : leZ turn (pos 0) ≡ false) where
+  module _ {c : ℤ} (is : c ≡ cross (nextOf s) (nextOf t)) {from : Point} (from-is : from ≡ cornerOf s ⊕ cornerOf t) {turn : ℤ}
+      (left : leZ turn (pos 0) ≡ false) where
     -- one step further, with some edges left
     module _ (m n : Side) (i : m .at ≡ cond (ltZ c (pos 0)) (s .at) (onward (points a) (s .at)))
         (j : n .at ≡ cond (ltZ (pos 0) c) (t .at) (onward (points b) (t .at))) (u : Carried a m) (v : Carried b n)
@@ -103,32 +105,49 @@ module _ {a b : List ℤ} {s t : Side} {joined : ℕ} (p : Strode a b s t joined
         second-side = v;
       }
 
-    pub strode-first : ltZ (pos 0) c ≡ true → turn ≡ cross from (nextOf s) → (m : Side) → m .at ≡ onward (points a) (s .at) → Carried a m
-        → Strode a b m t joined
-    strode-first q e m i u =
-        let one = goes-on (p .first-side) h i in
-        let waits = not-below c (ltZ-true {x = pos 0} {y = c} q) in
-        more m t (rw waits i) (rw q refl) u (p .second-side)
-        (e ∙ ap (λ z. cross z (nextOf s)) from-is ∙ turn-first (cornerOf s) (cornerOf t) (nextOf s)
-        ∙ ap (λ z. cross (cornerOf s ⊕ cornerOf t) (z ⊕ cornerOf t)) (sym (there (p .first-side) h i u)))
-        (omega (arith, edges-left)) (omega arith)
+    -- the turn by the edge of the second side
+    second-turn : (l : t .at + 2 < t .end) → turn ≡ cross from (nextOf t) → (n : Side) → n .at ≡ onward (points b) (t .at) → Carried b n
+        → turn ≡ cross (cornerOf s ⊕ cornerOf t) (cornerOf s ⊕ cornerOf n)
+    second-turn l e n j v = e ∙ ap (λ z. cross z (nextOf t)) from-is ∙ turn-second (cornerOf s) (cornerOf t) (nextOf t)
+        ∙ ap (λ z. cross (cornerOf s ⊕ cornerOf t) (cornerOf s ⊕ z)) (sym (there (p .second-side) l j v))
 
-    pub strode-second : ltZ c (pos 0) ≡ true → turn ≡ cross from (nextOf t) → (n : Side) → n .at ≡ onward (points b) (t .at) → Carried b n
-        → Strode a b s n joined
-    strode-second q e n j v =
-        let one = goes-on (p .second-side) l j in
-        let waits = not-above c (ltZ-true {x = c} {y = pos 0} q) in
-        more s n (rw q refl) (rw waits j) (p .first-side) v
-        (e ∙ ap (λ z. cross z (nextOf t)) from-is ∙ turn-second (cornerOf s) (cornerOf t) (nextOf t)
-        ∙ ap (λ z. cross (cornerOf s ⊕ cornerOf t) (cornerOf s ⊕ z)) (sym (there (p .second-side) l j v)))
-        (omega (arith, edges-left)) (omega arith)
+    module _ (h : s .at + 2 < s .end) (l : t .at + 2 < t .end) where
+      pub strode-first : ltZ (pos 0) c ≡ true → turn ≡ cross from (nextOf s) → (m : Side) → m .at ≡ onward (points a) (s .at) → Carried a m
+          → Strode a b m t joined
+      strode-first q e m i u =
+          let one = goes-on (p .first-side) h i in
+          let waits = not-below c (ltZ-true {x = pos 0} {y = c} q) in
+          more m t (rw waits i) (rw q refl) u (p .second-side)
+          (e ∙ ap (λ z. cross z (nextOf s)) from-is ∙ turn-first (cornerOf s) (cornerOf t) (nextOf s)
+          ∙ ap (λ z. cross (cornerOf s ⊕ cornerOf t) (z ⊕ cornerOf t)) (sym (there (p .first-side) h i u)))
+          (omega (arith, edges-left)) (omega arith)
 
-    pub strode-both : ltZ (pos 0) c ≡ false → ltZ c (pos 0) ≡ false → turn ≡ cross from (nextOf s ⊕ nextOf t) → (m n : Side)
-        → m .at ≡ onward (points a) (s .at) → n .at ≡ onward (points b) (t .at) → Carried a m → Carried b n → Strode a b m n (joined + 1)
-    strode-both q r e m n i j u v =
-        let one = goes-on (p .first-side) h i in
-        let other = goes-on (p .second-side) l j in
-        more m n (rw r i) (rw q j) u v
-        (e ∙ ap (λ z. cross z (nextOf s ⊕ nextOf t)) from-is ∙ turn-both (cornerOf s) (cornerOf t) (nextOf s) (nextOf t)
-        ∙ ap₂ (λ y z. cross (cornerOf s ⊕ cornerOf t) (y ⊕ z)) (sym (there (p .first-side) h i u)) (sym (there (p .second-side) l j v)))
-        (omega (arith, edges-left)) (omega arith)
+      pub strode-second : ltZ c (pos 0) ≡ true → turn ≡ cross from (nextOf t) → (n : Side) → n .at ≡ onward (points b) (t .at) → Carried b n
+          → Strode a b s n joined
+      strode-second q e n j v =
+          let one = goes-on (p .second-side) l j in
+          let waits = not-above c (ltZ-true {x = c} {y = pos 0} q) in
+          more s n (rw q refl) (rw waits j) (p .first-side) v
+          (second-turn l e n j v) (omega (arith, edges-left)) (omega arith)
+
+      pub strode-both : ltZ (pos 0) c ≡ false → ltZ c (pos 0) ≡ false → turn ≡ cross from (nextOf s ⊕ nextOf t) → (m n : Side)
+          → m .at ≡ onward (points a) (s .at) → n .at ≡ onward (points b) (t .at) → Carried a m → Carried b n → Strode a b m n (joined + 1)
+      strode-both q r e m n i j u v =
+          let one = goes-on (p .first-side) h i in
+          let other = goes-on (p .second-side) l j in
+          more m n (rw r i) (rw q j) u v
+          (e ∙ ap (λ z. cross z (nextOf s ⊕ nextOf t)) from-is ∙ turn-both (cornerOf s) (cornerOf t) (nextOf s) (nextOf t)
+          ∙ ap₂ (λ y z. cross (cornerOf s ⊕ cornerOf t) (y ⊕ z)) (sym (there (p .first-side) h i u)) (sym (there (p .second-side) l j v)))
+          (omega (arith, edges-left)) (omega arith)
+
+  -- the first side has no edge left: it is that of a point
+  pub strode-alone : s .end ≤ s .at → t .at + 2 < t .end → {from : Point} → from ≡ cornerOf s ⊕ cornerOf t → {turn : ℤ}
+      → leZ turn (pos 0) ≡ false → turn ≡ cross from (nextOf t) → (n : Side) → n .at ≡ onward (points b) (t .at) → Carried b n
+      → Strode a b s n joined
+  strode-alone h l from-is left e n j v =
+      let one = goes-on (p .second-side) l j in
+      let over : s .at ≡ s .end = omega (arith, h, p .first-side .at-in, p .first-side .end-is) in
+      let none = p .first-side .edge-is ∙ edge-none (points a) (s .end) (s .at) (p .first-side .end-is) over in
+      let level : pos 0 ≡ cross (nextOf s) (nextOf t) = sym (ap (λ z. cross z (nextOf t)) none ∙ cross-origin (nextOf t) .0) in
+      more level from-is left s n (sym (onward-end (points a) (s .at) (omega (arith, over, p .first-side .end-is)))) j (p .first-side) v
+      (second-turn level from-is left l e n j v) (omega (arith, edges-left, p .first-side .at-in)) (omega arith)

@@ -4,12 +4,13 @@ ghost use mathlib.Core.Path.{_≡_};
 ghost use Prim.Native.Nat.{_^_};
 ghost use Rattle.plane.specs.Point.{points, corner};
 ghost use Rattle.plane.specs.Refusal.{Valid};
+ghost use Rattle.plane.specs.Separation.{relationNumber};
 ghost use Rattle.plane.specs.VectorSum.{vectorSum};
 ghost use Rattle.polygon.specs.Peak.{Peak};
 ghost use Rattle.polygon.specs.Point.{at, Small};
 ghost use Rattle.calipers.specs.Image.{image};
 ghost use Rattle.separation.specs.Answer.{numberOf};
-ghost use Rattle.separation.specs.Around.{Passed, originIn, originOn};
+ghost use Rattle.separation.specs.Around.{Passed, originOn};
 ghost use Rattle.separation.specs.Passing.{Stood};
 use crate::answer::Relation;
 use crate::normal;
@@ -21,8 +22,8 @@ use polygon::point::Point;
 use polygon::rules::either;
 
 // What a walk round the edges saw: whether the origin is to the right of one, at which it stops, and then its outer
-// normal and how many edges of each shape are passed; and if of none, how many edges there are and whether the origin
-// is not to the left of one.
+// normal; if of none, how many edges there are and whether the origin is not to the left of one. And how many edges of
+// each shape are passed before the edge at which it ended.
 pub struct Sides {
     pub count: usize,
     pub outside: bool,
@@ -32,12 +33,13 @@ pub struct Sides {
     pub second: usize,
 }
 
-// Apart if the origin is outside, touching if on the rim, else overlapping.
-pub fn around(a: &[i32], b: &[i32], top: usize) -> Relation
-    requires { ⌜ Valid (now a) × Valid (now b) × Peak (points (now b)) top ⌝ }
-    ensures { λ r. ⌜ numberOf r ≡ originIn (vectorSum (points (now (a .entry))) (points (image (now (b .entry))))) ⌝ }
+// How the shapes relate, by what the pass saw: apart if the origin is outside, touching if on the rim, else
+// overlapping.
+pub fn related(a: &[i32], b: &[i32], top: usize, sides: Sides) -> Relation
+    requires { ⌜ Valid (now a) × Valid (now b) × Peak (points (now b)) top
+        × Passed (vectorSum (points (now a)) (points (image (now b)))) sides ⌝ }
+    ensures { λ r. ⌜ numberOf r ≡ relationNumber (points (now (a .entry))) (points (now (b .entry))) ⌝ }
 {
-    let sides = pass(a, b, top);
     if sides.outside {
         return Relation::Apart;
     }
@@ -75,8 +77,8 @@ pub fn first(a: &[i32], b: &[i32], top: usize) -> Point
     side::here(side::side_at(a, 0), image::side_at(b, top, 0))
 }
 
-// Passes the edges, each once, up to one that has the origin to its right: most of them in a stride. After the last
-// edge both sides are at their first corners again.
+// Passes the edges, each once, up to one that has the origin to its right, or the last: most of them in a stride. After
+// the last edge both sides are at their first corners again.
 pub fn pass(a: &[i32], b: &[i32], top: usize) -> Sides
     requires { ⌜ Valid (now a) × Valid (now b) × Peak (points (now b)) top ⌝ }
     ensures { λ r. ⌜ Passed (vectorSum (points (now (a .entry))) (points (image (now (b .entry))))) r ⌝ }
@@ -94,26 +96,16 @@ pub fn pass(a: &[i32], b: &[i32], top: usize) -> Sides
         let m = side::next(a, s, c < 0);
         let n = image::next(b, top, t, 0 < c);
         let turn = point::cross(from, side::here(m, n));
-        if turn < 0 {
+        rim = either(rim, turn <= 0);
+        count += 1;
+        if either(turn < 0, m.at + n.at == all) {
             return Sides {
                 count,
-                outside: true,
+                outside: turn < 0,
                 rim,
                 normal: normal::passed_normal(s, t, m, n),
                 first: s.at,
                 second: t.at,
-            };
-        }
-        rim = either(rim, turn <= 0);
-        count += 1;
-        if m.at + n.at == all {
-            return Sides {
-                count,
-                outside: false,
-                rim,
-                normal: Point { x: 0, y: 0 },
-                first: 0,
-                second: 0,
             };
         }
         s = m;

@@ -127,8 +127,8 @@ pub fn is_far(a: &[i32], b: &[i32]) -> bool
     ensures { λ r. ⌜ r
         ≡ someOutside (numbers (shapeOf (differences (points (now (a .entry))) (points (now (b .entry)))))) ⌝ }
 {
-    let e = extent::extent_of(b);
+    let e = sums::extent::extent_of(b);
     let high = e.low;
     let low = e.high;
-    extent::is_far(extent::extent_of(a), Extent { high, low })
+    extent::is_far(sums::extent::extent_of(a), Extent { high, low })
 }

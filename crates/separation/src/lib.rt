@@ -18,12 +18,13 @@ use polygon::peak;
 
 // Whether two shapes are apart, touching or overlapping, by a walk round their differences: the sum of the first and
 // the mirror image of the second.
-// Ruled out: touching read as apart; less or equal for less; segments in line by normals only.
+// Ruled out: touching read as apart; segments in line by normals only.
 pub fn relation(a: &[i32], b: &[i32]) -> Relation
     requires { ⌜ Valid (now a) × Valid (now b) ⌝ }
     ensures { λ r. ⌜ numberOf r ≡ relationNumber (points (now (a .entry))) (points (now (b .entry))) ⌝ }
 {
-    around::around(a, b, peak::top(b))
+    let top = peak::top(b);
+    around::related(a, b, top, around::pass(a, b, top))
 }
 
 // Whether the first shape is inside the second: a point and a segment by their ends, a polygon by a walk round both.

@@ -1,6 +1,6 @@
-// Inner functions: the walk round the differences of two shapes as long as both have three edges left and the origin is
-// strictly to the left of each edge. No step tests for the end of a shape, and the turn is taken by the passed edge:
-// that is quicker.
+// Inner functions: the walk round the differences of two shapes as long as both have three edges left, or the first is
+// a point and the second has, and the origin is strictly to the left of each edge. No step tests for the end of both
+// shapes, and the turn is taken by the passed edge: that is quicker.
 ghost use mathlib.Core.Path.{_≡_};
 ghost use Prim.Native.Nat.{_^_};
 ghost use Rattle.plane.specs.Point.{points, _⊕_};
@@ -30,7 +30,7 @@ pub fn stride(a: &[i32], b: &[i32], top: usize) -> Partway
     ensures { λ r. ⌜ Strode (now (a .entry)) (image (now (b .entry))) (r .s) (r .t) (r .joined) ⌝ }
 {
     let mut s = side::side_at(a, 0);
-    let mut t = image::side_at(b, top, 0);
+    let mut t = alone(a, b, top, s, image::side_at(b, top, 0));
     let mut joined = 0;
     if !side::are_inside(s, t) {
         return Partway { s, t, joined };
@@ -60,6 +60,24 @@ pub fn stride(a: &[i32], b: &[i32], top: usize) -> Partway
             return Partway { s, t, joined };
         }
     }
+}
+
+// Where the first shape is a point, the same of the second by itself: its side is returned. Else it stays where it is.
+fn alone(a: &[i32], b: &[i32], top: usize, s: Side, t: Side) -> Side
+    requires { ⌜ Valid (now a) × Valid (now b) × Peak (points (now b)) top × Strode (now a) (image (now b)) s t 0 ⌝ }
+    ensures { λ r. ⌜ Strode (now (a .entry)) (image (now (b .entry))) s r 0 ⌝ }
+{
+    let mut n = t;
+    if s.at < s.end {
+        return n;
+    }
+    while n.at + 2 < n.end {
+        if moment(side::here(s, n), n) <= 0 {
+            return n;
+        }
+        n = image::ahead(b, top, n, false);
+    }
+    n
 }
 
 // The moment about the origin of the next edge of a side, where it leaves p: positive if the origin is to its left.

@@ -20,6 +20,7 @@ use Rattle.plane.specs.Refusal.{Valid}
 use Rattle.plane.specs.Separation.{apart}
 use Rattle.plane.specs.Clearance.{nearest}
 use Rattle.plane.specs.Floor.{Floored, corners}
+use Rattle.plane.specs.Measure.{widthNumbers}
 use Rattle.plane.specs.Question.{reply, askLength, askWidth, askClearance}
 use Rattle.plane.specs.theory.forms.Vector.{square-positive}
 use Rattle.strips.specs.Strip.{least, spread, gapIn, Corridor}
@@ -70,7 +71,7 @@ direction-has-length d n = square-positive d (record { non-zero = n })
 -- every shape of three or more corners has such an answer
 pub three-corners-are-answered : (a : Floored) → Valid (a .list) → 2 < length (corners a)
     → (e : ℕ) × (c : ℤ) × (t : ℤ) × (q : ℤ) × (w : ℤ) × (reply (askWidth a) ≡ answered (pos e ∷ c ∷ t ∷ q ∷ w ∷ pos (a .floor) ∷ []))
-three-corners-are-answered a v three = (_, _, _, _, _, three-answered a v three)
+three-corners-are-answered a v three = (_, _, _, _, _, three-answered a (widthNumbers (corners a)) v three)
 
 -- ---- length: 000, theorem 2.1.1, "The diameter of a convex polygon P is the greatest distance between parallel lines of support of P"
 

@@ -2,6 +2,7 @@
 -- answers say.
 pub mod Spread
 pub mod Parallel
+pub mod Outermost
 pub mod Edges
 pub mod WidthBound
 pub mod Corridors

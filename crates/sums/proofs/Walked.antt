@@ -1,11 +1,13 @@
 -- A walk under way from a place (`Walked`), with carried sides: the invariant of every loop that goes round two shapes, and its moves.
 --     walked-start, -more          its moves: nothing yet, one corner more; `walked-inside`: one more where edges are left
 --     walked-over, -spent          its ends: no edge is left, or k corners are passed; `Ended`: these are all the next corners
+--     sideOf-carried, walked-with  the side at a position is carried; a walk with other sides at the same positions
+--     edges-sum                    the edges of both lists together are a number that fits; `all-edges`: the ends of both sides
 --     walked-at, -below, -here     the walk is at a place; a corner is to come, and the two sides are at it
 use mathlib.Core.Path.{_≡_, refl, sym, _∙_, ap, subst}
 use mathlib.Core.Bool.{Bool, true, false, cond}
 use mathlib.Core.List.{List}
-use Prim.Native.Nat.{ℕ, _+_, _≤_, _<_, zero-le}
+use Prim.Native.Nat.{ℕ, _+_, _^_, _≤_, _<_, zero-le}
 use native.Mathlib.Numerals.{add-one}
 use native.Mathlib.Omega.{arith}
 use borrow.Author.Tests.{ltb-true, ltb-false}
@@ -17,9 +19,11 @@ use lib.Signed.{ltZ}
 use Rattle.plane.specs.Point.{Point, points, corner, origin, _⊕_}
 use Rattle.plane.specs.Turn.{cross}
 use Rattle.plane.specs.Forms.{edges}
+use Rattle.plane.specs.theory.lists.Flat.{points-length}
+use Rattle.plane.specs.theory.sum.Positions.{edges-at-most}
 use Rattle.calipers.specs.declared.side.Side.{Side}
 use Rattle.calipers.specs.Side.{cornerOf, nextOf, onward, Carried, walkOf}
-use Rattle.sums.specs.Advance.{state, nextCorners, Walked}
+use Rattle.sums.specs.Advance.{state, sideOf, nextCorners, Walked}
 use Rattle.calipers.specs.Walk.{Walk, here, finished, advanced, stepped, remaining, At}
 use Rattle.calipers.specs.theory.Sides.{onward-end, onward-inner}
 use Rattle.calipers.specs.theory.Carry.{all-passed, some-left, sides-walk, sides-here, sides-advanced}
@@ -39,6 +43,17 @@ passed-one A false i m e = go (ltb i (length (edges A))) refl
     go true q = omega (arith, e ∙ onward-inner A i (ltb-true i (length (edges A)) q))
     go false q = omega (arith, e ∙ onward-end A i (ltb-false i (length (edges A)) q))
 
+pub sideOf-carried : (l : List ℤ) (i : ℕ) → i ≤ length (edges (points l)) → Carried l (sideOf l i)
+sideOf-carried l i h = record { at-in = h; end-is = refl; corner-is = refl; edge-is = refl }
+
+pub edges-sum : (a b : List ℤ) → length a < 2 ^ 63 → length b < 2 ^ 63
+    → length (edges (points a)) + length (edges (points b)) < 2 ^ 63
+edges-sum a b h l = omega (arith, h, l, edges-at-most (points a), edges-at-most (points b), points-length a, points-length b)
+
+pub all-edges : {a b : List ℤ} {s t : Side} → Carried a s → Carried b t
+    → s .end + t .end ≡ length (edges (points a)) + length (edges (points b))
+all-edges u v = omega (arith, u .end-is, v .end-is)
+
 -- how many of the corners to come are next
 taken-below : (k n : ℕ) (ps : List Point) → n < k → n < length ps → n < length (take k ps)
 taken-below k n ps h l = omega (arith, length-take k ps)
@@ -56,6 +71,16 @@ module _ {a b : List ℤ} {k : ℕ} where
   }
 
   module _ {w : Walk} {count : ℕ} {s t : Side} (p : Walked a b w k count s t) where
+    pub walked-with : (m n : Side) → m .at ≡ s .at → n .at ≡ t .at → Carried a m → Carried b n → Walked a b w k count m n
+    walked-with m n i j u v = record {
+      start = p .start;
+      within = p .within;
+      few = p .few;
+      moved = sides-walk (walkOf s t false) m n i j ∙ p .moved;
+      first-side = u;
+      second-side = v;
+    }
+
     abbrev coming : List Point
     coming = remaining (points a) (points b) w
 

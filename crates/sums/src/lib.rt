@@ -1,5 +1,6 @@
 // Inner functions for the vector sum of two shapes by the caliper walk (document 01, "Sum"). Callers ask the crate
 // `questions`.
+pub mod extent;
 pub mod size;
 pub mod walk;
 

@@ -1,19 +1,24 @@
 // Inner functions: the size of a sum before it is written: how many corners it has, and whether one is out of range.
-ghost use mathlib.Core.Bool.{true, false};
+ghost use mathlib.Core.Bool.{true, false, cond};
 ghost use mathlib.Core.Path.{_≡_};
-ghost use Prim.Native.Nat.{_*_, _<_, _≤_};
+ghost use Prim.Native.Nat.{_+_, _*_, _^_, _<_, _≤_};
 ghost use lib.ListN.{length};
 ghost use Rattle.plane.specs.Limits.{maxCorners};
-ghost use Rattle.plane.specs.Point.{points, numbers};
-ghost use Rattle.plane.specs.Refusal.{Valid, someOutside};
+ghost use Rattle.plane.specs.Point.{points, numbers, corner, _⊖_};
+ghost use Rattle.plane.specs.Refusal.{Valid, InRange, someOutside};
 ghost use Rattle.plane.specs.Corner.{shapeOf, sums};
 ghost use Rattle.calipers.specs.Walk.{At};
-ghost use Rattle.sums.specs.Advance.{state, nextCorners};
+ghost use Rattle.polygon.specs.Point.{at};
+ghost use Rattle.sums.specs.Advance.{state, sideOf, nextCorners, Walked};
 ghost use Rattle.sums.specs.Size.{Reckoned};
+use crate::extent;
+use crate::walk;
+use calipers::edges;
 use calipers::side;
 use polygon::corners;
-use polygon::extent;
 use polygon::limits;
+use polygon::point;
+use polygon::point::Point;
 
 // Returns the number of corners of a sum that is to be written to an output of `room` numbers. Where the corners of
 // both shapes together are few enough, their number is returned instead: no sum has more. The count stops after one
@@ -46,10 +51,11 @@ pub fn count_on(a: &[i32], b: &[i32], i: usize, j: usize, k: usize) -> usize
     requires { ⌜ At (now a) (now b) (state i j false) × (0 < k) ⌝ }
     ensures { λ r. ⌜ r ≡ length (nextCorners (now (a .entry)) (now (b .entry)) (state i j false) k) ⌝ }
 {
-    let mut s = side::side_at(a, i);
-    let mut t = side::side_at(b, j);
+    let far = begin(a, b, i, j, k);
+    let mut s = side::side_at(a, far.first);
+    let mut t = side::side_at(b, far.second);
     let all = s.end + t.end;
-    let mut count = 0;
+    let mut count = far.count;
     loop {
         count += 1;
         let c = side::order(s, t);
@@ -62,6 +68,76 @@ pub fn count_on(a: &[i32], b: &[i32], i: usize, j: usize, k: usize) -> usize
             return count;
         }
     }
+}
+
+// How far a count came: the corners that were counted, and the edges of each shape that are passed.
+struct Tally {
+    count: usize,
+    first: usize,
+    second: usize,
+}
+
+// Counts ahead where the shapes have corners in like numbers. Where one has few, a branch on the order of edges can be
+// predicted, and the count of sides is quicker.
+fn begin(a: &[i32], b: &[i32], i: usize, j: usize, k: usize) -> Tally
+    requires { ⌜ At (now a) (now b) (state i j false) × (0 < k) ⌝ }
+    ensures { λ r. ⌜ Walked (now (a .entry)) (now (b .entry)) (state i j false) k (r .count)
+        (sideOf (now (a .entry)) (r .first)) (sideOf (now (b .entry)) (r .second)) ⌝ }
+{
+    if are_alike(corners::count(a), corners::count(b)) {
+        return skim(a, b, i, j, k);
+    }
+    Tally {
+        count: 0,
+        first: i,
+        second: j,
+    }
+}
+
+// Returns whether neither number is more than four times the other.
+fn are_alike(m: usize, n: usize) -> bool {
+    m / 4 <= n && n / 4 <= m
+}
+
+// Counts as long as both shapes have three edges left and more than one corner may be counted. Both edges are read at
+// every step, and no branch hangs on their order: it cannot be predicted.
+fn skim(a: &[i32], b: &[i32], i: usize, j: usize, k: usize) -> Tally
+    requires { ⌜ At (now a) (now b) (state i j false) × (0 < k) ⌝ }
+    ensures { λ r. ⌜ Walked (now (a .entry)) (now (b .entry)) (state i j false) k (r .count)
+        (sideOf (now (a .entry)) (r .first)) (sideOf (now (b .entry)) (r .second)) ⌝ }
+{
+    let m = edges::sides(a);
+    let n = edges::sides(b);
+    let mut first = i;
+    let mut second = j;
+    let mut count = 0;
+    while walk::inside(first, m, second, n, count, k) {
+        let c = point::cross(edge_at(a, first), edge_at(b, second));
+        count += 1;
+        first = one_more(first, c < 0);
+        second = one_more(second, 0 < c);
+    }
+    Tally {
+        count,
+        first,
+        second,
+    }
+}
+
+// Returns the edge from corner i to the next, which is not the first.
+fn edge_at(list: &[i32], i: usize) -> Point
+    requires { ⌜ (i + 1 < length (points (now list))) × InRange (now list) ⌝ }
+    ensures { λ r. ⌜ at r ≡ corner (points (now (list .entry))) (i + 1) ⊖ corner (points (now (list .entry))) i ⌝ }
+{
+    point::step(corners::corner_at(list, i), corners::corner_at(list, i + 1))
+}
+
+// Returns one more, unless it waits.
+fn one_more(i: usize, waits: bool) -> usize
+    requires { ⌜ i < 2 ^ 63 ⌝ }
+    ensures { λ r. ⌜ r ≡ cond waits i (i + 1) ⌝ }
+{
+    if waits { i } else { i + 1 }
 }
 
 // Returns whether these corners fit in an output of `room` numbers. They are counted only if neither k nor the corners
@@ -89,5 +165,5 @@ pub fn is_far(a: &[i32], b: &[i32]) -> bool
     ensures { λ r. ⌜ r
         ≡ someOutside (numbers (shapeOf (sums (points (now (a .entry))) (points (now (b .entry)))))) ⌝ }
 {
-    extent::is_far(extent::extent_of(a), extent::extent_of(b))
+    polygon::extent::is_far(extent::extent_of(a), extent::extent_of(b))
 }

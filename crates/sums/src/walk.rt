@@ -81,7 +81,7 @@ fn stride(a: &[i32], b: &[i32], k: usize, s: Side, t: Side, out: &mut [i32]) -> 
     let mut first = s;
     let mut second = t;
     let mut count = 0;
-    while inside(first, second, count, k) {
+    while inside(first.at, first.end, second.at, second.end, count, k) {
         corners::put(out, count, side::here(first, second));
         count += 1;
         let c = side::order(first, second);
@@ -95,15 +95,16 @@ fn stride(a: &[i32], b: &[i32], k: usize, s: Side, t: Side, out: &mut [i32]) -> 
     }
 }
 
-// Returns whether both sides have three edges left, and more than one corner may be written.
-fn inside(s: Side, t: Side, count: usize, k: usize) -> bool
-    requires { ⌜ (s .at < 2 ^ 63) × (t .at < 2 ^ 63) × (count < 2 ^ 63) ⌝ }
-    ensures { λ r. ⌜ (r ≡ true → (s .at + 2 < s .end) × (t .at + 2 < t .end) × (count + 1 < k)) ⌝ }
+// Returns whether two shapes with m and n edges, of which i and j are passed, both have three left, and more than one
+// corner may come after `count` of k.
+pub fn inside(i: usize, m: usize, j: usize, n: usize, count: usize, k: usize) -> bool
+    requires { ⌜ (i < 2 ^ 63) × (j < 2 ^ 63) × (count < 2 ^ 63) ⌝ }
+    ensures { λ r. ⌜ (r ≡ true → (i + 2 < m) × (j + 2 < n) × (count + 1 < k)) ⌝ }
 {
-    if s.end <= s.at + 2 {
+    if m <= i + 2 {
         return false;
     }
-    if t.end <= t.at + 2 {
+    if n <= j + 2 {
         return false;
     }
     count + 1 < k

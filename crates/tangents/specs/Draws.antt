@@ -3,6 +3,10 @@
 --     draws s p q x    x draws the line's start away from p: x is not on side s, or it is on the line and ahead of p
 --     Facing ps q      in some direction q is beyond all corners of ps
 --     Rests s ps i q   no corner of ps draws the line's start away from corner i
+--     Beside forward n i k     of n corners corner k is after corner i, or before it
+--     Undrawn s forward ps q i       nor does the corner beside corner i on that way round
+--     Came s forward ps q from i     i is where a walk began, or a corner that draws away from the one before it on that way round
+--     Slid s forward ps q from i     both: where a walk comes to an end
 --     Better s ps i q k     k is i, which rests, or a corner that draws away from i
 --     Ready l i q      corner i of a valid list, and a point that it faces, small enough for the code
 use mathlib.Core.Path.{_≡_}
@@ -14,6 +18,7 @@ use lib.ListN.{length}
 use lib.Signed.{ltZ, _<ℤ_}
 use Rattle.plane.specs.Point.{Point, points, corner, _⊖_}
 use Rattle.plane.specs.Refusal.{Valid}
+use Rattle.plane.specs.Shape.{next}
 use Rattle.plane.specs.Direction.{value}
 use Rattle.plane.specs.Tangent.{onSide}
 use Rattle.polygon.specs.Point.{Small}
@@ -28,6 +33,26 @@ pub record Facing (ps : List Point) (q : Point) : Type 0 where
 pub record Rests (s : Bool) (ps : List Point) (i : ℕ) (q : Point) : Type 0 where
   pub within : i < length ps
   pub undrawn : (k : ℕ) → k < length ps → draws s (corner ps i) q (corner ps k) ≡ false
+
+abbrev pub Beside : Bool → ℕ → ℕ → ℕ → Type 0
+Beside true n i k = k ≡ next n i
+Beside false n i k = next n k ≡ i
+
+pub record Undrawn (s forward : Bool) (ps : List Point) (q : Point) (i : ℕ) : Type 0 where
+  pub other : ℕ
+  pub other-in : other < length ps
+  pub beside : Beside forward (length ps) i other
+  pub undrawn : draws s (corner ps i) q (corner ps other) ≡ false
+
+pub data Came (s forward : Bool) (ps : List Point) (q : Point) (from i : ℕ) : Type 0 where
+  stayed : i ≡ from → Came s forward ps q from i
+  moved : (k : ℕ) → k < length ps → Beside forward (length ps) k i → draws s (corner ps k) q (corner ps i) ≡ true
+      → Came s forward ps q from i
+
+pub record Slid (s forward : Bool) (ps : List Point) (q : Point) (from i : ℕ) : Type 0 where
+  pub within : i < length ps
+  pub ends : Undrawn s forward ps q i
+  pub came : Came s forward ps q from i
 
 pub record Better (s : Bool) (ps : List Point) (i : ℕ) (q : Point) (k : ℕ) : Type 0 where
   pub within : k < length ps

@@ -8,6 +8,7 @@ pub mod OneLine
 pub mod NearestOnLine
 pub mod EndStays
 pub mod SettledExists
+pub mod Sliding
 pub mod Touching
 pub mod TangentUnique
 pub mod TangentSearch

@@ -6,32 +6,29 @@ ghost use Rattle.plane.specs.Point.{points, corner};
 ghost use Rattle.plane.specs.Refusal.{InRange};
 ghost use Rattle.plane.specs.Shape.{next};
 ghost use Rattle.polygon.specs.Point.{at, Small};
-ghost use Rattle.tangents.specs.Draws.{draws as Draws·draws, Rests, Better, Ready};
+ghost use Rattle.tangents.specs.Draws.{draws as Draws·draws, Rests, Beside, Slid, Better, Ready};
 use crate::draws;
 use polygon::corners;
 use polygon::point::Point;
 use polygon::rules;
 
-// The position where the start of the line to q rests, found by walking from a position of the list, at first one way
-// round.
+// The position where the start of the line to q rests, found by walking from a position of the list one way round; the
+// other way where it does not move. A corner that it came from does not draw it back.
 pub fn settle(list: &[i32], from: usize, q: Point, s: bool, forward: bool) -> usize
     requires { ⌜ Ready (now list) from (at q) ⌝ }
     ensures { λ r. ⌜ Rests s (points (now (list .entry))) r (at q) ⌝ }
 {
-    let mut i = slid(list, from, q, s, forward);
-    loop {
-        let k = better(list, i, q, s);
-        if k == i {
-            return i;
-        }
-        i = k;
+    let i = slid(list, from, q, s, forward);
+    if i == from {
+        return slid(list, from, q, s, !forward);
     }
+    i
 }
 
 // The position that the start of the line to q comes to by walking one way round, as long as the next corner draws it.
 fn slid(list: &[i32], from: usize, q: Point, s: bool, forward: bool) -> usize
     requires { ⌜ Ready (now list) from (at q) ⌝ }
-    ensures { λ r. ⌜ r < length (points (now (list .entry))) ⌝ }
+    ensures { λ r. ⌜ Slid s forward (points (now (list .entry))) (at q) from r ⌝ }
 {
     let n = corners::count(list);
     let mut i = from;
@@ -47,7 +44,7 @@ fn slid(list: &[i32], from: usize, q: Point, s: bool, forward: bool) -> usize
 // The position after i on the way round n corners, or the one before it.
 fn beside(n: usize, i: usize, forward: bool) -> usize
     requires { ⌜ i < n ⌝ }
-    ensures { λ r. ⌜ r < n ⌝ }
+    ensures { λ r. ⌜ (r < n) × Beside forward n i r ⌝ }
 {
     if forward {
         return rules::next(n, i);

@@ -4,17 +4,11 @@ use Rattle.admission.specs.theory.Judged.{passes}
 use Rattle.admission.proofs.admit.Statement.{statement}
 use Rattle.admission.proofs.admit.Tie as tie
 
-passes-requires : tie.Need-passes-requires
-passes-requires c κs = search needs
-
 returns : tie.Need-returns
 returns c = passes (c .before .passes .ensures .0 (c .if1 .taken))
-
-blamed-requires : tie.Need-blamed-requires
-blamed-requires c κs = search needs
 
 returns-2 : tie.Need-returns-2
 returns-2 c = c .blamed .ensures
 
 pub admit-spec : {M : Type 1} → statement M
-admit-spec = tie.close (tie.spec passes-requires returns blamed-requires returns-2)
+admit-spec = tie.close (tie.spec (λ c κs. search needs) returns (λ c κs. search needs) returns-2)

@@ -26,14 +26,8 @@ common-is : (c : tie.After-common-divisor)
     → c .common-divisor .result ≡ commonDivisor (point (c .before .before .before .args .u) (c .before .before .before .args .v))
 common-is c = c .common-divisor .ensures ∙ ap commonDivisor (direction-is (c .before .before .before))
 
-bad-direction-requires : tie.Need-bad-direction-requires
-bad-direction-requires c κs = search needs
-
 returns : tie.Need-returns
 returns c = turns-away (refuses (here (sym (bad-is (c .before)) ∙ c .if1 .taken)))
-
-common-divisor-requires : tie.Need-common-divisor-requires
-common-divisor-requires c κs = search needs
 
 returns-2 : tie.Need-returns-2
 returns-2 c = turns-away (refuses (later (row-11 (c .before .before)) (here (sym (common-is (c .before)) ∙ c .if2 .taken))))
@@ -42,4 +36,4 @@ returns-3 : tie.Need-returns-3
 returns-3 c = passes (row-11 (c .before .before), (sym (common-is (c .before)) ∙ c .if2 .left, tt))
 
 pub admit-direction-spec : {M : Type 1} → statement M
-admit-direction-spec = tie.close (tie.spec bad-direction-requires returns common-divisor-requires returns-2 returns-3)
+admit-direction-spec = tie.close (tie.spec (λ c κs. search needs) returns (λ c κs. search needs) returns-2 returns-3)

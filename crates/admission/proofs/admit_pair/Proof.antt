@@ -6,26 +6,11 @@ use Rattle.admission.specs.theory.Door.{then-floors}
 use Rattle.admission.proofs.admit_pair.Statement.{statement}
 use Rattle.admission.proofs.admit_pair.Tie as tie
 
-passes-requires : tie.Need-passes-requires
-passes-requires c κs = search needs
-
-blamed-pair-requires : tie.Need-blamed-pair-requires
-blamed-pair-requires c κs = search needs
-
 returns : tie.Need-returns
 returns c = c .blamed-pair .ensures
 
-passes-requires-2 : tie.Need-passes-requires-2
-passes-requires-2 c κs = search needs
-
-blamed-pair-requires-2 : tie.Need-blamed-pair-requires-2
-blamed-pair-requires-2 c κs = search needs
-
 returns-2 : tie.Need-returns-2
 returns-2 c = c .blamed-pair2 .ensures
-
-admit-floors-requires : tie.Need-admit-floors-requires
-admit-floors-requires c κs = search needs
 
 returns-3 : tie.Need-returns-3
 returns-3 c =
@@ -39,5 +24,5 @@ returns-3 c =
 pub admit-pair-spec : {M : Type 1} → statement M
 admit-pair-spec =
     tie.close
-    (tie.spec passes-requires blamed-pair-requires returns passes-requires-2 blamed-pair-requires-2 returns-2 admit-floors-requires
-    returns-3)
+    (tie.spec (λ c κs. search needs) (λ c κs. search needs) returns (λ c κs. search needs) (λ c κs. search needs) returns-2
+    (λ c κs. search needs) returns-3)

@@ -21,20 +21,11 @@ row-2 c = sym (c .before .too-many-points .ensures) ∙ c .if2 .left
 
 -- ---- the needs
 
-bad-count-requires : tie.Need-bad-count-requires
-bad-count-requires c κs = search needs
-
 returns : tie.Need-returns
 returns c = turns-away (refuses (here (sym (c .before .bad-count .ensures) ∙ c .if1 .taken)))
 
-too-many-points-requires : tie.Need-too-many-points-requires
-too-many-points-requires c κs = search needs
-
 returns-2 : tie.Need-returns-2
 returns-2 c = turns-away (refuses (later (row-1 (c .before .before)) (here (sym (c .before .too-many-points .ensures) ∙ c .if2 .taken))))
-
-some-outside-requires : tie.Need-some-outside-requires
-some-outside-requires c κs = search needs
 
 returns-3 : tie.Need-returns-3
 returns-3 c =
@@ -50,4 +41,4 @@ returns-4 c =
 pub admit-points-spec : {M : Type 1} → statement M
 admit-points-spec =
     tie.close
-    (tie.spec bad-count-requires returns too-many-points-requires returns-2 some-outside-requires returns-3 returns-4)
+    (tie.spec (λ c κs. search needs) returns (λ c κs. search needs) returns-2 (λ c κs. search needs) returns-3 returns-4)

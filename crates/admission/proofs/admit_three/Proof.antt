@@ -35,26 +35,11 @@ level : (c : tie.After-enum-told4) → let start = c .before .before .before .be
     .before in start .args .f ≡ start .args .g
 level c = c .before .before .admit-floors .ensures .valid (c .enum-told4 .given .1)
 
-admit-requires : tie.Need-admit-requires
-admit-requires c κs = search needs
-
-enum-known-of-first : tie.Need-enum-known-of-first
-enum-known-of-first c = search needs
-
 returns : tie.Need-returns
 returns c =
     let start = c .before .before .before .before in
     turns-away (refuses-append (shapeRows 2 (start .args .b .now) ++ (shapeRows 3 (start .args .c .now)
     ++ floorRows (one start) (two start) (three start))) (c .before .before .before .admit .ensures .no _ (c .before .of-first .given .1)))
-
-enum-told : tie.Need-enum-told
-enum-told c = search needs
-
-admit-requires-2 : tie.Need-admit-requires-2
-admit-requires-2 c κs = search needs
-
-enum-known-of-second : tie.Need-enum-known-of-second
-enum-known-of-second c = search needs
 
 returns-2 : tie.Need-returns-2
 returns-2 c =
@@ -64,15 +49,6 @@ returns-2 c =
     turns-away (refuses-join (shapeRows 1 (start .args .a .now)) (valid→accepted _ 1 (first at-first))
     (refuses-append (shapeRows 3 (start .args .c .now) ++ floorRows (one start) (two start) (three start))
     (at-second .admit2 .ensures .no _ (c .before .of-second .given .1))))
-
-enum-told-2 : tie.Need-enum-told-2
-enum-told-2 c = search needs
-
-admit-requires-3 : tie.Need-admit-requires-3
-admit-requires-3 c κs = search needs
-
-enum-known-of-third : tie.Need-enum-known-of-third
-enum-known-of-third c = search needs
 
 returns-3 : tie.Need-returns-3
 returns-3 c =
@@ -84,15 +60,6 @@ returns-3 c =
     (refuses-join (shapeRows 2 (start .args .b .now)) (valid→accepted _ 2 (second at-second))
     (refuses-append (floorRows (one start) (two start) (three start)) (at-third .admit3 .ensures .no _ (c .before .of-third .given .1)))))
 
-enum-told-3 : tie.Need-enum-told-3
-enum-told-3 c = search needs
-
-admit-floors-requires : tie.Need-admit-floors-requires
-admit-floors-requires c κs = search needs
-
-enum-known-floors : tie.Need-enum-known-floors
-enum-known-floors c = search needs
-
 returns-4 : tie.Need-returns-4
 returns-4 c =
     let at-floors = c .before .before .before in
@@ -103,12 +70,6 @@ returns-4 c =
     turns-away (floors-refused (one start) (two start) (three start) (first at-first) (second at-second) (third at-third)
     (refuses-append (floorRow (start .args .f) (start .args .h) ∷ [])
     (at-floors .admit-floors .ensures .no _ (c .before .floors .given .1))))
-
-enum-told-4 : tie.Need-enum-told-4
-enum-told-4 c = search needs
-
-admit-floors-requires-2 : tie.Need-admit-floors-requires-2
-admit-floors-requires-2 c κs = search needs
 
 returns-5 : tie.Need-returns-5
 returns-5 c =
@@ -123,6 +84,6 @@ returns-5 c =
 pub admit-three-spec : {M : Type 1} → statement M
 admit-three-spec =
     tie.close
-    (tie.spec admit-requires enum-known-of-first returns enum-told admit-requires-2 enum-known-of-second returns-2 enum-told-2
-    admit-requires-3 enum-known-of-third returns-3 enum-told-3 admit-floors-requires enum-known-floors returns-4 enum-told-4
-    admit-floors-requires-2 returns-5)
+    (tie.spec (λ c κs. search needs) (λ c. search needs) returns (λ c. search needs) (λ c κs. search needs) (λ c. search needs) returns-2
+    (λ c. search needs) (λ c κs. search needs) (λ c. search needs) returns-3 (λ c. search needs) (λ c κs. search needs) (λ c. search needs)
+    returns-4 (λ c. search needs) (λ c κs. search needs) returns-5)

@@ -31,20 +31,11 @@ row-4 c = broken-none _ (sym (c .before .before .first-broken .ensures) ∙ c .e
 
 -- ---- the needs
 
-bad-count-requires : tie.Need-bad-count-requires
-bad-count-requires c κs = search needs
-
 returns : tie.Need-returns
 returns c = turns-away (refuses (here (sym (c .before .bad-count .ensures) ∙ c .if1 .taken)))
 
-too-many-requires : tie.Need-too-many-requires
-too-many-requires c κs = search needs
-
 returns-2 : tie.Need-returns-2
 returns-2 c = turns-away (refuses (later (row-1 (c .before .before)) (here (sym (c .before .too-many .ensures) ∙ c .if2 .taken))))
-
-some-outside-requires : tie.Need-some-outside-requires
-some-outside-requires c κs = search needs
 
 returns-3 : tie.Need-returns-3
 returns-3 c =
@@ -54,9 +45,6 @@ returns-3 c =
 
 first-broken-requires : tie.Need-first-broken-requires
 first-broken-requires c κs = near→inRange _ (row-3 c)
-
-enum-known-edge : tie.Need-enum-known-edge
-enum-known-edge c = search needs
 
 returns-4 : tie.Need-returns-4
 returns-4 c =
@@ -69,12 +57,6 @@ returns-4 c =
       first = later (row-1 (at-2 .before .before)) (later (row-2 at-2) (later (row-3 at-3) (here (found .0))));
       is = ap₂ (λ (e k : ℕ). refused 4 (start .args .shape ∷ e ∷ k ∷ [])) (sym (found .1)) (sym (found .2));
     })
-
-enum-told : tie.Need-enum-told
-enum-told c = search needs
-
-bad-start-requires : tie.Need-bad-start-requires
-bad-start-requires c κs = search needs
 
 returns-5 : tie.Need-returns-5
 returns-5 c =
@@ -96,5 +78,5 @@ returns-6 c =
 pub blamed-spec : {M : Type 1} → statement M
 blamed-spec =
     tie.close
-    (tie.spec bad-count-requires returns too-many-requires returns-2 some-outside-requires returns-3 first-broken-requires enum-known-edge
-    returns-4 enum-told bad-start-requires returns-5 returns-6)
+    (tie.spec (λ c κs. search needs) returns (λ c κs. search needs) returns-2 (λ c κs. search needs) returns-3 first-broken-requires
+    (λ c. search needs) returns-4 (λ c. search needs) (λ c κs. search needs) returns-5 returns-6)

@@ -28,26 +28,11 @@ second c = c .before .before .blamed .ensures .valid (c .enum-told2 .given .1)
 behind-first : (c : tie.After-enum-told) → NoneApply (shapeRows 1 (c .before .before .before .args .a .now))
 behind-first c = valid→accepted _ 1 (first c)
 
-admit-requires : tie.Need-admit-requires
-admit-requires c κs = search needs
-
-enum-known-first : tie.Need-enum-known-first
-enum-known-first c = search needs
-
 returns : tie.Need-returns
 returns c =
     let start = c .before .before .before .before in
     turns-away (refuses-append (shapeRows 2 (start .args .b .now) ++ (floorRow (start .args .f) (start .args .g) ∷ []))
     (c .before .before .before .admit .ensures .no _ (c .before .first .given .1)))
-
-enum-told : tie.Need-enum-told
-enum-told c = search needs
-
-blamed-requires : tie.Need-blamed-requires
-blamed-requires c κs = search needs
-
-enum-known-second : tie.Need-enum-known-second
-enum-known-second c = search needs
 
 returns-2 : tie.Need-returns-2
 returns-2 c =
@@ -55,12 +40,6 @@ returns-2 c =
     let start = at-second .before .before .before .before in
     turns-away (refuses-join (shapeRows 1 (start .args .a .now)) (behind-first (at-second .before))
     (refuses-append (floorRow (start .args .f) (start .args .g) ∷ []) (at-second .blamed .ensures .no _ (c .before .second .given .1))))
-
-enum-told-2 : tie.Need-enum-told-2
-enum-told-2 c = search needs
-
-admit-floors-requires : tie.Need-admit-floors-requires
-admit-floors-requires c κs = search needs
 
 returns-3 : tie.Need-returns-3
 returns-3 c =
@@ -72,5 +51,5 @@ returns-3 c =
 pub blamed-pair-spec : {M : Type 1} → statement M
 blamed-pair-spec =
     tie.close
-    (tie.spec admit-requires enum-known-first returns enum-told blamed-requires enum-known-second returns-2 enum-told-2
-    admit-floors-requires returns-3)
+    (tie.spec (λ c κs. search needs) (λ c. search needs) returns (λ c. search needs) (λ c κs. search needs) (λ c. search needs) returns-2
+    (λ c. search needs) (λ c κs. search needs) returns-3)

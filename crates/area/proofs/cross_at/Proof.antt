@@ -8,12 +8,6 @@ use Rattle.polygon.specs.theory.Small.{small-corner, small-wide}
 use Rattle.area.proofs.cross_at.Statement.{statement}
 use Rattle.area.proofs.cross_at.Tie as tie
 
-corner-at-requires : tie.Need-corner-at-requires
-corner-at-requires c κs = search needs
-
-corner-at-requires-2 : tie.Need-corner-at-requires-2
-corner-at-requires-2 c κs = search needs
-
 cross-requires : tie.Need-cross-requires
 cross-requires c κs =
     let pre = c .before .before .pre in (
@@ -26,4 +20,4 @@ returns c = result-is w64 (c .cross .ok) (c .cross .ensures
     ∙ ap₂ cross (c .before .before .corner-at .ensures) (c .before .corner-at2 .ensures))
 
 pub cross-at-spec : {M : Type 1} → statement M
-cross-at-spec = tie.close (tie.spec corner-at-requires corner-at-requires-2 cross-requires returns)
+cross-at-spec = tie.close (tie.spec (λ c κs. search needs) (λ c κs. search needs) cross-requires returns)

@@ -17,32 +17,29 @@ abbrev μ-loop : tie.MeasureT-loop
 count-requires : tie.Need-count-requires Inv-loop μ-loop
 count-requires c κs = tt
 
-closed-requires : tie.Need-closed-requires Inv-loop μ-loop
-closed-requires c κs =
-    let pre = c .before .pre in
-    let some = pre .0 .shape .some in
-    record { valid = pre .0; three = pre .1; edge-in = some; high-in = some; far-in = some; near-in = some }
+first-requires : tie.Need-first-requires Inv-loop μ-loop
+first-requires c κs = c .before .pre
 
 measured-requires : tie.Need-measured-requires Inv-loop μ-loop
 measured-requires c κs =
-    let pre = c .before .before .pre in record { valid = pre .0; edge-in = pre .0 .shape .some; holds = c .closed .ensures }
+    let pre = c .before .before .pre in record { valid = pre .0; edge-in = pre .0 .shape .some; holds = c .first .ensures }
 
 loop-holds : tie.Need-loop-holds Inv-loop μ-loop
 loop-holds c =
     let pre = c .before .before .before .pre in
-    walk-start (pre .0) (pre .1) (c .before .closed .ensures) (c .measured .ensures .0) (c .measured .ensures .1)
+    walk-start (pre .0) (pre .1) (c .before .first .ensures) (c .measured .ensures .0) (c .measured .ensures .1)
 
 -- the edge that is measured next is one of the list
 edge-in : (c : tie.In-loop Inv-loop μ-loop)
     → c .before .loop .edge < length (points (c .before .before .before .before .before .args .list .now))
 edge-in c = omega (arith, c .loop-test .taken, c .before .before .before .before .count .ensures)
 
-closed-requires-2 : tie.Need-closed-requires-2 Inv-loop μ-loop
-closed-requires-2 c κs = walk-closing (c .before .loop .inv) (edge-in c)
+closed-requires : tie.Need-closed-requires Inv-loop μ-loop
+closed-requires c κs = walk-closing (c .before .loop .inv) (edge-in c)
 
 measured-requires-2 : tie.Need-measured-requires-2 Inv-loop μ-loop
 measured-requires-2 c κs =
-    record { valid = c .before .before .loop .inv .valid; edge-in = edge-in (c .before); holds = c .closed2 .ensures }
+    record { valid = c .before .before .loop .inv .valid; edge-in = edge-in (c .before); holds = c .closed .ensures }
 
 smaller-requires : tie.Need-smaller-requires Inv-loop μ-loop
 smaller-requires c κs = tt
@@ -57,7 +54,7 @@ loop-again : tie.Need-loop-again Inv-loop μ-loop
 loop-again c =
     let found = c .before .measured2 .ensures in
     let test = c .before .before .before in
-    walk-next (test .before .loop .inv) (edge-in test) (c .before .before .closed2 .ensures) (found .0) (found .1) (c .smaller .ensures)
+    walk-next (test .before .loop .inv) (edge-in test) (c .before .before .closed .ensures) (found .0) (found .1) (c .smaller .ensures)
 
 returns : tie.Need-returns Inv-loop μ-loop
 returns c = walk-done (c .before .loop .inv) (omega (arith, c .loop-test .left, c .before .before .before .before .count .ensures))
@@ -65,5 +62,5 @@ returns c = walk-done (c .before .loop .inv) (omega (arith, c .loop-test .left, 
 pub least-box-spec : {M : Type 1} → statement M
 least-box-spec =
     tie.close
-    (tie.spec Inv-loop μ-loop count-requires closed-requires measured-requires loop-holds closed-requires-2 measured-requires-2
+    (tie.spec Inv-loop μ-loop count-requires first-requires measured-requires loop-holds closed-requires measured-requires-2
     smaller-requires add-edge loop-less loop-again returns)

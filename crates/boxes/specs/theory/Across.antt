@@ -2,32 +2,25 @@
 --     NoSmaller ps d       the box in d, squared and over the squared length of d, is at least (T+S)·(T+S)/Q
 --     best-long            Q is above 0
 --     tied-no-smaller      where two corners are furthest in d, d points across the edge between them
-use mathlib.Core.Path.{_≡_, sym, _∙_, ap}
-use mathlib.Core.List.{List, [], _∷_}
+use mathlib.Core.Path.{_≡_, _∙_}
+use mathlib.Core.List.{List}
 use Prim.Native.Nat.{ℕ, _<_}
-use native.Mathlib.Omega.{arith}
 use lib.IntN.{ℤ, pos, _*ℤ_}
 use lib.ListN.{length}
 use lib.Signed.{_≤ℤ_, _<ℤ_}
-use Rattle.integer.specs.Ring.{ring, reify}
-use Rattle.integer.specs.Linear.{linear, lia, _&_}
-use Rattle.integer.specs.Order.{le-antisym}
-use Rattle.plane.specs.Point.{Point, corner, _⊖_, _∈_}
+use Rattle.plane.specs.Point.{Point, corner, _∈_}
 use Rattle.plane.specs.Turn.{cross}
 use Rattle.plane.specs.Shape.{next, IsShape}
 use Rattle.plane.specs.Direction.{value}
 use Rattle.plane.specs.Measure.{edgeSquared}
-use Rattle.plane.specs.Cut.{outward}
-use Rattle.plane.specs.theory.lists.Members.{position-member, member-position}
-use Rattle.plane.specs.theory.forms.Vector.{positive-non-zero, value-⊖}
-use Rattle.plane.specs.theory.support.Support.{support-unique}
-use Rattle.plane.specs.theory.face.Tied.{Tied, after, behind, tied}
+use Rattle.measure.specs.theory.Fractions.{fraction-trans}
 use Rattle.measure.specs.theory.Height.{edgeSquared-positive}
 use Rattle.strips.specs.Strip.{least}
 use Rattle.strips.specs.OwnDirection.{outOf}
+use Rattle.strips.specs.theory.Outermost.{cross-outward, tied-edge}
 use Rattle.strips.specs.theory.Edges.{out-squared}
 use Rattle.boxes.specs.Box.{around, halfRound, boxEdge}
-use Rattle.boxes.specs.theory.Least.{fraction-trans, noLarger-le, box-leading}
+use Rattle.boxes.specs.theory.Least.{noLarger-le, box-leading}
 use Rattle.boxes.specs.theory.Around.{around-edge, parallel-around}
 
 -- (T+S)·(T+S)/Q is at most the box in d, squared, over the squared length of d
@@ -36,10 +29,6 @@ NoSmaller ps d = (halfRound ps (boxEdge ps) *ℤ halfRound ps (boxEdge ps) *ℤ 
     ≤ℤ (around d ps *ℤ around d ps *ℤ edgeSquared ps (boxEdge ps))
 
 -- ---- along or across an edge
-
-cross-outward : (n a b : Point) → cross (outward a b) n ≡ value n (b ⊖ a)
-unfolding cross value
-cross-outward n a b = ring (n .x ∷ n .y ∷ a .x ∷ a .y ∷ b .x ∷ b .y ∷ []) (search reify depth 40) tt
 
 module _ (ps : List Point) (s : IsShape ps) (three : 2 < length ps) where
   best-in : boxEdge ps < length ps
@@ -63,26 +52,5 @@ module _ (ps : List Point) (s : IsShape ps) (three : 2 < length ps) where
   -- two different corners furthest in n: they are neighbours, and n points across the edge between them
   pub tied-no-smaller : (n : Point) {a b : Point} → a ∈ ps → b ∈ ps → (a ≡ b → ⊥) → pos 0 <ℤ value n n
       → ((p : Point) → p ∈ ps → value n p ≤ℤ value n a) → ((p : Point) → p ∈ ps → value n p ≤ℤ value n b) → NoSmaller ps n
-  tied-no-smaller n {a} {b} a-in b-in other some top also = go (member-position a-in) (member-position b-in)
-    where
-      along : (i j : ℕ) → i < length ps → next (length ps) i ≡ j → value n (corner ps j) ≡ value n (corner ps i) → NoSmaller ps n
-      along i j h e same = across-no-smaller n i h (cross-outward n (corner ps i) (corner ps (next (length ps) i)) ∙ rw e (lia
-          (value n (corner ps i) ∷ value n (corner ps j) ∷ value n (corner ps j ⊖ corner ps i) ∷ [])
-          (same & value-⊖ n (corner ps j) (corner ps i)) (search linear depth 40) (omega arith))) some
-
-      go : (i : ℕ) × (i < length ps) × (corner ps i ≡ a) → (j : ℕ) × (j < length ps) × (corner ps j ≡ b) → NoSmaller ps n
-      go (i, h, e) (j, k, f) = pick (tied ps s n i j (positive-non-zero n n some) h k (λ r. other (sym e ∙ ap (corner ps) (sym r) ∙ f))
-          (sym (support-unique n (position-member ps i h) first)) (sym (support-unique n (position-member ps j k) second)))
-        where
-          first : (p : Point) → p ∈ ps → value n p ≤ℤ value n (corner ps i)
-          first = rw e top
-
-          second : (p : Point) → p ∈ ps → value n p ≤ℤ value n (corner ps j)
-          second = rw f also
-
-          same : value n (corner ps j) ≡ value n (corner ps i)
-          same = le-antisym (first _ (position-member ps j k)) (second _ (position-member ps i h))
-
-          pick : Tied ps n i j → NoSmaller ps n
-          pick (after r w) = along i j h (sym r) same
-          pick (behind r w) = along j i k (sym r) (sym same)
+  tied-no-smaller n a-in b-in other some top also = tied-edge ps s n a-in b-in other some top also (λ i h level furthest.
+      across-no-smaller n i h (cross-outward n (corner ps i) (corner ps (next (length ps) i)) ∙ level) some)

@@ -1,5 +1,4 @@
 -- What an answer of box says: it is given of a shape of three corners or more, and gives the numbers of its definition.
---     three-answered                         such a shape has an answer
 --     answered-no-smaller                    no direction has a smaller box
 --     answered-attains, answered-fraction    the edge's own directions have T and S, and its squared length Q is above 0
 --     answered-turns, answered-spread        every corner is in the box
@@ -7,44 +6,42 @@
 use mathlib.Core.Path.{_≡_, refl, sym}
 use mathlib.Core.List.{List, [], _∷_}
 use Prim.Native.Nat.{ℕ, _<_}
-use borrow.Author.Tests.{ltb-false, le-ltb}
 use lib.IntN.{ℤ, pos, _+ℤ_, _-ℤ_, _*ℤ_}
 use lib.ListN.{length}
 use lib.Signed.{_≤ℤ_, _<ℤ_}
 use Rattle.plane.specs.Point.{Point, points, _∈_}
 use Rattle.plane.specs.Shape.{IsShape}
 use Rattle.plane.specs.Reply.{answered}
-use Rattle.plane.specs.Refusal.{Valid}
 use Rattle.plane.specs.Direction.{value}
 use Rattle.plane.specs.Measure.{edgeTurn, height, edgeSquared}
 use Rattle.plane.specs.Floor.{Floored}
-use Rattle.plane.specs.Question.{values, reply}
+use Rattle.plane.specs.Question.{reply}
 use Rattle.plane.specs.Forms.{NonZero}
-use Rattle.plane.specs.theory.refusals.Asked.{asked-none, asked-values, asked-shapes, asked-rest, rest-none}
+use Rattle.plane.specs.theory.refusals.Asked.{asked-values}
 use Rattle.plane.specs.theory.sum.Positions.{edgeOf, edge-turn}
 use Rattle.measure.specs.theory.Height.{height-above, height-had, edgeSquared-value}
 use Rattle.strips.specs.Strip.{spread}
 use Rattle.strips.specs.OwnDirection.{outOf}
 use Rattle.strips.specs.theory.Spread.{spread-above, spread-attained}
 use Rattle.strips.specs.theory.Edges.{out-spread}
-use Rattle.boxes.specs.Box.{around, along, halfRound, boxEdge, askBox}
+use Rattle.strips.specs.theory.Answers.{answered-three}
+use Rattle.boxes.specs.Box.{around, along, halfRound, boxEdge, boxNumbers, askBox}
 use Rattle.boxes.specs.theory.Least.{noLarger-le, larger-lt, box-leading}
 use Rattle.boxes.specs.theory.Across.{best-long}
 use Rattle.boxes.specs.theory.Every.{box-every}
-
-pub three-answered : (a : Floored) → Valid (a .list) → 2 < length (points (a .list)) → reply (askBox a) ≡ answered (values (askBox a))
-three-answered a v three =
-    asked-none (askBox a) (rest-none (askBox a) v (le-ltb (length (points (a .list))) 3 three, tt))
 
 module _ (a : Floored) (e : ℕ) (t s q : ℤ) (h : reply (askBox a) ≡ answered (pos e ∷ t ∷ s ∷ q ∷ pos (a .floor) ∷ [])) where
   abbrev ps : List Point
   ps = points (a .list)
 
+  both : IsShape ps × (2 < length ps)
+  both = answered-three a (boxNumbers ps) _ h
+
   shape : IsShape ps
-  shape = asked-shapes (askBox a) _ h .shape
+  shape = both .0
 
   three : 2 < length ps
-  three = ltb-false (length ps) 3 (asked-rest (askBox a) _ h .0)
+  three = both .1
 
   edge : e ≡ boxEdge ps
   edge = cc (asked-values (askBox a) _ h)

@@ -1,4 +1,5 @@
 -- Half of the way round the box in a direction.
+--     quarter-cross      two vectors turned by a quarter have the same product
 --     around-quarter     the direction turned by a quarter has the same box
 --     around-edge        of the direction out of an edge it is `halfRound`
 --     parallel-around    directions on one line have the same box: F·F/M is at most G·G/N, by the squared lengths M and N
@@ -35,7 +36,7 @@ quarter-value : (m n : Point) → value (quarter m) (quarter n) ≡ value m n
 unfolding value
 quarter-value m n = ring (m .x ∷ m .y ∷ n .x ∷ n .y ∷ []) (search reify depth 40) tt
 
-quarter-cross : (m n : Point) → cross (quarter m) (quarter n) ≡ cross m n
+pub quarter-cross : (m n : Point) → cross (quarter m) (quarter n) ≡ cross m n
 unfolding cross
 quarter-cross m n = ring (m .x ∷ m .y ∷ n .x ∷ n .y ∷ []) (search reify depth 40) tt
 

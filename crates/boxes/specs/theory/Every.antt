@@ -11,33 +11,31 @@ use borrow.Author.Tests.{ltb-true, ltb-false}
 use lib.Dec.{ltb}
 use lib.IntN.{ℤ, pos, negℤ, _+ℤ_, _*ℤ_}
 use lib.ListN.{length, length-map}
-use lib.Signed.{_≤ℤ_, _<ℤ_}
+use lib.Signed.{_≤ℤ_}
 use Rattle.integer.specs.Ring.{ring, reify}
 use Rattle.integer.specs.Linear.{linear, lia, _&_}
-use Rattle.integer.specs.Order.{le-antisym}
-use Rattle.plane.specs.Point.{Point, point, origin, corner, opposite, _⊕_, _∈_}
-use Rattle.plane.specs.Turn.{turn}
+use Rattle.plane.specs.Point.{Point, point, corner, opposite, _⊕_, _∈_}
 use Rattle.plane.specs.Shape.{next, IsShape}
 use Rattle.plane.specs.Direction.{value, support, greater}
 use Rattle.plane.specs.Measure.{edgeSquared, widthEdge}
 use Rattle.plane.specs.Corner.{shapeOf, sums}
 use Rattle.plane.specs.Forms.{NonZero}
-use Rattle.plane.specs.Cut.{quarter, outward}
+use Rattle.plane.specs.Cut.{quarter}
 use Rattle.plane.specs.theory.lists.Members.{point-discrete, position-member, member-position, sums-member, sums-some, member-sums}
 use Rattle.plane.specs.theory.lists.Next.{next-below}
-use Rattle.plane.specs.theory.forms.Vector.{turn-level, square-positive, value-⊕}
-use Rattle.plane.specs.theory.support.Support.{value-le-support, support-le, support-sums}
+use Rattle.plane.specs.theory.forms.Vector.{square-positive, value-⊕}
+use Rattle.plane.specs.theory.support.Support.{value-le-support, support-sums}
 use Rattle.plane.specs.theory.hull.ShapeOf.{shapeOf-support, shapeOf-shape, shapeOf-corner}
-use Rattle.plane.specs.theory.sum.Positions.{next-left}
-use Rattle.separation.specs.theory.Sector.{value-outward, level-zero, edge-outermost, edge-nonzero}
+use Rattle.separation.specs.theory.Sector.{edge-nonzero}
+use Rattle.measure.specs.theory.Fractions.{fraction-trans}
 use Rattle.measure.specs.theory.Narrowest.{width-narrowest}
 use Rattle.strips.specs.Strip.{least, spread}
 use Rattle.strips.specs.OwnDirection.{outOf}
 use Rattle.strips.specs.theory.Spread.{spread-above, spread-attained, spread-nonneg}
+use Rattle.strips.specs.theory.Outermost.{spread-out, Outermost, outermost}
 use Rattle.strips.specs.theory.Edges.{out-squared, out-spread}
 use Rattle.strips.specs.theory.WidthBound.{width-every}
 use Rattle.boxes.specs.Box.{around, halfRound, boxEdge}
-use Rattle.boxes.specs.theory.Least.{fraction-trans}
 use Rattle.boxes.specs.theory.Around.{quarter-squared, around-quarter}
 use Rattle.boxes.specs.theory.Across.{NoSmaller, best-long, tied-no-smaller}
 use Rattle.boxes.specs.theory.Level.{Level, few-level}
@@ -58,10 +56,6 @@ turned-support n (p ∷ []) = value-turned n p
 turned-support n (p ∷ (q ∷ ps)) = ap₂ greater (value-turned n p) (turned-support n (q ∷ ps))
 
 -- ---- the sum
-
-outward-self : (p : Point) → value (outward p p) (outward p p) ≡ pos 0
-unfolding value
-outward-self p = ring (p .x ∷ p .y ∷ []) (search reify depth 40) tt
 
 module _ (ps : List Point) (s : IsShape ps) (three : 2 < length ps) where
   abbrev both : List Point
@@ -91,23 +85,10 @@ module _ (ps : List Point) (s : IsShape ps) (three : 2 < length ps) where
   -- were it a point or a segment, all corners of the shape would have the same value in some direction
   flat : Level R → ⊥
   unfolding around
-  flat b = b .non-zero .non-zero (level-zero n (corner ps 0) (corner ps i) (corner ps j) origin (next-left ps s three 0 (s .some))
-      (same 0 i (s .some) i-in) (same j i j-in i-in) (level 0 (s .some)) (level j j-in))
+  flat b = spread-out ps s three (b .across) (b .non-zero) same
     where
       n : Point
       n = b .across
-
-      i : ℕ
-      i = next (length ps) 0
-
-      j : ℕ
-      j = next (length ps) i
-
-      i-in : i < length ps
-      i-in = next-below (length ps) 0 (s .some)
-
-      j-in : j < length ps
-      j-in = next-below (length ps) i i-in
 
       none : spread n R ≤ℤ pos 0
       none =
@@ -120,9 +101,6 @@ module _ (ps : List Point) (s : IsShape ps) (three : 2 < length ps) where
       same e f h o = lia (value n (corner ps e) ∷ value n (corner ps f) ∷ spread n ps ∷ spread (quarter n) ps ∷ spread n R ∷ [])
           (spread-above n ps (position-member ps e h) (position-member ps f o) & spread-nonneg (quarter n) ps (s .some) & R-spread n & none)
           (search linear depth 40) (omega arith)
-
-      level : (e : ℕ) → e < length ps → value n (corner ps e) ≡ value n (corner ps i)
-      level e h = le-antisym (same e i h i-in) (same i e i-in h)
 
   R-three : 2 < length R
   R-three = go (ltb (length R) 3) refl
@@ -169,42 +147,25 @@ module _ (ps : List Point) (s : IsShape ps) (three : 2 < length ps) where
   -- ---- across an edge of the sum
 
   module _ (e : ℕ) (h : e < length R) where
-    abbrev u : Point
-    u = corner R e
-
-    abbrev v : Point
-    v = corner R (next (length R) e)
-
     abbrev n : Point
-    n = outward u v
+    n = outOf R e
 
-    top : support n R ≤ℤ value n u
-    top = support-le n R (shape .some) (edge-outermost R shape e h)
-
-    also : support n R ≤ℤ value n v
-    also = lia (support n R ∷ value n u ∷ value n v ∷ turn u v v ∷ []) (top & value-outward u v v & turn-level u v)
-        (search linear depth 40) (omega arith)
-
-    long : pos 0 <ℤ value n n
-    long = square-positive n (edge-nonzero R shape R-three e h)
-
-    different : u ≡ v → ⊥
-    different r = lia (value n n ∷ []) (long & ap (λ (z : Point). value (outward u z) (outward u z)) (sym r) ∙ outward-self u)
-        (search linear depth 40) (omega arith)
+    out : Outermost R e
+    out = outermost R shape R-three e h
 
     edge-no-smaller : NoSmaller ps n
     edge-no-smaller = go (parts (position-member R e h)) (parts (position-member R (next (length R) e) (next-below (length R) e h)))
       where
-        go : Parts u → Parts v → NoSmaller ps n
+        go : Parts (corner R e) → Parts (corner R (next (length R) e)) → NoSmaller ps n
         go r t = pick (point-discrete (r .left) (t .left))
           where
             pick : Dec (r .left ≡ t .left) → NoSmaller ps n
-            pick (no other) = tied-no-smaller ps s three n (r .left-in) (t .left-in) other long
-                (left-furthest n r top) (left-furthest n t also)
+            pick (no other) = tied-no-smaller ps s three n (r .left-in) (t .left-in) other (out .size)
+                (left-furthest n r (out .top)) (left-furthest n t (out .also))
             pick (yes same) = rw (around-quarter n ps, quarter-squared n) at (tied-no-smaller ps s three (quarter n)
-                (r .right-in) (t .right-in) (λ q. different (r .is ∙ ap₂ (λ (a b : Point). a ⊕ turned b) same q ∙ sym (t .is)))
-                (rw (quarter-squared n) long)
-                (right-furthest n r top) (right-furthest n t also))
+                (r .right-in) (t .right-in) (λ q. out .different (r .is ∙ ap₂ (λ (a b : Point). a ⊕ turned b) same q ∙ sym (t .is)))
+                (rw (quarter-squared n) (out .size))
+                (right-furthest n r (out .top)) (right-furthest n t (out .also)))
 
   pub box-every : (d : Point) → NonZero d → NoSmaller ps d
   box-every d some =
@@ -213,5 +174,5 @@ module _ (ps : List Point) (s : IsShape ps) (three : 2 < length ps) where
       let w-in = width-narrowest shape R-three .among in
       let m = n w w-in in
       fraction-trans (best *ℤ best) (around m ps *ℤ around m ps) (around d ps *ℤ around d ps) (edgeSquared ps (boxEdge ps)) (value m m)
-      (value d d) (best-long ps s three) (long w w-in) (square-positive d some) (edge-no-smaller w w-in)
+      (value d d) (best-long ps s three) (out w w-in .size) (square-positive d some) (edge-no-smaller w w-in)
       (rw (← R-spread d, ← R-spread m, out-spread R shape w w-in, out-squared R shape w w-in) (width-every R shape R-three d some))

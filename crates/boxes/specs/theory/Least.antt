@@ -3,32 +3,25 @@
 --     Leading ps k e                            of the edges below k, e is the first with the least box
 --     leading-start, -keep, -replace, -done     the moves of the search
 --     box-leading                               of all edges it is `boxEdge`
---     fraction-trans                            s/p ≤ t/q and t/q ≤ u/r give s/p ≤ u/r
 use mathlib.Core.Path.{_≡_, refl, sym, subst}
 use mathlib.Core.Bool.{Bool, true, false, not}
-use mathlib.Core.List.{List, [], _∷_}
+use mathlib.Core.List.{List}
 use Prim.Native.Nat.{ℕ, zero, suc, pred, _*_, _<_}
 use native.Mathlib.Omega.{arith}
-use borrow.Author.Tests.{eqb-true, eqb-false, le-leb, lt-leb, ltb-true, ltb-false}
-use lib.Dec.{eqb, leb, ltb}
+use borrow.Author.Tests.{eqb-true, eqb-false}
+use lib.Dec.{eqb, ltb}
 use lib.IntN.{ℤ, pos, _*ℤ_}
 use lib.ListN.{length}
-use lib.Signed.{_≤ℤ_, _<ℤ_, ≤ℤ-refl}
-use Rattle.integer.specs.Linear.{lia, linear, _&_}
-use Rattle.integer.specs.Order.{_<×<_, _≤×<_, contra≤, weaken, leZ-true, leZ-false, le-leZ}
+use lib.Signed.{_≤ℤ_, _<ℤ_}
+use Rattle.integer.specs.Order.{leZ-true, leZ-false}
 use Rattle.plane.specs.Point.{Point}
 use Rattle.plane.specs.Search.{every}
 use Rattle.plane.specs.Shape.{IsShape}
 use Rattle.plane.specs.Measure.{edgeSquared}
 use Rattle.plane.specs.theory.lists.Sought.{first-unique, all-every, not-every, true-not-false}
+use Rattle.measure.specs.theory.Fractions.{squares-refl, squares-total, squares-trans, squares-numbers}
 use Rattle.measure.specs.theory.Height.{edgeSquared-positive}
 use Rattle.boxes.specs.Box.{halfRound, noLarger, boxEdge}
-
--- bring all to the denominator p·q·r
-pub fraction-trans : (s t u p q r : ℤ) → pos 0 <ℤ p → pos 0 <ℤ q → pos 0 <ℤ r → (s *ℤ q) ≤ℤ (t *ℤ p) → (t *ℤ r) ≤ℤ (u *ℤ q)
-    → (s *ℤ r) ≤ℤ (u *ℤ p)
-fraction-trans s t u p q r hp hq hr a b = contra≤ (λ g.
-    lia (s ∷ t ∷ u ∷ p ∷ q ∷ r ∷ []) (a ≤×< hr & b ≤×< hp & g <×< hq) (search linear depth 40) (omega arith))
 
 -- what is for edge e in its comparison with f
 abbrev size : List Point → ℕ → ℕ → ℤ
@@ -42,23 +35,11 @@ pub larger-lt : (ps : List Point) (e f : ℕ) → noLarger ps e f ≡ false → 
 unfolding noLarger
 larger-lt ps e f h = leZ-false h
 
-noLarger-refl : (ps : List Point) (e : ℕ) → noLarger ps e e ≡ true
-unfolding noLarger
-noLarger-refl ps e = le-leZ (≤ℤ-refl (size ps e e))
-
-larger-noLarger : (ps : List Point) (e f : ℕ) → noLarger ps e f ≡ false → noLarger ps f e ≡ true
-unfolding noLarger
-larger-noLarger ps e f h = le-leZ (weaken (leZ-false {x = size ps e f} {y = size ps f e} h))
-
 -- the test as it is made on numbers of ℕ: edge f has a smaller box than e
 pub noLarger-fractions : (ps : List Point) (e f : ℕ) {t q u r : ℕ} → halfRound ps e ≡ pos t → edgeSquared ps e ≡ pos q
     → halfRound ps f ≡ pos u → edgeSquared ps f ≡ pos r → noLarger ps e f ≡ not (ltb (u * u * q) (t * t * r))
 unfolding noLarger
-noLarger-fractions ps e f {t} {q} {u} {r} h i k l = rw (h, i, k, l) (go (ltb (u * u * q) (t * t * r)) refl)
-  where
-    go : (b : Bool) → ltb (u * u * q) (t * t * r) ≡ b → leb (t * t * r) (u * u * q) ≡ not b
-    go true p = lt-leb (t * t * r) (u * u * q) (ltb-true (u * u * q) (t * t * r) p)
-    go false p = le-leb (t * t * r) (u * u * q) (ltb-false (u * u * q) (t * t * r) p)
+noLarger-fractions ps e f = squares-numbers (halfRound ps) (edgeSquared ps) e f
 
 -- ---- the first of the least so far
 
@@ -76,9 +57,10 @@ one-more k P below here f h = go (eqb f k) refl
     go false e = below f (omega (arith, eqb-false f k e))
 
 pub leading-start : (ps : List Point) → Leading ps 1 0
+unfolding noLarger
 leading-start ps = record {
   among = omega arith;
-  least = one-more 0 (λ f. noLarger ps 0 f ≡ true) (λ f h. absurd (omega arith)) (noLarger-refl ps 0);
+  least = one-more 0 (λ f. noLarger ps 0 f ≡ true) (λ f h. absurd (omega arith)) (squares-refl (halfRound ps) (edgeSquared ps) 0);
   sole = λ f h. absurd (omega arith);
 }
 
@@ -93,19 +75,17 @@ module _ (ps : List Point) (s : IsShape ps) (three : 2 < length ps) where
   noLarger-trans : (e f g : ℕ) → e < length ps → f < length ps → g < length ps
       → noLarger ps e f ≡ true → noLarger ps f g ≡ true → noLarger ps e g ≡ true
   unfolding noLarger
-  noLarger-trans e f g he hf hg a b = le-leZ (fraction-trans (t e) (t f) (t g) (edgeSquared ps e) (edgeSquared ps f) (edgeSquared ps g)
+  noLarger-trans e f g he hf hg = squares-trans (halfRound ps) (edgeSquared ps) e f g
       (edgeSquared-positive ps s three e he) (edgeSquared-positive ps s three f hf) (edgeSquared-positive ps s three g hg)
-      (leZ-true {x = size ps e f} {y = size ps f e} a) (leZ-true {x = size ps f g} {y = size ps g f} b))
-    where
-      t : ℕ → ℤ
-      t e = halfRound ps e *ℤ halfRound ps e
 
   -- k is smaller than e, which is no larger than any before k: so k is smaller than all of them
   pub leading-replace : {k e : ℕ} → k < length ps → Leading ps k e → noLarger ps e k ≡ false → Leading ps (suc k) k
+  unfolding noLarger
   leading-replace {k} {e} h l test = record {
     among = omega arith;
     least = one-more k (λ f. noLarger ps k f ≡ true)
-        (λ f below. noLarger-trans k e f h e-in (omega arith) (larger-noLarger ps e k test) (l .least f below)) (noLarger-refl ps k);
+        (λ f below. noLarger-trans k e f h e-in (omega arith) (squares-total (halfRound ps) (edgeSquared ps) e k test)
+        (l .least f below)) (squares-refl (halfRound ps) (edgeSquared ps) k);
     sole = λ f below. go f below (noLarger ps f k) refl;
   }
     where

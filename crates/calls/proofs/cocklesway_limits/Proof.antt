@@ -5,18 +5,9 @@ use borrow.Author.Needs.{needs}
 use Rattle.calls.proofs.cocklesway_limits.Statement.{statement}
 use Rattle.calls.proofs.cocklesway_limits.Tie as tie
 
-cast-t3 : tie.Need-cast-t3
-cast-t3 c = search needs
-
-cast-t4 : tie.Need-cast-t4
-cast-t4 c = search needs
-
-cast-t5 : tie.Need-cast-t5
-cast-t5 c = search needs
-
 returns : tie.Need-returns
 unfolding maxCorners maxPoints maxCoordinate maxPart maxFloor
 returns c = (refl, refl, refl, refl, refl)
 
 pub cocklesway-limits-spec : {M : Type 1} → statement M
-cocklesway-limits-spec = tie.close (tie.spec cast-t3 cast-t4 cast-t5 returns)
+cocklesway-limits-spec = tie.close (tie.spec (λ c. search needs) (λ c. search needs) (λ c. search needs) returns)

@@ -20,7 +20,7 @@ use Rattle.plane.specs.theory.sweep.Few.{shapeOf-few}
 use Rattle.plane.specs.theory.sum.EdgeSum.{vectorSum-shape}
 use Rattle.plane.specs.theory.refusals.Accept.{few-corners}
 use Rattle.separation.specs.theory.Stops.{sum-length}
-use Rattle.crossing.specs.Passing.{smallBytes, Enough, Spacious, Holds, combined}
+use Rattle.bytewise.specs.Passing.{smallBytes, Enough, Spacious, Holds, combined}
 
 pub both-small : (m n : ℕ) → (leb m smallBytes && leb n smallBytes) ≡ true → (m ≤ smallBytes) × (n ≤ smallBytes)
 both-small m n e = go (leb m smallBytes) refl e

@@ -21,7 +21,7 @@ use Rattle.plane.specs.Question.{reply, makes, askJudge, askRelation}
 use Rattle.plane.specs.theory.lists.Sought.{first-le}
 use Rattle.plane.specs.theory.refusals.Accept.{few-corners}
 use Rattle.crossing.specs.LowFloor.{lowFloor}
-use Rattle.crossing.specs.Packing.{Fits}
+use Rattle.bytewise.specs.Packing.{Fits}
 
 -- ---- the fields
 

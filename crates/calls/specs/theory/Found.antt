@@ -16,7 +16,7 @@ use Rattle.plane.specs.theory.refusals.Rows.{none-append, firstRow-given, first
 use Rattle.plane.specs.theory.refusals.Asked.{asked-none}
 use Rattle.separator.specs.Separator.{SeparatorBetween, askSeparator}
 use Rattle.separator.specs.declared.Separator.the-variants.{Nothing}
-use Rattle.reply.specs.Told.{crossed}
+use Rattle.wire.specs.Told.{crossed}
 use Rattle.crossing.specs.LowFloor.{lowFloor, barred}
 use Rattle.calls.specs.Calls.{SeparatorTold}
 use Rattle.crossing.specs.theory.Low.{within-told}

@@ -10,7 +10,7 @@ use Rattle.plane.specs.Limits.{maxFloor}
 use Rattle.plane.specs.Reply.{Reply}
 use Rattle.plane.specs.Refusal.{shapeRows}
 use Rattle.journal.specs.Adding.{added}
-use Rattle.reply.specs.Told.{crossed}
+use Rattle.wire.specs.Told.{crossed}
 use Rattle.crossing.specs.LowFloor.{barred}
 use Rattle.calls.specs.Calls.{addedLow}
 

@@ -32,12 +32,12 @@ use Rattle.plane.specs.theory.refusals.Rows.{Outcome, given, passed, outcome, n
 use Rattle.plane.specs.theory.refusals.Asked.{asked-given, asked-none, asked-refused, asked-answered, asked-values, asked-rest, none-wrote}
 use Rattle.endian.specs.Bytes.{words, wordsAt}
 use Rattle.endian.specs.theory.Bytes.{words-length, wordsAt-length, wordsAt-words}
-use Rattle.reply.specs.Told.{crossed}
+use Rattle.wire.specs.Told.{crossed}
 use Rattle.crossing.specs.LowFloor.{lowFloor}
-use Rattle.crossing.specs.Bytes.{wordsIn, bytesAfter}
-use Rattle.crossing.specs.Packing.{packed}
-use Rattle.crossing.specs.Passing.{Room}
-use Rattle.crossing.specs.theory.Agree.{Agree, agree-same, agree-row, agree-join, same-reply, same-bytes}
+use Rattle.bytewise.specs.Bytes.{wordsIn, bytesAfter}
+use Rattle.bytewise.specs.Packing.{packed}
+use Rattle.bytewise.specs.Passing.{Room}
+use Rattle.bytewise.specs.theory.Agree.{Agree, agree-same, agree-row, agree-join, same-reply, same-bytes}
 
 -- ---- every question
 

@@ -24,9 +24,9 @@ use Rattle.separator.specs.Separator.{Finds, separatorNumbers, askSeparator}
 use Rattle.separator.specs.declared.Separator.{Separator}
 use Rattle.separator.specs.declared.Separator.the-variants.{Direction, Nothing}
 use Rattle.journal.specs.Adding.{added}
-use Rattle.reply.specs.Told.{bits, crossed}
-use Rattle.reply.specs.Heard.{numberOf, valuesOf}
-use Rattle.reply.specs.theory.ReadBack.{answered-back}
+use Rattle.wire.specs.Told.{bits, crossed}
+use Rattle.wire.specs.Heard.{numberOf, valuesOf}
+use Rattle.wire.specs.theory.ReadBack.{answered-back}
 use Rattle.crossing.specs.LowFloor.{lowFloor, Numbered}
 use Rattle.calls.specs.Calls.{SeparatorTold, addedLow}
 use Rattle.crossing.specs.theory.High.{barred-shape, barred-shapes, barred-kept, high-reply, pair-reply}

@@ -17,6 +17,7 @@ facing-requires c κs =
       u,
       v,
       c .pre .3,
+      c .pre .4,
       subst NoOrigin (sym (image-visited (c .args .a .now) (c .args .b .now) u v))
           (corners-some (points (c .args .a .now)) (points (c .args .b .now)) (u .shape) (v .shape) (c .pre .2)),
     )

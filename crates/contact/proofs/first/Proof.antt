@@ -13,7 +13,7 @@ use Rattle.polygon.specs.Point.{at}
 use Rattle.polygon.specs.Front.{Front}
 use Rattle.polygon.specs.theory.Fronts.{overwritten-front, front-points, front-length}
 use Rattle.growth.specs.Grown.{grown}
-use Rattle.contact.specs.Contact.{contactNumbers}
+use Rattle.motion.specs.Contact.{contactNumbers}
 use Rattle.contact.specs.theory.Told.{never-told}
 use Rattle.contact.proofs.first.Statement.{statement}
 use Rattle.contact.proofs.first.Tie as tie
@@ -41,9 +41,6 @@ returns c = never-told _ _ _ (c .before .is-beyond .ensures (c .if1 .taken))
 
 top-requires : tie.Need-top-requires
 top-requires c κs = c .before .before .pre .1 .shape .some
-
-slice-aggregate-write : tie.Need-slice-aggregate-write
-slice-aggregate-write c = search needs
 
 write-requires : tie.Need-write-requires
 unfolding grown
@@ -76,14 +73,5 @@ returns-2 c =
 pub first-spec : {M : Type 1} → statement M
 first-spec =
     tie.close
-    (tie.spec
-    is-beyond-requires
-    returns
-    top-requires
-    slice-aggregate-write
-    write-requires
-    mul-grown
-    array-share-prefix-grown
-    slice-aggregate-first-of
-    first-of-requires
-    returns-2)
+    (tie.spec is-beyond-requires returns top-requires (λ c. search needs) write-requires mul-grown array-share-prefix-grown
+    slice-aggregate-first-of first-of-requires returns-2)

@@ -17,7 +17,7 @@ use Rattle.plane.specs.Primitive.{primitive}
 use Rattle.plane.specs.Measure.{rootBelow}
 use Rattle.plane.specs.Distance.{over}
 use Rattle.measure.specs.theory.Rounded.{rounded-unique}
-use Rattle.contact.specs.Contact.{lowest}
+use Rattle.motion.specs.Contact.{lowest}
 
 -- ---- lowest terms
 

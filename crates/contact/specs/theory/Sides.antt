@@ -1,12 +1,11 @@
--- How far a place is past a wall, as the code finds it, and the entries that follow.
+-- How far a place is past a wall, as the code finds it.
 --     near-place, small-place, small-side       places and directions of sides are small
 --     side-value, side-support, side-past       the numbers at a side are bounded
 --     past-edge                                 past an edge: to its right
---     edge-entry                                the entry through it
---     last-more                                 one entry more
-use mathlib.Core.Path.{_≡_, sym, _∙_, ap, ap₂}
+--     past-cross                                that as a product
+use mathlib.Core.Path.{_≡_}
 use mathlib.Core.List.{List, [], _∷_}
-use Prim.Native.Nat.{ℕ, suc, _+_, _<_, _^_}
+use Prim.Native.Nat.{ℕ, _<_, _^_}
 use native.Mathlib.Omega.{arith}
 use lib.IntN.{ℤ, negℤ}
 use lib.Dec.{lit≤}
@@ -20,14 +19,13 @@ use Rattle.plane.specs.Turn.{turn, cross}
 use Rattle.plane.specs.Shape.{next, IsShape}
 use Rattle.plane.specs.Direction.{value, support}
 use Rattle.plane.specs.Refusal.{InRange}
-use Rattle.plane.specs.Distance.{Fraction}
 use Rattle.plane.specs.theory.lists.Flat.{Near}
 use Rattle.plane.specs.theory.lists.Members.{position-member}
 use Rattle.plane.specs.theory.support.Support.{support-unique}
-use Rattle.plane.specs.theory.support.Bounds.{turn-size, value-size, support-size}
+use Rattle.plane.specs.theory.support.Bounds.{value-size, support-size}
 use Rattle.polygon.specs.Point.{Small}
 use Rattle.separation.specs.theory.Sector.{value-outward, edge-outermost}
-use Rattle.contact.specs.Contact.{edgeNormal, past, entering, entry, later, lastEntry}
+use Rattle.motion.specs.Contact.{edgeNormal, past}
 
 -- ---- places
 
@@ -73,19 +71,6 @@ module _ (G : List Point) (s : IsShape G) (i : ℕ) (h : i < length G) where
       (value-outward (corner G i) (corner G (next (length G) i)) x
       & support-unique (edgeNormal G i) (position-member G i h) (edge-outermost G s i h)) (search linear depth 40) (omega arith)
 
-  pub edge-entry : (t u : Point) → entering (negℤ (turn (corner G i) (corner G (next (length G) i)) t))
-      (negℤ (turn (corner G i) (corner G (next (length G) i)) u)) ≡ entry t u G (4 + i)
-  edge-entry t u =
-      let same : suc (suc (suc (suc i))) ≡ 4 + i = omega arith in
-      ap₂ entering (past-edge t) (past-edge u) ∙ ap (entry t u G) same
-
-  pub edge-past : (p : Point) → Near (corner G i) → Near (corner G (next (length G) i)) → Near p
-      → Within 8_000_000_000_000 (negℤ (turn (corner G i) (corner G (next (length G) i)) p))
-  edge-past p a b n = within-neg (turn-size a b n)
-
 pub past-cross : (a b p : Point) → cross (p ⊖ a) (b ⊖ a) ≡ negℤ (turn a b p)
 unfolding cross turn
 past-cross a b p = ring (a .x ∷ a .y ∷ b .x ∷ b .y ∷ p .x ∷ p .y ∷ []) (search reify depth 40) tt
-
-pub last-more : (f : ℕ → Fraction) (n m : ℕ) → m ≡ suc n → later (lastEntry f n) (f n) ≡ lastEntry f m
-last-more f n m e = ap (lastEntry f) (sym e)

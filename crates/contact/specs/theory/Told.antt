@@ -14,7 +14,7 @@ use Rattle.plane.specs.Point.{Point}
 use Rattle.plane.specs.Measure.{squared, rootBelow}
 use Rattle.plane.specs.Separation.{apart}
 use Rattle.plane.specs.Distance.{Fraction, over}
-use Rattle.contact.specs.Contact.{OnWay, contact, safe, contactNumbers}
+use Rattle.motion.specs.Contact.{OnWay, contact, safe, contactNumbers}
 use Rattle.contact.specs.Share.{Places}
 
 pub whole-words : (n d : ℕ) → OnWay (over (pos n) (pos d)) → (n ≤ d) × (0 < d)

@@ -2,19 +2,22 @@
 --     entering-begun, -inside, -never      the three cases of an entry
 --     later-first, later-second            the later of two, by comparing products
 --     later-begun                          nothing is before the start of the way
+--     exceed-words                         whether two parts are more than the way, by comparing products
 use mathlib.Core.Path.{_≡_, refl, sym, ap, subst}
 use mathlib.Core.Bool.{true, false, cond}
-use Prim.Native.Nat.{ℕ, _*_}
+use mathlib.Core.List.{[], _∷_}
+use Prim.Native.Nat.{ℕ, _+_, _-_, _*_, _≤_}
 use native.Mathlib.Omega.{arith}
 use borrow.Author.Tests.{le-ltb}
 use lib.Dec.{ltb}
-use lib.IntN.{ℤ, pos, _-ℤ_}
-use lib.Signed.{_≤ℤ_, _<ℤ_}
+use lib.IntN.{ℤ, pos, _+ℤ_, _-ℤ_, _*ℤ_}
+use lib.Signed.{ltZ, _≤ℤ_, _<ℤ_}
+use Rattle.integer.specs.Linear.{linear, lia}
 use Rattle.integer.specs.Order.{le-leZ, lt-leZ, ltZ-true, ltZ-false}
 use Rattle.plane.specs.Distance.{over}
 use Rattle.contact.specs.declared.share.Share.{Share}
-use Rattle.contact.specs.Contact.{entering, later}
-use Rattle.contact.specs.Share.{fraction}
+use Rattle.motion.specs.Contact.{entering, later}
+use Rattle.contact.specs.Share.{fraction, exceed}
 
 module _ (a b : ℤ) where
   pub entering-begun : a ≤ℤ pos 0 → over (pos 0) (pos 1) ≡ entering a b
@@ -45,3 +48,13 @@ module _ (f g : Share) where
   pub later-begun : g .numerator ≡ 0 → fraction f ≡ later (fraction f) (fraction g)
   later-begun e = later-first (subst (λ (n : ℕ). ltb (f .numerator * g .denominator) (n * f .denominator) ≡ false) (sym e)
       (le-ltb (f .numerator * g .denominator) (0 * f .denominator) (omega arith)))
+
+-- ---- two parts of a way
+
+minus : (x y z : ℤ) → x +ℤ y ≡ z → x ≡ z -ℤ y
+minus x y z e = lia (x ∷ y ∷ z ∷ []) e (search linear depth 40) (omega arith)
+
+pub exceed-words : (n d m e : ℕ) → n ≤ d → ltb ((d - n) * e) (m * d) ≡ exceed (over (pos n) (pos d)) (over (pos m) (pos e))
+exceed-words n d m e h =
+    let whole : d - n + n ≡ d = omega arith in
+    ap (λ (z : ℤ). ltZ (z *ℤ pos e) (pos m *ℤ pos d)) (minus (pos (d - n)) (pos n) (pos d) (ap pos whole))

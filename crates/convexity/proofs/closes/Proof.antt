@@ -13,24 +13,6 @@ use Rattle.convexity.specs.theory.Stretches.{edge-home}
 use Rattle.convexity.proofs.closes.Statement.{statement}
 use Rattle.convexity.proofs.closes.Tie as tie
 
-count-requires : tie.Need-count-requires
-count-requires c κs = search needs
-
-sub-edge-at : tie.Need-sub-edge-at
-sub-edge-at c = search needs
-
-edge-at-requires : tie.Need-edge-at-requires
-edge-at-requires c κs = search needs
-
-sub-corner-at : tie.Need-sub-corner-at
-sub-corner-at c = search needs
-
-corner-at-requires : tie.Need-corner-at-requires
-corner-at-requires c κs = search needs
-
-corner-at-requires-2 : tie.Need-corner-at-requires-2
-corner-at-requires-2 c κs = search needs
-
 between-requires : tie.Need-between-requires
 between-requires c κs =
     let at-edge = c .before .before in
@@ -74,5 +56,5 @@ returns c =
 pub closes-spec : {M : Type 1} → statement M
 closes-spec =
     tie.close
-    (tie.spec count-requires sub-edge-at edge-at-requires sub-corner-at corner-at-requires corner-at-requires-2 between-requires
-    goes-on-requires returns)
+    (tie.spec (λ c κs. search needs) (λ c. search needs) (λ c κs. search needs) (λ c. search needs) (λ c κs. search needs)
+    (λ c κs. search needs) between-requires goes-on-requires returns)

@@ -10,14 +10,8 @@ use Rattle.convexity.specs.theory.Stretches.{edge-from}
 use Rattle.convexity.proofs.edge_at.Statement.{statement}
 use Rattle.convexity.proofs.edge_at.Tie as tie
 
-corner-at-requires : tie.Need-corner-at-requires
-corner-at-requires c κs = search needs
-
 add-corner-at : tie.Need-add-corner-at
 add-corner-at c = omega (arith, points-length (c .before .args .list .now))
-
-corner-at-requires-2 : tie.Need-corner-at-requires-2
-corner-at-requires-2 c κs = search needs
 
 between-requires : tie.Need-between-requires
 between-requires c κs =
@@ -38,6 +32,4 @@ returns c =
     )
 
 pub edge-at-spec : {M : Type 1} → statement M
-edge-at-spec =
-    tie.close
-    (tie.spec corner-at-requires add-corner-at corner-at-requires-2 between-requires returns)
+edge-at-spec = tie.close (tie.spec (λ c κs. search needs) add-corner-at (λ c κs. search needs) between-requires returns)

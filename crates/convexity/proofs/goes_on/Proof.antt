@@ -23,13 +23,10 @@ half-is c = ap (λ (z : ℤ). Bool·beq (leZ (pos 0) z) (c .args .up)) (sym (ris
 returns : tie.Need-returns
 returns c = sym (other-half _ _ _ (half-is (c .before .before .before) ∙ not-true _ (c .if1 .taken)))
 
-is-left-requires : tie.Need-is-left-requires
-is-left-requires c κs = search needs
-
 returns-2 : tie.Need-returns-2
 returns-2 c =
     let at-else = c .before in
     c .is-left .ensures ∙ sym (own-half _ _ _ (half-is (at-else .before .before .before) ∙ not-false _ (at-else .if1 .left)))
 
 pub goes-on-spec : {M : Type 1} → statement M
-goes-on-spec = tie.close (tie.spec returns is-left-requires returns-2)
+goes-on-spec = tie.close (tie.spec returns (λ c κs. search needs) returns-2)

@@ -26,9 +26,6 @@ three c =
     let more = two at-1 in
     (omega (arith, c .if3 .left), edges-some (points (at-1 .before .before .args .list .now)) more, n)
 
-count-requires : tie.Need-count-requires
-count-requires c κs = search needs
-
 returns : tie.Need-returns
 returns c = ((λ t. point-shape _ (sym (c .before .count .ensures) ∙ c .if1 .taken)), (λ s. refl))
 
@@ -97,5 +94,5 @@ returns-5 c =
 pub is-shape-spec : {M : Type 1} → statement M
 is-shape-spec =
     tie.close
-    (tie.spec count-requires returns precedes-at-requires returns-2 returns-3 stretch-requires stretch-requires-2 add-if4 returns-4
+    (tie.spec (λ c κs. search needs) returns precedes-at-requires returns-2 returns-3 stretch-requires stretch-requires-2 add-if4 returns-4
     closes-requires returns-5)

@@ -21,26 +21,17 @@ row-3 c = sym (c .before .some-outside .ensures) ∙ c .if3 .left
 
 -- ---- the needs
 
-bad-count-requires : tie.Need-bad-count-requires
-bad-count-requires c κs = search needs
-
 returns : tie.Need-returns
 returns c = (
   (λ t. absurd (false≢true t)),
   (λ v. sym (valid→accepted _ 1 v .0) ∙ sym (c .before .bad-count .ensures) ∙ c .if1 .taken),
 )
 
-too-many-requires : tie.Need-too-many-requires
-too-many-requires c κs = search needs
-
 returns-2 : tie.Need-returns-2
 returns-2 c = (
   (λ t. absurd (false≢true t)),
   (λ v. sym (valid→accepted _ 1 v .1 .0) ∙ sym (c .before .too-many .ensures) ∙ c .if2 .taken),
 )
-
-some-outside-requires : tie.Need-some-outside-requires
-some-outside-requires c κs = search needs
 
 returns-3 : tie.Need-returns-3
 returns-3 c = (
@@ -62,4 +53,4 @@ returns-4 c =
 pub passes-spec : {M : Type 1} → statement M
 passes-spec =
     tie.close
-    (tie.spec bad-count-requires returns too-many-requires returns-2 some-outside-requires returns-3 is-shape-requires returns-4)
+    (tie.spec (λ c κs. search needs) returns (λ c κs. search needs) returns-2 (λ c κs. search needs) returns-3 is-shape-requires returns-4)

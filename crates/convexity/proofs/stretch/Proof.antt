@@ -22,9 +22,6 @@ Inv-loop list start up n e₀ k₀ e k =
 abbrev μ-loop : tie.MeasureT-loop
 μ-loop list start up n e₀ k₀ e k = n - k
 
-count-requires : tie.Need-count-requires Inv-loop μ-loop
-count-requires c κs = search needs
-
 edge-at-requires : tie.Need-edge-at-requires Inv-loop μ-loop
 edge-at-requires c κs = (omega (arith, c .before .pre .0), c .before .pre .1)
 
@@ -90,5 +87,5 @@ returns-2 c =
 pub stretch-spec : {M : Type 1} → statement M
 stretch-spec =
     tie.close
-    (tie.spec Inv-loop μ-loop count-requires edge-at-requires loop-holds add-loop add-edge-at edge-at-requires-2 goes-on-requires
+    (tie.spec Inv-loop μ-loop (λ c κs. search needs) edge-at-requires loop-holds add-loop add-edge-at edge-at-requires-2 goes-on-requires
     returns add-k loop-less loop-again returns-2)

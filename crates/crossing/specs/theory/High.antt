@@ -22,7 +22,7 @@ use Rattle.plane.specs.theory.refusals.Accept.{valid→accepted}
 use Rattle.plane.specs.theory.refusals.Points.{points→accepted}
 use Rattle.plane.specs.theory.refusals.Asked.{asked-kept}
 use Rattle.admission.specs.Admission.{Refuses}
-use Rattle.reply.specs.Told.{crossed}
+use Rattle.wire.specs.Told.{crossed}
 use Rattle.crossing.specs.LowFloor.{lowFloor, barred}
 
 pub barred-refused : {rows : List Row} {r : Reply} → Refuses rows r → r ≡ barred rows

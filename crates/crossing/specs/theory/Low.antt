@@ -18,7 +18,7 @@ use Rattle.plane.specs.Reply.{Reply, refused, Row, firstRow}
 use Rattle.plane.specs.Output.{unlessRefused}
 use Rattle.plane.specs.Floor.{rowsOf, floorOf}
 use Rattle.plane.specs.Question.{Question, reply, output}
-use Rattle.reply.specs.Told.{crossed}
+use Rattle.wire.specs.Told.{crossed}
 use Rattle.crossing.specs.LowFloor.{lowFloor}
 
 module _ (w : Row) (ws : List Row) (off : w .applies ≡ false) where

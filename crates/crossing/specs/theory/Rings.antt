@@ -16,7 +16,7 @@ use Rattle.plane.specs.Question.{values, reply, output}
 use Rattle.plane.specs.theory.refusals.Rows.{firstRow-append, firstRow-none}
 use Rattle.ring.specs.Ring.{ringShape, inwardRow, listRows, ValidRing, askRing}
 use Rattle.ring.specs.theory.Rows.{ring→accepted}
-use Rattle.reply.specs.Told.{crossed}
+use Rattle.wire.specs.Told.{crossed}
 use Rattle.crossing.specs.LowFloor.{lowRing, barred}
 use Rattle.crossing.specs.theory.Low.{skipped-reply, skipped-output}
 use Rattle.crossing.specs.theory.High.{barred-kept}

@@ -10,15 +10,6 @@ use Rattle.plane.specs.Furthest.{commonDivisor}
 use Rattle.direction.proofs.common_divisor.Statement.{statement}
 use Rattle.direction.proofs.common_divisor.Tie as tie
 
-magnitude-requires : tie.Need-magnitude-requires
-magnitude-requires c κs = search needs
-
-magnitude-requires-2 : tie.Need-magnitude-requires-2
-magnitude-requires-2 c κs = search needs
-
-divisor-requires : tie.Need-divisor-requires
-divisor-requires c κs = search needs
-
 returns : tie.Need-returns
 unfolding commonDivisor
 returns c =
@@ -29,4 +20,4 @@ returns c =
     ap (λ (n : ℕ). ltb 1 n) (c .divisor .ensures ∙ ap₂ gcd u-size v-size)
 
 pub common-divisor-spec : {M : Type 1} → statement M
-common-divisor-spec = tie.close (tie.spec magnitude-requires magnitude-requires-2 divisor-requires returns)
+common-divisor-spec = tie.close (tie.spec (λ c κs. search needs) (λ c κs. search needs) (λ c κs. search needs) returns)

@@ -47,9 +47,6 @@ value-is c =
     ∙ ap (λ (i : ℕ). Direction·value (at (start .args .d)) (corner ps i)) (c .before .first-furthest .ensures)
     ∙ sym (furthest-greatest (at (start .args .d)) ps (start .pre .1 .some) .has)
 
-count-requires : tie.Need-count-requires
-count-requires c κs = search needs
-
 sub-end : tie.Need-sub-end
 sub-end c = omega (arith, c .count .ensures, here-in (c .before .before))
 
@@ -124,5 +121,5 @@ returns-4 c =
 pub face-towards-spec : {M : Type 1} → statement M
 face-towards-spec =
     tie.close
-    (tie.spec first-furthest-requires value-at-requires count-requires sub-end add-next reaches-requires returns reaches-requires-2
+    (tie.spec first-furthest-requires value-at-requires (λ c κs. search needs) sub-end add-next reaches-requires returns reaches-requires-2
     returns-2 returns-3 returns-4)

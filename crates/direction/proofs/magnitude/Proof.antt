@@ -24,8 +24,5 @@ returns c = let b = below c in rw (b .value) (b .more-is)
 cast-result-2 : tie.Need-cast-result-2
 cast-result-2 c = let f = c .before .fits .z in rw (toZ-ofZ f) (from-zero _ tt f (rw (toZ-ofZ f) at (c .if1 .left)))
 
-returns-2 : tie.Need-returns-2
-returns-2 c = search needs
-
 pub magnitude-spec : {M : Type 1} → statement M
-magnitude-spec = tie.close (tie.spec sub-result cast-result add-result returns cast-result-2 returns-2)
+magnitude-spec = tie.close (tie.spec sub-result cast-result add-result returns cast-result-2 (λ c. search needs))

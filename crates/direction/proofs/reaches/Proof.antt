@@ -8,11 +8,8 @@ use Rattle.integer.specs.Machine.{result-is}
 use Rattle.direction.proofs.reaches.Statement.{statement}
 use Rattle.direction.proofs.reaches.Tie as tie
 
-value-at-requires : tie.Need-value-at-requires
-value-at-requires c κs = search needs
-
 returns : tie.Need-returns
 returns c = ap₂ leZ (toZ-ofZ (c .before .fits .least)) (result-is w64 (c .value-at .ok) (c .value-at .ensures))
 
 pub reaches-spec : {M : Type 1} → statement M
-reaches-spec = tie.close (tie.spec value-at-requires returns)
+reaches-spec = tie.close (tie.spec (λ c κs. search needs) returns)

@@ -9,9 +9,6 @@ use Rattle.polygon.specs.theory.Small.{small-corner, small-wide}
 use Rattle.direction.proofs.value_at.Statement.{statement}
 use Rattle.direction.proofs.value_at.Tie as tie
 
-corner-at-requires : tie.Need-corner-at-requires
-corner-at-requires c κs = search needs
-
 dot-requires : tie.Need-dot-requires
 dot-requires c κs =
     let pre = c .before .pre in
@@ -21,4 +18,4 @@ returns : tie.Need-returns
 returns c = result-is w64 (c .dot .ok) (c .dot .ensures ∙ ap (value (at (c .before .before .args .d))) (c .before .corner-at .ensures))
 
 pub value-at-spec : {M : Type 1} → statement M
-value-at-spec = tie.close (tie.spec corner-at-requires dot-requires returns)
+value-at-spec = tie.close (tie.spec (λ c κs. search needs) dot-requires returns)

@@ -21,12 +21,6 @@ loop-holds c = record {
   same = λ g p. p;
 }
 
-sub-strip : tie.Need-sub-strip Inv-loop μ-loop
-sub-strip c = search needs
-
-sub-strip-2 : tie.Need-sub-strip-2 Inv-loop μ-loop
-sub-strip-2 c = search needs
-
 strip-requires : tie.Need-strip-requires Inv-loop μ-loop
 strip-requires c κs = shift-fits (c .before .before .loop .inv) (c .if1 .taken)
 
@@ -59,5 +53,5 @@ returns c = halved-end (c .before .loop .inv) (c .loop-test .left)
 pub odd-divisor-spec : {M : Type 1} → statement M
 odd-divisor-spec =
     tie.close
-    (tie.spec Inv-loop μ-loop loop-holds sub-strip sub-strip-2 strip-requires loop-less loop-again strip-requires-2 loop-less-2 loop-again-2
-    returns)
+    (tie.spec Inv-loop μ-loop loop-holds (λ c. search needs) (λ c. search needs) strip-requires loop-less loop-again strip-requires-2
+    loop-less-2 loop-again-2 returns)

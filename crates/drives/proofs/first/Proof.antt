@@ -7,9 +7,6 @@ use Rattle.gaps.specs.theory.Steps.{walk-start}
 use Rattle.drives.proofs.first.Statement.{statement}
 use Rattle.drives.proofs.first.Tie as tie
 
-slice-aggregate-pass : tie.Need-slice-aggregate-pass
-slice-aggregate-pass c = search needs
-
 -- a buffer holds the numbers of any shape
 full : 2048 ≡ 2 * maxCorners
 unfolding maxCorners
@@ -20,8 +17,5 @@ pass-requires c κs =
     let pre = c .before .before .pre in
     (walk-start _ _ _ (pre .0) (pre .3), pre .1, pre .2, full)
 
-returns : tie.Need-returns
-returns c = search needs
-
 pub first-spec : {M : Type 1} → statement M
-first-spec = tie.close (tie.spec slice-aggregate-pass pass-requires returns)
+first-spec = tie.close (tie.spec (λ c. search needs) pass-requires (λ c. search needs))

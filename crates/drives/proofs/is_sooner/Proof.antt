@@ -5,18 +5,6 @@ use Rattle.drives.specs.Search.{isSooner}
 use Rattle.drives.proofs.is_sooner.Statement.{statement}
 use Rattle.drives.proofs.is_sooner.Tie as tie
 
-enum-known-best : tie.Need-enum-known-best
-enum-known-best c = search needs
-
-enum-told : tie.Need-enum-told
-enum-told c = search needs
-
-returns : tie.Need-returns
-returns c = search needs
-
-is-less-requires : tie.Need-is-less-requires
-is-less-requires c κs = search needs
-
 returns-2 : tie.Need-returns-2
 returns-2 c =
     let at-best = c .before .before in
@@ -24,4 +12,4 @@ returns-2 c =
     c .is-less .ensures ∙ sym (ap (isSooner (args .numerator) (args .denominator)) (at-best .best .given .1))
 
 pub is-sooner-spec : {M : Type 1} → statement M
-is-sooner-spec = tie.close (tie.spec enum-known-best enum-told returns is-less-requires returns-2)
+is-sooner-spec = tie.close (tie.spec (λ c. search needs) (λ c. search needs) (λ c. search needs) (λ c κs. search needs) returns-2)

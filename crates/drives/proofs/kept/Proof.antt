@@ -18,26 +18,11 @@ kept-by : (now : Bool) (n a d w : ℕ) (s : Soonest) {m : Meeting} {x y : Bool} 
 kept-by now n a d w s e h k =
     ap₂ (λ (x y : Bool). cond (x && y) (Soonest.At n a d w) s) (sym h) (sym k) ∙ ap (λ (m : Meeting). keptOf now n m s) (sym e)
 
-enum-known-meeting : tie.Need-enum-known-meeting
-enum-known-meeting c = search needs
-
-enum-told : tie.Need-enum-told
-enum-told c = search needs
-
-returns : tie.Need-returns
-returns c = search needs
-
-is-sooner-requires : tie.Need-is-sooner-requires
-is-sooner-requires c κs = search needs
-
 returns-2 : tie.Need-returns-2
 returns-2 c =
     let at-meeting = c .before .before .before in
     let best = at-meeting .before .before .before .args .best in
     kept-by _ _ _ _ _ best (at-meeting .meeting .given .1) (sym (c .before .is-sooner .ensures) ∙ not-true _ (c .if1 .taken)) refl
-
-is-current-requires : tie.Need-is-current-requires
-is-current-requires c κs = search needs
 
 returns-3 : tie.Need-returns-3
 returns-3 c =
@@ -46,9 +31,6 @@ returns-3 c =
     let best = at-meeting .before .before .before .args .best in
     kept-by _ _ _ _ _ best (at-meeting .meeting .given .1) (sym (at-else .before .is-sooner .ensures) ∙ not-false _ (at-else .if1 .left))
     (sym (c .before .is-current .ensures) ∙ not-true (c .before .is-current .result) (c .if2 .taken))
-
-head-at-requires : tie.Need-head-at-requires
-head-at-requires c κs = search needs
 
 returns-4 : tie.Need-returns-4
 returns-4 c =
@@ -64,13 +46,5 @@ returns-4 c =
 pub kept-spec : {M : Type 1} → statement M
 kept-spec =
     tie.close
-    (tie.spec
-    enum-known-meeting
-    enum-told
-    returns
-    is-sooner-requires
-    returns-2
-    is-current-requires
-    returns-3
-    head-at-requires
-    returns-4)
+    (tie.spec (λ c. search needs) (λ c. search needs) (λ c. search needs) (λ c κs. search needs) returns-2 (λ c κs. search needs) returns-3
+    (λ c κs. search needs) returns-4)

@@ -26,9 +26,6 @@ fits c =
     let read = c .read-at .ensures in
     omega (arith, read .1, read .2, valid-fits _ (here-valid (start .pre .1)))
 
-head-at-requires : tie.Need-head-at-requires
-head-at-requires c κs = search needs
-
 returns : tie.Need-returns
 returns c =
     let at-head = c .before .before in
@@ -38,9 +35,6 @@ returns c =
           (c .if1 .taken),
       start .pre .4,
     )
-
-read-at-requires : tie.Need-read-at-requires
-read-at-requires c κs = search needs
 
 slice-reshare-prefix-meet : tie.Need-slice-reshare-prefix-meet
 slice-reshare-prefix-meet c = fits (c .before)
@@ -54,12 +48,6 @@ meet-requires c κs =
     let at-read = c .before .before in
     let pre = at-read .before .before .before .before .before .before .pre in
     (subst Valid (sym (at-read .read-at .ensures .0)) (here-valid (pre .1)), pre .2, pre .3)
-
-kept-requires : tie.Need-kept-requires
-kept-requires c κs = search needs
-
-same-length : tie.Need-same-length
-same-length c = search needs
 
 returns-2 : tie.Need-returns-2
 unfolding grownOf
@@ -83,13 +71,5 @@ returns-2 c =
 pub look-spec : {M : Type 1} → statement M
 look-spec =
     tie.close
-    (tie.spec
-    head-at-requires
-    returns
-    read-at-requires
-    slice-reshare-prefix-meet
-    slice-aggregate-meet
-    meet-requires
-    kept-requires
-    same-length
-    returns-2)
+    (tie.spec (λ c κs. search needs) returns (λ c κs. search needs) slice-reshare-prefix-meet slice-aggregate-meet meet-requires
+    (λ c κs. search needs) (λ c. search needs) returns-2)

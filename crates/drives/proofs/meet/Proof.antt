@@ -5,19 +5,10 @@ use Rattle.passage.specs.theory.Found.{grown-valid}
 use Rattle.drives.proofs.meet.Statement.{statement}
 use Rattle.drives.proofs.meet.Tie as tie
 
-admit-grown-requires : tie.Need-admit-grown-requires
-admit-grown-requires c κs = search needs
-
-enum-known-refusal : tie.Need-enum-known-refusal
-enum-known-refusal c = search needs
-
 returns : tie.Need-returns
 returns c =
     let refused = c .before .before .before .admit-grown .ensures .no _ (c .before .refusal .given .1) in
     λ none. absurd (first-not-none (refused .first) none)
-
-enum-told : tie.Need-enum-told
-enum-told c = search needs
 
 first-requires : tie.Need-first-requires
 first-requires c κs =
@@ -33,5 +24,4 @@ returns-2 : tie.Need-returns-2
 returns-2 c = λ none. c .first .ensures
 
 pub meet-spec : {M : Type 1} → statement M
-meet-spec =
-    tie.close (tie.spec admit-grown-requires enum-known-refusal returns enum-told first-requires returns-2)
+meet-spec = tie.close (tie.spec (λ c κs. search needs) (λ c. search needs) returns (λ c. search needs) first-requires returns-2)

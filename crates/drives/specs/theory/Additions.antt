@@ -26,7 +26,7 @@ use Rattle.journal.specs.History.{isFinished}
 use Rattle.journal.specs.Current.{keep, isOther, around, tooFewRow}
 use Rattle.journal.specs.theory.Added.{finished-accepted, finished-sound, unfinished-seen}
 use Rattle.journal.specs.theory.Current.{finished-around}
-use Rattle.contact.specs.Contact.{placeRow}
+use Rattle.motion.specs.Contact.{placeRow}
 use Rattle.gaps.specs.Gap.{grownOf, onFloor, sizeRowsOf}
 use Rattle.gaps.specs.Search.{Fits}
 use Rattle.gaps.specs.theory.Steps.{sized-parts}

@@ -19,10 +19,10 @@ use Rattle.plane.specs.Question.{reply}
 use Rattle.growth.specs.Grown.{driven}
 use Rattle.growth.specs.theory.Places.{grown-shape}
 use Rattle.journal.specs.Format.{content}
-use Rattle.contact.specs.Contact.{OnWay, NoLater, meets, cartMeets, contact, contactNumbers, askContact}
-use Rattle.contact.specs.theory.Meeting.{first-on-way, first-meets, none-earlier, met-unless-apart}
-use Rattle.contact.specs.theory.Larger.{cart-met}
-use Rattle.contact.specs.theory.Replies.{contact-answers}
+use Rattle.motion.specs.Contact.{OnWay, NoLater, meets, cartMeets, contact, contactNumbers, askContact}
+use Rattle.motion.specs.theory.Meeting.{first-on-way, first-meets, none-earlier, met-unless-apart}
+use Rattle.motion.specs.theory.Larger.{cart-met}
+use Rattle.motion.specs.theory.Replies.{contact-answers}
 use Rattle.gaps.specs.Gap.{grownOf, onFloor}
 use Rattle.gaps.specs.theory.Pairs.{drive-clear}
 use Rattle.drives.specs.Drive.{isMet, driveRows}

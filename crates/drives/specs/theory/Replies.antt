@@ -2,13 +2,10 @@
 --     drive-admitted, drive-answers    an answer is given exactly if no row applies
 --     drive-refused, drive-damaged, drive-empty, drive-far, drive-beyond, drive-large, drive-found     row by row, as the code asks
 --     empty-refused, departure-refused, destination-refused     20 and 3
---     never-exactly                    0 is answered exactly if the driven cart is apart from every shape of the floor
-use mathlib.Core.Path.{_≡_, refl, sym, _∙_, ap, subst}
-use mathlib.Core.Bool.{Bool, true, false, not}
-use mathlib.Core.Logic.{_↔_}
-use mathlib.Core.List.{List, [], _∷_, _++_, List·Memᴰ, List·Memᴰ·head, List·Memᴰ·not-nil}
+use mathlib.Core.Path.{_≡_, sym, _∙_, ap}
+use mathlib.Core.Bool.{true, false}
+use mathlib.Core.List.{List, [], _∷_, _++_}
 use Prim.Native.Nat.{ℕ, _<_}
-use native.Mathlib.Omega.{arith}
 use borrow.Author.Tests.{le-ltb}
 use lib.Dec.{ltb}
 use lib.IntN.{ℤ, pos}
@@ -16,51 +13,34 @@ use lib.ListN.{length}
 use Rattle.plane.specs.Point.{Point}
 use Rattle.plane.specs.Refusal.{someOutside, shapeRows, Valid}
 use Rattle.plane.specs.Reply.{Reply, answered, refused, here, later, NoneApply}
-use Rattle.plane.specs.Separation.{apart}
 use Rattle.plane.specs.Floor.{Floored, corners}
 use Rattle.plane.specs.Question.{Question, reply}
-use Rattle.plane.specs.theory.lists.Sought.{true-not-false}
-use Rattle.plane.specs.theory.refusals.Asked.{asked-given, asked-none, asked-values, asked-shapes, asked-rest, rest-given, rest-none}
-use Rattle.growth.specs.Grown.{driven}
+use Rattle.plane.specs.theory.refusals.Asked.{asked-given, asked-none, asked-shapes, asked-rest, rest-given, rest-none}
 use Rattle.admission.specs.Admission.{Refuses}
 use Rattle.admission.specs.theory.Judged.{refuses-append, refuses-join}
 use Rattle.admission.specs.theory.Door.{shapes-refused, rest-refused}
-use Rattle.journal.specs.Format.{records, content}
+use Rattle.journal.specs.Format.{records}
 use Rattle.journal.specs.Reading.{damaged, damageRow}
-use Rattle.journal.specs.Current.{keep, tooFewRow}
+use Rattle.journal.specs.Current.{tooFewRow}
 use Rattle.journal.specs.Survey.{surveyed}
 use Rattle.journal.specs.declared.survey.Surveyed.the-variants as Surveyed
-use Rattle.journal.specs.theory.Survey.{surveyed-bad}
-use Rattle.contact.specs.Contact.{placeRow}
+use Rattle.motion.specs.Contact.{placeRow}
 use Rattle.gaps.specs.Gap.{onFloor, sizeRowsOf}
-use Rattle.drives.specs.Drive.{isMet, soonestNumbers, driveNumbers, driveRows, askDrive}
-use Rattle.drives.specs.theory.Met.{drive-way}
-use Rattle.drives.specs.theory.Floors.{keep-in, in-keep}
+use Rattle.gaps.specs.theory.Replies.{damage-refuses}
+use Rattle.drives.specs.Drive.{driveNumbers, driveRows, askDrive}
 
 module _ (b : List ℕ) (cart : Floored) (t u : Point) where
-  abbrev A : List Point
-  A = corners cart
-
   abbrev rs : List (List ℕ)
   rs = onFloor (cart .floor) b
 
   abbrev q : Question
   q = askDrive b cart t u
 
-  -- the corners of a record
-  abbrev shape : List ℕ → List Point
-  shape r = corners (content r)
-
-  abbrev ones : List (List ℕ)
-  ones = keep (isMet A t u) rs
-
-  -- ---- the reply
-
   pub drive-admitted : (v : List ℤ) → reply q ≡ answered v → Valid (cart .list) × NoneApply (driveRows b cart t u)
   drive-admitted v h = (asked-shapes q v h, asked-rest q v h)
 
   pub drive-answers : Valid (cart .list) → NoneApply (driveRows b cart t u)
-      → reply q ≡ answered (driveNumbers A t u rs ++ (pos (cart .floor) ∷ []))
+      → reply q ≡ answered (driveNumbers (corners cart) t u rs ++ (pos (cart .floor) ∷ []))
   drive-answers v n = asked-none q (rest-none q v n)
 
   pub drive-refused : {r : Reply} → Refuses (shapeRows 1 (cart .list)) r → r ≡ reply q
@@ -68,9 +48,7 @@ module _ (b : List ℕ) (cart : Floored) (t u : Point) where
 
   module _ (v : Valid (cart .list)) where
     pub drive-damaged : (p : ℕ) → surveyed b ≡ Surveyed.Bad p → refused 15 (p ∷ []) ≡ reply q
-    drive-damaged p h =
-        let s = surveyed-bad b p h in
-        rest-refused q v (record { by = _; first = here (s .0); is = ap (λ (k : ℕ). refused 15 (k ∷ [])) (sym (s .1)) }) .0
+    drive-damaged p h = rest-refused q v (damage-refuses b p _ h) .0
 
     module _ (sound : damaged (records b) ≡ false) where
       -- by the test of the code
@@ -95,49 +73,20 @@ module _ (b : List ℕ) (cart : Floored) (t u : Point) where
       module _ (some : ltb (length rs) 1 ≡ false) where
         pub drive-far : {r : Reply} → Refuses (placeRow 2 t ∷ []) r → r ≡ reply q
         drive-far x = rest-refused q v (refuses-join (damageRow b ∷ tooFewRow 1 rs ∷ []) (sound, (some, tt))
-            (refuses-append (placeRow 3 u ∷ sizeRowsOf A rs) x)) .0
+            (refuses-append (placeRow 3 u ∷ sizeRowsOf (corners cart) rs) x)) .0
 
         module _ (near : someOutside (t .x ∷ t .y ∷ []) ≡ false) where
           pub drive-beyond : {r : Reply} → Refuses (placeRow 3 u ∷ []) r → r ≡ reply q
           drive-beyond x = rest-refused q v
               (refuses-join (damageRow b ∷ tooFewRow 1 rs ∷ placeRow 2 t ∷ []) (sound, (some, (near, tt)))
-              (refuses-append (sizeRowsOf A rs) x)) .0
+              (refuses-append (sizeRowsOf (corners cart) rs) x)) .0
 
           module _ (by : someOutside (u .x ∷ u .y ∷ []) ≡ false) where
-            pub drive-large : {r : Reply} → Refuses (sizeRowsOf A rs) r → r ≡ reply q
+            pub drive-large : {r : Reply} → Refuses (sizeRowsOf (corners cart) rs) r → r ≡ reply q
             drive-large x = rest-refused q v
                 (refuses-join (damageRow b ∷ tooFewRow 1 rs ∷ placeRow 2 t ∷ placeRow 3 u ∷ []) (sound, (some, (near, (by, tt)))) x) .0
 
-            pub drive-found : NoneApply (sizeRowsOf A rs) → {vs : List ℤ} → vs ≡ driveNumbers A t u rs
+            pub drive-found : NoneApply (sizeRowsOf (corners cart) rs) → {vs : List ℤ} → vs ≡ driveNumbers (corners cart) t u rs
                 → answered (vs ++ (pos (cart .floor) ∷ [])) ≡ reply q
             drive-found sized e = ap (λ (ns : List ℤ). answered (ns ++ (pos (cart .floor) ∷ []))) e
                 ∙ sym (drive-answers v (sound, (some, (near, (by, sized)))))
-
-  -- ---- never
-
-  module _ (v : Valid (cart .list)) (n : NoneApply (driveRows b cart t u)) where
-    pub never-exactly : (reply q ≡ answered (pos 0 ∷ pos (cart .floor) ∷ []))
-        ↔ ((r : List ℕ) → List·Memᴰ r rs → apart (driven A t u) (shape r) ≡ true)
-    never-exactly = (
-      λ h r m. away r m (none ones refl (asked-values q _ h)),
-      λ h. drive-answers v n
-          ∙ ap (λ (xs : List (List ℕ)). answered (soonestNumbers A t u xs ++ (pos (cart .floor) ∷ []))) (nobody h ones refl),
-    )
-      where
-        none : (xs : List (List ℕ)) → ones ≡ xs → pos 0 ∷ pos (cart .floor) ∷ [] ≡ soonestNumbers A t u xs ++ (pos (cart .floor) ∷ [])
-            → ones ≡ []
-        none [] e k = e
-        none (x ∷ xs) e k = absurd (let z : _≡_ {A = ℕ} 0 1 = cc k in let w : ⊥ = omega arith in w)
-
-        away : (r : List ℕ) → List·Memᴰ r rs → ones ≡ [] → apart (driven A t u) (shape r) ≡ true
-        away r m e = go (apart (driven A t u) (shape r)) (drive-way b cart t u v n r m)
-          where
-            go : (c : Bool) → isMet A t u r ≡ not c → c ≡ true
-            go true k = refl
-            go false k = absurd (List·Memᴰ·not-nil (subst (List·Memᴰ r) e (in-keep (isMet A t u) rs m k)))
-
-        nobody : ((r : List ℕ) → List·Memᴰ r rs → apart (driven A t u) (shape r) ≡ true) → (xs : List (List ℕ)) → ones ≡ xs → ones ≡ []
-        nobody h [] e = e
-        nobody h (x ∷ xs) e =
-            let k = keep-in (isMet A t u) rs (subst (List·Memᴰ x) (sym e) (List·Memᴰ·head refl)) in
-            true-not-false (k .1) (drive-way b cart t u v n x (k .0) ∙ ap not (h x (k .0)))

@@ -13,8 +13,8 @@ use Rattle.journal.specs.Current.{keep}
 use Rattle.journal.specs.theory.Current.{keep-append}
 use Rattle.neighbours.specs.Settled.{FirstLeast}
 use Rattle.neighbours.specs.theory.Least.{All, leastOf-step, leastOf-first, leastOf-snoc}
-use Rattle.contact.specs.Contact.{contact}
-use Rattle.contact.specs.theory.Meeting.{first-on-way}
+use Rattle.motion.specs.Contact.{contact}
+use Rattle.motion.specs.theory.Meeting.{first-on-way}
 use Rattle.gaps.specs.Gap.{grownOf}
 use Rattle.drives.specs.Drive.{isMet, isAsSoon, firstMet, metNumbers, soonestNumbers, driveNumbers}
 use Rattle.drives.specs.Answered.{isSoonerThanAll, isFirst}

@@ -1,11 +1,13 @@
--- The numbers of an answer that begins with 1.
---     one-told                         what they are
+-- What the numbers of an answer tell.
+--     never-exactly                    0 is answered exactly if the driven cart is apart from every shape of the floor
+--     one-told                         what the numbers of an answer that begins with 1 are
 --     told-met, told-first, told-tie   its shape is met at its fraction, none before, and earlier ones in the log strictly after
 --     told-clear                       nothing is met on fewer than its safe millimetres
 --     told-contact                     it is what contact answers of that shape
 use mathlib.Core.Path.{_≡_, refl, sym, _∙_, ap, ap₂, subst}
-use mathlib.Core.Bool.{Bool, true, false, cond}
-use mathlib.Core.List.{List, [], _∷_, _++_, List·Memᴰ, List·Memᴰ·head, Memᴰ·append-left, Memᴰ·append-right}
+use mathlib.Core.Bool.{Bool, true, false, not, cond}
+use mathlib.Core.Logic.{_↔_}
+use mathlib.Core.List.{List, [], _∷_, _++_, List·Memᴰ, List·Memᴰ·head, List·Memᴰ·not-nil, Memᴰ·append-left, Memᴰ·append-right}
 use Prim.Native.Nat.{ℕ}
 use native.Mathlib.Omega.{arith}
 use borrow.Author.Tests.{not-true}
@@ -21,21 +23,23 @@ use Rattle.plane.specs.Separation.{apart}
 use Rattle.plane.specs.Distance.{Fraction, over}
 use Rattle.plane.specs.Floor.{Floored, corners}
 use Rattle.plane.specs.Question.{Question, reply}
+use Rattle.plane.specs.theory.lists.Sought.{true-not-false}
 use Rattle.plane.specs.theory.refusals.Asked.{asked-values}
 use Rattle.clearance.specs.theory.Distance.{noMore-le, more-lt}
+use Rattle.growth.specs.Grown.{driven}
 use Rattle.journal.specs.Format.{content}
 use Rattle.journal.specs.Current.{keep}
 use Rattle.neighbours.specs.Settled.{FirstLeast}
-use Rattle.contact.specs.Contact.{OnWay, NoLater, cartMeets, contact, safe, askContact}
-use Rattle.contact.specs.theory.Entry.{later-trans}
-use Rattle.contact.specs.theory.Meeting.{first-on-way}
-use Rattle.contact.specs.theory.Safe.{safe-before}
+use Rattle.motion.specs.Contact.{OnWay, NoLater, cartMeets, contact, safe, askContact}
+use Rattle.motion.specs.theory.Entry.{later-trans}
+use Rattle.motion.specs.theory.Meeting.{first-on-way}
+use Rattle.motion.specs.theory.Safe.{safe-before}
 use Rattle.gaps.specs.Gap.{grownOf, onFloor}
 use Rattle.drives.specs.Drive.{isMet, isAsSoon, firstMet, soonestNumbers, driveRows, askDrive}
 use Rattle.drives.specs.Answered.{Told}
 use Rattle.drives.specs.theory.Soonest.{soonest-first}
-use Rattle.drives.specs.theory.Met.{met-first, met-there, floor-contact}
-use Rattle.drives.specs.theory.Replies.{drive-admitted}
+use Rattle.drives.specs.theory.Met.{drive-way, met-first, met-there, floor-contact}
+use Rattle.drives.specs.theory.Replies.{drive-admitted, drive-answers}
 use Rattle.drives.specs.theory.Floors.{keep-in, in-keep, keep-split}
 
 -- f is strictly before g
@@ -63,6 +67,37 @@ module _ (b : List ℕ) (cart : Floored) (t u : Point) where
 
   abbrev ones : List (List ℕ)
   ones = keep (isMet A t u) rs
+
+  -- ---- never
+
+  module _ (v : Valid (cart .list)) (n : NoneApply (driveRows b cart t u)) where
+    pub never-exactly : (reply q ≡ answered (pos 0 ∷ pos (cart .floor) ∷ []))
+        ↔ ((r : List ℕ) → List·Memᴰ r rs → apart (driven A t u) (shape r) ≡ true)
+    never-exactly = (
+      λ h r m. away r m (none ones refl (asked-values q _ h)),
+      λ h. drive-answers b cart t u v n
+          ∙ ap (λ (xs : List (List ℕ)). answered (soonestNumbers A t u xs ++ (pos (cart .floor) ∷ []))) (nobody h ones refl),
+    )
+      where
+        none : (xs : List (List ℕ)) → ones ≡ xs → pos 0 ∷ pos (cart .floor) ∷ [] ≡ soonestNumbers A t u xs ++ (pos (cart .floor) ∷ [])
+            → ones ≡ []
+        none [] e k = e
+        none (x ∷ xs) e k = absurd (let z : _≡_ {A = ℕ} 0 1 = cc k in let w : ⊥ = omega arith in w)
+
+        away : (r : List ℕ) → List·Memᴰ r rs → ones ≡ [] → apart (driven A t u) (shape r) ≡ true
+        away r m e = go (apart (driven A t u) (shape r)) (drive-way b cart t u v n r m)
+          where
+            go : (c : Bool) → isMet A t u r ≡ not c → c ≡ true
+            go true k = refl
+            go false k = absurd (List·Memᴰ·not-nil (subst (List·Memᴰ r) e (in-keep (isMet A t u) rs m k)))
+
+        nobody : ((r : List ℕ) → List·Memᴰ r rs → apart (driven A t u) (shape r) ≡ true) → (xs : List (List ℕ)) → ones ≡ xs → ones ≡ []
+        nobody h [] e = e
+        nobody h (x ∷ xs) e =
+            let k = keep-in (isMet A t u) rs (subst (List·Memᴰ x) (sym e) (List·Memᴰ·head refl)) in
+            true-not-false (k .1) (drive-way b cart t u v n x (k .0) ∙ ap not (h x (k .0)))
+
+  -- ---- met
 
   soon-le : (r s : List ℕ) → isAsSoon A t u r s ≡ true → NoLater (contact t u (grownOf A r)) (contact t u (grownOf A s))
   unfolding isAsSoon

@@ -23,7 +23,7 @@ use Rattle.journal.specs.Survey.{recordAt, nextAt, Sound, Stated}
 use Rattle.journal.specs.declared.head.Head.{Head}
 use Rattle.journal.specs.theory.Survey.{next-inside}
 use Rattle.journal.specs.theory.Stepping.{later-good}
-use Rattle.contact.specs.Contact.{contact, safe, contactNumbers}
+use Rattle.motion.specs.Contact.{contact, safe, contactNumbers}
 use Rattle.contact.specs.Share.{meetingNumbers}
 use Rattle.contact.specs.declared.drive.Meeting.{Meeting}
 use Rattle.contact.specs.declared.drive.Meeting.the-variants as Meeting

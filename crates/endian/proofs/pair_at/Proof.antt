@@ -8,21 +8,6 @@ use Rattle.endian.specs.Bytes.{pairAt}
 use Rattle.endian.proofs.pair_at.Statement.{statement}
 use Rattle.endian.proofs.pair_at.Tie as tie
 
-byte-at-requires : tie.Need-byte-at-requires
-byte-at-requires c κs = search needs
-
-add-byte-at : tie.Need-add-byte-at
-add-byte-at c = search needs
-
-byte-at-requires-2 : tie.Need-byte-at-requires-2
-byte-at-requires-2 c κs = search needs
-
-mul-result : tie.Need-mul-result
-mul-result c = search needs
-
-add-result : tie.Need-add-result
-add-result c = search needs
-
 returns : tie.Need-returns
 unfolding pairAt
 returns c =
@@ -35,4 +20,6 @@ returns c =
     )
 
 pub pair-at-spec : {M : Type 1} → statement M
-pair-at-spec = tie.close (tie.spec byte-at-requires add-byte-at byte-at-requires-2 mul-result add-result returns)
+pair-at-spec =
+    tie.close
+    (tie.spec (λ c κs. search needs) (λ c. search needs) (λ c κs. search needs) (λ c. search needs) (λ c. search needs) returns)

@@ -8,19 +8,10 @@ use mir.Val.{toZ}
 use Rattle.endian.proofs.signed.Statement.{statement}
 use Rattle.endian.proofs.signed.Tie as tie
 
-cast-result : tie.Need-cast-result
-cast-result c = search needs
-
-returns : tie.Need-returns
-returns c = search needs
-
-cast-result-2 : tie.Need-cast-result-2
-cast-result-2 c = search needs
-
 returns-2 : tie.Need-returns-2
 returns-2 c =
     let bits = c .before .args .bits in
     let twice : 4294967295 - (4294967295 - bits) ≡ bits = omega (arith, c .before .fits .bits) in ap (toZ w32) twice
 
 pub signed-spec : {M : Type 1} → statement M
-signed-spec = tie.close (tie.spec cast-result returns cast-result-2 returns-2)
+signed-spec = tie.close (tie.spec (λ c. search needs) (λ c. search needs) (λ c. search needs) returns-2)

@@ -12,15 +12,6 @@ use Rattle.gaps.specs.theory.Passed.{answer-nothing, answer-found, answe
 use Rattle.gaps.proofs.gap.Statement.{statement}
 use Rattle.gaps.proofs.gap.Tie as tie
 
-slice-aggregate-narrowest : tie.Need-slice-aggregate-narrowest
-slice-aggregate-narrowest c = search needs
-
-slice-aggregate-narrowest-2 : tie.Need-slice-aggregate-narrowest-2
-slice-aggregate-narrowest-2 c = search needs
-
-slice-aggregate-narrowest-3 : tie.Need-slice-aggregate-narrowest-3
-slice-aggregate-narrowest-3 c = search needs
-
 -- a buffer holds the numbers of any shape
 full : 2048 ≡ 2 * maxCorners
 unfolding maxCorners
@@ -30,12 +21,6 @@ narrowest-requires : tie.Need-narrowest-requires
 narrowest-requires c κs =
     let pre = c .before .before .before .before .pre in
     (walk-start _ _ _ (pre .0) (pre .2), pre .1, full, full, full)
-
-enum-known-first : tie.Need-enum-known-first
-enum-known-first c = search needs
-
-enum-told : tie.Need-enum-told
-enum-told c = search needs
 
 returns : tie.Need-returns
 returns c =
@@ -66,5 +51,5 @@ returns-2 c =
 pub gap-spec : {M : Type 1} → statement M
 gap-spec =
     tie.close
-    (tie.spec slice-aggregate-narrowest slice-aggregate-narrowest-2 slice-aggregate-narrowest-3 narrowest-requires enum-known-first
-    enum-told returns head-at-requires head-at-requires-2 returns-2)
+    (tie.spec (λ c. search needs) (λ c. search needs) (λ c. search needs) narrowest-requires (λ c. search needs) (λ c. search needs) returns
+    head-at-requires head-at-requires-2 returns-2)

@@ -1,27 +1,28 @@
 -- How a search goes on: what is kept, once pairs are passed.
 --     passed-none, passed-join     no pair changes nothing; one search after another is one
---     passed-first                 the first pair is kept
---     passed-nearer, passed-kept   one that is nearer is kept; one that is not is left
---     passed-tried                 in any case
+--     passed-over, passed-tried    a pair that is not nearer is left; one that was measured is kept or left
+--     passed-left                  the same if the second record may not be one of the floor's
+--     told-sized                   what is kept can be compared
 --     passed-end                   what is kept at the end is the narrowest
 --     answer-nothing, answer-found, answer-numbers     what is answered then
 --     along-start, along-next, along-end     the moves of a loop that passes the pairs which are still to come
 use mathlib.Core.Path.{_≡_, refl, sym, _∙_, ap, ap₂, subst}
-use mathlib.Core.Bool.{Bool, true, false, cond}
+use mathlib.Core.Bool.{Bool, true, false, not, cond, true≢false}
 use mathlib.Core.List.{List, [], _∷_, _++_, append-assoc, append-nil}
 use Prim.Native.Nat.{ℕ}
+use borrow.Author.Tests.{not-true, not-false}
 use lib.IntN.{ℤ, pos}
 use Rattle.plane.specs.Point.{Point}
-use Rattle.plane.specs.Distance.{noMore}
+use Rattle.plane.specs.Distance.{Fraction, noMore}
 use Rattle.clearance.specs.theory.Distance.{noMore-refl, more-noMore, noMore-trans}
 use Rattle.journal.specs.Format.{name}
 use Rattle.journal.specs.Survey.{recordAt, Stated}
 use Rattle.journal.specs.declared.head.Head.{Head}
-use Rattle.neighbours.specs.Spacing.{fractionOf, spacingNumbers, Sized}
+use Rattle.neighbours.specs.Spacing.{fractionOf, spacingNumbers}
 use Rattle.neighbours.specs.declared.spacing.Spacing.{Spacing}
 use Rattle.neighbours.specs.theory.Least.{All, leastOf-step}
 use Rattle.gaps.specs.Gap.{Pair, thePair, gapOf, noWider, narrowest, pairNumbers}
-use Rattle.gaps.specs.Search.{pairAt, keptOf, since, HasGap, Found, Told, Passed, nearer, Comparable}
+use Rattle.gaps.specs.Search.{pairAt, triedAt, keptOf, since, HasGap, Found, Told, Passed, nearer, isNearer, isOn, KeptSized}
 use Rattle.gaps.specs.declared.search.Best.{Best}
 use Rattle.gaps.specs.declared.search.Best.the-variants as Best
 
@@ -50,44 +51,58 @@ module _ (A : List Point) where
           ∙ g .still rest a;
     }
 
-    module _ (p q : ℕ) (w : Spacing) (f : Found A b p q w) where
-      pub passed-first : Passed A b (pairAt b p q ∷ []) Best.Nothing (Best.Pair p q w)
-      passed-first = record { told = f; gaps = (f .has-gap, tt); still = λ rest a. refl }
+    -- the test of the code is that of the pairs
+    test-is : (i j : ℕ) (v : Spacing) → Found A b i j v → (x : Pair) {y : Bool} → noMore (fractionOf v) (gapOf A x) ≡ y
+        → noWider A (pairAt b i j) x ≡ y
+    test-is i j v t x {y} e = subst (λ (f : Fraction). noMore f (gapOf A x) ≡ y) (t .fraction-is) e
 
-      module _ (i j : ℕ) (v : Spacing) (g : Found A b i j v) where
-        -- the test of the code is that of the pairs
-        tests : {t : Bool} → noMore (fractionOf v) (fractionOf w) ≡ t → noWider A (pairAt b i j) (pairAt b p q) ≡ t
-        tests e = rw (sym (g .fraction-is), sym (f .fraction-is)) e
+    -- one that is not nearer is left
+    pub passed-over : (p q : ℕ) (s : Best) → Told A b s → HasGap A (pairAt b p q) → isNearer (gapOf A (pairAt b p q)) s ≡ false
+        → Passed A b (pairAt b p q ∷ []) s s
+    passed-over p q Best.Nothing t h e = absurd (true≢false e)
+    passed-over p q (Best.Pair i j v) t h e = record {
+      told = t;
+      gaps = (h, tt);
+      still = λ rest a. since-step (pairAt b i j) (pairAt b p q) rest (t .has-gap) h a
+          (test-is i j v t (pairAt b p q) (not-false _ e));
+    }
 
-        pub passed-nearer : noMore (fractionOf v) (fractionOf w) ≡ false
-            → Passed A b (pairAt b p q ∷ []) (Best.Pair i j v) (Best.Pair p q w)
-        passed-nearer e = record {
-          told = f;
-          gaps = (f .has-gap, tt);
-          still = λ rest a. since-step (pairAt b i j) (pairAt b p q) rest (g .has-gap) (f .has-gap) a (tests e);
-        }
-
-        pub passed-kept : noMore (fractionOf v) (fractionOf w) ≡ true
-            → Passed A b (pairAt b p q ∷ []) (Best.Pair i j v) (Best.Pair i j v)
-        passed-kept e = record {
-          told = g;
-          gaps = (f .has-gap, tt);
-          still = λ rest a. since-step (pairAt b i j) (pairAt b p q) rest (g .has-gap) (f .has-gap) a (tests e);
-        }
+    -- one that is nearer is kept
+    passed-nearer : (p q : ℕ) (w : Spacing) → Found A b p q w → (s : Best) → Told A b s → isNearer (gapOf A (pairAt b p q)) s ≡ true
+        → Passed A b (pairAt b p q ∷ []) s (Best.Pair p q w)
+    passed-nearer p q w f Best.Nothing t e = record { told = f; gaps = (f .has-gap, tt); still = λ rest a. refl }
+    passed-nearer p q w f (Best.Pair i j v) t e = record {
+      told = f;
+      gaps = (f .has-gap, tt);
+      still = λ rest a. since-step (pairAt b i j) (pairAt b p q) rest (t .has-gap) (f .has-gap) a
+          (test-is i j v t (pairAt b p q) (not-true _ e));
+    }
 
     -- with a pair that was found, whatever is kept
     pub passed-tried : (p q : ℕ) (w : Spacing) (s : Best) → Told A b s → Found A b p q w → Passed A b (pairAt b p q ∷ []) s (nearer p q w s)
-    passed-tried p q w Best.Nothing t f = passed-first p q w f
+    passed-tried p q w Best.Nothing t f = passed-nearer p q w f Best.Nothing t refl
     passed-tried p q w (Best.Pair i j v) t f = go (noMore (fractionOf v) (fractionOf w)) refl
       where
+        same : {x : Bool} → noMore (fractionOf v) (fractionOf w) ≡ x → isNearer (gapOf A (pairAt b p q)) (Best.Pair i j v) ≡ not x
+        same e = ap not (ap (noMore (fractionOf v)) (sym (f .fraction-is)) ∙ e)
+
         go : (x : Bool) → noMore (fractionOf v) (fractionOf w) ≡ x
             → Passed A b (pairAt b p q ∷ []) (Best.Pair i j v) (cond x (Best.Pair i j v) (Best.Pair p q w))
-        go true e = passed-kept p q w f i j v t e
-        go false e = passed-nearer p q w f i j v t e
+        go true e = passed-over p q (Best.Pair i j v) t (f .has-gap) (same e)
+        go false e = passed-nearer p q w f (Best.Pair i j v) t (same e)
 
-    pub comparable : (w : Spacing) (s : Best) → Told A b s → Sized w → Comparable w s
-    comparable w Best.Nothing t z = z
-    comparable w (Best.Pair i j v) t z = (z, t .sized)
+    -- what is kept stays, if the record at q is not one of the floor's or its pair is not nearer
+    pub passed-left : (f p q : ℕ) (s : Best) → Told A b s → HasGap A (pairAt b p q)
+        → (isOn f b q ≡ true → isNearer (gapOf A (pairAt b p q)) s ≡ false) → Passed A b (triedAt f b p q) s s
+    passed-left f p q s t h far = go (isOn f b q) refl
+      where
+        go : (x : Bool) → isOn f b q ≡ x → Passed A b (cond x (pairAt b p q ∷ []) []) s s
+        go true e = passed-over p q s t h (far e)
+        go false e = passed-none s t
+
+    pub told-sized : (s : Best) → Told A b s → KeptSized s
+    told-sized Best.Nothing t = tt
+    told-sized (Best.Pair i j v) t = t .sized
 
     pub passed-end : (ps : List Pair) (r : Best) → Passed A b ps Best.Nothing r → keptOf b r ≡ narrowest A ps
     passed-end ps r f = sym (ap (narrowest A) (sym (append-nil ps)) ∙ f .still [] tt ∙ done r)

@@ -2,7 +2,9 @@
 --     on-elsewhere, on-here      whether the record at a place is one of the floor's, by its head
 --     stated-few                 its numbers fit a buffer for any shape
 --     read-list, read-length     and are at its front once they are read
---     grown-rows, grown-few      6 and 7 of the grown shape pass: it is a shape, and fits such a buffer
+--     grownOf-shape, grownOf-valid, grownOf-few      the grown shape is one; if 6 and 7 pass, it fits such a buffer
+--     pair-gap, found-of         the gap of a pair is a fraction, and what was measured is it
+--     left-out                   boxes show that it is not nearer than what is kept
 use mathlib.Core.Path.{_≡_, refl, sym, _∙_, ap, ap₂, subst}
 use mathlib.Core.Bool.{Bool, true, false, not, cond, _&&_}
 use mathlib.Core.List.{List, [], _∷_}
@@ -19,6 +21,10 @@ use Rattle.plane.specs.Shape.{IsShape}
 use Rattle.plane.specs.Refusal.{Valid}
 use Rattle.plane.specs.Output.{overwritten}
 use Rattle.plane.specs.theory.lists.Flat.{points-length, points-numbers, numbers-length}
+use Rattle.polygon.specs.declared.extent.Extent.{Extent}
+use Rattle.polygon.specs.Extent.{Extends}
+use Rattle.extents.specs.Far.{Spans, Reaches}
+use Rattle.extents.specs.theory.Gaps.{grown-spans}
 use Rattle.endian.specs.Bytes.{wordsAt}
 use Rattle.endian.specs.theory.Bytes.{wordsAt-length}
 use Rattle.endian.specs.theory.Coded.{front-is, front-length}
@@ -37,7 +43,8 @@ use Rattle.journal.specs.Survey.{recordAt, nextAt, Sound, Stated}
 use Rattle.journal.specs.theory.Stepping.{here-valid}
 use Rattle.journal.specs.declared.head.Head.{Head}
 use Rattle.gaps.specs.Gap.{grownOf, gapOf}
-use Rattle.gaps.specs.Search.{isOn, Fits, Found}
+use Rattle.gaps.specs.Search.{isOn, isNearer, pairAt, HasGap, LeftOut, Fits, Found}
+use Rattle.gaps.specs.declared.search.Best.{Best}
 
 -- ---- the head
 
@@ -112,22 +119,44 @@ module _ (A : List Point) (r : List ℕ) (v : Valid (list r)) (a : 0 < length A)
   pub grownOf-few : Fits A r → 2 * length (grownOf A r) ≤ 2 * maxCorners
   grownOf-few f = let few = rw points-numbers at (grownOf-valid f .few) in omega (arith, few)
 
+  -- the box about another shape and the cart, and that about the record's numbers, span that shape and the grown one
+  pub grownOf-spans : {G : List Point} {e : Extent} → Reaches G A e → {l : List ℤ} → l ≡ list r
+      → (g : Extent) → Extends (points l) g → Spans G (grownOf A r) e g
+  unfolding grownOf
+  grownOf-spans x same g y = grown-spans (points (list r)) A (v .shape .some) a x (subst (λ (l : List ℤ). Extends (points l) g) same y)
+
 -- ---- a pair
 
 module _ (A : List Point) (b : List ℕ) (p q : ℕ) (a : 0 < length A) (k : Sound b p) (l : Sound b q) where
-  pub found-of : (w : Spacing) → spacingNumbers w ≡ clearanceNumbers (grownOf A (recordAt b p)) (grownOf A (recordAt b q))
-      → Found A b p q w
+  abbrev G : List Point
+  G = grownOf A (recordAt b p)
+
+  abbrev H : List Point
+  H = grownOf A (recordAt b q)
+
+  first-shape : IsShape G
+  first-shape = grownOf-shape A (recordAt b p) (here-valid k) a
+
+  second-shape : IsShape H
+  second-shape = grownOf-shape A (recordAt b q) (here-valid l) a
+
+  pub pair-gap : HasGap A (pairAt b p q)
   unfolding gapOf
-  found-of w e =
-      let G = grownOf A (recordAt b p) in
-      let H = grownOf A (recordAt b q) in
-      let s = grownOf-shape A (recordAt b p) (here-valid k) a in
-      let t = grownOf-shape A (recordAt b q) (here-valid l) a in
-      record {
-        first-sound = k;
-        second-sound = l;
-        has-gap = distance-whole G H s t;
-        numbers-are = e;
-        fraction-is = spacing-fraction G H w e;
-        sized = spacing-sized G H s t w e;
-      }
+  pair-gap = distance-whole G H first-shape second-shape
+
+  pub found-of : (w : Spacing) → spacingNumbers w ≡ clearanceNumbers G H → Found A b p q w
+  unfolding gapOf
+  found-of w e = record {
+    first-sound = k;
+    second-sound = l;
+    has-gap = pair-gap;
+    numbers-are = e;
+    fraction-is = spacing-fraction G H w e;
+    sized = spacing-sized G H first-shape second-shape w e;
+  }
+
+  -- the box about G and the cart, and that about the record, show that the pair is not nearer than what is kept
+  pub left-out : (f : ℕ) {e : Extent} (s : Best) {g : List Point} → g ≡ G → Reaches g A e → LeftOut f b q e s → isOn f b q ≡ true
+      → isNearer (gapOf A (pairAt b p q)) s ≡ false
+  unfolding gapOf
+  left-out f {e} s {g} same x far on = far on A G a first-shape (subst (λ (ps : List Point). Reaches ps A e) same x)

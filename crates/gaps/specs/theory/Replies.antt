@@ -1,4 +1,5 @@
 -- What is replied of a gap, row by row.
+--     damage-refuses                                   rows that begin with 15, of a damaged log
 --     gap-refused, gap-damaged, gap-few, gap-large     1 to 5 of the cart, 15, 20, and 6 or 7 of a grown shape
 --     gap-found                                        else the narrowest gap; `some-pair`: two shapes have one
 --     gap-answers, answers-gap                         it is answered exactly if none of these rows applies
@@ -11,7 +12,7 @@ use borrow.Author.Tests.{lt-ltb, le-ltb}
 use lib.IntN.{ℤ, pos}
 use lib.ListN.{length}
 use Rattle.plane.specs.Point.{Point}
-use Rattle.plane.specs.Reply.{Reply, answered, refused, here, later, NoneApply}
+use Rattle.plane.specs.Reply.{Reply, Row, answered, refused, here, later, NoneApply}
 use Rattle.plane.specs.Refusal.{shapeRows, Valid}
 use Rattle.plane.specs.Floor.{Floored, corners}
 use Rattle.plane.specs.Question.{Question, reply}
@@ -25,6 +26,12 @@ use Rattle.journal.specs.Survey.{surveyed}
 use Rattle.journal.specs.declared.survey.Surveyed.the-variants as Surveyed
 use Rattle.journal.specs.theory.Survey.{surveyed-bad}
 use Rattle.gaps.specs.Gap.{onFloor, sizeRowsOf, gapNumbers, askGap}
+
+-- where the survey stops is what 15 carries
+pub damage-refuses : (b : List ℕ) (p : ℕ) (rows : List Row) → surveyed b ≡ Surveyed.Bad p
+    → Refuses (damageRow b ∷ rows) (refused 15 (p ∷ []))
+damage-refuses b p rows h = let s = surveyed-bad b p h in
+    record { by = _; first = here (s .0); is = ap (λ (k : ℕ). refused 15 (k ∷ [])) (sym (s .1)) }
 
 -- two shapes make a pair
 pub some-pair : (A : List Point) (rs : List (List ℕ)) → 2 ≤ length rs → [] ≡ gapNumbers A rs → ⊥
@@ -44,9 +51,7 @@ module _ (b : List ℕ) (cart : Floored) where
 
   module _ (v : Valid (cart .list)) where
     pub gap-damaged : (p : ℕ) → surveyed b ≡ Surveyed.Bad p → refused 15 (p ∷ []) ≡ reply q
-    gap-damaged p h =
-        let s = surveyed-bad b p h in
-        rest-refused q v (record { by = _; first = here (s .0); is = ap (λ (k : ℕ). refused 15 (k ∷ [])) (sym (s .1)) }) .0
+    gap-damaged p h = rest-refused q v (damage-refuses b p _ h) .0
 
     module _ (sound : damaged (records b) ≡ false) where
       pub gap-few : length rs < 2 → refused 20 [] ≡ reply q

@@ -4,7 +4,7 @@
 --     shapes-differ        if G is not H, such a point is a corner of one of them
 --     answers-known        shapes to which every point relates alike are equal
 --     lost-differs         at a corner of G that H lacks, H being some of the others
---     obstacles-known      obstacles to which the cart stands alike at every place are equal
+--     obstacles-known      obstacles to which the cart relates alike at every place are equal
 use mathlib.Core.Path.{_≡_, refl, sym, _∙_, ap, subst}
 use mathlib.Core.Bool.{Bool, true, false, not, cond}
 use mathlib.Core.Logic.{_⊎_, inl, inr}

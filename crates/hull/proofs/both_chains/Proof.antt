@@ -91,9 +91,6 @@ left-chain-requires c κs =
 add-result : tie.Need-add-result
 add-result c = omega (arith, c .before .left-chain .ensures .few, few (c .before .before .before .before))
 
-same-length : tie.Need-same-length
-same-length c = search needs
-
 returns : tie.Need-returns
 returns c =
     let at-left = c .before in
@@ -115,4 +112,4 @@ pub both-chains-spec : {M : Type 1} → statement M
 both-chains-spec =
     tie.close
     (tie.spec right-chain-requires mul-start mul-left-chain sub-left-chain part-left-chain-start part-left-chain-end left-chain-requires
-    add-result same-length returns)
+    add-result (λ c. search needs) returns)

@@ -96,9 +96,6 @@ chain-requires c κs =
       small .0,
     )
 
-same-length : tie.Need-same-length
-same-length c = search needs
-
 returns : tie.Need-returns
 returns c =
     let at-rows = c .before .before .before in
@@ -110,4 +107,4 @@ returns c =
 pub left-chain-spec : {M : Type 1} → statement M
 left-chain-spec =
     tie.close
-    (tie.spec home-requires trimmed-requires home-requires-2 trimmed-requires-2 chain-requires same-length returns)
+    (tie.spec home-requires trimmed-requires home-requires-2 trimmed-requires-2 chain-requires (λ c. search needs) returns)

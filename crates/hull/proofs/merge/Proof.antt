@@ -11,21 +11,6 @@ use Rattle.hull.specs.theory.Written.{front-one}
 use Rattle.hull.proofs.merge.Statement.{statement}
 use Rattle.hull.proofs.merge.Tie as tie
 
-top-requires : tie.Need-top-requires
-top-requires c κs = search needs
-
-top-requires-2 : tie.Need-top-requires-2
-top-requires-2 c κs = search needs
-
-foremost-requires : tie.Need-foremost-requires
-foremost-requires c κs = search needs
-
-foremost-requires-2 : tie.Need-foremost-requires-2
-foremost-requires-2 c κs = search needs
-
-precedes-requires : tie.Need-precedes-requires
-precedes-requires c κs = search needs
-
 both-chains-requires : tie.Need-both-chains-requires
 both-chains-requires c κs =
     let tested = c .before in
@@ -44,19 +29,10 @@ both-chains-requires c κs =
       start .pre .2,
     )
 
-same-length : tie.Need-same-length
-same-length c = search needs
-
-returns : tie.Need-returns
-returns c = search needs
-
 put-requires : tie.Need-put-requires
 put-requires c κs =
     let start = c .before .before .before .before .before .before .before in
     omega (arith, start .pre .0 .shape .some, start .pre .2, points-length (start .args .buf .now))
-
-same-length-2 : tie.Need-same-length-2
-same-length-2 c = search needs
 
 returns-2 : tie.Need-returns-2
 returns-2 c =
@@ -72,5 +48,5 @@ returns-2 c =
 pub merge-spec : {M : Type 1} → statement M
 merge-spec =
     tie.close
-    (tie.spec top-requires top-requires-2 foremost-requires foremost-requires-2 precedes-requires both-chains-requires same-length
-    returns put-requires same-length-2 returns-2)
+    (tie.spec (λ c κs. search needs) (λ c κs. search needs) (λ c κs. search needs) (λ c κs. search needs) (λ c κs. search needs)
+    both-chains-requires (λ c. search needs) (λ c. search needs) put-requires (λ c. search needs) returns-2)

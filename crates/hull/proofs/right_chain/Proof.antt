@@ -58,9 +58,6 @@ chain-requires c κs =
       small .1,
     )
 
-same-length : tie.Need-same-length
-same-length c = search needs
-
 returns : tie.Need-returns
 returns c =
     let at-rows = c .before .before .before in
@@ -70,4 +67,4 @@ returns c =
     (rows at-rows) (c .before .chain .ensures)
 
 pub right-chain-spec : {M : Type 1} → statement M
-right-chain-spec = tie.close (tie.spec trimmed-requires trimmed-requires-2 chain-requires same-length returns)
+right-chain-spec = tie.close (tie.spec trimmed-requires trimmed-requires-2 chain-requires (λ c. search needs) returns)

@@ -18,9 +18,6 @@ use Rattle.hull.proofs.sweep_few.Tie as tie
 reduce-requires : tie.Need-reduce-requires
 reduce-requires c κs = let start = c .before in (start .pre .0 .some, start .pre .0 .inRange, omega (arith, start .pre .1))
 
-slice-aggregate-insert-all : tie.Need-slice-aggregate-insert-all
-slice-aggregate-insert-all c = search needs
-
 -- the points that stay may be computed with
 reduced-small : (c : tie.After-reduce) → SmallTo (c .reduce .last .1 .0) (c .reduce .result)
 reduced-small c =
@@ -33,9 +30,6 @@ insert-all-requires c κs =
     let start = at-reduce .before .before in
     let r = at-reduce .reduce .ensures in
     (r .within, omega (arith, r .few, start .pre .2, points-length (start .args .list .now)), reduced-small at-reduce)
-
-slice-aggregate-outline : tie.Need-slice-aggregate-outline
-slice-aggregate-outline c = search needs
 
 -- they are sorted
 sorted : (c : tie.After-insert-all) → let at-reduce = c .before .before .before .before in
@@ -70,9 +64,6 @@ outline-requires c κs =
       part-small (start .args .list .now) (start .pre .0 .inRange) (h .within) (λ p n. r .part p (held-part (take m ps) h p n)),
     )
 
-same-length : tie.Need-same-length
-same-length c = search needs
-
 returns : tie.Need-returns
 unfolding shapeOf
 returns c =
@@ -84,4 +75,4 @@ returns c =
 pub sweep-few-spec : {M : Type 1} → statement M
 sweep-few-spec =
     tie.close
-    (tie.spec reduce-requires slice-aggregate-insert-all insert-all-requires slice-aggregate-outline outline-requires same-length returns)
+    (tie.spec reduce-requires (λ c. search needs) insert-all-requires (λ c. search needs) outline-requires (λ c. search needs) returns)

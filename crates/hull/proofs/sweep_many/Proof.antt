@@ -21,9 +21,6 @@ use Rattle.hull.proofs.sweep_many.Tie as tie
 reduce-requires : tie.Need-reduce-requires
 reduce-requires c κs = let start = c .before in (start .pre .0 .some, start .pre .0 .inRange, omega (arith, start .pre .1))
 
-slice-aggregate-presort : tie.Need-slice-aggregate-presort
-slice-aggregate-presort c = search needs
-
 presort-requires : tie.Need-presort-requires
 unfolding maxPoints
 presort-requires c κs =
@@ -35,9 +32,6 @@ presort-requires c κs =
       omega (arith, r .few, start .pre .0 .few),
       part-small (start .args .list .now) (start .pre .0 .inRange) (r .within) (r .part),
     )
-
-slice-aggregate-insert-all : tie.Need-slice-aggregate-insert-all
-slice-aggregate-insert-all c = search needs
 
 -- the points that stay, near their order
 kept : (c : tie.After-presort) → let at-reduce = c .before .before .before .before in
@@ -54,9 +48,6 @@ insert-all-requires c κs =
       omega (arith, r .few, start .pre .0 .few, at-presort .presort .kept .1 .1 .0, points-length (at-presort .presort .last .1 .1 .0)),
       part-small (start .args .list .now) (start .pre .0 .inRange) (r .within) (r .part),
     )
-
-slice-aggregate-outline : tie.Need-slice-aggregate-outline
-slice-aggregate-outline c = search needs
 
 -- they are sorted
 sorted : (c : tie.After-insert-all) → let at-presort = c .before .before .before .before .before in
@@ -93,9 +84,6 @@ outline-requires c κs =
       part-small (start .args .list .now) (start .pre .0 .inRange) (h .within) (λ p n. r .part p (held-part (take m ps) h p n)),
     )
 
-same-length : tie.Need-same-length
-same-length c = search needs
-
 returns : tie.Need-returns
 unfolding shapeOf
 returns c =
@@ -107,5 +95,5 @@ returns c =
 pub sweep-many-spec : {M : Type 1} → statement M
 sweep-many-spec =
     tie.close
-    (tie.spec reduce-requires slice-aggregate-presort presort-requires slice-aggregate-insert-all insert-all-requires
-    slice-aggregate-outline outline-requires same-length returns)
+    (tie.spec reduce-requires (λ c. search needs) presort-requires (λ c. search needs) insert-all-requires (λ c. search needs)
+    outline-requires (λ c. search needs) returns)

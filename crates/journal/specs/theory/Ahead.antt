@@ -4,43 +4,35 @@
 use mathlib.Core.Path.{_≡_, refl, sym, _∙_, ap}
 use mathlib.Core.Bool.{Bool, true, false, _||_}
 use mathlib.Core.List.{List}
-use Prim.Native.Nat.{ℕ, _≤_}
+use Prim.Native.Nat.{ℕ}
 use borrow.Author.Tests.{eq-eqb, ne-eqb}
 use lib.Dec.{eqb}
-use lib.ListN.{length, drop}
+use lib.ListN.{drop}
 use Rattle.journal.specs.Format.{whole, records, name}
-use Rattle.journal.specs.Reading.{damaged, held}
-use Rattle.journal.specs.Survey.{recordAt, nextAt, Sound}
-use Rattle.journal.specs.theory.Survey.{next-inside}
-use Rattle.journal.specs.theory.Stepping.{records-step, records-end, later-good, name-here}
+use Rattle.journal.specs.Reading.{held}
+use Rattle.journal.specs.Survey.{nextAt, Reached}
+use Rattle.journal.specs.theory.Stepping.{records-step, records-end, name-here, reached-sound, reached-next}
 
 pub record Ahead (n : ℕ) (b : List ℕ) (from p : ℕ) : Type 0 where
-  pub inside : p ≤ length b
-  pub good : damaged (records (drop p b)) ≡ false
+  pub reached : Reached b p
   pub still : held n (records (drop from b)) ≡ held n (records (drop p b))
 
-pub ahead-start : (n : ℕ) (b : List ℕ) (p : ℕ) → p ≤ length b → damaged (records (drop p b)) ≡ false → Ahead n b p p
-ahead-start n b p i g = record { inside = i; good = g; still = refl }
+pub ahead-start : (n : ℕ) (b : List ℕ) (p : ℕ) → Reached b p → Ahead n b p p
+ahead-start n b p r = record { reached = r; still = refl }
 
 module _ {n : ℕ} {b : List ℕ} {from p : ℕ} (f : Ahead n b from p) where
   module _ (w : whole (drop p b) ≡ true) where
-    pub ahead-sound : Sound b p
-    ahead-sound = record { here = w; good = f .good }
-
     step : (t : Bool) → eqb (name (drop p b)) n ≡ t → held n (records (drop from b)) ≡ (t || held n (records (drop (nextAt b p) b)))
     step t e =
         f .still ∙ ap (held n) (records-step b p w)
-        ∙ ap (λ (x : Bool). x || held n (records (drop (nextAt b p) b))) (ap (λ (k : ℕ). eqb k n) (name-here ahead-sound) ∙ e)
+        ∙ ap (λ (x : Bool). x || held n (records (drop (nextAt b p) b)))
+        (ap (λ (k : ℕ). eqb k n) (name-here (reached-sound (f .reached) w)) ∙ e)
 
     pub ahead-found : name (drop p b) ≡ n → true ≡ held n (records (drop from b))
     ahead-found e = sym (step true (eq-eqb (name (drop p b)) n e))
 
     pub ahead-next : (name (drop p b) ≡ n → ⊥) → Ahead n b from (nextAt b p)
-    ahead-next d = record {
-      inside = next-inside b p w;
-      good = later-good ahead-sound;
-      still = step false (ne-eqb (name (drop p b)) n d);
-    }
+    ahead-next d = record { reached = reached-next (f .reached) w; still = step false (ne-eqb (name (drop p b)) n d) }
 
   pub ahead-end : whole (drop p b) ≡ false → false ≡ held n (records (drop from b))
   ahead-end w = sym (f .still ∙ ap (held n) (records-end b p w))

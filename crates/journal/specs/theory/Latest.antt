@@ -1,25 +1,22 @@
 -- A pass over the records of a log that keeps the latest of a name.
 --     SoFar n b p r          what is found up to place p of b, and what is still to come
 --     so-far-start, so-far-next, so-far-end     the moves of the pass
---     so-far-sound           the record at p can be read
 use mathlib.Core.Path.{_≡_, refl, _∙_, ap, ap₂}
 use mathlib.Core.Bool.{Bool, true, false, cond, _||_, or-true}
 use mathlib.Core.List.{List, [], _∷_}
 use Prim.Native.Nat.{ℕ, _+_, _*_, _%_, _≤_}
-use native.Mathlib.Omega.{arith}
 use lib.Dec.{eqb}
 use lib.ListN.{length, drop}
 use Rattle.plane.specs.Floor.{Floored, on}
 use Rattle.endian.specs.Bytes.{wordsAt}
 use Rattle.journal.specs.Format.{whole, records, name, content}
 use Rattle.journal.specs.Reading.{damaged, held, nothing, latest}
-use Rattle.journal.specs.Survey.{recordAt, nextAt, Sound, Stated, newer, Latest}
+use Rattle.journal.specs.Survey.{recordAt, nextAt, Reached, Stated, newer, Latest}
 use Rattle.journal.specs.declared.head.Head.{Head}
 use Rattle.journal.specs.declared.latest.Found.{Found}
 use Rattle.journal.specs.declared.latest.Found.the-variants as Found
 use Rattle.journal.specs.theory.Records.{records-none}
-use Rattle.journal.specs.theory.Survey.{next-inside}
-use Rattle.journal.specs.theory.Stepping.{records-step, later-good}
+use Rattle.journal.specs.theory.Stepping.{records-step, reached-start, reached-next}
 
 -- ---- what is found
 
@@ -36,8 +33,7 @@ Placed b Found.Nowhere = Unit {0}
 Placed b (Found.At place count floor) = (place + 4 * count ≤ length b) × (count % 2 ≡ 0)
 
 pub record SoFar (n : ℕ) (b : List ℕ) (p : ℕ) (r : Found) : Type 0 where
-  pub inside : p ≤ length b
-  pub good : damaged (records (drop p b)) ≡ false
+  pub reached : Reached b p
   pub has : held n (records b) ≡ (isAt r || held n (records (drop p b)))
   pub latest-is : latest n (records b) ≡ cond (held n (records (drop p b))) (latest n (records (drop p b))) (shapeOf b r)
   pub placed : Placed b r
@@ -56,17 +52,13 @@ cond-same false l m x = refl
 -- ---- the pass
 
 pub so-far-start : (n : ℕ) (b : List ℕ) → damaged (records b) ≡ false → SoFar n b 0 Found.Nowhere
-so-far-start n b g = record { inside = omega arith; good = g; has = refl; latest-is = none (records b); placed = tt }
+so-far-start n b g = record { reached = reached-start b g; has = refl; latest-is = none (records b); placed = tt }
   where
     none : (rs : List (List ℕ)) → latest n rs ≡ cond (held n rs) (latest n rs) nothing
     none [] = refl
     none (r ∷ rs) = cond-own (eqb (name r) n) (held n rs) (latest n rs) (content r)
 
 module _ {n : ℕ} {b : List ℕ} {p : ℕ} {r : Found} (f : SoFar n b p r) (w : whole (drop p b) ≡ true) where
-  -- the record here is good, as all from here on
-  pub so-far-sound : Sound b p
-  so-far-sound = record { here = w; good = f .good }
-
   abbrev front : List ℕ
   front = recordAt b p
 
@@ -98,15 +90,13 @@ module _ {n : ℕ} {b : List ℕ} {p : ℕ} {r : Found} (f : SoFar n b p r) (w :
       where
         go : (e : Bool) → eqb (h .name) n ≡ e → SoFar n b (nextAt b p) (cond e (Found.At (h .place) (h .count) (h .floor)) r)
         go true g = record {
-          inside = next-inside b p w;
-          good = later-good so-far-sound;
+          reached = reached-next (f .reached) w;
           has = held-at true g ∙ or-true (isAt r);
           latest-is = latest-at true g ∙ ap (cond (held n (records rest)) (latest n (records rest))) content-here;
           placed = (s .inside, s .paired);
         }
         go false g = record {
-          inside = next-inside b p w;
-          good = later-good so-far-sound;
+          reached = reached-next (f .reached) w;
           has = held-at false g;
           latest-is = latest-at false g ∙ cond-same (held n (records rest)) (latest n (records rest)) nothing (shapeOf b r);
           placed = f .placed;

@@ -12,24 +12,19 @@ use lib.Seq.{getD-drop}
 use Rattle.journal.specs.Format.{whole, records, name}
 use Rattle.journal.specs.Reading.{damaged, held}
 use Rattle.journal.specs.Current.{current}
-use Rattle.journal.specs.Survey.{recordAt, nextAt, Sound, Stated, EntryAt}
+use Rattle.journal.specs.Survey.{recordAt, nextAt, Reached, Stated, EntryAt}
 use Rattle.journal.specs.declared.head.Head.{Head}
-use Rattle.journal.specs.theory.Survey.{next-inside}
-use Rattle.journal.specs.theory.Stepping.{records-step, records-end, later-good}
+use Rattle.journal.specs.theory.Stepping.{records-step, records-end, reached-start, reached-next}
 
 pub record Nth (k : ℕ) (b : List ℕ) (p left : ℕ) : Type 0 where
-  pub inside : p ≤ length b
-  pub good : damaged (records (drop p b)) ≡ false
+  pub reached : Reached b p
   pub still : drop k (current (records b)) ≡ drop left (current (records (drop p b)))
 
 pub nth-start : (k : ℕ) (b : List ℕ) → damaged (records b) ≡ false → Nth k b 0 k
-nth-start k b g = record { inside = omega arith; good = g; still = refl }
+nth-start k b g = record { reached = reached-start b g; still = refl }
 
 module _ {k : ℕ} {b : List ℕ} {p left : ℕ} (f : Nth k b p left) where
   module _ (w : whole (drop p b) ≡ true) where
-    pub nth-sound : Sound b p
-    nth-sound = record { here = w; good = f .good }
-
     abbrev rest : List (List ℕ)
     rest = records (drop (nextAt b p) b)
 
@@ -43,13 +38,12 @@ module _ {k : ℕ} {b : List ℕ} {p left : ℕ} (f : Nth k b p left) where
         ∙ ap (λ (x : Bool). drop left (cond x (current rest) (recordAt b p ∷ current rest))) e
 
     pub nth-passed : isLast ≡ false → Nth k b (nextAt b p) left
-    nth-passed e = record { inside = next-inside b p w; good = later-good nth-sound; still = step true (not-false _ e) }
+    nth-passed e = record { reached = reached-next (f .reached) w; still = step true (not-false _ e) }
 
     module _ (e : isLast ≡ true) where
       pub nth-counted : (left ≡ 0 → ⊥) → Nth k b (nextAt b p) (left - 1)
       nth-counted some = record {
-        inside = next-inside b p w;
-        good = later-good nth-sound;
+        reached = reached-next (f .reached) w;
         still = step false (not-true _ e) ∙ past left some;
       }
         where

@@ -1,9 +1,10 @@
--- A loop over the records of a log, from a place p on: `while whole_at(log, p) { .. p += 2 + pair_at(log, p); }`. Its invariant says
--- p ≤ length b, damaged (records (drop p b)) ≡ false, and an equation about what is still to come, `records (drop p b)`.
---     size-at, next-inside      (of `Survey`) the length that was read is the record's, and the next place is inside
+-- A loop over the records of a log, from a place p on: `while whole_at(log, p) { .. p = next_at(log, p); }`. Its invariant says
+-- that p is reached (`Reached` of `Survey.antt`), and an equation about what is still to come, `records (drop p b)`.
+--     reached-start, reached-sound, reached-next    the loop begins; a record is here; it goes on
 --     records-step, records-end    how `records (drop p b)` goes on, and ends
---     here-good, later-good     the record here is not bad, and none of the later ones is
+--     here-good, later-good, sound-next     the record here is not bad, and none of the later ones is
 --     here-valid                its numbers are a shape's
+--     name-inside, name-here    it has a name, which is inside the log
 --     legible, stated           it can be read, and what its head says
 use mathlib.Core.Path.{_≡_, sym, _∙_, ap, ap₂}
 use mathlib.Core.Bool.{true, false}
@@ -19,7 +20,7 @@ use Rattle.endian.specs.Bytes.{wordsAt}
 use Rattle.endian.specs.theory.Bytes.{wordsAt-drop}
 use Rattle.journal.specs.Format.{fixedBytes, size, whole, records, kind, name, floor, list, bad}
 use Rattle.journal.specs.Reading.{damaged}
-use Rattle.journal.specs.Survey.{Legible, recordAt, nextAt, Sound, Stated}
+use Rattle.journal.specs.Survey.{Legible, recordAt, nextAt, Sound, Reached, Stated}
 use Rattle.journal.specs.declared.head.Head.{Head}
 use Rattle.journal.specs.theory.Records.{records-none, records-front}
 use Rattle.journal.specs.theory.Kind.{fixed-least, good→facts}
@@ -35,6 +36,9 @@ module _ (b : List ℕ) (p : ℕ) where
   pub records-end : whole (drop p b) ≡ false → records (drop p b) ≡ []
   records-end w = records-none (drop p b) w
 
+pub reached-start : (b : List ℕ) → damaged (records b) ≡ false → Reached b 0
+reached-start b g = record { inside = omega arith; good = g }
+
 module _ {b : List ℕ} {p : ℕ} (s : Sound b p) where
   abbrev at : List ℕ
   at = drop p b
@@ -49,6 +53,9 @@ module _ {b : List ℕ} {p : ℕ} (s : Sound b p) where
 
   pub later-good : damaged (records (drop (nextAt b p) b)) ≡ false
   later-good = both-good .1
+
+  pub sound-next : Reached b (nextAt b p)
+  sound-next = record { inside = next-inside b p (s .here); good = later-good }
 
   pub here-valid : Valid (list (recordAt b p))
   here-valid = good→facts (recordAt b p) here-good .shape
@@ -70,6 +77,9 @@ module _ {b : List ℕ} {p : ℕ} (s : Sound b p) where
   -- its name and kind are inside
   pub legible-least : 5 ≤ size at
   legible-least = length-good .0
+
+  pub name-inside : p + 7 ≤ length b
+  name-inside = omega (arith, next-inside b p (s .here), legible-least)
 
   pub name-here : name (recordAt b p) ≡ name at
   name-here = name-front at (length-good .0)
@@ -94,3 +104,10 @@ module _ {b : List ℕ} {p : ℕ} (s : Sound b p) where
         name-fits = name-fits;
         floor-fits = floor-fits;
       }
+
+module _ {b : List ℕ} {p : ℕ} (r : Reached b p) (w : whole (drop p b) ≡ true) where
+  pub reached-sound : Sound b p
+  reached-sound = record { here = w; good = r .good }
+
+  pub reached-next : Reached b (nextAt b p)
+  reached-next = sound-next reached-sound

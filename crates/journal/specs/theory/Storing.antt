@@ -2,6 +2,7 @@
 --     take-append, made-length            the first of two lists of stores, one after the other; a store keeps the length
 --     ran-byte, ran-length                one store; the log stays as long as it is
 --     ran-kept, ran-cleared               a byte that is 0, and one that is cleared
+--     ran-blank                           nothing is cleared where all bytes are 0
 --     Cleared, cleared-start, -next       the bytes from a place on are cleared; one byte more
 --     ran-pair, ran-word                  numbers of two and of four bytes
 --     ran-start, ran-more                 a list of numbers; one more
@@ -16,15 +17,15 @@ use native.Mathlib.Omega.{arith}
 use borrow.Author.Tests.{leb-true, leb-false, le-leb, lt-leb, eq-eqb, ne-eqb}
 use lib.Dec.{eqb, leb, ltb}
 use lib.IntN.{ℤ, pos}
-use lib.ListN.{length, getD, take, drop, set, length-append, length-set}
-use lib.Seq.{take-nil, take-take, take-set-le, length-take-le, getD-take, drop-cons, drop-length}
+use lib.ListN.{length, getD, take, drop, set, length-append, length-drop, length-set}
+use lib.Seq.{take-nil, take-take, take-set-le, length-take-le, getD-take, getD-drop, drop-cons, drop-length}
 use mir.Syntax.{w32}
 use mir.Val.{ofZ}
 use Rattle.endian.specs.Bytes.{pair, word, words}
 use Rattle.endian.specs.theory.Bytes.{pair-length, words-length, words-more}
 use Rattle.journal.specs.Format.{lastByte, fixedBytes, recordedAs, recorded}
 use Rattle.journal.specs.Adding.{Store, store, end, clears, writes, stores, made}
-use Rattle.journal.specs.Allowance.{cleared, Ran}
+use Rattle.journal.specs.Allowance.{cleared, Blank, Ran}
 use Rattle.journal.specs.theory.Read.{recorded-length}
 use Rattle.journal.specs.theory.Stores.{made-append, writes-length}
 
@@ -80,6 +81,20 @@ ran-kept k p x b e =
 
 pub ran-cleared : {k m : ℕ} {b c : List ℕ} (p x : ℕ) → (x ≡ 0 → ⊥) → Ran k (writes p (0 ∷ [])) b m c → Ran k (cleared p x) b m c
 ran-cleared {k} {m} {b} {c} p x h f = subst (λ (t : Bool). Ran k (cond t [] (store p 0 ∷ [])) b m c) (sym (ne-eqb x 0 h)) f
+
+-- where all bytes are 0, none is cleared
+clears-none : (p : ℕ) (t : List ℕ) → ((i : ℕ) → i < length t → getD t i 0 ≡ 0) → clears p t ≡ []
+clears-none p [] h = refl
+clears-none p (x ∷ t) h =
+    ap₂ (λ (ss : List Store) (e : Bool). ss ++ cond e [] (store p 0 ∷ [])) (clears-none (1 + p) t (λ i l. h (suc i) (omega (arith, l))))
+    (eq-eqb x 0 (h 0 (omega arith)))
+
+pub ran-blank : (k : ℕ) (b : List ℕ) (p : ℕ) → Blank b p → Ran k (clears p (drop p b)) b k b
+ran-blank k b p h =
+    subst (λ (ss : List Store). Ran k ss b k b) (sym (clears-none p (drop p b) zero-at)) (ran-none k b)
+  where
+    zero-at : (i : ℕ) → i < length (drop p b) → getD (drop p b) i 0 ≡ 0
+    zero-at i l = getD-drop p b i 0 ∙ h (p + i) (omega arith) (omega (arith, l, length-drop p b))
 
 -- the bytes of b from p on are cleared, as far as k stores go; those before p are not changed
 pub record Cleared (k : ℕ) (b : List ℕ) (p m : ℕ) (c : List ℕ) : Type 0 where

@@ -3,11 +3,5 @@ use borrow.Author.Needs.{needs}
 use Rattle.measure.proofs.furthest_pair.Statement.{statement}
 use Rattle.measure.proofs.furthest_pair.Tie as tie
 
-longest-requires : tie.Need-longest-requires
-longest-requires c κs = search needs
-
-returns : tie.Need-returns
-returns c = search needs
-
 pub furthest-pair-spec : {M : Type 1} → statement M
-furthest-pair-spec = tie.close (tie.spec longest-requires returns)
+furthest-pair-spec = tie.close (tie.spec (λ c κs. search needs) (λ c. search needs))

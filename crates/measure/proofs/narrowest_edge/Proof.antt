@@ -4,9 +4,6 @@ use Rattle.measure.proofs.Found.{width-opposed, some-squared, width-fou
 use Rattle.measure.proofs.narrowest_edge.Statement.{statement}
 use Rattle.measure.proofs.narrowest_edge.Tie as tie
 
-narrowest-requires : tie.Need-narrowest-requires
-narrowest-requires c κs = search needs
-
 first-facing-requires : tie.Need-first-facing-requires
 first-facing-requires c κs = width-opposed _ (c .before .pre .0) (c .before .pre .1) _ (c .narrowest .ensures)
 
@@ -22,4 +19,4 @@ returns c =
     (c .root-of-fraction .ensures)
 
 pub narrowest-edge-spec : {M : Type 1} → statement M
-narrowest-edge-spec = tie.close (tie.spec narrowest-requires first-facing-requires root-of-fraction-requires returns)
+narrowest-edge-spec = tie.close (tie.spec (λ c κs. search needs) first-facing-requires root-of-fraction-requires returns)

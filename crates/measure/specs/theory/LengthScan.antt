@@ -1,7 +1,5 @@
 -- The search for the length along the half walk of a shape A: the best pair of positions so far.
 --     NoBetter ps k l i j     the pair (k, l) is no better than (i, j): not further apart, and if as far, not earlier
---     ToCome A t i m k l      the pair (k, l) is at a place after (i, m) that is antipodal
---     Leads A t i m f g       every pair at the greatest distance is no better than (f, g), or is to come
 --     leads-start             at the beginning
 --     leads-keep, -replace    the moves of the loop: a step leads to a pair that is no better, or to one that is
 --     leads-done              at the end: the answer
@@ -22,6 +20,7 @@ use Rattle.plane.specs.Measure.{squared, lengthSquared, lengthFrom, lengthTo}
 use Rattle.plane.specs.Forms.{edges}
 use Rattle.measure.specs.Comparison.{level, NoBetter, Stands}
 use Rattle.measure.specs.Half.{Chains, Antipodal, HalfStep}
+use Rattle.measure.specs.Partway.{ToCome, Leads}
 use Rattle.measure.specs.theory.Longest.{notAfter-trans, notAfter-antisym}
 use Rattle.measure.specs.theory.Longest.{squared-le-length, Longest, length-longest, length-least}
 use Rattle.measure.specs.theory.HalfWalk.{antipodal-ahead}
@@ -39,20 +38,6 @@ noBetter-trans a b = record {
 }
 
 -- ---- the best so far
-
-pub record ToCome (A : List Point) (t i m k l : ℕ) : Type 0 where
-  pub right : ℕ
-  pub left : ℕ
-  pub antipodal : Antipodal A t right left
-  pub right-ahead : i ≤ right
-  pub left-ahead : m ≤ left
-  pub ahead : i + m < right + left
-  pub stands : Stands A right left k l
-
-pub record Leads (A : List Point) (t i m f g : ℕ) : Type 0 where
-  pub ordered : f ≤ g
-  pub within : g < length A
-  pub others : (k l : ℕ) → Longest A k l → ToCome A t i m k l ⊎ NoBetter A k l f g
 
 stands-only : {A : List Point} {i m f g k l : ℕ} → Stands A i m f g → Stands A i m k l → (k ≡ f) × (l ≡ g)
 stands-only s u = (sym (u .from-is) ∙ s .from-is, sym (u .to-is) ∙ s .to-is)
@@ -86,7 +71,7 @@ module _ {A : List Point} {t : ℕ} where
   leads-start s h {f} {g} p = record {
     ordered = omega (arith, from, to);
     within = omega (arith, to, h .within);
-    others = λ k l d. let r = longest-antipodal s h d in
+    others = λ k l a b d. let r = longest-antipodal s h (record { ordered = a; within = b; longest = d }) in
         settled p (place-sort (r .2) (omega arith) (r .2 .left-from) (r .3));
   }
     where
@@ -108,7 +93,7 @@ module _ {A : List Point} {t : ℕ} where
         settled here (place-sort (u .antipodal) (on .0) (on .1) (u .stands))
 
     moved : {f′ g′ : ℕ} → f′ ≤ g′ → g′ < length A → NoBetter A p q f′ g′ → NoBetter A f g f′ g′ → Leads A t i′ m′ f′ g′
-    moved {f′} {g′} o w new old = record { ordered = o; within = w; others = λ k l d. known (lead .others k l d) }
+    moved {f′} {g′} o w new old = record { ordered = o; within = w; others = λ k l a b d. known (lead .others k l a b d) }
       where
         better : {k l : ℕ} → ToCome A t i′ m′ k l ⊎ NoBetter A k l p q → ToCome A t i′ m′ k l ⊎ NoBetter A k l f′ g′
         better (inl u) = inl u
@@ -127,7 +112,7 @@ module _ {A : List Point} {t : ℕ} where
   -- the first pair at the greatest distance is no better than (f, g), so (f, g) is at that distance too, and no later
   pub leads-done : {i m f g : ℕ} → Leads A t i m f g → t + length (edges A) ≤ i + m
       → (lengthSquared A ≡ squared (corner A f) (corner A g)) × (lengthFrom A ≡ f) × (lengthTo A ≡ g)
-  leads-done {i} {m} {f} {g} e end = go first (e .others (lengthFrom A) (lengthTo A) first)
+  leads-done {i} {m} {f} {g} e end = go first (e .others (lengthFrom A) (lengthTo A) (first .ordered) (first .within) (first .longest))
     where
       first : Longest A (lengthFrom A) (lengthTo A)
       first = length-longest A (omega (arith, e .within))

@@ -7,30 +7,24 @@
 --     width-narrowest                there is one, so widthEdge is it
 use mathlib.Core.Path.{_≡_, refl, sym, subst}
 use mathlib.Core.Bool.{Bool, true, false, not}
-use mathlib.Core.List.{List, [], _∷_}
+use mathlib.Core.List.{List}
 use mathlib.Core.Logic.{_⊎_, inl, inr, ⊎-elim}
 use Prim.Native.Nat.{ℕ, zero, suc, pred, _*_, _≤_, _<_}
 use native.Mathlib.Omega.{arith}
-use borrow.Author.Tests.{le-leb, lt-leb, ltb-true, ltb-false}
-use lib.Dec.{leb, ltb}
+use borrow.Author.Tests.{ltb-true, ltb-false}
+use lib.Dec.{ltb}
 use lib.IntN.{ℤ, pos, _*ℤ_}
 use lib.ListN.{length}
-use lib.Signed.{_≤ℤ_, _<ℤ_, ≤ℤ-refl}
-use Rattle.integer.specs.Linear.{lia, linear, _&_}
-use Rattle.integer.specs.Order.{_<×<_, _≤×<_, contra≤, weaken, leZ-true, leZ-false, le-leZ, lt-leZ}
+use lib.Signed.{_≤ℤ_, _<ℤ_}
+use Rattle.integer.specs.Order.{leZ-true, leZ-false, le-leZ, lt-leZ}
 use Rattle.plane.specs.Point.{Point}
 use Rattle.plane.specs.Search.{every}
 use Rattle.plane.specs.Shape.{IsShape}
 use Rattle.plane.specs.Measure.{height, edgeSquared, noWider, widthEdge}
 use Rattle.plane.specs.theory.lists.Sought.{first-unique, all-every, not-every, true-not-false}
+use Rattle.measure.specs.theory.Fractions.{squares-refl, squares-total, squares-trans, squares-numbers}
 use Rattle.measure.specs.theory.Height.{edgeSquared-positive}
 use Rattle.measure.specs.Comparison.{Narrowest}
-
--- s/p ≤ t/q and t/q ≤ u/r: bring all to the denominator p·q·r
-fraction-trans : (s t u p q r : ℤ) → pos 0 <ℤ p → pos 0 <ℤ q → pos 0 <ℤ r → (s *ℤ q) ≤ℤ (t *ℤ p) → (t *ℤ r) ≤ℤ (u *ℤ q)
-    → (s *ℤ r) ≤ℤ (u *ℤ p)
-fraction-trans s t u p q r hp hq hr a b = contra≤ (λ g.
-    lia (s ∷ t ∷ u ∷ p ∷ q ∷ r ∷ []) (a ≤×< hr & b ≤×< hp & g <×< hq) (search linear depth 40) (omega arith))
 
 -- the side of edge e in its comparison with f
 abbrev wide : List Point → ℕ → ℕ → ℤ
@@ -54,32 +48,24 @@ lt-wider ps e f h = lt-leZ h
 
 noWider-refl : (ps : List Point) (e : ℕ) → noWider ps e e ≡ true
 unfolding noWider
-noWider-refl ps e = le-leZ (≤ℤ-refl (wide ps e e))
+noWider-refl ps e = squares-refl (height ps) (edgeSquared ps) e
 
 wider-noWider : (ps : List Point) (e f : ℕ) → noWider ps e f ≡ false → noWider ps f e ≡ true
 unfolding noWider
-wider-noWider ps e f h = le-leZ (weaken (leZ-false {x = wide ps e f} {y = wide ps f e} h))
+wider-noWider ps e f = squares-total (height ps) (edgeSquared ps) e f
 
 module _ (ps : List Point) (s : IsShape ps) (long : 2 < length ps) where
   noWider-trans : (e f g : ℕ) → e < length ps → f < length ps → g < length ps
       → noWider ps e f ≡ true → noWider ps f g ≡ true → noWider ps e g ≡ true
   unfolding noWider
-  noWider-trans e f g he hf hg a b = le-leZ (fraction-trans (t e) (t f) (t g) (edgeSquared ps e) (edgeSquared ps f) (edgeSquared ps g)
+  noWider-trans e f g he hf hg = squares-trans (height ps) (edgeSquared ps) e f g
       (edgeSquared-positive ps s long e he) (edgeSquared-positive ps s long f hf) (edgeSquared-positive ps s long g hg)
-      (leZ-true {x = wide ps e f} {y = wide ps f e} a) (leZ-true {x = wide ps f g} {y = wide ps g f} b))
-    where
-      t : ℕ → ℤ
-      t e = height ps e *ℤ height ps e
 
 -- the test as it is made on numbers of ℕ: edge f is narrower than e
 pub noWider-fractions : (ps : List Point) (e f : ℕ) {t q u r : ℕ} → height ps e ≡ pos t → edgeSquared ps e ≡ pos q → height ps f ≡ pos u
     → edgeSquared ps f ≡ pos r → noWider ps e f ≡ not (ltb (u * u * q) (t * t * r))
 unfolding noWider
-noWider-fractions ps e f {t} {q} {u} {r} h i k l = rw (h, i, k, l) (go (ltb (u * u * q) (t * t * r)) refl)
-  where
-    go : (b : Bool) → ltb (u * u * q) (t * t * r) ≡ b → leb (t * t * r) (u * u * q) ≡ not b
-    go true p = lt-leb (t * t * r) (u * u * q) (ltb-true (u * u * q) (t * t * r) p)
-    go false p = le-leb (t * t * r) (u * u * q) (ltb-false (u * u * q) (t * t * r) p)
+noWider-fractions ps e f = squares-numbers (height ps) (edgeSquared ps) e f
 
 -- ---- the best so far
 

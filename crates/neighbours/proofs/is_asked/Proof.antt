@@ -12,9 +12,6 @@ returns c =
     let args = c .before .before .args in
     sym (ap (λ (x : Bool). x && not (eqb (args .head .name) (args .but))) (ne-eqb (args .head .floor) (args .floor) (c .if1 .taken)))
 
-cast-result : tie.Need-cast-result
-cast-result c = search needs
-
 returns-2 : tie.Need-returns-2
 returns-2 c =
     let args = c .before .before .before .args in
@@ -22,4 +19,4 @@ returns-2 c =
     (eq-eqb (args .head .floor) (args .floor) (c .before .if1 .left)))
 
 pub is-asked-spec : {M : Type 1} → statement M
-is-asked-spec = tie.close (tie.spec returns cast-result returns-2)
+is-asked-spec = tie.close (tie.spec returns (λ c. search needs) returns-2)

@@ -1,18 +1,10 @@
 -- `is_nearer` meets its contract: nothing was found, or the distances are compared.
 use mathlib.Core.Path.{sym, _∙_, ap, subst}
 use borrow.Author.Needs.{needs}
+use Rattle.neighbours.specs.Spacing.{fractionOf}
 use Rattle.neighbours.specs.Search.{isNearer, NearSized}
 use Rattle.neighbours.proofs.is_nearer.Statement.{statement}
 use Rattle.neighbours.proofs.is_nearer.Tie as tie
-
-enum-known-best : tie.Need-enum-known-best
-enum-known-best c = search needs
-
-enum-told : tie.Need-enum-told
-enum-told c = search needs
-
-returns : tie.Need-returns
-returns c = search needs
 
 is-less-requires : tie.Need-is-less-requires
 is-less-requires c κs =
@@ -22,7 +14,7 @@ is-less-requires c κs =
 returns-2 : tie.Need-returns-2
 returns-2 c =
     let at-best = c .before .before in
-    c .is-less .ensures ∙ sym (ap (isNearer (at-best .before .before .args .spacing)) (at-best .best .given .1))
+    c .is-less .ensures ∙ sym (ap (isNearer (fractionOf (at-best .before .before .args .spacing))) (at-best .best .given .1))
 
 pub is-nearer-spec : {M : Type 1} → statement M
-is-nearer-spec = tie.close (tie.spec enum-known-best enum-told returns is-less-requires returns-2)
+is-nearer-spec = tie.close (tie.spec (λ c. search needs) (λ c. search needs) (λ c. search needs) is-less-requires returns-2)

@@ -1,11 +1,12 @@
--- `look` meets its contract: the record is not asked for, or it is read and measured, and then kept or not.
+-- `look` meets its contract: the record is not asked for, or it is read and passed over, or measured, and then kept or not.
 use mathlib.Core.Path.{_≡_, sym, _∙_, ap, subst}
-use mathlib.Core.Bool.{Bool, true, false, not}
+use mathlib.Core.Bool.{Bool, true, false, not, _&&_}
 use mathlib.Core.List.{List}
 use Prim.Native.Nat.{_*_, _≤_}
 use native.Mathlib.Omega.{arith}
 use borrow.Author.Needs.{needs}
 use borrow.Author.Tests.{not-true, not-false}
+use lib.Dec.{eqb}
 use lib.ListN.{length, take}
 use lib.IntN.{ℤ}
 use lib.Seq.{length-take-le}
@@ -13,21 +14,17 @@ use Rattle.plane.specs.Limits.{maxCorners}
 use Rattle.plane.specs.Point.{points}
 use Rattle.plane.specs.Refusal.{Valid}
 use Rattle.plane.specs.Clearance.{clearanceNumbers}
+use Rattle.plane.specs.Distance.{distance}
+use Rattle.extents.specs.theory.Gaps.{extends-bounded}
 use Rattle.endian.specs.Bytes.{wordsAt}
 use Rattle.endian.specs.theory.Bytes.{wordsAt-length}
 use Rattle.endian.specs.theory.Coded.{front-is, front-length}
 use Rattle.journal.specs.Survey.{Stated}
-use Rattle.neighbours.specs.Search.{Onward}
+use Rattle.neighbours.specs.Search.{isNearer, Onward}
 use Rattle.neighbours.specs.theory.Spacings.{spacing-sized}
-use Rattle.neighbours.specs.theory.Search.{here-numbers, count-fits, onward-other, onward-kept}
+use Rattle.neighbours.specs.theory.Search.{here-numbers, count-fits, onward-other, onward-passed, onward-kept}
 use Rattle.neighbours.proofs.look.Statement.{statement}
 use Rattle.neighbours.proofs.look.Tie as tie
-
-head-at-requires : tie.Need-head-at-requires
-head-at-requires c κs = search needs
-
-is-asked-requires : tie.Need-is-asked-requires
-is-asked-requires c κs = search needs
 
 returns : tie.Need-returns
 returns c =
@@ -78,55 +75,64 @@ module _ (c : tie.After-buffer) where
   decoded-valid : Valid (take (at-head .head-at .result .count) (c .before .decode .last .1 .1 .1 .0))
   decoded-valid = subst Valid (sym decoded) (here-numbers (start .pre .0) (stated-here (c .before .before)))
 
-slice-reshare-prefix-between : tie.Need-slice-reshare-prefix-between
-slice-reshare-prefix-between c = omega (arith, decoded-length c, few c)
+slice-reshare-prefix-shape : tie.Need-slice-reshare-prefix-shape
+slice-reshare-prefix-shape c = omega (arith, decoded-length c, few c)
 
-slice-aggregate-between : tie.Need-slice-aggregate-between
-slice-aggregate-between c =
+slice-aggregate-shape : tie.Need-slice-aggregate-shape
+slice-aggregate-shape c =
     let at-buffer = c .before in
     sym (length-take-le _ (at-buffer .before .decode .last .1 .1 .1 .0) (omega (arith, decoded-length at-buffer, few at-buffer)))
 
+is-passed-requires : tie.Need-is-passed-requires
+is-passed-requires c κs =
+    let at-buffer = c .before in
+    let pre = start at-buffer .pre in
+    (extends-bounded _ (pre .1) (pre .4), decoded-valid at-buffer, pre .2)
+
+-- the record is asked for
+asked : (c : tie.After-buffer) → let args = start c .args in
+    let head = at-head c .head-at .result in (eqb (head .floor) (args .floor) && not (eqb (head .name) (args .but))) ≡ true
+asked c = let at-else = c .before .before .before in sym (at-else .before .is-asked .ensures) ∙ not-false _ (at-else .if1 .left)
+
+returns-2 : tie.Need-returns-2
+returns-2 c =
+    let at-buffer = c .before .before .before in
+    let args = start at-buffer .args in
+    let pre = start at-buffer .pre in
+    let far = c .before .is-passed .ensures (c .if2 .taken) (points (args .list .now)) (pre .1 .shape) (pre .4) in (
+      onward-passed (pre .0) (stated-here (at-buffer .before .before)) (args .floor) (args .but) (points (args .list .now))
+          (args .best) (pre .1 .shape) (asked at-buffer)
+          (subst (λ l. isNearer (distance (points (args .list .now)) (points l)) (args .best) ≡ false) (decoded at-buffer) far),
+      decoded-length at-buffer,
+    )
+
 between-requires : tie.Need-between-requires
-between-requires c κs = (start (c .before) .pre .1, decoded-valid (c .before))
+between-requires c κs = let at-buffer = c .before .before .before in (start at-buffer .pre .1, decoded-valid at-buffer)
 
 kept-requires : tie.Need-kept-requires
 kept-requires c κs =
-    let at-buffer = c .before .before in
+    let at-buffer = c .before .before .before .before in
     let pre = start at-buffer .pre in (
       pre .0,
       spacing-sized _ _ (pre .1 .shape) (decoded-valid at-buffer .shape) (c .between .result) (c .between .ensures),
       pre .2,
     )
 
-same-length : tie.Need-same-length
-same-length c = search needs
-
-returns-2 : tie.Need-returns-2
-returns-2 c =
-    let at-buffer = c .before .before .before in
-    let at-else = at-buffer .before .before .before in
+returns-3 : tie.Need-returns-3
+returns-3 c =
+    let at-buffer = c .before .before .before .before .before in
     let args = start at-buffer .args in
     let pre = start at-buffer .pre in
     let spaced = c .before .between .ensures ∙ ap (λ l. clearanceNumbers (points (args .list .now)) (points l)) (decoded at-buffer) in (
       subst (Onward (points (args .list .now)) (args .floor) (args .but) (args .log .now) (args .p) (args .best))
           (sym (c .kept .ensures))
           (onward-kept (pre .0) (stated-here (at-buffer .before .before)) (args .floor) (args .but) (points (args .list .now))
-          (args .best) (pre .1 .shape) (sym (at-else .before .is-asked .ensures) ∙ not-false _ (at-else .if1 .left))
-          (c .before .between .result) spaced),
+          (args .best) (pre .1 .shape) (asked at-buffer) (c .before .between .result) spaced),
       decoded-length at-buffer,
     )
 
 pub look-spec : {M : Type 1} → statement M
 look-spec =
     tie.close
-    (tie.spec
-    head-at-requires
-    is-asked-requires
-    returns
-    decode-requires
-    slice-reshare-prefix-between
-    slice-aggregate-between
-    between-requires
-    kept-requires
-    same-length
-    returns-2)
+    (tie.spec (λ c κs. search needs) (λ c κs. search needs) returns decode-requires slice-reshare-prefix-shape slice-aggregate-shape
+    is-passed-requires (λ c. search needs) returns-2 between-requires kept-requires (λ c. search needs) returns-3)

@@ -1,15 +1,17 @@
 -- The search for the nearest shape, record by record.
 --     around-held, around-other, around-here    the records around, by the first record
 --     still-sized                  what is found can be compared
---     still-kept                   a record that is around is looked at; `still-end`: none is left; `still-met`: none is nearer
+--     still-passed, still-kept     a record that is around is passed over, or looked at
+--     still-end, still-met         none is left; none is nearer
 --     here-numbers, count-fits     the shape at a place
---     onward-other, onward-kept    the record at a place is looked at
+--     onward-other, onward-passed, onward-kept    the record at a place is looked at
 --     Searched, searched-start, searched-next, searched-end, searched-met      the loop over a log
 use mathlib.Core.Path.{_≡_, refl, sym, _∙_, ap, ap₂, subst}
 use mathlib.Core.Bool.{Bool, true, false, not, cond, _&&_, true≢false}
 use mathlib.Core.List.{List, [], _∷_}
 use Prim.Native.Nat.{ℕ, _*_, _≤_}
 use native.Mathlib.Omega.{arith}
+use borrow.Author.Tests.{not-false}
 use lib.Dec.{eqb}
 use lib.ListN.{length, drop}
 use lib.IntN.{ℤ, pos, _*ℤ_}
@@ -79,37 +81,45 @@ module _ (A : List Point) (s : IsShape A) where
   near-fractions x y t u h k =
       sym (ap₂ noMore (spacing-fraction A (shapeOf x) t h) (spacing-fraction A (shapeOf y) u k))
 
+  as-near : (x y : List ℕ) → noMore (distance A (shapeOf x)) (distance A (shapeOf y)) ≡ true → isAsNear A x y ≡ true
+  unfolding isAsNear
+  as-near x y e = e
+
   -- a record y is looked at
-  module _ (all rest : List (List ℕ)) (y : List ℕ) (n : ℕ) (u : Spacing) (w : Whole y) (whole-rest : All Whole rest) (named : name y ≡ n)
-      (spaced : spacingNumbers u ≡ clearanceNumbers A (shapeOf y)) where
-    pub still-kept : (best : Near) → Still A all best (y ∷ rest) → Still A all (keptOf true n u best) rest
-    still-kept Near.Nobody b = record {
+  module _ (all rest : List (List ℕ)) (y : List ℕ) (w : Whole y) (whole-rest : All Whole rest) where
+    -- the first of the least, by which of what is found and y is nearer
+    next : {m : ℕ} {t : Spacing} (b : Best A all m t (y ∷ rest)) {x : Bool} → isAsNear A (b .one) y ≡ x
+        → let near = nearestOf A (cond x (b .one) y) rest in nearestNumbers A all ≡ pos (name near) ∷ clearanceNumbers A (shapeOf near)
+    next b e = b .still ∙ ap (λ (near : List ℕ). pos (name near) ∷ clearanceNumbers A (shapeOf near))
+        (nearest-step A s (b .one) y rest (b .shape, (w, whole-rest)) ∙ ap (λ (x : Bool). nearestOf A (cond x (b .one) y) rest) e)
+
+    stays : {m : ℕ} {t : Spacing} (b : Best A all m t (y ∷ rest)) → isAsNear A (b .one) y ≡ true → Best A all m t rest
+    stays b e =
+        record { one = b .one; shape = b .shape; name-is = b .name-is; spacing-is = b .spacing-is; still = next b e }
+
+    pub still-passed : (best : Near) → Still A all best (y ∷ rest) → isNearer (distance A (shapeOf y)) best ≡ false → Still A all best rest
+    still-passed Near.Nobody b e = absurd (true≢false e)
+    still-passed (Near.Of m t) b e = stays b (far (not-false _ e))
+      where
+        far : noMore (fractionOf t) (distance A (shapeOf y)) ≡ true → isAsNear A (b .one) y ≡ true
+        far h = as-near (b .one) y (subst (λ (f : Fraction). noMore f (distance A (shapeOf y)) ≡ true)
+            (spacing-fraction A (shapeOf (b .one)) t (b .spacing-is)) h)
+
+    pub still-kept : (n : ℕ) (u : Spacing) → name y ≡ n → spacingNumbers u ≡ clearanceNumbers A (shapeOf y) → (best : Near)
+        → Still A all best (y ∷ rest) → Still A all (keptOf true n u best) rest
+    still-kept n u named spaced Near.Nobody b = record {
       one = y;
       shape = w;
       name-is = named;
       spacing-is = spaced;
       still = ap (nearestNumbers A) b;
     }
-    still-kept (Near.Of m t) b = go (noMore (fractionOf t) (fractionOf u)) (near-fractions (b .one) y t u (b .spacing-is) spaced)
+    still-kept n u named spaced (Near.Of m t) b =
+        go (noMore (fractionOf t) (fractionOf u)) (near-fractions (b .one) y t u (b .spacing-is) spaced)
       where
-        next : {x : Bool} → isAsNear A (b .one) y ≡ x → nearestOf A (b .one) (y ∷ rest) ≡ nearestOf A (cond x (b .one) y) rest
-        next e = nearest-step A s (b .one) y rest (b .shape, (w, whole-rest)) ∙ ap (λ (x : Bool). nearestOf A (cond x (b .one) y) rest) e
-
         go : (x : Bool) → isAsNear A (b .one) y ≡ x → Still A all (cond (not x && true) (Near.Of n u) (Near.Of m t)) rest
-        go true e = record {
-          one = b .one;
-          shape = b .shape;
-          name-is = b .name-is;
-          spacing-is = b .spacing-is;
-          still = b .still ∙ ap (λ (near : List ℕ). pos (name near) ∷ clearanceNumbers A (shapeOf near)) (next e);
-        }
-        go false e = record {
-          one = y;
-          shape = w;
-          name-is = named;
-          spacing-is = spaced;
-          still = b .still ∙ ap (λ (near : List ℕ). pos (name near) ∷ clearanceNumbers A (shapeOf near)) (next e);
-        }
+        go true e = stays b e
+        go false e = record { one = y; shape = w; name-is = named; spacing-is = spaced; still = next b e }
 
   pub still-end : (all : List (List ℕ)) (best : Near) → Still A all best [] → nearNumbers best ≡ nearestNumbers A all
   still-end all Near.Nobody b = sym (ap (nearestNumbers A) b)
@@ -146,7 +156,7 @@ module _ (A : List Point) (s : IsShape A) where
 
 -- an older record of its name is passed over
 kept-older : (n : ℕ) (u : Spacing) (best : Near) → keptOf false n u best ≡ best
-kept-older n u best = go (isNearer u best)
+kept-older n u best = go (isNearer (fractionOf u) best)
   where
     go : (x : Bool) → cond (x && false) (Near.Of n u) best ≡ best
     go true = refl
@@ -186,18 +196,34 @@ module _ {b : List ℕ} {p : ℕ} (sound : Sound b p) {h : Head} (st : Stated b 
     pub onward-other : (eqb (h .floor) f && not (eqb (h .name) but)) ≡ false → Onward A f but b p best best
     onward-other e = same (around-other f but here later (asked-is ∙ e))
 
-    pub onward-kept : IsShape A → (eqb (h .floor) f && not (eqb (h .name) but)) ≡ true → (u : Spacing)
-        → spacingNumbers u ≡ clearanceNumbers A (points (wordsAt (h .count) b (h .place)))
-        → Onward A f but b p best (keptOf (isLatest b p) (h .name) u best)
-    onward-kept s asked u spaced = go (held (name here) later) refl
-      where
-        go : (x : Bool) → held (name here) later ≡ x → Onward A f but b p best (keptOf (not x) (h .name) u best)
-        go true e = subst (Onward A f but b p best) (sym (kept-older (h .name) u best)) (same (around-held f but here later e))
-        go false e = λ all x.
-            still-kept A s all (around f but later) here (h .name) u (good-whole here (here-good sound))
-            (around-whole f but later (later-good sound)) (st .name-is)
-            (spaced ∙ ap (λ l. clearanceNumbers A (points l)) (sym (st .list-is))) best
-            (subst (Still A all best) (around-at (around-here f but here later e (asked-is ∙ asked))) x)
+    module _ (s : IsShape A) (asked : (eqb (h .floor) f && not (eqb (h .name) but)) ≡ true) where
+      abbrev shape : List Point
+      shape = points (wordsAt (h .count) b (h .place))
+
+      whole-later : All Whole (around f but later)
+      whole-later = around-whole f but later (later-good sound)
+
+      -- what is still to come, if the record is the latest of its name
+      current-here : held (name here) later ≡ false → (all : List (List ℕ)) → Still A all best (around f but (records (drop p b)))
+          → Still A all best (here ∷ around f but later)
+      current-here e all x = subst (Still A all best) (around-at (around-here f but here later e (asked-is ∙ asked))) x
+
+      pub onward-passed : isNearer (distance A shape) best ≡ false → Onward A f but b p best best
+      onward-passed far = go (held (name here) later) refl
+        where
+          go : (x : Bool) → held (name here) later ≡ x → Onward A f but b p best best
+          go true e = same (around-held f but here later e)
+          go false e = λ all x. still-passed A s all (around f but later) here (good-whole here (here-good sound)) whole-later best
+              (current-here e all x) (subst (λ l. isNearer (distance A (points l)) best ≡ false) (sym (st .list-is)) far)
+
+      pub onward-kept : (u : Spacing) → spacingNumbers u ≡ clearanceNumbers A shape
+          → Onward A f but b p best (keptOf (isLatest b p) (h .name) u best)
+      onward-kept u spaced = go (held (name here) later) refl
+        where
+          go : (x : Bool) → held (name here) later ≡ x → Onward A f but b p best (keptOf (not x) (h .name) u best)
+          go true e = subst (Onward A f but b p best) (sym (kept-older (h .name) u best)) (same (around-held f but here later e))
+          go false e = λ all x. still-kept A s all (around f but later) here (good-whole here (here-good sound)) whole-later (h .name) u
+              (st .name-is) (spaced ∙ ap (λ l. clearanceNumbers A (points l)) (sym (st .list-is))) best (current-here e all x)
 
 -- ---- the loop
 

@@ -1,5 +1,5 @@
 -- The distance of two shapes as the code holds it.
---     ratio-less          ratios compare as the fractions that they are
+--     ratio-less          ratios compare as the fractions that they are; `ratio-noMore`: and with others
 --     meets-ratio, corners-ratio, second-ratio, first-ratio      what the ratio is
 --     apart-numbers       what clearance answers, by whether the shapes are apart
 --     spacing-fraction    what clearance answers tells the distance; `spacing-sized`: and what it is divided by is not 0
@@ -14,7 +14,7 @@ use lib.IntN.{ℤ, pos, natAbs, _*ℤ_}
 use lib.Signed.{_≤ℤ_, _<ℤ_}
 use Rattle.integer.specs.Ring.{ring, reify}
 use Rattle.integer.specs.Linear.{linear, lia, _&_}
-use Rattle.integer.specs.Order.{_<×<_, _<×≤_, _≤×<_, _≡×_, contra≤, contra<, lt-ltZ}
+use Rattle.integer.specs.Order.{_<×<_, _<×≤_, _≤×<_, _≡×_, contra≤, contra<, lt-ltZ, le-of-eq}
 use Rattle.integer.specs.Bound.{size-square}
 use Rattle.plane.specs.Point.{Point, corner}
 use Rattle.plane.specs.Shape.{IsShape}
@@ -24,7 +24,8 @@ use Rattle.plane.specs.Distance.{Fraction, over, noMore, distance}
 use Rattle.clearance.specs.Answer.{valuesOf}
 use Rattle.clearance.specs.declared.measured.Distance.{Distance}
 use Rattle.clearance.specs.declared.measured.Distance.the-variants as Distance
-use Rattle.clearance.specs.theory.Distance.{le-noMore, lt-more, distance-apart, distance-none, distance-whole, distance-positive}
+use Rattle.clearance.specs.theory.Distance.{le-noMore, lt-more, noMore-trans}
+use Rattle.clearance.specs.theory.Distance.{distance-apart, distance-none, distance-whole, distance-positive}
 use Rattle.neighbours.specs.Spacing.{spacingNumbers, apartFraction, fractionOf, ApartSized, Sized, HasRatio}
 use Rattle.neighbours.specs.declared.spacing.Spacing.{Spacing}
 use Rattle.neighbours.specs.declared.spacing.Spacing.the-variants as Spacing
@@ -76,6 +77,13 @@ ratio-less f g r s df dg hf hg = go (ltb (T * q) (U * p)) refl
     go false e = sym (ap not (le-noMore g f (more-stays (pos T) (pos p) (pos U) (pos q) (f .numerator) (f .denominator) (g .numerator)
         (g .denominator) (lt-pos 0 p (hf .some)) (lt-pos 0 q (hg .some)) df dg (hf .is) (hg .is)
         (record { le = le→leb (U * p) (T * q) (ltb-false (T * q) (U * p) e) }))))
+
+-- a ratio is no more than a distance: neither is the fraction that it is
+pub ratio-noMore : (f g : Fraction) (r : Ratio) → pos 0 <ℤ f .denominator → pos 0 <ℤ g .denominator → HasRatio f r
+    → noMore (over (pos (r .turn * r .turn)) (pos (r .squared))) g ≡ true → noMore f g ≡ true
+ratio-noMore f g r df dg hf h =
+    let w = over (pos (r .turn * r .turn)) (pos (r .squared)) in
+    noMore-trans f w g df (lt-pos 0 (r .squared) (hf .some)) dg (le-noMore f w (le-of-eq (sym (hf .is)))) h
 
 -- what a distance is divided by
 pub sized-whole : (w : Spacing) → Sized w → pos 0 <ℤ fractionOf w .denominator

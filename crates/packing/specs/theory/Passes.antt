@@ -1,8 +1,8 @@
 -- The two passes over the old log: one that counts the packed bytes, one that stores them.
 --     Measured b but p n                 up to place p of b, n bytes are kept
---     measured-start, -next, -end        the moves of the pass
+--     measured-start, -kept, -skipped, -end    the moves of the pass
 --     Packs k b t but p q n c            up to place p of b, the bytes before place q of the new run t are done
---     packs-start, -skip, -copy, -end    the moves of the pass; `packs-equal` moves along equations
+--     packs-start, -skip, -copy, -end    the moves of the pass
 use mathlib.Core.Path.{_≡_, refl, sym, _∙_, ap, subst}
 use mathlib.Core.Bool.{Bool, true, false, not, cond, _&&_, and-false}
 use mathlib.Core.List.{List, [], _∷_, _++_, append-assoc}
@@ -15,10 +15,9 @@ use Rattle.journal.specs.Format.{size, whole, records, name}
 use Rattle.journal.specs.Reading.{damaged, held}
 use Rattle.journal.specs.Current.{current, keep, isOther}
 use Rattle.journal.specs.Adding.{joined, made}
-use Rattle.journal.specs.Survey.{recordAt, nextAt, Sound}
+use Rattle.journal.specs.Survey.{recordAt, nextAt, Reached}
 use Rattle.journal.specs.theory.Records.{whole→facts}
-use Rattle.journal.specs.theory.Survey.{next-inside}
-use Rattle.journal.specs.theory.Stepping.{records-step, records-end, later-good}
+use Rattle.journal.specs.theory.Stepping.{records-step, records-end, reached-start, reached-next}
 use Rattle.packing.specs.Packing.{packed, wanted, mends, mendsAll}
 use Rattle.packing.specs.Copying.{isKept, Copied}
 use Rattle.packing.specs.theory.Packed.{packed-le, wanted-length}
@@ -76,14 +75,12 @@ module _ (b : List ℕ) (p but : ℕ) where
 -- ---- counting
 
 pub record Measured (b : List ℕ) (but p n : ℕ) : Type 0 where
-  pub inside : p ≤ length b
-  pub good : damaged (records (drop p b)) ≡ false
+  pub reached : Reached b p
   pub still : length (packed b but) ≡ n + length (packed (drop p b) but)
 
 pub measured-start : (b : List ℕ) (but : ℕ) → damaged (records b) ≡ false → Measured b but 0 0
 measured-start b but g = record {
-  inside = omega arith;
-  good = g;
+  reached = reached-start b g;
   still = let e : length (packed b but) ≡ 0 + length (packed b but) = omega arith in e;
 }
 
@@ -92,13 +89,9 @@ module _ {b : List ℕ} {but p n : ℕ} (f : Measured b but p n) where
   measured-end w = omega (arith, f .still, ap length (packed-end b p but w))
 
   module _ (w : whole (drop p b) ≡ true) where
-    pub measured-sound : Sound b p
-    measured-sound = record { here = w; good = f .good }
-
-    pub measured-kept : kept b p but ≡ true → Measured b but (nextAt b p) (n + (2 + size (drop p b)))
-    measured-kept k = record {
-      inside = next-inside b p w;
-      good = later-good measured-sound;
+    pub measured-kept : {q : ℕ} → q ≡ nextAt b p → kept b p but ≡ true → Measured b but q (n + (q - p))
+    measured-kept {q} e k = subst (λ (i : ℕ). Measured b but i (n + (i - p))) (sym e) (record {
+      reached = reached-next (f .reached) w;
       still =
           omega (
             arith,
@@ -107,18 +100,17 @@ module _ {b : List ℕ} {but p n : ℕ} (f : Measured b but p n) where
             length-append (recordAt b p) (later b p but),
             record-length b p but w,
           );
-    }
+    })
 
-    pub measured-skipped : kept b p but ≡ false → Measured b but (nextAt b p) n
-    measured-skipped k = record {
-      inside = next-inside b p w;
-      good = later-good measured-sound;
+    pub measured-skipped : {q : ℕ} → q ≡ nextAt b p → kept b p but ≡ false → Measured b but q n
+    measured-skipped {q} e k = subst (λ (i : ℕ). Measured b but i n) (sym e) (record {
+      reached = reached-next (f .reached) w;
       still = omega (arith, f .still, ap length (packed-skipped b p but w k));
-    }
+    })
 
     -- the count stays below the log's length
-    pub measured-fits : kept b p but ≡ true → n + (2 + size (drop p b)) ≤ length b
-    measured-fits k = omega (arith, measured-kept k .still, packed-le b but)
+    pub measured-fits : {q : ℕ} → q ≡ nextAt b p → kept b p but ≡ true → n + (q - p) ≤ length b
+    measured-fits e k = omega (arith, measured-kept e k .still, packed-le b but)
 
 -- ---- storing
 
@@ -127,8 +119,7 @@ abbrev zeros : List ℕ → ℕ → ℕ → List ℕ
 zeros b but m = replicate (m - length (packed b but)) 0
 
 pub record Packs (k : ℕ) (b t : List ℕ) (but p q n : ℕ) (c : List ℕ) : Type 0 where
-  pub inside : p ≤ length b
-  pub good : damaged (records (drop p b)) ≡ false
+  pub reached : Reached b p
   pub room : length (packed b but) ≤ length t
   pub fits : q ≤ length t
   pub still : drop q (wanted b but (length t)) ≡ packed (drop p b) but ++ zeros b but (length t)
@@ -138,21 +129,12 @@ pub packs-start : (k : ℕ) (b t : List ℕ) (but : ℕ) → damaged (records b)
     → Packs k b t but 0 0 0 t
 unfolding wanted
 packs-start k b t but g r = record {
-  inside = omega arith;
-  good = g;
+  reached = reached-start b g;
   room = r;
   fits = omega arith;
   still = refl;
   done = copied-none k 0 t 0;
 }
-
--- the same, of equal places, counts and bytes
-pub packs-equal : {k : ℕ} {b t : List ℕ} {but p q n : ℕ} {c : List ℕ} {i j o : ℕ} {d : List ℕ} → Packs k b t but p q n c
-    → p ≡ i → j ≡ q → o ≡ n → d ≡ c → Packs k b t but i j o d
-packs-equal {k} {b} {t} {but} {p} {q} {n} {c} {i} {j} {o} {d} f e g h r =
-    subst (λ (y : List ℕ). Packs k b t but i j o y) (sym r)
-    (subst (λ (y : ℕ). Packs k b t but i j y c) (sym h)
-    (subst (λ (y : ℕ). Packs k b t but i y n c) (sym g) (subst (λ (y : ℕ). Packs k b t but y q n c) e f)))
 
 module _ {k : ℕ} {b t : List ℕ} {but p q n : ℕ} {c : List ℕ} (f : Packs k b t but p q n c) where
   abbrev w : List ℕ
@@ -171,13 +153,9 @@ module _ {k : ℕ} {b t : List ℕ} {but p q n : ℕ} {c : List ℕ} (f : Packs 
   packs-few = omega (arith, copied-few (f .done), done-count)
 
   module _ (whole-here : whole (drop p b) ≡ true) where
-    pub packs-sound : Sound b p
-    packs-sound = record { here = whole-here; good = f .good }
-
     pub packs-skip : kept b p but ≡ false → Packs k b t but (nextAt b p) q n c
     packs-skip e = record {
-      inside = next-inside b p whole-here;
-      good = later-good packs-sound;
+      reached = reached-next (f .reached) whole-here;
       room = f .room;
       fits = f .fits;
       still = f .still ∙ ap (λ (s : List ℕ). s ++ zeros b but (length t)) (packed-skipped b p but whole-here e);
@@ -209,15 +187,14 @@ module _ {k : ℕ} {b t : List ℕ} {but p q n : ℕ} {c : List ℕ} (f : Packs 
             count,
           )
 
-      pub packs-copy : {o : ℕ} {d : List ℕ} → Copied k n c q r o d → Packs k b t but (nextAt b p) (q + (2 + size (drop p b))) o d
-      packs-copy {o} {d} g =
+      copied-next : {o : ℕ} {d : List ℕ} → Copied k n c q r o d → Packs k b t but (nextAt b p) (q + (2 + size (drop p b))) o d
+      copied-next {o} {d} g =
           let m = 2 + size (drop p b) in
           let front : take q w ++ r ≡ take (q + m) w =
           ap (λ (s : List ℕ). take q w ++ s)
           (sym (take-at r (later b p but ++ zeros b but (length t)) m count) ∙ ap (take m) (sym next)) ∙ sym (take-add q m w) in
           let place : q ≡ 0 + length (take q w) = omega (arith, done-count) in record {
-            inside = next-inside b p whole-here;
-            good = later-good packs-sound;
+            reached = reached-next (f .reached) whole-here;
             room = f .room;
             fits = packs-room;
             still =
@@ -226,6 +203,14 @@ module _ {k : ℕ} {b t : List ℕ} {but p q n : ℕ} {c : List ℕ} (f : Packs 
                 subst (λ (s : List ℕ). Copied k 0 t 0 s o d) front
                 (copied-append (f .done) (omega (arith, place, f .fits)) (subst (λ (i : ℕ). Copied k n c i r o d) place g));
           }
+
+      pub packs-copy : {m o : ℕ} {d : List ℕ} → m ≡ nextAt b p → Copied k n c q (take (m - p) (drop p b)) o d
+          → Packs k b t but m (q + (m - p)) o d
+      packs-copy {m} {o} {d} next-is g =
+          let same : m - p ≡ 2 + size (drop p b) = omega (arith, next-is) in
+          subst (λ (i : ℕ). Packs k b t but m (q + i) o d) (sym same)
+          (subst (λ (i : ℕ). Packs k b t but i (q + (2 + size (drop p b))) o d) (sym next-is)
+          (copied-next (subst (λ (i : ℕ). Copied k n c q (take i (drop p b)) o d) same g)))
 
   pub packs-end : whole (drop p b) ≡ false → {o : ℕ} {d : List ℕ} → Copied k n c q (replicate (length c - q) 0) o d
       → (leb o k ≡ leb (length (mendsAll b but t)) k) × (d ≡ made (take k (mendsAll b but t)) t)

@@ -44,18 +44,12 @@ below-few c = let start = c .before .before .before .before .before .before in
 top-requires : tie.Need-top-requires
 top-requires c κs = c .pre .2 .shape .some
 
-slice-aggregate-write : tie.Need-slice-aggregate-write
-slice-aggregate-write c = search needs
-
 write-requires : tie.Need-write-requires
 unfolding grown
 write-requires c κs =
     let start = c .before .before in
     let size = few (points (start .args .left .now)) (points (start .args .cart .now)) (start .pre .3) in
     (start .pre .0, start .pre .2, c .before .top .ensures, omega arith)
-
-slice-aggregate-write-2 : tie.Need-slice-aggregate-write-2
-slice-aggregate-write-2 c = search needs
 
 write-requires-2 : tie.Need-write-requires-2
 unfolding grown
@@ -103,5 +97,5 @@ returns c =
 pub between-spec : {M : Type 1} → statement M
 between-spec =
     tie.close
-    (tie.spec top-requires slice-aggregate-write write-requires slice-aggregate-write-2 write-requires-2 mul-above array-share-prefix-above
+    (tie.spec top-requires (λ c. search needs) write-requires (λ c. search needs) write-requires-2 mul-above array-share-prefix-above
     slice-aggregate-corridor mul-below array-share-prefix-below slice-aggregate-corridor-2 corridor-requires returns)

@@ -9,16 +9,13 @@ use mir.Syntax.{w64}
 use Rattle.integer.specs.Machine.{result-is}
 use Rattle.plane.specs.Point.{points}
 use Rattle.plane.specs.Forms.{edges}
-use Rattle.plane.specs.theory.lists.Flat.{points-length}
-use Rattle.plane.specs.theory.sum.Positions.{edges-at-most}
 use Rattle.calipers.specs.Image.{image}
 use Rattle.calipers.specs.Places.{passed as Places·passed}
 use Rattle.calipers.specs.Side.{Carried, walkOf}
 use Rattle.calipers.specs.Walk.{Walk, begun, passed, finished, advanced, At}
 use Rattle.calipers.specs.theory.Carry.{all-passed, some-left, sides-walk, sides-advanced, sides-at, first-next, edges-fit}
-use Rattle.calipers.specs.theory.Image.{image-count}
 use Rattle.calipers.specs.theory.Standing.{passed-ended, edges-less}
-use Rattle.separation.specs.theory.Image.{image-begun}
+use Rattle.separation.specs.theory.Image.{image-begun, image-few, image-sides}
 use Rattle.reach.specs.theory.Scan.{Leads, leads-start, leads-next, leads-done}
 use Rattle.reach.proofs.walked.Statement.{statement}
 use Rattle.reach.proofs.walked.Tie as tie
@@ -36,20 +33,15 @@ side-at-requires c κs = (omega arith, c .pre .0 .inRange, c .pre .0 .shape .som
 side-at-requires-2 : tie.Need-side-at-requires-2 Inv-loop μ-loop
 side-at-requires-2 c κs = let pre = c .before .pre in (pre .1, pre .2, omega arith)
 
--- all edges of both
-all : (c : tie.After-struct-known2 Inv-loop μ-loop) → let second = c .before .before in
-    let args = second .before .before .args in
-    second .before .side-at .result .end + second .side-at2 .result .end
-    ≡ length (edges (points (args .a .now))) + length (edges (points (image (args .b .now))))
-all c = let second = c .before .before in omega (arith, second .before .side-at .ensures .1 .end-is, second .side-at2 .ensures .1 .end-is)
-
 add-all : tie.Need-add-all Inv-loop μ-loop
 add-all c =
-    let start = c .before .before .before .before in
-    let few = edges-at-most (points (start .args .a .now)) in
-    let too = edges-at-most (points (image (start .args .b .now))) in
-    let count = image-count (start .args .b .now) (start .pre .1) in
-    omega (arith, all c, points-length (start .args .a .now), points-length (start .args .b .now))
+    let second = c .before .before in
+    let start = second .before .before in
+    omega (
+      arith,
+      image-sides (second .before .side-at .ensures .1) (second .side-at2 .ensures .1),
+      image-few _ _ (start .pre .0) (start .pre .1),
+    )
 
 pair-requires : tie.Need-pair-requires Inv-loop μ-loop
 pair-requires c κs =
@@ -123,10 +115,7 @@ add-if1 c =
     let start = at-next .before .before .before .before .before .before .before .before .before in
     let first = at-next .before .next .ensures .1 .at-in in
     let second = at-next .next2 .ensures .1 .at-in in
-    let few = edges-at-most (points (start .args .a .now)) in
-    let too = edges-at-most (points (image (start .args .b .now))) in
-    let count = image-count (start .args .b .now) (start .pre .1) in
-    omega (arith, points-length (start .args .a .now), points-length (start .args .b .now))
+    omega (arith, image-few _ _ (start .pre .0) (start .pre .1))
 
 returns : tie.Need-returns Inv-loop μ-loop
 returns c =
@@ -134,7 +123,8 @@ returns c =
     let at-loop = at-next .before .before .before in
     let pre = at-loop .before .before .before .before .before .before .pre in
     let over = all-passed _ _ _ _ (at-next .before .next .ensures .1 .at-in) (at-next .next2 .ensures .1 .at-in)
-    (c .if1 .taken ∙ all (at-loop .before .before)) in
+    (c .if1 .taken ∙ image-sides (at-loop .before .before .before .before .before .side-at .ensures .1)
+    (at-loop .before .before .before .before .side-at2 .ensures .1)) in
     leads-done (pre .0) (pre .1) (pre .2) (at-loop .loop .inv .0) (ap (λ (w : Walk). w .over) (sym (advances at-next)) ∙ over)
 
 pair-requires-2 : tie.Need-pair-requires-2 Inv-loop μ-loop
@@ -157,7 +147,8 @@ loop-less c =
     let F = edges (points (image (args .b .now))) in
     edges-less E F _ _ (first-step at-next) (second-step at-next) (λ h k. at-else .if1 .left (omega (
       arith,
-      all (at-loop .before .before),
+      image-sides (at-loop .before .before .before .before .before .side-at .ensures .1)
+          (at-loop .before .before .before .before .side-at2 .ensures .1),
       first-step at-next ∙ passed-ended E _ F _ h,
       second-step at-next ∙ passed-ended F _ E _ k,
       inv .1 .at-in,
@@ -172,7 +163,9 @@ loop-again c =
     let start = at-loop .before .before .before .before .before .before in
     let m = at-next .before .next .result in
     let n = at-next .next2 .result in
-    let on = some-left _ _ (m .at) (n .at) (λ e. at-else .if1 .left (e ∙ sym (all (at-loop .before .before)))) in (
+    let on = some-left _ _ (m .at) (n .at) (λ e. at-else .if1 .left (e ∙ sym (
+    image-sides (at-loop .before .before .before .before .before .side-at .ensures .1)
+    (at-loop .before .before .before .before .side-at2 .ensures .1)))) in (
       leads-next (start .pre .0) (start .pre .1) (start .pre .2) (at-loop .loop .inv .0) (steps at-next false) refl
           (ap (walkOf m n) (sym on) ∙ advances at-next) (c .before .pair2 .ensures) (c .better .ensures),
       at-next .before .next .ensures .1,

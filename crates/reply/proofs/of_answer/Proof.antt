@@ -1,37 +1,14 @@
 -- `of_answer` meets its contract, case by case.
-use mathlib.Core.Path.{_≡_, _∙_, ap, sym}
-use Rattle.admission.specs.declared.answer.Answer.{Answer}
-use Rattle.questions.specs.Answer.{ofAnswer}
-use Rattle.reply.specs.Told.{crossed}
+use mathlib.Core.Path.{_∙_}
+use Rattle.answers.specs.Answer.{ofAnswer}
+use Rattle.wire.specs.theory.Bits.{told}
 use borrow.Author.Needs.{needs}
 use Rattle.reply.proofs.of_answer.Statement.{statement}
 use Rattle.reply.proofs.of_answer.Tie as tie
 
-told : {x y : Answer} → x ≡ y → crossed (ofAnswer y) ≡ crossed (ofAnswer x)
-told e = ap (λ (x : Answer). crossed (ofAnswer x)) (sym e)
-
-enum-known-answer : tie.Need-enum-known-answer
-enum-known-answer c = search needs
-
-cast-answered2 : tie.Need-cast-answered2
-cast-answered2 c = search needs
-
-answered2-requires : tie.Need-answered2-requires
-answered2-requires c κs = search needs
-
-enum-known-answer-2 : tie.Need-enum-known-answer-2
-enum-known-answer-2 c = search needs
-
-of-refusal-requires : tie.Need-of-refusal-requires
-of-refusal-requires c κs = search needs
-
-returns : tie.Need-returns
-returns c = c .answered2 .ensures ∙ told (c .before .before .answer .given .1)
-
-returns-2 : tie.Need-returns-2
-returns-2 c = c .of-refusal .ensures ∙ told (c .before .before .answer2 .given .1)
-
 pub of-answer-spec : {M : Type 1} → statement M
 of-answer-spec =
     tie.close
-    (tie.spec enum-known-answer cast-answered2 answered2-requires enum-known-answer-2 of-refusal-requires returns returns-2)
+    (tie.spec (λ c. search needs) (λ c. search needs) (λ c κs. search needs) (λ c. search needs) (λ c κs. search needs)
+    (λ c. c .answered2 .ensures ∙ told ofAnswer (c .before .before .answer .given .1))
+    (λ c. c .of-refusal .ensures ∙ told ofAnswer (c .before .before .answer2 .given .1)))

@@ -1,37 +1,14 @@
 -- `of_box` meets its contract, case by case.
-use mathlib.Core.Path.{_≡_, _∙_, ap, sym}
-use Rattle.questions.specs.declared.answer.LeastBox.{LeastBox}
-use Rattle.questions.specs.Answer.{ofBox}
-use Rattle.reply.specs.Told.{crossed}
+use mathlib.Core.Path.{_∙_}
+use Rattle.answers.specs.Answer.{ofBox}
+use Rattle.wire.specs.theory.Bits.{told}
 use borrow.Author.Needs.{needs}
 use Rattle.reply.proofs.of_box.Statement.{statement}
 use Rattle.reply.proofs.of_box.Tie as tie
 
-told : {x y : LeastBox} → x ≡ y → crossed (ofBox y) ≡ crossed (ofBox x)
-told e = ap (λ (x : LeastBox). crossed (ofBox x)) (sym e)
-
-enum-known-answer : tie.Need-enum-known-answer
-enum-known-answer c = search needs
-
-cast-answered5 : tie.Need-cast-answered5
-cast-answered5 c = search needs
-
-answered5-requires : tie.Need-answered5-requires
-answered5-requires c κs = search needs
-
-enum-known-answer-2 : tie.Need-enum-known-answer-2
-enum-known-answer-2 c = search needs
-
-of-refusal-requires : tie.Need-of-refusal-requires
-of-refusal-requires c κs = search needs
-
-returns : tie.Need-returns
-returns c = c .answered5 .ensures ∙ told (c .before .before .answer .given .1)
-
-returns-2 : tie.Need-returns-2
-returns-2 c = c .of-refusal .ensures ∙ told (c .before .before .answer2 .given .1)
-
 pub of-box-spec : {M : Type 1} → statement M
 of-box-spec =
     tie.close
-    (tie.spec enum-known-answer cast-answered5 answered5-requires enum-known-answer-2 of-refusal-requires returns returns-2)
+    (tie.spec (λ c. search needs) (λ c. search needs) (λ c κs. search needs) (λ c. search needs) (λ c κs. search needs)
+    (λ c. c .answered5 .ensures ∙ told ofBox (c .before .before .answer .given .1))
+    (λ c. c .of-refusal .ensures ∙ told ofBox (c .before .before .answer2 .given .1)))

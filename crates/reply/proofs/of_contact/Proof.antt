@@ -1,50 +1,16 @@
 -- `of_contact` meets its contract, case by case.
-use mathlib.Core.Path.{_≡_, _∙_, ap, sym}
-use Rattle.questions.specs.declared.answer.Contact.{Contact}
-use Rattle.questions.specs.Answer.{ofContact}
-use Rattle.reply.specs.Told.{crossed}
+use mathlib.Core.Path.{_∙_}
+use Rattle.answers.specs.Answer.{ofContact}
+use Rattle.wire.specs.theory.Bits.{told}
 use borrow.Author.Needs.{needs}
 use Rattle.reply.proofs.of_contact.Statement.{statement}
 use Rattle.reply.proofs.of_contact.Tie as tie
 
-told : {x y : Contact} → x ≡ y → crossed (ofContact y) ≡ crossed (ofContact x)
-told e = ap (λ (x : Contact). crossed (ofContact x)) (sym e)
-
-enum-known-answer : tie.Need-enum-known-answer
-enum-known-answer c = search needs
-
-cast-answered2 : tie.Need-cast-answered2
-cast-answered2 c = search needs
-
-answered2-requires : tie.Need-answered2-requires
-answered2-requires c κs = search needs
-
-enum-known-answer-2 : tie.Need-enum-known-answer-2
-enum-known-answer-2 c = search needs
-
-cast-answered5 : tie.Need-cast-answered5
-cast-answered5 c = search needs
-
-answered5-requires : tie.Need-answered5-requires
-answered5-requires c κs = search needs
-
-enum-known-answer-3 : tie.Need-enum-known-answer-3
-enum-known-answer-3 c = search needs
-
-of-refusal-requires : tie.Need-of-refusal-requires
-of-refusal-requires c κs = search needs
-
-returns : tie.Need-returns
-returns c = c .answered2 .ensures ∙ told (c .before .before .answer .given .1)
-
-returns-2 : tie.Need-returns-2
-returns-2 c = c .answered5 .ensures ∙ told (c .before .before .answer2 .given .1)
-
-returns-3 : tie.Need-returns-3
-returns-3 c = c .of-refusal .ensures ∙ told (c .before .before .answer3 .given .1)
-
 pub of-contact-spec : {M : Type 1} → statement M
 of-contact-spec =
     tie.close
-    (tie.spec enum-known-answer cast-answered2 answered2-requires enum-known-answer-2 cast-answered5 answered5-requires
-    enum-known-answer-3 of-refusal-requires returns returns-2 returns-3)
+    (tie.spec (λ c. search needs) (λ c. search needs) (λ c κs. search needs) (λ c. search needs) (λ c. search needs) (λ c κs. search needs)
+    (λ c. search needs) (λ c κs. search needs)
+    (λ c. c .answered2 .ensures ∙ told ofContact (c .before .before .answer .given .1))
+    (λ c. c .answered5 .ensures ∙ told ofContact (c .before .before .answer2 .given .1))
+    (λ c. c .of-refusal .ensures ∙ told ofContact (c .before .before .answer3 .given .1)))

@@ -1,38 +1,16 @@
 -- `of_furthest` meets its contract, case by case.
-use mathlib.Core.Path.{_≡_, _∙_, ap, sym}
+use mathlib.Core.Path.{_∙_, ap}
 use mathlib.Core.List.{[], _∷_}
 use Prim.Native.Nat.{ℕ}
 use lib.IntN.{pos}
 use mir.Syntax.{w64}
 use Rattle.plane.specs.Reply.{answered}
-use Rattle.questions.specs.declared.answer.Furthest.{Furthest}
-use Rattle.questions.specs.Answer.{ofFurthest}
-use Rattle.reply.specs.Told.{crossed}
-use Rattle.reply.proofs.ReadBack.{kept-bits}
+use Rattle.answers.specs.Answer.{ofFurthest}
+use Rattle.wire.specs.theory.Bits.{told, kept-bits}
+use Rattle.wire.specs.Told.{crossed}
 use borrow.Author.Needs.{needs}
 use Rattle.reply.proofs.of_furthest.Statement.{statement}
 use Rattle.reply.proofs.of_furthest.Tie as tie
-
-told : {x y : Furthest} → x ≡ y → crossed (ofFurthest y) ≡ crossed (ofFurthest x)
-told e = ap (λ (x : Furthest). crossed (ofFurthest x)) (sym e)
-
-enum-known-answer : tie.Need-enum-known-answer
-enum-known-answer c = search needs
-
-bits-requires : tie.Need-bits-requires
-bits-requires c κs = search needs
-
-cast-answered4 : tie.Need-cast-answered4
-cast-answered4 c = search needs
-
-answered4-requires : tie.Need-answered4-requires
-answered4-requires c κs = search needs
-
-enum-known-answer-2 : tie.Need-enum-known-answer-2
-enum-known-answer-2 c = search needs
-
-of-refusal-requires : tie.Need-of-refusal-requires
-of-refusal-requires c κs = search needs
 
 returns : tie.Need-returns
 returns c =
@@ -41,13 +19,11 @@ returns c =
     let value = kept-bits w64 (at .0 .1 .1 .0) (found .known-told .given .1 .1 .0 .1) (c .before .bits .ensures) in
     c .answered4 .ensures
     ∙ ap (λ (n : ℕ). crossed (answered (pos (at .0 .0) ∷ pos (at .0 .1 .0) ∷ pos n ∷ pos (at .0 .1 .1 .1 .0) ∷ []))) value
-    ∙ told (at .1)
-
-returns-2 : tie.Need-returns-2
-returns-2 c = c .of-refusal .ensures ∙ told (c .before .before .answer2 .given .1)
+    ∙ told ofFurthest (at .1)
 
 pub of-furthest-spec : {M : Type 1} → statement M
 of-furthest-spec =
     tie.close
-    (tie.spec enum-known-answer bits-requires cast-answered4 answered4-requires enum-known-answer-2 of-refusal-requires returns
-    returns-2)
+    (tie.spec (λ c. search needs) (λ c κs. search needs) (λ c. search needs) (λ c κs. search needs) (λ c. search needs)
+    (λ c κs. search needs) returns
+    (λ c. c .of-refusal .ensures ∙ told ofFurthest (c .before .before .answer2 .given .1)))

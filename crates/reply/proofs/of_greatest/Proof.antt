@@ -1,37 +1,14 @@
 -- `of_greatest` meets its contract, case by case.
-use mathlib.Core.Path.{_≡_, _∙_, ap, sym}
-use Rattle.questions.specs.declared.answer.Greatest.{Greatest}
-use Rattle.questions.specs.Answer.{ofGreatest}
-use Rattle.reply.specs.Told.{crossed}
+use mathlib.Core.Path.{_∙_}
+use Rattle.answers.specs.Answer.{ofGreatest}
+use Rattle.wire.specs.theory.Bits.{told}
 use borrow.Author.Needs.{needs}
 use Rattle.reply.proofs.of_greatest.Statement.{statement}
 use Rattle.reply.proofs.of_greatest.Tie as tie
 
-told : {x y : Greatest} → x ≡ y → crossed (ofGreatest y) ≡ crossed (ofGreatest x)
-told e = ap (λ (x : Greatest). crossed (ofGreatest x)) (sym e)
-
-enum-known-answer : tie.Need-enum-known-answer
-enum-known-answer c = search needs
-
-cast-answered4 : tie.Need-cast-answered4
-cast-answered4 c = search needs
-
-answered4-requires : tie.Need-answered4-requires
-answered4-requires c κs = search needs
-
-enum-known-answer-2 : tie.Need-enum-known-answer-2
-enum-known-answer-2 c = search needs
-
-of-refusal-requires : tie.Need-of-refusal-requires
-of-refusal-requires c κs = search needs
-
-returns : tie.Need-returns
-returns c = c .answered4 .ensures ∙ told (c .before .before .answer .given .1)
-
-returns-2 : tie.Need-returns-2
-returns-2 c = c .of-refusal .ensures ∙ told (c .before .before .answer2 .given .1)
-
 pub of-greatest-spec : {M : Type 1} → statement M
 of-greatest-spec =
     tie.close
-    (tie.spec enum-known-answer cast-answered4 answered4-requires enum-known-answer-2 of-refusal-requires returns returns-2)
+    (tie.spec (λ c. search needs) (λ c. search needs) (λ c κs. search needs) (λ c. search needs) (λ c κs. search needs)
+    (λ c. c .answered4 .ensures ∙ told ofGreatest (c .before .before .answer .given .1))
+    (λ c. c .of-refusal .ensures ∙ told ofGreatest (c .before .before .answer2 .given .1)))

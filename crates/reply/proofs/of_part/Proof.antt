@@ -1,35 +1,14 @@
 -- `of_part` meets its contract, case by case.
-use mathlib.Core.Path.{_≡_, _∙_, ap, sym}
+use mathlib.Core.Path.{_∙_, ap}
 use mathlib.Core.List.{[], _∷_}
 use lib.IntN.{ℤ, pos}
 use Rattle.plane.specs.Reply.{answered}
-use Rattle.questions.specs.declared.answer.Part.{Part}
-use Rattle.questions.specs.Answer.{ofPart}
-use Rattle.reply.specs.Told.{crossed}
+use Rattle.part_questions.specs.Answer.{ofPart}
+use Rattle.wire.specs.theory.Bits.{told}
+use Rattle.wire.specs.Told.{crossed}
 use borrow.Author.Needs.{needs}
 use Rattle.reply.proofs.of_part.Statement.{statement}
 use Rattle.reply.proofs.of_part.Tie as tie
-
-told : {x y : Part} → x ≡ y → crossed (ofPart y) ≡ crossed (ofPart x)
-told e = ap (λ (x : Part). crossed (ofPart x)) (sym e)
-
-enum-known-answer : tie.Need-enum-known-answer
-enum-known-answer c = search needs
-
-flag-requires : tie.Need-flag-requires
-flag-requires c κs = search needs
-
-cast-answered5 : tie.Need-cast-answered5
-cast-answered5 c = search needs
-
-answered5-requires : tie.Need-answered5-requires
-answered5-requires c κs = search needs
-
-enum-known-answer-2 : tie.Need-enum-known-answer-2
-enum-known-answer-2 c = search needs
-
-of-refusal-requires : tie.Need-of-refusal-requires
-of-refusal-requires c κs = search needs
 
 returns : tie.Need-returns
 returns c =
@@ -38,13 +17,11 @@ returns c =
     let floor = at .0 .1 .1 .0 in
     c .answered5 .ensures
     ∙ ap (λ (z : ℤ). crossed (answered (pos (at .0 .0) ∷ pos (walk .first) ∷ pos (walk .second) ∷ z ∷ pos floor ∷ [])))
-    (c .before .flag .ensures) ∙ told (at .1)
-
-returns-2 : tie.Need-returns-2
-returns-2 c = c .of-refusal .ensures ∙ told (c .before .before .answer2 .given .1)
+    (c .before .flag .ensures) ∙ told ofPart (at .1)
 
 pub of-part-spec : {M : Type 1} → statement M
 of-part-spec =
     tie.close
-    (tie.spec enum-known-answer flag-requires cast-answered5 answered5-requires enum-known-answer-2 of-refusal-requires returns
-    returns-2)
+    (tie.spec (λ c. search needs) (λ c κs. search needs) (λ c. search needs) (λ c κs. search needs) (λ c. search needs)
+    (λ c κs. search needs) returns
+    (λ c. c .of-refusal .ensures ∙ told ofPart (c .before .before .answer2 .given .1)))

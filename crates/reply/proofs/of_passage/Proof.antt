@@ -1,59 +1,16 @@
 -- `of_passage` meets its contract, case by case.
-use mathlib.Core.Path.{_≡_, _∙_, ap, ap₂, sym}
+use mathlib.Core.Path.{_∙_, ap₂}
 use mathlib.Core.List.{[], _∷_}
 use Prim.Native.Nat.{ℕ}
 use lib.IntN.{pos}
 use mir.Syntax.{w32, w64}
 use Rattle.plane.specs.Reply.{answered}
-use Rattle.questions.specs.declared.answer.Passage.{Passage}
-use Rattle.questions.specs.Answer.{ofPassage}
-use Rattle.reply.specs.Told.{bits, crossed}
-use Rattle.reply.proofs.ReadBack.{kept-bits}
+use Rattle.answers.specs.Answer.{ofPassage}
+use Rattle.wire.specs.Told.{bits, crossed}
+use Rattle.wire.specs.theory.Bits.{told, kept-bits}
 use borrow.Author.Needs.{needs}
 use Rattle.reply.proofs.of_passage.Statement.{statement}
 use Rattle.reply.proofs.of_passage.Tie as tie
-
-told : {x y : Passage} → x ≡ y → crossed (ofPassage y) ≡ crossed (ofPassage x)
-told e = ap (λ (x : Passage). crossed (ofPassage x)) (sym e)
-
-enum-known-answer : tie.Need-enum-known-answer
-enum-known-answer c = search needs
-
-cast-answered2 : tie.Need-cast-answered2
-cast-answered2 c = search needs
-
-answered2-requires : tie.Need-answered2-requires
-answered2-requires c κs = search needs
-
-enum-known-answer-2 : tie.Need-enum-known-answer-2
-enum-known-answer-2 c = search needs
-
-extended-requires : tie.Need-extended-requires
-extended-requires c κs = search needs
-
-extended-requires-2 : tie.Need-extended-requires-2
-extended-requires-2 c κs = search needs
-
-bits-requires : tie.Need-bits-requires
-bits-requires c κs = search needs
-
-bits-requires-2 : tie.Need-bits-requires-2
-bits-requires-2 c κs = search needs
-
-cast-answered7 : tie.Need-cast-answered7
-cast-answered7 c = search needs
-
-answered7-requires : tie.Need-answered7-requires
-answered7-requires c κs = search needs
-
-enum-known-answer-3 : tie.Need-enum-known-answer-3
-enum-known-answer-3 c = search needs
-
-of-refusal-requires : tie.Need-of-refusal-requires
-of-refusal-requires c κs = search needs
-
-returns : tie.Need-returns
-returns c = c .answered2 .ensures ∙ told (c .before .before .answer .given .1)
 
 returns-2 : tie.Need-returns-2
 returns-2 c =
@@ -69,13 +26,13 @@ returns-2 c =
     ∷ pos (at .0 .1 .1 .1 .1 .0) ∷ pos (at .0 .1 .1 .1 .1 .1 .0) ∷ []))) u v
     ∙ ap₂ (λ (m n : ℕ). crossed (answered (pos 1 ∷ pos (bits (at .0 .0)) ∷ pos (bits (at .0 .1 .0)) ∷ pos m ∷ pos n
     ∷ pos (at .0 .1 .1 .1 .1 .0) ∷ pos (at .0 .1 .1 .1 .1 .1 .0) ∷ []))) low high
-    ∙ told (at .1)
-
-returns-3 : tie.Need-returns-3
-returns-3 c = c .of-refusal .ensures ∙ told (c .before .before .answer3 .given .1)
+    ∙ told ofPassage (at .1)
 
 pub of-passage-spec : {M : Type 1} → statement M
 of-passage-spec =
     tie.close
-    (tie.spec enum-known-answer cast-answered2 answered2-requires enum-known-answer-2 extended-requires extended-requires-2 bits-requires
-    bits-requires-2 cast-answered7 answered7-requires enum-known-answer-3 of-refusal-requires returns returns-2 returns-3)
+    (tie.spec (λ c. search needs) (λ c. search needs) (λ c κs. search needs) (λ c. search needs) (λ c κs. search needs)
+    (λ c κs. search needs) (λ c κs. search needs) (λ c κs. search needs) (λ c. search needs) (λ c κs. search needs) (λ c. search needs)
+    (λ c κs. search needs)
+    (λ c. c .answered2 .ensures ∙ told ofPassage (c .before .before .answer .given .1)) returns-2
+    (λ c. c .of-refusal .ensures ∙ told ofPassage (c .before .before .answer3 .given .1)))

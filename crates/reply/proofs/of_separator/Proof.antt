@@ -1,50 +1,16 @@
 -- `of_separator` meets its contract, case by case.
-use mathlib.Core.Path.{_≡_, _∙_, ap, ap₂, sym}
+use mathlib.Core.Path.{_∙_, ap₂}
 use mathlib.Core.List.{[], _∷_}
 use Prim.Native.Nat.{ℕ}
 use lib.IntN.{pos}
 use mir.Syntax.{w32}
 use Rattle.plane.specs.Reply.{answered}
-use Rattle.questions.specs.declared.answer.Separator.{Separator}
-use Rattle.questions.specs.Answer.{ofSeparator}
-use Rattle.reply.specs.Told.{crossed}
-use Rattle.reply.proofs.ReadBack.{kept-bits}
+use Rattle.answers.specs.Answer.{ofSeparator}
+use Rattle.wire.specs.theory.Bits.{told, kept-bits}
+use Rattle.wire.specs.Told.{crossed}
 use borrow.Author.Needs.{needs}
 use Rattle.reply.proofs.of_separator.Statement.{statement}
 use Rattle.reply.proofs.of_separator.Tie as tie
-
-told : {x y : Separator} → x ≡ y → crossed (ofSeparator y) ≡ crossed (ofSeparator x)
-told e = ap (λ (x : Separator). crossed (ofSeparator x)) (sym e)
-
-enum-known-answer : tie.Need-enum-known-answer
-enum-known-answer c = search needs
-
-extended-requires : tie.Need-extended-requires
-extended-requires c κs = search needs
-
-extended-requires-2 : tie.Need-extended-requires-2
-extended-requires-2 c κs = search needs
-
-cast-answered4 : tie.Need-cast-answered4
-cast-answered4 c = search needs
-
-answered4-requires : tie.Need-answered4-requires
-answered4-requires c κs = search needs
-
-enum-known-answer-2 : tie.Need-enum-known-answer-2
-enum-known-answer-2 c = search needs
-
-cast-answered2 : tie.Need-cast-answered2
-cast-answered2 c = search needs
-
-answered2-requires : tie.Need-answered2-requires
-answered2-requires c κs = search needs
-
-enum-known-answer-3 : tie.Need-enum-known-answer-3
-enum-known-answer-3 c = search needs
-
-of-refusal-requires : tie.Need-of-refusal-requires
-of-refusal-requires c κs = search needs
 
 returns : tie.Need-returns
 returns c =
@@ -52,16 +18,13 @@ returns c =
     let at = found .before .answer .given in
     let u = kept-bits w32 (at .0 .0) (found .known-told .given .0 .1) (c .before .before .extended .ensures) in
     let v = kept-bits w32 (at .0 .1 .0) (found .known-told .given .1 .0 .1) (c .before .extended2 .ensures) in
-    c .answered4 .ensures ∙ ap₂ (λ (m n : ℕ). crossed (answered (pos 1 ∷ pos m ∷ pos n ∷ pos (at .0 .1 .1 .0) ∷ []))) u v ∙ told (at .1)
-
-returns-2 : tie.Need-returns-2
-returns-2 c = c .answered2 .ensures ∙ told (c .before .before .answer2 .given .1)
-
-returns-3 : tie.Need-returns-3
-returns-3 c = c .of-refusal .ensures ∙ told (c .before .before .answer3 .given .1)
+    c .answered4 .ensures ∙ ap₂ (λ (m n : ℕ). crossed (answered (pos 1 ∷ pos m ∷ pos n ∷ pos (at .0 .1 .1 .0) ∷ []))) u v
+    ∙ told ofSeparator (at .1)
 
 pub of-separator-spec : {M : Type 1} → statement M
 of-separator-spec =
     tie.close
-    (tie.spec enum-known-answer extended-requires extended-requires-2 cast-answered4 answered4-requires enum-known-answer-2
-    cast-answered2 answered2-requires enum-known-answer-3 of-refusal-requires returns returns-2 returns-3)
+    (tie.spec (λ c. search needs) (λ c κs. search needs) (λ c κs. search needs) (λ c. search needs) (λ c κs. search needs)
+    (λ c. search needs) (λ c. search needs) (λ c κs. search needs) (λ c. search needs) (λ c κs. search needs) returns
+    (λ c. c .answered2 .ensures ∙ told ofSeparator (c .before .before .answer2 .given .1))
+    (λ c. c .of-refusal .ensures ∙ told ofSeparator (c .before .before .answer3 .given .1)))

@@ -1,57 +1,70 @@
 -- Every refusal and every answer has room in a reply: nothing is cut when it crosses.
+use mathlib.Core.List.{[], _∷_, _++_}
+use Prim.Native.Nat.{ℕ, _≤_}
 use lib.Dec.{lit<, lit≤}
+use lib.IntN.{pos}
+use lib.ListN.{length}
+use Rattle.clearance.specs.Answer.{valuesOf}
+use Rattle.clearance.specs.declared.measured.Distance.{Distance}
 use Rattle.admission.specs.declared.answer.Refusal.{Refusal}
 use Rattle.admission.specs.declared.answer.Refusal.the-variants as Refusal
-use Rattle.questions.specs.declared.answer.Unread.{Unread}
-use Rattle.questions.specs.declared.answer.Unread.the-variants as Unread
+use Rattle.answers.specs.declared.Unread.{Unread}
+use Rattle.answers.specs.declared.Unread.the-variants as Unread
 use Rattle.admission.specs.declared.answer.Answer.{Answer}
 use Rattle.admission.specs.declared.answer.Answer.the-variants as Answer
-use Rattle.questions.specs.declared.answer.Begun.{Begun}
-use Rattle.questions.specs.declared.answer.Begun.the-variants as Begun
-use Rattle.questions.specs.declared.answer.Part.{Part}
-use Rattle.questions.specs.declared.answer.Part.the-variants as Part
-use Rattle.questions.specs.declared.answer.Furthest.{Furthest}
-use Rattle.questions.specs.declared.answer.Furthest.the-variants as Furthest
-use Rattle.questions.specs.declared.answer.Area.{Area}
-use Rattle.questions.specs.declared.answer.Area.the-variants as Area
-use Rattle.questions.specs.declared.answer.Gap.{Gap}
-use Rattle.questions.specs.declared.answer.Gap.the-variants as Gap
-use Rattle.questions.specs.declared.answer.Length.{Length}
-use Rattle.questions.specs.declared.answer.Length.the-variants as Length
-use Rattle.questions.specs.declared.answer.Width.{Width}
-use Rattle.questions.specs.declared.answer.Width.the-variants as Width
-use Rattle.questions.specs.declared.answer.LeastBox.{LeastBox}
-use Rattle.questions.specs.declared.answer.LeastBox.the-variants as LeastBox
-use Rattle.questions.specs.declared.answer.Relation.{Relation}
-use Rattle.questions.specs.declared.answer.Relation.the-variants as Relation
-use Rattle.questions.specs.declared.answer.Inside.{Inside}
-use Rattle.questions.specs.declared.answer.Inside.the-variants as Inside
-use Rattle.questions.specs.declared.answer.Offer.{Offer}
-use Rattle.questions.specs.declared.answer.Offer.the-variants as Offer
-use Rattle.questions.specs.declared.answer.Separator.{Separator}
-use Rattle.questions.specs.declared.answer.Separator.the-variants as Separator
-use Rattle.questions.specs.declared.answer.Excess.{Excess}
-use Rattle.questions.specs.declared.answer.Excess.the-variants as Excess
-use Rattle.questions.specs.declared.answer.Contact.{Contact}
-use Rattle.questions.specs.declared.answer.Contact.the-variants as Contact
-use Rattle.questions.specs.declared.answer.Passage.{Passage}
-use Rattle.questions.specs.declared.answer.Passage.the-variants as Passage
-use Rattle.questions.specs.declared.answer.Clearance.{Clearance}
-use Rattle.questions.specs.declared.answer.Clearance.the-variants as Clearance
-use Rattle.questions.specs.declared.answer.Nearest.{Nearest}
-use Rattle.questions.specs.declared.answer.Nearest.the-variants as Nearest
-use Rattle.questions.specs.declared.answer.Tangents.{Tangents}
-use Rattle.questions.specs.declared.answer.Tangents.the-variants as Tangents
-use Rattle.questions.specs.declared.answer.Tablet.{Tablet}
-use Rattle.questions.specs.declared.answer.Tablet.the-variants as Tablet
-use Rattle.questions.specs.declared.answer.Addition.{Addition}
-use Rattle.questions.specs.declared.answer.Addition.the-variants as Addition
-use Rattle.questions.specs.declared.answer.Entry.{Entry}
-use Rattle.questions.specs.declared.answer.Entry.the-variants as Entry
-use Rattle.questions.specs.Answer.{ofArea, ofBox, ofNearest, ofGap, ofContact, ofEntry}
-use Rattle.questions.specs.Answer.{ofRefusal, ofUnread, ofAnswer, ofBegun, ofPart, ofFurthest, ofLength, ofWidth, ofRelation}
-use Rattle.questions.specs.Answer.{ofInside, ofOffer, ofSeparator, ofClearance, ofExcess, ofPassage, ofTangents, ofTablet, ofAddition}
-use Rattle.reply.specs.Heard.{Room}
+use Rattle.part_questions.specs.declared.answer.Begun.{Begun}
+use Rattle.part_questions.specs.declared.answer.Begun.the-variants as Begun
+use Rattle.part_questions.specs.declared.answer.Part.{Part}
+use Rattle.part_questions.specs.declared.answer.Part.the-variants as Part
+use Rattle.answers.specs.declared.Furthest.{Furthest}
+use Rattle.answers.specs.declared.Furthest.the-variants as Furthest
+use Rattle.answers.specs.declared.Area.{Area}
+use Rattle.answers.specs.declared.Area.the-variants as Area
+use Rattle.answers.specs.declared.Gap.{Gap}
+use Rattle.answers.specs.declared.Gap.the-variants as Gap
+use Rattle.answers.specs.declared.Length.{Length}
+use Rattle.answers.specs.declared.Length.the-variants as Length
+use Rattle.answers.specs.declared.Width.{Width}
+use Rattle.answers.specs.declared.Width.the-variants as Width
+use Rattle.answers.specs.declared.LeastBox.{LeastBox}
+use Rattle.answers.specs.declared.LeastBox.the-variants as LeastBox
+use Rattle.answers.specs.declared.Relation.{Relation}
+use Rattle.answers.specs.declared.Relation.the-variants as Relation
+use Rattle.answers.specs.declared.Inside.{Inside}
+use Rattle.answers.specs.declared.Inside.the-variants as Inside
+use Rattle.answers.specs.declared.Offer.{Offer}
+use Rattle.answers.specs.declared.Offer.the-variants as Offer
+use Rattle.answers.specs.declared.Separator.{Separator}
+use Rattle.answers.specs.declared.Separator.the-variants as Separator
+use Rattle.answers.specs.declared.Excess.{Excess}
+use Rattle.answers.specs.declared.Excess.the-variants as Excess
+use Rattle.answers.specs.declared.Contact.{Contact}
+use Rattle.answers.specs.declared.Contact.the-variants as Contact
+use Rattle.answers.specs.declared.Passage.{Passage}
+use Rattle.answers.specs.declared.Passage.the-variants as Passage
+use Rattle.answers.specs.declared.Clearance.{Clearance}
+use Rattle.answers.specs.declared.Clearance.the-variants as Clearance
+use Rattle.clearance.specs.declared.measured.Distance.the-variants as Distance
+use Rattle.answers.specs.declared.Nearest.{Nearest}
+use Rattle.answers.specs.declared.Nearest.the-variants as Nearest
+use Rattle.answers.specs.declared.Tangents.{Tangents}
+use Rattle.answers.specs.declared.Tangents.the-variants as Tangents
+use Rattle.answers.specs.declared.Tablet.{Tablet}
+use Rattle.answers.specs.declared.Tablet.the-variants as Tablet
+use Rattle.answers.specs.declared.Addition.{Addition}
+use Rattle.answers.specs.declared.Addition.the-variants as Addition
+use Rattle.answers.specs.declared.Entry.{Entry}
+use Rattle.answers.specs.declared.Entry.the-variants as Entry
+use Rattle.answers.specs.declared.Drive.{Drive}
+use Rattle.answers.specs.declared.Drive.the-variants as Drive
+use Rattle.answers.specs.declared.Greatest.{Greatest}
+use Rattle.answers.specs.declared.Greatest.the-variants as Greatest
+use Rattle.answers.specs.Answer.{ofDrive, ofGreatest}
+use Rattle.answers.specs.Answer.{ofArea, ofBox, ofNearest, ofGap, ofContact, ofEntry}
+use Rattle.answers.specs.Answer.{ofRefusal, ofUnread, ofAnswer, ofFurthest, ofLength, ofWidth, ofRelation}
+use Rattle.answers.specs.Answer.{ofInside, ofOffer, ofSeparator, ofClearance, ofExcess, ofPassage, ofTangents, ofTablet, ofAddition}
+use Rattle.part_questions.specs.Answer.{ofBegun, ofPart}
+use Rattle.wire.specs.Heard.{Room}
 
 pub refusal-room : (x : Refusal) → Room (ofRefusal x)
 refusal-room (Refusal.Count s) = (lit< tt, lit≤ tt)
@@ -102,18 +115,24 @@ pub area-room : (x : Area) → Room (ofArea x)
 area-room (Area.Twice t f) = lit≤ tt
 area-room (Area.No r) = refusal-room r
 
+-- with its floor, a distance leaves room for two names
+pub distance-room : (d : Distance) (floor : ℕ) → length (valuesOf d ++ (pos floor ∷ [])) ≤ 7
+distance-room (Distance.Corners i j s w) floor = lit≤ tt
+distance-room (Distance.OnSecond c e t q w) floor = lit≤ tt
+distance-room (Distance.OnFirst c e t q w) floor = lit≤ tt
+
 pub nearest-room : (x : Nearest) → Room (ofNearest x)
-nearest-room (Nearest.Meets n f) = lit≤ tt
-nearest-room (Nearest.Corners n i j d w f) = lit≤ tt
-nearest-room (Nearest.CornerEdge n i e t q w f) = lit≤ tt
-nearest-room (Nearest.EdgeCorner n j e t q w f) = lit≤ tt
+nearest-room (Nearest.Meets n floor) = lit≤ tt
+nearest-room (Nearest.Apart n (Distance.Corners i j s w) floor) = lit≤ tt
+nearest-room (Nearest.Apart n (Distance.OnSecond c e t q w) floor) = lit≤ tt
+nearest-room (Nearest.Apart n (Distance.OnFirst c e t q w) floor) = lit≤ tt
 nearest-room (Nearest.No r) = refusal-room r
 
 pub gap-room : (x : Gap) → Room (ofGap x)
-gap-room (Gap.Meets n m f) = lit≤ tt
-gap-room (Gap.Corners n m i j d w f) = lit≤ tt
-gap-room (Gap.CornerEdge n m i e t q w f) = lit≤ tt
-gap-room (Gap.EdgeCorner n m j e t q w f) = lit≤ tt
+gap-room (Gap.Meets n m floor) = lit≤ tt
+gap-room (Gap.Apart n m (Distance.Corners i j s w) floor) = lit≤ tt
+gap-room (Gap.Apart n m (Distance.OnSecond c e t q w) floor) = lit≤ tt
+gap-room (Gap.Apart n m (Distance.OnFirst c e t q w) floor) = lit≤ tt
 gap-room (Gap.No r) = refusal-room r
 
 pub width-room : (x : Width) → Room (ofWidth x)
@@ -154,10 +173,10 @@ contact-room (Contact.At n d safe f) = lit≤ tt
 contact-room (Contact.No r) = refusal-room r
 
 pub clearance-room : (x : Clearance) → Room (ofClearance x)
-clearance-room (Clearance.None f) = lit≤ tt
-clearance-room (Clearance.Corners i j d w f) = lit≤ tt
-clearance-room (Clearance.CornerEdge c e t q w f) = lit≤ tt
-clearance-room (Clearance.EdgeCorner c e t q w f) = lit≤ tt
+clearance-room (Clearance.None floor) = lit≤ tt
+clearance-room (Clearance.Apart (Distance.Corners i j s w) floor) = lit≤ tt
+clearance-room (Clearance.Apart (Distance.OnSecond c e t q w) floor) = lit≤ tt
+clearance-room (Clearance.Apart (Distance.OnFirst c e t q w) floor) = lit≤ tt
 clearance-room (Clearance.No r) = refusal-room r
 
 pub excess-room : (x : Excess) → Room (ofExcess x)
@@ -182,3 +201,12 @@ addition-room (Addition.No r) = refusal-room r
 pub entry-room : (x : Entry) → Room (ofEntry x)
 entry-room (Entry.Corners n name f) = lit≤ tt
 entry-room (Entry.No r) = refusal-room r
+
+pub drive-room : (x : Drive) → Room (ofDrive x)
+drive-room (Drive.Never f) = lit≤ tt
+drive-room (Drive.At name n d s f) = lit≤ tt
+drive-room (Drive.No r) = refusal-room r
+
+pub greatest-room : (x : Greatest) → Room (ofGreatest x)
+greatest-room (Greatest.At q i j f) = lit≤ tt
+greatest-room (Greatest.No r) = refusal-room r

@@ -31,23 +31,14 @@ row-2 c = sym (told-2 (c .before)) ∙ c .if2 .left
 
 -- ---- the needs
 
-bad-count-requires : tie.Need-bad-count-requires
-bad-count-requires c κs = search needs
-
 returns : tie.Need-returns
 returns c = turns-away (refuses (here (sym (c .before .bad-count .ensures) ∙ c .if1 .taken)))
 
 open-count-requires : tie.Need-open-count-requires
 open-count-requires c κs = counted _ (row-1 c) .0
 
-exceeds-points-requires : tie.Need-exceeds-points-requires
-exceeds-points-requires c κs = search needs
-
 returns-2 : tie.Need-returns-2
 returns-2 c = turns-away (refuses (later (row-1 (c .before .before .before)) (here (sym (told-2 (c .before)) ∙ c .if2 .taken))))
-
-some-outside-requires : tie.Need-some-outside-requires
-some-outside-requires c κs = search needs
 
 returns-3 : tie.Need-returns-3
 returns-3 c =
@@ -66,4 +57,5 @@ returns-4 c =
 pub admit-spec : {M : Type 1} → statement M
 admit-spec =
     tie.close
-    (tie.spec bad-count-requires returns open-count-requires exceeds-points-requires returns-2 some-outside-requires returns-3 returns-4)
+    (tie.spec (λ c κs. search needs) returns open-count-requires (λ c κs. search needs) returns-2 (λ c κs. search needs) returns-3
+    returns-4)

@@ -11,9 +11,6 @@ use Rattle.ring.specs.theory.Steps.{closed-at, opened-count}
 use Rattle.ring.proofs.open_count.Statement.{statement}
 use Rattle.ring.proofs.open_count.Tie as tie
 
-count-requires : tie.Need-count-requires
-count-requires c κs = search needs
-
 sub-less-closing : tie.Need-sub-less-closing
 sub-less-closing c = omega (arith, c .count .ensures, c .before .pre)
 
@@ -31,4 +28,4 @@ returns c =
     ∙ ap (λ (t : Bool). cond t (length ps - 1) (length ps)) (sym (closed-at (λ p. p) origin ps)) ∙ sym (opened-count (λ p. p) ps)
 
 pub open-count-spec : {M : Type 1} → statement M
-open-count-spec = tie.close (tie.spec count-requires sub-less-closing less-closing-requires returns)
+open-count-spec = tie.close (tie.spec (λ c κs. search needs) sub-less-closing less-closing-requires returns)

@@ -14,41 +14,29 @@ use Rattle.ring.specs.theory.Under.{under-at, places-under, places-some,
 use Rattle.ring.proofs.trace.Statement.{statement}
 use Rattle.ring.proofs.trace.Tie as tie
 
-open-count-requires : tie.Need-open-count-requires
-open-count-requires c κs = search needs
-
 -- the positions that were found
 module _ (c : tie.After-distinct) where
   abbrev begin : tie.Start
-  begin = c .before .before .before .before .before .before
+  begin = c .before .before .before .before
 
   abbrev ps : List Point
   ps = points (begin .args .list .now)
 
   found : Held (ringPlaces ps) (c .distinct .result) (c .distinct .last .1 .1 .1 .0)
   found =
-      let n = c .before .before .before .open-count .result in
-      let s = c .before .before .least .result in
       subst (λ (xs : List ℕ). Held xs (c .distinct .result) (c .distinct .last .1 .1 .1 .0))
-      (places-are ps n s (c .before .before .before .open-count .ensures) (c .before .before .least .ensures)) (c .distinct .ensures)
-
-least-requires : tie.Need-least-requires
-least-requires c κs = omega (arith, c .open-count .ensures, opened-le (λ p. p) (points (c .before .before .before .args .list .now)))
+      (places-are ps (begin .args .n) (begin .args .start) (begin .pre .2 .all) (begin .pre .2 .least)) (c .distinct .ensures)
 
 distinct-requires : tie.Need-distinct-requires
 distinct-requires c κs =
-    let at-count = c .before .before in
-    let start = at-count .before .before .before in
+    let start = c .before .before .before in
     let ps = points (start .args .list .now) in
-    let n = at-count .open-count .ensures in (
-      omega (arith, n, opened-le (λ p. p) ps),
-      subst (λ (k : ℕ). k < at-count .open-count .result) (sym (c .before .least .ensures))
-          (least-below (corner ps) (at-count .open-count .result) (omega (arith, n, opened-some (λ p. p) ps (start .pre .1)))),
-      omega (arith, n, start .pre .2),
+    let all = start .pre .2 .all in (
+      omega (arith, all, opened-le (λ p. p) ps),
+      subst (λ (k : ℕ). k < start .args .n) (sym (start .pre .2 .least))
+          (least-below (corner ps) (start .args .n) (omega (arith, all, opened-some (λ p. p) ps (start .pre .1)))),
+      omega (arith, start .pre .3),
     )
-
-slice-reshare-prefix-corners : tie.Need-slice-reshare-prefix-corners
-slice-reshare-prefix-corners c = search needs
 
 slice-aggregate-corners : tie.Need-slice-aggregate-corners
 slice-aggregate-corners c =
@@ -65,14 +53,8 @@ corners-requires c κs =
           (record { near = start .pre .0; below = λ j h. under-at (length ps) (ringPlaces ps) (places-under ps (start .pre .1)) j h }),
       subst (λ (xs : List ℕ). 0 < length xs) front (places-some ps (start .pre .1)),
       subst (λ (xs : List ℕ). length xs ≤ length (start .args .bent .now)) front
-          (omega (arith, places-few ps (start .pre .1), start .pre .3)),
+          (omega (arith, places-few ps (start .pre .1), start .pre .2 .all, start .pre .4)),
     )
-
-same-length : tie.Need-same-length
-same-length c = search needs
-
-same-length-2 : tie.Need-same-length-2
-same-length-2 c = search needs
 
 returns : tie.Need-returns
 returns c =
@@ -87,5 +69,5 @@ returns c =
 pub trace-spec : {M : Type 1} → statement M
 trace-spec =
     tie.close
-    (tie.spec open-count-requires least-requires distinct-requires slice-reshare-prefix-corners slice-aggregate-corners
-    corners-requires same-length same-length-2 returns)
+    (tie.spec distinct-requires (λ c. search needs) slice-aggregate-corners corners-requires (λ c. search needs)
+    (λ c. search needs) returns)

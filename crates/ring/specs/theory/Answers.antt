@@ -1,5 +1,6 @@
 -- What a ring is refused and answered by, after rows 1 to 3.
 --     inward-refuses     a corner that turns in is 4, with the position of the corner before it and its own
+--     none-inward        where the search ends past the last, none does
 --     room-refuses       if none does, too little room is 8
 --     ring-passes        else no row applies
 --     counted-shape      the shape has as many corners as positions
@@ -37,7 +38,7 @@ module _ (l out : List ℤ) (v : ValidRing l) where
   unfolding firstInward
   some-inward h = some-here (inwardAt (points l) is) (length is) at h (first-true (inwardAt (points l) is) (length is) h)
 
-  none-inward : length is ≤ at → some (inwardAt (points l) is) (length is) ≡ false
+  pub none-inward : length is ≤ at → some (inwardAt (points l) is) (length is) ≡ false
   unfolding firstInward
   none-inward h =
       none-some (inwardAt (points l) is) (length is) (λ i k. first-least (inwardAt (points l) is) (length is) i (omega arith))
@@ -45,16 +46,16 @@ module _ (l out : List ℤ) (v : ValidRing l) where
   pub inward-refuses : at < length is → Refuses (ringRows l out) (refused 4 (1 ∷ getD is (previous (length is) at) 0 ∷ getD is at 0 ∷ []))
   inward-refuses h = refuses-join (listRows l) (ring→accepted l v) (refuses (here (some-inward h)))
 
-  module _ (none : length is ≤ at) where
+  module _ (quiet : some (inwardAt (points l) is) (length is) ≡ false) where
     pub room-refuses : length out < 2 * length is → Refuses (ringRows l out) (refused 8 [])
     unfolding noRoom
     room-refuses h =
         refuses-join (listRows l) (ring→accepted l v)
-        (refuses (later (none-inward none) (here (lt-ltb (length out) (length (numbers (ringShape (points l))))
+        (refuses (later quiet (here (lt-ltb (length out) (length (numbers (ringShape (points l))))
         (omega (arith, counted-shape))))))
 
     pub ring-passes : 2 * length is ≤ length out → NoneApply (ringRows l out)
     unfolding noRoom
     ring-passes h =
         none-join (listRows l) (inwardRow (points l) ∷ roomRow (ringShape (points l)) out ∷ []) (ring→accepted l v)
-        (none-inward none, (le-ltb (length out) (length (numbers (ringShape (points l)))) (omega (arith, counted-shape)), tt))
+        (quiet, (le-ltb (length out) (length (numbers (ringShape (points l)))) (omega (arith, counted-shape)), tt))

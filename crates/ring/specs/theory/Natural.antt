@@ -1,6 +1,7 @@
 -- What is kept of a ring depends on its points alone, and not on what names them.
 --     ring-core           the corners of a ring are those of its points from the least on
 --     same-points         two rings with the same points from the least on have the same corners
+--     map-sense           the points of positions in either sense
 --     closed-is-same      a ring closed by its first point has the same corners
 use mathlib.Core.Path.{_≡_, refl, sym, _∙_, ap, ap₂}
 use mathlib.Core.Bool.{Bool, true, false, not, cond}
@@ -80,7 +81,7 @@ module _ {X : Type 0} (f : X → Point) where
   map-clockwise [] = refl
   map-clockwise (x ∷ xs) = ap₂ (λ (a c : Point). ltZ (turn a (f x) c) (pos 0)) (map-last x xs) (map-head x xs)
 
-  map-sense : (b : Bool) (xs : List X) → map f (inSense b xs) ≡ inSense b (map f xs)
+  pub map-sense : (b : Bool) (xs : List X) → map f (inSense b xs) ≡ inSense b (map f xs)
   map-sense true [] = refl
   map-sense true (x ∷ xs) = ap (λ (l : List Point). f x ∷ l) (map-reverse xs)
   map-sense false xs = refl

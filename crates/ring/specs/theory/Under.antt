@@ -1,8 +1,10 @@
 -- All positions that a walk keeps are positions of the list.
 --     Under b xs                  each is below b; `under-at`: by its place; `under-weaken`: and so below a greater bound
 --     walked-under, distinct-under, sensed-under, bends-under    so they are on the way round, and in what is kept of it
+--     walked-length               how many they are
 --     corners-under               so are the positions of a ring's corners
 --     places-are, corners-are     what the code finds are the positions of the definition
+--     optional-length             at most one more
 --     places-some, places-few     some position is kept, and no more than the points without a closing one
 use mathlib.Core.Path.{_≡_, refl, sym, _∙_, ap, subst}
 use mathlib.Core.Bool.{Bool, true, false, not, cond}
@@ -91,11 +93,11 @@ module _ (f : ℕ → Point) (b : ℕ) where
 
 -- ---- of a ring
 
-walked-length : (n s k : ℕ) → length (walked n s k) ≡ k
+pub walked-length : (n s k : ℕ) → length (walked n s k) ≡ k
 walked-length n s zero = refl
 walked-length n s (suc k) = ap suc (walked-length n (next n s) k)
 
-optional-length : (t : Bool) (x : ℕ) (xs : List ℕ) → length (optional t x ++ xs) ≤ suc (length xs)
+pub optional-length : (t : Bool) (x : ℕ) (xs : List ℕ) → length (optional t x ++ xs) ≤ suc (length xs)
 optional-length true x xs = le-refl (suc (length xs))
 optional-length false x xs = omega arith
 

@@ -4,11 +4,11 @@
 --     ring-valid     so the numbers are those of a valid shape
 --     answered-passes     what an answer says of the rows
 use mathlib.Core.Path.{_≡_, sym, subst}
-use mathlib.Core.Bool.{Bool, true, false, not}
-use mathlib.Core.List.{List, [], _∷_, _++_}
-use Prim.Native.Nat.{ℕ, suc, _≤_, _<_, zero-le}
+use mathlib.Core.Bool.{false, not}
+use mathlib.Core.List.{List, [], _∷_}
+use Prim.Native.Nat.{ℕ, _≤_, _<_, zero-le}
 use native.Mathlib.Omega.{arith}
-use native.Mathlib.Nat.{le-refl, le-trans}
+use native.Mathlib.Nat.{le-trans}
 use lib.IntN.{ℤ}
 use lib.ListN.{length, getD, length-map}
 use Rattle.plane.specs.Limits.{maxCorners, points-le-corners}
@@ -22,16 +22,12 @@ use Rattle.plane.specs.Question.{reply}
 use Rattle.plane.specs.theory.lists.Flat.{Near, points-near, numbers-length, points-numbers, numbers-inRange}
 use Rattle.plane.specs.theory.refusals.Asked.{asked-answered}
 use Rattle.plane.specs.theory.refusals.Rows.{none-append}
-use Rattle.ring.specs.Round.{headOf, lastOf, optional, clockwise, sensed, straight, bending, bends}
+use Rattle.ring.specs.Round.{headOf, lastOf, clockwise, sensed, straight, bending, bends}
 use Rattle.ring.specs.Ring.{openRing, ringPlaces, ringCorners, ringShape, inwardRow, listRows, ValidRing, askRing}
 use Rattle.ring.specs.theory.Steps.{map-at, sense-length}
-use Rattle.ring.specs.theory.Under.{under-at, corners-under, places-few}
+use Rattle.ring.specs.theory.Under.{under-at, corners-under, optional-length, places-few}
 use Rattle.ring.specs.theory.Rows.{accepted→ring}
 use Rattle.ring.specs.theory.Outline.{quiet→shape}
-
-optional-length : (t : Bool) (x : ℕ) (xs : List ℕ) → length (optional t x ++ xs) ≤ suc (length xs)
-optional-length true x xs = le-refl (suc (length xs))
-optional-length false x xs = omega arith
 
 bending-few : (f : ℕ → Point) (a : ℕ) (xs : List ℕ) (z : ℕ) → length (bending f a xs z) ≤ length xs
 bending-few f a [] z = zero-le

@@ -11,18 +11,6 @@ use Rattle.separation.specs.theory.Within.{ends-inside}
 use Rattle.separation.proofs.inside.Statement.{statement}
 use Rattle.separation.proofs.inside.Tie as tie
 
-count-requires : tie.Need-count-requires
-count-requires c κs = search needs
-
-corner-at-requires : tie.Need-corner-at-requires
-corner-at-requires c κs = search needs
-
-sub-corner-at : tie.Need-sub-corner-at
-sub-corner-at c = search needs
-
-corner-at-requires-2 : tie.Need-corner-at-requires-2
-corner-at-requires-2 c κs = search needs
-
 in-segment-requires : tie.Need-in-segment-requires
 in-segment-requires c κs =
     let at-count = c .before .before .before in
@@ -44,21 +32,8 @@ returns c =
     ∙ ends-inside A B (start .pre .0 .shape .some) (start .pre .1 .shape .some)
     (omega (arith, c .before .before .before .if1 .taken, at-count .count .ensures))
 
-in-polygon-requires : tie.Need-in-polygon-requires
-in-polygon-requires c κs = search needs
-
-returns-2 : tie.Need-returns-2
-returns-2 c = search needs
-
 pub inside-spec : {M : Type 1} → statement M
 inside-spec =
     tie.close
-    (tie.spec
-    count-requires
-    corner-at-requires
-    sub-corner-at
-    corner-at-requires-2
-    in-segment-requires
-    returns
-    in-polygon-requires
-    returns-2)
+    (tie.spec (λ c κs. search needs) (λ c κs. search needs) (λ c. search needs) (λ c κs. search needs) in-segment-requires returns
+    (λ c κs. search needs) (λ c. search needs))

@@ -3,23 +3,29 @@
 --     image-visited      the corners that it visits are those of the differences; `image-related`: how the shapes relate
 --     image-sum          the shape of the sum is that of the differences; `image-all`: all corners to come are its own
 --     differences-few    it has no more corners than both shapes together
+--     image-sides        the ends of two sides are all edges; `image-few`: these are no more than the corners
 --     image-extends      the image reaches as far, the other way round
 use mathlib.Core.Path.{_≡_, refl, sym, _∙_, ap, ap₂}
 use mathlib.Core.List.{List, [], _∷_}
-use Prim.Native.Nat.{ℕ, _+_, _≤_}
+use Prim.Native.Nat.{ℕ, _+_, _/_, _≤_}
 use native.Mathlib.Omega.{arith}
 use lib.IntN.{ℤ}
 use lib.ListN.{length}
 use Rattle.plane.specs.Point.{Point, points}
 use Rattle.plane.specs.Refusal.{Valid}
 use Rattle.plane.specs.Corner.{shapeOf, sums, mirrored}
+use Rattle.plane.specs.Forms.{edges}
 use Rattle.plane.specs.Separation.{differences, relationNumber}
 use Rattle.plane.specs.VectorSum.{vectorSum}
 use Rattle.plane.specs.theory.forms.Vector.{opposite-opposite}
+use Rattle.plane.specs.theory.lists.Flat.{points-length}
+use Rattle.plane.specs.theory.sum.Positions.{edges-at-most}
 use Rattle.plane.specs.theory.sum.EdgeSum.{vectorSum-shape}
 use Rattle.polygon.specs.declared.extent.Extent.{Extent}
 use Rattle.polygon.specs.Extent.{highest, Extends}
 use Rattle.sums.specs.Advance.{nextCorners}
+use Rattle.calipers.specs.declared.side.Side.{Side}
+use Rattle.calipers.specs.Side.{Carried}
 use Rattle.calipers.specs.Image.{image}
 use Rattle.calipers.specs.Walk.{begun, At}
 use Rattle.calipers.specs.theory.Image.{image-points, image-valid, image-count}
@@ -50,6 +56,14 @@ module _ (a b : List ℤ) (u : Valid a) (v : Valid b) where
 
   pub differences-few : length (shapeOf (differences (points a) (points b))) ≤ length (points a) + length (points b)
   differences-few = omega (arith, ap length image-sum, sum-few a (image b) u (image-valid b v), image-count b v)
+
+  pub image-few : length (edges (points a)) + length (edges (points (image b))) ≤ length a / 2 + length b / 2
+  image-few =
+      omega (arith, edges-at-most (points a), points-length a, edges-at-most (points (image b)), image-count b v, points-length b)
+
+pub image-sides : {a b : List ℤ} {s t : Side} → Carried a s → Carried b t
+    → s .end + t .end ≡ length (edges (points a)) + length (edges (points b))
+image-sides p q = ap₂ _+_ (p .end-is) (q .end-is)
 
 -- ---- how far the image reaches
 

@@ -1,5 +1,5 @@
 -- What the answers of width and clearance say: they are given of shapes, and give the fractions of their definitions.
---     three-answered                           a shape of three corners or more has a width
+--     three-answered, answered-three           where fewer than three corners are refused: three have an answer, and it is of three
 --     answered-no-narrower                     no direction is narrower than the width
 --     answered-attains, answered-fraction      the direction out of the edge has its t and q, and q is above 0
 --     top-is, bottom-is                        the fraction that an answer of clearance gives is its candidate's
@@ -12,6 +12,7 @@ use mathlib.Core.List.{List, [], _∷_, _++_}
 use Prim.Native.Nat.{ℕ, _<_}
 use native.Mathlib.Omega.{arith}
 use borrow.Author.Tests.{ltb-false, le-ltb}
+use lib.Dec.{ltb}
 use lib.IntN.{ℤ, pos, _-ℤ_, _*ℤ_}
 use lib.ListN.{length}
 use lib.Signed.{_≤ℤ_, _<ℤ_}
@@ -20,14 +21,14 @@ use Rattle.integer.specs.Order.{_≡×_}
 use Rattle.integer.specs.Bound.{size-square}
 use Rattle.plane.specs.Point.{Point, origin, points, corner}
 use Rattle.plane.specs.Shape.{IsShape}
-use Rattle.plane.specs.Reply.{answered}
+use Rattle.plane.specs.Reply.{answered, row}
 use Rattle.plane.specs.Refusal.{Valid}
 use Rattle.plane.specs.Direction.{value, support}
-use Rattle.plane.specs.Measure.{height, edgeSquared, widthEdge}
+use Rattle.plane.specs.Measure.{height, edgeSquared, widthEdge, widthNumbers}
 use Rattle.plane.specs.Separation.{apart}
 use Rattle.plane.specs.Clearance.{Candidate, corners, onSecond, onFirst, turnOn, top, bottom, nearest, numbersOf}
-use Rattle.plane.specs.Floor.{Floored}
-use Rattle.plane.specs.Question.{values, reply, askWidth, askClearance}
+use Rattle.plane.specs.Floor.{Floored, oneShape}
+use Rattle.plane.specs.Question.{Question, asks, values, reply, askWidth, askClearance}
 use Rattle.plane.specs.Forms.{NonZero}
 use Rattle.plane.specs.theory.support.Support.{value-le-support}
 use Rattle.plane.specs.theory.refusals.Asked.{asked-none, asked-values, asked-shapes, asked-rest, rest-none}
@@ -42,21 +43,29 @@ use Rattle.strips.specs.theory.Edges.{out-squared, out-spread}
 use Rattle.strips.specs.theory.WidthBound.{width-every}
 use Rattle.strips.specs.theory.Corridors.{corridor-no-wider, corridor-level, towards-corridor, towards-wide}
 
--- ---- width
+-- ---- questions that fewer than three corners are refused
 
-pub three-answered : (a : Floored) → Valid (a .list) → 2 < length (points (a .list)) → reply (askWidth a) ≡ answered (values (askWidth a))
-three-answered a v three =
-    asked-none (askWidth a) (rest-none (askWidth a) v (le-ltb (length (points (a .list))) 3 three, tt))
+module _ (a : Floored) (numbers : List ℤ) where
+  abbrev ask : Question
+  ask = asks (oneShape a) (row 10 (ltb (length (points (a .list))) 3) [] ∷ []) numbers
+
+  pub three-answered : Valid (a .list) → 2 < length (points (a .list)) → reply ask ≡ answered (values ask)
+  three-answered v three = asked-none ask (rest-none ask v (le-ltb (length (points (a .list))) 3 three, tt))
+
+  pub answered-three : (v : List ℤ) → reply ask ≡ answered v → IsShape (points (a .list)) × (2 < length (points (a .list)))
+  answered-three v h = (asked-shapes ask v h .shape, ltb-false (length (points (a .list))) 3 (asked-rest ask v h .0))
+
+-- ---- width
 
 module _ (a : Floored) (e : ℕ) (c t q w : ℤ) (h : reply (askWidth a) ≡ answered (pos e ∷ c ∷ t ∷ q ∷ w ∷ pos (a .floor) ∷ [])) where
   abbrev ps : List Point
   ps = points (a .list)
 
   shape : IsShape ps
-  shape = asked-shapes (askWidth a) _ h .shape
+  shape = answered-three a (widthNumbers ps) _ h .0
 
   three : 2 < length ps
-  three = ltb-false (length ps) 3 (asked-rest (askWidth a) _ h .0)
+  three = answered-three a (widthNumbers ps) _ h .1
 
   edge : e ≡ widthEdge ps
   edge = cc (asked-values (askWidth a) _ h)

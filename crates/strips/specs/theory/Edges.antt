@@ -3,7 +3,7 @@
 --     out-squared          the direction out of an edge has the edge's squared length
 --     out-spread           and for its spread the greatest turn
 --     tied-no-narrower     where two corners are furthest in d, d is no narrower
-use mathlib.Core.Path.{_≡_, sym, _∙_, ap}
+use mathlib.Core.Path.{_≡_, _∙_, ap}
 use mathlib.Core.List.{List, [], _∷_}
 use Prim.Native.Nat.{ℕ, _<_}
 use native.Mathlib.Omega.{arith}
@@ -20,15 +20,14 @@ use Rattle.plane.specs.Direction.{value}
 use Rattle.plane.specs.Measure.{squared, edgeTurn, height, edgeSquared, widthEdge}
 use Rattle.plane.specs.Cut.{outward}
 use Rattle.plane.specs.theory.lists.Members.{position-member, member-position}
-use Rattle.plane.specs.theory.forms.Vector.{value-nonneg, value-⊖, positive-non-zero}
-use Rattle.plane.specs.theory.support.Support.{support-unique}
-use Rattle.plane.specs.theory.face.Tied.{Tied, after, behind, tied}
+use Rattle.plane.specs.theory.forms.Vector.{value-nonneg, value-⊖}
 use Rattle.separation.specs.theory.Sector.{value-outward, edge-outermost}
 use Rattle.measure.specs.theory.Height.{height-above, height-had, edgeSquared-positive}
 use Rattle.measure.specs.theory.Narrowest.{width-narrowest, noWider-le}
 use Rattle.strips.specs.Strip.{spread}
 use Rattle.strips.specs.OwnDirection.{outOf}
 use Rattle.strips.specs.theory.Spread.{spread-above, spread-attained}
+use Rattle.strips.specs.theory.Outermost.{cross-outward, tied-edge}
 use Rattle.strips.specs.theory.Parallel.{parallel-value, parallel-square}
 
 -- t·t/q ≤ spread·spread over the squared length, for the t and q of the width
@@ -91,10 +90,6 @@ module _ (ps : List Point) (s : IsShape ps) (e : ℕ) (h : e < length ps) where
 
 -- ---- a direction across an edge
 
-cross-outward : (n a b : Point) → cross (outward a b) n ≡ value n (b ⊖ a)
-unfolding cross value
-cross-outward n a b = ring (n .x ∷ n .y ∷ a .x ∷ a .y ∷ b .x ∷ b .y ∷ []) (search reify depth 40) tt
-
 -- of the edge h its greatest turn and M its squared length; N the squared length of the direction; y what a corner is short of the edge in
 -- it, X the spread
 numbers : (h M N y X t q : ℤ) → pos 0 <ℤ M → pos 0 ≤ℤ q → pos 0 ≤ℤ N → pos 0 ≤ℤ y → y ≤ℤ X → M *ℤ y *ℤ y ≡ N *ℤ h *ℤ h
@@ -142,29 +137,6 @@ module _ (ps : List Point) (s : IsShape ps) (three : 2 < length ps) (n : Point) 
       level : cross m n ≡ pos 0
       level = cross-outward n a (corner ps (next (length ps) e)) ∙ flat
 
-  -- the two are neighbours
   pub tied-no-narrower : {a b : Point} → a ∈ ps → b ∈ ps → (a ≡ b → ⊥) → pos 0 <ℤ value n n
       → ((p : Point) → p ∈ ps → value n p ≤ℤ value n a) → ((p : Point) → p ∈ ps → value n p ≤ℤ value n b) → NoNarrower ps n
-  tied-no-narrower {a} {b} a-in b-in other some top also = go (member-position a-in) (member-position b-in)
-    where
-      along : (i j : ℕ) → i < length ps → j < length ps → next (length ps) i ≡ j
-          → ((p : Point) → p ∈ ps → value n p ≤ℤ value n (corner ps i))
-          → ((p : Point) → p ∈ ps → value n p ≤ℤ value n (corner ps j)) → NoNarrower ps n
-      along i j h k e f g = across-no-narrower i h (rw e (lia
-          (value n (corner ps i) ∷ value n (corner ps j) ∷ value n (corner ps j ⊖ corner ps i) ∷ [])
-          (f _ (position-member ps j k) & g _ (position-member ps i h) & value-⊖ n (corner ps j) (corner ps i))
-          (search linear depth 40) (omega arith))) f
-
-      go : (i : ℕ) × (i < length ps) × (corner ps i ≡ a) → (j : ℕ) × (j < length ps) × (corner ps j ≡ b) → NoNarrower ps n
-      go (i, h, e) (j, k, f) = pick (tied ps s n i j (positive-non-zero n n some) h k (λ r. other (sym e ∙ ap (corner ps) (sym r) ∙ f))
-          (sym (support-unique n (position-member ps i h) first)) (sym (support-unique n (position-member ps j k) second)))
-        where
-          first : (p : Point) → p ∈ ps → value n p ≤ℤ value n (corner ps i)
-          first = rw e top
-
-          second : (p : Point) → p ∈ ps → value n p ≤ℤ value n (corner ps j)
-          second = rw f also
-
-          pick : Tied ps n i j → NoNarrower ps n
-          pick (after r w) = along i j h k (sym r) first second
-          pick (behind r w) = along j i k h (sym r) second first
+  tied-no-narrower a-in b-in other some top also = tied-edge ps s n a-in b-in other some top also across-no-narrower

@@ -14,8 +14,8 @@ use lib.ListN.{length, length-map}
 use lib.Signed.{_≤ℤ_, _<ℤ_}
 use Rattle.integer.specs.Ring.{ring, reify}
 use Rattle.integer.specs.Linear.{linear, lia, _&_}
-use Rattle.integer.specs.Order.{_<×<_, _<×≤_, _≤×≤_, _≡×_, contra<, contra≤, weaken, le-antisym, square-nonneg, cancel-le}
-use Rattle.plane.specs.Point.{Point, origin, corner, opposite, _⊕_, _∈_}
+use Rattle.integer.specs.Order.{_<×<_, _<×≤_, _≤×≤_, _≡×_, contra<, contra≤, weaken, square-nonneg, cancel-le}
+use Rattle.plane.specs.Point.{Point, corner, opposite, _⊕_, _∈_}
 use Rattle.plane.specs.Turn.{turn, cross, Left}
 use Rattle.plane.specs.Shape.{next, IsShape}
 use Rattle.plane.specs.Direction.{value, support}
@@ -27,12 +27,11 @@ use Rattle.plane.specs.Forms.{NonZero}
 use Rattle.plane.specs.Cut.{outward}
 use Rattle.plane.specs.theory.lists.Members.{point-discrete, position-member}
 use Rattle.plane.specs.theory.lists.Next.{next-below}
-use Rattle.plane.specs.theory.forms.Vector.{turn-level, square-positive, turned-le}
+use Rattle.plane.specs.theory.forms.Vector.{square-positive, turned-le}
 use Rattle.plane.specs.theory.support.Support.{value-le-support, support-le}
 use Rattle.plane.specs.theory.hull.ShapeOf.{shapeOf-support, shapeOf-shape, shapeOf-corner}
-use Rattle.plane.specs.theory.sum.Positions.{next-left}
 use Rattle.separation.specs.theory.Apart.{differences-some, difference-member, member-difference}
-use Rattle.separation.specs.theory.Sector.{value-outward, level-zero, edge-outermost, edge-nonzero, left→passed}
+use Rattle.separation.specs.theory.Sector.{value-outward, left→passed}
 use Rattle.separation.specs.theory.Rim.{Below, rim→below}
 use Rattle.measure.specs.theory.Height.{edgeSquared-positive}
 use Rattle.measure.specs.theory.Narrowest.{width-narrowest}
@@ -40,6 +39,7 @@ use Rattle.clearance.specs.theory.Bound.{lagrange}
 use Rattle.clearance.specs.theory.First.{turned-square}
 use Rattle.strips.specs.Strip.{spread}
 use Rattle.strips.specs.theory.Spread.{spread-above, spread-attained, spread-nonneg, spread-turned}
+use Rattle.strips.specs.theory.Outermost.{spread-out, Outermost, outermost}
 use Rattle.strips.specs.theory.Edges.{NoNarrower, tied-no-narrower}
 
 value-times : (n p : Point) (k : ℤ) → value n (times k p) ≡ k *ℤ value n p
@@ -49,10 +49,6 @@ value-times n p k = ring (n .x ∷ n .y ∷ p .x ∷ p .y ∷ k ∷ []) (search 
 value-between : (n a b : Point) (k : ℤ) → value n (times k (a ⊕ opposite b)) ≡ k *ℤ (value n a -ℤ value n b)
 unfolding value
 value-between n a b k = ring (n .x ∷ n .y ∷ a .x ∷ a .y ∷ b .x ∷ b .y ∷ k ∷ []) (search reify depth 40) tt
-
-outward-self : (p : Point) → value (outward p p) (outward p p) ≡ pos 0
-unfolding value
-outward-self p = ring (p .x ∷ p .y ∷ []) (search reify depth 40) tt
 
 -- ---- the differences of the corners, k times
 
@@ -97,31 +93,15 @@ module _ (ps : List Point) (s : IsShape ps) (three : 2 < length ps) (k : ℤ) (l
 
   -- were it a point or a segment, all corners would have the same value in some direction
   flat : Below D → ⊥
-  flat b = b .non-zero .non-zero (level-zero n (corner ps 0) (corner ps i) (corner ps j) origin (next-left ps s three 0 (s .some))
-      (same 0 i (s .some) i-in) (same j i j-in i-in) (level 0 (s .some)) (level j j-in))
+  flat b = spread-out ps s three (b .direction) (b .non-zero) same
     where
       n : Point
       n = b .direction
-
-      i : ℕ
-      i = next (length ps) 0
-
-      j : ℕ
-      j = next (length ps) i
-
-      i-in : i < length ps
-      i-in = next-below (length ps) 0 (s .some)
-
-      j-in : j < length ps
-      j-in = next-below (length ps) i i-in
 
       same : (e f : ℕ) → e < length ps → f < length ps → value n (corner ps e) ≤ℤ value n (corner ps f)
       same e f h o = cancel-le long (lia (k ∷ value n (corner ps e) ∷ value n (corner ps f) ∷ support n D ∷ [])
           (reach n (position-member ps e h) (position-member ps f o) & support-le n D (shape .some) (b .below))
           (search linear depth 40) (omega arith))
-
-      level : (e : ℕ) → e < length ps → value n (corner ps e) ≡ value n (corner ps i)
-      level e h = le-antisym (same e i h i-in) (same i e i-in h)
 
   D-three : 2 < length D
   unfolding onRim
@@ -157,19 +137,11 @@ module _ (ps : List Point) (s : IsShape ps) (three : 2 < length ps) (k : ℤ) (l
     abbrev n : Point
     n = outward u v
 
-    top : support n D ≤ℤ value n u
-    top = support-le n D (shape .some) (edge-outermost D shape e h)
-
-    also : support n D ≤ℤ value n v
-    also = lia (support n D ∷ value n u ∷ value n v ∷ turn u v v ∷ []) (top & value-outward u v v & turn-level u v)
-        (search linear depth 40) (omega arith)
+    out : Outermost D e
+    out = outermost D shape D-three e h
 
     size : pos 0 <ℤ value n n
-    size = square-positive n (edge-nonzero D shape D-three e h)
-
-    different : u ≡ v → ⊥
-    different r = lia (value n n ∷ []) (size & ap (λ (z : Point). value (outward u z) (outward u z)) (sym r) ∙ outward-self u)
-        (search linear depth 40) (omega arith)
+    size = out .size
 
     turned-back : NoNarrower ps (opposite n) → NoNarrower ps n
     turned-back f = rw (spread-turned n ps, turned-square n) at f
@@ -181,16 +153,17 @@ module _ (ps : List Point) (s : IsShape ps) (three : 2 < length ps) (k : ℤ) (l
         go p q = pick (point-discrete (p .left) (q .left)) (point-discrete (p .right) (q .right))
           where
             pick : Dec (p .left ≡ q .left) → Dec (p .right ≡ q .right) → NoNarrower ps n
-            pick (no f) g = tied-no-narrower ps s three n (p .left-in) (q .left-in) f size (left-highest n p top) (left-highest n q also)
+            pick (no f) g = tied-no-narrower ps s three n (p .left-in) (q .left-in) f size
+                (left-highest n p (out .top)) (left-highest n q (out .also))
             pick (yes f) (no g) = turned-back (tied-no-narrower ps s three (opposite n) (p .right-in) (q .right-in) g
-                (rw (turned-square n) size) (right-lowest n p top) (right-lowest n q also))
-            pick (yes f) (yes g) = absurd (different (p .is ∙ ap₂ (λ (y z : Point). times k (y ⊕ opposite z)) f g ∙ sym (q .is)))
+                (rw (turned-square n) size) (right-lowest n p (out .top)) (right-lowest n q (out .also)))
+            pick (yes f) (yes g) = absurd (out .different (p .is ∙ ap₂ (λ (y z : Point). times k (y ⊕ opposite z)) f g ∙ sym (q .is)))
 
     -- all differences reach as far as the spread
     far : (k *ℤ spread n ps) ≤ℤ value n u
     far =
         let (a, b, a-in, b-in, r) = spread-attained n ps (s .some) in
-        lia (k ∷ value n a ∷ value n b ∷ spread n ps ∷ support n D ∷ value n u ∷ []) (top & reach n a-in b-in & r ≡× k)
+        lia (k ∷ value n a ∷ value n b ∷ spread n ps ∷ support n D ∷ value n u ∷ []) (out .top & reach n a-in b-in & r ≡× k)
         (search linear depth 40) (omega arith)
 
 -- ---- the numbers: of the direction k its squared length and S its spread; of the edge's normal N its squared length, X its spread and v

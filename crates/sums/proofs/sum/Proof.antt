@@ -27,9 +27,6 @@ walk-on-requires c κs =
     let some = sum-some (start .args .a .now) (start .args .b .now) (pre .0) (pre .1) in
     (at-begin _ _ (pre .0) (pre .1), omega (arith, some, pre .2), omega (arith, pre .2, ap length (whole start)))
 
-same-length : tie.Need-same-length
-same-length c = search needs
-
 returns : tie.Need-returns
 returns c =
     let start = c .before .before .before in
@@ -38,4 +35,4 @@ returns c =
     (went .0 .counted ∙ ap length all, went .1 ∙ ap (λ (ps : List Point). overwritten (numbers ps) (start .args .out .now)) all)
 
 pub sum-spec : {M : Type 1} → statement M
-sum-spec = tie.close (tie.spec walk-on-requires same-length returns)
+sum-spec = tie.close (tie.spec walk-on-requires (λ c. search needs) returns)

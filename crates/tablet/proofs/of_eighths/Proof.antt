@@ -7,9 +7,6 @@ use borrow.Author.Needs.{needs}
 use Rattle.tablet.proofs.of_eighths.Statement.{statement}
 use Rattle.tablet.proofs.of_eighths.Tie as tie
 
-is-small-requires : tie.Need-is-small-requires
-is-small-requires c κs = search needs
-
 returns : tie.Need-returns
 returns c = small-not-whole (c .before .before .args .v) (sym (c .before .is-small .ensures) ∙ c .if1 .taken)
 
@@ -24,4 +21,4 @@ returns-2 c =
     ∙ scaled-same (start .args .v) (start .pre) (sym (c .before .before .is-small .ensures) ∙ c .before .if1 .left)
 
 pub of-eighths-spec : {M : Type 1} → statement M
-of-eighths-spec = tie.close (tie.spec is-small-requires returns of-millimetres-requires returns-2)
+of-eighths-spec = tie.close (tie.spec (λ c κs. search needs) returns of-millimetres-requires returns-2)

@@ -28,9 +28,6 @@ is-outside : (c : tie.After-outside)
     → c .outside .result ≡ outside (truncated (c .before .before .before .before .before .before .before .before .args .v))
 is-outside c = c .outside .ensures ∙ ap outside (result-is w32 (c .before .number .ok) (c .before .number .ensures))
 
-is-finite-requires : tie.Need-is-finite-requires
-is-finite-requires c κs = search needs
-
 returns : tie.Need-returns
 returns c = read-not-finite _ (sym (c .before .is-finite .ensures) ∙ not-true _ (c .if1 .taken))
 
@@ -51,9 +48,6 @@ returns-3 c =
 number-requires : tie.Need-number-requires
 number-requires c κs = (is-finite (c .before .before .before .before), is-whole (c .before .before), is-short c)
 
-outside-requires : tie.Need-outside-requires
-outside-requires c κs = search needs
-
 returns-4 : tie.Need-returns-4
 returns-4 c =
     let passed = c .before .before .before in
@@ -70,14 +64,5 @@ returns-5 c =
 pub of-millimetres-spec : {M : Type 1} → statement M
 of-millimetres-spec =
     tie.close
-    (tie.spec
-    is-finite-requires
-    returns
-    is-whole-requires
-    returns-2
-    is-short-requires
-    returns-3
-    number-requires
-    outside-requires
-    returns-4
-    returns-5)
+    (tie.spec (λ c κs. search needs) returns is-whole-requires returns-2 is-short-requires returns-3 number-requires (λ c κs. search needs)
+    returns-4 returns-5)

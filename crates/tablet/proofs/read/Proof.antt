@@ -6,14 +6,8 @@ use Rattle.tablet.specs.Reading.{readAs}
 use Rattle.tablet.proofs.read.Statement.{statement}
 use Rattle.tablet.proofs.read.Tie as tie
 
-enum-known-reading : tie.Need-enum-known-reading
-enum-known-reading c = search needs
-
 of-millimetres-requires : tie.Need-of-millimetres-requires
 of-millimetres-requires c κs = subst T (sym (c .known-told .given .0 .1)) tt
-
-enum-known-reading-2 : tie.Need-enum-known-reading-2
-enum-known-reading-2 c = search needs
 
 of-eighths-requires : tie.Need-of-eighths-requires
 of-eighths-requires c κs = subst T (sym (c .known-told2 .given .0 .1)) tt
@@ -25,6 +19,4 @@ returns-2 : tie.Need-returns-2
 returns-2 c = c .of-eighths .ensures ∙ ap readAs (sym (c .before .before .reading2 .given .1))
 
 pub read-spec : {M : Type 1} → statement M
-read-spec =
-    tie.close
-    (tie.spec enum-known-reading of-millimetres-requires enum-known-reading-2 of-eighths-requires returns returns-2)
+read-spec = tie.close (tie.spec (λ c. search needs) of-millimetres-requires (λ c. search needs) of-eighths-requires returns returns-2)

@@ -56,9 +56,6 @@ returns c =
     both-rest _ _ (pre .0) (pre .1) (pre .2) (at-loop .loop .inv .0) (at-loop .loop .inv .1)
     (at-settle .before .corner-at .ensures) (at-settle .settle .ensures) (at-corner .corner-at2 .ensures) rest
 
-add-turns : tie.Need-add-turns Inv-loop μ-loop
-add-turns c = search needs
-
 loop-less : tie.Need-loop-less Inv-loop μ-loop
 loop-less c = omega (arith, c .before .before .before .before .before .loop-test .taken)
 
@@ -74,5 +71,5 @@ returns-2 c = c .searched .ensures
 pub tangent-spec : {M : Type 1} → statement M
 tangent-spec =
     tie.close
-    (tie.spec Inv-loop μ-loop loop-holds corner-at-requires settle-requires corner-at-requires-2 settle-requires-2 returns add-turns
-    loop-less loop-again searched-requires returns-2)
+    (tie.spec Inv-loop μ-loop loop-holds corner-at-requires settle-requires corner-at-requires-2 settle-requires-2 returns
+    (λ c. search needs) loop-less loop-again searched-requires returns-2)

@@ -1,5 +1,5 @@
 -- The test `draws` as facts about turns and the value in a direction d, in which the line rises from p to q.
---     draws-off, -beside, -along    the test step by step
+--     draws-right, -left, -along    the test by the sign of the turn
 --     Rises d p q                   the line rises; `rise-gap`, `rise-positive`: by how much, and that it has a length
 --     rise-back, value-back         the line turned round rises in the opposite direction
 --     Stays s d p q x               p stays the start of the line to q: x is on side s, and not ahead of p on the line
@@ -14,29 +14,32 @@ use lib.IntN.{pos, _+ℤ_, _-ℤ_, _*ℤ_}
 use lib.Signed.{_≤ℤ_, _<ℤ_, ltZ, <ℤ-irrefl}
 use Rattle.integer.specs.Ring.{ring, reify}
 use Rattle.integer.specs.Linear.{linear, lia, _&_}
-use Rattle.integer.specs.Order.{_<×<_, _<×≤_, _≡×_, contra<, contra≤, ltZ-true, ltZ-false, leZ-true, leZ-false}
+use Rattle.integer.specs.Order.{_<×<_, _<×≤_, _≡×_, contra<, contra≤, weaken, ltZ-true, ltZ-false, leZ-true, leZ-false, lt-leZ, le-leZ}
 use Rattle.plane.specs.Point.{Point, opposite, _⊖_}
 use Rattle.plane.specs.Turn.{turn, cross}
 use Rattle.plane.specs.Direction.{value}
 use Rattle.plane.specs.Tangent.{signOf, onSide}
 use Rattle.plane.specs.theory.forms.Vector.{⊖-zero, square-positive, turned-lt}
 use Rattle.tangents.specs.Draws.{draws}
-use Rattle.tangents.specs.theory.Sides.{sign-not, sign-zero}
+use Rattle.tangents.specs.theory.Sides.{sign-not, sign-zero, side-left, side-right}
 
--- ---- the test, as code makes it
+-- ---- the test, as code makes it: by the turn's own sign
 
-module _ (s : Bool) (p q x : Point) where
-  pub draws-off : onSide s p q x ≡ false → draws s p q x ≡ true
-  unfolding draws
-  draws-off h = rw h
+module _ (p q x : Point) where
+  pub draws-right : (s : Bool) → turn p q x <ℤ pos 0 → draws s p q x ≡ s
+  unfolding draws onSide
+  draws-right true h = rw (side-left (turn p q x), lt-leZ h)
+  draws-right false h = rw (side-right (turn p q x), le-leZ (weaken h), side-left (turn p q x), lt-leZ h)
 
-  pub draws-beside : onSide s p q x ≡ true → onSide (not s) p q x ≡ false → draws s p q x ≡ false
-  unfolding draws
-  draws-beside h k = rw (h, k)
+  pub draws-left : (s : Bool) → pos 0 <ℤ turn p q x → draws s p q x ≡ not s
+  unfolding draws onSide
+  draws-left true h = rw (side-left (turn p q x), le-leZ (weaken h), side-right (turn p q x), lt-leZ h)
+  draws-left false h = rw (side-right (turn p q x), lt-leZ h)
 
-  pub draws-along : onSide s p q x ≡ true → onSide (not s) p q x ≡ true → draws s p q x ≡ ltZ (pos 0) (value (q ⊖ p) (x ⊖ p))
-  unfolding draws
-  draws-along h k = rw (h, k)
+  pub draws-along : (s : Bool) → turn p q x ≡ pos 0 → draws s p q x ≡ ltZ (pos 0) (value (q ⊖ p) (x ⊖ p))
+  unfolding draws onSide
+  draws-along true h = rw (side-left (turn p q x), side-right (turn p q x), h)
+  draws-along false h = rw (side-left (turn p q x), side-right (turn p q x), h)
 
 -- ---- a line that rises in d
 

@@ -2,7 +2,7 @@
 --     Settled s t A B i j      corner i of A rests against corner j of B, and corner j against corner i, the line turned round
 --     rises, facing, facing-back      lists that are apart: each line rises, and each list faces the corners of the other
 --     rest-trans, rest-exists  a walk from corner to corner that each draws ends, at a corner that rests
---     rest-same                only one does
+--     rest-same                only one does; `not-back`: the walk is not drawn back
 --     settled-exists           so there is a settled pair
 use mathlib.Core.Path.{_≡_, refl, ap}
 use mathlib.Core.Bool.{Bool, true, false, not}
@@ -16,7 +16,7 @@ use Rattle.plane.specs.Point.{Point, origin, opposite, corner, _⊖_}
 use Rattle.plane.specs.Search.{some, first}
 use Rattle.plane.specs.Direction.{value}
 use Rattle.plane.specs.theory.lists.Members.{position-member}
-use Rattle.plane.specs.theory.lists.Sought.{some-none, none-some, first-at-most, first-true}
+use Rattle.plane.specs.theory.lists.Sought.{some-none, none-some, first-at-most, first-true, true-not-false}
 use Rattle.plane.specs.theory.forms.Vector.{value-origin}
 use Rattle.separation.specs.theory.Apart.{Separated}
 use Rattle.tangents.specs.Draws.{draws, Facing, Rests}
@@ -39,6 +39,15 @@ module _ {ps : List Point} {q : Point} (facing : Facing ps q) where
       → draws s (corner ps i) q (corner ps j) ≡ true → draws s (corner ps j) q (corner ps k) ≡ true
       → draws s (corner ps i) q (corner ps k) ≡ true
   rest-trans s i j k h l m e f = draws-trans (rise-to i h) (rise-to j l) (rise-to k m) s e f
+
+  -- a corner is not drawn back to where it was drawn from
+  pub not-back : (s : Bool) (i j : ℕ) → i < length ps → j < length ps → draws s (corner ps i) q (corner ps j) ≡ true
+      → draws s (corner ps j) q (corner ps i) ≡ false
+  not-back s i j h l e = go (draws s (corner ps j) q (corner ps i)) refl
+    where
+      go : (b : Bool) → draws s (corner ps j) q (corner ps i) ≡ b → b ≡ false
+      go false f = refl
+      go true f = true-not-false (rest-trans s i j i h l h e f) (draws-self s (corner ps i) q)
 
   pub rest-exists : (s : Bool) → 0 < length ps → (i : ℕ) × Rests s ps i q
   rest-exists s some =

@@ -29,9 +29,6 @@ left c =
       omega (arith, start .pre .3, start .pre .2 .end-is, image-edges l (start .pre .0)),
     )
 
-returns : tie.Need-returns
-returns c = search needs
-
 arrived-requires : tie.Need-arrived-requires
 arrived-requires c κs =
     let start = c .before in
@@ -53,9 +50,6 @@ stands c =
           ∙ ap (cornerRound (points (image (start .args .list .now)))) (sym (made .0));
       no-edge = made .3;
     }
-
-add-corner-at : tie.Need-add-corner-at
-add-corner-at c = search needs
 
 corner-at-requires : tie.Need-corner-at-requires
 corner-at-requires c κs =
@@ -89,4 +83,4 @@ returns-2 c =
     )
 
 pub ahead-spec : {M : Type 1} → statement M
-ahead-spec = tie.close (tie.spec returns arrived-requires add-corner-at corner-at-requires facing-requires returns-2)
+ahead-spec = tie.close (tie.spec (λ c. search needs) arrived-requires (λ c. search needs) corner-at-requires facing-requires returns-2)

@@ -10,9 +10,6 @@ use Rattle.calipers.proofs.image.corner_at.Tie as tie
 place-requires : tie.Need-place-requires
 place-requires c κs = (c .pre .1 .within, c .pre .2)
 
-corner-at-requires : tie.Need-corner-at-requires
-corner-at-requires c κs = search needs
-
 opposite-requires : tie.Need-opposite-requires
 opposite-requires c κs = small-corner _ (c .before .before .pre .0 .inRange) _ (c .before .place .ensures .1) (c .corner-at .ensures)
 
@@ -25,4 +22,4 @@ returns c =
     (c .opposite .ensures ∙ ap opposite (at-corner .corner-at .ensures))
 
 pub corner-at-spec : {M : Type 1} → statement M
-corner-at-spec = tie.close (tie.spec place-requires corner-at-requires opposite-requires returns)
+corner-at-spec = tie.close (tie.spec place-requires (λ c κs. search needs) opposite-requires returns)

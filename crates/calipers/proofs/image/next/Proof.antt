@@ -8,9 +8,6 @@ use Rattle.calipers.specs.theory.Image.{image-edges}
 use Rattle.calipers.proofs.image.next.Statement.{statement}
 use Rattle.calipers.proofs.image.next.Tie as tie
 
-returns : tie.Need-returns
-returns c = search needs
-
 add-if2 : tie.Need-add-if2
 add-if2 c =
     let start = c .before .before in
@@ -31,4 +28,4 @@ returns-3 : tie.Need-returns-3
 returns-3 c = rw (c .before .before .before .before .if1 .left) (c .late .ensures)
 
 pub next-spec : {M : Type 1} → statement M
-next-spec = tie.close (tie.spec returns add-if2 ahead-requires returns-2 late-requires returns-3)
+next-spec = tie.close (tie.spec (λ c. search needs) add-if2 ahead-requires returns-2 late-requires returns-3)

@@ -20,9 +20,6 @@ use Rattle.calipers.proofs.side.ahead.Tie as tie
 left : (c : tie.Else1) → c .before .args .s .at + 2 < length (edges (points (c .before .args .list .now)))
 left c = omega (arith, c .before .pre .3, c .before .pre .0 .end-is)
 
-returns : tie.Need-returns
-returns c = search needs
-
 arrived-requires : tie.Need-arrived-requires
 arrived-requires c κs =
     let start = c .before in
@@ -44,9 +41,6 @@ stands c =
           ∙ ap (cornerRound (points (start .args .list .now))) (sym (made .0));
       no-edge = made .3;
     }
-
-add-corner-at : tie.Need-add-corner-at
-add-corner-at c = search needs
 
 -- the corner to read
 there : (c : tie.After-struct-known) → let start = c .before .before .before in
@@ -80,4 +74,4 @@ returns-2 c =
     )
 
 pub ahead-spec : {M : Type 1} → statement M
-ahead-spec = tie.close (tie.spec returns arrived-requires add-corner-at corner-at-requires facing-requires returns-2)
+ahead-spec = tie.close (tie.spec (λ c. search needs) arrived-requires (λ c. search needs) corner-at-requires facing-requires returns-2)

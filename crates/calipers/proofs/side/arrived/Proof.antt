@@ -6,9 +6,6 @@ use Rattle.integer.specs.Machine.{machine, bounded, machine-fits, machine-is}
 use Rattle.calipers.proofs.side.arrived.Statement.{statement}
 use Rattle.calipers.proofs.side.arrived.Tie as tie
 
-add-t2 : tie.Need-add-t2
-add-t2 c = search needs
-
 cast-t3 : tie.Need-cast-t3
 cast-t3 c = machine-fits (search (machine, bounded) depth 40) tt
 
@@ -26,4 +23,4 @@ returns c =
     (refl, refl, ap₂ point (machine-is (search (machine, bounded) depth 40) tt) (machine-is (search (machine, bounded) depth 40) tt), refl)
 
 pub arrived-spec : {M : Type 1} → statement M
-arrived-spec = tie.close (tie.spec add-t2 cast-t3 add-t4 cast-t5 add-t6 returns)
+arrived-spec = tie.close (tie.spec (λ c. search needs) cast-t3 add-t4 cast-t5 add-t6 returns)

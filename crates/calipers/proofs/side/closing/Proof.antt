@@ -23,9 +23,6 @@ returns c =
       },
     )
 
-corner-at-requires : tie.Need-corner-at-requires
-corner-at-requires c κs = search needs
-
 facing-requires : tie.Need-facing-requires
 facing-requires c κs =
     let pre = c .before .before .before .pre in
@@ -44,4 +41,4 @@ returns-2 c =
     )
 
 pub closing-spec : {M : Type 1} → statement M
-closing-spec = tie.close (tie.spec returns corner-at-requires facing-requires returns-2)
+closing-spec = tie.close (tie.spec returns (λ c κs. search needs) facing-requires returns-2)

@@ -23,24 +23,12 @@ before-apart e f h = rw h (go (up f) (ltZ (pos 0) (cross e f)))
     go true u = refl
     go false u = refl
 
-is-up-requires : tie.Need-is-up-requires
-is-up-requires c κs = search needs
-
-is-up-requires-2 : tie.Need-is-up-requires-2
-is-up-requires-2 c κs = search needs
-
-is-up-requires-3 : tie.Need-is-up-requires-3
-is-up-requires-3 c κs = search needs
-
 returns : tie.Need-returns
 returns c =
     let second = c .before .before in
     let first = second .before in
     c .is-up3 .ensures ∙ before-apart _ _
     (sym (first .is-up .ensures) ∙ different _ _ (c .before .if1 .taken) ∙ ap not (second .is-up2 .ensures))
-
-order-requires : tie.Need-order-requires
-order-requires c κs = search needs
 
 returns-2 : tie.Need-returns-2
 returns-2 c =
@@ -50,4 +38,6 @@ returns-2 c =
     ∙ sym (before-alike _ _ (sym (first .is-up .ensures) ∙ equal _ _ (c .before .if1 .left) ∙ second .is-up2 .ensures))
 
 pub is-before-spec : {M : Type 1} → statement M
-is-before-spec = tie.close (tie.spec is-up-requires is-up-requires-2 is-up-requires-3 returns order-requires returns-2)
+is-before-spec =
+    tie.close
+    (tie.spec (λ c κs. search needs) (λ c κs. search needs) (λ c κs. search needs) returns (λ c κs. search needs) returns-2)

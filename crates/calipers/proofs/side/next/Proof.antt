@@ -13,9 +13,6 @@ use Rattle.calipers.specs.theory.Sides.{onward-end, onward-inner, corner
 use Rattle.calipers.proofs.side.next.Statement.{statement}
 use Rattle.calipers.proofs.side.next.Tie as tie
 
-returns : tie.Need-returns
-returns c = search needs
-
 returns-2 : tie.Need-returns-2
 returns-2 c =
     let start = c .before .before .before in
@@ -65,4 +62,4 @@ returns-3 c =
     )
 
 pub next-spec : {M : Type 1} → statement M
-next-spec = tie.close (tie.spec returns returns-2 arrived-requires onto-requires returns-3)
+next-spec = tie.close (tie.spec (λ c. search needs) returns-2 arrived-requires onto-requires returns-3)

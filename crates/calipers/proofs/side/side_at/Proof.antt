@@ -12,12 +12,6 @@ use Rattle.calipers.proofs.side.side_at.Tie as tie
 round-requires : tie.Need-round-requires
 round-requires c κs = (omega (arith, c .pre .0, edges-at-most (points (c .args .list .now))), c .pre .2)
 
-corner-at-requires : tie.Need-corner-at-requires
-corner-at-requires c κs = search needs
-
-sides-requires : tie.Need-sides-requires
-sides-requires c κs = search needs
-
 standing-requires : tie.Need-standing-requires
 standing-requires c κs =
     let at-corner = c .before in
@@ -44,4 +38,4 @@ returns : tie.Need-returns
 returns c = (c .onto .ensures .0 ∙ c .before .standing .ensures .0, c .onto .ensures .1)
 
 pub side-at-spec : {M : Type 1} → statement M
-side-at-spec = tie.close (tie.spec round-requires corner-at-requires sides-requires standing-requires onto-requires returns)
+side-at-spec = tie.close (tie.spec round-requires (λ c κs. search needs) (λ c κs. search needs) standing-requires onto-requires returns)

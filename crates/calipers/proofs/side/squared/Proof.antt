@@ -6,12 +6,6 @@ use Rattle.plane.specs.Measure.{squared}
 use Rattle.calipers.proofs.side.squared.Statement.{statement}
 use Rattle.calipers.proofs.side.squared.Tie as tie
 
-beyond-requires : tie.Need-beyond-requires
-beyond-requires c κs = search needs
-
-above-requires : tie.Need-above-requires
-above-requires c κs = search needs
-
 -- the two differences, as terms of the machine
 abbrev across : (c : tie.After-above) → Machine (c .before .beyond .result)
 across c =
@@ -37,4 +31,4 @@ unfolding squared
 returns c = let dx = across c in let dy = upright c in machine-is (search machine depth 40) tt
 
 pub squared-spec : {M : Type 1} → statement M
-squared-spec = tie.close (tie.spec beyond-requires above-requires mul-result mul-result-2 add-result returns)
+squared-spec = tie.close (tie.spec (λ c κs. search needs) (λ c κs. search needs) mul-result mul-result-2 add-result returns)

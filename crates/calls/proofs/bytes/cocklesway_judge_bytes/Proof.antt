@@ -2,42 +2,21 @@
 use mathlib.Core.Path.{sym, _∙_}
 use borrow.Author.Tests.{leb-true}
 use Rattle.plane.specs.Limits.{maxCorners}
-use Rattle.crossing.specs.Passing.{smallBytes}
+use Rattle.bytewise.specs.Passing.{smallBytes}
 use Rattle.calls.specs.theory.Few.{small-enough, all-enough}
 use borrow.Author.Needs.{needs}
 use Rattle.calls.proofs.bytes.cocklesway_judge_bytes.Statement.{statement}
 use Rattle.calls.proofs.bytes.cocklesway_judge_bytes.Tie as tie
 
-is-small-requires : tie.Need-is-small-requires
-is-small-requires c κs = search needs
-
-slice-aggregate-judge : tie.Need-slice-aggregate-judge
-slice-aggregate-judge c = search needs
-
 judge-requires : tie.Need-judge-requires
 judge-requires c κs = small-enough _ (leb-true _ smallBytes (sym (c .before .before .is-small .ensures) ∙ c .before .if1 .taken))
-
-returns : tie.Need-returns
-returns c = search needs
-
-slice-aggregate-judge-2 : tie.Need-slice-aggregate-judge-2
-slice-aggregate-judge-2 c = search needs
 
 judge-requires-2 : tie.Need-judge-requires-2
 unfolding maxCorners
 judge-requires-2 c κs = all-enough _
 
-returns-2 : tie.Need-returns-2
-returns-2 c = search needs
-
 pub cocklesway-judge-bytes-spec : {M : Type 1} → statement M
 cocklesway-judge-bytes-spec =
     tie.close
-    (tie.spec
-    is-small-requires
-    slice-aggregate-judge
-    judge-requires
-    returns
-    slice-aggregate-judge-2
-    judge-requires-2
-    returns-2)
+    (tie.spec (λ c κs. search needs) (λ c. search needs) judge-requires (λ c. search needs) (λ c. search needs) judge-requires-2
+    (λ c. search needs))

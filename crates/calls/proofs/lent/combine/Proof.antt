@@ -9,10 +9,10 @@ use lib.Seq.{length-take-le}
 use Rattle.plane.specs.Floor.{on}
 use Rattle.plane.specs.Question.{Question}
 use Rattle.crossing.specs.LowFloor.{lowFloor}
-use Rattle.crossing.specs.Bytes.{wordsIn}
-use Rattle.crossing.specs.Packing.{packed}
-use Rattle.crossing.specs.Passing.{combined, asked}
-use Rattle.crossing.specs.theory.Alike.{pair-reply, pair-bytes}
+use Rattle.bytewise.specs.Bytes.{wordsIn}
+use Rattle.bytewise.specs.Packing.{packed}
+use Rattle.bytewise.specs.Passing.{combined, asked}
+use Rattle.bytewise.specs.theory.Alike.{pair-reply, pair-bytes}
 use Rattle.calls.specs.theory.Few.{combined-holds}
 use borrow.Author.Needs.{needs}
 use Rattle.calls.proofs.lent.combine.Statement.{statement}
@@ -25,20 +25,8 @@ first-read c = sym (length-take-le _ (c .read .last .1 .0) (c .read .ensures .0)
 second-read : (c : tie.After-read2) → c .read2 .result ≡ length (take (c .read2 .result) (c .read2 .last .1 .0))
 second-read c = sym (length-take-le _ (c .read2 .last .1 .0) (c .read2 .ensures .0))
 
-read-requires : tie.Need-read-requires
-read-requires c κs = search needs
-
-read-requires-2 : tie.Need-read-requires-2
-read-requires-2 c κs = search needs
-
-slice-reshare-prefix-combine : tie.Need-slice-reshare-prefix-combine
-slice-reshare-prefix-combine c = search needs
-
 slice-aggregate-combine : tie.Need-slice-aggregate-combine
 slice-aggregate-combine c = first-read (c .before .before .before .before .before)
-
-slice-reshare-prefix-combine-2 : tie.Need-slice-reshare-prefix-combine-2
-slice-reshare-prefix-combine-2 c = search needs
 
 slice-aggregate-combine-2 : tie.Need-slice-aggregate-combine-2
 slice-aggregate-combine-2 c = second-read (c .before .before .before)
@@ -52,18 +40,6 @@ combine-requires c κs =
     (omega (arith, first-read at-first, at-first .read .ensures .0, at-first .read .kept .1 .0))
     (omega (arith, second-read at-second, at-second .read2 .ensures .0, at-second .read2 .kept .1 .0))
     (start .pre .2)
-
-same-length : tie.Need-same-length
-same-length c = search needs
-
-same-length-2 : tie.Need-same-length-2
-same-length-2 c = search needs
-
-same-length-3 : tie.Need-same-length-3
-same-length-3 c = search needs
-
-same-length-4 : tie.Need-same-length-4
-same-length-4 c = search needs
 
 returns : tie.Need-returns
 unfolding lowFloor
@@ -85,16 +61,5 @@ returns c =
 pub combine-spec : {M : Type 1} → statement M
 combine-spec =
     tie.close
-    (tie.spec
-    read-requires
-    read-requires-2
-    slice-reshare-prefix-combine
-    slice-aggregate-combine
-    slice-reshare-prefix-combine-2
-    slice-aggregate-combine-2
-    combine-requires
-    same-length
-    same-length-2
-    same-length-3
-    same-length-4
-    returns)
+    (tie.spec (λ c κs. search needs) (λ c κs. search needs) (λ c. search needs) slice-aggregate-combine (λ c. search needs)
+    slice-aggregate-combine-2 combine-requires (λ c. search needs) (λ c. search needs) (λ c. search needs) (λ c. search needs) returns)

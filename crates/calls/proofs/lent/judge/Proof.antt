@@ -7,29 +7,17 @@ use Rattle.plane.specs.Floor.{on}
 use Rattle.plane.specs.Question.{askJudge}
 use Rattle.crossing.specs.LowFloor.{lowFloor}
 use Rattle.calls.specs.theory.Fits.{judged-fits}
-use Rattle.crossing.specs.theory.Packed.{narrow}
-use Rattle.crossing.specs.theory.Alike.{one-packed}
+use Rattle.bytewise.specs.theory.Packed.{narrow}
+use Rattle.bytewise.specs.theory.Alike.{one-packed}
 use borrow.Author.Needs.{needs}
 use Rattle.calls.proofs.lent.judge.Statement.{statement}
 use Rattle.calls.proofs.lent.judge.Tie as tie
 
-read-requires : tie.Need-read-requires
-read-requires c κs = search needs
-
-slice-reshare-prefix-cocklesway-judge : tie.Need-slice-reshare-prefix-cocklesway-judge
-slice-reshare-prefix-cocklesway-judge c = search needs
-
 slice-aggregate-cocklesway-judge : tie.Need-slice-aggregate-cocklesway-judge
 slice-aggregate-cocklesway-judge c = sym (length-take-le _ (c .before .before .read .last .1 .0) (c .before .before .read .ensures .0))
 
-cocklesway-judge-requires : tie.Need-cocklesway-judge-requires
-cocklesway-judge-requires c κs = search needs
-
 packed-reply-requires : tie.Need-packed-reply-requires
 packed-reply-requires c κs = narrow _ (c .cocklesway-judge .ensures) (judged-fits _)
-
-same-length : tie.Need-same-length
-same-length c = search needs
 
 returns : tie.Need-returns
 unfolding lowFloor
@@ -42,11 +30,5 @@ returns c =
 pub judge-spec : {M : Type 1} → statement M
 judge-spec =
     tie.close
-    (tie.spec
-    read-requires
-    slice-reshare-prefix-cocklesway-judge
-    slice-aggregate-cocklesway-judge
-    cocklesway-judge-requires
-    packed-reply-requires
-    same-length
-    returns)
+    (tie.spec (λ c κs. search needs) (λ c. search needs) slice-aggregate-cocklesway-judge (λ c κs. search needs) packed-reply-requires
+    (λ c. search needs) returns)

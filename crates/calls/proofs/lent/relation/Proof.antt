@@ -7,45 +7,24 @@ use Rattle.plane.specs.Floor.{on}
 use Rattle.plane.specs.Question.{askRelation}
 use Rattle.crossing.specs.LowFloor.{lowFloor}
 use Rattle.calls.specs.theory.Fits.{relation-fits}
-use Rattle.crossing.specs.theory.Packed.{narrow}
-use Rattle.crossing.specs.theory.Alike.{pair-packed}
+use Rattle.bytewise.specs.theory.Packed.{narrow}
+use Rattle.bytewise.specs.theory.Alike.{pair-packed}
 use borrow.Author.Needs.{needs}
 use Rattle.calls.proofs.lent.relation.Statement.{statement}
 use Rattle.calls.proofs.lent.relation.Tie as tie
-
-read-requires : tie.Need-read-requires
-read-requires c κs = search needs
-
-read-requires-2 : tie.Need-read-requires-2
-read-requires-2 c κs = search needs
-
-slice-reshare-prefix-cocklesway-relation : tie.Need-slice-reshare-prefix-cocklesway-relation
-slice-reshare-prefix-cocklesway-relation c = search needs
 
 slice-aggregate-cocklesway-relation : tie.Need-slice-aggregate-cocklesway-relation
 slice-aggregate-cocklesway-relation c =
     let at-first = c .before .before .before .before .before in
     sym (length-take-le _ (at-first .read .last .1 .0) (at-first .read .ensures .0))
 
-slice-reshare-prefix-cocklesway-relation-2 : tie.Need-slice-reshare-prefix-cocklesway-relation-2
-slice-reshare-prefix-cocklesway-relation-2 c = search needs
-
 slice-aggregate-cocklesway-relation-2 : tie.Need-slice-aggregate-cocklesway-relation-2
 slice-aggregate-cocklesway-relation-2 c =
     let at-second = c .before .before .before in
     sym (length-take-le _ (at-second .read2 .last .1 .0) (at-second .read2 .ensures .0))
 
-cocklesway-relation-requires : tie.Need-cocklesway-relation-requires
-cocklesway-relation-requires c κs = search needs
-
 packed-reply-requires : tie.Need-packed-reply-requires
 packed-reply-requires c κs = narrow _ (c .cocklesway-relation .ensures) (relation-fits _ _)
-
-same-length : tie.Need-same-length
-same-length c = search needs
-
-same-length-2 : tie.Need-same-length-2
-same-length-2 c = search needs
 
 returns : tie.Need-returns
 unfolding lowFloor
@@ -61,15 +40,5 @@ returns c =
 pub relation-spec : {M : Type 1} → statement M
 relation-spec =
     tie.close
-    (tie.spec
-    read-requires
-    read-requires-2
-    slice-reshare-prefix-cocklesway-relation
-    slice-aggregate-cocklesway-relation
-    slice-reshare-prefix-cocklesway-relation-2
-    slice-aggregate-cocklesway-relation-2
-    cocklesway-relation-requires
-    packed-reply-requires
-    same-length
-    same-length-2
-    returns)
+    (tie.spec (λ c κs. search needs) (λ c κs. search needs) (λ c. search needs) slice-aggregate-cocklesway-relation (λ c. search needs)
+    slice-aggregate-cocklesway-relation-2 (λ c κs. search needs) packed-reply-requires (λ c. search needs) (λ c. search needs) returns)

@@ -13,27 +13,6 @@ use Rattle.calls.proofs.logs.cocklesway_log_add.Tie as tie
 low : (c : tie.Else1) → ltb maxFloor (c .before .before .before .args .f) ≡ false
 low c = sym (c .before .exceeds-floor .ensures) ∙ c .if1 .left
 
-exceeds-floor-requires : tie.Need-exceeds-floor-requires
-exceeds-floor-requires c κs = search needs
-
-barred-requires : tie.Need-barred-requires
-barred-requires c κs = search needs
-
-returns : tie.Need-returns
-returns c = added-above _ _ _ _ _ (sym (c .before .before .exceeds-floor .ensures) ∙ c .before .if1 .taken) (c .barred .ensures)
-
-cast-log-add : tie.Need-cast-log-add
-cast-log-add c = low-fits _ (low (c .before))
-
-log-add-requires : tie.Need-log-add-requires
-log-add-requires c κs = search needs
-
-of-addition-requires : tie.Need-of-addition-requires
-of-addition-requires c κs = search needs
-
-same-length : tie.Need-same-length
-same-length c = search needs
-
 returns-2 : tie.Need-returns-2
 returns-2 c =
     added-within _ _ _ _ _ (low (c .before .before .before .before .before)) (c .of-addition .ensures)
@@ -42,5 +21,6 @@ returns-2 c =
 pub cocklesway-log-add-spec : {M : Type 1} → statement M
 cocklesway-log-add-spec =
     tie.close
-    (tie.spec exceeds-floor-requires barred-requires returns cast-log-add log-add-requires of-addition-requires same-length
-    returns-2)
+    (tie.spec (λ c κs. search needs) (λ c κs. search needs)
+    (λ c. added-above _ _ _ _ _ (sym (c .before .before .exceeds-floor .ensures) ∙ c .before .if1 .taken) (c .barred .ensures))
+    (λ c. low-fits _ (low (c .before))) (λ c κs. search needs) (λ c κs. search needs) (λ c. search needs) returns-2)

@@ -18,24 +18,6 @@ use Rattle.calls.proofs.logs.cocklesway_log_contact.Tie as tie
 low : (c : tie.Else1) → ltb maxFloor (c .before .before .before .args .floor) ≡ false
 low c = sym (c .before .exceeds-floor .ensures) ∙ c .if1 .left
 
-exceeds-floor-requires : tie.Need-exceeds-floor-requires
-exceeds-floor-requires c κs = search needs
-
-barred-requires : tie.Need-barred-requires
-barred-requires c κs = search needs
-
-returns : tie.Need-returns
-returns c = above _ (sym (c .before .before .exceeds-floor .ensures) ∙ c .before .if1 .taken) (c .barred .ensures) .0
-
-cast-log-contact : tie.Need-cast-log-contact
-cast-log-contact c = low-fits _ (low c)
-
-log-contact-requires : tie.Need-log-contact-requires
-log-contact-requires c κs = search needs
-
-of-drive-requires : tie.Need-of-drive-requires
-of-drive-requires c κs = search needs
-
 returns-2 : tie.Need-returns-2
 returns-2 c =
     let start = c .before .before .before .before .before in
@@ -48,4 +30,6 @@ returns-2 c =
 pub cocklesway-log-contact-spec : {M : Type 1} → statement M
 cocklesway-log-contact-spec =
     tie.close
-    (tie.spec exceeds-floor-requires barred-requires returns cast-log-contact log-contact-requires of-drive-requires returns-2)
+    (tie.spec (λ c κs. search needs) (λ c κs. search needs)
+    (λ c. above _ (sym (c .before .before .exceeds-floor .ensures) ∙ c .before .if1 .taken) (c .barred .ensures) .0)
+    (λ c. low-fits _ (low c)) (λ c κs. search needs) (λ c κs. search needs) returns-2)

@@ -1,18 +1,9 @@
 -- `cocklesway_log_entry` meets its contract: the reply of `log_entry`, crossed, and its output.
 use mathlib.Core.Path.{_∙_, ap}
-use Rattle.reply.specs.Told.{crossed}
+use Rattle.wire.specs.Told.{crossed}
 use borrow.Author.Needs.{needs}
 use Rattle.calls.proofs.logs.cocklesway_log_entry.Statement.{statement}
 use Rattle.calls.proofs.logs.cocklesway_log_entry.Tie as tie
-
-log-entry-requires : tie.Need-log-entry-requires
-log-entry-requires c κs = search needs
-
-of-entry-requires : tie.Need-of-entry-requires
-of-entry-requires c κs = search needs
-
-same-length : tie.Need-same-length
-same-length c = search needs
 
 returns : tie.Need-returns
 returns c =
@@ -20,4 +11,4 @@ returns c =
     (c .of-entry .ensures ∙ ap crossed (asked .0), asked .1)
 
 pub cocklesway-log-entry-spec : {M : Type 1} → statement M
-cocklesway-log-entry-spec = tie.close (tie.spec log-entry-requires of-entry-requires same-length returns)
+cocklesway-log-entry-spec = tie.close (tie.spec (λ c κs. search needs) (λ c κs. search needs) (λ c. search needs) returns)

@@ -13,27 +13,10 @@ use Rattle.calls.proofs.logs.cocklesway_log_gap.Tie as tie
 low : (c : tie.Else1) → ltb maxFloor (c .before .before .before .args .floor) ≡ false
 low c = sym (c .before .exceeds-floor .ensures) ∙ c .if1 .left
 
-exceeds-floor-requires : tie.Need-exceeds-floor-requires
-exceeds-floor-requires c κs = search needs
-
-barred-requires : tie.Need-barred-requires
-barred-requires c κs = search needs
-
-returns : tie.Need-returns
-returns c = above _ (sym (c .before .before .exceeds-floor .ensures) ∙ c .before .if1 .taken) (c .barred .ensures) .0
-
-cast-log-gap : tie.Need-cast-log-gap
-cast-log-gap c = low-fits _ (low c)
-
-log-gap-requires : tie.Need-log-gap-requires
-log-gap-requires c κs = search needs
-
-of-gap-requires : tie.Need-of-gap-requires
-of-gap-requires c κs = search needs
-
-returns-2 : tie.Need-returns-2
-returns-2 c = within-told _ (low (c .before .before)) (c .of-gap .ensures) (c .before .log-gap .ensures)
-
 pub cocklesway-log-gap-spec : {M : Type 1} → statement M
 cocklesway-log-gap-spec =
-    tie.close (tie.spec exceeds-floor-requires barred-requires returns cast-log-gap log-gap-requires of-gap-requires returns-2)
+    tie.close
+    (tie.spec (λ c κs. search needs) (λ c κs. search needs)
+    (λ c. above _ (sym (c .before .before .exceeds-floor .ensures) ∙ c .before .if1 .taken) (c .barred .ensures) .0)
+    (λ c. low-fits _ (low c)) (λ c κs. search needs) (λ c κs. search needs)
+    (λ c. within-told _ (low (c .before .before)) (c .of-gap .ensures) (c .before .log-gap .ensures)))

@@ -13,27 +13,10 @@ use Rattle.calls.proofs.logs.cocklesway_log_nearest.Tie as tie
 low : (c : tie.Else1) → ltb maxFloor (c .before .before .before .args .floor) ≡ false
 low c = sym (c .before .exceeds-floor .ensures) ∙ c .if1 .left
 
-exceeds-floor-requires : tie.Need-exceeds-floor-requires
-exceeds-floor-requires c κs = search needs
-
-barred-requires : tie.Need-barred-requires
-barred-requires c κs = search needs
-
-returns : tie.Need-returns
-returns c = above _ (sym (c .before .before .exceeds-floor .ensures) ∙ c .before .if1 .taken) (c .barred .ensures) .0
-
-cast-log-nearest : tie.Need-cast-log-nearest
-cast-log-nearest c = low-fits _ (low c)
-
-log-nearest-requires : tie.Need-log-nearest-requires
-log-nearest-requires c κs = search needs
-
-of-nearest-requires : tie.Need-of-nearest-requires
-of-nearest-requires c κs = search needs
-
-returns-2 : tie.Need-returns-2
-returns-2 c = within-told _ (low (c .before .before)) (c .of-nearest .ensures) (c .before .log-nearest .ensures)
-
 pub cocklesway-log-nearest-spec : {M : Type 1} → statement M
 cocklesway-log-nearest-spec =
-    tie.close (tie.spec exceeds-floor-requires barred-requires returns cast-log-nearest log-nearest-requires of-nearest-requires returns-2)
+    tie.close
+    (tie.spec (λ c κs. search needs) (λ c κs. search needs)
+    (λ c. above _ (sym (c .before .before .exceeds-floor .ensures) ∙ c .before .if1 .taken) (c .barred .ensures) .0)
+    (λ c. low-fits _ (low c)) (λ c κs. search needs) (λ c κs. search needs)
+    (λ c. within-told _ (low (c .before .before)) (c .of-nearest .ensures) (c .before .log-nearest .ensures)))

@@ -1,18 +1,9 @@
 -- `cocklesway_log_pack` meets its contract: the reply of `log_pack`, crossed, and its run.
 use mathlib.Core.Path.{_∙_, ap}
-use Rattle.reply.specs.Told.{crossed}
+use Rattle.wire.specs.Told.{crossed}
 use borrow.Author.Needs.{needs}
 use Rattle.calls.proofs.logs.cocklesway_log_pack.Statement.{statement}
 use Rattle.calls.proofs.logs.cocklesway_log_pack.Tie as tie
-
-log-pack-requires : tie.Need-log-pack-requires
-log-pack-requires c κs = search needs
-
-of-addition-requires : tie.Need-of-addition-requires
-of-addition-requires c κs = search needs
-
-same-length : tie.Need-same-length
-same-length c = search needs
 
 returns : tie.Need-returns
 returns c =
@@ -20,4 +11,4 @@ returns c =
     (c .of-addition .ensures ∙ ap crossed (asked .0), asked .1)
 
 pub cocklesway-log-pack-spec : {M : Type 1} → statement M
-cocklesway-log-pack-spec = tie.close (tie.spec log-pack-requires of-addition-requires same-length returns)
+cocklesway-log-pack-spec = tie.close (tie.spec (λ c κs. search needs) (λ c κs. search needs) (λ c. search needs) returns)

@@ -13,32 +13,11 @@ use Rattle.calls.proofs.pairs.cocklesway_clearance.Tie as tie
 low : (c : tie.Else1) → (ltb maxFloor (c .before .before .args .f) ≡ false) × (ltb maxFloor (c .before .before .args .g) ≡ false)
 low c = both-low _ _ (sym (c .before .exceeds .ensures) ∙ c .if1 .left)
 
-exceeds-requires : tie.Need-exceeds-requires
-exceeds-requires c κs = search needs
-
-barred-pair-requires : tie.Need-barred-pair-requires
-barred-pair-requires c κs = search needs
-
-returns : tie.Need-returns
-returns c = above-pair _ refl (sym (c .before .before .exceeds .ensures) ∙ c .before .if1 .taken) (c .barred-pair .ensures) .0
-
-cast-clearance : tie.Need-cast-clearance
-cast-clearance c = low-fits _ (low c .0)
-
-cast-clearance-2 : tie.Need-cast-clearance-2
-cast-clearance-2 c = low-fits _ (low c .1)
-
-clearance-requires : tie.Need-clearance-requires
-clearance-requires c κs = search needs
-
-of-clearance-requires : tie.Need-of-clearance-requires
-of-clearance-requires c κs = search needs
-
-returns-2 : tie.Need-returns-2
-returns-2 c = within-told _ (low (c .before .before) .0) (c .of-clearance .ensures) (c .before .clearance .ensures)
-
 pub cocklesway-clearance-spec : {M : Type 1} → statement M
 cocklesway-clearance-spec =
     tie.close
-    (tie.spec exceeds-requires barred-pair-requires returns cast-clearance cast-clearance-2 clearance-requires
-    of-clearance-requires returns-2)
+    (tie.spec (λ c κs. search needs) (λ c κs. search needs)
+    (λ c. above-pair _ refl (sym (c .before .before .exceeds .ensures) ∙ c .before .if1 .taken) (c .barred-pair .ensures) .0)
+    (λ c. low-fits _ (low c .0))
+    (λ c. low-fits _ (low c .1)) (λ c κs. search needs) (λ c κs. search needs)
+    (λ c. within-told _ (low (c .before .before) .0) (c .of-clearance .ensures) (c .before .clearance .ensures)))

@@ -7,7 +7,7 @@ use Rattle.plane.specs.Limits.{maxFloor}
 use Rattle.plane.specs.Point.{Point, point}
 use Rattle.plane.specs.Floor.{on}
 use Rattle.plane.specs.Question.{reply}
-use Rattle.contact.specs.Contact.{askContact}
+use Rattle.motion.specs.Contact.{askContact}
 use Rattle.crossing.specs.theory.Low.{low-fits, both-low, within-told}
 use Rattle.crossing.specs.theory.High.{above-pair}
 use borrow.Author.Needs.{needs}
@@ -17,27 +17,6 @@ use Rattle.calls.proofs.pairs.cocklesway_contact.Tie as tie
 -- past the test both floors are within their limit
 low : (c : tie.Else1) → (ltb maxFloor (c .before .before .args .f) ≡ false) × (ltb maxFloor (c .before .before .args .g) ≡ false)
 low c = both-low _ _ (sym (c .before .exceeds .ensures) ∙ c .if1 .left)
-
-exceeds-requires : tie.Need-exceeds-requires
-exceeds-requires c κs = search needs
-
-barred-pair-requires : tie.Need-barred-pair-requires
-barred-pair-requires c κs = search needs
-
-returns : tie.Need-returns
-returns c = above-pair _ refl (sym (c .before .before .exceeds .ensures) ∙ c .before .if1 .taken) (c .barred-pair .ensures) .0
-
-cast-contact : tie.Need-cast-contact
-cast-contact c = low-fits _ (low c .0)
-
-cast-contact-2 : tie.Need-cast-contact-2
-cast-contact-2 c = low-fits _ (low c .1)
-
-contact-requires : tie.Need-contact-requires
-contact-requires c κs = search needs
-
-of-contact-requires : tie.Need-of-contact-requires
-of-contact-requires c κs = search needs
 
 returns-2 : tie.Need-returns-2
 returns-2 c =
@@ -52,4 +31,7 @@ returns-2 c =
 pub cocklesway-contact-spec : {M : Type 1} → statement M
 cocklesway-contact-spec =
     tie.close
-    (tie.spec exceeds-requires barred-pair-requires returns cast-contact cast-contact-2 contact-requires of-contact-requires returns-2)
+    (tie.spec (λ c κs. search needs) (λ c κs. search needs)
+    (λ c. above-pair _ refl (sym (c .before .before .exceeds .ensures) ∙ c .before .if1 .taken) (c .barred-pair .ensures) .0)
+    (λ c. low-fits _ (low c .0))
+    (λ c. low-fits _ (low c .1)) (λ c κs. search needs) (λ c κs. search needs) returns-2)

@@ -13,31 +13,11 @@ use Rattle.calls.proofs.pairs.cocklesway_find.Tie as tie
 low : (c : tie.Else1) → (ltb maxFloor (c .before .before .args .f) ≡ false) × (ltb maxFloor (c .before .before .args .g) ≡ false)
 low c = both-low _ _ (sym (c .before .exceeds .ensures) ∙ c .if1 .left)
 
-exceeds-requires : tie.Need-exceeds-requires
-exceeds-requires c κs = search needs
-
-barred-pair-requires : tie.Need-barred-pair-requires
-barred-pair-requires c κs = search needs
-
-returns : tie.Need-returns
-returns c = found-above _ _ (sym (c .before .before .exceeds .ensures) ∙ c .before .if1 .taken) (c .barred-pair .ensures)
-
-cast-find : tie.Need-cast-find
-cast-find c = low-fits _ (low c .0)
-
-cast-find-2 : tie.Need-cast-find-2
-cast-find-2 c = low-fits _ (low c .1)
-
-find-requires : tie.Need-find-requires
-find-requires c κs = search needs
-
-of-separator-requires : tie.Need-of-separator-requires
-of-separator-requires c κs = search needs
-
-returns-2 : tie.Need-returns-2
-returns-2 c = found-within _ _ (low (c .before .before) .0) (c .of-separator .ensures) (c .before .find .ensures)
-
 pub cocklesway-find-spec : {M : Type 1} → statement M
 cocklesway-find-spec =
     tie.close
-    (tie.spec exceeds-requires barred-pair-requires returns cast-find cast-find-2 find-requires of-separator-requires returns-2)
+    (tie.spec (λ c κs. search needs) (λ c κs. search needs)
+    (λ c. found-above _ _ (sym (c .before .before .exceeds .ensures) ∙ c .before .if1 .taken) (c .barred-pair .ensures))
+    (λ c. low-fits _ (low c .0))
+    (λ c. low-fits _ (low c .1)) (λ c κs. search needs) (λ c κs. search needs)
+    (λ c. found-within _ _ (low (c .before .before) .0) (c .of-separator .ensures) (c .before .find .ensures)))

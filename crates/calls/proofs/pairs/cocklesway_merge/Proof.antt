@@ -13,35 +13,13 @@ use Rattle.calls.proofs.pairs.cocklesway_merge.Tie as tie
 low : (c : tie.Else1) → (ltb maxFloor (c .before .before .args .f) ≡ false) × (ltb maxFloor (c .before .before .args .g) ≡ false)
 low c = both-low _ _ (sym (c .before .exceeds .ensures) ∙ c .if1 .left)
 
-exceeds-requires : tie.Need-exceeds-requires
-exceeds-requires c κs = search needs
-
-barred-pair-requires : tie.Need-barred-pair-requires
-barred-pair-requires c κs = search needs
-
-returns : tie.Need-returns
-returns c = above-pair _ refl (sym (c .before .before .exceeds .ensures) ∙ c .before .if1 .taken) (c .barred-pair .ensures)
-
-cast-merge : tie.Need-cast-merge
-cast-merge c = low-fits _ (low c .0)
-
-cast-merge-2 : tie.Need-cast-merge-2
-cast-merge-2 c = low-fits _ (low c .1)
-
-merge-requires : tie.Need-merge-requires
-merge-requires c κs = search needs
-
-of-answer-requires : tie.Need-of-answer-requires
-of-answer-requires c κs = search needs
-
-same-length : tie.Need-same-length
-same-length c = search needs
-
 returns-2 : tie.Need-returns-2
 returns-2 c = within-written _ (low (c .before .before .before .before) .0) (c .of-answer .ensures) (c .before .before .merge .ensures)
 
 pub cocklesway-merge-spec : {M : Type 1} → statement M
 cocklesway-merge-spec =
     tie.close
-    (tie.spec exceeds-requires barred-pair-requires returns cast-merge cast-merge-2 merge-requires of-answer-requires
-    same-length returns-2)
+    (tie.spec (λ c κs. search needs) (λ c κs. search needs)
+    (λ c. above-pair _ refl (sym (c .before .before .exceeds .ensures) ∙ c .before .if1 .taken) (c .barred-pair .ensures))
+    (λ c. low-fits _ (low c .0))
+    (λ c. low-fits _ (low c .1)) (λ c κs. search needs) (λ c κs. search needs) (λ c. search needs) returns-2)

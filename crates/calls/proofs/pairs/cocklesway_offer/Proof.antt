@@ -17,27 +17,6 @@ use Rattle.calls.proofs.pairs.cocklesway_offer.Tie as tie
 low : (c : tie.Else1) → (ltb maxFloor (c .before .before .args .f) ≡ false) × (ltb maxFloor (c .before .before .args .g) ≡ false)
 low c = both-low _ _ (sym (c .before .exceeds .ensures) ∙ c .if1 .left)
 
-exceeds-requires : tie.Need-exceeds-requires
-exceeds-requires c κs = search needs
-
-barred-pair-requires : tie.Need-barred-pair-requires
-barred-pair-requires c κs = search needs
-
-returns : tie.Need-returns
-returns c = above-pair _ refl (sym (c .before .before .exceeds .ensures) ∙ c .before .if1 .taken) (c .barred-pair .ensures) .0
-
-cast-offer : tie.Need-cast-offer
-cast-offer c = low-fits _ (low c .0)
-
-cast-offer-2 : tie.Need-cast-offer-2
-cast-offer-2 c = low-fits _ (low c .1)
-
-offer-requires : tie.Need-offer-requires
-offer-requires c κs = search needs
-
-of-offer-requires : tie.Need-of-offer-requires
-of-offer-requires c κs = search needs
-
 returns-2 : tie.Need-returns-2
 returns-2 c =
     let start = c .before .before .before .before in
@@ -50,4 +29,7 @@ returns-2 c =
 pub cocklesway-offer-spec : {M : Type 1} → statement M
 cocklesway-offer-spec =
     tie.close
-    (tie.spec exceeds-requires barred-pair-requires returns cast-offer cast-offer-2 offer-requires of-offer-requires returns-2)
+    (tie.spec (λ c κs. search needs) (λ c κs. search needs)
+    (λ c. above-pair _ refl (sym (c .before .before .exceeds .ensures) ∙ c .before .if1 .taken) (c .barred-pair .ensures) .0)
+    (λ c. low-fits _ (low c .0))
+    (λ c. low-fits _ (low c .1)) (λ c κs. search needs) (λ c κs. search needs) returns-2)

@@ -13,32 +13,11 @@ use Rattle.calls.proofs.pairs.cocklesway_tangents.Tie as tie
 low : (c : tie.Else1) → (ltb maxFloor (c .before .before .args .f) ≡ false) × (ltb maxFloor (c .before .before .args .g) ≡ false)
 low c = both-low _ _ (sym (c .before .exceeds .ensures) ∙ c .if1 .left)
 
-exceeds-requires : tie.Need-exceeds-requires
-exceeds-requires c κs = search needs
-
-barred-pair-requires : tie.Need-barred-pair-requires
-barred-pair-requires c κs = search needs
-
-returns : tie.Need-returns
-returns c = above-pair _ refl (sym (c .before .before .exceeds .ensures) ∙ c .before .if1 .taken) (c .barred-pair .ensures) .0
-
-cast-tangents : tie.Need-cast-tangents
-cast-tangents c = low-fits _ (low c .0)
-
-cast-tangents-2 : tie.Need-cast-tangents-2
-cast-tangents-2 c = low-fits _ (low c .1)
-
-tangents-requires : tie.Need-tangents-requires
-tangents-requires c κs = search needs
-
-of-tangents-requires : tie.Need-of-tangents-requires
-of-tangents-requires c κs = search needs
-
-returns-2 : tie.Need-returns-2
-returns-2 c = within-told _ (low (c .before .before) .0) (c .of-tangents .ensures) (c .before .tangents .ensures)
-
 pub cocklesway-tangents-spec : {M : Type 1} → statement M
 cocklesway-tangents-spec =
     tie.close
-    (tie.spec exceeds-requires barred-pair-requires returns cast-tangents cast-tangents-2 tangents-requires of-tangents-requires
-    returns-2)
+    (tie.spec (λ c κs. search needs) (λ c κs. search needs)
+    (λ c. above-pair _ refl (sym (c .before .before .exceeds .ensures) ∙ c .before .if1 .taken) (c .barred-pair .ensures) .0)
+    (λ c. low-fits _ (low c .0))
+    (λ c. low-fits _ (low c .1)) (λ c κs. search needs) (λ c κs. search needs)
+    (λ c. within-told _ (low (c .before .before) .0) (c .of-tangents .ensures) (c .before .tangents .ensures)))

@@ -3,7 +3,7 @@ use mathlib.Core.Path.{_≡_, sym, _∙_, ap}
 use mathlib.Core.Bool.{false}
 use lib.Dec.{ltb}
 use Rattle.plane.specs.Limits.{maxFloor}
-use Rattle.reply.specs.Told.{crossed}
+use Rattle.wire.specs.Told.{crossed}
 use Rattle.crossing.specs.theory.Low.{low-fits}
 use Rattle.crossing.specs.theory.Passages.{all-low, passage-within, passage-above}
 use borrow.Author.Needs.{needs}
@@ -15,30 +15,9 @@ low : (c : tie.Else1) → let args = c .before .before .args in
     (ltb maxFloor (args .f) ≡ false) × (ltb maxFloor (args .g) ≡ false) × (ltb maxFloor (args .h) ≡ false)
 low c = all-low _ _ _ (sym (c .before .exceeds-three .ensures) ∙ c .if1 .left)
 
-exceeds-three-requires : tie.Need-exceeds-three-requires
-exceeds-three-requires c κs = search needs
-
-barred-three-requires : tie.Need-barred-three-requires
-barred-three-requires c κs = search needs
-
 returns : tie.Need-returns
 returns c = c .barred-three .ensures
     ∙ ap crossed (passage-above _ _ _ (sym (c .before .before .exceeds-three .ensures) ∙ c .before .if1 .taken))
-
-cast-passage : tie.Need-cast-passage
-cast-passage c = low-fits _ (low c .0)
-
-cast-passage-2 : tie.Need-cast-passage-2
-cast-passage-2 c = low-fits _ (low c .1)
-
-cast-passage-3 : tie.Need-cast-passage-3
-cast-passage-3 c = low-fits _ (low c .2)
-
-passage-requires : tie.Need-passage-requires
-passage-requires c κs = search needs
-
-of-passage-requires : tie.Need-of-passage-requires
-of-passage-requires c κs = search needs
 
 returns-2 : tie.Need-returns-2
 returns-2 c = c .of-passage .ensures
@@ -47,5 +26,7 @@ returns-2 c = c .of-passage .ensures
 pub cocklesway-passage-spec : {M : Type 1} → statement M
 cocklesway-passage-spec =
     tie.close
-    (tie.spec exceeds-three-requires barred-three-requires returns cast-passage cast-passage-2 cast-passage-3 passage-requires
-    of-passage-requires returns-2)
+    (tie.spec (λ c κs. search needs) (λ c κs. search needs) returns
+    (λ c. low-fits _ (low c .0))
+    (λ c. low-fits _ (low c .1))
+    (λ c. low-fits _ (low c .2)) (λ c κs. search needs) (λ c κs. search needs) returns-2)

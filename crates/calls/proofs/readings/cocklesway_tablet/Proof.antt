@@ -2,22 +2,10 @@
 use mathlib.Core.Path.{_∙_, ap, ap₂}
 use Rattle.tablet.specs.declared.reading.Reading.{Reading}
 use Rattle.tablet.specs.Reading.{tabletReply, Sent}
-use Rattle.reply.specs.Told.{crossed}
+use Rattle.wire.specs.Told.{crossed}
 use borrow.Author.Needs.{needs}
 use Rattle.calls.proofs.readings.cocklesway_tablet.Statement.{statement}
 use Rattle.calls.proofs.readings.cocklesway_tablet.Tie as tie
-
-reading-requires : tie.Need-reading-requires
-reading-requires c κs = search needs
-
-reading-requires-2 : tie.Need-reading-requires-2
-reading-requires-2 c κs = search needs
-
-tablet-requires : tie.Need-tablet-requires
-tablet-requires c κs = search needs
-
-of-tablet-requires : tie.Need-of-tablet-requires
-of-tablet-requires c κs = search needs
 
 returns : tie.Need-returns
 returns c =
@@ -26,4 +14,6 @@ returns c =
     (c .before .before .reading2 .ensures)
 
 pub cocklesway-tablet-spec : {M : Type 1} → statement M
-cocklesway-tablet-spec = tie.close (tie.spec reading-requires reading-requires-2 tablet-requires of-tablet-requires returns)
+cocklesway-tablet-spec =
+    tie.close
+    (tie.spec (λ c κs. search needs) (λ c κs. search needs) (λ c κs. search needs) (λ c κs. search needs) returns)

@@ -13,27 +13,10 @@ use Rattle.calls.proofs.shapes.cocklesway_area.Tie as tie
 low : (c : tie.Else1) → ltb maxFloor (c .before .before .args .floor) ≡ false
 low c = sym (c .before .exceeds-floor .ensures) ∙ c .if1 .left
 
-exceeds-floor-requires : tie.Need-exceeds-floor-requires
-exceeds-floor-requires c κs = search needs
-
-barred-requires : tie.Need-barred-requires
-barred-requires c κs = search needs
-
-returns : tie.Need-returns
-returns c = above _ (sym (c .before .before .exceeds-floor .ensures) ∙ c .before .if1 .taken) (c .barred .ensures) .0
-
-cast-area : tie.Need-cast-area
-cast-area c = low-fits _ (low c)
-
-area-requires : tie.Need-area-requires
-area-requires c κs = search needs
-
-of-area-requires : tie.Need-of-area-requires
-of-area-requires c κs = search needs
-
-returns-2 : tie.Need-returns-2
-returns-2 c = within-told _ (low (c .before .before)) (c .of-area .ensures) (c .before .area .ensures)
-
 pub cocklesway-area-spec : {M : Type 1} → statement M
 cocklesway-area-spec =
-    tie.close (tie.spec exceeds-floor-requires barred-requires returns cast-area area-requires of-area-requires returns-2)
+    tie.close
+    (tie.spec (λ c κs. search needs) (λ c κs. search needs)
+    (λ c. above _ (sym (c .before .before .exceeds-floor .ensures) ∙ c .before .if1 .taken) (c .barred .ensures) .0)
+    (λ c. low-fits _ (low c)) (λ c κs. search needs) (λ c κs. search needs)
+    (λ c. within-told _ (low (c .before .before)) (c .of-area .ensures) (c .before .area .ensures)))

@@ -17,24 +17,6 @@ use Rattle.calls.proofs.shapes.cocklesway_furthest.Tie as tie
 low : (c : tie.Else1) → ltb maxFloor (c .before .before .args .floor) ≡ false
 low c = sym (c .before .exceeds-floor .ensures) ∙ c .if1 .left
 
-exceeds-floor-requires : tie.Need-exceeds-floor-requires
-exceeds-floor-requires c κs = search needs
-
-barred-requires : tie.Need-barred-requires
-barred-requires c κs = search needs
-
-returns : tie.Need-returns
-returns c = above _ (sym (c .before .before .exceeds-floor .ensures) ∙ c .before .if1 .taken) (c .barred .ensures) .0
-
-cast-furthest : tie.Need-cast-furthest
-cast-furthest c = low-fits _ (low c)
-
-furthest-requires : tie.Need-furthest-requires
-furthest-requires c κs = search needs
-
-of-furthest-requires : tie.Need-of-furthest-requires
-of-furthest-requires c κs = search needs
-
 returns-2 : tie.Need-returns-2
 returns-2 c =
     let start = c .before .before .before .before in
@@ -45,4 +27,6 @@ returns-2 c =
 pub cocklesway-furthest-spec : {M : Type 1} → statement M
 cocklesway-furthest-spec =
     tie.close
-    (tie.spec exceeds-floor-requires barred-requires returns cast-furthest furthest-requires of-furthest-requires returns-2)
+    (tie.spec (λ c κs. search needs) (λ c κs. search needs)
+    (λ c. above _ (sym (c .before .before .exceeds-floor .ensures) ∙ c .before .if1 .taken) (c .barred .ensures) .0)
+    (λ c. low-fits _ (low c)) (λ c κs. search needs) (λ c κs. search needs) returns-2)

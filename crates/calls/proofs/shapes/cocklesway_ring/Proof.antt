@@ -14,29 +14,11 @@ use Rattle.calls.proofs.shapes.cocklesway_ring.Tie as tie
 low : (c : tie.Else1) → ltb maxFloor (c .before .before .args .floor) ≡ false
 low c = sym (c .before .exceeds-floor .ensures) ∙ c .if1 .left
 
-exceeds-floor-requires : tie.Need-exceeds-floor-requires
-exceeds-floor-requires c κs = search needs
-
-barred-ring-requires : tie.Need-barred-ring-requires
-barred-ring-requires c κs = search needs
-
 returns : tie.Need-returns
 returns c =
     let args = c .before .before .before .args in
     ring-above (on (args .list .now) (args .floor)) (args .out .now)
     (sym (c .before .before .exceeds-floor .ensures) ∙ c .before .if1 .taken) (c .barred-ring .ensures)
-
-cast-ring : tie.Need-cast-ring
-cast-ring c = low-fits _ (low c)
-
-ring-requires : tie.Need-ring-requires
-ring-requires c κs = search needs
-
-of-answer-requires : tie.Need-of-answer-requires
-of-answer-requires c κs = search needs
-
-same-length : tie.Need-same-length
-same-length c = search needs
 
 returns-2 : tie.Need-returns-2
 returns-2 c =
@@ -47,5 +29,5 @@ returns-2 c =
 pub cocklesway-ring-spec : {M : Type 1} → statement M
 cocklesway-ring-spec =
     tie.close
-    (tie.spec exceeds-floor-requires barred-ring-requires returns cast-ring ring-requires of-answer-requires same-length
-    returns-2)
+    (tie.spec (λ c κs. search needs) (λ c κs. search needs) returns
+    (λ c. low-fits _ (low c)) (λ c κs. search needs) (λ c κs. search needs) (λ c. search needs) returns-2)

@@ -13,32 +13,10 @@ use Rattle.calls.proofs.shapes.cocklesway_sweep.Tie as tie
 low : (c : tie.Else1) → ltb maxFloor (c .before .before .args .floor) ≡ false
 low c = sym (c .before .exceeds-floor .ensures) ∙ c .if1 .left
 
-exceeds-floor-requires : tie.Need-exceeds-floor-requires
-exceeds-floor-requires c κs = search needs
-
-barred-points-requires : tie.Need-barred-points-requires
-barred-points-requires c κs = search needs
-
-returns : tie.Need-returns
-returns c = above _ (sym (c .before .before .exceeds-floor .ensures) ∙ c .before .if1 .taken) (c .barred-points .ensures)
-
-cast-sweep : tie.Need-cast-sweep
-cast-sweep c = low-fits _ (low c)
-
-sweep-requires : tie.Need-sweep-requires
-sweep-requires c κs = search needs
-
-of-answer-requires : tie.Need-of-answer-requires
-of-answer-requires c κs = search needs
-
-same-length : tie.Need-same-length
-same-length c = search needs
-
-returns-2 : tie.Need-returns-2
-returns-2 c = within-written _ (low (c .before .before .before .before)) (c .of-answer .ensures) (c .before .before .sweep .ensures)
-
 pub cocklesway-sweep-spec : {M : Type 1} → statement M
 cocklesway-sweep-spec =
     tie.close
-    (tie.spec exceeds-floor-requires barred-points-requires returns cast-sweep sweep-requires of-answer-requires same-length
-    returns-2)
+    (tie.spec (λ c κs. search needs) (λ c κs. search needs)
+    (λ c. above _ (sym (c .before .before .exceeds-floor .ensures) ∙ c .before .if1 .taken) (c .barred-points .ensures))
+    (λ c. low-fits _ (low c)) (λ c κs. search needs) (λ c κs. search needs) (λ c. search needs)
+    (λ c. within-written _ (low (c .before .before .before .before)) (c .of-answer .ensures) (c .before .before .sweep .ensures)))

@@ -13,27 +13,10 @@ use Rattle.calls.proofs.shapes.cocklesway_width.Tie as tie
 low : (c : tie.Else1) → ltb maxFloor (c .before .before .args .floor) ≡ false
 low c = sym (c .before .exceeds-floor .ensures) ∙ c .if1 .left
 
-exceeds-floor-requires : tie.Need-exceeds-floor-requires
-exceeds-floor-requires c κs = search needs
-
-barred-requires : tie.Need-barred-requires
-barred-requires c κs = search needs
-
-returns : tie.Need-returns
-returns c = above _ (sym (c .before .before .exceeds-floor .ensures) ∙ c .before .if1 .taken) (c .barred .ensures) .0
-
-cast-width : tie.Need-cast-width
-cast-width c = low-fits _ (low c)
-
-width-requires : tie.Need-width-requires
-width-requires c κs = search needs
-
-of-width-requires : tie.Need-of-width-requires
-of-width-requires c κs = search needs
-
-returns-2 : tie.Need-returns-2
-returns-2 c = within-told _ (low (c .before .before)) (c .of-width .ensures) (c .before .width .ensures)
-
 pub cocklesway-width-spec : {M : Type 1} → statement M
 cocklesway-width-spec =
-    tie.close (tie.spec exceeds-floor-requires barred-requires returns cast-width width-requires of-width-requires returns-2)
+    tie.close
+    (tie.spec (λ c κs. search needs) (λ c κs. search needs)
+    (λ c. above _ (sym (c .before .before .exceeds-floor .ensures) ∙ c .before .if1 .taken) (c .barred .ensures) .0)
+    (λ c. low-fits _ (low c)) (λ c κs. search needs) (λ c κs. search needs)
+    (λ c. within-told _ (low (c .before .before)) (c .of-width .ensures) (c .before .width .ensures)))

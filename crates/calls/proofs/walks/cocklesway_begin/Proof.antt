@@ -13,31 +13,11 @@ use Rattle.calls.proofs.walks.cocklesway_begin.Tie as tie
 low : (c : tie.Else1) → (ltb maxFloor (c .before .before .args .f) ≡ false) × (ltb maxFloor (c .before .before .args .g) ≡ false)
 low c = both-low _ _ (sym (c .before .exceeds .ensures) ∙ c .if1 .left)
 
-exceeds-requires : tie.Need-exceeds-requires
-exceeds-requires c κs = search needs
-
-barred-pair-requires : tie.Need-barred-pair-requires
-barred-pair-requires c κs = search needs
-
-returns : tie.Need-returns
-returns c = above-pair _ refl (sym (c .before .before .exceeds .ensures) ∙ c .before .if1 .taken) (c .barred-pair .ensures) .0
-
-cast-begin : tie.Need-cast-begin
-cast-begin c = low-fits _ (low c .0)
-
-cast-begin-2 : tie.Need-cast-begin-2
-cast-begin-2 c = low-fits _ (low c .1)
-
-begin-requires : tie.Need-begin-requires
-begin-requires c κs = search needs
-
-of-begun-requires : tie.Need-of-begun-requires
-of-begun-requires c κs = search needs
-
-returns-2 : tie.Need-returns-2
-returns-2 c = within-told _ (low (c .before .before) .0) (c .of-begun .ensures) (c .before .begin .ensures)
-
 pub cocklesway-begin-spec : {M : Type 1} → statement M
 cocklesway-begin-spec =
     tie.close
-    (tie.spec exceeds-requires barred-pair-requires returns cast-begin cast-begin-2 begin-requires of-begun-requires returns-2)
+    (tie.spec (λ c κs. search needs) (λ c κs. search needs)
+    (λ c. above-pair _ refl (sym (c .before .before .exceeds .ensures) ∙ c .before .if1 .taken) (c .barred-pair .ensures) .0)
+    (λ c. low-fits _ (low c .0))
+    (λ c. low-fits _ (low c .1)) (λ c κs. search needs) (λ c κs. search needs)
+    (λ c. within-told _ (low (c .before .before) .0) (c .of-begun .ensures) (c .before .begin .ensures)))

@@ -13,35 +13,11 @@ use Rattle.calls.proofs.walks.cocklesway_part.Tie as tie
 low : (c : tie.Else1) → (ltb maxFloor (c .before .before .args .f) ≡ false) × (ltb maxFloor (c .before .before .args .g) ≡ false)
 low c = both-low _ _ (sym (c .before .exceeds .ensures) ∙ c .if1 .left)
 
-exceeds-requires : tie.Need-exceeds-requires
-exceeds-requires c κs = search needs
-
-barred-pair-requires : tie.Need-barred-pair-requires
-barred-pair-requires c κs = search needs
-
-returns : tie.Need-returns
-returns c = above-pair _ refl (sym (c .before .before .exceeds .ensures) ∙ c .before .if1 .taken) (c .barred-pair .ensures)
-
-cast-part : tie.Need-cast-part
-cast-part c = low-fits _ (low c .0)
-
-cast-part-2 : tie.Need-cast-part-2
-cast-part-2 c = low-fits _ (low c .1)
-
-part-requires : tie.Need-part-requires
-part-requires c κs = search needs
-
-of-part-requires : tie.Need-of-part-requires
-of-part-requires c κs = search needs
-
-same-length : tie.Need-same-length
-same-length c = search needs
-
-returns-2 : tie.Need-returns-2
-returns-2 c = within-written _ (low (c .before .before .before .before) .0) (c .of-part .ensures) (c .before .before .part .ensures)
-
 pub cocklesway-part-spec : {M : Type 1} → statement M
 cocklesway-part-spec =
     tie.close
-    (tie.spec exceeds-requires barred-pair-requires returns cast-part cast-part-2 part-requires of-part-requires same-length
-    returns-2)
+    (tie.spec (λ c κs. search needs) (λ c κs. search needs)
+    (λ c. above-pair _ refl (sym (c .before .before .exceeds .ensures) ∙ c .before .if1 .taken) (c .barred-pair .ensures))
+    (λ c. low-fits _ (low c .0))
+    (λ c. low-fits _ (low c .1)) (λ c κs. search needs) (λ c κs. search needs) (λ c. search needs)
+    (λ c. within-written _ (low (c .before .before .before .before) .0) (c .of-part .ensures) (c .before .before .part .ensures)))

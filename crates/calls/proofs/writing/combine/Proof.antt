@@ -15,10 +15,10 @@ use Rattle.plane.specs.Floor.{Floored, on, Shapes, twoShapes, rowsOf}
 use Rattle.plane.specs.Question.{Question, reply}
 use Rattle.plane.specs.theory.refusals.Asked.{none→admitted}
 use Rattle.endian.specs.Bytes.{words}
-use Rattle.reply.specs.Told.{crossed}
-use Rattle.crossing.specs.Passing.{Room, combined, asked}
+use Rattle.wire.specs.Told.{crossed}
+use Rattle.bytewise.specs.Passing.{Room, combined, asked}
 use Rattle.calls.specs.theory.Fits.{made-fits}
-use Rattle.crossing.specs.theory.Packed.{placed, narrow}
+use Rattle.bytewise.specs.theory.Packed.{placed, narrow}
 use Rattle.calls.specs.theory.Stored.{made-delivered, made-stored}
 use borrow.Author.Needs.{needs}
 use Rattle.calls.proofs.writing.combine.Statement.{statement}
@@ -77,20 +77,8 @@ delivered c =
     let d = made-delivered (shapes at-room) (shape at-room) (part at-room) (at-room .before .before .args .out .now) (room at-room) in
     (omega (arith, counted c, d .0), omega (arith, counted c, d .1))
 
-room-requires : tie.Need-room-requires
-room-requires c κs = search needs
-
-slice-relend-prefix-ask : tie.Need-slice-relend-prefix-ask
-slice-relend-prefix-ask c = search needs
-
 slice-aggregate-ask : tie.Need-slice-aggregate-ask
 slice-aggregate-ask c = sym (lent (c .before))
-
-ask-requires : tie.Need-ask-requires
-ask-requires c κs = search needs
-
-element-copy-out-encode : tie.Need-element-copy-out-encode
-element-copy-out-encode c = search needs
 
 mul-encode : tie.Need-mul-encode
 mul-encode c =
@@ -112,12 +100,6 @@ packed-reply-requires c κs =
     let at-room = at-ask .before .before in
     narrow _ (at-ask .ask .ensures .0) (made-fits (first at-room) (second at-room) (shape at-room) (part at-room))
 
-same-length : tie.Need-same-length
-same-length c = search needs
-
-same-length-2 : tie.Need-same-length-2
-same-length-2 c = search needs
-
 returns : tie.Need-returns
 returns c =
     let at-encode = c .before .before .before in
@@ -135,15 +117,5 @@ returns c =
 pub combine-spec : {M : Type 1} → statement M
 combine-spec =
     tie.close
-    (tie.spec
-    room-requires
-    slice-relend-prefix-ask
-    slice-aggregate-ask
-    ask-requires
-    element-copy-out-encode
-    mul-encode
-    encode-requires
-    packed-reply-requires
-    same-length
-    same-length-2
-    returns)
+    (tie.spec (λ c κs. search needs) (λ c. search needs) slice-aggregate-ask (λ c κs. search needs) (λ c. search needs) mul-encode
+    encode-requires packed-reply-requires (λ c. search needs) (λ c. search needs) returns)

@@ -11,9 +11,6 @@ use Rattle.clearance.specs.theory.Lowest.{face-lowest, face-turned}
 use Rattle.clearance.proofs.face.lowest.Statement.{statement}
 use Rattle.clearance.proofs.face.lowest.Tie as tie
 
-against-requires : tie.Need-against-requires
-against-requires c κs = search needs
-
 face-towards-requires : tie.Need-face-towards-requires
 face-towards-requires c κs =
     let start = c .before in
@@ -51,4 +48,4 @@ returns-2 c =
     face-lowest (pre .0 .shape) (pre .2) (first-is found) (last-is found) (c .if1 .left)
 
 pub lowest-spec : {M : Type 1} → statement M
-lowest-spec = tie.close (tie.spec against-requires face-towards-requires returns returns-2)
+lowest-spec = tie.close (tie.spec (λ c κs. search needs) face-towards-requires returns returns-2)

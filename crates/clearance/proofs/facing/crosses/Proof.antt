@@ -13,12 +13,6 @@ use Rattle.clearance.proofs.Tests.{and-taken, and-left}
 use Rattle.clearance.proofs.facing.crosses.Statement.{statement}
 use Rattle.clearance.proofs.facing.crosses.Tie as tie
 
-foot-inside-requires : tie.Need-foot-inside-requires
-foot-inside-requires c κs = search needs
-
-cross-requires : tie.Need-cross-requires
-cross-requires c κs = search needs
-
 side-is : (c : tie.After-cross) → let args = c .before .before .args in
     ltZ (toZ w64 (ofZ w64 (c .cross .result))) (pos 0) ≡ ltZ (cross (at (args .w)) (at (args .d))) (pos 0)
 side-is c = ap (λ (z : ℤ). ltZ z (pos 0)) (result-is w64 (c .cross .ok) (c .cross .ensures))
@@ -32,4 +26,4 @@ unfolding crosses
 returns-2 c = and-left _ (side-is (c .before)) (c .if1 .left)
 
 pub crosses-spec : {M : Type 1} → statement M
-crosses-spec = tie.close (tie.spec foot-inside-requires cross-requires returns returns-2)
+crosses-spec = tie.close (tie.spec (λ c κs. search needs) (λ c κs. search needs) returns returns-2)

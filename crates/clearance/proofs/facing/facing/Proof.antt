@@ -13,11 +13,8 @@ use Rattle.clearance.specs.Stop.{Stopped, at-first}
 use Rattle.clearance.proofs.facing.facing.Statement.{statement}
 use Rattle.clearance.proofs.facing.facing.Tie as tie
 
-pass-requires : tie.Need-pass-requires
-pass-requires c κs = let pre = c .pre in (pre .0, pre .1, pre .2)
-
 look-requires : tie.Need-look-requires
-look-requires c κs = let pre = c .before .pre in (pre .0, pre .1, pre .2, c .pass .ensures .1, pre .3)
+look-requires c κs = c .pre
 
 returns : tie.Need-returns
 returns c = let near = c .before .look .ensures in (near .0, near .1 .found-is (c .if1 .taken))
@@ -28,15 +25,15 @@ below c = on-below _ _ (image-begun _ _ (c .pre .0) (c .pre .1)) 0 zero-le refl
 
 look-requires-2 : tie.Need-look-requires-2
 look-requires-2 c κs =
-    let start = c .before .before .before in
+    let start = c .before .before in
     let pre = start .pre in
-    (pre .0, pre .1, pre .2, record { count = 0; below = below start; moved = refl }, pre .3)
+    (pre .0, pre .1, pre .2, record { count = 0; below = below start; moved = refl }, pre .4)
 
 returns-2 : tie.Need-returns-2
 returns-2 c = (c .look2 .ensures .0, go (c .look2 .result .found) refl)
   where
     start : tie.Start
-    start = c .before .before .before .before
+    start = c .before .before .before
 
     go : (b : Bool) → c .look2 .result .found ≡ b
         → Stopped (vectorSum (points (start .args .a .now)) (points (image (start .args .b .now)))) (at (c .look2 .result .n))
@@ -46,4 +43,4 @@ returns-2 c = (c .look2 .ensures .0, go (c .look2 .result .found) refl)
         at-first (λ k h. nowhere .no-corner k zero-le h) (λ k h. nowhere .no-edge k zero-le h) (nowhere .first-is)
 
 pub facing-spec : {M : Type 1} → statement M
-facing-spec = tie.close (tie.spec pass-requires look-requires returns look-requires-2 returns-2)
+facing-spec = tie.close (tie.spec look-requires returns look-requires-2 returns-2)

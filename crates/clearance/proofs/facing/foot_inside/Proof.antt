@@ -11,15 +11,6 @@ use Rattle.clearance.proofs.Tests.{and-taken, and-left}
 use Rattle.clearance.proofs.facing.foot_inside.Statement.{statement}
 use Rattle.clearance.proofs.facing.foot_inside.Tie as tie
 
-dot-requires : tie.Need-dot-requires
-dot-requires c κs = search needs
-
-dot-requires-2 : tie.Need-dot-requires-2
-dot-requires-2 c κs = search needs
-
-dot-requires-3 : tie.Need-dot-requires-3
-dot-requires-3 c κs = search needs
-
 one-is : (c : tie.After-dot3) → let args = c .before .before .before .args in
     ltZ (toZ w64 (ofZ w64 (c .before .before .dot .result))) (toZ w64 (ofZ w64 (c .before .dot2 .result)))
     ≡ ltZ (value (at (args .w)) (at (args .d))) (value (at (args .w)) (at (args .w)))
@@ -40,4 +31,4 @@ returns-2 : tie.Need-returns-2
 returns-2 c = and-left _ (one-is (c .before)) (c .if1 .left)
 
 pub foot-inside-spec : {M : Type 1} → statement M
-foot-inside-spec = tie.close (tie.spec dot-requires dot-requires-2 dot-requires-3 returns returns-2)
+foot-inside-spec = tie.close (tie.spec (λ c κs. search needs) (λ c κs. search needs) (λ c κs. search needs) returns returns-2)

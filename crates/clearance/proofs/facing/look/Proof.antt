@@ -10,8 +10,6 @@ use Rattle.integer.specs.Bound.{within-add, within-neg}
 use Rattle.integer.specs.Machine.{result-is}
 use Rattle.plane.specs.Point.{points, corner}
 use Rattle.plane.specs.Forms.{edges}
-use Rattle.plane.specs.theory.lists.Flat.{points-length}
-use Rattle.plane.specs.theory.sum.Positions.{edges-at-most}
 use Rattle.plane.specs.VectorSum.{vectorSum}
 use Rattle.polygon.specs.Point.{at, Small}
 use Rattle.polygon.specs.theory.Small.{small-wide}
@@ -23,8 +21,7 @@ use Rattle.calipers.specs.theory.Carry.{all-passed, some-left, sides-walk, side
 use Rattle.calipers.specs.theory.Carry.{here-near, first-next, corners-fit, edges-fit}
 use Rattle.calipers.specs.theory.Standing.{passed-ended, edges-less}
 use Rattle.calipers.specs.theory.Steps.{at-stepped}
-use Rattle.calipers.specs.theory.Image.{image-count}
-use Rattle.separation.specs.theory.Image.{image-begun}
+use Rattle.separation.specs.theory.Image.{image-begun, image-few, image-sides}
 use Rattle.separation.specs.theory.Stops.{corner-here}
 use Rattle.clearance.specs.Stop.{rests, crosses, Stopped}
 use Rattle.clearance.specs.Sight.{Nowhere}
@@ -57,20 +54,15 @@ side-at-requires c κs = (placed c .standing .left-in, c .pre .0 .inRange, c .pr
 side-at-requires-2 : tie.Need-side-at-requires-2 Inv-loop μ-loop
 side-at-requires-2 c κs = let pre = c .before .pre in (pre .1, pre .2, placed (c .before) .standing .right-in)
 
--- all edges of both
-all : (c : tie.After-struct-known2 Inv-loop μ-loop) → let second = c .before .before in
-    let args = second .before .before .args in
-    second .before .side-at .result .end + second .side-at2 .result .end
-    ≡ length (edges (points (args .a .now))) + length (edges (points (image (args .b .now))))
-all c = let second = c .before .before in omega (arith, second .before .side-at .ensures .1 .end-is, second .side-at2 .ensures .1 .end-is)
-
 add-all : tie.Need-add-all Inv-loop μ-loop
 add-all c =
-    let start = c .before .before .before .before in
-    let few = edges-at-most (points (start .args .a .now)) in
-    let too = edges-at-most (points (image (start .args .b .now))) in
-    let count = image-count (start .args .b .now) (start .pre .1) in
-    omega (arith, all c, points-length (start .args .a .now), points-length (start .args .b .now))
+    let second = c .before .before in
+    let start = second .before .before in
+    omega (
+      arith,
+      image-sides (second .before .side-at .ensures .1) (second .side-at2 .ensures .1),
+      image-few _ _ (start .pre .0) (start .pre .1),
+    )
 
 begins : (c : tie.After-struct-known2 Inv-loop μ-loop) → let second = c .before .before in
     let args = second .before .before .args in
@@ -250,10 +242,7 @@ add-if3 c =
     let begin = start (at-next .before .before .before) in
     let first = at-next .before .next .ensures .1 .at-in in
     let second = at-next .next2 .ensures .1 .at-in in
-    let few = edges-at-most (points (begin .args .a .now)) in
-    let too = edges-at-most (points (image (begin .args .b .now))) in
-    let count = image-count (begin .args .b .now) (begin .pre .1) in
-    omega (arith, points-length (begin .args .a .now), points-length (begin .args .b .now))
+    omega (arith, image-few _ _ (begin .pre .0) (begin .pre .1))
 
 -- neither place at hand passes
 fails : (c : tie.After-struct-known4 Inv-loop μ-loop) → let at-here = c .before .before .before .before .before .before in
@@ -278,7 +267,8 @@ returns-3 c =
     let at-first = at-loop .before in
     let is = c .seen3 .ensures in
     let over = all-passed _ _ _ _ (at-next .before .next .ensures .1 .at-in) (at-next .next2 .ensures .1 .at-in)
-    (c .before .if3 .taken ∙ all (at-first .before)) in (
+    (c .before .if3 .taken ∙ image-sides (at-first .before .before .before .before .side-at .ensures .1)
+    (at-first .before .before .before .side-at2 .ensures .1)) in (
       subst (Small 4194304) (sym (is .1)) (small-wide (here-near (placed (start at-loop)) (first-here at-first))),
       record {
         found-is = λ h. absurd (false≢true (sym (is .0) ∙ h));
@@ -299,7 +289,8 @@ loop-less c =
     let F = edges (points (image (args .b .now))) in
     edges-less E F _ _ (first-step at-next) (second-step at-next) (λ h k. c .if3 .left (omega (
       arith,
-      all (at-loop .before .before),
+      image-sides (at-loop .before .before .before .before .before .side-at .ensures .1)
+          (at-loop .before .before .before .before .side-at2 .ensures .1),
       first-step at-next ∙ passed-ended E _ F _ h,
       second-step at-next ∙ passed-ended F _ E _ k,
       inv .1 .at-in,
@@ -314,7 +305,8 @@ loop-again c =
     let at-loop = at-next .before .before .before in
     let args = start at-loop .args in
     let on = some-left _ _ (at-next .before .next .result .at) (at-next .next2 .result .at)
-    (λ e. c .if3 .left (e ∙ sym (all (at-loop .before .before)))) in (
+    (λ e. c .if3 .left (e ∙ sym (image-sides (at-loop .before .before .before .before .before .side-at .ensures .1)
+    (at-loop .before .before .before .before .side-at2 .ensures .1)))) in (
       λ k below moved. subst (λ (o : Bool). Looking (args .a .now) (image (args .b .now)) k
           (walkOf (at-next .before .next .result) (at-next .next2 .result) o) (at (at-here .before .here2 .result))) on
           (looking-more (at-loop .loop .inv .0 k below moved) refl (advances at-next) (leaves at-here) (arrives at-here _)

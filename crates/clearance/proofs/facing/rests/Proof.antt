@@ -12,15 +12,6 @@ use Rattle.clearance.proofs.Tests.{and-taken, and-left}
 use Rattle.clearance.proofs.facing.rests.Statement.{statement}
 use Rattle.clearance.proofs.facing.rests.Tie as tie
 
-dot-requires : tie.Need-dot-requires
-dot-requires c κs = search needs
-
-dot-requires-2 : tie.Need-dot-requires-2
-dot-requires-2 c κs = search needs
-
-dot-requires-3 : tie.Need-dot-requires-3
-dot-requires-3 c κs = search needs
-
 one-is : (c : tie.After-dot3) → let args = c .before .before .before .args in
     leZ (toZ w64 (ofZ w64 (c .before .before .dot .result))) (toZ w64 (ofZ w64 (c .before .dot2 .result)))
     ≡ leZ (value (at (args .w)) (at (args .w))) (value (at (args .w)) (at (args .p)))
@@ -43,4 +34,4 @@ unfolding rests
 returns-2 c = and-left _ (one-is (c .before)) (c .if1 .left)
 
 pub rests-spec : {M : Type 1} → statement M
-rests-spec = tie.close (tie.spec dot-requires dot-requires-2 dot-requires-3 returns returns-2)
+rests-spec = tie.close (tie.spec (λ c κs. search needs) (λ c κs. search needs) (λ c κs. search needs) returns returns-2)

@@ -24,18 +24,6 @@ use Rattle.measure.specs.theory.Rounded.{rounded-unique}
 use Rattle.clearance.proofs.measured.across.Statement.{statement}
 use Rattle.clearance.proofs.measured.across.Tie as tie
 
-corner-at-requires : tie.Need-corner-at-requires
-corner-at-requires c κs = search needs
-
-count-requires : tie.Need-count-requires
-count-requires c κs = search needs
-
-next-requires : tie.Need-next-requires
-next-requires c κs = search needs
-
-corner-at-requires-2 : tie.Need-corner-at-requires-2
-corner-at-requires-2 c κs = search needs
-
 -- where the edge ends
 end-is : (c : tie.After-corner-at2) → let start = c .before .before .before .before in let B = points (start .args .b .now) in
     at (c .corner-at2 .result) ≡ corner B (next (length B) (start .args .e))
@@ -53,9 +41,6 @@ step-requires c κs =
       small-corner _ (pre .3) _ (pre .1) (first .corner-at .ensures),
       small-corner _ (pre .3) _ (omega (arith, at-next .next .ensures .1, at-next .before .count .ensures)) (c .corner-at2 .ensures),
     )
-
-corner-at-requires-3 : tie.Need-corner-at-requires-3
-corner-at-requires-3 c κs = search needs
 
 step-requires-2 : tie.Need-step-requires-2
 step-requires-2 c κs =
@@ -141,5 +126,6 @@ returns c =
 pub across-spec : {M : Type 1} → statement M
 across-spec =
     tie.close
-    (tie.spec corner-at-requires count-requires next-requires corner-at-requires-2 step-requires corner-at-requires-3 step-requires-2
-    cross-requires size-requires squared-requires magnitude-requires root-of-fraction-requires returns)
+    (tie.spec (λ c κs. search needs) (λ c κs. search needs) (λ c κs. search needs) (λ c κs. search needs) step-requires
+    (λ c κs. search needs) step-requires-2 cross-requires size-requires squared-requires magnitude-requires root-of-fraction-requires
+    returns)

@@ -17,12 +17,6 @@ use Rattle.measure.specs.theory.Rounded.{rounded-unique, root-square-over}
 use Rattle.clearance.proofs.measured.between.Statement.{statement}
 use Rattle.clearance.proofs.measured.between.Tie as tie
 
-corner-at-requires : tie.Need-corner-at-requires
-corner-at-requires c κs = search needs
-
-corner-at-requires-2 : tie.Need-corner-at-requires-2
-corner-at-requires-2 c κs = search needs
-
 squared-requires : tie.Need-squared-requires
 squared-requires c κs =
     let pre = c .before .before .pre in
@@ -60,4 +54,4 @@ returns c =
 pub between-spec : {M : Type 1} → statement M
 between-spec =
     tie.close
-    (tie.spec corner-at-requires corner-at-requires-2 squared-requires magnitude-requires root-of-fraction-requires returns)
+    (tie.spec (λ c κs. search needs) (λ c κs. search needs) squared-requires magnitude-requires root-of-fraction-requires returns)

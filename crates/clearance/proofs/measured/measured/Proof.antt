@@ -16,9 +16,6 @@ told : {t q : ℤ} {r : Height} → HasSize t q r → pos (r .turn) ∷ pos (r .
 told {t} {q} {r} h = ap₂ (λ (x y : ℤ). x ∷ y ∷ pos (r .rounded) ∷ []) (ap pos (h .turn-is)) (h .squared-is)
     ∙ ap (λ (z : ℤ). pos (natAbs t) ∷ q ∷ z ∷ []) (ap pos (h .rounded-is))
 
-enum-known-pair : tie.Need-enum-known-pair
-enum-known-pair c = search needs
-
 between-requires : tie.Need-between-requires
 between-requires c κs =
     let start = c .before .before .before in
@@ -26,18 +23,12 @@ between-requires c κs =
     (c .before .pair .given .1) (start .pre .2) in
     (m .0, m .1, start .pre .0, start .pre .1, m .2)
 
-enum-known-pair-2 : tie.Need-enum-known-pair-2
-enum-known-pair-2 c = search needs
-
 across-requires : tie.Need-across-requires
 across-requires c κs =
     let start = c .before .before .before in
     let m = subst (λ (p : Pair). Measurable (points (start .args .a .now)) (points (start .args .b .now)) (candidateOf p))
     (c .before .pair2 .given .1) (start .pre .2) in
     (m .0, m .1, start .pre .0, start .pre .1, m .2)
-
-enum-known-pair-3 : tie.Need-enum-known-pair-3
-enum-known-pair-3 c = search needs
 
 across-requires-2 : tie.Need-across-requires-2
 across-requires-2 c κs =
@@ -69,5 +60,5 @@ returns-3 c =
 pub measured-spec : {M : Type 1} → statement M
 measured-spec =
     tie.close
-    (tie.spec enum-known-pair between-requires enum-known-pair-2 across-requires enum-known-pair-3 across-requires-2 returns returns-2
-    returns-3)
+    (tie.spec (λ c. search needs) between-requires (λ c. search needs) across-requires (λ c. search needs) across-requires-2 returns
+    returns-2 returns-3)

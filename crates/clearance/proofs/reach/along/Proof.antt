@@ -15,12 +15,6 @@ use Rattle.clearance.proofs.Tests.{and-taken, and-left}
 use Rattle.clearance.proofs.reach.along.Statement.{statement}
 use Rattle.clearance.proofs.reach.along.Tie as tie
 
-corner-at-requires : tie.Need-corner-at-requires
-corner-at-requires c κs = search needs
-
-corner-at-requires-2 : tie.Need-corner-at-requires-2
-corner-at-requires-2 c κs = search needs
-
 step-requires : tie.Need-step-requires
 step-requires c κs =
     let pre = c .before .before .pre in
@@ -51,6 +45,4 @@ unfolding isAlong
 returns-2 c = and-left _ (ap (leZ (pos 0)) (beside-is (c .before))) (c .if1 .left)
 
 pub along-spec : {M : Type 1} → statement M
-along-spec =
-    tie.close
-    (tie.spec corner-at-requires corner-at-requires-2 step-requires cross-requires returns returns-2)
+along-spec = tie.close (tie.spec (λ c κs. search needs) (λ c κs. search needs) step-requires cross-requires returns returns-2)

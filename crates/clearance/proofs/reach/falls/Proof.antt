@@ -15,19 +15,10 @@ use Rattle.clearance.proofs.Tests.{and-taken, and-left}
 use Rattle.clearance.proofs.reach.falls.Statement.{statement}
 use Rattle.clearance.proofs.reach.falls.Tie as tie
 
-step-requires : tie.Need-step-requires
-step-requires c κs = search needs
-
-step-requires-2 : tie.Need-step-requires-2
-step-requires-2 c κs = search needs
-
 dot-requires : tie.Need-dot-requires
 dot-requires c κs =
     let pre = c .before .before .pre in
     (small-step (pre .0) (pre .1) (c .before .step .ensures), small-step (pre .0) (pre .2) (c .step2 .ensures))
-
-squared-requires : tie.Need-squared-requires
-squared-requires c κs = search needs
 
 way-is : (c : tie.After-dot) → let args = c .before .before .before .args in
     toZ w64 (ofZ w64 (c .dot .result)) ≡ value (at (args .q) ⊖ at (args .p)) (at (args .c) ⊖ at (args .p))
@@ -46,6 +37,4 @@ unfolding falls
 returns-2 c = and-left _ (ap (ltZ (pos 0)) (way-is (c .before .before))) (c .if1 .left)
 
 pub falls-spec : {M : Type 1} → statement M
-falls-spec =
-    tie.close
-    (tie.spec step-requires step-requires-2 dot-requires squared-requires returns returns-2)
+falls-spec = tie.close (tie.spec (λ c κs. search needs) (λ c κs. search needs) dot-requires (λ c κs. search needs) returns returns-2)

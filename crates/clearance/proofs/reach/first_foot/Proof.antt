@@ -6,21 +6,6 @@ use Rattle.clearance.proofs.Tests.{four}
 use Rattle.clearance.proofs.reach.first_foot.Statement.{statement}
 use Rattle.clearance.proofs.reach.first_foot.Tie as tie
 
-foot-requires : tie.Need-foot-requires
-foot-requires c κs = search needs
-
-foot-requires-2 : tie.Need-foot-requires-2
-foot-requires-2 c κs = search needs
-
-foot-requires-3 : tie.Need-foot-requires-3
-foot-requires-3 c κs = search needs
-
-foot-requires-4 : tie.Need-foot-requires-4
-foot-requires-4 c κs = search needs
-
-picked-requires : tie.Need-picked-requires
-picked-requires c κs = search needs
-
 returns : tie.Need-returns
 returns c =
     let fourth = c .before in
@@ -34,4 +19,4 @@ returns c =
 pub first-foot-spec : {M : Type 1} → statement M
 first-foot-spec =
     tie.close
-    (tie.spec foot-requires foot-requires-2 foot-requires-3 foot-requires-4 picked-requires returns)
+    (tie.spec (λ c κs. search needs) (λ c κs. search needs) (λ c κs. search needs) (λ c κs. search needs) (λ c κs. search needs) returns)

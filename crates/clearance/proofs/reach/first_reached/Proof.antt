@@ -19,9 +19,6 @@ some c = facing-some (c .pre .0 .shape .some) (c .pre .1 .shape .some) (c .pre .
 near-requires : tie.Need-near-requires
 near-requires c κs = (c .pre .0, c .pre .2, some c, c .pre .4)
 
-against-requires : tie.Need-against-requires
-against-requires c κs = search needs
-
 near-requires-2 : tie.Need-near-requires-2
 near-requires-2 c κs =
     let start = c .before .before in
@@ -67,18 +64,12 @@ along-found c e =
     subst (Tried test (c .before .before .before .near .result) (c .before .near2 .result)) (sym (c .first-along .ensures) ∙ e)
     (tried-is test _ _ (first-face (c .before) .ordered) (second-face (c .before) .ordered))
 
-enum-known-one : tie.Need-enum-known-one
-enum-known-one c = search needs
-
 returns : tie.Need-returns
 returns c =
     let at-along = c .before .before .before in
     let start = at-along .before .before .before .before in
     sym (corners-first _ _ _ (start .pre .0 .shape) (start .pre .1 .shape) (start .pre .3) (first-face (at-along .before))
     (second-face (at-along .before)) (along-found at-along (c .before .one .given .1)))
-
-enum-told : tie.Need-enum-told
-enum-told c = search needs
 
 first-foot-requires : tie.Need-first-foot-requires
 first-foot-requires c κs = ends (c .before .before .before)
@@ -96,9 +87,6 @@ second-found c e =
     subst (Tried test (at-face .before .before .near .result) g) (sym (c .first-foot .ensures) ∙ e)
     (tried-is test _ _ (first-face at-face .ordered) (second-face at-face .ordered))
 
-enum-known-one-2 : tie.Need-enum-known-one-2
-enum-known-one-2 c = search needs
-
 returns-2 : tie.Need-returns-2
 returns-2 c =
     let at-foot = c .before .before .before in
@@ -107,9 +95,6 @@ returns-2 c =
     let start = at-along .before .before .before .before in
     sym (second-first _ _ _ (start .pre .0 .shape) (start .pre .1 .shape) (start .pre .3) (first-face (at-along .before))
     (second-face (at-along .before)) (along-found at-along (none .enum-told .given .1)) (second-found at-foot (c .before .one2 .given .1)))
-
-enum-told-2 : tie.Need-enum-told-2
-enum-told-2 c = search needs
 
 first-foot-requires-2 : tie.Need-first-foot-requires-2
 first-foot-requires-2 c κs = let both = ends (c .before .before .before .before .before .before) in (both .1, both .0)
@@ -127,12 +112,6 @@ first-found c e =
     let test = isFoot f (points (args .b .now)) (points (args .a .now)) in
     subst (Tried test (at-face .near2 .result) f) (sym (c .first-foot2 .ensures) ∙ e)
     (tried-is test _ _ (second-face at-face .ordered) (first-face at-face .ordered))
-
-enum-known-one-3 : tie.Need-enum-known-one-3
-enum-known-one-3 c = search needs
-
-enum-told-3 : tie.Need-enum-told-3
-enum-told-3 c = search needs
 
 returns-3 : tie.Need-returns-3
 returns-3 c =
@@ -163,6 +142,6 @@ returns-4 c =
 pub first-reached-spec : {M : Type 1} → statement M
 first-reached-spec =
     tie.close
-    (tie.spec near-requires against-requires near-requires-2 first-along-requires enum-known-one returns enum-told
-    first-foot-requires enum-known-one-2 returns-2 enum-told-2 first-foot-requires-2 enum-known-one-3 enum-told-3 returns-3
-    returns-4)
+    (tie.spec near-requires (λ c κs. search needs) near-requires-2 first-along-requires (λ c. search needs) returns (λ c. search needs)
+    first-foot-requires (λ c. search needs) returns-2 (λ c. search needs) first-foot-requires-2 (λ c. search needs) (λ c. search needs)
+    returns-3 returns-4)

@@ -16,15 +16,6 @@ use Rattle.clearance.proofs.Tests.{and-taken}
 use Rattle.clearance.proofs.reach.foot.Statement.{statement}
 use Rattle.clearance.proofs.reach.foot.Tie as tie
 
-count-requires : tie.Need-count-requires
-count-requires c κs = search needs
-
-next-requires : tie.Need-next-requires
-next-requires c κs = search needs
-
-holds-requires : tie.Need-holds-requires
-holds-requires c κs = search needs
-
 -- the other end
 end-is : (c : tie.After-next) → let start = c .before .before in
     c .next .result ≡ next (length (points (start .args .b .now))) (start .args .e)
@@ -41,15 +32,6 @@ returns c =
     sym (ap
     (λ (b : Bool). b && fallsOn (points (start .args .b .now)) (start .args .e) (corner (points (start .args .a .now)) (start .args .c)))
     (sym (held-is (c .before)) ∙ not-true _ (c .if1 .taken)))
-
-corner-at-requires : tie.Need-corner-at-requires
-corner-at-requires c κs = search needs
-
-corner-at-requires-2 : tie.Need-corner-at-requires-2
-corner-at-requires-2 c κs = search needs
-
-corner-at-requires-3 : tie.Need-corner-at-requires-3
-corner-at-requires-3 c κs = search needs
 
 falls-requires : tie.Need-falls-requires
 falls-requires c κs =
@@ -78,5 +60,5 @@ returns-2 c =
 pub foot-spec : {M : Type 1} → statement M
 foot-spec =
     tie.close
-    (tie.spec count-requires next-requires holds-requires returns corner-at-requires corner-at-requires-2 corner-at-requires-3
-    falls-requires returns-2)
+    (tie.spec (λ c κs. search needs) (λ c κs. search needs) (λ c κs. search needs) returns (λ c κs. search needs) (λ c κs. search needs)
+    (λ c κs. search needs) falls-requires returns-2)

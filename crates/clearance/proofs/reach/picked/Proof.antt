@@ -15,8 +15,5 @@ returns-3 c = rw (c .before .before .if1 .left, c .before .if2 .left, c .if3 .ta
 returns-4 : tie.Need-returns-4
 returns-4 c = rw (c .before .before .before .if1 .left, c .before .before .if2 .left, c .before .if3 .left, c .if4 .taken)
 
-returns-5 : tie.Need-returns-5
-returns-5 c = search needs
-
 pub picked-spec : {M : Type 1} → statement M
-picked-spec = tie.close (tie.spec returns returns-2 returns-3 returns-4 returns-5)
+picked-spec = tie.close (tie.spec returns returns-2 returns-3 returns-4 (λ c. search needs))

@@ -10,31 +10,30 @@ use Rattle.integer.specs.Bound.{Within}
 use Rattle.integer.specs.Machine.{result-is}
 use Rattle.plane.specs.Point.{points}
 use Rattle.plane.specs.Measure.{squared}
+use Rattle.plane.specs.Separation.{apart}
 use Rattle.plane.specs.theory.forms.Squared.{squared-nonneg}
 use Rattle.polygon.specs.Point.{at}
-use Rattle.contact.specs.Contact.{OnWay, lowest, contact}
-use Rattle.contact.specs.Share.{fraction}
-use Rattle.contact.specs.theory.Meeting.{first-on-way}
-use Rattle.contact.specs.theory.Edges.{walls-on-way, walls-first}
+use Rattle.motion.specs.Contact.{OnWay, lowest, contact}
+use Rattle.contact.specs.Share.{fraction, exceed}
+use Rattle.motion.specs.theory.Meeting.{first-on-way}
 use Rattle.contact.specs.theory.Sides.{small-place}
 use Rattle.contact.specs.theory.Told.{whole-words, length-bounded, never-told, at-told}
 use Rattle.contact.proofs.drive.first_of.Statement.{statement}
 use Rattle.contact.proofs.drive.first_of.Tie as tie
 
-is-apart-requires : tie.Need-is-apart-requires
-is-apart-requires c κs = search needs
+exceed-requires : tie.Need-exceed-requires
+exceed-requires c κs = whole-words _ _ (c .arrivals .ensures .on-way) .0
+
+-- the way is apart as the test says
+apart-is : (c : tie.After-exceed) → let args = c .before .before .args in
+    apart (at (args .t) ∷ at (args .u) ∷ []) (points (args .list .now)) ≡ c .exceed .result
+apart-is c = c .before .arrivals .ensures .apart-is ∙ sym (c .exceed .ensures)
 
 returns : tie.Need-returns
-returns c = never-told _ _ _ (sym (c .before .is-apart .ensures) ∙ c .if1 .taken)
-
-arrival-requires : tie.Need-arrival-requires
-arrival-requires c κs = search needs
+returns c = never-told _ _ _ (apart-is (c .before) ∙ c .if1 .taken)
 
 lowest-requires : tie.Need-lowest-requires
-lowest-requires c κs =
-    let start = c .before .before .before in
-    let way = walls-on-way (at (start .args .t)) (at (start .args .u)) (points (start .args .list .now)) (start .pre .0 .shape) in
-    whole-words _ _ (subst OnWay (sym (c .arrival .ensures)) way) .1
+lowest-requires c κs = whole-words _ _ (c .before .before .arrivals .ensures .on-way) .1
 
 squared-requires : tie.Need-squared-requires
 squared-requires c κs =
@@ -48,11 +47,8 @@ magnitude-requires c κs = rw (result-is w64 (c .squared .ok) (c .squared .ensur
 told : (c : tie.After-lowest) → let args = c .before .before .before .before .args in
     fraction (c .lowest .result) ≡ contact (at (args .t)) (at (args .u)) (points (args .list .now))
 told c =
-    let at-else = c .before .before in
-    let start = at-else .before .before in
-    c .lowest .ensures ∙ ap lowest (c .before .arrival .ensures)
-    ∙ walls-first (at (start .args .t)) (at (start .args .u)) (points (start .args .list .now)) (start .pre .0 .shape)
-    (sym (at-else .before .is-apart .ensures) ∙ at-else .if1 .left)
+    let at-else = c .before in
+    c .lowest .ensures ∙ at-else .before .before .arrivals .ensures .first-is (apart-is (at-else .before) ∙ at-else .if1 .left)
 
 length-is : (c : tie.After-magnitude) → let args = c .before .before .before .before .before .before .args in
     pos (c .magnitude .result) ≡ squared (at (args .t)) (at (args .u))
@@ -73,18 +69,11 @@ returns-2 c =
     let at-lowest = at-length .before .before in
     let f = at-lowest .lowest .result in
     ap (λ (w : ℕ). pos 1 ∷ pos (f .numerator) ∷ pos (f .denominator) ∷ pos w ∷ []) (c .millimetres .ensures)
-    ∙ at-told _ _ _ (sym (at-lowest .before .before .before .is-apart .ensures) ∙ at-lowest .before .before .if1 .left)
+    ∙ at-told _ _ _ (apart-is (at-lowest .before .before) ∙ at-lowest .before .if1 .left)
     (f .numerator) (f .denominator) (at-length .magnitude .result) (told at-lowest) (length-is at-length)
 
 pub first-of-spec : {M : Type 1} → statement M
 first-of-spec =
     tie.close
-    (tie.spec
-    is-apart-requires
-    returns
-    arrival-requires
-    lowest-requires
-    squared-requires
-    magnitude-requires
-    millimetres-requires
+    (tie.spec (λ c κs. search needs) exceed-requires returns lowest-requires squared-requires magnitude-requires millimetres-requires
     returns-2)

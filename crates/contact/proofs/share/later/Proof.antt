@@ -8,9 +8,6 @@ use Rattle.contact.proofs.share.later.Tie as tie
 returns : tie.Need-returns
 returns c = later-begun (c .before .before .args .f) (c .before .before .args .g) (c .if1 .taken)
 
-is-less-requires : tie.Need-is-less-requires
-is-less-requires c κs = search needs
-
 returns-2 : tie.Need-returns-2
 returns-2 c =
     let args = c .before .before .before .before .args in
@@ -22,4 +19,4 @@ returns-3 c =
     later-first (args .f) (args .g) (sym (c .before .is-less .ensures) ∙ c .if2 .left)
 
 pub later-spec : {M : Type 1} → statement M
-later-spec = tie.close (tie.spec returns is-less-requires returns-2 returns-3)
+later-spec = tie.close (tie.spec returns (λ c κs. search needs) returns-2 returns-3)

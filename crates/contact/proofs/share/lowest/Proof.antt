@@ -11,9 +11,6 @@ use Rattle.contact.specs.theory.Found.{lowest-words}
 use Rattle.contact.proofs.share.lowest.Statement.{statement}
 use Rattle.contact.proofs.share.lowest.Tie as tie
 
-divisor-requires : tie.Need-divisor-requires
-divisor-requires c κs = search needs
-
 positive : (c : tie.After-divisor) → 0 < c .divisor .result
 positive c =
     let f = c .before .args .f in
@@ -32,4 +29,4 @@ returns c =
     ∙ lowest-words (f .numerator) (f .denominator)
 
 pub lowest-spec : {M : Type 1} → statement M
-lowest-spec = tie.close (tie.spec divisor-requires div-t3 div-t4 returns)
+lowest-spec = tie.close (tie.spec (λ c κs. search needs) div-t3 div-t4 returns)

@@ -23,17 +23,8 @@ abbrev μ-loop : tie.MeasureT-loop
 loop-holds : tie.Need-loop-holds Inv-loop μ-loop
 loop-holds c = let p = c .pre in spanned-start _ _ _ (p .0) (p .1) (p .2)
 
-sub-middle : tie.Need-sub-middle Inv-loop μ-loop
-sub-middle c = search needs
-
-sub-middle-2 : tie.Need-sub-middle-2 Inv-loop μ-loop
-sub-middle-2 c = search needs
-
 mul-fraction-less : tie.Need-mul-fraction-less Inv-loop μ-loop
 mul-fraction-less c = square-fits _ (omega (arith, c .before .loop .inv .below))
-
-fraction-less-requires : tie.Need-fraction-less-requires Inv-loop μ-loop
-fraction-less-requires c κs = search needs
 
 sub-high : tie.Need-sub-high Inv-loop μ-loop
 sub-high c = omega arith
@@ -62,17 +53,5 @@ returns c =
 pub millimetres-spec : {M : Type 1} → statement M
 millimetres-spec =
     tie.close
-    (tie.spec
-    Inv-loop
-    μ-loop
-    loop-holds
-    sub-middle
-    sub-middle-2
-    mul-fraction-less
-    fraction-less-requires
-    sub-high
-    loop-less
-    loop-again
-    loop-less-2
-    loop-again-2
-    returns)
+    (tie.spec Inv-loop μ-loop loop-holds (λ c. search needs) (λ c. search needs) mul-fraction-less (λ c κs. search needs) sub-high loop-less
+    loop-again loop-less-2 loop-again-2 returns)

@@ -3,33 +3,9 @@ use borrow.Author.Needs.{needs}
 use mathlib.Core.Path.{_∙_, ap, ap₂}
 use lib.IntN.{pos}
 use Rattle.plane.specs.Distance.{over}
-use Rattle.contact.specs.Contact.{later}
+use Rattle.motion.specs.Contact.{later}
 use Rattle.contact.proofs.walls.box_arrival.Statement.{statement}
 use Rattle.contact.proofs.walls.box_arrival.Tie as tie
-
-side-entry-requires : tie.Need-side-entry-requires
-side-entry-requires c κs = search needs
-
-side-entry-requires-2 : tie.Need-side-entry-requires-2
-side-entry-requires-2 c κs = search needs
-
-side-entry-requires-3 : tie.Need-side-entry-requires-3
-side-entry-requires-3 c κs = search needs
-
-side-entry-requires-4 : tie.Need-side-entry-requires-4
-side-entry-requires-4 c κs = search needs
-
-later-requires : tie.Need-later-requires
-later-requires c κs = search needs
-
-later-requires-2 : tie.Need-later-requires-2
-later-requires-2 c κs = search needs
-
-later-requires-3 : tie.Need-later-requires-3
-later-requires-3 c κs = search needs
-
-later-requires-4 : tie.Need-later-requires-4
-later-requires-4 c κs = search needs
 
 returns : tie.Need-returns
 returns c =
@@ -43,13 +19,5 @@ returns c =
 pub box-arrival-spec : {M : Type 1} → statement M
 box-arrival-spec =
     tie.close
-    (tie.spec
-    side-entry-requires
-    side-entry-requires-2
-    side-entry-requires-3
-    side-entry-requires-4
-    later-requires
-    later-requires-2
-    later-requires-3
-    later-requires-4
-    returns)
+    (tie.spec (λ c κs. search needs) (λ c κs. search needs) (λ c κs. search needs) (λ c κs. search needs) (λ c κs. search needs)
+    (λ c κs. search needs) (λ c κs. search needs) (λ c κs. search needs) returns)

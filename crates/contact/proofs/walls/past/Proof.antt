@@ -9,12 +9,6 @@ use Rattle.contact.specs.theory.Sides.{past-cross}
 use Rattle.contact.proofs.walls.past.Statement.{statement}
 use Rattle.contact.proofs.walls.past.Tie as tie
 
-step-requires : tie.Need-step-requires
-step-requires c κs = search needs
-
-step-requires-2 : tie.Need-step-requires-2
-step-requires-2 c κs = search needs
-
 cross-requires : tie.Need-cross-requires
 cross-requires c κs =
     let pre = c .before .before .pre in
@@ -25,4 +19,4 @@ returns c = result-is w64 (c .cross .ok)
     (c .cross .ensures ∙ ap₂ cross (c .before .before .step .ensures) (c .before .step2 .ensures) ∙ past-cross _ _ _)
 
 pub past-spec : {M : Type 1} → statement M
-past-spec = tie.close (tie.spec step-requires step-requires-2 cross-requires returns)
+past-spec = tie.close (tie.spec (λ c κs. search needs) (λ c κs. search needs) cross-requires returns)

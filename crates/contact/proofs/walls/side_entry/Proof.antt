@@ -8,13 +8,10 @@ use Rattle.integer.specs.Machine.{machine, known, machine-fits, machine-is}
 use Rattle.plane.specs.Point.{points}
 use Rattle.polygon.specs.Point.{at}
 use Rattle.polygon.specs.theory.Small.{small-wide}
-use Rattle.contact.specs.Contact.{past, entering}
+use Rattle.motion.specs.Contact.{past, entering}
 use Rattle.contact.specs.theory.Sides.{small-place, small-side, side-value, side-support, side-past}
 use Rattle.contact.proofs.walls.side_entry.Statement.{statement}
 use Rattle.contact.proofs.walls.side_entry.Tie as tie
-
-reach-requires : tie.Need-reach-requires
-reach-requires c κs = search needs
 
 dot-requires : tie.Need-dot-requires
 dot-requires c κs = let pre = c .before .pre in (small-side (pre .1), small-wide (small-place (pre .2 .from-near)))
@@ -73,11 +70,4 @@ returns c = c .entering .ensures ∙ ap₂ entering (from-past (c .before .befor
 pub side-entry-spec : {M : Type 1} → statement M
 side-entry-spec =
     tie.close
-    (tie.spec
-    reach-requires
-    dot-requires
-    sub-entering
-    dot-requires-2
-    sub-entering-2
-    entering-requires
-    returns)
+    (tie.spec (λ c κs. search needs) dot-requires sub-entering dot-requires-2 sub-entering-2 entering-requires returns)

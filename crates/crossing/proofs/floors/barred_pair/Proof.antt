@@ -1,6 +1,6 @@
 -- `barred_pair` meets its contract: the first list is refused, or the second, or 13 is due.
 use mathlib.Core.Path.{_∙_, ap}
-use Rattle.reply.specs.Told.{crossed}
+use Rattle.wire.specs.Told.{crossed}
 use Rattle.crossing.specs.theory.High.{barred-refused, barred-shapes}
 use Rattle.plane.specs.Refusal.{shapeRows, Valid}
 use Rattle.plane.specs.theory.refusals.Accept.{valid→accepted}
@@ -16,33 +16,12 @@ first c = c .before .before .admit .ensures .valid (c .enum-told .given .1)
 second : (c : tie.After-enum-told2) → Valid (c .before .before .before .before .before .before .args .b .now)
 second c = c .before .before .admit2 .ensures .valid (c .enum-told2 .given .1)
 
-admit-requires : tie.Need-admit-requires
-admit-requires c κs = search needs
-
-enum-known-first : tie.Need-enum-known-first
-enum-known-first c = search needs
-
-of-refusal-requires : tie.Need-of-refusal-requires
-of-refusal-requires c κs = search needs
-
 returns : tie.Need-returns
 returns c =
     let judged = c .before .before .before .before .admit .ensures in
     let start = c .before .before .before .before .before in
     c .of-refusal .ensures
     ∙ ap crossed (barred-refused (refuses-append (shapeRows 2 (start .args .b .now)) (judged .no _ (c .before .before .first .given .1))))
-
-enum-told : tie.Need-enum-told
-enum-told c = search needs
-
-admit-requires-2 : tie.Need-admit-requires-2
-admit-requires-2 c κs = search needs
-
-enum-known-second : tie.Need-enum-known-second
-enum-known-second c = search needs
-
-of-refusal-requires-2 : tie.Need-of-refusal-requires-2
-of-refusal-requires-2 c κs = search needs
 
 returns-2 : tie.Need-returns-2
 returns-2 c =
@@ -52,12 +31,6 @@ returns-2 c =
     ∙ ap crossed (barred-refused (refuses-join (shapeRows 1 (start .args .a .now)) (valid→accepted _ 1 (first (at-second .before)))
     (at-second .admit2 .ensures .no _ (c .before .before .second .given .1))))
 
-enum-told-2 : tie.Need-enum-told-2
-enum-told-2 c = search needs
-
-of-refusal-requires-3 : tie.Need-of-refusal-requires-3
-of-refusal-requires-3 c κs = search needs
-
 returns-3 : tie.Need-returns-3
 returns-3 c =
     let at-told = c .before in
@@ -66,5 +39,5 @@ returns-3 c =
 pub barred-pair-spec : {M : Type 1} → statement M
 barred-pair-spec =
     tie.close
-    (tie.spec admit-requires enum-known-first of-refusal-requires returns enum-told admit-requires-2 enum-known-second
-    of-refusal-requires-2 returns-2 enum-told-2 of-refusal-requires-3 returns-3)
+    (tie.spec (λ c κs. search needs) (λ c. search needs) (λ c κs. search needs) returns (λ c. search needs) (λ c κs. search needs)
+    (λ c. search needs) (λ c κs. search needs) returns-2 (λ c. search needs) (λ c κs. search needs) returns-3)

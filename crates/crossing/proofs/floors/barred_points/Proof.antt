@@ -1,30 +1,15 @@
 -- `barred_points` meets its contract: the points are refused, or 13 is due.
 use mathlib.Core.Path.{_∙_, ap}
-use Rattle.reply.specs.Told.{crossed}
+use Rattle.wire.specs.Told.{crossed}
 use Rattle.crossing.specs.theory.High.{barred-refused, barred-points}
 use borrow.Author.Needs.{needs}
 use Rattle.crossing.proofs.floors.barred_points.Statement.{statement}
 use Rattle.crossing.proofs.floors.barred_points.Tie as tie
 
-admit-points-requires : tie.Need-admit-points-requires
-admit-points-requires c κs = search needs
-
-enum-known-refusal : tie.Need-enum-known-refusal
-enum-known-refusal c = search needs
-
-of-refusal-requires : tie.Need-of-refusal-requires
-of-refusal-requires c κs = search needs
-
 returns : tie.Need-returns
 returns c =
     let judged = c .before .before .before .before .admit-points .ensures in
     c .of-refusal .ensures ∙ ap crossed (barred-refused (judged .no _ (c .before .before .refusal .given .1)))
-
-enum-told : tie.Need-enum-told
-enum-told c = search needs
-
-of-refusal-requires-2 : tie.Need-of-refusal-requires-2
-of-refusal-requires-2 c κs = search needs
 
 returns-2 : tie.Need-returns-2
 returns-2 c =
@@ -34,4 +19,5 @@ returns-2 c =
 pub barred-points-spec : {M : Type 1} → statement M
 barred-points-spec =
     tie.close
-    (tie.spec admit-points-requires enum-known-refusal of-refusal-requires returns enum-told of-refusal-requires-2 returns-2)
+    (tie.spec (λ c κs. search needs) (λ c. search needs) (λ c κs. search needs) returns (λ c. search needs) (λ c κs. search needs)
+    returns-2)

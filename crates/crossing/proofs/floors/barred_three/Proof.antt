@@ -4,7 +4,7 @@ use mathlib.Core.List.{_++_}
 use Rattle.plane.specs.Refusal.{shapeRows, Valid}
 use Rattle.plane.specs.theory.refusals.Accept.{valid→accepted}
 use Rattle.admission.specs.theory.Judged.{refuses-append, refuses-join}
-use Rattle.reply.specs.Told.{crossed}
+use Rattle.wire.specs.Told.{crossed}
 use Rattle.crossing.specs.theory.High.{barred-refused}
 use Rattle.crossing.specs.theory.Passages.{barred-three}
 use borrow.Author.Needs.{needs}
@@ -21,15 +21,6 @@ second c = c .before .before .admit2 .ensures .valid (c .enum-told2 .given .1)
 third : (c : tie.After-enum-told3) → Valid (c .before .before .before .before .before .before .before .before .before .args .c .now)
 third c = c .before .before .admit3 .ensures .valid (c .enum-told3 .given .1)
 
-admit-requires : tie.Need-admit-requires
-admit-requires c κs = search needs
-
-enum-known-of-first : tie.Need-enum-known-of-first
-enum-known-of-first c = search needs
-
-of-refusal-requires : tie.Need-of-refusal-requires
-of-refusal-requires c κs = search needs
-
 returns : tie.Need-returns
 returns c =
     let at-first = c .before .before .before .before in
@@ -38,18 +29,6 @@ returns c =
     ∙ ap crossed (barred-refused (refuses-append (shapeRows 2 (start .args .b .now) ++ shapeRows 3 (start .args .c .now))
     (at-first .admit .ensures .no _ (c .before .before .of-first .given .1))))
 
-enum-told : tie.Need-enum-told
-enum-told c = search needs
-
-admit-requires-2 : tie.Need-admit-requires-2
-admit-requires-2 c κs = search needs
-
-enum-known-of-second : tie.Need-enum-known-of-second
-enum-known-of-second c = search needs
-
-of-refusal-requires-2 : tie.Need-of-refusal-requires-2
-of-refusal-requires-2 c κs = search needs
-
 returns-2 : tie.Need-returns-2
 returns-2 c =
     let at-second = c .before .before .before .before in
@@ -57,18 +36,6 @@ returns-2 c =
     c .of-refusal2 .ensures
     ∙ ap crossed (barred-refused (refuses-join (shapeRows 1 (start .args .a .now)) (valid→accepted _ 1 (first (at-second .before)))
     (refuses-append (shapeRows 3 (start .args .c .now)) (at-second .admit2 .ensures .no _ (c .before .before .of-second .given .1)))))
-
-enum-told-2 : tie.Need-enum-told-2
-enum-told-2 c = search needs
-
-admit-requires-3 : tie.Need-admit-requires-3
-admit-requires-3 c κs = search needs
-
-enum-known-of-third : tie.Need-enum-known-of-third
-enum-known-of-third c = search needs
-
-of-refusal-requires-3 : tie.Need-of-refusal-requires-3
-of-refusal-requires-3 c κs = search needs
 
 returns-3 : tie.Need-returns-3
 returns-3 c =
@@ -81,12 +48,6 @@ returns-3 c =
     (refuses-join (shapeRows 2 (start .args .b .now)) (valid→accepted _ 2 (second at-second))
     (at-third .admit3 .ensures .no _ (c .before .before .of-third .given .1)))))
 
-enum-told-3 : tie.Need-enum-told-3
-enum-told-3 c = search needs
-
-of-refusal-requires-4 : tie.Need-of-refusal-requires-4
-of-refusal-requires-4 c κs = search needs
-
 returns-4 : tie.Need-returns-4
 returns-4 c =
     let at-third = c .before in
@@ -97,6 +58,6 @@ returns-4 c =
 pub barred-three-spec : {M : Type 1} → statement M
 barred-three-spec =
     tie.close
-    (tie.spec admit-requires enum-known-of-first of-refusal-requires returns enum-told admit-requires-2 enum-known-of-second
-    of-refusal-requires-2 returns-2 enum-told-2 admit-requires-3 enum-known-of-third of-refusal-requires-3 returns-3 enum-told-3
-    of-refusal-requires-4 returns-4)
+    (tie.spec (λ c κs. search needs) (λ c. search needs) (λ c κs. search needs) returns (λ c. search needs) (λ c κs. search needs)
+    (λ c. search needs) (λ c κs. search needs) returns-2 (λ c. search needs) (λ c κs. search needs) (λ c. search needs)
+    (λ c κs. search needs) returns-3 (λ c. search needs) (λ c κs. search needs) returns-4)

@@ -4,17 +4,9 @@ use borrow.Author.Needs.{needs}
 use Rattle.crossing.proofs.floors.exceeds.Statement.{statement}
 use Rattle.crossing.proofs.floors.exceeds.Tie as tie
 
-exceeds-floor-requires : tie.Need-exceeds-floor-requires
-exceeds-floor-requires c κs = search needs
-
-exceeds-floor-requires-2 : tie.Need-exceeds-floor-requires-2
-exceeds-floor-requires-2 c κs = search needs
-
-returns : tie.Need-returns
-returns c = rw (sym (c .before .exceeds-floor .ensures) ∙ c .if1 .taken) (c .if1 .taken)
-
-returns-2 : tie.Need-returns-2
-returns-2 c = rw (sym (c .before .before .exceeds-floor .ensures) ∙ c .before .if1 .left) (c .exceeds-floor2 .ensures)
-
 pub exceeds-spec : {M : Type 1} → statement M
-exceeds-spec = tie.close (tie.spec exceeds-floor-requires exceeds-floor-requires-2 returns returns-2)
+exceeds-spec =
+    tie.close
+    (tie.spec (λ c κs. search needs) (λ c κs. search needs)
+    (λ c. rw (sym (c .before .exceeds-floor .ensures) ∙ c .if1 .taken) (c .if1 .taken))
+    (λ c. rw (sym (c .before .before .exceeds-floor .ensures) ∙ c .before .if1 .left) (c .exceeds-floor2 .ensures)))

@@ -5,9 +5,6 @@ use borrow.Author.Needs.{needs}
 use Rattle.excess.proofs.outermost.further.Statement.{statement}
 use Rattle.excess.proofs.outermost.further.Tie as tie
 
-fraction-less-requires : tie.Need-fraction-less-requires
-fraction-less-requires c κs = search needs
-
 returns : tie.Need-returns
 returns c =
     let args = c .before .before .args in
@@ -19,4 +16,4 @@ returns-2 c =
     ap (λ (t : Bool). cond t (args .found) (args .best)) (sym (c .if1 .left) ∙ c .before .fraction-less .ensures)
 
 pub further-spec : {M : Type 1} → statement M
-further-spec = tie.close (tie.spec fraction-less-requires returns returns-2)
+further-spec = tie.close (tie.spec (λ c κs. search needs) returns returns-2)

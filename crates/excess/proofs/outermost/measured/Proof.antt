@@ -6,15 +6,6 @@ use Rattle.excess.specs.Answer.{farOf}
 use Rattle.excess.proofs.outermost.measured.Statement.{statement}
 use Rattle.excess.proofs.outermost.measured.Tie as tie
 
-enum-known-found : tie.Need-enum-known-found
-enum-known-found c = search needs
-
-enum-known-found-2 : tie.Need-enum-known-found-2
-enum-known-found-2 c = search needs
-
-enum-known-found-3 : tie.Need-enum-known-found-3
-enum-known-found-3 c = search needs
-
 returns : tie.Need-returns
 returns c = ap (λ (d : Distance). farOf (c .before .before .before .args .i) d) (sym (c .before .found .given .1))
 
@@ -25,6 +16,4 @@ returns-3 : tie.Need-returns-3
 returns-3 c = ap (λ (d : Distance). farOf (c .before .before .before .args .i) d) (sym (c .before .found3 .given .1))
 
 pub measured-spec : {M : Type 1} → statement M
-measured-spec =
-    tie.close
-    (tie.spec enum-known-found enum-known-found-2 enum-known-found-3 returns returns-2 returns-3)
+measured-spec = tie.close (tie.spec (λ c. search needs) (λ c. search needs) (λ c. search needs) returns returns-2 returns-3)

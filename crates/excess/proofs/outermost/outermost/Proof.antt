@@ -17,9 +17,6 @@ Inv-loop new old n best₀ i₀ best i = (i ≤ n) × Searched (points new) (poi
 abbrev μ-loop : tie.MeasureT-loop
 μ-loop new old n best₀ i₀ best i = n - i
 
-count-requires : tie.Need-count-requires Inv-loop μ-loop
-count-requires c κs = search needs
-
 distance-of-requires : tie.Need-distance-of-requires Inv-loop μ-loop
 distance-of-requires c κs = let pre = c .before .pre in (pre .0, pre .1, pre .0 .shape .some)
 
@@ -32,9 +29,6 @@ distance-of-requires-2 : tie.Need-distance-of-requires-2 Inv-loop μ-loop
 distance-of-requires-2 c κs =
     let at-count = c .before .before .before in
     let pre = at-count .before .pre in (pre .0, pre .1, omega (arith, at-count .count .ensures, c .loop-test .taken))
-
-further-requires : tie.Need-further-requires Inv-loop μ-loop
-further-requires c κs = search needs
 
 few : (c : tie.After-further Inv-loop μ-loop) → c .before .before .before .before .before .count .result ≤ maxCorners
 few c = let at-count = c .before .before .before .before .before in omega (arith, at-count .count .ensures, at-count .before .pre .0 .few)
@@ -67,5 +61,5 @@ returns c =
 pub outermost-spec : {M : Type 1} → statement M
 outermost-spec =
     tie.close
-    (tie.spec Inv-loop μ-loop count-requires distance-of-requires loop-holds distance-of-requires-2 further-requires add-i loop-less
-    loop-again returns)
+    (tie.spec Inv-loop μ-loop (λ c κs. search needs) distance-of-requires loop-holds distance-of-requires-2 (λ c κs. search needs) add-i
+    loop-less loop-again returns)

@@ -6,9 +6,6 @@ use Rattle.excess.specs.theory.Rounded.{above-next, above-exact, above-l
 use Rattle.excess.proofs.rounding.above.Statement.{statement}
 use Rattle.excess.proofs.rounding.above.Tie as tie
 
-fraction-less-requires : tie.Need-fraction-less-requires
-fraction-less-requires c κs = search needs
-
 add-result : tie.Need-add-result
 add-result c =
     let start = c .before .before in
@@ -29,4 +26,4 @@ returns-2 c =
     above-exact _ _ (start .pre .0) (start .pre .1) (sym (c .before .fraction-less .ensures) ∙ c .if1 .left)
 
 pub above-spec : {M : Type 1} → statement M
-above-spec = tie.close (tie.spec fraction-less-requires add-result returns returns-2)
+above-spec = tie.close (tie.spec (λ c κs. search needs) add-result returns returns-2)

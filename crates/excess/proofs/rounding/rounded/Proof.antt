@@ -9,20 +9,11 @@ use Rattle.excess.specs.Answer.{RoundedDown, upNumbers}
 use Rattle.excess.proofs.rounding.rounded.Statement.{statement}
 use Rattle.excess.proofs.rounding.rounded.Tie as tie
 
-enum-known-found : tie.Need-enum-known-found
-enum-known-found c = search needs
-
 above-requires : tie.Need-above-requires
 above-requires c κs = subst RoundedDown (c .before .found .given .1) (c .before .before .before .pre)
 
-enum-known-found-2 : tie.Need-enum-known-found-2
-enum-known-found-2 c = search needs
-
 above-requires-2 : tie.Need-above-requires-2
 above-requires-2 c κs = subst RoundedDown (c .before .found2 .given .1) (c .before .before .before .pre)
-
-enum-told : tie.Need-enum-told
-enum-told c = search needs
 
 returns : tie.Need-returns
 returns c =
@@ -44,4 +35,4 @@ returns-3 c = absurd (subst RoundedDown (c .enum-told .given .1) (c .before .bef
 pub rounded-spec : {M : Type 1} → statement M
 rounded-spec =
     tie.close
-    (tie.spec enum-known-found above-requires enum-known-found-2 above-requires-2 enum-told returns returns-2 returns-3)
+    (tie.spec (λ c. search needs) above-requires (λ c. search needs) above-requires-2 (λ c. search needs) returns returns-2 returns-3)

@@ -6,14 +6,8 @@ use borrow.Author.Needs.{needs}
 use Rattle.gaps.proofs.floor.add.Statement.{statement}
 use Rattle.gaps.proofs.floor.add.Tie as tie
 
-add-result : tie.Need-add-result
-add-result c = search needs
-
 returns : tie.Need-returns
 returns c = let n = c .before .args .n in ap (λ (x : Bool). cond x (n + 1) n) (sym (c .if1 .taken))
 
-returns-2 : tie.Need-returns-2
-returns-2 c = search needs
-
 pub add-spec : {M : Type 1} → statement M
-add-spec = tie.close (tie.spec add-result returns returns-2)
+add-spec = tie.close (tie.spec (λ c. search needs) returns (λ c. search needs))

@@ -5,17 +5,11 @@ use Rattle.gaps.specs.theory.Read.{on-elsewhere, on-here}
 use Rattle.gaps.proofs.floor.is_on.Statement.{statement}
 use Rattle.gaps.proofs.floor.is_on.Tie as tie
 
-head-at-requires : tie.Need-head-at-requires
-head-at-requires c κs = search needs
-
 returns : tie.Need-returns
 returns c = on-elsewhere (c .before .before .head-at .ensures) _ (c .if1 .taken)
-
-is-current-requires : tie.Need-is-current-requires
-is-current-requires c κs = search needs
 
 returns-2 : tie.Need-returns-2
 returns-2 c = c .is-current .ensures ∙ on-here (c .before .before .before .head-at .ensures) _ (c .before .if1 .left)
 
 pub is-on-spec : {M : Type 1} → statement M
-is-on-spec = tie.close (tie.spec head-at-requires returns is-current-requires returns-2)
+is-on-spec = tie.close (tie.spec (λ c κs. search needs) returns (λ c κs. search needs) returns-2)

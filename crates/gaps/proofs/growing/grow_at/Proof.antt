@@ -29,9 +29,6 @@ fits c =
     let read = c .read-at .ensures in
     omega (arith, read .1, read .2, valid-fits _ (here-valid (start .pre .0)))
 
-read-at-requires : tie.Need-read-at-requires
-read-at-requires c κs = search needs
-
 slice-reshare-prefix-write : tie.Need-slice-reshare-prefix-write
 slice-reshare-prefix-write c = fits (c .before)
 
@@ -77,12 +74,6 @@ wrote-length c =
     written-length grownList (start .args .out .now) (c .write .last .1 .1 .1 .0) (c .write .ensures .1)
     (write-requires (c .before) (c .write .lifetimes) .3)
 
-same-length : tie.Need-same-length
-same-length c = search needs
-
-same-length-2 : tie.Need-same-length-2
-same-length-2 c = search needs
-
 returns : tie.Need-returns
 unfolding grown grownOf
 returns c =
@@ -99,5 +90,5 @@ returns c =
 pub grow-at-spec : {M : Type 1} → statement M
 grow-at-spec =
     tie.close
-    (tie.spec read-at-requires slice-reshare-prefix-write slice-aggregate-write top-requires write-requires same-length same-length-2
-    returns)
+    (tie.spec (λ c κs. search needs) slice-reshare-prefix-write slice-aggregate-write top-requires write-requires (λ c. search needs)
+    (λ c. search needs) returns)

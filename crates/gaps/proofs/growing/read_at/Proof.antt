@@ -5,17 +5,11 @@ use Rattle.gaps.specs.theory.Read.{stated-few, read-list, read-length, r
 use Rattle.gaps.proofs.growing.read_at.Statement.{statement}
 use Rattle.gaps.proofs.growing.read_at.Tie as tie
 
-head-at-requires : tie.Need-head-at-requires
-head-at-requires c κs = search needs
-
 decode-requires : tie.Need-decode-requires
 decode-requires c κs =
     let at-head = c .before in
     let start = at-head .before .before in
     (at-head .head-at .ensures .inside, omega (arith, stated-few (start .pre .0) (at-head .head-at .ensures), start .pre .1))
-
-same-length : tie.Need-same-length
-same-length c = search needs
 
 returns : tie.Need-returns
 returns c =
@@ -29,4 +23,4 @@ returns c =
     )
 
 pub read-at-spec : {M : Type 1} → statement M
-read-at-spec = tie.close (tie.spec head-at-requires decode-requires same-length returns)
+read-at-spec = tie.close (tie.spec (λ c κs. search needs) decode-requires (λ c. search needs) returns)

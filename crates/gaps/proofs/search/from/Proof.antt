@@ -27,9 +27,6 @@ pairs-are c e = let args = c .args in
 is-on : (c : tie.Else1) → let args = c .before .before .before .args in isOn (args .floor) (args .log .now) (args .p) ≡ true
 is-on c = sym (c .before .is-on .ensures) ∙ not-false _ (c .if1 .left)
 
-is-on-requires : tie.Need-is-on-requires
-is-on-requires c κs = search needs
-
 returns : tie.Need-returns
 returns c =
     let start = c .before .before .before in
@@ -47,12 +44,6 @@ grow-at-requires c κs =
     let at-else = c .before .before in
     let pre = at-else .before .before .before .pre in
     (pre .1, pre .2, pre .3, pre .4, walk-fits _ (pre .0) (pre .1 .here) (is-on at-else))
-
-mul-later : tie.Need-mul-later
-mul-later c = search needs
-
-slice-reshare-prefix-later : tie.Need-slice-reshare-prefix-later
-slice-reshare-prefix-later c = search needs
 
 slice-aggregate-later : tie.Need-slice-aggregate-later
 slice-aggregate-later c = sym (front-length (c .before .before .before .grow-at .ensures .0))
@@ -74,15 +65,6 @@ later-requires c κs =
       front-points front,
     )
 
-same-length : tie.Need-same-length
-same-length c = search needs
-
-same-length-2 : tie.Need-same-length-2
-same-length-2 c = search needs
-
-same-length-3 : tie.Need-same-length-3
-same-length-3 c = search needs
-
 returns-2 : tie.Need-returns-2
 returns-2 c =
     let at-later = c .before .before in
@@ -100,5 +82,5 @@ returns-2 c =
 pub from-spec : {M : Type 1} → statement M
 from-spec =
     tie.close
-    (tie.spec is-on-requires returns grow-at-requires mul-later slice-reshare-prefix-later slice-aggregate-later later-requires
-    same-length same-length-2 same-length-3 returns-2)
+    (tie.spec (λ c κs. search needs) returns grow-at-requires (λ c. search needs) (λ c. search needs) slice-aggregate-later later-requires
+    (λ c. search needs) (λ c. search needs) (λ c. search needs) returns-2)

@@ -73,15 +73,6 @@ pair-at-requires c κs =
     let at-then = c .before .before .before .before .before .before .before in
     omega (arith, next-inside _ (at-then .before .before .loop .p) (here at-then))
 
-add-p : tie.Need-add-p Inv-loop μ-loop
-add-p c = omega (arith, c .pair-at .ensures .1)
-
-add-p-2 : tie.Need-add-p-2 Inv-loop μ-loop
-add-p-2 c = omega (arith, step c .1)
-
-loop-less : tie.Need-loop-less Inv-loop μ-loop
-loop-less c = omega (arith, step c .1)
-
 loop-again : tie.Need-loop-again Inv-loop μ-loop
 loop-again c =
     let at-from = c .before .before .before .before in
@@ -122,5 +113,5 @@ returns c =
 pub narrowest-spec : {M : Type 1} → statement M
 narrowest-spec =
     tie.close
-    (tie.spec Inv-loop μ-loop loop-holds whole-at-requires from-requires pair-at-requires add-p add-p-2 loop-less loop-again
-    same-length same-length-2 same-length-3 returns)
+    (tie.spec Inv-loop μ-loop loop-holds whole-at-requires from-requires pair-at-requires (λ c. omega (arith, c .pair-at .ensures .1))
+    (λ c. omega (arith, step c .1)) (λ c. omega (arith, step c .1)) loop-again same-length same-length-2 same-length-3 returns)

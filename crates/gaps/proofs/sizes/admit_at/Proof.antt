@@ -15,7 +15,7 @@ use Rattle.plane.specs.Reply.{Row, NoneApply}
 use Rattle.plane.specs.Refusal.{Valid}
 use Rattle.plane.specs.Output.{sizeRows}
 use Rattle.admission.specs.theory.Judged.{passes, turns-away}
-use Rattle.admission.specs.theory.Delivery.{judged-by}
+use Rattle.delivery.specs.theory.Delivery.{judged-by}
 use Rattle.admission.specs.Admission.{Judged}
 use Rattle.growth.specs.Grown.{grown}
 use Rattle.journal.specs.Survey.{recordAt}
@@ -64,17 +64,11 @@ on-as c e =
     let at-else = c .before .before .before .before .before .before .before .before .before in
     sym (on-here (at-else .before .before .head-at .ensures) _ (at-else .if1 .left)) ∙ sym (c .is-current .ensures) ∙ e
 
-head-at-requires : tie.Need-head-at-requires
-head-at-requires c κs = search needs
-
 returns : tie.Need-returns
 returns c =
     let at-head = c .before .before in
     let start = at-head .before .before in
     (judged-by (rows-are start (sym (on-elsewhere (at-head .head-at .ensures) _ (c .if1 .taken)))) (passes tt), start .pre .2)
-
-read-at-requires : tie.Need-read-at-requires
-read-at-requires c κs = search needs
 
 slice-reshare-prefix-admit-grown : tie.Need-slice-reshare-prefix-admit-grown
 slice-reshare-prefix-admit-grown c = fits (c .before)
@@ -89,15 +83,6 @@ admit-grown-requires c κs =
     let pre = at-read .before .before .before .before .before .before .pre in
     (subst Valid (sym (at-read .read-at .ensures .0)) (here-valid (pre .0)), pre .1)
 
-enum-known-refusal : tie.Need-enum-known-refusal
-enum-known-refusal c = search needs
-
-enum-told : tie.Need-enum-told
-enum-told c = search needs
-
-same-length : tie.Need-same-length
-same-length c = search needs
-
 returns-2 : tie.Need-returns-2
 returns-2 c =
     let at-judged = c .before .before in
@@ -108,20 +93,11 @@ returns-2 c =
       at-read .read-at .ensures .1,
     )
 
-is-current-requires : tie.Need-is-current-requires
-is-current-requires c κs = search needs
-
-same-length-2 : tie.Need-same-length-2
-same-length-2 c = search needs
-
 returns-3 : tie.Need-returns-3
 returns-3 c =
     let at-read = c .before .before .before .before .before .before .before .before in
     let start = at-read .before .before .before .before .before .before in
     (judged-by (rows-are start (on-as (c .before) (not-true _ (c .if2 .taken)))) (passes tt), at-read .read-at .ensures .1)
-
-same-length-3 : tie.Need-same-length-3
-same-length-3 c = search needs
 
 returns-4 : tie.Need-returns-4
 returns-4 c =
@@ -137,19 +113,6 @@ returns-4 c =
 pub admit-at-spec : {M : Type 1} → statement M
 admit-at-spec =
     tie.close
-    (tie.spec
-    head-at-requires
-    returns
-    read-at-requires
-    slice-reshare-prefix-admit-grown
-    slice-aggregate-admit-grown
-    admit-grown-requires
-    enum-known-refusal
-    enum-told
-    same-length
-    returns-2
-    is-current-requires
-    same-length-2
-    returns-3
-    same-length-3
-    returns-4)
+    (tie.spec (λ c κs. search needs) returns (λ c κs. search needs) slice-reshare-prefix-admit-grown slice-aggregate-admit-grown
+    admit-grown-requires (λ c. search needs) (λ c. search needs) (λ c. search needs) returns-2 (λ c κs. search needs) (λ c. search needs)
+    returns-3 (λ c. search needs) returns-4)

@@ -49,12 +49,6 @@ admit-at-requires c κs =
     let at-loop = at-then .before .before in
     (judging-sound (at-loop .loop .inv .0) (here at-then), at-loop .before .before .pre .1, at-loop .loop .inv .1)
 
-enum-known-refusal : tie.Need-enum-known-refusal Inv-loop μ-loop
-enum-known-refusal c = search needs
-
-same-length : tie.Need-same-length Inv-loop μ-loop
-same-length c = search needs
-
 returns : tie.Need-returns Inv-loop μ-loop
 returns c =
     let at-admit = c .before .before .before .before in
@@ -62,22 +56,10 @@ returns c =
     turns-away (judging-refused (at-then .before .before .loop .inv .0) (here at-then)
     (at-admit .admit-at .ensures .0 .no _ (c .before .refusal .given .1)))
 
-enum-told : tie.Need-enum-told Inv-loop μ-loop
-enum-told c = search needs
-
 pair-at-requires : tie.Need-pair-at-requires Inv-loop μ-loop
 pair-at-requires c κs =
     let at-then = c .before .before .before .before .before in
     omega (arith, next-inside _ (at-then .before .before .loop .p) (here at-then))
-
-add-p : tie.Need-add-p Inv-loop μ-loop
-add-p c = omega (arith, c .pair-at .ensures .1)
-
-add-p-2 : tie.Need-add-p-2 Inv-loop μ-loop
-add-p-2 c = omega (arith, step c .1)
-
-loop-less : tie.Need-loop-less Inv-loop μ-loop
-loop-less c = omega (arith, step c .1)
 
 loop-again : tie.Need-loop-again Inv-loop μ-loop
 loop-again c =
@@ -102,5 +84,6 @@ returns-2 c =
 pub pass-spec : {M : Type 1} → statement M
 pass-spec =
     tie.close
-    (tie.spec Inv-loop μ-loop loop-holds whole-at-requires admit-at-requires enum-known-refusal same-length returns enum-told
-    pair-at-requires add-p add-p-2 loop-less loop-again same-length-2 returns-2)
+    (tie.spec Inv-loop μ-loop loop-holds whole-at-requires admit-at-requires (λ c. search needs) (λ c. search needs) returns
+    (λ c. search needs) pair-at-requires (λ c. omega (arith, c .pair-at .ensures .1)) (λ c. omega (arith, step c .1))
+    (λ c. omega (arith, step c .1)) loop-again same-length-2 returns-2)

@@ -60,9 +60,6 @@ settle-requires c κs =
       start .pre .4,
     )
 
-same-length : tie.Need-same-length
-same-length c = search needs
-
 returns : tie.Need-returns
 returns c =
     let at-both = c .before .before .before in
@@ -70,4 +67,4 @@ returns c =
     chained (began at-put) (at-both .both .ensures) (c .settle .ensures)
 
 pub chain-spec : {M : Type 1} → statement M
-chain-spec = tie.close (tie.spec put-requires both-requires settle-requires same-length returns)
+chain-spec = tie.close (tie.spec put-requires both-requires settle-requires (λ c. search needs) returns)

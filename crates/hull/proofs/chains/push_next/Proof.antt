@@ -53,9 +53,6 @@ after-requires c κs =
     let start = c .before .before .before .before .before .before .before in
     omega (arith, start .pre .1 .within, points-length (start .args .b .now))
 
-same-length : tie.Need-same-length
-same-length c = search needs
-
 returns : tie.Need-returns
 returns c =
     let at-push = c .before .before in
@@ -79,9 +76,6 @@ add-t-2 c =
     let start = c .before .before .before .before .before .before .before in
     omega (arith, start .pre .1 .within, points-length (start .args .b .now))
 
-same-length-2 : tie.Need-same-length-2
-same-length-2 c = search needs
-
 returns-2 : tie.Need-returns-2
 returns-2 c =
     let tested = c .before .before .before in
@@ -90,5 +84,5 @@ returns-2 c =
 pub push-next-spec : {M : Type 1} → statement M
 push-next-spec =
     tie.close
-    (tie.spec closed-at-requires closed-at-requires-2 order-requires push-requires add-t after-requires same-length returns
-    push-requires-2 add-t-2 same-length-2 returns-2)
+    (tie.spec closed-at-requires closed-at-requires-2 order-requires push-requires add-t after-requires (λ c. search needs) returns
+    push-requires-2 add-t-2 (λ c. search needs) returns-2)

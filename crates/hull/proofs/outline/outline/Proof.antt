@@ -15,15 +15,9 @@ use Rattle.hull.specs.theory.Route.{outline-one, sides-outline}
 use Rattle.hull.proofs.outline.outline.Statement.{statement}
 use Rattle.hull.proofs.outline.outline.Tie as tie
 
-corner-at-requires : tie.Need-corner-at-requires
-corner-at-requires c κs = search needs
-
 put-requires : tie.Need-put-requires
 put-requires c κs =
     let start = c .before .before .before in omega (arith, start .pre .0, start .pre .2, points-length (start .args .buf .now))
-
-same-length : tie.Need-same-length
-same-length c = search needs
 
 returns : tie.Need-returns
 returns c =
@@ -49,9 +43,6 @@ room c =
       points-length (c .side .last .1 .1 .1 .0),
     )
 
-side-requires : tie.Need-side-requires
-side-requires c κs = search needs
-
 mul-start : tie.Need-mul-start
 mul-start c = omega (arith, room (c .before), points-length (c .before .side .last .1 .1 .1 .0))
 
@@ -63,9 +54,6 @@ sub-side c = omega (arith, room (c .before), points-length (c .before .side .las
 
 part-side-start : tie.Need-part-side-start
 part-side-start c = sub-side c
-
-part-side-end : tie.Need-part-side-end
-part-side-end c = search needs
 
 side-requires-2 : tie.Need-side-requires-2
 side-requires-2 c κs =
@@ -90,9 +78,6 @@ add-result c =
     let at-right = c .before .before .before .before in
     omega (arith, room at-right, c .before .side2 .ensures .few, points-length (at-right .side .last .1 .1 .1 .0))
 
-same-length-2 : tie.Need-same-length-2
-same-length-2 c = search needs
-
 returns-2 : tie.Need-returns-2
 returns-2 c =
     let at-left = c .before in
@@ -115,5 +100,5 @@ returns-2 c =
 pub outline-spec : {M : Type 1} → statement M
 outline-spec =
     tie.close
-    (tie.spec corner-at-requires put-requires same-length returns side-requires mul-start mul-side sub-side part-side-start
-    part-side-end side-requires-2 add-result same-length-2 returns-2)
+    (tie.spec (λ c κs. search needs) put-requires (λ c. search needs) returns (λ c κs. search needs) mul-start mul-side sub-side
+    part-side-start (λ c. search needs) side-requires-2 add-result (λ c. search needs) returns-2)

@@ -18,12 +18,6 @@ returns c =
     c .corner-at .ensures ∙ ap (λ (b : Bool). corner (points (args .list .now)) (cond b (args .i) (args .n - (args .i + 1))))
     (sym (c .before .if1 .taken))
 
-add-corner-at : tie.Need-add-corner-at
-add-corner-at c = search needs
-
-sub-corner-at : tie.Need-sub-corner-at
-sub-corner-at c = search needs
-
 corner-at-requires-2 : tie.Need-corner-at-requires-2
 corner-at-requires-2 c κs = omega (arith, c .before .pre .0, c .before .pre .1)
 
@@ -35,4 +29,4 @@ returns-2 c =
     (sym (c .before .if1 .left))
 
 pub route-at-spec : {M : Type 1} → statement M
-route-at-spec = tie.close (tie.spec corner-at-requires returns add-corner-at sub-corner-at corner-at-requires-2 returns-2)
+route-at-spec = tie.close (tie.spec corner-at-requires returns (λ c. search needs) (λ c. search needs) corner-at-requires-2 returns-2)

@@ -5,15 +5,9 @@ use Rattle.sorting.specs.Order.{order}
 use Rattle.hull.proofs.rows.ascent.Statement.{statement}
 use Rattle.hull.proofs.rows.ascent.Tie as tie
 
-precedes-requires : tie.Need-precedes-requires
-precedes-requires c κs = search needs
-
 returns : tie.Need-returns
 unfolding order
 returns c = rw (sym (c .before .precedes .ensures) ∙ c .if1 .taken)
-
-precedes-requires-2 : tie.Need-precedes-requires-2
-precedes-requires-2 c κs = search needs
 
 returns-2 : tie.Need-returns-2
 unfolding order
@@ -28,4 +22,4 @@ returns-3 c =
     rw (sym (first .before .precedes .ensures) ∙ first .if1 .left, sym (c .before .precedes2 .ensures) ∙ c .if2 .left)
 
 pub ascent-spec : {M : Type 1} → statement M
-ascent-spec = tie.close (tie.spec precedes-requires returns precedes-requires-2 returns-2 returns-3)
+ascent-spec = tie.close (tie.spec (λ c κs. search needs) returns (λ c κs. search needs) returns-2 returns-3)

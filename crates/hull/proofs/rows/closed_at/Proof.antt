@@ -9,15 +9,6 @@ use Rattle.hull.specs.theory.Peak.{closed-within, closed-last}
 use Rattle.hull.proofs.rows.closed_at.Statement.{statement}
 use Rattle.hull.proofs.rows.closed_at.Tie as tie
 
-count-requires : tie.Need-count-requires
-count-requires c κs = search needs
-
-corner-at-requires : tie.Need-corner-at-requires
-corner-at-requires c κs = search needs
-
-corner-at-requires-2 : tie.Need-corner-at-requires-2
-corner-at-requires-2 c κs = search needs
-
 returns : tie.Need-returns
 returns c =
     let start = c .before .before .before in
@@ -32,4 +23,4 @@ returns-2 c =
     c .corner-at2 .ensures ∙ sym (ap (corner (closed ps)) last ∙ closed-last ps)
 
 pub closed-at-spec : {M : Type 1} → statement M
-closed-at-spec = tie.close (tie.spec count-requires corner-at-requires corner-at-requires-2 returns returns-2)
+closed-at-spec = tie.close (tie.spec (λ c κs. search needs) (λ c κs. search needs) (λ c κs. search needs) returns returns-2)

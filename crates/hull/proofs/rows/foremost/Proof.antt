@@ -29,15 +29,6 @@ told c =
     ∙ order-foremost up (at (p .corner-at .result)) (at (q .corner-at2 .result))
     ∙ ap₂ (foremost up) (p .corner-at .ensures) (q .corner-at2 .ensures)
 
-corner-at-requires : tie.Need-corner-at-requires
-corner-at-requires c κs = search needs
-
-corner-at-requires-2 : tie.Need-corner-at-requires-2
-corner-at-requires-2 c κs = search needs
-
-order-requires : tie.Need-order-requires
-order-requires c κs = search needs
-
 returns : tie.Need-returns
 returns c =
     let q = c .before .before in
@@ -49,4 +40,4 @@ returns-2 c =
     sym (ap (λ (t : Bool). cond t (at (q .before .corner-at .result)) (at (q .corner-at2 .result))) (c .if1 .left)) ∙ told (c .before)
 
 pub foremost-spec : {M : Type 1} → statement M
-foremost-spec = tie.close (tie.spec corner-at-requires corner-at-requires-2 order-requires returns returns-2)
+foremost-spec = tie.close (tie.spec (λ c κs. search needs) (λ c κs. search needs) (λ c κs. search needs) returns returns-2)

@@ -4,9 +4,6 @@ use borrow.Author.Tests.{eq-eqb, ne-eqb}
 use Rattle.hull.proofs.rows.home.Statement.{statement}
 use Rattle.hull.proofs.rows.home.Tie as tie
 
-count-requires : tie.Need-count-requires
-count-requires c κs = search needs
-
 returns : tie.Need-returns
 returns c = rw (eq-eqb _ 0 (c .if1 .taken))
 
@@ -14,4 +11,4 @@ returns-2 : tie.Need-returns-2
 returns-2 c = rw (ne-eqb _ 0 (c .before .if1 .left)) (c .count .ensures)
 
 pub home-spec : {M : Type 1} → statement M
-home-spec = tie.close (tie.spec count-requires returns returns-2)
+home-spec = tie.close (tie.spec (λ c κs. search needs) returns returns-2)

@@ -12,9 +12,6 @@ use Rattle.hull.specs.theory.Peak.{closed-small}
 use Rattle.hull.proofs.rows.is_right.Statement.{statement}
 use Rattle.hull.proofs.rows.is_right.Tie as tie
 
-closed-at-requires : tie.Need-closed-at-requires
-closed-at-requires c κs = search needs
-
 turn-requires : tie.Need-turn-requires
 turn-requires c κs =
     let start = c .before in
@@ -33,4 +30,4 @@ returns c =
     ∙ ap (isRight (at (start .args .from)) (at (start .args .to))) (c .before .closed-at .ensures)
 
 pub is-right-spec : {M : Type 1} → statement M
-is-right-spec = tie.close (tie.spec closed-at-requires turn-requires returns)
+is-right-spec = tie.close (tie.spec (λ c κs. search needs) turn-requires returns)

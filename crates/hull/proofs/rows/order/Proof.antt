@@ -6,12 +6,6 @@ use Rattle.sorting.specs.Order.{order}
 use Rattle.hull.proofs.rows.order.Statement.{statement}
 use Rattle.hull.proofs.rows.order.Tie as tie
 
-ascent-requires : tie.Need-ascent-requires
-ascent-requires c κs = search needs
-
-ascent-requires-2 : tie.Need-ascent-requires-2
-ascent-requires-2 c κs = search needs
-
 returns : tie.Need-returns
 unfolding order
 returns c = rw (c .before .if1 .taken) (result-is w32 (c .ascent .ok) (c .ascent .ensures))
@@ -21,4 +15,4 @@ unfolding order
 returns-2 c = rw (c .before .if1 .left) (result-is w32 (c .ascent2 .ok) (c .ascent2 .ensures))
 
 pub order-spec : {M : Type 1} → statement M
-order-spec = tie.close (tie.spec ascent-requires ascent-requires-2 returns returns-2)
+order-spec = tie.close (tie.spec (λ c κs. search needs) (λ c κs. search needs) returns returns-2)

@@ -19,13 +19,10 @@ add-result c =
     let start = c .before .before .before .before .before in
     omega (arith, c .before .before .before .settle .ensures .few, start .pre .0, points-length (start .args .buf .now))
 
-same-length : tie.Need-same-length
-same-length c = search needs
-
 returns : tie.Need-returns
 returns c =
     let start = c .before .before .before .before .before in
     settled-scanned (start .pre .0) (start .pre .1) (start .pre .2) (c .before .before .before .settle .ensures) (c .before .put .ensures)
 
 pub push-spec : {M : Type 1} → statement M
-push-spec = tie.close (tie.spec settle-requires put-requires add-result same-length returns)
+push-spec = tie.close (tie.spec settle-requires put-requires add-result (λ c. search needs) returns)

@@ -8,12 +8,6 @@ use Rattle.polygon.specs.theory.Small.{small-step}
 use Rattle.hull.proofs.scan.turn.Statement.{statement}
 use Rattle.hull.proofs.scan.turn.Tie as tie
 
-step-requires : tie.Need-step-requires
-step-requires c κs = search needs
-
-step-requires-2 : tie.Need-step-requires-2
-step-requires-2 c κs = search needs
-
 cross-requires : tie.Need-cross-requires
 cross-requires c κs =
     let start = c .before .before in
@@ -25,4 +19,4 @@ returns c =
     ∙ sym (turn-cross _ _ _))
 
 pub turn-spec : {M : Type 1} → statement M
-turn-spec = tie.close (tie.spec step-requires step-requires-2 cross-requires returns)
+turn-spec = tie.close (tie.spec (λ c κs. search needs) (λ c κs. search needs) cross-requires returns)

@@ -11,18 +11,6 @@ use Rattle.polygon.specs.Point.{at, Small}
 use Rattle.hull.proofs.scan.turn_on.Statement.{statement}
 use Rattle.hull.proofs.scan.turn_on.Tie as tie
 
-sub-corner-at : tie.Need-sub-corner-at
-sub-corner-at c = search needs
-
-corner-at-requires : tie.Need-corner-at-requires
-corner-at-requires c κs = search needs
-
-sub-corner-at-2 : tie.Need-sub-corner-at-2
-sub-corner-at-2 c = search needs
-
-corner-at-requires-2 : tie.Need-corner-at-requires-2
-corner-at-requires-2 c κs = search needs
-
 turn-requires : tie.Need-turn-requires
 turn-requires c κs =
     let pre = c .before .before .pre in (
@@ -39,4 +27,5 @@ returns c =
 
 pub turn-on-spec : {M : Type 1} → statement M
 turn-on-spec =
-    tie.close (tie.spec sub-corner-at corner-at-requires sub-corner-at-2 corner-at-requires-2 turn-requires returns)
+    tie.close
+    (tie.spec (λ c. search needs) (λ c κs. search needs) (λ c. search needs) (λ c κs. search needs) turn-requires returns)

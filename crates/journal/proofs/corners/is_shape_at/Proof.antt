@@ -1,5 +1,5 @@
 -- `is_shape_at` meets its contract: too many numbers are no shape, and others have room in the buffer.
-use mathlib.Core.Path.{_≡_, sym, _∙_, ap}
+use mathlib.Core.Path.{_≡_, refl, sym, _∙_, ap}
 use Prim.Native.Nat.{ℕ, _/_, _≤_}
 use native.Mathlib.Omega.{arith}
 use borrow.Author.Needs.{needs}
@@ -24,10 +24,7 @@ fits : (c : tie.Else1) → let start = c .before .before .before in start .args 
 fits c =
     let start = c .before .before .before in
     let few = ltb-false maxCorners (start .args .n / 2) (sym (c .before .exceeds-corners .ensures) ∙ c .if1 .left) in
-    omega (arith, start .pre .1, start .pre .2)
-
-exceeds-corners-requires : tie.Need-exceeds-corners-requires
-exceeds-corners-requires c κs = search needs
+    start .pre .2 (start .args .n) (omega (arith, start .pre .0)) (omega (arith, few, start .pre .1))
 
 returns : tie.Need-returns
 unfolding tooMany
@@ -37,7 +34,7 @@ returns c =
     let l = wordsAt (args .n) (args .log .now) (args .p) in
     let count : length (points l) ≡ args .n / 2 =
     points-length l ∙ ap (λ (k : ℕ). k / 2) (wordsAt-length (args .log .now) (args .n) (args .p)) in
-    (many-refused l (ap (ltb maxCorners) count ∙ sym (c .before .exceeds-corners .ensures) ∙ c .if1 .taken), start .pre .2)
+    (many-refused l (ap (ltb maxCorners) count ∙ sym (c .before .exceeds-corners .ensures) ∙ c .if1 .taken), refl)
 
 decode-requires : tie.Need-decode-requires
 decode-requires c κs = (c .before .before .before .before .pre .0, fits (c .before))
@@ -59,12 +56,6 @@ slice-aggregate-passes c =
     let at-decode = c .before .before in
     sym (length-take-le _ (at-decode .decode .last .1 .1 .1 .0) (omega (arith, kept (c .before), fits (at-decode .before .before))))
 
-passes-requires : tie.Need-passes-requires
-passes-requires c κs = search needs
-
-same-length : tie.Need-same-length
-same-length c = search needs
-
 returns-2 : tie.Need-returns-2
 returns-2 c =
     let at-buffer = c .before .before in
@@ -74,11 +65,11 @@ returns-2 c =
     let count = wordsAt-length (args .log .now) (args .n) (args .p) in (
       passed-answers _ _ (c .passes .ensures)
           ∙ ap (λ m. isAnswer (judged m)) (front-is l (args .buffer .now) _ (at-buffer .before .decode .ensures) (args .n) count),
-      kept at-buffer ∙ start .pre .2,
+      kept at-buffer,
     )
 
 pub is-shape-at-spec : {M : Type 1} → statement M
 is-shape-at-spec =
     tie.close
-    (tie.spec exceeds-corners-requires returns decode-requires slice-reshare-prefix-passes slice-aggregate-passes
-    passes-requires same-length returns-2)
+    (tie.spec (λ c κs. search needs) returns decode-requires slice-reshare-prefix-passes slice-aggregate-passes (λ c κs. search needs)
+    (λ c. search needs) returns-2)

@@ -1,13 +1,13 @@
 -- `is_held` meets its contract. The invariant: the name is held from `from` on exactly if it is from p on; the measure is what is left.
 use mathlib.Core.Path.{_≡_, sym, _∙_, subst}
 use mathlib.Core.Bool.{true}
-use Prim.Native.Nat.{ℕ, _+_, _-_, _≤_}
+use Prim.Native.Nat.{_-_, _≤_}
 use native.Mathlib.Omega.{arith}
 use lib.ListN.{length, drop}
 use Rattle.journal.specs.Format.{size, whole, name as Format·name}
-use Rattle.journal.specs.theory.Survey.{size-at, name-at, next-inside}
-use Rattle.journal.specs.theory.Stepping.{legible-least}
-use Rattle.journal.specs.theory.Ahead.{Ahead, ahead-start, ahead-sound, ahead-next, ahead-found, ahead-end}
+use Rattle.journal.specs.theory.Survey.{name-at, next-inside}
+use Rattle.journal.specs.theory.Stepping.{legible-least, reached-sound}
+use Rattle.journal.specs.theory.Ahead.{Ahead, ahead-start, ahead-next, ahead-found, ahead-end}
 use Rattle.journal.proofs.current.is_held.Statement.{statement}
 use Rattle.journal.proofs.current.is_held.Tie as tie
 
@@ -24,28 +24,17 @@ here c = sym (c .before .whole-at .ensures) ∙ c .if1 .taken
 
 least : (c : tie.Then1 Inv-loop μ-loop)
     → 5 ≤ size (drop (c .before .before .loop .p) (c .before .before .before .before .args .log .now))
-least c = legible-least (ahead-sound (c .before .before .loop .inv) (here c))
+least c = legible-least (reached-sound (c .before .before .loop .inv .reached) (here c))
 
 name-read : (c : tie.After-pair-at Inv-loop μ-loop) → let at-loop = c .before .before .before in
     Format·name (drop (at-loop .loop .p) (at-loop .before .before .args .log .now)) ≡ c .pair-at .result
 name-read c = name-at _ _ ∙ sym (c .pair-at .ensures .0)
 
--- the next place is past it, and still inside
-step : (c : tie.After-pair-at2 Inv-loop μ-loop) → let at-loop = c .before .before .before .before .before in
-    let log = at-loop .before .before .args .log .now in
-    (c .pair-at2 .result ≡ size (drop (at-loop .loop .p) log)) × (at-loop .loop .p + (2 + c .pair-at2 .result) ≤ length log)
-step c =
-    let at-then = c .before .before .before in
-    let at-loop = at-then .before .before in
-    let log = at-loop .before .before .args .log .now in
-    let same = c .pair-at2 .ensures .0 ∙ sym (size-at log (at-loop .loop .p)) in
-    (same, omega (arith, same, next-inside log (at-loop .loop .p) (here at-then)))
-
 loop-holds : tie.Need-loop-holds Inv-loop μ-loop
-loop-holds c = ahead-start _ _ _ (c .before .pre .0) (c .before .pre .1)
+loop-holds c = ahead-start _ _ _ (c .before .pre)
 
 whole-at-requires : tie.Need-whole-at-requires Inv-loop μ-loop
-whole-at-requires c κs = c .loop .inv .inside
+whole-at-requires c κs = c .loop .inv .reached .inside
 
 add-pair-at : tie.Need-add-pair-at Inv-loop μ-loop
 add-pair-at c = omega (arith, next-inside _ (c .before .before .loop .p) (here c), least c)
@@ -58,19 +47,13 @@ returns c =
     let at-then = c .before .before in
     ahead-found (at-then .before .before .loop .inv) (here at-then) (name-read (c .before) ∙ c .if2 .taken)
 
-pair-at-requires-2 : tie.Need-pair-at-requires-2 Inv-loop μ-loop
-pair-at-requires-2 c κs =
-    let at-then = c .before .before in
-    omega (arith, next-inside _ (at-then .before .before .loop .p) (here at-then))
-
-add-p : tie.Need-add-p Inv-loop μ-loop
-add-p c = omega (arith, c .pair-at2 .ensures .1)
-
-add-p-2 : tie.Need-add-p-2 Inv-loop μ-loop
-add-p-2 c = omega (arith, step c .1)
+next-at-requires : tie.Need-next-at-requires Inv-loop μ-loop
+next-at-requires c κs = here (c .before .before)
 
 loop-less : tie.Need-loop-less Inv-loop μ-loop
-loop-less c = omega (arith, step c .1)
+loop-less c =
+    let at-then = c .before .before .before in
+    omega (arith, c .next-at .ensures, next-inside _ (at-then .before .before .loop .p) (here at-then))
 
 loop-again : tie.Need-loop-again Inv-loop μ-loop
 loop-again c =
@@ -78,7 +61,7 @@ loop-again c =
     let at-then = at-name .before in
     let at-loop = at-then .before .before in
     let args = at-loop .before .before .args in
-    subst (λ (k : ℕ). Ahead (args .name) (args .log .now) (args .from) (at-loop .loop .p + (2 + k))) (sym (step c .0))
+    subst (Ahead (args .name) (args .log .now) (args .from)) (sym (c .next-at .ensures))
     (ahead-next (at-loop .loop .inv) (here at-then) (λ e. c .before .if2 .left (sym (name-read at-name) ∙ e)))
 
 returns-2 : tie.Need-returns-2 Inv-loop μ-loop
@@ -87,5 +70,5 @@ returns-2 c = ahead-end (c .before .before .loop .inv) (sym (c .before .whole-at
 pub is-held-spec : {M : Type 1} → statement M
 is-held-spec =
     tie.close
-    (tie.spec Inv-loop μ-loop loop-holds whole-at-requires add-pair-at pair-at-requires returns pair-at-requires-2 add-p add-p-2
-    loop-less loop-again returns-2)
+    (tie.spec Inv-loop μ-loop loop-holds whole-at-requires add-pair-at pair-at-requires returns next-at-requires loop-less
+    loop-again returns-2)

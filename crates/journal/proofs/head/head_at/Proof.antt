@@ -24,9 +24,6 @@ add-pair-at c = omega (arith, legible (c .before .pre) .inside)
 pair-at-requires : tie.Need-pair-at-requires
 pair-at-requires c κs = omega (arith, legible (c .before .pre) .inside, legible-least (c .before .pre))
 
-fixed-bytes-requires : tie.Need-fixed-bytes-requires
-fixed-bytes-requires c κs = search needs
-
 add-t4 : tie.Need-add-t4
 add-t4 c = let fits = legible (c .before .before .before .pre) in omega (arith, fits .inside, fits .long, fixed-read c)
 
@@ -49,9 +46,6 @@ pair-at-requires-3 c κs =
     let sound = c .before .before .before .before .pre in
     omega (arith, legible sound .inside, legible-least sound)
 
-cast-t11 : tie.Need-cast-t11
-cast-t11 c = search needs
-
 floor-at-requires : tie.Need-floor-at-requires
 floor-at-requires c κs =
     let at-fixed = c .before .before in
@@ -72,5 +66,5 @@ returns c =
 pub head-at-spec : {M : Type 1} → statement M
 head-at-spec =
     tie.close
-    (tie.spec add-pair-at pair-at-requires fixed-bytes-requires add-t4 add-t5 pair-at-requires-2 sub-t7 add-pair-at-2
-    pair-at-requires-3 cast-t11 floor-at-requires returns)
+    (tie.spec add-pair-at pair-at-requires (λ c κs. search needs) add-t4 add-t5 pair-at-requires-2 sub-t7 add-pair-at-2 pair-at-requires-3
+    (λ c. search needs) floor-at-requires returns)

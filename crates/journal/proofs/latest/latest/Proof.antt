@@ -1,15 +1,16 @@
 -- `latest` meets its contract. The invariant: what is found up to p, and what is still to come; the measure is what is left.
 use mathlib.Core.Path.{_≡_, sym, _∙_, subst}
 use mathlib.Core.Bool.{true}
-use Prim.Native.Nat.{ℕ, _+_, _-_, _≤_}
+use Prim.Native.Nat.{ℕ, _-_}
 use native.Mathlib.Omega.{arith}
 use borrow.Author.Needs.{needs}
 use lib.ListN.{length, drop}
-use Rattle.journal.specs.Format.{size, whole}
+use Rattle.journal.specs.Format.{whole}
 use Rattle.journal.specs.Survey.{newer}
 use Rattle.journal.specs.declared.latest.Found.{Found}
-use Rattle.journal.specs.theory.Survey.{size-at, next-inside}
-use Rattle.journal.specs.theory.Latest.{SoFar, so-far-sound, so-far-start, so-far-next, so-far-end}
+use Rattle.journal.specs.theory.Survey.{next-inside}
+use Rattle.journal.specs.theory.Stepping.{reached-sound}
+use Rattle.journal.specs.theory.Latest.{SoFar, so-far-start, so-far-next, so-far-end}
 use Rattle.journal.proofs.latest.latest.Statement.{statement}
 use Rattle.journal.proofs.latest.latest.Tie as tie
 
@@ -24,42 +25,22 @@ here : (c : tie.Then1 Inv-loop μ-loop)
     → whole (drop (c .before .before .loop .p) (c .before .before .before .before .args .log .now)) ≡ true
 here c = sym (c .before .whole-at .ensures) ∙ c .if1 .taken
 
--- the next place is past it, and still inside
-step : (c : tie.After-pair-at Inv-loop μ-loop) → let at-loop = c .before .before .before .before .before in
-    let log = at-loop .before .before .args .log .now in
-    (c .pair-at .result ≡ size (drop (at-loop .loop .p) log)) × (at-loop .loop .p + (2 + c .pair-at .result) ≤ length log)
-step c =
-    let at-then = c .before .before .before in
-    let at-loop = at-then .before .before in
-    let log = at-loop .before .before .args .log .now in
-    let same = c .pair-at .ensures .0 ∙ sym (size-at log (at-loop .loop .p)) in
-    (same, omega (arith, same, next-inside log (at-loop .loop .p) (here at-then)))
-
 loop-holds : tie.Need-loop-holds Inv-loop μ-loop
 loop-holds c = so-far-start _ _ (c .before .pre)
 
 whole-at-requires : tie.Need-whole-at-requires Inv-loop μ-loop
-whole-at-requires c κs = c .loop .inv .inside
+whole-at-requires c κs = c .loop .inv .reached .inside
 
 head-at-requires : tie.Need-head-at-requires Inv-loop μ-loop
-head-at-requires c κs = so-far-sound (c .before .before .loop .inv) (here c)
+head-at-requires c κs = reached-sound (c .before .before .loop .inv .reached) (here c)
 
-newer-requires : tie.Need-newer-requires Inv-loop μ-loop
-newer-requires c κs = search needs
-
-pair-at-requires : tie.Need-pair-at-requires Inv-loop μ-loop
-pair-at-requires c κs =
-    let at-then = c .before .before in
-    omega (arith, next-inside _ (at-then .before .before .loop .p) (here at-then))
-
-add-p : tie.Need-add-p Inv-loop μ-loop
-add-p c = omega (arith, c .pair-at .ensures .1)
-
-add-p-2 : tie.Need-add-p-2 Inv-loop μ-loop
-add-p-2 c = omega (arith, step c .1)
+next-at-requires : tie.Need-next-at-requires Inv-loop μ-loop
+next-at-requires c κs = here (c .before .before)
 
 loop-less : tie.Need-loop-less Inv-loop μ-loop
-loop-less c = omega (arith, step c .1)
+loop-less c =
+    let at-then = c .before .before .before in
+    omega (arith, c .next-at .ensures, next-inside _ (at-then .before .before .loop .p) (here at-then))
 
 loop-again : tie.Need-loop-again Inv-loop μ-loop
 loop-again c =
@@ -67,11 +48,10 @@ loop-again c =
     let at-head = at-new .before in
     let at-then = at-head .before in
     let at-loop = at-then .before .before in
-    let p = at-loop .loop .p in
-    let name = at-loop .before .before .args .name in
-    let log = at-loop .before .before .args .log .now in
-    subst (λ (r : Found). SoFar name log (p + (2 + c .pair-at .result)) r) (sym (at-new .newer .ensures))
-    (subst (λ (k : ℕ). SoFar name log (p + (2 + k)) (newer name (at-head .head-at .result) (at-loop .loop .found))) (sym (step c .0))
+    let args = at-loop .before .before .args in
+    subst (λ (r : Found). SoFar (args .name) (args .log .now) (c .next-at .result) r) (sym (at-new .newer .ensures))
+    (subst (λ (q : ℕ). SoFar (args .name) (args .log .now) q (newer (args .name) (at-head .head-at .result) (at-loop .loop .found)))
+    (sym (c .next-at .ensures))
     (so-far-next (at-loop .loop .inv) (here at-then) (at-head .head-at .ensures)))
 
 returns : tie.Need-returns Inv-loop μ-loop
@@ -82,5 +62,5 @@ returns c =
 pub latest-spec : {M : Type 1} → statement M
 latest-spec =
     tie.close
-    (tie.spec Inv-loop μ-loop loop-holds whole-at-requires head-at-requires newer-requires pair-at-requires add-p add-p-2 loop-less
+    (tie.spec Inv-loop μ-loop loop-holds whole-at-requires head-at-requires (λ c κs. search needs) next-at-requires loop-less
     loop-again returns)

@@ -1,5 +1,5 @@
 -- `bad_at` meets its contract: the tests of a whole record, one by one.
-use mathlib.Core.Path.{_≡_, sym, _∙_, ap, ap₂}
+use mathlib.Core.Path.{_≡_, refl, sym, _∙_, ap, ap₂}
 use mathlib.Core.Bool.{false, not}
 use Prim.Native.Nat.{ℕ, _+_, _-_, _/_, _%_, _≤_}
 use native.Mathlib.Omega.{arith}
@@ -59,7 +59,7 @@ pair-at-requires c κs = omega (arith, inside c, whole→facts _ (c .before .pre
 returns : tie.Need-returns
 returns c =
     let start = c .before .before .before in
-    (sym (bad-short _ (omega (arith, c .if1 .taken, size-read (c .before)))), start .pre .1)
+    (sym (bad-short _ (omega (arith, c .if1 .taken, size-read (c .before)))), refl)
 
 add-pair-at : tie.Need-add-pair-at
 add-pair-at c = omega (arith, inside (c .before .before))
@@ -67,32 +67,26 @@ add-pair-at c = omega (arith, inside (c .before .before))
 pair-at-requires-2 : tie.Need-pair-at-requires-2
 pair-at-requires-2 c κs = omega (arith, inside (c .before .before), least c)
 
-is-other-requires : tie.Need-is-other-requires
-is-other-requires c κs = search needs
-
 returns-2 : tie.Need-returns-2
 returns-2 c =
     let at-kind = c .before .before in
     let start = at-kind .before .before .before .before in
     let other = ap otherKind (kind-read at-kind) ∙ sym (c .before .is-other .ensures) ∙ c .if2 .taken in
-    (sym (bad-kind _ (least (at-kind .before)) other), start .pre .1)
-
-fixed-bytes-requires : tie.Need-fixed-bytes-requires
-fixed-bytes-requires c κs = search needs
+    (sym (bad-kind _ (least (at-kind .before)) other), refl)
 
 returns-3 : tie.Need-returns-3
 returns-3 c =
     let at-fixed = c .before in
     let at-1 = at-fixed .before .before .before .before in
     let same = size-read (at-1 .before) in
-    (sym (bad-small _ (least at-1) (omega (arith, c .if3 .taken, fixed-read at-fixed))), at-1 .before .before .before .pre .1)
+    (sym (bad-small _ (least at-1) (omega (arith, c .if3 .taken, fixed-read at-fixed))), refl)
 
 returns-4 : tie.Need-returns-4
 returns-4 c =
     let at-3 = c .before in
     let at-1 = at-3 .before .before .before .before .before in
     let left = ap (λ (n : ℕ). n % 8) (sym (rest (at-3 .before))) in
-    (sym (bad-length _ (least at-1) (long at-3) (λ e. c .if4 .taken (left ∙ e))), at-1 .before .before .before .pre .1)
+    (sym (bad-length _ (least at-1) (long at-3) (λ e. c .if4 .taken (left ∙ e))), refl)
 
 add-is-shape-at : tie.Need-add-is-shape-at
 add-is-shape-at c = let at-1 = c .before .before .before .before .before .before in omega (arith, inside (at-1 .before .before), least at-1)
@@ -113,9 +107,6 @@ is-shape-at-requires c κs =
     let fixed = fixed-read (at-3 .before) in
     let big = long at-3 in
     (omega arith, eighth _ (at-4 .if4 .left), at-1 .before .before .before .pre .1)
-
-same-length : tie.Need-same-length
-same-length c = search needs
 
 returns-5 : tie.Need-returns-5
 returns-5 c =
@@ -138,5 +129,5 @@ returns-5 c =
 pub bad-at-spec : {M : Type 1} → statement M
 bad-at-spec =
     tie.close
-    (tie.spec pair-at-requires returns add-pair-at pair-at-requires-2 is-other-requires returns-2 fixed-bytes-requires returns-3
-    returns-4 add-is-shape-at add-is-shape-at-2 is-shape-at-requires same-length returns-5)
+    (tie.spec pair-at-requires returns add-pair-at pair-at-requires-2 (λ c κs. search needs) returns-2 (λ c κs. search needs) returns-3
+    returns-4 add-is-shape-at add-is-shape-at-2 is-shape-at-requires (λ c. search needs) returns-5)

@@ -27,9 +27,6 @@ pair-at-requires c κs =
     let legible = start .pre .0 in
     omega (arith, legible .inside, legible .long, start .pre .1, c .if1 .left)
 
-cast-result : tie.Need-cast-result
-cast-result c = search needs
-
 returns-2 : tie.Need-returns-2
 unfolding floor
 returns-2 c =
@@ -39,4 +36,4 @@ returns-2 c =
     ∙ sym (ap (λ (x : Bool). cond x (pairAt t 6) 0) (floored-if (kind t) (omega (arith, start .pre .1, c .before .if1 .left))))
 
 pub floor-at-spec : {M : Type 1} → statement M
-floor-at-spec = tie.close (tie.spec returns add-pair-at pair-at-requires cast-result returns-2)
+floor-at-spec = tie.close (tie.spec returns add-pair-at pair-at-requires (λ c. search needs) returns-2)

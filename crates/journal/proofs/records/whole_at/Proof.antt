@@ -16,37 +16,19 @@ size-read : (c : tie.After-pair-at) → let args = c .before .before .before .ar
     size (drop (args .p) (args .log .now)) ≡ c .pair-at .result
 size-read c = size-at _ _ ∙ sym (c .pair-at .ensures .0)
 
-sub-room : tie.Need-sub-room
-sub-room c = search needs
-
 returns : tie.Need-returns
 returns c =
     let args = c .before .before .args in
     no-record _ (λ w. omega (arith, c .if1 .taken, w .two, length-drop (args .p) (args .log .now)))
 
-pair-at-requires : tie.Need-pair-at-requires
-pair-at-requires c κs = search needs
-
 returns-2 : tie.Need-returns-2
 returns-2 c = no-record _ (λ w. omega (arith, c .if2 .taken, w .some, size-read (c .before)))
-
-add-if3 : tie.Need-add-if3
-add-if3 c = search needs
 
 returns-3 : tie.Need-returns-3
 returns-3 c =
     let at-read = c .before .before in
     let args = at-read .before .before .before .args in
     no-record _ (λ w. omega (arith, c .if3 .taken, w .fits, size-read at-read, length-drop (args .p) (args .log .now)))
-
-add-result : tie.Need-add-result
-add-result c = search needs
-
-add-result-2 : tie.Need-add-result-2
-add-result-2 c = search needs
-
-shared-slice-read-result : tie.Need-shared-slice-read-result
-shared-slice-read-result c = search needs
 
 returns-4 : tie.Need-returns-4
 returns-4 c =
@@ -64,5 +46,5 @@ returns-4 c =
 pub whole-at-spec : {M : Type 1} → statement M
 whole-at-spec =
     tie.close
-    (tie.spec sub-room returns pair-at-requires returns-2 add-if3 returns-3 add-result add-result-2 shared-slice-read-result
-    returns-4)
+    (tie.spec (λ c. search needs) returns (λ c κs. search needs) returns-2 (λ c. search needs) returns-3 (λ c. search needs)
+    (λ c. search needs) (λ c. search needs) returns-4)

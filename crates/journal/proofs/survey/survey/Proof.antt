@@ -5,15 +5,14 @@ use Rattle.plane.specs.Limits.{maxCorners}
 use Rattle.journal.proofs.survey.survey.Statement.{statement}
 use Rattle.journal.proofs.survey.survey.Tie as tie
 
-slice-aggregate-pass : tie.Need-slice-aggregate-pass
-slice-aggregate-pass c = search needs
-
 pass-requires : tie.Need-pass-requires
-unfolding maxCorners
-pass-requires c κs = omega arith
+pass-requires c κs n l m = omega (arith, l, c .before .if1 .taken)
 
-returns : tie.Need-returns
-returns c = search needs
+pass-requires-2 : tie.Need-pass-requires-2
+unfolding maxCorners
+pass-requires-2 c κs n l m = omega (arith, m)
 
 pub survey-spec : {M : Type 1} → statement M
-survey-spec = tie.close (tie.spec slice-aggregate-pass pass-requires returns)
+survey-spec =
+    tie.close
+    (tie.spec (λ c. search needs) pass-requires (λ c. search needs) (λ c. search needs) pass-requires-2 (λ c. search needs))

@@ -14,9 +14,6 @@ use Rattle.measure.specs.Scan.{apartAt}
 use Rattle.measure.proofs.longest.apart.Statement.{statement}
 use Rattle.measure.proofs.longest.apart.Tie as tie
 
-squared-requires : tie.Need-squared-requires
-squared-requires c κs = search needs
-
 squared-is : (c : tie.After-squared) → let args = c .before .args in
     toZ w64 (ofZ w64 (c .squared .result)) ≡ squared (cornerOf (args .s)) (cornerOf (args .t))
 squared-is c = result-is w64 (c .squared .ok) (c .squared .ensures)
@@ -41,4 +38,4 @@ returns-2 c = let args = c .before .before .before .before .args in
     (ap (λ (d : ℕ). record { squared = d; from = args .s .at; to = args .t .at }) (size (c .before .before)))
 
 pub apart-spec : {M : Type 1} → statement M
-apart-spec = tie.close (tie.spec squared-requires magnitude-requires returns returns-2)
+apart-spec = tie.close (tie.spec (λ c κs. search needs) magnitude-requires returns returns-2)

@@ -13,11 +13,8 @@ returns c = kept refl (record { no-further = omega arith; no-earlier = λ g. abs
 returns-2 : tie.Need-returns-2
 returns-2 c = replaced refl (record { no-further = omega arith; no-earlier = λ g. absurd (omega arith) })
 
-earlier-requires : tie.Need-earlier-requires
-earlier-requires c κs = search needs
-
 returns-3 : tie.Need-returns-3
 returns-3 c = kept-level (omega arith) (c .earlier .ensures)
 
 pub better-spec : {M : Type 1} → statement M
-better-spec = tie.close (tie.spec returns returns-2 earlier-requires returns-3)
+better-spec = tie.close (tie.spec returns returns-2 (λ c κs. search needs) returns-3)

@@ -4,10 +4,11 @@ use native.Mathlib.Omega.{arith}
 use borrow.Author.Needs.{needs}
 use Rattle.plane.specs.Point.{points}
 use Rattle.measure.specs.Half.{HalfStep}
+use Rattle.measure.specs.Partway.{Search}
 use Rattle.measure.specs.Scan.{HalfAt}
-use Rattle.measure.specs.theory.Chains.{chains-found, chains-in}
-use Rattle.measure.proofs.Stepped.{half-start, half-edges, half-corners, half-room, half-on}
-use Rattle.measure.proofs.Pairs.{Search, search-start, search-next, search-done}
+use Rattle.measure.specs.theory.Chains.{chains-found}
+use Rattle.measure.proofs.Stepped.{half-edges, half-corners, half-room, half-on}
+use Rattle.measure.proofs.Pairs.{search-next, search-done}
 use Rattle.measure.proofs.longest.longest.Statement.{statement}
 use Rattle.measure.proofs.longest.longest.Tie as tie
 
@@ -17,39 +18,18 @@ Inv-loop list n top end s₀ t₀ best₀ s t best = Search list n top end s t b
 abbrev μ-loop : tie.MeasureT-loop
 μ-loop list n top end s₀ t₀ best₀ s t best = top + end - (s .at + t .at)
 
-count-requires : tie.Need-count-requires Inv-loop μ-loop
-count-requires c κs = search needs
-
 top-requires : tie.Need-top-requires Inv-loop μ-loop
 top-requires c κs = c .before .pre .shape .some
 
-sides-requires : tie.Need-sides-requires Inv-loop μ-loop
-sides-requires c κs = search needs
-
-side-at-requires : tie.Need-side-at-requires Inv-loop μ-loop
-side-at-requires c κs = let v = c .before .before .before .pre in (omega arith, v .inRange, v .shape .some)
-
-side-at-requires-2 : tie.Need-side-at-requires-2 Inv-loop μ-loop
-side-at-requires-2 c κs =
-    let v = c .before .before .before .before .pre in
-    (chains-in (chains-found (v .shape) (c .before .before .top .ensures)), v .inRange, v .shape .some)
-
--- the two sides before the loop
-begins : (c : tie.After-side-at2 Inv-loop μ-loop) → let start = c .before .before .before .before .before in
-    HalfAt (start .args .list .now) (c .before .before .before .top .result) (c .before .side-at .result) (c .side-at2 .result)
-begins c =
-    let start = c .before .before .before .before .before in
-    half-start (start .pre) (chains-found (start .pre .shape) (c .before .before .before .top .ensures)) (c .before .side-at .ensures)
-    (c .side-at2 .ensures)
-
-apart-requires : tie.Need-apart-requires Inv-loop μ-loop
-apart-requires c κs = half-corners (begins c)
+stride-requires : tie.Need-stride-requires Inv-loop μ-loop
+stride-requires c κs =
+    let at-top = c .before in
+    let v = at-top .before .before .pre in
+    let chains = chains-found (v .shape) (at-top .top .ensures) in
+    (record { valid = v; chains = chains; sides = c .sides .ensures }, at-top .before .count .ensures)
 
 loop-holds : tie.Need-loop-holds Inv-loop μ-loop
-loop-holds c =
-    let at-sides = c .before .before .before in
-    search-start (begins (c .before)) (at-sides .before .before .count .ensures) (at-sides .sides .ensures)
-    (c .before .before .side-at .ensures .0) (c .before .side-at2 .ensures .0) (c .apart .ensures)
+loop-holds c = c .before .before .before .stride .ensures
 
 add-if1 : tie.Need-add-if1 Inv-loop μ-loop
 add-if1 c = omega (arith, half-room (c .before .before .loop .inv .half) .0)
@@ -71,7 +51,7 @@ next-requires-2 c κs =
 
 -- the step, and the two sides after it
 goes-on : (c : tie.After-next2 Inv-loop μ-loop) → let at-loop = c .before .before .before .before .before .before in
-    let at-sides = at-loop .before .before .before .before in
+    let at-sides = at-loop .before .before .before .before .before in
     let top = at-sides .before .top .result in
     let end = at-sides .sides .result in
     let s = at-loop .loop .s in
@@ -87,11 +67,8 @@ goes-on c =
     half-on (inv .half) (inv .sides) (omega (arith, at-right .before .if1 .taken)) (at-right .goes-right .ensures)
     (c .before .next .ensures) (c .next2 .ensures)
 
-apart-requires-2 : tie.Need-apart-requires-2 Inv-loop μ-loop
-apart-requires-2 c κs = half-corners (goes-on c .1)
-
-better-requires : tie.Need-better-requires Inv-loop μ-loop
-better-requires c κs = search needs
+apart-requires : tie.Need-apart-requires Inv-loop μ-loop
+apart-requires c κs = half-corners (goes-on c .1)
 
 loop-less : tie.Need-loop-less Inv-loop μ-loop
 loop-less c = goes-on (c .before .before) .2
@@ -100,7 +77,7 @@ loop-again : tie.Need-loop-again Inv-loop μ-loop
 loop-again c =
     let at-next = c .before .before in
     let on = goes-on at-next in
-    search-next (at-next .before .before .before .before .before .before .loop .inv) (on .1) (on .0) (c .before .apart2 .ensures)
+    search-next (at-next .before .before .before .before .before .before .loop .inv) (on .1) (on .0) (c .before .apart .ensures)
     (c .better .ensures)
 
 returns : tie.Need-returns Inv-loop μ-loop
@@ -109,5 +86,5 @@ returns c = search-done (c .before .before .before .loop .inv) (omega (arith, c 
 pub longest-spec : {M : Type 1} → statement M
 longest-spec =
     tie.close
-    (tie.spec Inv-loop μ-loop count-requires top-requires sides-requires side-at-requires side-at-requires-2 apart-requires loop-holds
-    add-if1 add-if1-2 goes-right-requires next-requires next-requires-2 apart-requires-2 better-requires loop-less loop-again returns)
+    (tie.spec Inv-loop μ-loop (λ c κs. search needs) top-requires (λ c κs. search needs) stride-requires loop-holds add-if1 add-if1-2
+    goes-right-requires next-requires next-requires-2 apart-requires (λ c κs. search needs) loop-less loop-again returns)

@@ -18,14 +18,8 @@ narrower-better a b e = let less = ltb-true (a .turn * a .turn * b .squared) (b 
   no-earlier = λ f. true-not-false e f;
 }
 
-fraction-less-requires : tie.Need-fraction-less-requires
-fraction-less-requires c κs = search needs
-
 returns : tie.Need-returns
 returns c = stays refl (narrower-better _ _ (sym (c .before .fraction-less .ensures) ∙ c .if1 .taken))
-
-fraction-less-requires-2 : tie.Need-fraction-less-requires-2
-fraction-less-requires-2 c κs = search needs
 
 returns-2 : tie.Need-returns-2
 returns-2 c = gives-way refl (narrower-better _ _ (sym (c .before .fraction-less2 .ensures) ∙ c .if2 .taken))
@@ -47,6 +41,4 @@ returns-4 c =
     })
 
 pub narrower-spec : {M : Type 1} → statement M
-narrower-spec =
-    tie.close
-    (tie.spec fraction-less-requires returns fraction-less-requires-2 returns-2 returns-3 returns-4)
+narrower-spec = tie.close (tie.spec (λ c κs. search needs) returns (λ c κs. search needs) returns-2 returns-3 returns-4)

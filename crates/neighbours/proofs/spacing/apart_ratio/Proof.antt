@@ -4,15 +4,6 @@ use Rattle.neighbours.specs.theory.Spacings.{corners-ratio, second-ratio
 use Rattle.neighbours.proofs.spacing.apart_ratio.Statement.{statement}
 use Rattle.neighbours.proofs.spacing.apart_ratio.Tie as tie
 
-enum-known-distance : tie.Need-enum-known-distance
-enum-known-distance c = search needs
-
-enum-known-distance-2 : tie.Need-enum-known-distance-2
-enum-known-distance-2 c = search needs
-
-enum-known-distance-3 : tie.Need-enum-known-distance-3
-enum-known-distance-3 c = search needs
-
 returns : tie.Need-returns
 returns c =
     let found = c .before .distance .given in
@@ -29,12 +20,4 @@ returns-3 c =
     first-ratio _ (c .before .before .before .pre) _ _ _ _ _ (found .1)
 
 pub apart-ratio-spec : {M : Type 1} → statement M
-apart-ratio-spec =
-    tie.close
-    (tie.spec
-    enum-known-distance
-    enum-known-distance-2
-    enum-known-distance-3
-    returns
-    returns-2
-    returns-3)
+apart-ratio-spec = tie.close (tie.spec (λ c. search needs) (λ c. search needs) (λ c. search needs) returns returns-2 returns-3)

@@ -7,12 +7,6 @@ use Rattle.neighbours.specs.theory.Spacings.{meets-ratio}
 use Rattle.neighbours.proofs.spacing.as_ratio.Statement.{statement}
 use Rattle.neighbours.proofs.spacing.as_ratio.Tie as tie
 
-enum-known-w : tie.Need-enum-known-w
-enum-known-w c = search needs
-
-enum-told : tie.Need-enum-told
-enum-told c = search needs
-
 returns : tie.Need-returns
 returns c = meets-ratio (c .enum-told .given .1)
 
@@ -25,4 +19,4 @@ returns-2 c =
     (c .apart-ratio .ensures)
 
 pub as-ratio-spec : {M : Type 1} → statement M
-as-ratio-spec = tie.close (tie.spec enum-known-w enum-told returns apart-ratio-requires returns-2)
+as-ratio-spec = tie.close (tie.spec (λ c. search needs) (λ c. search needs) returns apart-ratio-requires returns-2)

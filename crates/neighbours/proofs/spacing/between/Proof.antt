@@ -1,56 +1,25 @@
--- `between` meets its contract: the nearest candidate is sought if the shapes are apart.
-use mathlib.Core.Path.{_≡_, sym, _∙_, ap}
-use mathlib.Core.Bool.{true}
-use native.Mathlib.Omega.{arith}
+-- `between` meets its contract: the numbers of clearance, where the shapes are apart.
+use mathlib.Core.Path.{_≡_, _∙_, subst}
 use borrow.Author.Needs.{needs}
 use Rattle.plane.specs.Point.{points}
-use Rattle.plane.specs.Separation.{apart}
-use Rattle.separation.specs.Answer.{numberOf}
-use Rattle.separation.specs.theory.Around.{related-apart, related-not-apart}
+use Rattle.clearance.specs.declared.Spacing.{Spacing}
+use Rattle.clearance.specs.Answer.{Spaced}
 use Rattle.neighbours.specs.theory.Spacings.{apart-numbers}
 use Rattle.neighbours.proofs.spacing.between.Statement.{statement}
 use Rattle.neighbours.proofs.spacing.between.Tie as tie
 
-relation-requires : tie.Need-relation-requires
-relation-requires c κs = search needs
-
-enum-told : tie.Need-enum-told
-enum-told c = search needs
-
--- past the relation the shapes are apart
-ready : (c : tie.After-enum-told) → let args = c .before .before .before .args in
-    apart (points (args .a .now)) (points (args .b .now)) ≡ true
-ready c = related-apart _ _ (ap numberOf (sym (c .enum-told .given .1)) ∙ c .before .before .relation .ensures)
-
-nearest-requires : tie.Need-nearest-requires
-nearest-requires c κs = let start = c .before .before .before in (start .pre .0, start .pre .1, ready c)
-
-enum-told-2 : tie.Need-enum-told-2
-enum-told-2 c = search needs
-
-enum-told-3 : tie.Need-enum-told-3
-enum-told-3 c = search needs
+-- what is known of the spacing, where it is told
+known : (c : tie.After-between) {s : Spacing} → c .between .result ≡ s → let args = c .before .args in
+    Spaced (points (args .a .now)) (points (args .b .now)) s
+known c e = let args = c .before .args in subst (Spaced (points (args .a .now)) (points (args .b .now))) e (c .between .ensures)
 
 returns : tie.Need-returns
-returns c = c .nearest .ensures ∙ apart-numbers _ _ (ready (c .before))
+returns c = apart-numbers _ _ (known (c .before .before) (c .enum-told .given .1))
 
 returns-2 : tie.Need-returns-2
-returns-2 c = apart-numbers _ _ (related-not-apart _ _ {n = 1} (omega arith)
-    (ap numberOf (sym (c .enum-told2 .given .1)) ∙ c .before .before .relation .ensures))
-
-returns-3 : tie.Need-returns-3
-returns-3 c = apart-numbers _ _ (related-not-apart _ _ {n = 2} (omega arith)
-    (ap numberOf (sym (c .enum-told3 .given .1)) ∙ c .before .before .relation .ensures))
+returns-2 c =
+    let apart = known (c .before .before .before) (c .before .distance .given .1) in
+    apart .1 ∙ apart-numbers _ _ (apart .0)
 
 pub between-spec : {M : Type 1} → statement M
-between-spec =
-    tie.close
-    (tie.spec
-    relation-requires
-    enum-told
-    nearest-requires
-    enum-told-2
-    enum-told-3
-    returns
-    returns-2
-    returns-3)
+between-spec = tie.close (tie.spec (λ c κs. search needs) (λ c. search needs) (λ c. search needs) returns returns-2)

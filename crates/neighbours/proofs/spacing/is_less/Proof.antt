@@ -6,15 +6,6 @@ use Rattle.neighbours.specs.theory.Spacings.{ratio-less, sized-whole}
 use Rattle.neighbours.proofs.spacing.is_less.Statement.{statement}
 use Rattle.neighbours.proofs.spacing.is_less.Tie as tie
 
-as-ratio-requires : tie.Need-as-ratio-requires
-as-ratio-requires c κs = search needs
-
-as-ratio-requires-2 : tie.Need-as-ratio-requires-2
-as-ratio-requires-2 c κs = search needs
-
-fraction-less-requires : tie.Need-fraction-less-requires
-fraction-less-requires c κs = search needs
-
 returns : tie.Need-returns
 returns c =
     let at-other = c .before in
@@ -25,5 +16,4 @@ returns c =
     (sized-whole (args .w) (pre .1)) (at-one .as-ratio .ensures) (at-other .as-ratio2 .ensures)
 
 pub is-less-spec : {M : Type 1} → statement M
-is-less-spec =
-    tie.close (tie.spec as-ratio-requires as-ratio-requires-2 fraction-less-requires returns)
+is-less-spec = tie.close (tie.spec (λ c κs. search needs) (λ c κs. search needs) (λ c κs. search needs) returns)

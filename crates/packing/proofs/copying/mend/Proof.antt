@@ -9,20 +9,11 @@ use Rattle.packing.specs.theory.Copying.{copied-same, copied-made, copie
 use Rattle.packing.proofs.copying.mend.Statement.{statement}
 use Rattle.packing.proofs.copying.mend.Tie as tie
 
-slice-read-if1 : tie.Need-slice-read-if1
-slice-read-if1 c = search needs
-
 returns : tie.Need-returns
 returns c =
     let start = c .before .before in
     copied-same (start .args .allowed) (start .args .need) (start .args .new .now) (start .args .at) (start .args .x) (start .pre .0)
     (c .if1 .taken)
-
-slice-write-new : tie.Need-slice-write-new
-slice-write-new c = search needs
-
-add-result : tie.Need-add-result
-add-result c = search needs
 
 -- both ways of the last test
 both : (c : tie.Joined2) → let args = c .before .before .before .args in
@@ -48,4 +39,4 @@ returns-2 : tie.Need-returns-2
 returns-2 c = both c
 
 pub mend-spec : {M : Type 1} → statement M
-mend-spec = tie.close (tie.spec slice-read-if1 returns slice-write-new add-result same-length returns-2)
+mend-spec = tie.close (tie.spec (λ c. search needs) returns (λ c. search needs) (λ c. search needs) same-length returns-2)

@@ -17,24 +17,12 @@ use Rattle.passage.proofs.corridor.corridor.Tie as tie
 apart-numbers : (A B : List Point) {t : Bool} → apart A B ≡ t → cond t (widestNumbers A B) (pos 0 ∷ []) ≡ corridorNumbers A B
 apart-numbers A B e = ap (λ (t : Bool). cond t (widestNumbers A B) (pos 0 ∷ [])) (sym e)
 
-relation-requires : tie.Need-relation-requires
-relation-requires c κs = search needs
-
-enum-told : tie.Need-enum-told
-enum-told c = search needs
-
 ready : (c : tie.After-enum-told) → let args = c .before .before .before .args in
     apart (points (args .a .now)) (points (args .b .now)) ≡ true
 ready c = related-apart _ _ (ap numberOf (sym (c .enum-told .given .1)) ∙ c .before .before .relation .ensures)
 
 widest-requires : tie.Need-widest-requires
 widest-requires c κs = let pre = c .before .before .before .pre in (pre .0, pre .1, ready c)
-
-enum-told-2 : tie.Need-enum-told-2
-enum-told-2 c = search needs
-
-enum-told-3 : tie.Need-enum-told-3
-enum-told-3 c = search needs
 
 returns : tie.Need-returns
 returns c = c .widest .ensures ∙ apart-numbers _ _ (ready (c .before))
@@ -50,4 +38,5 @@ returns-3 c = apart-numbers _ _ (related-not-apart _ _ (omega arith)
 pub corridor-spec : {M : Type 1} → statement M
 corridor-spec =
     tie.close
-    (tie.spec relation-requires enum-told widest-requires enum-told-2 enum-told-3 returns returns-2 returns-3)
+    (tie.spec (λ c κs. search needs) (λ c. search needs) widest-requires (λ c. search needs) (λ c. search needs) returns returns-2
+    returns-3)

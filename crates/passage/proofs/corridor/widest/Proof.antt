@@ -37,9 +37,6 @@ one c = points (c .args .a .now)
 abbrev other : tie.Start → List Point
 other c = points (c .args .b .now)
 
-towards-requires : tie.Need-towards-requires
-towards-requires c κs = search needs
-
 primitive-requires : tie.Need-primitive-requires
 primitive-requires c κs =
     let start = c .before in
@@ -139,6 +136,4 @@ returns c =
     (ap₂ (λ (z : ℤ) (w : ℕ). z ∷ pos w ∷ []) (machine-is (machine-read w64 _ (known f k)) tt) width))
 
 pub widest-spec : {M : Type 1} → statement M
-widest-spec =
-    tie.close
-    (tie.spec towards-requires primitive-requires reach-requires least-requires sub-width width-requires returns)
+widest-spec = tie.close (tie.spec (λ c κs. search needs) primitive-requires reach-requires least-requires sub-width width-requires returns)

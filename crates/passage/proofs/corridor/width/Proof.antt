@@ -19,9 +19,6 @@ use Rattle.separator.specs.theory.Direction.{good-small}
 use Rattle.passage.proofs.corridor.width.Statement.{statement}
 use Rattle.passage.proofs.corridor.width.Tie as tie
 
-magnitude-requires : tie.Need-magnitude-requires
-magnitude-requires c κs = search needs
-
 dot-requires : tie.Need-dot-requires
 dot-requires c κs = let small = small-wide (good-small _ (c .before .pre .1)) in (small, small)
 
@@ -52,6 +49,4 @@ returns c =
     (ap natAbs (sym (length-is at-length)))
 
 pub width-spec : {M : Type 1} → statement M
-width-spec =
-    tie.close
-    (tie.spec magnitude-requires dot-requires magnitude-requires-2 root-of-fraction-requires returns)
+width-spec = tie.close (tie.spec (λ c κs. search needs) dot-requires magnitude-requires-2 root-of-fraction-requires returns)

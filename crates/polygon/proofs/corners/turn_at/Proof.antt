@@ -9,19 +9,10 @@ use Rattle.polygon.specs.theory.Small.{small-corner, small-step}
 use Rattle.polygon.proofs.corners.turn_at.Statement.{statement}
 use Rattle.polygon.proofs.corners.turn_at.Tie as tie
 
-corner-at-requires : tie.Need-corner-at-requires
-corner-at-requires c κs = search needs
-
-corner-at-requires-2 : tie.Need-corner-at-requires-2
-corner-at-requires-2 c κs = search needs
-
 step-requires : tie.Need-step-requires
 step-requires c κs =
     let pre = c .before .before .pre in
     (small-corner _ (pre .3) _ (pre .0) (c .before .corner-at .ensures), small-corner _ (pre .3) _ (pre .1) (c .corner-at2 .ensures))
-
-corner-at-requires-3 : tie.Need-corner-at-requires-3
-corner-at-requires-3 c κs = search needs
 
 step-requires-2 : tie.Need-step-requires-2
 step-requires-2 c κs =
@@ -47,4 +38,4 @@ returns c =
 pub turn-at-spec : {M : Type 1} → statement M
 turn-at-spec =
     tie.close
-    (tie.spec corner-at-requires corner-at-requires-2 step-requires corner-at-requires-3 step-requires-2 cross-requires returns)
+    (tie.spec (λ c κs. search needs) (λ c κs. search needs) step-requires (λ c κs. search needs) step-requires-2 cross-requires returns)

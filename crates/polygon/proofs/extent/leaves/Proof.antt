@@ -22,15 +22,6 @@ add-x c = machine-fits (search (machine, bounded) depth 40) tt
 add-y : tie.Need-add-y
 add-y c = machine-fits (search (machine, bounded) depth 40) tt
 
-outside-requires : tie.Need-outside-requires
-outside-requires c κs = search needs
-
-outside-requires-2 : tie.Need-outside-requires-2
-outside-requires-2 c κs = search needs
-
-either-requires : tie.Need-either-requires
-either-requires c κs = search needs
-
 returns : tie.Need-returns
 returns c =
     let second = c .before in
@@ -40,4 +31,4 @@ returns c =
     (second .outside2 .ensures ∙ ap outside (sum-is (pre .0 .small-y) (pre .1 .small-y)))
 
 pub leaves-spec : {M : Type 1} → statement M
-leaves-spec = tie.close (tie.spec add-x add-y outside-requires outside-requires-2 either-requires returns)
+leaves-spec = tie.close (tie.spec add-x add-y (λ c κs. search needs) (λ c κs. search needs) (λ c κs. search needs) returns)

@@ -17,12 +17,6 @@ use Rattle.polygon.proofs.extent.upper.Tie as tie
 read : {z : ℤ} → Within (2 ^ 21) z → toZ w32 (ofZ w32 z) ≡ z
 read h = toZ-ofZ (within-fits tt h)
 
-greater-requires : tie.Need-greater-requires
-greater-requires c κs = search needs
-
-greater-requires-2 : tie.Need-greater-requires-2
-greater-requires-2 c κs = search needs
-
 returns : tie.Need-returns
 returns c =
     let first = c .before .before .before in
@@ -31,4 +25,4 @@ returns c =
     (result-is w32 (c .greater2 .ok) (c .greater2 .ensures ∙ ap₂ greater (read (pre .0 .small-y)) (read (pre .1 .small-y))))
 
 pub upper-spec : {M : Type 1} → statement M
-upper-spec = tie.close (tie.spec greater-requires greater-requires-2 returns)
+upper-spec = tie.close (tie.spec (λ c κs. search needs) (λ c κs. search needs) returns)

@@ -11,9 +11,6 @@ use Rattle.plane.specs.Refusal.{outside}
 use Rattle.polygon.proofs.limits.outside.Statement.{statement}
 use Rattle.polygon.proofs.limits.outside.Tie as tie
 
-sub-beyond : tie.Need-sub-beyond
-sub-beyond c = search needs
-
 beyond-requires : tie.Need-beyond-requires
 beyond-requires c κs = tt
 
@@ -25,4 +22,4 @@ returns c =
     ∙ beyond-size maxCoordinate (c .before .args .z)
 
 pub outside-spec : {M : Type 1} → statement M
-outside-spec = tie.close (tie.spec sub-beyond beyond-requires returns)
+outside-spec = tie.close (tie.spec (λ c. search needs) beyond-requires returns)

@@ -10,9 +10,6 @@ use Rattle.plane.specs.Limits.{maxPart}
 use Rattle.polygon.proofs.limits.outside_part.Statement.{statement}
 use Rattle.polygon.proofs.limits.outside_part.Tie as tie
 
-sub-beyond : tie.Need-sub-beyond
-sub-beyond c = search needs
-
 beyond-requires : tie.Need-beyond-requires
 beyond-requires c κs = tt
 
@@ -24,4 +21,4 @@ returns c =
     ∙ beyond-size maxPart (c .before .args .z)
 
 pub outside-part-spec : {M : Type 1} → statement M
-outside-part-spec = tie.close (tie.spec sub-beyond beyond-requires returns)
+outside-part-spec = tie.close (tie.spec (λ c. search needs) beyond-requires returns)

@@ -15,9 +15,6 @@ top-requires c κs = c .pre .0 .shape .some
 write-from-requires : tie.Need-write-from-requires
 write-from-requires c κs = (c .before .top .ensures .within, c .before .before .pre .0 .inRange, c .before .before .pre .1)
 
-same-length : tie.Need-same-length
-same-length c = search needs
-
 returns : tie.Need-returns
 returns c =
     let at-top = c .before .before .before in
@@ -30,4 +27,4 @@ returns c =
     })))
 
 pub mirror-spec : {M : Type 1} → statement M
-mirror-spec = tie.close (tie.spec top-requires write-from-requires same-length returns)
+mirror-spec = tie.close (tie.spec top-requires write-from-requires (λ c. search needs) returns)

@@ -1,94 +1,91 @@
--- `write_from` meets its contract. The invariant: k corners of the answer are in the output, and the next comes from k places after
--- the start; the measure is what is left.
-use mathlib.Core.Path.{_≡_, sym, _∙_, ap, ap₂, subst}
-use mathlib.Core.List.{List}
-use Prim.Native.Nat.{ℕ, _+_, _*_, _-_, _≤_, _<_, zero-le}
+-- `write_from` meets its contract: the opposites from the start on, then those before it.
+use mathlib.Core.Path.{_≡_, sym, _∙_, ap, ap₂}
+use mathlib.Core.List.{List, _++_, map, map-append}
+use Prim.Native.Nat.{ℕ, _+_, _*_, _-_, _≤_}
 use native.Mathlib.Omega.{arith}
-use lib.IntN.{ℤ}
-use lib.ListN.{length}
-use Rattle.plane.specs.Point.{Point, points, numbers, corner, opposite}
-use Rattle.plane.specs.Shape.{next}
-use Rattle.plane.specs.Cycle.{turned}
-use Rattle.plane.specs.theory.lists.Turned.{turned-start, turned-below, turned-step}
-use Rattle.plane.specs.theory.lists.Filled.{Filled, filled-start, filled-length, filled-corner, filled-done}
-use Rattle.plane.specs.theory.mirror.Mirror.{mirroredFrom, mirroredFrom-length, mirroredFrom-numbers, mirroredFrom-at}
+use borrow.Author.Needs.{needs}
+use lib.IntN.{ℤ, negℤ}
+use lib.ListN.{length, take, drop, length-map, length-drop}
+use lib.Seq.{paste, length-paste}
+use Rattle.plane.specs.Point.{points, numbers, opposite}
+use Rattle.plane.specs.Corner.{mirrored}
+use Rattle.plane.specs.Output.{overwritten}
+use Rattle.plane.specs.theory.lists.Flat.{points-length, numbers-append}
+use Rattle.polygon.specs.theory.Negated.{negated-front, negated-rest, pasted-twice}
 use Rattle.polygon.proofs.opposite.write_from.Statement.{statement}
 use Rattle.polygon.proofs.opposite.write_from.Tie as tie
 
-abbrev Inv-loop : tie.InvT-loop
-Inv-loop list start out₀ n from₀ k₀ out from k =
-    Filled out₀ (numbers (mirroredFrom (points list) start)) (2 * k) out × (from ≡ turned (length (points list)) start k) × (k ≤ n)
+-- the opposites from the start on, and the opposites of the list: enough of each
+module _ (list : List ℤ) (start : ℕ) (h : start ≤ length (points list)) where
+  rest-enough : 2 * (length (points list) - start) ≤ length (map negℤ (drop (2 * start) list))
+  rest-enough =
+      omega (arith, length-map (drop (2 * start) list) negℤ, length-drop (2 * start) list, points-length list)
 
-abbrev μ-loop : tie.MeasureT-loop
-μ-loop list start out₀ n from₀ k₀ out from k = n - k
+  front-enough : 2 * start ≤ length (map negℤ list)
+  front-enough = omega (arith, length-map list negℤ, points-length list)
 
-count-requires : tie.Need-count-requires Inv-loop μ-loop
-count-requires c κs = tt
+  -- both, one after the other
+  joined : take (2 * (length (points list) - start)) (map negℤ (drop (2 * start) list)) ++ take (2 * start) (map negℤ list)
+      ≡ numbers (mirrored (drop start (points list) ++ take start (points list)))
+  joined =
+      ap₂ (λ (l m : List ℤ). l ++ m) (negated-rest start list h) (negated-front start list h)
+      ∙ sym (numbers-append (mirrored (drop start (points list))) (mirrored (take start (points list))))
+      ∙ ap numbers (sym (map-append opposite (drop start (points list)) (take start (points list))))
 
-loop-holds : tie.Need-loop-holds Inv-loop μ-loop
-loop-holds c = (filled-start _ _, sym (turned-start _ _ (c .before .pre .0)), zero-le)
-
--- the answer has two numbers for each corner, and the output has room for them
-two-each : (c : tie.Start Inv-loop μ-loop)
-    → length (numbers (mirroredFrom (points (c .args .list .now)) (c .args .start))) ≡ 2 * length (points (c .args .list .now))
-two-each c = mirroredFrom-numbers (points (c .args .list .now)) (c .args .start) (c .pre .0)
-
-length-kept : (c : tie.At-loop Inv-loop μ-loop) → length (c .loop .out) ≡ length (c .before .before .args .out .now)
-length-kept c =
+negate-requires : tie.Need-negate-requires
+negate-requires c κs =
     let start = c .before .before in
     let n = c .before .count .ensures in
-    filled-length (c .loop .inv .0) (omega (arith, n, two-each start, c .loop .inv .2)) (omega (arith, n, start .pre .2, c .loop .inv .2))
-
--- what the loop knows, said of the corners
-below : (c : tie.In-loop Inv-loop μ-loop) → c .before .loop .k < length (points (c .before .before .before .args .list .now))
-below c = omega (arith, c .before .before .count .ensures)
-
-from-below : (c : tie.In-loop Inv-loop μ-loop) → c .before .loop .from < length (points (c .before .before .before .args .list .now))
-from-below c = omega (arith, c .before .loop .inv .1, turned-below _ _ (c .before .before .before .pre .0) _ (below c))
-
-write-opposite-requires : tie.Need-write-opposite-requires Inv-loop μ-loop
-write-opposite-requires c κs =
-    let start = c .before .before .before .before in
-    (from-below (c .before), start .pre .1, omega (arith, below (c .before), start .pre .2, length-kept (c .before .before)))
-
-next-requires : tie.Need-next-requires Inv-loop μ-loop
-next-requires c κs = omega (arith, c .before .before .before .before .before .count .ensures, from-below (c .before .before .before))
-
-add-k : tie.Need-add-k Inv-loop μ-loop
-add-k c = omega arith
-
-loop-less : tie.Need-loop-less Inv-loop μ-loop
-loop-less c = omega arith
-
-loop-again : tie.Need-loop-again Inv-loop μ-loop
-loop-again c =
-    let in-loop = c .before .before .before .before in
-    let at-loop = in-loop .before in
-    let start = at-loop .before .before in
-    let ps = points (start .args .list .now) in
-    let from = at-loop .loop .inv .1 in
-    let at = ap (λ (i : ℕ). opposite (corner ps i)) from ∙ sym (mirroredFrom-at ps _ (start .pre .0) _ (below in-loop)) in (
-      subst (λ (out : List ℤ). Filled (start .args .out .now) (numbers (mirroredFrom ps (start .args .start)))
-          (2 * (at-loop .loop .k + 1)) out)
-          (sym (c .before .before .write-opposite .ensures))
-          (filled-corner (mirroredFrom ps (start .args .start)) (at-loop .loop .k) (at-loop .loop .inv .0)
-          (omega (arith, below in-loop, mirroredFrom-length ps (start .args .start) (start .pre .0)))
-          (omega (arith, two-each start, start .pre .2)) (ap (λ (p : Point). p .x) at) (ap (λ (p : Point). p .y) at)),
-      c .next .ensures .0 ∙ ap₂ next (at-loop .before .count .ensures) from ∙ sym (turned-step _ _ (start .pre .0) _ (below in-loop)),
-      omega arith,
+    let list = start .args .list .now in (
+      omega (arith, n, points-length list, start .pre .0),
+      omega (arith, n, start .pre .0, start .pre .2),
+      start .pre .1,
     )
 
-same-length : tie.Need-same-length Inv-loop μ-loop
-same-length c = length-kept (c .before)
+-- the output after the first of them, with the count of corners in place of what `count` answered
+first : (c : tie.After-negate) → let start = c .before .before .before in
+    c .negate .last .1 .1 .1 .0 ≡ paste (start .args .out .now) 0 (map negℤ (drop (2 * start .args .start) (start .args .list .now)))
+    (2 * (length (points (start .args .list .now)) - start .args .start))
+first c =
+    let start = c .before .before .before in
+    c .negate .ensures ∙ ap (λ (n : ℕ). paste (start .args .out .now) 0 (map negℤ (drop (2 * start .args .start) (start .args .list .now)))
+    (2 * (n - start .args .start))) (c .before .before .count .ensures)
 
-returns : tie.Need-returns Inv-loop μ-loop
+-- it is as long as it was
+first-length : (c : tie.After-negate) → length (c .negate .last .1 .1 .1 .0) ≡ length (c .before .before .before .args .out .now)
+first-length c =
+    let start = c .before .before .before in
+    let list = start .args .list .now in
+    ap length (first c) ∙ length-paste (start .args .out .now) 0 (map negℤ (drop (2 * start .args .start) list))
+    (2 * (length (points list) - start .args .start)) (omega (arith, start .pre .0, start .pre .2))
+    (rest-enough list (start .args .start) (omega (arith, start .pre .0)))
+
+negate-requires-2 : tie.Need-negate-requires-2
+negate-requires-2 c κs =
+    let at-negate = c .before .before in
+    let start = at-negate .before .before .before in
+    let n = at-negate .before .before .count .ensures in
+    let list = start .args .list .now in (
+      omega (arith, points-length list, start .pre .0),
+      omega (arith, n, start .pre .0, start .pre .2, first-length at-negate),
+      start .pre .1,
+    )
+
+returns : tie.Need-returns
 returns c =
-    let at-loop = c .before in
-    filled-done (at-loop .loop .inv .0)
-    (omega (arith, c .loop-test .left, at-loop .loop .inv .2, at-loop .before .count .ensures, two-each (at-loop .before .before)))
+    let at-negate = c .before .before .before .before in
+    let start = at-negate .before .before .before in
+    let list = start .args .list .now in
+    let below : start .args .start ≤ length (points list) = omega (arith, start .pre .0) in
+    pasted-twice (start .args .out .now) (map negℤ (drop (2 * start .args .start) list)) (map negℤ list)
+    (2 * (length (points list) - start .args .start)) (2 * start .args .start)
+    (rest-enough list (start .args .start) below) (front-enough list (start .args .start) below) _ _ (first at-negate)
+    (c .before .negate2 .ensures ∙ ap (λ (n : ℕ). paste (at-negate .negate .last .1 .1 .1 .0) (2 * (n - start .args .start))
+    (map negℤ list) (2 * start .args .start)) (at-negate .before .before .count .ensures))
+    ∙ ap (λ (l : List ℤ). overwritten l (start .args .out .now)) (joined list (start .args .start) below)
 
 pub write-from-spec : {M : Type 1} → statement M
 write-from-spec =
     tie.close
-    (tie.spec Inv-loop μ-loop count-requires loop-holds write-opposite-requires next-requires add-k loop-less loop-again
-    same-length returns)
+    (tie.spec (λ c κs. search needs) (λ c. search needs) (λ c. search needs) (λ c. search needs) negate-requires (λ c. search needs)
+    (λ c. search needs) negate-requires-2 (λ c. search needs) returns)

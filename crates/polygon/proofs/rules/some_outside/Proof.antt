@@ -28,18 +28,6 @@ told c = c .outside .ensures ∙ ap outside (toZ-ofZ (sfits-of (c .before .outsi
 loop-holds : tie.Need-loop-holds Inv-loop μ-loop
 loop-holds c = (omega arith, refl)
 
-mul-outside : tie.Need-mul-outside Inv-loop μ-loop
-mul-outside c = search needs
-
-shared-slice-copy-out-outside : tie.Need-shared-slice-copy-out-outside Inv-loop μ-loop
-shared-slice-copy-out-outside c = search needs
-
-outside-requires : tie.Need-outside-requires Inv-loop μ-loop
-outside-requires c κs = search needs
-
-either-requires : tie.Need-either-requires Inv-loop μ-loop
-either-requires c κs = search needs
-
 add-i : tie.Need-add-i Inv-loop μ-loop
 add-i c = omega arith
 
@@ -67,5 +55,5 @@ returns c =
 pub some-outside-spec : {M : Type 1} → statement M
 some-outside-spec =
     tie.close
-    (tie.spec Inv-loop μ-loop loop-holds mul-outside shared-slice-copy-out-outside outside-requires either-requires add-i loop-less
-    loop-again returns)
+    (tie.spec Inv-loop μ-loop loop-holds (λ c. search needs) (λ c. search needs) (λ c κs. search needs) (λ c κs. search needs) add-i
+    loop-less loop-again returns)

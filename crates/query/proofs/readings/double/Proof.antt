@@ -6,17 +6,8 @@ use borrow.Author.Needs.{needs}
 use Rattle.query.proofs.readings.double.Statement.{statement}
 use Rattle.query.proofs.readings.double.Tie as tie
 
-is-nan-requires : tie.Need-is-nan-requires
-is-nan-requires c κs = search needs
-
-returns : tie.Need-returns
-returns c = search needs
-
 float-from-bits-result : tie.Need-float-from-bits-result
 float-from-bits-result c = subst (λ (b : Bool). T (not b)) (sym (sym (c .before .is-nan .ensures) ∙ c .if1 .left)) tt
 
-returns-2 : tie.Need-returns-2
-returns-2 c = search needs
-
 pub double-spec : {M : Type 1} → statement M
-double-spec = tie.close (tie.spec is-nan-requires returns float-from-bits-result returns-2)
+double-spec = tie.close (tie.spec (λ c κs. search needs) (λ c. search needs) float-from-bits-result (λ c. search needs))

@@ -24,30 +24,6 @@ returns c =
     let start = c .before .before in
     sym (few-inside _ _ _ (omega (arith, c .if1 .taken)))
 
-previous-requires : tie.Need-previous-requires
-previous-requires c κs = search needs
-
-mul-before : tie.Need-mul-before
-mul-before c = search needs
-
-shared-slice-read-before : tie.Need-shared-slice-read-before
-shared-slice-read-before c = search needs
-
-mul-at : tie.Need-mul-at
-mul-at c = search needs
-
-shared-slice-read-at : tie.Need-shared-slice-read-at
-shared-slice-read-at c = search needs
-
-next-requires : tie.Need-next-requires
-next-requires c κs = search needs
-
-mul-after : tie.Need-mul-after
-mul-after c = search needs
-
-shared-slice-read-after : tie.Need-shared-slice-read-after
-shared-slice-read-after c = search needs
-
 turn-at-requires : tie.Need-turn-at-requires
 turn-at-requires c κs =
     let start = c .before .before .before .before .before .before .before in
@@ -134,5 +110,6 @@ returns-5 c =
 pub turns-in-spec : {M : Type 1} → statement M
 turns-in-spec =
     tie.close
-    (tie.spec returns previous-requires mul-before shared-slice-read-before mul-at shared-slice-read-at next-requires mul-after
-    shared-slice-read-after turn-at-requires returns-2 returns-3 precedes-at-requires returns-4 precedes-at-requires-2 returns-5)
+    (tie.spec returns (λ c κs. search needs) (λ c. search needs) (λ c. search needs) (λ c. search needs) (λ c. search needs)
+    (λ c κs. search needs) (λ c. search needs) (λ c. search needs) turn-at-requires returns-2 returns-3 precedes-at-requires returns-4
+    precedes-at-requires-2 returns-5)

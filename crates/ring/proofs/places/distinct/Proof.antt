@@ -19,9 +19,6 @@ use Rattle.ring.specs.theory.Under.{Under, under-at, under-weaken, walke
 use Rattle.ring.proofs.places.distinct.Statement.{statement}
 use Rattle.ring.proofs.places.distinct.Tie as tie
 
-gather-requires : tie.Need-gather-requires
-gather-requires c κs = search needs
-
 -- what was gathered
 module _ (c : tie.After-gather) where
   abbrev begin : tie.Start
@@ -71,9 +68,6 @@ less-closing-requires c κs =
       subst (λ (i : ℕ). i < b) (sym (last-is at)) (under-at b (all at) (under at) (length (all at) - 1) (omega arith)),
     )
 
-same-length : tie.Need-same-length
-same-length c = search needs
-
 returns : tie.Need-returns
 returns c =
     let at = c .before .before .before .before in
@@ -96,4 +90,5 @@ returns c =
 pub distinct-spec : {M : Type 1} → statement M
 distinct-spec =
     tie.close
-    (tie.spec gather-requires sub-less-closing mul-less-closing slice-read-less-closing less-closing-requires same-length returns)
+    (tie.spec (λ c κs. search needs) sub-less-closing mul-less-closing slice-read-less-closing less-closing-requires (λ c. search needs)
+    returns)

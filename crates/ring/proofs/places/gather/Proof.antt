@@ -64,12 +64,6 @@ same-at-requires c κs =
 keep-requires : tie.Need-keep-requires Inv-loop μ-loop
 keep-requires c κs = room (c .before .before .before)
 
-add-i : tie.Need-add-i Inv-loop μ-loop
-add-i c = omega arith
-
-loop-less : tie.Need-loop-less Inv-loop μ-loop
-loop-less c = omega arith
-
 loop-again : tie.Need-loop-again Inv-loop μ-loop
 loop-again c =
     let at-keep = c .before .before in
@@ -116,5 +110,5 @@ returns c =
 pub gather-spec : {M : Type 1} → statement M
 gather-spec =
     tie.close
-    (tie.spec Inv-loop μ-loop slice-write-kept loop-holds next-requires same-at-requires keep-requires add-i loop-less loop-again
-    same-length returns)
+    (tie.spec Inv-loop μ-loop slice-write-kept loop-holds next-requires same-at-requires keep-requires (λ c. omega arith)
+    (λ c. omega arith) loop-again same-length returns)

@@ -13,18 +13,6 @@ use Rattle.ring.specs.Round.{optional}
 use Rattle.ring.proofs.places.keep.Statement.{statement}
 use Rattle.ring.proofs.places.keep.Tie as tie
 
-mul-kept : tie.Need-mul-kept
-mul-kept c = search needs
-
-slice-write-kept : tie.Need-slice-write-kept
-slice-write-kept c = search needs
-
-add-result : tie.Need-add-result
-add-result c = search needs
-
-same-length : tie.Need-same-length
-same-length c = search needs
-
 returns : tie.Need-returns
 returns c =
     let start = c .before in
@@ -35,9 +23,6 @@ returns c =
       le-refl (args .count + 1),
       length-set (args .kept .now) (args .count) (args .place),
     )
-
-same-length-2 : tie.Need-same-length-2
-same-length-2 c = search needs
 
 returns-2 : tie.Need-returns-2
 returns-2 c =
@@ -51,4 +36,6 @@ returns-2 c =
     )
 
 pub keep-spec : {M : Type 1} → statement M
-keep-spec = tie.close (tie.spec mul-kept slice-write-kept add-result same-length returns same-length-2 returns-2)
+keep-spec =
+    tie.close
+    (tie.spec (λ c. search needs) (λ c. search needs) (λ c. search needs) (λ c. search needs) returns (λ c. search needs) returns-2)

@@ -16,12 +16,6 @@ returns c =
     sym (ap (λ (t : Bool). cond (t && samePoint (corner ps (args .first)) (corner ps (args .last))) (args .n - 1) (args .n))
     (le-ltb 1 (args .n) (omega (arith, c .if1 .taken))))
 
-same-at-requires : tie.Need-same-at-requires
-same-at-requires c κs = search needs
-
-sub-result : tie.Need-sub-result
-sub-result c = search needs
-
 returns-2 : tie.Need-returns-2
 returns-2 c =
     let args = c .before .before .before .args in
@@ -35,4 +29,4 @@ returns-3 c =
     (sym (c .before .same-at .ensures) ∙ c .if2 .left))
 
 pub less-closing-spec : {M : Type 1} → statement M
-less-closing-spec = tie.close (tie.spec returns same-at-requires sub-result returns-2 returns-3)
+less-closing-spec = tie.close (tie.spec returns (λ c κs. search needs) (λ c. search needs) returns-2 returns-3)

@@ -5,9 +5,6 @@ use borrow.Author.Needs.{needs}
 use Rattle.ring.proofs.places.lower.Statement.{statement}
 use Rattle.ring.proofs.places.lower.Tie as tie
 
-precedes-at-requires : tie.Need-precedes-at-requires
-precedes-at-requires c κs = search needs
-
 returns : tie.Need-returns
 returns c =
     let args = c .before .before .args in
@@ -19,4 +16,4 @@ returns-2 c =
     sym (ap (λ (t : Bool). cond t (args .i) (args .best)) (sym (c .before .precedes-at .ensures) ∙ c .if1 .left))
 
 pub lower-spec : {M : Type 1} → statement M
-lower-spec = tie.close (tie.spec precedes-at-requires returns returns-2)
+lower-spec = tie.close (tie.spec (λ c κs. search needs) returns returns-2)

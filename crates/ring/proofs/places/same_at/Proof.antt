@@ -8,9 +8,6 @@ use Rattle.plane.specs.theory.forms.Precedes.{samePoint-neither}
 use Rattle.ring.proofs.places.same_at.Statement.{statement}
 use Rattle.ring.proofs.places.same_at.Tie as tie
 
-precedes-at-requires : tie.Need-precedes-at-requires
-precedes-at-requires c κs = search needs
-
 returns : tie.Need-returns
 returns c =
     let args = c .before .before .args in
@@ -18,9 +15,6 @@ returns c =
     sym (samePoint-neither (corner ps (args .i)) (corner ps (args .j))
     ∙ ap (λ (t : Bool). not t && not (precedes (corner ps (args .j)) (corner ps (args .i))))
     (sym (c .before .precedes-at .ensures) ∙ c .if1 .taken))
-
-precedes-at-requires-2 : tie.Need-precedes-at-requires-2
-precedes-at-requires-2 c κs = search needs
 
 returns-2 : tie.Need-returns-2
 returns-2 c =
@@ -31,4 +25,4 @@ returns-2 c =
     ∙ ap₂ (λ (s t : Bool). not s && not t) (sym (first .precedes-at .ensures) ∙ c .before .if1 .left) (sym (c .precedes-at2 .ensures)))
 
 pub same-at-spec : {M : Type 1} → statement M
-same-at-spec = tie.close (tie.spec precedes-at-requires returns precedes-at-requires-2 returns-2)
+same-at-spec = tie.close (tie.spec (λ c κs. search needs) returns (λ c κs. search needs) returns-2)

@@ -49,12 +49,6 @@ room c =
 keep-requires : tie.Need-keep-requires Inv-loop μ-loop
 keep-requires c κs = room (c .before .before .before)
 
-add-j : tie.Need-add-j Inv-loop μ-loop
-add-j c = omega arith
-
-loop-less : tie.Need-loop-less Inv-loop μ-loop
-loop-less c = omega arith
-
 loop-again : tie.Need-loop-again Inv-loop μ-loop
 loop-again c =
     let at-keep = c .before .before in
@@ -99,4 +93,5 @@ returns c =
 pub bends-spec : {M : Type 1} → statement M
 bends-spec =
     tie.close
-    (tie.spec Inv-loop μ-loop loop-holds bends-at-requires place-requires keep-requires add-j loop-less loop-again same-length returns)
+    (tie.spec Inv-loop μ-loop loop-holds bends-at-requires place-requires keep-requires (λ c. omega arith) (λ c. omega arith)
+    loop-again same-length returns)

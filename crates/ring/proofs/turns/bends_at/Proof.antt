@@ -13,20 +13,8 @@ use Rattle.ring.specs.theory.Steps.{sense-below, previous-below}
 use Rattle.ring.proofs.turns.bends_at.Statement.{statement}
 use Rattle.ring.proofs.turns.bends_at.Tie as tie
 
-previous-requires : tie.Need-previous-requires
-previous-requires c κs = search needs
-
 place-requires : tie.Need-place-requires
 place-requires c κs = c .previous .ensures .1
-
-next-requires : tie.Need-next-requires
-next-requires c κs = search needs
-
-place-requires-2 : tie.Need-place-requires-2
-place-requires-2 c κs = search needs
-
-place-requires-3 : tie.Need-place-requires-3
-place-requires-3 c κs = search needs
 
 -- the three places, said of the list
 module _ (c : tie.After-place3) where
@@ -73,4 +61,5 @@ returns c =
 pub bends-at-spec : {M : Type 1} → statement M
 bends-at-spec =
     tie.close
-    (tie.spec previous-requires place-requires next-requires place-requires-2 place-requires-3 straight-at-requires returns)
+    (tie.spec (λ c κs. search needs) place-requires (λ c κs. search needs) (λ c κs. search needs) (λ c κs. search needs)
+    straight-at-requires returns)

@@ -14,27 +14,6 @@ use Rattle.ring.specs.theory.Steps.{clockwise-at}
 use Rattle.ring.proofs.turns.clockwise.Statement.{statement}
 use Rattle.ring.proofs.turns.clockwise.Tie as tie
 
-sub-turn-at : tie.Need-sub-turn-at
-sub-turn-at c = search needs
-
-mul-turn-at : tie.Need-mul-turn-at
-mul-turn-at c = search needs
-
-shared-slice-read-turn-at : tie.Need-shared-slice-read-turn-at
-shared-slice-read-turn-at c = search needs
-
-shared-slice-read-turn-at-2 : tie.Need-shared-slice-read-turn-at-2
-shared-slice-read-turn-at-2 c = search needs
-
-next-requires : tie.Need-next-requires
-next-requires c κs = search needs
-
-mul-turn-at-2 : tie.Need-mul-turn-at-2
-mul-turn-at-2 c = search needs
-
-shared-slice-read-turn-at-3 : tie.Need-shared-slice-read-turn-at-3
-shared-slice-read-turn-at-3 c = search needs
-
 turn-at-requires : tie.Need-turn-at-requires
 turn-at-requires c κs =
     let start = c .before .before .before .before .before in
@@ -54,5 +33,5 @@ returns c =
 pub clockwise-spec : {M : Type 1} → statement M
 clockwise-spec =
     tie.close
-    (tie.spec sub-turn-at mul-turn-at shared-slice-read-turn-at shared-slice-read-turn-at-2 next-requires mul-turn-at-2
-    shared-slice-read-turn-at-3 turn-at-requires returns)
+    (tie.spec (λ c. search needs) (λ c. search needs) (λ c. search needs) (λ c. search needs) (λ c κs. search needs) (λ c. search needs)
+    (λ c. search needs) turn-at-requires returns)

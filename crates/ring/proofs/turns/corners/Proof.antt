@@ -8,15 +8,6 @@ use Rattle.ring.specs.Places.{Held}
 use Rattle.ring.proofs.turns.corners.Statement.{statement}
 use Rattle.ring.proofs.turns.corners.Tie as tie
 
-clockwise-requires : tie.Need-clockwise-requires
-clockwise-requires c κs = search needs
-
-bends-requires : tie.Need-bends-requires
-bends-requires c κs = search needs
-
-same-length : tie.Need-same-length
-same-length c = search needs
-
 returns : tie.Need-returns
 returns c =
     let at-bends = c .before .before in
@@ -26,4 +17,4 @@ returns c =
     (at-bends .bends .last .1 .1 .1 .0)) (at-sense .clockwise .ensures) (at-bends .bends .ensures)
 
 pub corners-spec : {M : Type 1} → statement M
-corners-spec = tie.close (tie.spec clockwise-requires bends-requires same-length returns)
+corners-spec = tie.close (tie.spec (λ c κs. search needs) (λ c κs. search needs) (λ c. search needs) returns)

@@ -11,34 +11,16 @@ use Rattle.ring.specs.theory.Steps.{sense-first, sense-back}
 use Rattle.ring.proofs.turns.place.Statement.{statement}
 use Rattle.ring.proofs.turns.place.Tie as tie
 
-mul-result : tie.Need-mul-result
-mul-result c = search needs
-
-shared-slice-read-result : tie.Need-shared-slice-read-result
-shared-slice-read-result c = search needs
-
 returns : tie.Need-returns
 returns c =
     let args = c .before .before .args in
     sym (ap (λ (b : Bool). getD (inSense b (args .kept .now)) (args .j) 0) (not-true (args .back) (c .before .if1 .taken)))
-
-shared-slice-read-result-2 : tie.Need-shared-slice-read-result-2
-shared-slice-read-result-2 c = search needs
 
 returns-2 : tie.Need-returns-2
 returns-2 c =
     let args = c .before .before .before .args in
     sym (ap (λ (i : ℕ). getD (inSense (args .back) (args .kept .now)) i 0) (c .before .if2 .taken) ∙ sense-first (args .back)
     (args .kept .now))
-
-sub-result : tie.Need-sub-result
-sub-result c = search needs
-
-mul-result-2 : tie.Need-mul-result-2
-mul-result-2 c = search needs
-
-shared-slice-read-result-3 : tie.Need-shared-slice-read-result-3
-shared-slice-read-result-3 c = search needs
 
 returns-3 : tie.Need-returns-3
 returns-3 c =
@@ -51,5 +33,5 @@ returns-3 c =
 pub place-spec : {M : Type 1} → statement M
 place-spec =
     tie.close
-    (tie.spec mul-result shared-slice-read-result returns shared-slice-read-result-2 returns-2 sub-result mul-result-2
-    shared-slice-read-result-3 returns-3)
+    (tie.spec (λ c. search needs) (λ c. search needs) returns (λ c. search needs) returns-2 (λ c. search needs) (λ c. search needs)
+    (λ c. search needs) returns-3)

@@ -5,12 +5,6 @@ use borrow.Author.Tests.{eq-eqb, ne-eqb}
 use Rattle.ring.proofs.turns.previous.Statement.{statement}
 use Rattle.ring.proofs.turns.previous.Tie as tie
 
-sub-result : tie.Need-sub-result
-sub-result c = search needs
-
-sub-result-2 : tie.Need-sub-result-2
-sub-result-2 c = search needs
-
 returns : tie.Need-returns
 returns c = (simp (eq-eqb _ _ (c .if1 .taken)), omega arith)
 
@@ -18,4 +12,4 @@ returns-2 : tie.Need-returns-2
 returns-2 c = (simp (ne-eqb _ _ (c .if1 .left)), omega arith)
 
 pub previous-spec : {M : Type 1} → statement M
-previous-spec = tie.close (tie.spec sub-result sub-result-2 returns returns-2)
+previous-spec = tie.close (tie.spec (λ c. search needs) (λ c. search needs) returns returns-2)

@@ -12,9 +12,6 @@ use Rattle.ring.specs.theory.Steps.{straight-left, straight-right, strai
 use Rattle.ring.proofs.turns.straight_at.Statement.{statement}
 use Rattle.ring.proofs.turns.straight_at.Tie as tie
 
-turn-at-requires : tie.Need-turn-at-requires
-turn-at-requires c κs = search needs
-
 returns : tie.Need-returns
 returns c =
     let t = result-is w64 (c .before .turn-at .ok) (c .before .turn-at .ensures) in
@@ -26,20 +23,11 @@ returns-2 c =
     let t = result-is w64 (at-turn .turn-at .ok) (at-turn .turn-at .ensures) in
     sym (straight-right _ _ _ (ap (ltZ (pos 0)) (sym t) ∙ c .before .if1 .left) (ap (λ (z : ℤ). ltZ z (pos 0)) (sym t) ∙ c .if2 .taken))
 
-corner-at-requires : tie.Need-corner-at-requires
-corner-at-requires c κs = search needs
-
-corner-at-requires-2 : tie.Need-corner-at-requires-2
-corner-at-requires-2 c κs = search needs
-
 step-requires : tie.Need-step-requires
 step-requires c κs =
     let start = c .before .before .before .before .before in
     let pre = start .pre in
     (small-corner _ (pre .3) _ (pre .0) (c .corner-at2 .ensures), small-corner _ (pre .3) _ (pre .1) (c .before .corner-at .ensures))
-
-corner-at-requires-3 : tie.Need-corner-at-requires-3
-corner-at-requires-3 c κs = search needs
 
 step-requires-2 : tie.Need-step-requires-2
 step-requires-2 c κs =
@@ -70,5 +58,5 @@ returns-3 c =
 pub straight-at-spec : {M : Type 1} → statement M
 straight-at-spec =
     tie.close
-    (tie.spec turn-at-requires returns returns-2 corner-at-requires corner-at-requires-2 step-requires corner-at-requires-3
+    (tie.spec (λ c κs. search needs) returns returns-2 (λ c κs. search needs) (λ c κs. search needs) step-requires (λ c κs. search needs)
     step-requires-2 dot-requires returns-3)

@@ -10,7 +10,6 @@ use Rattle.integer.specs.Machine.{result-is}
 use Rattle.plane.specs.Point.{points}
 use Rattle.plane.specs.Forms.{edges}
 use Rattle.plane.specs.theory.lists.Flat.{points-length}
-use Rattle.plane.specs.theory.sum.Positions.{edges-at-most}
 use Rattle.sums.specs.Advance.{nextCorners, Walked}
 use Rattle.calipers.specs.Image.{image}
 use Rattle.calipers.specs.Walk.{begun}
@@ -18,7 +17,7 @@ use Rattle.calipers.specs.theory.Carry.{first-next, edges-fit}
 use Rattle.calipers.specs.theory.Image.{image-count}
 use Rattle.sums.specs.theory.Summed.{next-few}
 use Rattle.sums.proofs.Walked.{walked-start, walked-at, walked-below, walked-more, walked-over}
-use Rattle.separation.specs.theory.Image.{image-begun, image-all}
+use Rattle.separation.specs.theory.Image.{image-begun, image-all, image-few, image-sides}
 use Rattle.separation.proofs.differences.count.Statement.{statement}
 use Rattle.separation.proofs.differences.count.Tie as tie
 
@@ -38,20 +37,15 @@ side-at-requires c κs = (omega arith, c .pre .0 .inRange, c .pre .0 .shape .som
 side-at-requires-2 : tie.Need-side-at-requires-2 Inv-loop μ-loop
 side-at-requires-2 c κs = let pre = c .before .pre in (pre .1, pre .2, omega arith)
 
--- all edges of both
-all : (c : tie.After-struct-known2 Inv-loop μ-loop) → let second = c .before .before in
-    let args = second .before .before .args in
-    second .before .side-at .result .end + second .side-at2 .result .end
-    ≡ length (edges (points (args .a .now))) + length (edges (points (image (args .b .now))))
-all c = let second = c .before .before in omega (arith, second .before .side-at .ensures .1 .end-is, second .side-at2 .ensures .1 .end-is)
-
 add-all : tie.Need-add-all Inv-loop μ-loop
 add-all c =
-    let start = c .before .before .before .before in
-    let few = edges-at-most (points (start .args .a .now)) in
-    let too = edges-at-most (points (image (start .args .b .now))) in
-    let count = image-count (start .args .b .now) (start .pre .1) in
-    omega (arith, all c, points-length (start .args .a .now), points-length (start .args .b .now))
+    let second = c .before .before in
+    let start = second .before .before in
+    omega (
+      arith,
+      image-sides (second .before .side-at .ensures .1) (second .side-at2 .ensures .1),
+      image-few _ _ (start .pre .0) (start .pre .1),
+    )
 
 loop-holds : tie.Need-loop-holds Inv-loop μ-loop
 loop-holds c =
@@ -94,10 +88,7 @@ add-if1 c =
     let start = at-next .before .before .before .before .before .before .before .before in
     let first = at-next .before .next .ensures .1 .at-in in
     let second = at-next .next2 .ensures .1 .at-in in
-    let few = edges-at-most (points (start .args .a .now)) in
-    let too = edges-at-most (points (image (start .args .b .now))) in
-    let count = image-count (start .args .b .now) (start .pre .1) in
-    omega (arith, points-length (start .args .a .now), points-length (start .args .b .now))
+    omega (arith, image-few _ _ (start .pre .0) (start .pre .1))
 
 returns : tie.Need-returns Inv-loop μ-loop
 returns c =
@@ -106,7 +97,8 @@ returns c =
     let start = at-loop .before .before .before .before .before in
     walked-over (at-loop .loop .inv) (result-is w64 (at-next .before .before .order .ok) (at-next .before .before .order .ensures)) _ _
     (at-next .before .next .ensures .0) (at-next .next2 .ensures .0) (at-next .before .next .ensures .1) (at-next .next2 .ensures .1)
-    (c .if1 .taken ∙ all (at-loop .before)) .counted
+    (c .if1 .taken ∙ image-sides (at-loop .before .before .before .before .side-at .ensures .1)
+    (at-loop .before .before .before .side-at2 .ensures .1)) .counted
     ∙ ap length (image-all _ _ (start .pre .0) (start .pre .1) (most (start .args .a .now) (start .args .b .now)) (omega arith))
 
 loop-less : tie.Need-loop-less Inv-loop μ-loop
@@ -120,7 +112,8 @@ loop-again c =
     let at-loop = at-next .before .before .before in
     walked-more (at-loop .loop .inv) (result-is w64 (at-next .before .before .order .ok) (at-next .before .before .order .ensures)) _ _
     (at-next .before .next .ensures .0) (at-next .next2 .ensures .0) (at-next .before .next .ensures .1) (at-next .next2 .ensures .1)
-    (λ e. c .if1 .left (e ∙ sym (all (at-loop .before)))) (λ e. omega (arith, below at-loop))
+    (λ e. c .if1 .left (e ∙ sym (image-sides (at-loop .before .before .before .before .side-at .ensures .1)
+    (at-loop .before .before .before .side-at2 .ensures .1)))) (λ e. omega (arith, below at-loop))
 
 pub count-spec : {M : Type 1} → statement M
 count-spec =

@@ -10,19 +10,10 @@ use Rattle.separation.specs.theory.Image.{differences-few}
 use Rattle.separation.proofs.differences.reckon.Statement.{statement}
 use Rattle.separation.proofs.differences.reckon.Tie as tie
 
-count-requires : tie.Need-count-requires
-count-requires c κs = search needs
-
-count-requires-2 : tie.Need-count-requires-2
-count-requires-2 c κs = search needs
-
 add-most : tie.Need-add-most
 add-most c =
     let start = c .before .before in
     omega (arith, c .before .count .ensures, c .count2 .ensures, points-length (start .args .a .now), points-length (start .args .b .now))
-
-suffices-requires : tie.Need-suffices-requires
-suffices-requires c κs = search needs
 
 returns : tie.Need-returns
 returns c =
@@ -40,4 +31,5 @@ returns-2 c = exact (c .count3 .ensures)
 
 pub reckon-spec : {M : Type 1} → statement M
 reckon-spec =
-    tie.close (tie.spec count-requires count-requires-2 add-most suffices-requires returns count-requires-3 returns-2)
+    tie.close
+    (tie.spec (λ c κs. search needs) (λ c κs. search needs) add-most (λ c κs. search needs) returns count-requires-3 returns-2)

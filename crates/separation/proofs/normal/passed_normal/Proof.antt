@@ -11,12 +11,6 @@ use Rattle.separation.specs.theory.Passed.{normal-left, normal-right}
 use Rattle.separation.proofs.normal.passed_normal.Statement.{statement}
 use Rattle.separation.proofs.normal.passed_normal.Tie as tie
 
-here-requires : tie.Need-here-requires
-here-requires c κs = search needs
-
-here-requires-2 : tie.Need-here-requires-2
-here-requires-2 c κs = search needs
-
 normal-requires : tie.Need-normal-requires
 normal-requires c κs = search (needs, small-plus)
 
@@ -36,12 +30,6 @@ returns c =
     ∙ normal-right (cornerOf (args .s)) (cornerOf (args .m)) (cornerOf (args .t))
     ∙ picked at-test (lt-ltb (args .s .at) (args .m .at) (c .before .before .before .if1 .taken))
 
-here-requires-3 : tie.Need-here-requires-3
-here-requires-3 c κs = search needs
-
-here-requires-4 : tie.Need-here-requires-4
-here-requires-4 c κs = search needs
-
 normal-requires-2 : tie.Need-normal-requires-2
 normal-requires-2 c κs = search (needs, small-plus)
 
@@ -56,4 +44,5 @@ returns-2 c =
 pub passed-normal-spec : {M : Type 1} → statement M
 passed-normal-spec =
     tie.close
-    (tie.spec here-requires here-requires-2 normal-requires returns here-requires-3 here-requires-4 normal-requires-2 returns-2)
+    (tie.spec (λ c κs. search needs) (λ c κs. search needs) normal-requires returns (λ c κs. search needs) (λ c κs. search needs)
+    normal-requires-2 returns-2)

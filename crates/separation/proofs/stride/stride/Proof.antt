@@ -11,8 +11,6 @@ use Rattle.integer.specs.Machine.{result-is}
 use Rattle.plane.specs.Point.{points}
 use Rattle.plane.specs.Refusal.{InRange, Valid}
 use Rattle.plane.specs.Forms.{edges}
-use Rattle.plane.specs.theory.lists.Flat.{points-length}
-use Rattle.plane.specs.theory.sum.Positions.{edges-at-most}
 use Rattle.polygon.specs.Peak.{Peak}
 use Rattle.polygon.specs.Point.{at, Small}
 use Rattle.polygon.specs.theory.Small.{small-wide}
@@ -20,9 +18,8 @@ use Rattle.calipers.specs.declared.side.Side.{Side}
 use Rattle.calipers.specs.Image.{image}
 use Rattle.calipers.specs.Side.{nextOf, Carried}
 use Rattle.calipers.specs.theory.Carry.{sides-here, here-near, first-next, corners-fit, edges-fit}
-use Rattle.calipers.specs.theory.Image.{image-edges}
 use Rattle.separation.specs.Passing.{Strode}
-use Rattle.separation.specs.theory.Image.{image-begun}
+use Rattle.separation.specs.theory.Image.{image-begun, image-few}
 use Rattle.separation.proofs.Striding.{strode-start, strode-at, strode-first, strode-second, strode-both, strode-same, goes-on}
 use Rattle.separation.proofs.stride.stride.Statement.{statement}
 use Rattle.separation.proofs.stride.stride.Tie as tie
@@ -39,45 +36,41 @@ side-at-requires c κs = (omega arith, c .pre .0 .inRange, c .pre .0 .shape .som
 side-at-requires-2 : tie.Need-side-at-requires-2 Inv-loop μ-loop
 side-at-requires-2 c κs = let pre = c .before .pre in (pre .1, pre .2, omega arith)
 
--- the walk begins
-begins : (c : tie.After-side-at2 Inv-loop μ-loop) → let args = c .before .before .args in
-    Strode (args .a .now) (image (args .b .now)) (c .before .side-at .result) (c .side-at2 .result) 0
-begins c =
+alone-requires : tie.Need-alone-requires Inv-loop μ-loop
+alone-requires c κs =
     let first = c .before in
-    strode-start (image-begun _ _ (first .before .pre .0) (first .before .pre .1)) (first .side-at .ensures .0) (c .side-at2 .ensures .0)
-    (first .side-at .ensures .1) (c .side-at2 .ensures .1)
+    let pre = first .before .pre in (
+      pre .0,
+      pre .1,
+      pre .2,
+      strode-start (image-begun _ _ (pre .0) (pre .1)) (first .side-at .ensures .0) (c .side-at2 .ensures .0) (first .side-at .ensures .1)
+          (c .side-at2 .ensures .1),
+    )
 
 -- the edges that are passed fit
 bound : (c : tie.Start Inv-loop μ-loop) {s t : Side} {joined : ℕ} → Strode (c .args .a .now) (image (c .args .b .now)) s t joined
     → s .at + t .at < 2 ^ 63
-bound c p =
-    let a = c .args .a .now in
-    let b = c .args .b .now in
-    omega (
-      arith,
-      p .first-side .at-in,
-      p .second-side .at-in,
-      edges-at-most (points a),
-      points-length a,
-      c .good .0,
-      image-edges b (c .pre .1),
-      edges-at-most (points b),
-      points-length b,
-      c .good .1 .0,
-    )
+bound c p = omega (
+  arith,
+  p .first-side .at-in,
+  p .second-side .at-in,
+  image-few _ _ (c .pre .0) (c .pre .1),
+  c .good .0,
+  c .good .1 .0,
+)
 
 are-inside-requires : tie.Need-are-inside-requires Inv-loop μ-loop
-are-inside-requires c κs = let fits = bound (c .before .before) (begins c) in (omega (arith, fits), omega (arith, fits))
+are-inside-requires c κs = let fits = bound (c .before .before .before) (c .alone .ensures) in (omega (arith, fits), omega (arith, fits))
 
 returns : tie.Need-returns Inv-loop μ-loop
-returns c = begins (c .before .before)
+returns c = c .before .before .alone .ensures
 
 loop-holds : tie.Need-loop-holds Inv-loop μ-loop
 loop-holds c =
-    let three = c .before .are-inside .ensures (not-false _ (c .if1 .left)) in (begins (c .before .before), three .0, three .1)
+    let three = c .before .are-inside .ensures (not-false _ (c .if1 .left)) in (c .before .before .alone .ensures, three .0, three .1)
 
 abbrev start : tie.At-loop Inv-loop μ-loop → tie.Start Inv-loop μ-loop
-start c = c .before .before .before .before .before
+start c = c .before .before .before .before .before .before
 
 here-requires : tie.Need-here-requires Inv-loop μ-loop
 here-requires c κs = let p = c .loop .inv .0 in corners-fit (strode-at p) (p .first-side) (p .second-side)
@@ -158,7 +151,7 @@ further c =
     let product = result-is w64 (o .order .ok) (o .order .ensures) in
     elim (c .if2 .came) [
       | inl q ↦ (
-        strode-same (q .4) (q .5) (q .6) (strode-first p (inv .1) (inv .2) product (o .before .here .ensures) (q .2 .left)
+        strode-same (q .4) (q .5) (q .6) (strode-first p product (o .before .here .ensures) (q .2 .left) (inv .1) (inv .2)
             (q .0 .taken) (result-is w64 (q .1 .ok) (q .1 .ensures)) _ (q .3 .ensures .0) (q .3 .ensures .1)),
         omega (
           arith,
@@ -171,7 +164,7 @@ further c =
       )
       | inr r ↦ elim r [
         | inl q ↦ (
-          strode-same (q .5) (q .6) (q .7) (strode-second p (inv .1) (inv .2) product (o .before .here .ensures) (q .3 .left)
+          strode-same (q .5) (q .6) (q .7) (strode-second p product (o .before .here .ensures) (q .3 .left) (inv .1) (inv .2)
               (q .1 .taken) (result-is w64 (q .2 .ok) (q .2 .ensures)) _ (q .4 .ensures .0) (q .4 .ensures .1)),
           omega (
             arith,
@@ -183,7 +176,7 @@ further c =
           ),
         )
         | inr q ↦ (
-          strode-same (q .6) (q .7) (q .8) (strode-both p (inv .1) (inv .2) product (o .before .here .ensures) (q .3 .left)
+          strode-same (q .6) (q .7) (q .8) (strode-both p product (o .before .here .ensures) (q .3 .left) (inv .1) (inv .2)
               (q .0 .left) (q .1 .left) (result-is w64 (q .2 .ok) (q .2 .ensures)) _ _ (q .4 .ensures .0) (q .5 .ensures .0)
               (q .4 .ensures .1) (q .5 .ensures .1)),
           omega (
@@ -218,6 +211,6 @@ loop-again c =
 pub stride-spec : {M : Type 1} → statement M
 stride-spec =
     tie.close
-    (tie.spec Inv-loop μ-loop side-at-requires side-at-requires-2 are-inside-requires returns loop-holds here-requires order-requires
-    moment-requires returns-2 ahead-requires moment-requires-2 returns-3 ahead-requires-2 joint-moment-requires returns-4
+    (tie.spec Inv-loop μ-loop side-at-requires side-at-requires-2 alone-requires are-inside-requires returns loop-holds here-requires
+    order-requires moment-requires returns-2 ahead-requires moment-requires-2 returns-3 ahead-requires-2 joint-moment-requires returns-4
     ahead-requires-3 ahead-requires-4 add-joined are-inside-requires-2 returns-5 loop-less loop-again)

@@ -15,12 +15,6 @@ use Rattle.separation.specs.theory.Within.{segment-off, segment-level}
 use Rattle.separation.proofs.within.on_segment.Statement.{statement}
 use Rattle.separation.proofs.within.on_segment.Tie as tie
 
-step-requires : tie.Need-step-requires
-step-requires c κs = search needs
-
-step-requires-2 : tie.Need-step-requires-2
-step-requires-2 c κs = search needs
-
 cross-requires : tie.Need-cross-requires
 cross-requires c κs =
     let start = c .before .before in
@@ -50,6 +44,4 @@ returns-2 c =
     (sym (result-is w64 (at-cross .cross .ok) (crossed at-cross)) ∙ ap (toZ w64) (c .before .if1 .left))
 
 pub on-segment-spec : {M : Type 1} → statement M
-on-segment-spec =
-    tie.close
-    (tie.spec step-requires step-requires-2 cross-requires returns dot-requires returns-2)
+on-segment-spec = tie.close (tie.spec (λ c κs. search needs) (λ c κs. search needs) cross-requires returns dot-requires returns-2)

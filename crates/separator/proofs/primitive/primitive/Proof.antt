@@ -20,15 +20,6 @@ use Rattle.separator.proofs.Parts.{part-fits, part-read, point-read}
 use Rattle.separator.proofs.primitive.primitive.Statement.{statement}
 use Rattle.separator.proofs.primitive.primitive.Tie as tie
 
-magnitude-requires : tie.Need-magnitude-requires
-magnitude-requires c κs = search needs
-
-magnitude-requires-2 : tie.Need-magnitude-requires-2
-magnitude-requires-2 c κs = search needs
-
-divisor-requires : tie.Need-divisor-requires
-divisor-requires c κs = search needs
-
 -- the divisor, and that it fits
 divided : (c : tie.After-divisor) → let d = at (c .before .before .before .before .before .args .d) in
     c .divisor .result ≡ partsDivisor d
@@ -80,4 +71,4 @@ returns c =
     ∙ point-read (small at-divisor)
 
 pub primitive-spec : {M : Type 1} → statement M
-primitive-spec = tie.close (tie.spec magnitude-requires magnitude-requires-2 divisor-requires cast-g div-t6 div-t7 returns)
+primitive-spec = tie.close (tie.spec (λ c κs. search needs) (λ c κs. search needs) (λ c κs. search needs) cast-g div-t6 div-t7 returns)

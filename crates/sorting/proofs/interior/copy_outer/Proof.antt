@@ -15,9 +15,6 @@ Inv-loop list inner buf₀ n i₀ k₀ buf i k = Sifting inner (points list) buf
 abbrev μ-loop : tie.MeasureT-loop
 μ-loop list inner buf₀ n i₀ k₀ buf i k = n - i
 
-count-requires : tie.Need-count-requires Inv-loop μ-loop
-count-requires c κs = search needs
-
 loop-holds : tie.Need-loop-holds Inv-loop μ-loop
 loop-holds c = sift-start (c .before .args .inner) (points (c .before .args .list .now)) (c .before .pre)
 
@@ -35,9 +32,6 @@ put-requires : tie.Need-put-requires Inv-loop μ-loop
 put-requires c κs =
     let in-loop = c .before .before in
     omega (arith, room in-loop, points-length (in-loop .before .loop .buf))
-
-is-inside-requires : tie.Need-is-inside-requires Inv-loop μ-loop
-is-inside-requires c κs = search needs
 
 after-requires : tie.Need-after-requires Inv-loop μ-loop
 after-requires c κs =
@@ -74,5 +68,5 @@ returns c =
 pub copy-outer-spec : {M : Type 1} → statement M
 copy-outer-spec =
     tie.close
-    (tie.spec Inv-loop μ-loop count-requires loop-holds corner-at-requires put-requires is-inside-requires after-requires add-i loop-less
-    loop-again same-length returns)
+    (tie.spec Inv-loop μ-loop (λ c κs. search needs) loop-holds corner-at-requires put-requires (λ c κs. search needs) after-requires add-i
+    loop-less loop-again same-length returns)

@@ -14,33 +14,6 @@ use Rattle.polygon.specs.Point.{at}
 use Rattle.sorting.proofs.interior.inner_rectangle.Statement.{statement}
 use Rattle.sorting.proofs.interior.inner_rectangle.Tie as tie
 
-outermost-requires : tie.Need-outermost-requires
-outermost-requires c κs = search needs
-
-corner-at-requires : tie.Need-corner-at-requires
-corner-at-requires c κs = search needs
-
-corner-at-requires-2 : tie.Need-corner-at-requires-2
-corner-at-requires-2 c κs = search needs
-
-corner-at-requires-3 : tie.Need-corner-at-requires-3
-corner-at-requires-3 c κs = search needs
-
-corner-at-requires-4 : tie.Need-corner-at-requires-4
-corner-at-requires-4 c κs = search needs
-
-greater-requires : tie.Need-greater-requires
-greater-requires c κs = search needs
-
-lesser-requires : tie.Need-lesser-requires
-lesser-requires c κs = search needs
-
-greater-requires-2 : tie.Need-greater-requires-2
-greater-requires-2 c κs = search needs
-
-lesser-requires-2 : tie.Need-lesser-requires-2
-lesser-requires-2 c κs = search needs
-
 -- orders of numbers that are read back
 least : {r x : ℤ} → mag r < 2 ^ hbits w32 → mag x < 2 ^ hbits w32 → r ≤ℤ toZ w32 (ofZ w32 x) → toZ w32 (ofZ w32 r) ≤ℤ x
 least {r} {x} f g h = le-trans (le-of-eq (result-is w32 {x = r} f refl)) (le-trans h (le-of-eq (result-is w32 {x = x} g refl)))
@@ -97,5 +70,5 @@ returns c =
 pub inner-rectangle-spec : {M : Type 1} → statement M
 inner-rectangle-spec =
     tie.close
-    (tie.spec outermost-requires corner-at-requires corner-at-requires-2 corner-at-requires-3 corner-at-requires-4 greater-requires
-    lesser-requires greater-requires-2 lesser-requires-2 returns)
+    (tie.spec (λ c κs. search needs) (λ c κs. search needs) (λ c κs. search needs) (λ c κs. search needs) (λ c κs. search needs)
+    (λ c κs. search needs) (λ c κs. search needs) (λ c κs. search needs) (λ c κs. search needs) returns)

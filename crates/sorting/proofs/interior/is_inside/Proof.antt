@@ -10,12 +10,6 @@ use Rattle.sorting.specs.Interior.{isInside}
 use Rattle.sorting.proofs.interior.is_inside.Statement.{statement}
 use Rattle.sorting.proofs.interior.is_inside.Tie as tie
 
-is-between-requires : tie.Need-is-between-requires
-is-between-requires c κs = search needs
-
-is-between-requires-2 : tie.Need-is-between-requires-2
-is-between-requires-2 c κs = search needs
-
 across : (c : tie.After-is-between) → let args = c .before .before .before .before .args in
     c .is-between .result ≡ (ltZ (args .inner .left) (args .p .x) && ltZ (args .p .x) (args .inner .right))
 across c =
@@ -48,4 +42,4 @@ returns-2 : tie.Need-returns-2
 returns-2 c = c .if1 .left ∙ ap (λ (b : Bool). b && c .before .is-between2 .result) (sym (c .if1 .left)) ∙ told (c .before)
 
 pub is-inside-spec : {M : Type 1} → statement M
-is-inside-spec = tie.close (tie.spec is-between-requires is-between-requires-2 returns returns-2)
+is-inside-spec = tie.close (tie.spec (λ c κs. search needs) (λ c κs. search needs) returns returns-2)

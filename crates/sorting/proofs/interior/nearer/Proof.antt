@@ -7,12 +7,6 @@ use Rattle.sorting.specs.theory.Interior.{chosen-below}
 use Rattle.sorting.proofs.interior.nearer.Statement.{statement}
 use Rattle.sorting.proofs.interior.nearer.Tie as tie
 
-choose-requires : tie.Need-choose-requires
-choose-requires c κs = search needs
-
-pick-requires : tie.Need-pick-requires
-pick-requires c κs = search needs
-
 returns : tie.Need-returns
 returns c n far i =
     let start = c .before .before .before .before .before in
@@ -20,4 +14,4 @@ returns c n far i =
     chosen-below better (c .before .before .choose .ensures) i far
 
 pub nearer-spec : {M : Type 1} → statement M
-nearer-spec = tie.close (tie.spec choose-requires pick-requires returns)
+nearer-spec = tie.close (tie.spec (λ c κs. search needs) (λ c κs. search needs) returns)

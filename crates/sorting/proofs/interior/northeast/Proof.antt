@@ -7,8 +7,5 @@ use Rattle.sorting.proofs.interior.northeast.Tie as tie
 add-result : tie.Need-add-result
 add-result c = machine-fits (search (machine, bounded) depth 40) tt
 
-returns : tie.Need-returns
-returns c = search needs
-
 pub northeast-spec : {M : Type 1} → statement M
-northeast-spec = tie.close (tie.spec add-result returns)
+northeast-spec = tie.close (tie.spec add-result (λ c. search needs))

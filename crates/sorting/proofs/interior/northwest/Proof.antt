@@ -7,8 +7,5 @@ use Rattle.sorting.proofs.interior.northwest.Tie as tie
 sub-result : tie.Need-sub-result
 sub-result c = machine-fits (search (machine, bounded) depth 40) tt
 
-returns : tie.Need-returns
-returns c = search needs
-
 pub northwest-spec : {M : Type 1} → statement M
-northwest-spec = tie.close (tie.spec sub-result returns)
+northwest-spec = tie.close (tie.spec sub-result (λ c. search needs))

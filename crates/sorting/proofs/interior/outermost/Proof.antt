@@ -17,9 +17,6 @@ Inv-loop list n a₀ b₀ c₀ d₀ i₀ a b c d i = (a .at < n) × (b .at < n) 
 abbrev μ-loop : tie.MeasureT-loop
 μ-loop list n a₀ b₀ c₀ d₀ i₀ a b c d i = n - i
 
-count-requires : tie.Need-count-requires Inv-loop μ-loop
-count-requires c κs = search needs
-
 corner-at-requires : tie.Need-corner-at-requires Inv-loop μ-loop
 corner-at-requires c κs = c .before .pre .0
 
@@ -34,26 +31,14 @@ first c = small (c .before .before) 0 (c .before .before .pre .0) (c .corner-at 
 northeast-requires : tie.Need-northeast-requires Inv-loop μ-loop
 northeast-requires c κs = first c
 
-start-requires : tie.Need-start-requires Inv-loop μ-loop
-start-requires c κs = search needs
-
 northwest-requires : tie.Need-northwest-requires Inv-loop μ-loop
 northwest-requires c κs = first (c .before .before)
-
-start-requires-2 : tie.Need-start-requires-2 Inv-loop μ-loop
-start-requires-2 c κs = search needs
 
 northeast-requires-2 : tie.Need-northeast-requires-2 Inv-loop μ-loop
 northeast-requires-2 c κs = first (c .before .before .before .before)
 
-start-requires-3 : tie.Need-start-requires-3 Inv-loop μ-loop
-start-requires-3 c κs = search needs
-
 northwest-requires-2 : tie.Need-northwest-requires-2 Inv-loop μ-loop
 northwest-requires-2 c κs = first (c .before .before .before .before .before .before)
-
-start-requires-4 : tie.Need-start-requires-4 Inv-loop μ-loop
-start-requires-4 c κs = search needs
 
 loop-holds : tie.Need-loop-holds Inv-loop μ-loop
 loop-holds c =
@@ -87,18 +72,6 @@ northeast-requires-3 c κs = read c
 northwest-requires-3 : tie.Need-northwest-requires-3 Inv-loop μ-loop
 northwest-requires-3 c κs = read (c .before)
 
-further-requires : tie.Need-further-requires Inv-loop μ-loop
-further-requires c κs = search needs
-
-further-requires-2 : tie.Need-further-requires-2 Inv-loop μ-loop
-further-requires-2 c κs = search needs
-
-nearer-requires : tie.Need-nearer-requires Inv-loop μ-loop
-nearer-requires c κs = search needs
-
-nearer-requires-2 : tie.Need-nearer-requires-2 Inv-loop μ-loop
-nearer-requires-2 c κs = search needs
-
 add-i : tie.Need-add-i Inv-loop μ-loop
 add-i c =
     let in-loop = c .before .before .before .before .before .before .before in
@@ -129,6 +102,7 @@ returns c =
 pub outermost-spec : {M : Type 1} → statement M
 outermost-spec =
     tie.close
-    (tie.spec Inv-loop μ-loop count-requires corner-at-requires northeast-requires start-requires northwest-requires start-requires-2
-    northeast-requires-2 start-requires-3 northwest-requires-2 start-requires-4 loop-holds corner-at-requires-2 northeast-requires-3
-    northwest-requires-3 further-requires further-requires-2 nearer-requires nearer-requires-2 add-i loop-less loop-again returns)
+    (tie.spec Inv-loop μ-loop (λ c κs. search needs) corner-at-requires northeast-requires (λ c κs. search needs) northwest-requires
+    (λ c κs. search needs) northeast-requires-2 (λ c κs. search needs) northwest-requires-2 (λ c κs. search needs) loop-holds
+    corner-at-requires-2 northeast-requires-3 northwest-requires-3 (λ c κs. search needs) (λ c κs. search needs) (λ c κs. search needs)
+    (λ c κs. search needs) add-i loop-less loop-again returns)

@@ -11,11 +11,8 @@ inner-rectangle-requires c κs = (c .pre .0, c .pre .1)
 copy-outer-requires : tie.Need-copy-outer-requires
 copy-outer-requires c κs = c .before .before .pre .2
 
-same-length : tie.Need-same-length
-same-length c = search needs
-
 returns : tie.Need-returns
 returns c = outer-reduced _ _ (c .before .before .before .inner-rectangle .ensures) (c .before .copy-outer .ensures)
 
 pub reduce-spec : {M : Type 1} → statement M
-reduce-spec = tie.close (tie.spec inner-rectangle-requires copy-outer-requires same-length returns)
+reduce-spec = tie.close (tie.spec inner-rectangle-requires copy-outer-requires (λ c. search needs) returns)

@@ -10,11 +10,10 @@ use Rattle.integer.specs.Machine.{result-is}
 use Rattle.plane.specs.Point.{points}
 use Rattle.plane.specs.Forms.{edges}
 use Rattle.plane.specs.theory.lists.Flat.{points-length}
-use Rattle.plane.specs.theory.sum.Positions.{edges-at-most}
 use Rattle.sums.specs.Advance.{state, nextCorners, Walked}
 use Rattle.calipers.specs.theory.Carry.{first-next, second-next, edges-fit}
 use Rattle.sums.specs.theory.Summed.{next-few}
-use Rattle.sums.proofs.Walked.{walked-start, walked-at, walked-below, walked-more, walked-spent, walked-over}
+use Rattle.sums.proofs.Walked.{edges-sum, all-edges, walked-with, walked-at, walked-below, walked-more, walked-spent, walked-over}
 use Rattle.sums.proofs.size.count_on.Statement.{statement}
 use Rattle.sums.proofs.size.count_on.Tie as tie
 
@@ -26,44 +25,34 @@ abbrev μ-loop : tie.MeasureT-loop
 
 -- all edges of both
 all : (c : tie.After-struct-known2 Inv-loop μ-loop) → let second = c .before .before in
-    let args = second .before .before .args in
+    let args = second .before .before .before .args in
     second .before .side-at .result .end + second .side-at2 .result .end
     ≡ length (edges (points (args .a .now))) + length (edges (points (args .b .now)))
-all c = let second = c .before .before in omega (arith, second .before .side-at .ensures .1 .end-is, second .side-at2 .ensures .1 .end-is)
+all c = let second = c .before .before in all-edges (second .before .side-at .ensures .1) (second .side-at2 .ensures .1)
 
 add-all : tie.Need-add-all Inv-loop μ-loop
 add-all c =
-    let start = c .before .before .before .before in
-    let a = start .args .a .now in
-    let b = start .args .b .now in
-    omega (
-      arith,
-      all c,
-      edges-at-most (points a),
-      edges-at-most (points b),
-      points-length a,
-      points-length b,
-      start .good .0,
-      start .good .1 .0,
-    )
+    let start = c .before .before .before .before .before in
+    let sizes = start .good in
+    omega (arith, all c, edges-sum (start .args .a .now) (start .args .b .now) (omega (arith, sizes .0)) (omega (arith, sizes .1 .0)))
 
 side-at-requires : tie.Need-side-at-requires Inv-loop μ-loop
-side-at-requires c κs = let p = c .pre .0 in (p .standing .left-in, p .first-near, p .first-shape .some)
+side-at-requires c κs = let p = c .before .pre .0 in (c .begin .ensures .first-side .at-in, p .first-near, p .first-shape .some)
 
 side-at-requires-2 : tie.Need-side-at-requires-2 Inv-loop μ-loop
-side-at-requires-2 c κs = let p = c .before .pre .0 in (p .standing .right-in, p .second-near, p .second-shape .some)
+side-at-requires-2 c κs =
+    let p = c .before .before .pre .0 in (c .before .begin .ensures .second-side .at-in, p .second-near, p .second-shape .some)
 
 loop-holds : tie.Need-loop-holds Inv-loop μ-loop
 loop-holds c =
     let at-second = c .before .before in
     let first = at-second .before .side-at .ensures in
     let second = at-second .side-at2 .ensures in
-    let start = at-second .before .before in
-    walked-start (start .args .i) (start .args .j) (start .pre .0) (start .pre .1) _ _ (first .0) (second .0) (first .1) (second .1)
+    walked-with (at-second .before .before .begin .ensures) _ _ (first .0) (second .0) (first .1) (second .1)
 
 add-count : tie.Need-add-count Inv-loop μ-loop
 add-count c =
-    let start = c .before .before .before .before .before in
+    let start = c .before .before .before .before .before .before in
     let a = start .args .a .now in
     let b = start .args .b .now in
     omega (
@@ -88,17 +77,10 @@ next-requires-2 c κs = let w = c .before .before .loop .inv in second-next (wal
 add-if1 : tie.Need-add-if1 Inv-loop μ-loop
 add-if1 c =
     let at-next = c .before .before in
-    let start = at-next .before .before .before .before .before .before .before .before in
-    let a = start .args .a .now in
-    let b = start .args .b .now in
+    let start = at-next .before .before .before .before .before .before .before .before .before in
     omega (
       arith,
-      edges-at-most (points a),
-      edges-at-most (points b),
-      points-length a,
-      points-length b,
-      start .good .0,
-      start .good .1 .0,
+      edges-sum (start .args .a .now) (start .args .b .now) (omega (arith, start .good .0)) (omega (arith, start .good .1 .0)),
       at-next .before .next .ensures .1 .at-in,
       at-next .next2 .ensures .1 .at-in,
     )
@@ -135,5 +117,6 @@ loop-again c =
 pub count-on-spec : {M : Type 1} → statement M
 count-on-spec =
     tie.close
-    (tie.spec Inv-loop μ-loop side-at-requires side-at-requires-2 add-all loop-holds add-count order-requires next-requires next-requires-2
+    (tie.spec Inv-loop μ-loop (λ c κs. c .pre) side-at-requires side-at-requires-2 add-all loop-holds add-count order-requires
+    next-requires next-requires-2
     add-if1 returns returns-2 loop-less loop-again)

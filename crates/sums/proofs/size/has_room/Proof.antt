@@ -16,12 +16,6 @@ returns c =
     let few = next-at-most (args .a .now) (args .b .now) (state (args .i) (args .j) false) (args .k) in
     ((λ e. omega (arith, few, c .if1 .taken)), (λ e. absurd (true≢false e)))
 
-count-requires : tie.Need-count-requires
-count-requires c κs = search needs
-
-count-requires-2 : tie.Need-count-requires-2
-count-requires-2 c κs = search needs
-
 add-if2 : tie.Need-add-if2
 add-if2 c =
     let start = c .before .before .before in
@@ -36,9 +30,6 @@ returns-2 c =
     let few = next-few (args .a .now) (args .b .now) (state (args .i) (args .j) false) (args .k) (start .pre .0) in
     ((λ e. omega (arith, few, c .if2 .taken, c .before .before .count .ensures, c .before .count2 .ensures)), (λ e. absurd (true≢false e)))
 
-count-on-requires : tie.Need-count-on-requires
-count-on-requires c κs = search needs
-
 returns-3 : tie.Need-returns-3
 returns-3 c =
     let n = c .count-on .result in
@@ -49,4 +40,5 @@ returns-3 c =
 
 pub has-room-spec : {M : Type 1} → statement M
 has-room-spec =
-    tie.close (tie.spec returns count-requires count-requires-2 add-if2 returns-2 count-on-requires returns-3)
+    tie.close
+    (tie.spec returns (λ c κs. search needs) (λ c κs. search needs) add-if2 returns-2 (λ c κs. search needs) returns-3)

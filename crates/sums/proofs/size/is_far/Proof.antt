@@ -5,10 +5,10 @@ use Rattle.sums.proofs.size.is_far.Statement.{statement}
 use Rattle.sums.proofs.size.is_far.Tie as tie
 
 extent-of-requires : tie.Need-extent-of-requires
-extent-of-requires c κs = let v = c .pre .0 in (v .shape .some, v .inRange)
+extent-of-requires c κs = c .pre .0
 
 extent-of-requires-2 : tie.Need-extent-of-requires-2
-extent-of-requires-2 c κs = let v = c .before .pre .1 in (v .shape .some, v .inRange)
+extent-of-requires-2 c κs = c .before .pre .1
 
 is-far-requires : tie.Need-is-far-requires
 is-far-requires c κs =

@@ -13,12 +13,6 @@ use Rattle.sums.specs.theory.Summed.{sum-few, reckoned-count}
 use Rattle.sums.proofs.size.reckon.Statement.{statement}
 use Rattle.sums.proofs.size.reckon.Tie as tie
 
-count-requires : tie.Need-count-requires
-count-requires c κs = search needs
-
-count-requires-2 : tie.Need-count-requires-2
-count-requires-2 c κs = search needs
-
 add-most : tie.Need-add-most
 add-most c =
     let start = c .before .before in
@@ -31,16 +25,10 @@ few : (c : tie.After-count2) → let args = c .before .before .args in
     length (shapeOf (sums (points (args .a .now)) (points (args .b .now)))) ≤ c .before .count .result + c .count2 .result
 few c = let pre = c .before .before .pre in omega (arith, sum-few _ _ (pre .0) (pre .1), c .before .count .ensures, c .count2 .ensures)
 
-suffices-requires : tie.Need-suffices-requires
-suffices-requires c κs = search needs
-
 returns : tie.Need-returns
 returns c =
     let fits = c .before .suffices .ensures (c .if1 .taken) in
     enough (few (c .before .before)) (fits .0) (fits .1)
-
-add-count-on : tie.Need-add-count-on
-add-count-on c = search needs
 
 count-on-requires : tie.Need-count-on-requires
 count-on-requires c κs =
@@ -56,4 +44,5 @@ returns-2 c =
 pub reckon-spec : {M : Type 1} → statement M
 reckon-spec =
     tie.close
-    (tie.spec count-requires count-requires-2 add-most suffices-requires returns add-count-on count-on-requires returns-2)
+    (tie.spec (λ c κs. search needs) (λ c κs. search needs) add-most (λ c κs. search needs) returns (λ c. search needs) count-on-requires
+    returns-2)

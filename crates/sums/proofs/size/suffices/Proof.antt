@@ -9,9 +9,6 @@ use Rattle.plane.specs.Limits.{maxCorners}
 use Rattle.sums.proofs.size.suffices.Statement.{statement}
 use Rattle.sums.proofs.size.suffices.Tie as tie
 
-exceeds-corners-requires : tie.Need-exceeds-corners-requires
-exceeds-corners-requires c κs = search needs
-
 returns : tie.Need-returns
 returns c = λ e. absurd (false≢true e)
 
@@ -22,4 +19,4 @@ returns-2 c = λ e. (
 )
 
 pub suffices-spec : {M : Type 1} → statement M
-suffices-spec = tie.close (tie.spec exceeds-corners-requires returns returns-2)
+suffices-spec = tie.close (tie.spec (λ c κs. search needs) returns returns-2)

@@ -12,14 +12,8 @@ use Rattle.sums.proofs.walk.follows.Tie as tie
 returns : tie.Need-returns
 returns c = rw (eq-eqb _ 0 (c .if1 .taken))
 
-sides-requires : tie.Need-sides-requires
-sides-requires c κs = search needs
-
 returns-2 : tie.Need-returns-2
 returns-2 c = rw (ne-eqb _ 0 (c .before .before .if1 .left), eq-eqb _ _ (c .if2 .taken ∙ c .before .sides .ensures))
-
-sub-side-at : tie.Need-sub-side-at
-sub-side-at c = search needs
 
 side-at-requires : tie.Need-side-at-requires
 side-at-requires c κs =
@@ -49,4 +43,5 @@ returns-3 c =
 
 pub follows-spec : {M : Type 1} → statement M
 follows-spec =
-    tie.close (tie.spec returns sides-requires returns-2 sub-side-at side-at-requires side-at-requires-2 is-before-requires returns-3)
+    tie.close
+    (tie.spec returns (λ c κs. search needs) returns-2 (λ c. search needs) side-at-requires side-at-requires-2 is-before-requires returns-3)

@@ -1,6 +1,6 @@
 -- `is_place` meets its contract: test by test, and the places are told by these tests.
 use mathlib.Core.Path.{_≡_, sym, _∙_, ap}
-use mathlib.Core.Bool.{Bool, _&&_}
+use mathlib.Core.Bool.{Bool, true, false, _&&_}
 use Prim.Native.Nat.{_+_, _-_, _≤_}
 use native.Mathlib.Omega.{arith}
 use borrow.Author.Needs.{needs}
@@ -16,12 +16,6 @@ use Rattle.sums.specs.PlaceTest.{follows, ends, standsAt}
 use Rattle.sums.specs.theory.PlaceTest.{place-test}
 use Rattle.sums.proofs.walk.is_place.Statement.{statement}
 use Rattle.sums.proofs.walk.is_place.Tie as tie
-
-sides-requires : tie.Need-sides-requires
-sides-requires c κs = search needs
-
-sides-requires-2 : tie.Need-sides-requires-2
-sides-requires-2 c κs = search needs
 
 -- past the first two tests the edges are there
 first-in : (c : tie.Else1) → let start = c .before .before .before in start .args .i ≤ length (edges (points (start .args .a .now)))
@@ -98,17 +92,20 @@ add-ends c = omega (arith, few (c .before .before), corners-small)
 add-ends-2 : tie.Need-add-ends-2
 add-ends-2 c = omega (arith, few (c .before .before), corners-small)
 
-ends-requires : tie.Need-ends-requires
-ends-requires c κs = search needs
-
-returns-3 : tie.Need-returns-3
-returns-3 c =
-    let args = c .before .before .before .before .before .before .args in
+-- the test of the end, once it is known
+told : (c : tie.After-ends) (t : Bool) → c .ends .result ≡ t → let args = c .before .before .before .before .before .args in
     let E = edges (points (args .a .now)) in
     let F = edges (points (args .b .now)) in
-    ap (λ (t : Bool). t && (follows E (args .i) F (args .j) && follows F (args .j) E (args .i)))
-    (sym (not-true (c .before .ends .result) (c .if3 .taken)))
-    ∙ tested (c .before)
+    (t && (follows E (args .i) F (args .j) && follows F (args .j) E (args .i)))
+    ≡ isPlace (args .a .now) (args .b .now) (state (args .i) (args .j) (args .over))
+told c t e =
+    let args = c .before .before .before .before .before .args in
+    let E = edges (points (args .a .now)) in
+    let F = edges (points (args .b .now)) in
+    ap (λ (t : Bool). t && (follows E (args .i) F (args .j) && follows F (args .j) E (args .i))) (sym e) ∙ tested c
+
+returns-3 : tie.Need-returns-3
+returns-3 c = told (c .before) false (not-true (c .before .ends .result) (c .if3 .taken))
 
 -- past these tests it is a place if both lists follow
 both-follow : (c : tie.Else3) → let args = c .before .before .before .before .before .before .args in
@@ -116,13 +113,7 @@ both-follow : (c : tie.Else3) → let args = c .before .before .before .before .
     let F = edges (points (args .b .now)) in
     (follows E (args .i) F (args .j) && follows F (args .j) E (args .i))
     ≡ isPlace (args .a .now) (args .b .now) (state (args .i) (args .j) (args .over))
-both-follow c =
-    let args = c .before .before .before .before .before .before .args in
-    let E = edges (points (args .a .now)) in
-    let F = edges (points (args .b .now)) in
-    ap (λ (t : Bool). t && (follows E (args .i) F (args .j) && follows F (args .j) E (args .i)))
-    (sym (not-false (c .before .ends .result) (c .if3 .left)))
-    ∙ tested (c .before)
+both-follow c = told (c .before) true (not-false (c .before .ends .result) (c .if3 .left))
 
 follows-requires : tie.Need-follows-requires
 follows-requires c κs =
@@ -152,5 +143,5 @@ returns-5 c =
 pub is-place-spec : {M : Type 1} → statement M
 is-place-spec =
     tie.close
-    (tie.spec sides-requires sides-requires-2 returns returns-2 add-ends add-ends-2 ends-requires returns-3 follows-requires
-    follows-requires-2 returns-4 returns-5)
+    (tie.spec (λ c κs. search needs) (λ c κs. search needs) returns returns-2 add-ends add-ends-2 (λ c κs. search needs) returns-3
+    follows-requires follows-requires-2 returns-4 returns-5)

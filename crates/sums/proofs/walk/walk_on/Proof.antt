@@ -12,13 +12,11 @@ use mir.Syntax.{w64}
 use Rattle.integer.specs.Machine.{result-is}
 use Rattle.plane.specs.Point.{points}
 use Rattle.plane.specs.Forms.{edges}
-use Rattle.plane.specs.theory.lists.Flat.{points-length}
-use Rattle.plane.specs.theory.sum.Positions.{edges-at-most}
 use Rattle.calipers.specs.Walk.{Walk, At}
 use Rattle.calipers.specs.Side.{walkOf}
 use Rattle.sums.specs.Advance.{state, nextCorners}
 use Rattle.calipers.specs.theory.Carry.{sides-walk, first-next, second-next, corners-fit, edges-fit}
-use Rattle.sums.proofs.Walked.{walked-start, walked-at, walked-below, walked-more, walked-spent, walked-over}
+use Rattle.sums.proofs.Walked.{edges-sum, all-edges, walked-start, walked-at, walked-below, walked-more, walked-spent, walked-over}
 use Rattle.sums.proofs.Progress.{Progress, part-progress, progress-room, progress-length}
 use Rattle.sums.proofs.Progress.{progress-kept, progress-more, progress-done}
 use Rattle.sums.proofs.walk.walk_on.Statement.{statement}
@@ -36,7 +34,7 @@ all : (c : tie.After-struct-known2 Inv-loop μ-loop) → let second = c .before 
     let args = second .before .before .args in
     second .before .side-at .result .end + second .side-at2 .result .end
     ≡ length (edges (points (args .a .now))) + length (edges (points (args .b .now)))
-all c = let second = c .before .before in omega (arith, second .before .side-at .ensures .1 .end-is, second .side-at2 .ensures .1 .end-is)
+all c = let second = c .before .before in all-edges (second .before .side-at .ensures .1) (second .side-at2 .ensures .1)
 
 -- the sides are at the place
 same : (c : tie.After-side-at2 Inv-loop μ-loop) → let args = c .before .before .args in
@@ -64,18 +62,8 @@ side-at-requires-2 c κs = let p = c .before .pre .0 in (p .standing .right-in, 
 add-all : tie.Need-add-all Inv-loop μ-loop
 add-all c =
     let start = c .before .before .before .before in
-    let a = start .args .a .now in
-    let b = start .args .b .now in
-    omega (
-      arith,
-      all c,
-      edges-at-most (points a),
-      edges-at-most (points b),
-      points-length a,
-      points-length b,
-      start .good .0,
-      start .good .1 .0,
-    )
+    let sizes = start .good in
+    omega (arith, all c, edges-sum (start .args .a .now) (start .args .b .now) (omega (arith, sizes .0)) (omega (arith, sizes .1 .0)))
 
 stride-requires : tie.Need-stride-requires Inv-loop μ-loop
 stride-requires c κs =
@@ -138,22 +126,12 @@ add-if1 c =
     let at-next = c .before .before in
     let at-loop = at-next .before .before .before .before .before .before .before in
     let start = at-loop .before .before .before .before .before .before .before .before .before .before in
-    let a = start .args .a .now in
-    let b = start .args .b .now in
     omega (
       arith,
-      edges-at-most (points a),
-      edges-at-most (points b),
-      points-length a,
-      points-length b,
-      start .good .0,
-      start .good .1 .0,
+      edges-sum (start .args .a .now) (start .args .b .now) (omega (arith, start .good .0)) (omega (arith, start .good .1 .0)),
       at-next .before .next .ensures .1 .at-in,
       at-next .next2 .ensures .1 .at-in,
     )
-
-arrived-requires : tie.Need-arrived-requires Inv-loop μ-loop
-arrived-requires c κs = search needs
 
 same-length : tie.Need-same-length Inv-loop μ-loop
 same-length c =
@@ -170,9 +148,6 @@ returns c =
     (at-next .before .next .ensures .0) (at-next .next2 .ensures .0) (at-next .before .next .ensures .1) (at-next .next2 .ensures .1)
     (c .before .if1 .taken ∙ all (at-loop .before .before .before .before .before .before)))
     _ (c .arrived .ensures .0) (c .arrived .ensures .1)
-
-arrived-requires-2 : tie.Need-arrived-requires-2 Inv-loop μ-loop
-arrived-requires-2 c κs = search needs
 
 same-length-2 : tie.Need-same-length-2 Inv-loop μ-loop
 same-length-2 c =
@@ -210,5 +185,5 @@ pub walk-on-spec : {M : Type 1} → statement M
 walk-on-spec =
     tie.close
     (tie.spec Inv-loop μ-loop side-at-requires side-at-requires-2 add-all stride-requires loop-holds here-requires put-requires add-count
-    order-requires next-requires next-requires-2 add-if1 arrived-requires same-length returns arrived-requires-2 same-length-2 returns-2
-    loop-less loop-again)
+    order-requires next-requires next-requires-2 add-if1 (λ c κs. search needs) same-length returns (λ c κs. search needs) same-length-2
+    returns-2 loop-less loop-again)

@@ -12,9 +12,6 @@ truncating-f64-to-i64-requires : tie.Need-truncating-f64-to-i64-requires
 unfolding ofBits neg
 truncating-f64-to-i64-requires c κs = cuttable (c .before .before .args .v) (c .before .if1 .taken) (c .if2 .taken)
 
-nearest-i64-to-f64-requires : tie.Need-nearest-i64-to-f64-requires
-nearest-i64-to-f64-requires c κs = search needs
-
 returns : tie.Need-returns
 unfolding ofBits neg
 returns c =
@@ -35,11 +32,4 @@ unfolding ofBits neg
 returns-3 c = large-low (c .before .args .v) (c .before .pre .0) (c .before .pre .1) (c .if1 .left)
 
 pub is-whole-spec : {M : Type 1} → statement M
-is-whole-spec =
-    tie.close
-    (tie.spec
-    truncating-f64-to-i64-requires
-    nearest-i64-to-f64-requires
-    returns
-    returns-2
-    returns-3)
+is-whole-spec = tie.close (tie.spec truncating-f64-to-i64-requires (λ c κs. search needs) returns returns-2 returns-3)

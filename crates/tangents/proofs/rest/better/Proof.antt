@@ -13,15 +13,6 @@ use Rattle.tangents.specs.theory.NeighboursSuffice.{better-moved, better
 use Rattle.tangents.proofs.rest.better.Statement.{statement}
 use Rattle.tangents.proofs.rest.better.Tie as tie
 
-count-requires : tie.Need-count-requires
-count-requires c κs = search needs
-
-next-requires : tie.Need-next-requires
-next-requires c κs = search needs
-
-drawn-requires : tie.Need-drawn-requires
-drawn-requires c κs = search needs
-
 -- what the two tests say
 after-is : (c : tie.After-drawn) → let args = c .before .before .before .args in
     let ps = points (args .list .now) in
@@ -37,12 +28,6 @@ returns : tie.Need-returns
 returns c =
     let at-next = c .before .before in
     better-moved (omega (arith, at-next .next .ensures .1, at-next .before .count .ensures)) (after-is (c .before) ∙ c .if1 .taken)
-
-previous-requires : tie.Need-previous-requires
-previous-requires c κs = search needs
-
-drawn-requires-2 : tie.Need-drawn-requires-2
-drawn-requires-2 c κs = search needs
 
 -- the corner before, where it is known
 below : (c : tie.After-previous) → let start = c .before .before .before .before .before in
@@ -76,4 +61,5 @@ returns-3 c =
 pub better-spec : {M : Type 1} → statement M
 better-spec =
     tie.close
-    (tie.spec count-requires next-requires drawn-requires returns previous-requires drawn-requires-2 returns-2 returns-3)
+    (tie.spec (λ c κs. search needs) (λ c κs. search needs) (λ c κs. search needs) returns (λ c κs. search needs) (λ c κs. search needs)
+    returns-2 returns-3)

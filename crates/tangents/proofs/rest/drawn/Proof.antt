@@ -8,12 +8,6 @@ use Rattle.tangents.specs.Draws.{draws}
 use Rattle.tangents.proofs.rest.drawn.Statement.{statement}
 use Rattle.tangents.proofs.rest.drawn.Tie as tie
 
-corner-at-requires : tie.Need-corner-at-requires
-corner-at-requires c κs = search needs
-
-corner-at-requires-2 : tie.Need-corner-at-requires-2
-corner-at-requires-2 c κs = search needs
-
 draws-requires : tie.Need-draws-requires
 draws-requires c κs =
     let pre = c .before .before .pre in
@@ -27,4 +21,4 @@ returns c =
     ∙ ap₂ (λ (p x : Point). draws (args .s) p (at (args .q)) x) (c .before .before .corner-at .ensures) (c .before .corner-at2 .ensures)
 
 pub drawn-spec : {M : Type 1} → statement M
-drawn-spec = tie.close (tie.spec corner-at-requires corner-at-requires-2 draws-requires returns)
+drawn-spec = tie.close (tie.spec (λ c κs. search needs) (λ c κs. search needs) draws-requires returns)

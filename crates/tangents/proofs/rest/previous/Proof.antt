@@ -7,12 +7,6 @@ use Rattle.plane.specs.theory.lists.Next.{next-end, next-on}
 use Rattle.tangents.proofs.rest.previous.Statement.{statement}
 use Rattle.tangents.proofs.rest.previous.Tie as tie
 
-sub-result : tie.Need-sub-result
-sub-result c = search needs
-
-sub-result-2 : tie.Need-sub-result-2
-sub-result-2 c = search needs
-
 returns : tie.Need-returns
 returns c =
     let n = c .before .args .n in
@@ -26,4 +20,4 @@ returns-2 c =
     (omega (arith, other), next-on (start .args .n) (i - 1) (λ e. omega (arith, other)) ∙ omega (arith, other))
 
 pub previous-spec : {M : Type 1} → statement M
-previous-spec = tie.close (tie.spec sub-result sub-result-2 returns returns-2)
+previous-spec = tie.close (tie.spec (λ c. search needs) (λ c. search needs) returns returns-2)

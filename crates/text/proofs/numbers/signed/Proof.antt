@@ -28,17 +28,8 @@ minus-fits (suc n) least = record { sfits = omega arith }
 below-fits : (n : ℕ) → 0 < n → n ≤ 2147483648 → SFits w32 (negsuc 0 -ℤ toZ w32 (n - 1))
 below-fits n some least = rw (below-zero n some least) (minus-fits n least)
 
-sub-t9 : tie.Need-sub-t9
-sub-t9 c = search needs
-
-cast-t10 : tie.Need-cast-t10
-cast-t10 c = search needs
-
 sub-t11 : tie.Need-sub-t11
 sub-t11 c = below-fits (c .before .before .before .args .size) (omega arith) (c .if3 .taken)
-
-cast-t14 : tie.Need-cast-t14
-cast-t14 c = search needs
 
 returns : tie.Need-returns
 returns c = rw (c .before .if1 .taken, c .if2 .taken)
@@ -62,4 +53,4 @@ returns-5 c = rw (c .before .if1 .left, le-ltb _ _ (c .if4 .left))
 pub signed-spec : {M : Type 1} → statement M
 signed-spec =
     tie.close
-    (tie.spec sub-t9 cast-t10 sub-t11 cast-t14 returns returns-2 returns-3 returns-4 returns-5)
+    (tie.spec (λ c. search needs) (λ c. search needs) sub-t11 (λ c. search needs) returns returns-2 returns-3 returns-4 returns-5)

@@ -24,8 +24,5 @@ cast-result-2 c = let f = c .before .fits .number in rw (toZ-ofZ f) (from-zero _
 returns : tie.Need-returns
 returns c = let b = below c in rw (b .value) (b .more-is)
 
-returns-2 : tie.Need-returns-2
-returns-2 c = search needs
-
 pub size-spec : {M : Type 1} → statement M
-size-spec = tie.close (tie.spec sub-result cast-result add-result cast-result-2 returns returns-2)
+size-spec = tie.close (tie.spec sub-result cast-result add-result cast-result-2 returns (λ c. search needs))

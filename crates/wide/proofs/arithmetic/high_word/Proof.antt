@@ -4,12 +4,6 @@ use Rattle.wide.specs.theory.Carry.{high-kept, high-raised, high-room}
 use Rattle.wide.proofs.arithmetic.high_word.Statement.{statement}
 use Rattle.wide.proofs.arithmetic.high_word.Tie as tie
 
-high-product-requires : tie.Need-high-product-requires
-high-product-requires c κs = search needs
-
-low-word-requires : tie.Need-low-word-requires
-low-word-requires c κs = search needs
-
 add-result : tie.Need-add-result
 add-result c =
     let high = c .before .before in
@@ -26,4 +20,4 @@ returns-2 c =
     high-kept _ (high .high-product .ensures) (c .before .low-word .ensures) (high .before .fits .carry .fits) (c .if1 .left)
 
 pub high-word-spec : {M : Type 1} → statement M
-high-word-spec = tie.close (tie.spec high-product-requires low-word-requires add-result returns returns-2)
+high-word-spec = tie.close (tie.spec (λ c κs. search needs) (λ c κs. search needs) add-result returns returns-2)

@@ -12,17 +12,8 @@ mul-middle c = omega (arith, halves-fit _ _ (c .fits .x .fits) (c .fits .y .fits
 mul-middle-2 : tie.Need-mul-middle-2
 mul-middle-2 c = omega (arith, halves-fit _ _ (c .fits .x .fits) (c .fits .y .fits))
 
-add-middle : tie.Need-add-middle
-add-middle c = search needs
-
 mul-wrapping-add-u64 : tie.Need-mul-wrapping-add-u64
 mul-wrapping-add-u64 c = omega (arith, halves-fit _ _ (c .fits .x .fits) (c .fits .y .fits))
-
-mul-wrapping-add-u64-2 : tie.Need-mul-wrapping-add-u64-2
-mul-wrapping-add-u64-2 c = search needs
-
-wrapping-add-u64-requires : tie.Need-wrapping-add-u64-requires
-wrapping-add-u64-requires c κs = search needs
 
 returns : tie.Need-returns
 returns c = c .wrapping-add-u64 .ensures ∙ low-by-halves _ _
@@ -30,4 +21,4 @@ returns c = c .wrapping-add-u64 .ensures ∙ low-by-halves _ _
 pub low-product-spec : {M : Type 1} → statement M
 low-product-spec =
     tie.close
-    (tie.spec mul-middle mul-middle-2 add-middle mul-wrapping-add-u64 mul-wrapping-add-u64-2 wrapping-add-u64-requires returns)
+    (tie.spec mul-middle mul-middle-2 (λ c. search needs) mul-wrapping-add-u64 (λ c. search needs) (λ c κs. search needs) returns)

@@ -1,0 +1,2 @@
+-- What the questions answer, in document 01's terms.
+pub mod Answer

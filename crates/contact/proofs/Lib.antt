@@ -1,2 +1,0 @@
--- What several function proofs share.
-pub mod Places

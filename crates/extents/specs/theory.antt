@@ -1,0 +1,2 @@
+-- The theory of boxes, which only proves.
+pub mod Gaps

@@ -1,0 +1,1 @@
+// Where a place that moves straight first meets a shape: see specs/. There is no code here.

@@ -1,0 +1,2 @@
+-- The theory, which only proves.
+pub mod theory

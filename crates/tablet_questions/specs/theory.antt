@@ -1,0 +1,2 @@
+-- The theory, which only proves: refusals of readings.
+pub mod Readings
