@@ -66,7 +66,7 @@ export class View {
     this.change();
   }
 
-  // A round distance that is at least so many pixels long: 1, 2 or 5 times a power of ten.
+  // A round distance that is at least that number of pixels long: 1, 2 or 5 times a power of ten.
   round(pixels) {
     const least = pixels / this.scale;
     const power = 10 ** Math.floor(Math.log10(least));

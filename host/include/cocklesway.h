@@ -40,7 +40,7 @@ typedef struct {
 } cocklesway_limit;
 cocklesway_limit cocklesway_limits(void);
 
-/* An output of so many numbers, or bytes, holds every answer: two numbers for each of cocklesway_limits().corners. */
+/* An output of this many numbers, or bytes, holds every answer: two numbers for each of cocklesway_limits().corners. */
 #define COCKLESWAY_MOST_NUMBERS 2048
 #define COCKLESWAY_MOST_BYTES 8192
 
@@ -110,8 +110,8 @@ cocklesway_reply cocklesway_sum(const int32_t *a, size_t n, uint32_t f, const in
 cocklesway_reply cocklesway_merge(const int32_t *a, size_t n, uint32_t f, const int32_t *b, size_t m, uint32_t g,
                                   int32_t *out, size_t room);
 
-/* Writes the shape of all obstacle-corner minus cart-corner points: a cart at a place stands to the obstacle as the
- * place stands to this shape. Values: how many corners, floor. Refused 1 to 5, 13, 6, 7, 8. */
+/* Writes the shape of all obstacle-corner minus cart-corner points: a cart at a place relates to the obstacle as the
+ * place relates to this shape. Values: how many corners, floor. Refused 1 to 5, 13, 6, 7, 8. */
 cocklesway_reply cocklesway_grow(const int32_t *obstacle, size_t n, uint32_t f, const int32_t *cart, size_t m,
                                  uint32_t g, int32_t *out, size_t room);
 
@@ -230,7 +230,7 @@ cocklesway_reply cocklesway_log_read(const uint8_t *log, size_t count, uint16_t 
  * corners, name, floor. Refused 15, 20, 8. */
 cocklesway_reply cocklesway_log_entry(const uint8_t *log, size_t count, size_t k, int32_t *out, size_t room);
 
-/* Adds a shape to a log with at most so many stores of single bytes. Values: 1 if they sufficed, else 0; no floor.
+/* Adds a shape to a log with at most `allowed` stores of single bytes. Values: 1 if they sufficed, else 0; no floor.
  * Refused 1 to 5, 13, 15, 16. */
 cocklesway_reply cocklesway_log_add(uint8_t *log, size_t count, uint16_t name, uint32_t floor, const int32_t *list,
                                     size_t n, size_t allowed);

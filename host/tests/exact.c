@@ -17,7 +17,7 @@ typedef struct {
 
 static unsigned calls;
 
-/* A copy on the heap, of exactly so many bytes; what is there at first is read by the caller alone. */
+/* A copy on the heap, of exactly that number of bytes; what is there at first is read by the caller alone. */
 static void *heap(const void *from, size_t bytes) {
     void *copy = malloc(bytes);
     if (copy == NULL && bytes != 0) {

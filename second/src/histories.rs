@@ -345,13 +345,10 @@ fn finished(before: &State, added: &Addition, log: &[u8]) -> Result<State, Strin
         log[..from] == before.log[..from],
         "the bytes before the record stay",
     )?;
-    holds(
-        log[from..to] == record,
-        "the record stands behind the others",
-    )?;
+    holds(log[from..to] == record, "the record comes after the others")?;
     holds(
         log[to..].iter().all(|&byte| byte == 0),
-        "all behind the record is 0",
+        "all after the record is 0",
     )?;
     let mut readings = before.readings.clone();
     readings.insert(added.name, read_back(added.floor, &added.list));

@@ -63,7 +63,7 @@ fn additions_that_store_otherwise_are_caught() {
             let behind = end + record.len()..log.len();
             [up(end, record), cleared(behind.rev())].concat()
         }),
-        ("cleared behind the record alone", |log, end, record| {
+        ("cleared after the record alone", |log, end, record| {
             let behind = end + record.len()..log.len();
             [cleared(behind.rev()), up(end, record)].concat()
         }),
