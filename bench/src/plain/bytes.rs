@@ -3,7 +3,7 @@ use super::corner::{Bytes, Corner, Stored, corners_in, room_in};
 use super::deliver::checked_near;
 use super::judge::{MOST, Shape, judged, judged_pair, on_one_floor};
 use super::merge::{Hull, merged};
-use super::relation::stand;
+use super::relation::related;
 use super::sum::add;
 use crate::reply::Numbers;
 use std::mem::MaybeUninit;
@@ -49,7 +49,7 @@ pub fn merge_bytes(a: &[u8], f: u32, b: &[u8], g: u32, out: &mut [u8]) -> u64 {
 #[inline(never)]
 pub fn relation_bytes(a: &[u8], f: u32, b: &[u8], g: u32) -> u64 {
     let pair = judged_pair(corners_in(a), f, corners_in(b), g);
-    packed(pair.map(|(a, b)| Numbers::one(stand(a, b), f)))
+    packed(pair.map(|(a, b)| Numbers::one(related(a, b), f)))
 }
 
 /// The same shape with its corners as numbers.

@@ -12,14 +12,14 @@ const OVERLAPPING: u64 = 2;
 #[inline(never)]
 pub fn relation(a: &[i32], f: u32, b: &[i32], g: u32) -> Numbers {
     match admitted_pair(a, f, b, g) {
-        Ok((a, b)) => Numbers::one(stand(a, b), f),
+        Ok((a, b)) => Numbers::one(related(a, b), f),
         Err(refusal) => refusal,
     }
 }
 
 /// What follows from where the origin is.
 #[inline(always)]
-pub fn stand<C: Stored>(a: Shape<C>, b: Shape<C>) -> u64 {
+pub fn related<C: Stored>(a: Shape<C>, b: Shape<C>) -> u64 {
     match origin(a, b) {
         Origin::Outside(_) => APART,
         Origin::InLine if meet(a.corners, b.corners) => TOUCHING,

@@ -61,12 +61,12 @@ pub fn log_add(log: &mut [u8], name: u16, floor: u16, list: &[i32], allowed: usi
     }
     match journal::survey::survey(log) {
         Surveyed::Bad(place) => Addition::No(Refusal::Damaged { place }),
-        Surveyed::Ends(end) => add_behind(log, end, name, floor, list, allowed),
+        Surveyed::Ends(end) => add_after(log, end, name, floor, list, allowed),
     }
 }
 
 // Adds a shape after the last whole record, or refuses 16.
-fn add_behind(
+fn add_after(
     log: &mut [u8],
     end: usize,
     name: u16,

@@ -119,11 +119,11 @@ pub fn relation(a: &[i32], f: u16, b: &[i32], g: u16) -> Relation
     if let Admission::No(refusal) = admission::admit_pair(a, f, b, g) {
         return Relation::No(refusal);
     }
-    stand(separation::relation(a, b), f)
+    relation_of(separation::relation(a, b), f)
 }
 
 // How two shapes relate, as an answer.
-fn stand(found: separation::answer::Relation, floor: u16) -> Relation
+fn relation_of(found: separation::answer::Relation, floor: u16) -> Relation
     ensures { λ r. ⌜ ofRelation r ≡ answered (numberOf found ∷ pos floor ∷ []) ⌝ }
 {
     match found {

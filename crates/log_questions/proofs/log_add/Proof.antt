@@ -14,8 +14,8 @@ valid c = c .before .before .admit .ensures .valid (c .enum-told .given .1)
 returns : tie.Need-returns
 returns c = add-refused _ _ _ _ _ (c .before .before .before .admit .ensures .no _ (c .before .refusal .given .1))
 
-add-behind-requires : tie.Need-add-behind-requires
-add-behind-requires c κs =
+add-after-requires : tie.Need-add-after-requires
+add-after-requires c κs =
     let at-end = c .before .before in
     let told = surveyed-ends _ _ (sym (at-end .before .before .survey .ensures) ∙ at-end .end .given .1) in
     (valid (at-end .before .before .before .before), told .0, told .1)
@@ -30,4 +30,4 @@ pub log-add-spec : {M : Type 1} → statement M
 log-add-spec =
     tie.close
     (tie.spec (λ c κs. search needs) (λ c. search needs) returns (λ c. search needs) (λ c κs. search needs) (λ c. search needs)
-    (λ c. search needs) add-behind-requires (λ c. search needs) returns-2 (λ c. search needs) (λ c. search needs))
+    (λ c. search needs) add-after-requires (λ c. search needs) returns-2 (λ c. search needs) (λ c. search needs))

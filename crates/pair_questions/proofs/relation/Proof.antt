@@ -33,7 +33,7 @@ returns-2 : tie.Need-returns-2
 returns-2 c =
     let at-relation = c .before in
     let start = at-relation .before .before .before .before in
-    c .stand .ensures ∙ all-answered (askRelation (one start) (other start)) (shapes (at-relation .before)) tt
+    c .relation-of .ensures ∙ all-answered (askRelation (one start) (other start)) (shapes (at-relation .before)) tt
     (ap (λ (z : ℤ). z ∷ pos (start .args .f) ∷ []) (at-relation .relation .ensures))
 
 pub relation-spec : {M : Type 1} → statement M

@@ -1,4 +1,4 @@
--- `add_behind` meets its contract: too little room, or the stores are made.
+-- `add_after` meets its contract: too little room, or the stores are made.
 use mathlib.Core.Path.{sym, _∙_}
 use Prim.Native.Nat.{_+_, _-_, _≤_}
 use native.Mathlib.Omega.{arith}
@@ -8,8 +8,8 @@ use lib.ListN.{length}
 use Rattle.journal.specs.Format.{recorded}
 use Rattle.journal.specs.theory.Records.{end-le}
 use Rattle.log_questions.specs.theory.Logs.{add-full, add-done}
-use Rattle.log_questions.proofs.add_behind.Statement.{statement}
-use Rattle.log_questions.proofs.add_behind.Tie as tie
+use Rattle.log_questions.proofs.add_after.Statement.{statement}
+use Rattle.log_questions.proofs.add_after.Tie as tie
 
 -- the record has room
 room : (c : tie.Else1) → let args = c .before .before .before .before .args in
@@ -57,7 +57,7 @@ returns-3 c =
     add-done _ _ _ _ _ (start .pre .0) (start .pre .1) (omega (arith, room at-room, end)) (c .if2 .left) (at-add .add .ensures .0)
     (at-add .add .ensures .1)
 
-pub add-behind-spec : {M : Type 1} → statement M
-add-behind-spec =
+pub add-after-spec : {M : Type 1} → statement M
+add-after-spec =
     tie.close
     (tie.spec is-full-requires (λ c. search needs) returns add-requires (λ c. search needs) returns-2 (λ c. search needs) returns-3)
