@@ -3,18 +3,16 @@
 pub mod answer;
 
 ghost use Rattle.std.specs.Prelude.{[], ◌∷◌, ◌≡◌};
-ghost use Rattle.plane.specs.Point.{point, points};
+ghost use Rattle.plane.specs.Point.{point};
 ghost use Rattle.plane.specs.Reply.{NoneApply};
-ghost use Rattle.plane.specs.Refusal.{shape_rows, InRange, Valid};
+ghost use Rattle.plane.specs.Refusal.{shape_rows, Valid};
 ghost use Rattle.plane.specs.Sweep.{point_rows, ValidPoints};
 ghost use Rattle.plane.specs.Furthest.{direction_rows};
 ghost use Rattle.plane.specs.Floor.{on, pair_rows, floor_row, Same};
-ghost use Rattle.polygon.specs.Broken.{broken};
 ghost use Rattle.admission.specs.Admission.{Judged};
 ghost use Rattle.admission.specs.Three.{three_rows, SameThree};
 
 use answer::Refusal;
-use convexity::elsewhere;
 use polygon::rules;
 use polygon::rules::Broken;
 
@@ -27,7 +25,7 @@ pub enum Admission {
 }
 
 // Judges a list that is the first or the second shape of a question: refusals 1 to 5 in their order. A shape is told in
-// one pass round its corners. Only a list that breaks the left rule has its edges compared with all corners.
+// one pass round its corners; only a list that fails the pass has its edges compared with all corners.
 // Ruled out: positions swapped; two for a corner out of range; everything refused.
 pub fn admit(list: &[i32], shape: usize) -> Admission
     ensures { Judged (Valid list.now) (shape_rows shape list.now) result }
@@ -52,7 +50,7 @@ fn blamed(list: &[i32], shape: usize) -> Admission
     if rules::some_outside(list) {
         return Admission::No(Refusal::Range { shape });
     }
-    if let Broken::At { edge, corner } = broken_at(list) {
+    if let Broken::At { edge, corner } = rules::first_broken(list) {
         return Admission::No(Refusal::Side {
             shape,
             edge,
@@ -63,18 +61,6 @@ fn blamed(list: &[i32], shape: usize) -> Admission
         return Admission::No(Refusal::Start { shape });
     }
     Admission::Valid
-}
-
-// Returns where refusal 4 finds the rules broken. Corners that keep the left rule, and only begin elsewhere, take one
-// more pass; of all others every edge is compared with all corners.
-fn broken_at(list: &[i32]) -> Broken
-    requires { InRange list.now }
-    ensures { result ≡ broken (points list.now) }
-{
-    if elsewhere::keeps_left(list) {
-        return Broken::Nowhere;
-    }
-    rules::first_broken(list)
 }
 
 // Judges the first list, then the second, and then whether they are on one floor. Lists that are no shapes are judged

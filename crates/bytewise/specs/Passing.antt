@@ -1,6 +1,6 @@
 -- What is passed to the calls on lists for bytes, and what becomes of their reply. Our own, not of document 02.
 --     Alike l s               s may be asked about in place of l: it is l, or both are refused 1, or both 2
---     small_numbers            how many numbers a buffer for a small list has
+--     small_bytes              how many bytes hold a small list
 --     Enough b n              n numbers hold what is read of b bytes
 --     Spacious m n s          s numbers hold a shape that has no more numbers than m and n together
 --     Cut n r                 r of n numbers are read: all, or more than a shape may have, even or odd as n is
@@ -29,8 +29,8 @@ pub data Alike (l s : List ℤ) : Type 0 where
   odd : bad_count l ≡ true → bad_count s ≡ true → Alike l s
   many : bad_count l ≡ false → bad_count s ≡ false → too_many (points l) ≡ true → too_many (points s) ≡ true → Alike l s
 
-abbrev pub small_numbers : ℕ
-small_numbers = 256
+unfoldable pub small_bytes : ℕ
+small_bytes = 1024
 
 abbrev pub Enough : ℕ → ℕ → Type 0
 Enough b n = (r : ℕ) → 4 * r ≤ b → r ≤ 3 + 2 * max_corners → r ≤ n

@@ -1,35 +1,29 @@
 // The list that bytes hold, read into a buffer.
-ghost use Rattle.std.specs.Prelude.{◌≡◌, true, ◌≤◌, length, take};
+ghost use Rattle.std.specs.Prelude.{◌≡◌, ◌&&◌, ◌≤◌, leb, length, take};
 ghost use Rattle.bytewise.specs.Bytes.{list_of};
-ghost use Rattle.bytewise.specs.Passing.{Alike, Cut, Enough};
+ghost use Rattle.bytewise.specs.Passing.{Alike, Cut, Enough, small_bytes};
 
 use polygon::limits;
 
 // More numbers than a shape may have, whether their count is even or odd.
 pub const NUMBERS: usize = limits::SHAPE_NUMBERS + 3;
 
-// The numbers of a list of few corners. A buffer is cleared before it is used, and a small one takes less time.
-pub const FEW_NUMBERS: usize = 64;
-
-// The numbers of a small list.
+// The numbers of a small list. A buffer is cleared before it is used, and a small one takes less time.
 pub const SMALL_NUMBERS: usize = 256;
 
-// Returns whether a buffer of `numbers` holds what is read of this number of bytes.
+// Returns whether this number of bytes holds a small list.
 // Ruled out: long list in a small buffer.
-pub fn fits(bytes: usize, numbers: usize) -> bool
-    ensures { result ≡ true → Enough bytes numbers }
+pub fn is_small(bytes: usize) -> bool
+    ensures { result ≡ leb bytes small_bytes }
 {
-    bytes / 4 <= numbers
+    bytes <= 4 * SMALL_NUMBERS
 }
 
-// Returns whether two buffers of `numbers` hold what is read of two lists, of m and of n bytes.
-pub fn both_fit(m: usize, n: usize, numbers: usize) -> bool
-    ensures { result ≡ true → Enough m numbers × Enough n numbers }
+// Whether two lists are small.
+pub fn are_small(m: usize, n: usize) -> bool
+    ensures { result ≡ (leb m small_bytes && leb n small_bytes) }
 {
-    if !fits(m, numbers) {
-        return false;
-    }
-    fits(n, numbers)
+    is_small(m) && is_small(n)
 }
 
 // Reads the list that bytes hold to the front of a buffer, and returns how many numbers were read. Of a list that has

@@ -1,6 +1,5 @@
 -- One shape on a walk, with what the walk carries along of it. Our own, not of document 01.
 --     corner_of s      its corner, and next_of s its next edge
---     vector_of v      the vector that the code's v is
 --     onward A i      one edge on, or as many as there are
 --     Stands l s      s is at its position of the list l, and has no edge yet
 --     Carried l s     s is the side of the list l at its position: the corner there, and the edge that leaves it; past the last edge
@@ -11,7 +10,6 @@ use Rattle.plane.specs.Point.{Point, point, points, corner, origin}
 use Rattle.plane.specs.Forms.{edges}
 use Rattle.plane.specs.Cycle.{corner_round}
 use Rattle.calipers.specs.declared.side.Side.{Side}
-use Rattle.calipers.specs.declared.vector.Vector.{Vector}
 use Rattle.calipers.specs.Walk.{Walk}
 
 abbrev pub corner_of : Side → Point
@@ -19,9 +17,6 @@ corner_of s = point s.x s.y
 
 abbrev pub next_of : Side → Point
 next_of s = point s.run s.rise
-
-abbrev pub vector_of : Vector → Point
-vector_of v = point v.x v.y
 
 abbrev pub onward : List Point → ℕ → ℕ
 onward A i = cond (ltb i (length (edges A))) (i + 1) i

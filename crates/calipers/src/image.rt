@@ -8,7 +8,7 @@ ghost use Rattle.plane.specs.Cycle.{turned, corner_round};
 ghost use Rattle.polygon.specs.Peak.{Peak};
 ghost use Rattle.polygon.specs.Point.{at};
 ghost use Rattle.calipers.specs.Side.{onward, Stands, Carried};
-ghost use Rattle.calipers.specs.Image.{image, Backwards};
+ghost use Rattle.calipers.specs.Image.{image};
 
 use crate::side::Side;
 use crate::{edges, side};
@@ -77,29 +77,6 @@ fn onto(list: &[i32], top: usize, s: Side) -> Side
     side::facing(s, corner_at(list, top, s.at + 1))
 }
 
-// Positions of the list from one up to another, between which edges of the image are read without a test of the end.
-#[derive(Drop)]
-pub struct Run {
-    pub from: usize,
-    pub stop: usize,
-}
-
-// The run from edge j of the image on: to the end of the list or, from the first corner on, to the peak.
-pub fn run_from(list: &[i32], top: usize, j: usize) -> Run
-    requires { Valid list.now × Peak (points list.now) top × (j < length (points list.now)) }
-    ensures { Backwards list.now j result.from result.stop }
-{
-    let n = corners::count(list);
-    let from = top + j;
-    if from < n {
-        return Run { from, stop: n };
-    }
-    Run {
-        from: from - n,
-        stop: top + 1,
-    }
-}
-
 // Corner i on the way round the image: the opposite of the corner i places after the peak.
 fn corner_at(list: &[i32], top: usize, i: usize) -> Point
     requires { Valid list.now × Peak (points list.now) top × (i ≤ length (points list.now)) }
@@ -109,7 +86,7 @@ fn corner_at(list: &[i32], top: usize, i: usize) -> Point
 }
 
 // The position i places after the peak, on the way round the shape.
-pub fn place(list: &[i32], top: usize, i: usize) -> usize
+fn place(list: &[i32], top: usize, i: usize) -> usize
     requires { (top < length (points list.now)) × (i ≤ length (points list.now)) }
     ensures value { result ≡ turned (length (points list.now)) top i }
     ensures upper_bound { result < length (points list.now) }

@@ -3,4 +3,3 @@
 pub mod edges;
 pub mod image;
 pub mod side;
-pub mod vector;

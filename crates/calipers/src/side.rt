@@ -8,10 +8,9 @@ ghost use Rattle.plane.specs.Direction.{value};
 ghost use Rattle.plane.specs.Measure.{squared as measure_squared};
 ghost use Rattle.plane.specs.Forms.{up, before, edges};
 ghost use Rattle.polygon.specs.Point.{at, Small};
-ghost use Rattle.calipers.specs.Side.{corner_of, next_of, vector_of, onward, Stands, Carried};
+ghost use Rattle.calipers.specs.Side.{corner_of, next_of, onward, Stands, Carried};
 
 use crate::edges;
-use crate::vector::Vector;
 use polygon::corners;
 use polygon::point::Point;
 
@@ -146,16 +145,6 @@ pub fn facing(s: Side, to: Point) -> Side
         y: s.y,
         run: (to.x - s.x) as i64,
         rise: (to.y - s.y) as i64,
-    }
-}
-
-// The next edge.
-pub fn edge(s: Side) -> Vector
-    ensures { vector_of result ≡ next_of s }
-{
-    Vector {
-        x: s.run,
-        y: s.rise,
     }
 }
 

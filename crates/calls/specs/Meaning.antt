@@ -17,8 +17,7 @@ use Rattle.wire.specs.Told.{bits, crossed}
 use Rattle.wire.specs.Heard.{number_of, values_of}
 use Rattle.passage.specs.Passage.{ask_passage}
 use Rattle.crossing.specs.LowFloor.{low_floor, low_passage, Numbered}
-use Rattle.additions.specs.Addition.{added_low}
-use Rattle.calls.specs.Calls.{SeparatorTold}
+use Rattle.calls.specs.Calls.{SeparatorTold, added_low}
 use Rattle.bytewise.specs.Bytes.{words_in, ask_judge_bytes, ask_relation_bytes, ask_sum_bytes, ask_merge_bytes, bytes_after}
 use Rattle.bytewise.specs.Packing.{packed, Unpacked, packed-back}
 use Rattle.bytewise.specs.Passing.{Room}

@@ -3,11 +3,11 @@
 // bytes for 4's edge, or when answered for the count of corners, of a relation 0 apart, 1 touching, 2 overlapping; two
 // for 4's corner, or when answered for the floor. The lists are decoded into buffers, which are small for small lists,
 // the call on lists is asked, and its reply is packed.
-ghost use Rattle.std.specs.Prelude.{◌≡◌, length};
+ghost use Rattle.std.specs.Prelude.{◌≡◌, ◌≤◌, length};
 ghost use Rattle.plane.specs.Question.{reply};
 ghost use Rattle.bytewise.specs.Packing.{packed};
 ghost use Rattle.bytewise.specs.Bytes.{ask_judge_bytes, ask_relation_bytes, ask_sum_bytes, ask_merge_bytes, bytes_after};
-ghost use Rattle.bytewise.specs.Passing.{ask_bytes, Enough, small_numbers};
+ghost use Rattle.bytewise.specs.Passing.{ask_bytes, small_bytes};
 
 use crate::lent;
 use bytewise::decoding;
@@ -20,13 +20,9 @@ use polygon::limits;
 pub extern "C" fn cocklesway_judge_bytes(list: &[u8], floor: u32) -> u64
     ensures { result ≡ packed (reply (ask_judge_bytes list.now floor)) }
 {
-    if decoding::fits(list.len(), decoding::FEW_NUMBERS) {
-        let mut few = [0i32; decoding::FEW_NUMBERS];
+    if decoding::is_small(list.len()) {
+        let mut few = [0i32; decoding::SMALL_NUMBERS];
         return lent::judge(list, floor, &mut few);
-    }
-    if decoding::fits(list.len(), decoding::SMALL_NUMBERS) {
-        let mut small = [0i32; decoding::SMALL_NUMBERS];
-        return lent::judge(list, floor, &mut small);
     }
     let mut numbers = [0i32; decoding::NUMBERS];
     lent::judge(list, floor, &mut numbers)
@@ -58,14 +54,13 @@ pub extern "C" fn cocklesway_merge_bytes(a: &[u8], f: u32, b: &[u8], g: u32, out
     combine(true, a, f, b, g, out)
 }
 
-// Asks for the merge of the shapes, or for their sum. Each size of buffers has a function of its own: as locals of one
-// function they have separate places on the stack.
+// Asks for the merge of the shapes, or for their sum.
 fn combine(merged: bool, a: &[u8], f: u32, b: &[u8], g: u32, out: &mut [u8]) -> u64
     ensures { (result ≡ packed (reply (ask_bytes merged a.now f b.now g out.old)))
         × (out.new
         ≡ bytes_after (ask_bytes merged a.now f b.now g out.old) out.old) }
 {
-    if decoding::both_fit(a.len(), b.len(), decoding::SMALL_NUMBERS) {
+    if decoding::are_small(a.len(), b.len()) {
         return combine_small(merged, a, f, b, g, out);
     }
     combine_large(merged, a, f, b, g, out)
@@ -73,7 +68,7 @@ fn combine(merged: bool, a: &[u8], f: u32, b: &[u8], g: u32, out: &mut [u8]) -> 
 
 // The same of two small lists: what is made of them has no more numbers than both.
 fn combine_small(merged: bool, a: &[u8], f: u32, b: &[u8], g: u32, out: &mut [u8]) -> u64
-    requires { Enough (length a.now) small_numbers × Enough (length b.now) small_numbers }
+    requires { (length a.now ≤ small_bytes) × (length b.now ≤ small_bytes) }
     ensures { (result ≡ packed (reply (ask_bytes merged a.now f b.now g out.old)))
         × (out.new
         ≡ bytes_after (ask_bytes merged a.now f b.now g out.old) out.old) }
@@ -102,15 +97,10 @@ fn combine_large(merged: bool, a: &[u8], f: u32, b: &[u8], g: u32, out: &mut [u8
 pub extern "C" fn cocklesway_relation_bytes(a: &[u8], f: u32, b: &[u8], g: u32) -> u64
     ensures { result ≡ packed (reply (ask_relation_bytes a.now f b.now g)) }
 {
-    if decoding::both_fit(a.len(), b.len(), decoding::FEW_NUMBERS) {
-        let mut few = [0i32; decoding::FEW_NUMBERS];
-        let mut more = [0i32; decoding::FEW_NUMBERS];
-        return lent::relation(a, f, b, g, &mut few, &mut more);
-    }
-    if decoding::both_fit(a.len(), b.len(), decoding::SMALL_NUMBERS) {
-        let mut small = [0i32; decoding::SMALL_NUMBERS];
+    if decoding::are_small(a.len(), b.len()) {
+        let mut few = [0i32; decoding::SMALL_NUMBERS];
         let mut others = [0i32; decoding::SMALL_NUMBERS];
-        return lent::relation(a, f, b, g, &mut small, &mut others);
+        return lent::relation(a, f, b, g, &mut few, &mut others);
     }
     let mut first = [0i32; decoding::NUMBERS];
     let mut second = [0i32; decoding::NUMBERS];

@@ -11,7 +11,7 @@ ghost use Rattle.gaps.specs.Gap.{ask_gap};
 ghost use Rattle.drives.specs.Drive.{ask_drive};
 ghost use Rattle.wire.specs.Told.{crossed, numbers};
 ghost use Rattle.crossing.specs.LowFloor.{low_floor};
-ghost use Rattle.additions.specs.Addition.{added_low};
+ghost use Rattle.calls.specs.Calls.{added_low};
 
 use crossing::floors;
 use polygon::limits;
@@ -37,6 +37,7 @@ pub extern "C" fn cocklesway_log_entry(log: &[u8], k: usize, out: &mut [i32]) ->
 
 // Adds the shape to the log with at most as many stores as are allowed. Answers 1 if it finished, 0 if it was cut.
 // A floor above its limit is refused 13 after the list and before the log, with nothing stored.
+// Ruled out: name and floor exchanged; floor above the limit stored.
 #[unsafe(no_mangle)]
 pub extern "C" fn cocklesway_log_add(
     log: &mut [u8],
@@ -48,7 +49,10 @@ pub extern "C" fn cocklesway_log_add(
     ensures { (numbers result ≡ crossed (added_low log.old name f list.now allowed).reply)
         × (log.new ≡ (added_low log.old name f list.now allowed).log) }
 {
-    additions::add(log, name, f, list, allowed)
+    if limits::exceeds_floor(f) {
+        return floors::barred(list);
+    }
+    reply::of_addition(log_questions::log_add(log, name, f as u16, list, allowed))
 }
 
 // Packs the old log into the new run with at most as many stores as are allowed, without the records of the name `but`;

@@ -24,8 +24,10 @@ pub extern "C" fn cocklesway_sum(a: &[i32], f: u32, b: &[i32], g: u32, out: &mut
         × (out.new ≡ output (low_floor
         (ask_sum (on a.now f) (on b.now g) out.old))) }
 {
-    let low = floors::lowered(f, g);
-    reply::of_answer(pair_questions::sum(a, low.first, b, low.second, out))
+    if floors::exceeds(f, g) {
+        return floors::barred_pair(a, b);
+    }
+    reply::of_answer(pair_questions::sum(a, f as u16, b, g as u16, out))
 }
 
 // Writes the merge, and answers how many corners it has.
@@ -36,8 +38,10 @@ pub extern "C" fn cocklesway_merge(a: &[i32], f: u32, b: &[i32], g: u32, out: &m
         × (out.new ≡ output (low_floor
         (ask_merge (on a.now f) (on b.now g) out.old))) }
 {
-    let low = floors::lowered(f, g);
-    reply::of_answer(pair_questions::merge(a, low.first, b, low.second, out))
+    if floors::exceeds(f, g) {
+        return floors::barred_pair(a, b);
+    }
+    reply::of_answer(pair_questions::merge(a, f as u16, b, g as u16, out))
 }
 
 // Writes the obstacle grown by the cart's outline, and answers how many corners it has.
@@ -54,8 +58,10 @@ pub extern "C" fn cocklesway_grow(
         × (out.new ≡ output (low_floor
         (ask_grow (on obstacle.now f) (on cart.now g) out.old))) }
 {
-    let low = floors::lowered(f, g);
-    reply::of_answer(pair_questions::grow(obstacle, low.first, cart, low.second, out))
+    if floors::exceeds(f, g) {
+        return floors::barred_pair(obstacle, cart);
+    }
+    reply::of_answer(pair_questions::grow(obstacle, f as u16, cart, g as u16, out))
 }
 
 // Answers 0 for apart, 1 for touching, 2 for overlapping.
@@ -63,8 +69,10 @@ pub extern "C" fn cocklesway_grow(
 pub extern "C" fn cocklesway_relation(a: &[i32], f: u32, b: &[i32], g: u32) -> Reply
     ensures { numbers result ≡ crossed (reply (low_floor (ask_relation (on a.now f) (on b.now g)))) }
 {
-    let low = floors::lowered(f, g);
-    reply::of_relation(pair_questions::relation(a, low.first, b, low.second))
+    if floors::exceeds(f, g) {
+        return floors::barred_pair(a, b);
+    }
+    reply::of_relation(pair_questions::relation(a, f as u16, b, g as u16))
 }
 
 // Answers 1 if the first shape is inside the second, else 0.
@@ -72,8 +80,10 @@ pub extern "C" fn cocklesway_relation(a: &[i32], f: u32, b: &[i32], g: u32) -> R
 pub extern "C" fn cocklesway_inside(a: &[i32], f: u32, b: &[i32], g: u32) -> Reply
     ensures { numbers result ≡ crossed (reply (low_floor (ask_inside (on a.now f) (on b.now g)))) }
 {
-    let low = floors::lowered(f, g);
-    reply::of_inside(pair_questions::inside(a, low.first, b, low.second))
+    if floors::exceeds(f, g) {
+        return floors::barred_pair(a, b);
+    }
+    reply::of_inside(pair_questions::inside(a, f as u16, b, g as u16))
 }
 
 // Answers 1 if the direction (u, v) is accepted as the reason that the shapes are apart, else 0.
@@ -82,8 +92,10 @@ pub extern "C" fn cocklesway_offer(a: &[i32], f: u32, b: &[i32], g: u32, u: i32,
     ensures { numbers result ≡ crossed (reply (low_floor
         (ask_offer (on a.now f) (on b.now g) (point u v)))) }
 {
-    let low = floors::lowered(f, g);
-    reply::of_offer(separators::offer(a, low.first, b, low.second, u, v))
+    if floors::exceeds(f, g) {
+        return floors::barred_pair(a, b);
+    }
+    reply::of_offer(separators::offer(a, f as u16, b, g as u16, u, v))
 }
 
 // Answers 1 and a direction that is accepted, or 0 if there is none.
@@ -91,8 +103,10 @@ pub extern "C" fn cocklesway_offer(a: &[i32], f: u32, b: &[i32], g: u32, u: i32,
 pub extern "C" fn cocklesway_find(a: &[i32], f: u32, b: &[i32], g: u32) -> Reply
     ensures { SeparatorTold (on a.now f) (on b.now g) (numbers result) }
 {
-    let low = floors::lowered(f, g);
-    reply::of_separator(separators::find(a, low.first, b, low.second))
+    if floors::exceeds(f, g) {
+        return floors::barred_pair(a, b);
+    }
+    reply::of_separator(separators::find(a, f as u16, b, g as u16))
 }
 
 // Answers where two shapes are nearest, and how near; 0 if they are not apart.
@@ -100,8 +114,10 @@ pub extern "C" fn cocklesway_find(a: &[i32], f: u32, b: &[i32], g: u32) -> Reply
 pub extern "C" fn cocklesway_clearance(a: &[i32], f: u32, b: &[i32], g: u32) -> Reply
     ensures { numbers result ≡ crossed (reply (low_floor (ask_clearance (on a.now f) (on b.now g)))) }
 {
-    let low = floors::lowered(f, g);
-    reply::of_clearance(pair_questions::clearance(a, low.first, b, low.second))
+    if floors::exceeds(f, g) {
+        return floors::barred_pair(a, b);
+    }
+    reply::of_clearance(pair_questions::clearance(a, f as u16, b, g as u16))
 }
 
 // Answers the greatest squared distance of a point of one shape and a point of the other, and two corners that have it.
@@ -109,8 +125,10 @@ pub extern "C" fn cocklesway_clearance(a: &[i32], f: u32, b: &[i32], g: u32) -> 
 pub extern "C" fn cocklesway_greatest(a: &[i32], f: u32, b: &[i32], g: u32) -> Reply
     ensures { numbers result ≡ crossed (reply (low_floor (ask_greatest (on a.now f) (on b.now g)))) }
 {
-    let low = floors::lowered(f, g);
-    reply::of_greatest(pair_questions::reaches::greatest(a, low.first, b, low.second))
+    if floors::exceeds(f, g) {
+        return floors::barred_pair(a, b);
+    }
+    reply::of_greatest(pair_questions::reaches::greatest(a, f as u16, b, g as u16))
 }
 
 // Answers how far the new shape a reaches beyond the old shape b.
@@ -118,8 +136,10 @@ pub extern "C" fn cocklesway_greatest(a: &[i32], f: u32, b: &[i32], g: u32) -> R
 pub extern "C" fn cocklesway_excess(a: &[i32], f: u32, b: &[i32], g: u32) -> Reply
     ensures { numbers result ≡ crossed (reply (low_floor (ask_excess (on a.now f) (on b.now g)))) }
 {
-    let low = floors::lowered(f, g);
-    reply::of_excess(pair_questions::changes::excess(a, low.first, b, low.second))
+    if floors::exceeds(f, g) {
+        return floors::barred_pair(a, b);
+    }
+    reply::of_excess(pair_questions::changes::excess(a, f as u16, b, g as u16))
 }
 
 // Answers the four lines that just touch both shapes.
@@ -127,8 +147,10 @@ pub extern "C" fn cocklesway_excess(a: &[i32], f: u32, b: &[i32], g: u32) -> Rep
 pub extern "C" fn cocklesway_tangents(a: &[i32], f: u32, b: &[i32], g: u32) -> Reply
     ensures { numbers result ≡ crossed (reply (low_floor (ask_tangents (on a.now f) (on b.now g)))) }
 {
-    let low = floors::lowered(f, g);
-    reply::of_tangents(pair_questions::tangents(a, low.first, b, low.second))
+    if floors::exceeds(f, g) {
+        return floors::barred_pair(a, b);
+    }
+    reply::of_tangents(pair_questions::tangents(a, f as u16, b, g as u16))
 }
 
 // Answers where a cart that drives straight from (x, y) to (u, v) first meets the obstacle; 0 if it never does.
@@ -146,6 +168,8 @@ pub extern "C" fn cocklesway_contact(
     ensures { numbers result ≡ crossed (reply (low_floor
         (ask_contact (on obstacle.now f) (on cart.now g) (point x y) (point u v)))) }
 {
-    let low = floors::lowered(f, g);
-    reply::of_contact(drive_questions::contact(obstacle, low.first, cart, low.second, x, y, u, v))
+    if floors::exceeds(f, g) {
+        return floors::barred_pair(obstacle, cart);
+    }
+    reply::of_contact(drive_questions::contact(obstacle, f as u16, cart, g as u16, x, y, u, v))
 }

@@ -22,6 +22,8 @@ pub extern "C" fn cocklesway_passage(
     ensures { numbers result ≡ crossed (reply
         (low_passage (on left.now f) (on right.now g) (on cart.now h))) }
 {
-    let low = floors::lowered_three(f, g, h);
-    reply::of_passage(pair_questions::passage(left, low.first, right, low.second, cart, low.third))
+    if floors::exceeds_three(f, g, h) {
+        return floors::barred_three(left, right, cart);
+    }
+    reply::of_passage(pair_questions::passage(left, f as u16, right, g as u16, cart, h as u16))
 }

@@ -17,8 +17,10 @@ use reply::Reply;
 pub extern "C" fn cocklesway_begin(a: &[i32], f: u32, b: &[i32], g: u32) -> Reply
     ensures { numbers result ≡ crossed (reply (low_floor (ask_begin (on a.now f) (on b.now g)))) }
 {
-    let low = floors::lowered(f, g);
-    reply::of_begun(walk::begin(a, low.first, b, low.second))
+    if floors::exceeds(f, g) {
+        return floors::barred_pair(a, b);
+    }
+    reply::of_begun(walk::begin(a, f as u16, b, g as u16))
 }
 
 // Writes the part of a sum after the walk with these edges passed, over or not: at most k corners. Answers how many,
@@ -40,11 +42,13 @@ pub extern "C" fn cocklesway_part(
         × (out.new ≡ output (low_floor
         (ask_part (on a.now f) (on b.now g) (state first second over) k out.old))) }
 {
-    let low = floors::lowered(f, g);
+    if floors::exceeds(f, g) {
+        return floors::barred_pair(a, b);
+    }
     let walk = Walk {
         first,
         second,
         over,
     };
-    reply::of_part(walk.part(a, low.first, b, low.second, k, out))
+    reply::of_part(walk.part(a, f as u16, b, g as u16, k, out))
 }

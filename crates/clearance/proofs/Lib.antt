@@ -1,2 +1,3 @@
 -- Lemmas that function proofs share.
+pub mod Tests
 pub mod Looking

@@ -1,4 +1,5 @@
 -- What the search for the clearance finds on the way: a direction that faces the least distance, and the candidates that are reached in it.
+--     Lowest n ps i       no corner of ps has a lower value in n than corner i: `Lowest (opposite n)` is the highest
 --     Reached A B n c     all corners of candidate c lie in the two faces, A's lowest and B's highest in n: two corners on a line along n,
 --                         or a corner that falls strictly inside an edge
 --     Facing A B n        all of A is above all of B in n, and some candidate is reached
@@ -11,7 +12,10 @@ use Rattle.plane.specs.Turn.{cross}
 use Rattle.plane.specs.Shape.{next}
 use Rattle.plane.specs.Direction.{value}
 use Rattle.plane.specs.Clearance.{falls_on, Candidate, corners, on_second, on_first}
-use Rattle.faces.specs.Faces.{Lowest}
+
+pub record Lowest (n : Point) (ps : List Point) (i : ℕ) : Type 0 where
+  pub within : i < length ps
+  pub lowest : (k : ℕ) → k < length ps → value n (corner ps i) ≤ℤ value n (corner ps k)
 
 -- corner c, lowest in n, falls on edge e of ps, both of whose ends are highest
 pub record Foot (n : Point) (qs ps : List Point) (c e : ℕ) : Type 0 where

@@ -3,6 +3,7 @@ pub mod Order
 pub mod Facing
 pub mod Stop
 pub mod Sight
+pub mod Faces
 pub mod Answer
 pub mod Meaning
 pub mod theory

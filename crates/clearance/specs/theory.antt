@@ -5,6 +5,7 @@ pub mod First
 pub mod Segments
 pub mod Along
 pub mod Closest
+pub mod Lowest
 pub mod Faces
 pub mod Pairs
 pub mod Stop
@@ -15,7 +16,6 @@ pub mod NearestUnique
 pub mod Common
 pub mod Ends
 pub mod Walked
-pub mod Rounds
 pub mod Distance
 pub mod Rounding
 pub mod Replies

@@ -1,5 +1,6 @@
 // Inner functions for the clearance of two shapes that are apart (document 02, request W3). Callers ask the crate
 // `questions`.
+mod face;
 mod facing;
 pub mod measured;
 mod reach;
@@ -48,7 +49,7 @@ pub fn between(a: &[i32], b: &[i32]) -> Spacing
 // differences finds the direction, which leaves one or two corners of each shape; of these the first that are reached.
 // The walk begins where i edges of the first shape and j of the mirror image of the second are passed, whose peak is at
 // position top.
-// Ruled out: rounded up.
+// Ruled out: only one edge of a parallel pair tried; rounded up.
 fn found(a: &[i32], b: &[i32], top: usize, i: usize, j: usize) -> Distance
     requires { Valid a.now × Valid b.now × (apart (points a.now) (points b.now) ≡ true)
         × Peak (points b.now) top × Stood a.now (image b.now) i j }
@@ -56,8 +57,8 @@ fn found(a: &[i32], b: &[i32], top: usize, i: usize, j: usize) -> Distance
         (clearance_nearest (points a.now) (points b.now)) }
 {
     let seen = sought(a, b, top, i, j);
-    let first = faces::place(a, 0, seen.first);
-    let second = faces::place(b, top, seen.second);
+    let first = face::place(a, 0, seen.first);
+    let second = face::place(b, top, seen.second);
     measured::measured(a, b, reach::first_reached(a, b, seen.n, first, second))
 }
 

@@ -1,28 +1,30 @@
-// Inner functions: whether a way keeps to one side of the box about a grown obstacle, which then need not be walked.
-ghost use Rattle.std.specs.Prelude.{◌≡◌, ◌^◌, true};
+// Inner functions: whether a way keeps to one side of the box about a grown obstacle, which then need not be written.
+ghost use Rattle.std.specs.Prelude.{true, [], ◌∷◌, ◌≡◌, ◌^◌};
 ghost use Rattle.integer.specs.Bound.{Within};
 ghost use Rattle.plane.specs.Point.{points};
 ghost use Rattle.plane.specs.Refusal.{Valid};
+ghost use Rattle.plane.specs.Separation.{apart};
+ghost use Rattle.polygon.specs.Extent.{Extends};
 ghost use Rattle.polygon.specs.Point.{at, Small};
-ghost use Rattle.contact.specs.Share.{Places, AllApart, AllExtend};
-ghost use Rattle.contact.specs.Share.{are_above, is_over, is_beside, is_past, box_corner, box_part};
+ghost use Rattle.growth.specs.Grown.{grown};
+ghost use Rattle.contact.specs.Share.{Places, is_beside, is_past, box_corner, box_part};
 
 use polygon::extent::Extent;
 use polygon::point;
 use polygon::point::Point;
 
-// Whether a line has both ends of a way on one side, and on the other the box about an obstacle grown by a cart that
-// reaches as far as is given: an upright or a level line, or one along the way. Then they are apart.
-pub fn is_beyond(obstacle: &[i32], cart: Extent, t: Point, u: Point) -> bool
-    requires { Valid obstacle.now × Small (2 ^ 21) (at cart.high) × Small (2 ^ 21) (at cart.low)
-        × Places (at t) (at u) }
-    ensures { result ≡ true → AllApart (at t) (at u) (points obstacle.now) cart }
+// Whether a line has both ends of a way on one side, and on the other the box about an obstacle grown by a cart: an
+// upright or a level line, or one along the way. Then they are apart.
+pub fn is_beyond(obstacle: &[i32], cart: &[i32], t: Point, u: Point) -> bool
+    requires { Valid obstacle.now × Valid cart.now × Places (at t) (at u) }
+    ensures { result ≡ true → apart (at t ∷ at u ∷ [])
+        (grown (points obstacle.now) (points cart.now)) ≡ true }
 {
     let span = grown_extent(obstacle, cart);
-    if are_over(span.high, t, u) {
+    if is_beside(span, Point { x: 1, y: 0 }, t, u) {
         return true;
     }
-    if are_over(span.low, point::opposite(t), point::opposite(u)) {
+    if is_beside(span, Point { x: 0, y: 1 }, t, u) {
         return true;
     }
     let along = point::step(t, u);
@@ -37,37 +39,17 @@ pub fn is_beyond(obstacle: &[i32], cart: Extent, t: Point, u: Point) -> bool
     )
 }
 
-// Whether two places are both further right than a point, or both further up.
-fn are_over(far: Point, t: Point, u: Point) -> bool
-    requires { Small (2 ^ 22) (at far) × Small (2 ^ 21) (at t) × Small (2 ^ 21) (at u) }
-    ensures { result ≡ is_over (at far) (at t) (at u) }
-{
-    if are_above(far.x, t.x, u.x) {
-        return true;
-    }
-    are_above(far.y, t.y, u.y)
-}
-
-// Whether two numbers are above a third.
-fn are_above(far: i32, a: i32, b: i32) -> bool
-    ensures { result ≡ are_above far a b }
-{
-    if far < a {
-        return far < b;
-    }
-    false
-}
-
 // How far an obstacle grown by a cart reaches: supports add, and those of the mirrored cart are exchanged.
-fn grown_extent(obstacle: &[i32], cart: Extent) -> Extent
-    requires { Valid obstacle.now × Small (2 ^ 21) (at cart.high) × Small (2 ^ 21) (at cart.low) }
-    ensures all_extend { AllExtend (points obstacle.now) cart result }
+fn grown_extent(obstacle: &[i32], cart: &[i32]) -> Extent
+    requires { Valid obstacle.now × Valid cart.now }
+    ensures extends { Extends (grown (points obstacle.now) (points cart.now)) result }
     ensures small { Small (2 ^ 22) (at result.high) × Small (2 ^ 22) (at result.low) }
 {
     let e = sums::extent::extent_of(obstacle);
+    let f = sums::extent::extent_of(cart);
     Extent {
-        high: point::step(point::opposite(cart.low), e.high),
-        low: point::step(point::opposite(cart.high), e.low),
+        high: point::step(point::opposite(f.low), e.high),
+        low: point::step(point::opposite(f.high), e.low),
     }
 }
 

@@ -1,13 +1,12 @@
-// Inner functions: where a place that moves straight first meets an obstacle grown by a cart.
+// Inner functions: where a place that moves straight first meets a shape.
 ghost use Rattle.std.specs.Prelude.{◌≡◌};
-ghost use Rattle.plane.specs.Point.{points, numbers};
+ghost use Rattle.plane.specs.Point.{points};
 ghost use Rattle.plane.specs.Refusal.{Valid};
 ghost use Rattle.polygon.specs.Point.{at};
-ghost use Rattle.growth.specs.Grown.{grown};
 ghost use Rattle.motion.specs.Contact.{contact_numbers};
 ghost use Rattle.contact.specs.Share.{Places, meeting_numbers};
 
-use crate::{round, share};
+use crate::{share, walls};
 use measure::magnitude;
 use polygon::point;
 use polygon::point::Point;
@@ -23,15 +22,13 @@ pub enum Meeting {
     },
 }
 
-// Where the way from t to u first meets an obstacle grown by a cart: at the last entry through its walls, unless that
-// comes after the way leaves one, which is where the way back enters it.
-pub fn first_of(obstacle: &[i32], cart: &[i32], t: Point, u: Point) -> Meeting
-    requires { Valid obstacle.now × Valid cart.now
-        × Valid (numbers (grown (points obstacle.now) (points cart.now))) × Places (at t) (at u) }
-    ensures { meeting_numbers result ≡ contact_numbers (at t) (at u)
-        (grown (points obstacle.now) (points cart.now)) }
+// Where the way from t to u first meets a shape: at the last entry through its walls, unless that comes after the way
+// leaves one, which is where the way back enters it.
+pub fn first_of(list: &[i32], t: Point, u: Point) -> Meeting
+    requires { Valid list.now × Places (at t) (at u) }
+    ensures { meeting_numbers result ≡ contact_numbers (at t) (at u) (points list.now) }
 {
-    let way = round::arrivals(obstacle, cart, t, u);
+    let way = walls::arrivals(list, t, u);
     if share::exceed(way.there, way.back) {
         return Meeting::Never;
     }

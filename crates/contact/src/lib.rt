@@ -1,7 +1,6 @@
 // Inner functions: where a cart that drives straight first meets an obstacle. Callers ask the crate `questions`.
-pub mod beyond;
+mod beyond;
 pub mod drive;
-mod round;
 pub mod share;
 mod walls;
 
@@ -15,17 +14,22 @@ ghost use Rattle.contact.specs.Share.{Places, meeting_numbers};
 
 use drive::Meeting;
 use polygon::point::Point;
+use polygon::{limits, peak};
+use separation::differences;
 
 // Where a cart that drives from t to u first meets an obstacle, both shapes, also the obstacle grown by the cart: where
-// its place meets the grown obstacle. No corner of that is looked at if the way keeps to one side of its box.
+// its place meets the grown obstacle. That is not written if the way keeps to one side of its box.
 pub fn first(obstacle: &[i32], cart: &[i32], t: Point, u: Point) -> Meeting
     requires { Valid obstacle.now × Valid cart.now
         × Valid (numbers (grown (points obstacle.now) (points cart.now))) × Places (at t) (at u) }
     ensures { meeting_numbers result ≡ contact_numbers (at t) (at u)
         (grown (points obstacle.now) (points cart.now)) }
 {
-    if beyond::is_beyond(obstacle, sums::extent::extent_of(cart), t, u) {
+    if beyond::is_beyond(obstacle, cart, t, u) {
         return Meeting::Never;
     }
-    drive::first_of(obstacle, cart, t, u)
+    let top = peak::top(cart);
+    let mut grown = [0i32; limits::SHAPE_NUMBERS];
+    let n = differences::write(obstacle, cart, top, &mut grown);
+    drive::first_of(&grown[..2 * n], t, u)
 }

@@ -1,5 +1,6 @@
 // Inner functions: where a way enters the walls of a shape.
-ghost use Rattle.std.specs.Prelude.{◌≡◌, ◌^◌, ◌<◌, false, ◌&&◌, length, pos, neg_ℤ, int_lt};
+ghost use Rattle.std.specs.Prelude.{◌&&◌, ◌≡◌, ◌+◌, ◌<◌, ◌^◌, pos, neg_ℤ, length};
+ghost use Rattle.std.specs.Int.Signed.{lt_z};
 ghost use Rattle.integer.specs.Bound.{Within};
 ghost use Rattle.plane.specs.Limits.{max_coordinate};
 ghost use Rattle.plane.specs.Point.{points};
@@ -7,7 +8,7 @@ ghost use Rattle.plane.specs.Turn.{turn};
 ghost use Rattle.plane.specs.Refusal.{Valid};
 ghost use Rattle.polygon.specs.Point.{at, Small};
 ghost use Rattle.motion.specs.Contact.{edge_normal, past as contact_past, entering, entry, last_entry};
-ghost use Rattle.contact.specs.Share.{fraction, Places, last_wall, Met, Cut, both_starts, both_ends};
+ghost use Rattle.contact.specs.Share.{fraction, Places, last_wall, Met};
 
 use crate::share;
 use crate::share::Share;
@@ -23,78 +24,40 @@ pub struct BothWays {
 
 // The last entries through the walls of a shape: its edges, and the box about a point or a segment. An edge that both
 // ends are past ends the loop: then the way is apart, and each entry is taken to be at the end of its way.
+// Ruled out: edge left taken for one entered.
 pub fn arrivals(list: &[i32], t: Point, u: Point) -> BothWays
     requires { Valid list.now × Places (at t) (at u) }
     ensures { Met (at t) (at u) (points list.now) result }
 {
     let n = corners::count(list);
-    let mut ways = BothWays {
-        there: start(list, t, u),
-        back: start(list, u, t),
-    };
+    let mut there = start(list, t, u);
+    let mut back = start(list, u, t);
     let mut i = 0;
     while i < n {
         let a = edge_past(list, i, t);
         let b = edge_past(list, i, u);
         if are_past(a, b) {
-            return at_ends();
+            return BothWays {
+                there: Share {
+                    numerator: 1,
+                    denominator: 1,
+                },
+                back: Share {
+                    numerator: 1,
+                    denominator: 1,
+                },
+            };
         }
-        ways = cut(ways, a, b);
+        there = share::later(there, share::entering(a, b));
+        back = share::later(back, share::entering(b, a));
         i += 1;
     }
-    ways
-}
-
-// The last entries with one wall more, which the way is a past at its start, and b at its end, not both above 0. Few
-// walls are entered later than those before.
-// Ruled out: edge left taken for one entered.
-pub fn cut(ways: BothWays, a: i64, b: i64) -> BothWays
-    requires { Within 8_000_000_000_000 a × Within 8_000_000_000_000 b
-        × ((int_lt (pos 0) a && int_lt (pos 0) b) ≡ false) }
-    ensures { Cut ways a b result }
-{
-    let there = ways.there;
-    let back = ways.back;
-    if 0 < a {
-        let next = share::crossing(a, b);
-        if share::is_later(there, next) {
-            return BothWays { there: next, back };
-        }
-        return ways;
-    }
-    if b <= 0 {
-        return ways;
-    }
-    let next = share::crossing(b, a);
-    if share::is_later(back, next) {
-        return BothWays { there, back: next };
-    }
-    ways
-}
-
-// A way and the way back, each entered at its start.
-pub fn at_starts() -> BothWays
-    ensures { result ≡ both_starts }
-{
-    BothWays {
-        there: share::start(),
-        back: share::start(),
-    }
-}
-
-// A way and the way back, each entered at its end, for a way that is apart.
-pub fn at_ends() -> BothWays
-    ensures { result ≡ both_ends }
-{
-    BothWays {
-        there: share::end(),
-        back: share::end(),
-    }
+    BothWays { there, back }
 }
 
 // Whether two numbers are above 0.
-pub fn are_past(a: i64, b: i64) -> bool
-    ensures { result ≡ (int_lt (pos 0) a && int_lt (pos 0) b) }
+fn are_past(a: i64, b: i64) -> bool
+    ensures { result ≡ (lt_z (pos 0) a && lt_z (pos 0) b) }
 {
     0 < a && 0 < b
 }
@@ -105,7 +68,10 @@ fn start(list: &[i32], t: Point, u: Point) -> Share
     ensures { fraction result ≡ last_wall (at t) (at u) (points list.now) 0 }
 {
     if 3 <= corners::count(list) {
-        return share::start();
+        return Share {
+            numerator: 0,
+            denominator: 1,
+        };
     }
     box_arrival(list, t, u)
 }
@@ -116,7 +82,10 @@ fn box_arrival(list: &[i32], t: Point, u: Point) -> Share
     requires { Valid list.now × Places (at t) (at u) }
     ensures { fraction result ≡ last_entry (entry (at t) (at u) (points list.now)) 4 }
 {
-    let start = share::start();
+    let start = Share {
+        numerator: 0,
+        denominator: 1,
+    };
     let right = side_entry(list, Point { x: 1, y: 0 }, t, u);
     let left = side_entry(list, Point { x: -1, y: 0 }, t, u);
     let up = side_entry(list, Point { x: 0, y: 1 }, t, u);
@@ -149,7 +118,7 @@ fn edge_past(list: &[i32], i: usize, p: Point) -> i64
 }
 
 // How far p is to the right of the edge from a to b, times its length.
-pub fn past(a: Point, b: Point, p: Point) -> i64
+fn past(a: Point, b: Point, p: Point) -> i64
     requires { Small (2 ^ 21) (at a) × Small (2 ^ 21) (at b) × Small (2 ^ 21) (at p) }
     ensures { result ≡ neg_ℤ (turn (at a) (at b) (at p)) }
 {

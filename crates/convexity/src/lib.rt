@@ -1,7 +1,5 @@
 // One pass over the corners of a list decides whether it is a convex shape in standard order (document
 // 02, request W2).
-pub mod elsewhere;
-
 ghost use Rattle.std.specs.Prelude.{true, false, ◌≡◌, ◌+◌, ◌-◌, ◌^◌, ◌<◌, ◌≤◌, pos, length};
 ghost use Rattle.std.specs.Int.Signed.{lt_z};
 ghost use Rattle.plane.specs.Point.{points, corner, ◌⊖◌};

@@ -3,11 +3,9 @@
 --     low_passage l r c     the same of passage, whose rows of the shapes are among its own
 --     low_ring a out    the same of a ring, after 1 to 3
 --     barred rows      the reply where a floor is above its limit: the refusal of the first of these rows that applies, or 13
---     LoweredPair f g k l      k and l are the floors f and g; or, where one is above its limit, 0 and 1, which a question refuses 13
---     LoweredThree f g h ..    the same of three floors: 0, 0 and 1
 --     Numbered rows    no row has number 0, so that 0 tells an answer
 -- Different floors are 13 by the pair's own row, and equal ones above the limit by this one. What it means: `Meaning.antt`.
-use Rattle.std.specs.Prelude.{◌≡◌, cond, ◌||◌, List, [], ◌∷◌, ◌++◌, ℕ, ◌<◌, ltb, ℤ}
+use Rattle.std.specs.Prelude.{List, [], ◌∷◌, ◌++◌, ◌<◌, ltb, ℤ}
 use Rattle.plane.specs.Limits.{max_floor}
 use Rattle.plane.specs.Reply.{Reply, refused, Row, row, first_row}
 use Rattle.plane.specs.Floor.{Floored, corners, no_shape, floor_of}
@@ -15,7 +13,7 @@ use Rattle.plane.specs.Output.{room_row}
 use Rattle.plane.specs.Question.{Question, asks, writes}
 use Rattle.admission.specs.Three.{three_rows}
 use Rattle.passage.specs.Passage.{passage_numbers, grown_rows}
-use Rattle.outline.specs.Ring.{ring_shape, inward_row, list_rows}
+use Rattle.ring.specs.Ring.{ring_shape, inward_row, list_rows}
 
 unfoldable pub low_floor : Question → Question
 low_floor q = record {
@@ -38,13 +36,6 @@ low_ring a out = writes (no_shape a.floor)
 
 abbrev pub barred : List Row → Reply
 barred rows = first_row rows (refused 13 [])
-
-abbrev pub LoweredPair : ℕ → ℕ → ℕ → ℕ → Type 0
-LoweredPair f g k l = let high = ltb max_floor f || ltb max_floor g in (k ≡ cond high 0 f) × (l ≡ cond high 1 g)
-
-abbrev pub LoweredThree : ℕ → ℕ → ℕ → ℕ → ℕ → ℕ → Type 0
-LoweredThree f g h k l m =
-    let high = (ltb max_floor f || ltb max_floor g) || ltb max_floor h in (k ≡ cond high 0 f) × (l ≡ cond high 0 g) × (m ≡ cond high 1 h)
 
 abbrev pub Numbered : List Row → Type 0
 Numbered [] = Unit {0}

@@ -3,4 +3,3 @@ pub mod Low
 pub mod High
 pub mod Passages
 pub mod Rings
-pub mod Lowered

@@ -1,11 +1,11 @@
-// Floors that are any numbers. If one is above its limit, the lists are judged, and then 13 is due.
-ghost use Rattle.std.specs.Prelude.{◌||◌, ◌≡◌, ltb};
+// Floors that are any numbers. Where one is above its limit, the lists are judged, and then 13 is due.
+ghost use Rattle.std.specs.Prelude.{◌||◌, ◌++◌, ◌≡◌, ltb};
 ghost use Rattle.plane.specs.Limits.{max_floor};
 ghost use Rattle.plane.specs.Refusal.{shape_rows};
 ghost use Rattle.plane.specs.Sweep.{point_rows};
-ghost use Rattle.outline.specs.Ring.{list_rows};
+ghost use Rattle.ring.specs.Ring.{list_rows};
 ghost use Rattle.wire.specs.Told.{crossed, numbers};
-ghost use Rattle.crossing.specs.LowFloor.{barred as low_floor_barred, LoweredPair, LoweredThree};
+ghost use Rattle.crossing.specs.LowFloor.{barred as low_floor_barred};
 
 use admission::Admission;
 use admission::answer::Refusal;
@@ -14,69 +14,17 @@ use wire::{Reply, refusals};
 
 // Whether one of two floors is above its limit.
 // Ruled out: second floor not looked at.
-fn exceeds(f: u32, g: u32) -> bool
+pub fn exceeds(f: u32, g: u32) -> bool
     ensures { result ≡ (ltb max_floor f || ltb max_floor g) }
 {
     limits::exceeds_floor(f) || limits::exceeds_floor(g)
 }
 
 // Whether one of three floors is above its limit.
-// Ruled out: third floor not looked at.
-fn exceeds_three(f: u32, g: u32, h: u32) -> bool
+pub fn exceeds_three(f: u32, g: u32, h: u32) -> bool
     ensures { result ≡ ((ltb max_floor f || ltb max_floor g) || ltb max_floor h) }
 {
     exceeds(f, g) || limits::exceeds_floor(h)
-}
-
-// Two floors in 16 bits.
-#[derive(Drop)]
-pub struct Pair {
-    pub first: u16,
-    pub second: u16,
-}
-
-// Returns the floors that a question on two shapes is asked with. If a given floor is above its limit, the returned
-// ones differ, so that the question itself refuses 13.
-// Ruled out: floor above the limit answered.
-pub fn lowered(f: u32, g: u32) -> Pair
-    ensures { LoweredPair f g result.first result.second }
-{
-    if exceeds(f, g) {
-        return Pair {
-            first: 0,
-            second: 1,
-        };
-    }
-    Pair {
-        first: f as u16,
-        second: g as u16,
-    }
-}
-
-// Three floors in 16 bits.
-#[derive(Drop)]
-pub struct Triple {
-    pub first: u16,
-    pub second: u16,
-    pub third: u16,
-}
-
-// Does the same for a question on three shapes.
-pub fn lowered_three(f: u32, g: u32, h: u32) -> Triple
-    ensures { LoweredThree f g h result.first result.second result.third }
-{
-    if exceeds_three(f, g, h) {
-        return Triple {
-            first: 0,
-            second: 0,
-            third: 1,
-        };
-    }
-    Triple {
-        first: f as u16,
-        second: g as u16,
-        third: h as u16,
-    }
 }
 
 // Returns the list's refusal, else 13.
@@ -85,6 +33,38 @@ pub fn barred(list: &[i32]) -> Reply
 {
     if let Admission::No(refusal) = admission::admit(list, 1) {
         return refusals::of_refusal(refusal);
+    }
+    refusals::of_refusal(Refusal::Floors)
+}
+
+// Returns the first list's refusal, else the second's, else 13.
+// Ruled out: thirteen for a bad second list.
+pub fn barred_pair(a: &[i32], b: &[i32]) -> Reply
+    ensures { numbers result ≡ crossed (low_floor_barred (shape_rows 1 a.now ++ shape_rows 2 b.now)) }
+{
+    if let Admission::No(first) = admission::admit(a, 1) {
+        return refusals::of_refusal(first);
+    }
+    if let Admission::No(second) = admission::admit(b, 2) {
+        return refusals::of_refusal(second);
+    }
+    refusals::of_refusal(Refusal::Floors)
+}
+
+// Returns the refusal of the first of three lists that has one, else 13.
+// Ruled out: second list judged for the third.
+pub fn barred_three(a: &[i32], b: &[i32], c: &[i32]) -> Reply
+    ensures { numbers result ≡ crossed (low_floor_barred
+        (shape_rows 1 a.now ++ (shape_rows 2 b.now ++ shape_rows 3 c.now))) }
+{
+    if let Admission::No(of_first) = admission::admit(a, 1) {
+        return refusals::of_refusal(of_first);
+    }
+    if let Admission::No(of_second) = admission::admit(b, 2) {
+        return refusals::of_refusal(of_second);
+    }
+    if let Admission::No(of_third) = admission::admit(c, 3) {
+        return refusals::of_refusal(of_third);
     }
     refusals::of_refusal(Refusal::Floors)
 }

@@ -1,4 +1,3 @@
-// What the calls of a host do besides asking: floors that are any numbers, readings with their unit, and the limits.
+// What the calls of a host do besides asking: floors that are any numbers, and readings with their unit.
 pub mod floors;
-pub mod limits;
 pub mod readings;

@@ -7,7 +7,6 @@ ghost use Rattle.plane.specs.Point.{points};
 ghost use Rattle.plane.specs.Reply.{NoneApply};
 ghost use Rattle.plane.specs.Refusal.{Valid};
 ghost use Rattle.polygon.specs.Point.{at};
-ghost use Rattle.polygon.specs.Extent.{Extends};
 ghost use Rattle.growth.specs.Grown.{grown};
 ghost use Rattle.journal.specs.Format.{records, name as format_name};
 ghost use Rattle.journal.specs.Reading.{damaged};
@@ -20,12 +19,11 @@ ghost use Rattle.drives.specs.Search.{found_numbers, is_latest, is_sooner, kept_
 
 use admission::Admission;
 use contact::drive::Meeting;
-use contact::{beyond, drive, share};
+use contact::share;
 use gaps::growing;
 use journal::{current, head, records};
-use polygon::extent::Extent;
+use polygon::limits;
 use polygon::point::Point;
-use polygon::{extent, limits};
 
 // The name of the first shape that is met, the fraction of the way at which it is, and the millimetres before it,
 // rounded down; never if no shape is met.
@@ -59,31 +57,29 @@ fn pass(log: &[u8], floor: u16, cart: &[i32], t: Point, u: Point, shape: &mut [i
     ensures { found_numbers result
         ≡ drive_numbers (points cart.now) (at t) (at u) (on_floor floor log.now) }
 {
-    let span = extent::extent_of(cart);
     let mut best = Soonest::Never;
     let mut p = 0;
     while records::whole_at(log, p) {
-        best = look(log, p, floor, cart, span, t, u, best, shape);
+        best = look(log, p, floor, cart, t, u, best, shape);
         p += 2 + endian::pair_at(log, p);
     }
     best
 }
 
-// Returns what is found once the record at a place is looked at. The cart reaches as far as `span`.
+// Returns what is found once the record at a place is looked at.
 // Ruled out: another floor counted.
 fn look(
     log: &[u8],
     p: usize,
     floor: u16,
     cart: &[i32],
-    span: Extent,
     t: Point,
     u: Point,
     best: Soonest,
     shape: &mut [i32],
 ) -> Soonest
     requires { Walk (points cart.now) log.now floor p × Sound log.now p × Valid cart.now
-        × Places (at t) (at u) × (length shape.old ≡ 2 * max_corners) × Extends (points cart.now) span }
+        × Places (at t) (at u) × (length shape.old ≡ 2 * max_corners) }
     ensures { Onward (points cart.now) (at t) (at u) floor log.now p best result
         × (length shape.new ≡ 2 * max_corners) }
 {
@@ -91,22 +87,19 @@ fn look(
         return best;
     }
     let n = growing::read_at(log, p, shape);
-    kept(log, p, meet(&shape[..n], cart, span, t, u), best)
+    kept(log, p, meet(&shape[..n], cart, t, u), best)
 }
 
 // Where a cart first meets an obstacle, if the grown obstacle is a shape. If it is not, the record is an older one of
-// its name, and is passed over. Most obstacles are beside the way: no more is asked of them.
-fn meet(obstacle: &[i32], cart: &[i32], span: Extent, t: Point, u: Point) -> Meeting
-    requires { Valid obstacle.now × Valid cart.now × Places (at t) (at u) × Extends (points cart.now) span }
+// its name, and is passed over.
+fn meet(obstacle: &[i32], cart: &[i32], t: Point, u: Point) -> Meeting
+    requires { Valid obstacle.now × Valid cart.now × Places (at t) (at u) }
     ensures { MetAs (at t) (at u) (grown (points obstacle.now) (points cart.now)) result }
 {
-    if beyond::is_beyond(obstacle, span, t, u) {
-        return Meeting::Never;
-    }
     if let Admission::No(refusal) = passage::admit_grown(obstacle, cart) {
         return Meeting::Never;
     }
-    drive::first_of(obstacle, cart, t, u)
+    contact::first(obstacle, cart, t, u)
 }
 
 // The record at a place if it is met sooner than what was found and is the latest of its name; else what was found.

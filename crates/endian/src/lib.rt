@@ -31,7 +31,7 @@ pub fn encode(list: &[i32], n: usize, out: &mut [u8])
 }
 
 // Returns the four-byte number at a place.
-pub fn word_at(bytes: &[u8], p: usize) -> i32
+fn word_at(bytes: &[u8], p: usize) -> i32
     requires { 3 + p < length bytes.now }
     ensures { result ≡ word_at bytes.now p }
 {

@@ -21,7 +21,7 @@ pub fn beyond(new: &[i32], old: &[i32]) -> Beyond
     requires { Valid new.now × Valid old.now }
     ensures { values_of result ≡ excess_numbers (points new.now) (points old.now) }
 {
-    if containment::inside(new, old) {
+    if separation::inside(new, old) {
         return Beyond::Inside;
     }
     let corner = outermost::outermost(new, old);

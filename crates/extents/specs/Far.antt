@@ -4,8 +4,6 @@
 --     Bounded e         the numbers of a box may be added
 --     Spans A B e f     e and f together are as wide as the boxes about A and about B; so e alone may be wider and f narrower
 --     Reaches A B e     e is the box about all sums of a point of A and a point of B
---     Measures A s      s is the width and the height of A
---     Wider e s r       r is the box e, made wider on every side by s
 --     Far e f t q       shapes that two boxes span are no nearer to each other than the root of t·t/q
 -- A box is the greatest x and the greatest y of a shape, and those of its mirror image (`Extent.antt` of polygon).
 use Rattle.std.specs.Prelude.{◌≡◌, true, List, ℕ, ◌*◌, ◌^◌, ℤ, pos, neg_ℤ}
@@ -15,7 +13,6 @@ use Rattle.plane.specs.Direction.{greater}
 use Rattle.plane.specs.Corner.{mirrored}
 use Rattle.plane.specs.Distance.{over, no_more, distance}
 use Rattle.polygon.specs.declared.extent.Extent.{Extent}
-use Rattle.polygon.specs.declared.point.Point.{Point as Code-as-Point}
 use Rattle.polygon.specs.Point.{at, Small}
 use Rattle.polygon.specs.Extent.{highest}
 
@@ -26,8 +23,8 @@ abbrev pub gap_of : Extent → Extent → ℤ
 gap_of e f = past (past (pos 0) (at e.high ⊕ at f.low)) (at e.low ⊕ at f.high)
 
 pub record Bounded (e : Extent) : Type 0 where
-  pub high : Small (2 ^ 23) (at e.high)
-  pub low : Small (2 ^ 23) (at e.low)
+  pub high : Small (2 ^ 22) (at e.high)
+  pub low : Small (2 ^ 22) (at e.low)
 
 pub record Spans (A B : List Point) (e f : Extent) : Type 0 where
   pub ahead : at e.high ⊕ at f.low ≡ highest A ⊕ highest (mirrored B)
@@ -36,15 +33,6 @@ pub record Spans (A B : List Point) (e f : Extent) : Type 0 where
 pub record Reaches (A B : List Point) (e : Extent) : Type 0 where
   pub high_is : at e.high ≡ highest A ⊕ highest B
   pub low-is : at e.low ≡ highest (mirrored A) ⊕ highest (mirrored B)
-
-pub record Measures (A : List Point) (s : Code-as-Point) : Type 0 where
-  pub is : at s ≡ highest A ⊕ highest (mirrored A)
-  pub small : Small (2 ^ 22) (at s)
-
-pub record Wider (e : Extent) (s : Code-as-Point) (r : Extent) : Type 0 where
-  pub high_is : at r.high ≡ at e.high ⊕ at s
-  pub low-is : at r.low ≡ at e.low ⊕ at s
-  pub bounded : Bounded r
 
 abbrev pub Far : Extent → Extent → ℕ → ℕ → Type 0
 Far e f t q = (A B : List Point) → IsShape A → IsShape B → Spans A B e f → no_more (over (pos (t * t)) (pos q)) (distance A B) ≡ true

@@ -5,7 +5,7 @@ ghost use Rattle.plane.specs.Point.{points, ◌⊕◌};
 ghost use Rattle.plane.specs.Direction.{greater as direction_greater};
 ghost use Rattle.plane.specs.Refusal.{Valid};
 ghost use Rattle.polygon.specs.Point.{at, Small};
-ghost use Rattle.extents.specs.Far.{past, Bounded, Wider, Measures, Far};
+ghost use Rattle.extents.specs.Far.{past, Bounded, Reaches, Far};
 
 use measure::magnitude;
 use polygon::extent;
@@ -26,7 +26,7 @@ pub fn are_far(e: Extent, f: Extent, turn: u64, squared: u64) -> bool
 
 // Returns the greatest of a number and of both coordinates of a sum of two points, each with its sign changed.
 fn gap(p: Point, q: Point, least: i64) -> i64
-    requires { Small (2 ^ 23) (at p) × Small (2 ^ 23) (at q) }
+    requires { Small (2 ^ 22) (at p) × Small (2 ^ 22) (at q) }
     ensures { result ≡ past least (at p ⊕ at q) }
 {
     let x = -(p.x + q.x) as i64;
@@ -41,30 +41,22 @@ fn greater(x: i64, y: i64) -> i64
     if x <= y { y } else { x }
 }
 
-// Returns the box about a shape that is grown by a cart, and the cart, from the box about the shape as it is: it is
-// wider by the cart's size on every side. The shape need not be grown for it.
-pub fn reach(e: Extent, size: Point) -> Extent
-    requires { Small (2 ^ 21) (at e.high) × Small (2 ^ 21) (at e.low) × Small (2 ^ 22) (at size) }
-    ensures { Wider e size result }
+// Returns the box about the vector sum of two shapes.
+pub fn reach(a: &[i32], b: &[i32]) -> Extent
+    requires { Valid a.now × Valid b.now }
+    ensures { Reaches (points a.now) (points b.now) result × Bounded result }
 {
+    let e = extent::extent_of(a);
+    let f = extent::extent_of(b);
     Extent {
-        high: sum(e.high, size),
-        low: sum(e.low, size),
+        high: sum(e.high, f.high),
+        low: sum(e.low, f.low),
     }
-}
-
-// Returns how wide and how high a shape is.
-pub fn size_of(list: &[i32]) -> Point
-    requires { Valid list.now }
-    ensures { Measures (points list.now) result }
-{
-    let e = extent::extent_of(list);
-    sum(e.high, e.low)
 }
 
 // Returns the sum of two points.
 fn sum(p: Point, q: Point) -> Point
-    requires { Small (2 ^ 21) (at p) × Small (2 ^ 22) (at q) }
+    requires { Small (2 ^ 21) (at p) × Small (2 ^ 21) (at q) }
     ensures { at result ≡ at p ⊕ at q }
 {
     Point {

@@ -11,10 +11,8 @@
 --     from f b p         the current shapes of the floor among the records from place p on
 --     is_on f b p         the record at place p is one of them
 --     later_pairs f b p q the pairs of the record at p with those from place q on
---     pairs_from f b p q  the same if it is one of the floor's, and none otherwise
 --     pairs_at f b p      its pairs with all later ones, if it is one; `tried_at f b p q` its one pair with the record at q
 --     LeftOut f b q e s  if the record at q is one of them, its pair with any shape that the box e is about is not nearer
---     Skipped f b e s p q    the same of all records from place p up to place q
 --     Fits A r           6 and 7 let the grown shape of a record pass; `rows_at A f b p` these rows of the record at place p, if it is on
 --     numbers_of g        what the inner function answers, as numbers
 --     Walk A b f p       what a loop knows at place p: no record from there on is bad, and the floor's shapes fit when they are grown
@@ -95,11 +93,6 @@ abbrev pub LeftOut : ℕ → List ℕ → ℕ → Extent → Best → Type 0
 LeftOut f b q e s = is_on f b q ≡ true → (A G : List Point) → 0 < length A → IsShape G → Reaches G A e
     → is_nearer (distance G (grown_of A (record_at b q))) s ≡ false
 
-pub data Skipped : ℕ → List ℕ → Extent → Best → ℕ → ℕ → Type 0 where
-  none : {f : ℕ} {b : List ℕ} {e : Extent} {s : Best} {p q : ℕ} → p ≡ q → Skipped f b e s p q
-  more : {f : ℕ} {b : List ℕ} {e : Extent} {s : Best} {p q r : ℕ} → Skipped f b e s p q → Sound b q → LeftOut f b q e s → r ≡ next_at b q
-      → Skipped f b e s p r
-
 abbrev pub Fits : List Point → List ℕ → Type 0
 Fits A r = NoneApply (size_rows (grown_of A r))
 
@@ -109,11 +102,8 @@ rows_at A f b p = cond (is_on f b p) (size_rows (grown_of A (record_at b p))) []
 abbrev pub later_pairs : ℕ → List ℕ → ℕ → ℕ → List Pair
 later_pairs f b p q = map (λ s. (record_at b p, s)) (from f b q)
 
-abbrev pub pairs_from : ℕ → List ℕ → ℕ → ℕ → List Pair
-pairs_from f b p q = cond (is_on f b p) (later_pairs f b p q) []
-
 abbrev pub pairs_at : ℕ → List ℕ → ℕ → List Pair
-pairs_at f b p = pairs_from f b p (next_at b p)
+pairs_at f b p = cond (is_on f b p) (later_pairs f b p (next_at b p)) []
 
 abbrev pub tried_at : ℕ → List ℕ → ℕ → ℕ → List Pair
 tried_at f b p q = cond (is_on f b q) (pair_at b p q ∷ []) []

@@ -1,5 +1,5 @@
 // Inner functions: the current shapes of a floor.
-ghost use Rattle.std.specs.Prelude.{true, false, cond, ◌≡◌, ◌+◌, ◌≤◌, ◌<◌, ◌^◌, length};
+ghost use Rattle.std.specs.Prelude.{false, cond, ◌≡◌, ◌+◌, ◌<◌, ◌^◌, length};
 ghost use Rattle.journal.specs.Format.{records};
 ghost use Rattle.journal.specs.Reading.{damaged};
 ghost use Rattle.journal.specs.Survey.{Sound};
@@ -8,22 +8,18 @@ ghost use Rattle.gaps.specs.Search.{is_on};
 
 use journal::{current, head, records};
 
-// Returns whether at least two current shapes are on a floor. Later records are not looked at.
-pub fn has_two(log: &[u8], floor: u16) -> bool
+// Returns how many current shapes are on a floor.
+pub fn count(log: &[u8], floor: u16) -> usize
     requires { damaged (records log.now) ≡ false }
-    ensures { (result ≡ true → 2 ≤ length (on_floor floor log.now))
-        × (result ≡ false → length (on_floor floor log.now) < 2) }
+    ensures { result ≡ length (on_floor floor log.now) }
 {
     let mut n = 0;
     let mut p = 0;
     while records::whole_at(log, p) {
         n = add(n, is_on(log, p, floor));
-        if 1 < n {
-            return true;
-        }
-        p = records::next_at(log, p);
+        p += 2 + endian::pair_at(log, p);
     }
-    false
+    n
 }
 
 // Returns n + 1 if the test holds, else n.

@@ -1,5 +1,4 @@
 // Inner functions: the narrowest gap between the shapes of a floor. Callers ask the crate `questions`.
-mod boxes;
 pub mod floor;
 pub mod growing;
 mod search;
@@ -41,21 +40,11 @@ pub fn gap(log: &[u8], floor: u16, cart: &[i32]) -> Narrowest
     let mut shape = [0i32; limits::SHAPE_NUMBERS];
     let mut above = [0i32; limits::SHAPE_NUMBERS];
     let mut below = [0i32; limits::SHAPE_NUMBERS];
-    let mut table = [0i32; boxes::NUMBERS];
-    let n = boxes::note(log, &mut table);
     let Best::Pair {
         first,
         second,
         spacing,
-    } = search::narrowest(
-        log,
-        floor,
-        cart,
-        &table[..4 * n],
-        &mut shape,
-        &mut above,
-        &mut below,
-    )
+    } = search::narrowest(log, floor, cart, &mut shape, &mut above, &mut below)
     else {
         return Narrowest::Nothing;
     };

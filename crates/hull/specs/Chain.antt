@@ -4,9 +4,7 @@
 --     is_right s t p        p lies strictly to the right of the line from s to t
 --     row_first, row_end, taken      of the corners from one end of a chain to the other, those that may be on the chain from s to t: an
 --                          end only if it lies to the right
---     chain_start, chain_end     the positions on the way round from which and to which a shape's own chain up runs, or its chain down
---     side_rows up .. s t       those of two shapes, for the chain up, or down, from s to t
---     right_rows, left_rows      the same, for the chain up from s to t and the chain down from t to s
+--     right_rows, left_rows      those of two shapes, for the chain up from s to t and the chain down from t to s
 --     Spread A a B b s t   s is the least corner of two shapes, t is the greatest, and they differ
 use Rattle.std.specs.Prelude.{◌≡◌, Bool, true, false, cond, List, ◌++◌, ℕ, ◌+◌, ◌-◌, eqb, pos, length}
 use Rattle.std.specs.Int.Signed.{lt_z}
@@ -36,21 +34,11 @@ row_end P high s t = high + one (is_right s t (corner P high))
 abbrev pub taken : List Point → ℕ → ℕ → Point → Point → List Point
 taken P low high s t = run P (row_first P low s t) (row_end P high s t - row_first P low s t)
 
-abbrev pub chain_start : Bool → ℕ → ℕ
-chain_start up top = cond up 0 top
-
-abbrev pub chain_end : Bool → List Point → ℕ → ℕ
-chain_end up ps top = cond up top (home ps top)
-
-abbrev pub side_rows : Bool → List Point → ℕ → List Point → ℕ → Point → Point → List Point
-side_rows up A a B b s t =
-    taken (closed A) (chain_start up a) (chain_end up A a) s t ++ taken (closed B) (chain_start up b) (chain_end up B b) s t
-
 abbrev pub right_rows : List Point → ℕ → List Point → ℕ → Point → Point → List Point
-right_rows A a B b s t = side_rows true A a B b s t
+right_rows A a B b s t = taken (closed A) 0 a s t ++ taken (closed B) 0 b s t
 
 abbrev pub left_rows : List Point → ℕ → List Point → ℕ → Point → Point → List Point
-left_rows A a B b s t = side_rows false A a B b t s
+left_rows A a B b s t = taken (closed A) a (home A a) t s ++ taken (closed B) b (home B b) t s
 
 pub record Spread (A : List Point) (a : ℕ) (B : List Point) (b : ℕ) (s t : Point) : Type 0 where
   pub start : s ≡ foremost true (corner A 0) (corner B 0)

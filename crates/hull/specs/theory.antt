@@ -11,4 +11,3 @@ pub mod Spread
 pub mod OnePoint
 pub mod Written
 pub mod Route
-pub mod Sorted

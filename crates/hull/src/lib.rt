@@ -5,7 +5,7 @@ mod outline;
 mod rows;
 mod scan;
 
-ghost use Rattle.std.specs.Prelude.{cond, suc, ◌+◌, ◌*◌, ◌≤◌, length, ◌++◌};
+ghost use Rattle.std.specs.Prelude.{false, true, suc, ◌+◌, ◌*◌, ◌≤◌, length, ◌++◌};
 ghost use Rattle.plane.specs.Point.{points};
 ghost use Rattle.plane.specs.Refusal.{Valid};
 ghost use Rattle.plane.specs.Corner.{shape_of};
@@ -13,11 +13,11 @@ ghost use Rattle.plane.specs.Sweep.{ValidPoints};
 ghost use Rattle.polygon.specs.Front.{Front};
 ghost use Rattle.polygon.specs.Point.{at};
 ghost use Rattle.sorting.specs.Buffer.{Chained};
-ghost use Rattle.hull.specs.Chain.{side_rows, Spread};
+ghost use Rattle.hull.specs.Chain.{right_rows, left_rows, Spread};
 
 use polygon::point::Point;
 use polygon::{corners, limits, peak, point};
-use sorting::insertion;
+use sorting::{digits, insertion, interior};
 
 // The numbers of few points.
 const FEW_NUMBERS: usize = 64;
@@ -99,32 +99,56 @@ fn both_chains(
         × (length (points a.now) + length (points b.now) ≤ length (points buf.old)) }
     ensures { Front (shape_of (points a.now ++ points b.now)) result buf.new }
 {
-    let right = side_chain(a, i, b, j, bottom, top, true, buf);
+    let right = right_chain(a, i, b, j, bottom, top, buf);
     let start = 2 * right;
-    let left = side_chain(a, i, b, j, top, bottom, false, &mut buf[start..]);
+    let left = left_chain(a, i, b, j, bottom, top, &mut buf[start..]);
     right + left
 }
 
-// Writes the chain up from the bottom to the top, or the one down from there, without its second end, at the front of
-// the buffer; says how many corners it has.
-fn side_chain(
+// Writes the chain up from the bottom to the top, without the top, at the front of the buffer; says how many corners it
+// has.
+fn right_chain(
     a: &[i32],
     i: usize,
     b: &[i32],
     j: usize,
-    from: Point,
-    to: Point,
-    up: bool,
+    bottom: Point,
+    top: Point,
     buf: &mut [i32],
 ) -> usize
     requires { Valid a.now × Valid b.now
-        × Spread (points a.now) i (points b.now) j (cond up (at from) (at to)) (cond up (at to) (at from))
-        × (suc (length (side_rows up (points a.now) i (points b.now) j (at from) (at to)))
+        × Spread (points a.now) i (points b.now) j (at bottom) (at top)
+        × (suc (length (right_rows (points a.now) i (points b.now) j (at bottom) (at top)))
         ≤ length (points buf.old)) }
-    ensures { Chained up (side_rows up (points a.now) i (points b.now) j (at from) (at to))
-        (at from) (at to) buf.old buf.new result }
+    ensures { Chained true
+        (right_rows (points a.now) i (points b.now) j (at bottom) (at top))
+        (at bottom) (at top) buf.old buf.new result }
 {
-    let row = rows::own(a, i, from, to, up);
-    let other = rows::own(b, j, from, to, up);
-    chains::chain(a, row, b, other, from, to, up, buf)
+    let row = rows::trimmed(a, 0, i, bottom, top);
+    let other = rows::trimmed(b, 0, j, bottom, top);
+    chains::chain(a, row, b, other, bottom, top, true, buf)
+}
+
+// Writes the chain down from the top to the bottom, without the bottom, at the front of the buffer; says how many
+// corners it has.
+fn left_chain(
+    a: &[i32],
+    i: usize,
+    b: &[i32],
+    j: usize,
+    bottom: Point,
+    top: Point,
+    buf: &mut [i32],
+) -> usize
+    requires { Valid a.now × Valid b.now
+        × Spread (points a.now) i (points b.now) j (at bottom) (at top)
+        × (suc (length (left_rows (points a.now) i (points b.now) j (at bottom) (at top)))
+        ≤ length (points buf.old)) }
+    ensures { Chained false
+        (left_rows (points a.now) i (points b.now) j (at bottom) (at top))
+        (at top) (at bottom) buf.old buf.new result }
+{
+    let row = rows::trimmed(a, i, rows::home(a, i), top, bottom);
+    let other = rows::trimmed(b, j, rows::home(b, j), top, bottom);
+    chains::chain(a, row, b, other, top, bottom, false, buf)
 }

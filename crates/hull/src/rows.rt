@@ -2,11 +2,10 @@
 // corner of all to the greatest; a chain down is the left-hand one, from there back.
 ghost use Rattle.std.specs.Prelude.{true, ◌≡◌, ◌^◌, ◌<◌, ◌≤◌, length};
 ghost use Rattle.plane.specs.Point.{points, corner};
-ghost use Rattle.plane.specs.Refusal.{InRange, Valid};
+ghost use Rattle.plane.specs.Refusal.{InRange};
 ghost use Rattle.polygon.specs.Point.{at, Small};
 ghost use Rattle.sorting.specs.Order.{closed, Line, order as order_order, foremost as order_foremost};
-ghost use Rattle.hull.specs.Chain.{row_first, row_end, chain_start, chain_end};
-ghost use Rattle.hull.specs.Chain.{home as chain_home, is_right as chain_is_right};
+ghost use Rattle.hull.specs.Chain.{row_first, row_end, home as chain_home, is_right as chain_is_right};
 
 use crate::scan;
 use polygon::point::Point;
@@ -22,7 +21,7 @@ pub struct Row {
 
 // The corners from one end of a shape's chain to the other that may be on the chain of two shapes, from one corner
 // to another: the ends themselves only if they lie to the right of the line from corner to corner.
-fn trimmed(list: &[i32], low: usize, high: usize, from: Point, to: Point) -> Row
+pub fn trimmed(list: &[i32], low: usize, high: usize, from: Point, to: Point) -> Row
     requires { (low ≤ high) × (high ≤ length (points list.now)) × Line list.now high
         × Small (2 ^ 21) (at from) × Small (2 ^ 21) (at to) }
     ensures { (result.first ≡ row_first (closed (points list.now)) low (at from) (at to))
@@ -32,21 +31,6 @@ fn trimmed(list: &[i32], low: usize, high: usize, from: Point, to: Point) -> Row
         first: order::after(!is_right(list, low, from, to), low),
         end: order::after(is_right(list, high, from, to), high),
     }
-}
-
-// The corners of a shape's own chain up to its top, or of the one down from there, that may be on the chain of two
-// shapes.
-pub fn own(list: &[i32], top: usize, from: Point, to: Point, up: bool) -> Row
-    requires { Valid list.now × (top < length (points list.now)) × Small (2 ^ 21) (at from)
-        × Small (2 ^ 21) (at to) }
-    ensures { (result.first ≡ row_first (closed (points list.now)) (chain_start up top) (at from) (at to))
-        × (result.end ≡ row_end (closed (points list.now)) (chain_end up (points list.now) top)
-        (at from) (at to)) }
-{
-    if up {
-        return trimmed(list, 0, top, from, to);
-    }
-    trimmed(list, top, home(list, top), from, to)
 }
 
 // Whether the corner at a position on the way round lies strictly to the right of the line from one point to another.
@@ -71,7 +55,7 @@ pub fn closed_at(list: &[i32], i: usize) -> Point
 }
 
 // The position on the way round where the chain down from the top ends; a point is its own.
-fn home(list: &[i32], top: usize) -> usize
+pub fn home(list: &[i32], top: usize) -> usize
     ensures { result ≡ chain_home (points list.now) top }
 {
     if top == 0 { 0 } else { corners::count(list) }

@@ -94,7 +94,7 @@ pub fn log_gap(log: &[u8], cart: &[i32], floor: u16) -> Gap
     if let Surveyed::Bad(place) = journal::survey::survey(log) {
         return Gap::No(Refusal::Damaged { place });
     }
-    if !gaps::floor::has_two(log, floor) {
+    if gaps::floor::count(log, floor) < 2 {
         return Gap::No(Refusal::TooFew);
     }
     if let Admission::No(refusal) = gaps::sizes::admit_sizes(log, floor, cart) {
@@ -151,5 +151,9 @@ fn pack_sound(old: &[u8], new: &mut [u8], but: usize, allowed: usize) -> Additio
     if new.len() < packing::packed_length(old, but) {
         return Addition::No(Refusal::Full);
     }
-    crate::stored(packing::pack(old, new, but, allowed))
+    if packing::pack(old, new, but, allowed) {
+        Addition::Finished
+    } else {
+        Addition::Cut
+    }
 }

@@ -1,8 +1,7 @@
 // The questions on a log. Callers ask the crate `questions`.
 pub mod books;
 
-ghost use Rattle.std.specs.Prelude.{◌≡◌, ◌<◌, false, cond, [], ◌∷◌, pos};
-ghost use Rattle.plane.specs.Reply.{answered};
+ghost use Rattle.std.specs.Prelude.{◌≡◌, ◌<◌, false};
 ghost use Rattle.plane.specs.Refusal.{Valid};
 ghost use Rattle.plane.specs.Question.{reply, output};
 ghost use Rattle.answers.specs.Answer.{of_answer, of_addition};
@@ -79,14 +78,7 @@ fn add_after(
     if storing::is_full(log, end, list) {
         return Addition::No(Refusal::Full);
     }
-    stored(storing::add(log, end, name, floor, list, allowed))
-}
-
-// Whether all stores were made, as an answer.
-fn stored(finished: bool) -> Addition
-    ensures { of_addition result ≡ answered (cond finished (pos 1) (pos 0) ∷ []) }
-{
-    if finished {
+    if storing::add(log, end, name, floor, list, allowed) {
         Addition::Finished
     } else {
         Addition::Cut

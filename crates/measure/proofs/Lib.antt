@@ -1,2 +1,6 @@
--- Lemmas that function proofs share, here and in `longest` and `narrowest`.
+-- Lemmas that function proofs share.
 pub mod Stepped
+pub mod Pairs
+pub mod Edges
+pub mod Sweep
+pub mod Found

@@ -2,7 +2,6 @@
 --     half-start                     they begin at antipodal corners
 --     half-edges, half-corners       their edges may be multiplied, their corners subtracted
 --     half_room                      their positions may be added
---     half-nexts                     what either asks for to go on
 --     half-on                        a step by `goes_right` leads on, to antipodal corners, and fewer are to come
 --     Inside, inside-told            where no chain ends soon the sign of the product alone tells the step
 --     inside-left, inside_on         three edges are left of either side, and a step is to come
@@ -17,7 +16,7 @@ use lib.ListN.{length}
 use lib.Signed.{lt_z}
 use Rattle.plane.specs.Limits.{corners-small}
 use Rattle.plane.specs.Point.{points}
-use Rattle.plane.specs.Refusal.{InRange, Valid}
+use Rattle.plane.specs.Refusal.{Valid}
 use Rattle.plane.specs.Turn.{cross}
 use Rattle.plane.specs.Forms.{edges}
 use Rattle.plane.specs.theory.sum.Positions.{edges-at-most, edges_some}
@@ -56,11 +55,6 @@ module _ {l : List ℤ} {n : ℕ} {s t : Side} (h : HalfAt l n s t) where
     corner-fits h.valid.in_range h.valid.shape.some h.right_side,
     corner-fits h.valid.in_range h.valid.shape.some h.left-side,
   )
-
-  pub half-nexts : (Carried l s × InRange l × (0 < length (points l))) × (Carried l t × InRange l × (0 < length (points l)))
-  half-nexts =
-      let v = h.valid in
-      ((h.right_side, v.in_range, v.shape.some), (h.left-side, v.in_range, v.shape.some))
 
   -- a shape has few corners
   pub half_room : (s.at + t.at ≤ 2 ^ 17) × (n + length (edges (points l)) ≤ 2 ^ 17)

@@ -18,7 +18,7 @@ use Rattle.measure.specs.Comparison.{NoBetter, Stands, Width}
 use Rattle.measure.specs.Half.{Chains, Antipodal}
 use Rattle.measure.specs.Scan.{HalfAt}
 use Rattle.measure.specs.declared.Length.{Length}
-use Rattle.measure.specs.declared.Across.{Across}
+use Rattle.measure.specs.declared.narrowest.Across.{Across}
 
 pub record Begins (l : List ℤ) (top end : ℕ) : Type 0 where
   pub valid : Valid l

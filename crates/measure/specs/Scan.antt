@@ -26,7 +26,7 @@ use Rattle.calipers.specs.Side.{corner_of, next_of, Carried}
 use Rattle.measure.specs.Half.{Chains, Antipodal}
 use Rattle.measure.specs.Comparison.{NotAfter, Width}
 use Rattle.measure.specs.declared.Length.{Length}
-use Rattle.measure.specs.declared.Across.{Across}
+use Rattle.measure.specs.declared.narrowest.Across.{Across}
 
 pub record HalfAt (l : List ℤ) (n : ℕ) (s t : Side) : Type 0 where
   pub valid : Valid l

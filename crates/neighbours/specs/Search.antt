@@ -6,7 +6,7 @@
 --     kept_of now n s best      what is found once a record is looked at: whether it is current, its name and its distance. The earlier one
 --                              stays on a tie
 --     NearSized best           what its distance is divided by is not 0
---     NotNearer e g best       a shape with the box g is not nearer to any shape with the box e than what is found
+--     NotNearer e S best       a shape S is not nearer to any shape with the box e than what is found
 --     Best A all n s rest      a record with the name n is at the distance s from A, and of all records the first of the least is that of
 --                              this one and the rest
 --     Still A all best rest    the same of what is found
@@ -52,8 +52,8 @@ abbrev pub NearSized : Near → Type 0
 NearSized Near.Nobody = Unit {0}
 NearSized (Near.Of n s) = Sized s
 
-abbrev pub NotNearer : Extent → Extent → Near → Type 0
-NotNearer e g best = (A B : List Point) → IsShape A → IsShape B → Extends A e → Extends B g → is_nearer (distance A B) best ≡ false
+abbrev pub NotNearer : Extent → List Point → Near → Type 0
+NotNearer e S best = (A : List Point) → IsShape A → Extends A e → is_nearer (distance A S) best ≡ false
 
 pub record Best (A : List Point) (all : List (List ℕ)) (n : ℕ) (s : Spacing) (rest : List (List ℕ)) : Type 0 where
   pub one : List ℕ

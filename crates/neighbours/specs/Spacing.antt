@@ -3,12 +3,13 @@
 --     fraction_of w         the squared distance as one fraction
 --     Sized w              the numbers that it is divided by are not 0, and neither is the distance of two corners
 --     HasRatio f r         turn·turn over squared of r is the fraction f
---     Beyond e g f         two shapes that the boxes e and g span are no nearer than f
+--     Beyond e S f         two shapes that the box e and that about S span are no nearer than f
 use Rattle.std.specs.Prelude.{◌≡◌, true, List, [], ◌∷◌, ◌*◌, ◌<◌, ℤ, pos, ◌*ℤ◌}
 use Rattle.plane.specs.Point.{Point}
 use Rattle.plane.specs.Shape.{IsShape}
 use Rattle.plane.specs.Distance.{Fraction, over, no_more, distance}
 use Rattle.polygon.specs.declared.extent.Extent.{Extent}
+use Rattle.polygon.specs.Extent.{Extends}
 use Rattle.extents.specs.Far.{Spans}
 use Rattle.clearance.specs.Answer.{values_of}
 use Rattle.clearance.specs.declared.measured.Distance.{Distance}
@@ -44,5 +45,5 @@ pub record HasRatio (f : Fraction) (r : Ratio) : Type 0 where
   pub some : 0 < r.squared
   pub is : pos (r.turn * r.turn) *ℤ f.denominator ≡ f.numerator *ℤ pos r.squared
 
-abbrev pub Beyond : Extent → Extent → Fraction → Type 0
-Beyond e g f = (A B : List Point) → IsShape A → IsShape B → Spans A B e g → no_more f (distance A B) ≡ true
+abbrev pub Beyond : Extent → List Point → Fraction → Type 0
+Beyond e S f = (A B : List Point) → IsShape A → IsShape B → ((g : Extent) → Extends S g → Spans A B e g) → no_more f (distance A B) ≡ true

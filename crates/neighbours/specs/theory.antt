@@ -3,6 +3,5 @@ pub mod Least
 pub mod Near
 pub mod Spacings
 pub mod Search
-pub mod Boxes
 pub mod Settled
 pub mod Answers

@@ -1,5 +1,4 @@
 // The nearest current shape of a floor. Inner functions; callers ask the crate `questions`.
-pub mod boxes;
 pub mod spacing;
 
 ghost use Rattle.std.specs.Prelude.{true, false, not, ◌&&◌, ◌≡◌, ◌*◌, eqb, length};
@@ -62,7 +61,7 @@ fn pass(log: &[u8], list: &[i32], floor: u16, but: usize, buffer: &mut [i32]) ->
 }
 
 // Returns what is found once the record at a place is looked at. The box about the given shape and that about the
-// record's show of most records that they are not nearer, and those are not decoded.
+// record's show of most records that they are not nearer.
 fn look(
     log: &[u8],
     p: usize,
@@ -82,19 +81,18 @@ fn look(
     if !is_asked(head, floor, but) {
         return best;
     }
-    if is_passed(extent, boxes::box_at(log, p), best) {
-        return best;
-    }
     endian::decode(log, head.place, head.count, buffer);
     let shape = &buffer[..head.count];
+    if is_passed(extent, shape, best) {
+        return best;
+    }
     kept(log, p, head.name, spacing::between(list, shape), best)
 }
 
-// Returns whether the boxes about two shapes show that the second is not nearer to the first than what was found. If
-// nothing was found, they do not.
-fn is_passed(extent: Extent, other: Extent, best: Near) -> bool
-    requires { Bounded extent × Bounded other × NearSized best }
-    ensures { result ≡ true → NotNearer extent other best }
+// Returns whether boxes show that a shape is not nearer than what was found. If nothing was found, none do.
+fn is_passed(extent: Extent, shape: &[i32], best: Near) -> bool
+    requires { Bounded extent × Valid shape.now × NearSized best }
+    ensures { result ≡ true → NotNearer extent (points shape.now) best }
 {
     let Near::Of {
         name,
@@ -103,7 +101,7 @@ fn is_passed(extent: Extent, other: Extent, best: Near) -> bool
     else {
         return false;
     };
-    spacing::is_far(extent, other, held)
+    spacing::is_far(extent, shape, held)
 }
 
 // Returns whether a record is on the floor and has another name than `but`.

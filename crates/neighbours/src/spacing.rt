@@ -9,6 +9,7 @@ ghost use Rattle.neighbours.specs.Spacing.{ApartSized, Sized, HasRatio, Beyond};
 ghost use Rattle.extents.specs.Far.{Bounded};
 
 use clearance::measured::Distance;
+use polygon::extent;
 use polygon::extent::Extent;
 
 // Shapes that have a point in common; or shapes that are apart, with the place where they are nearest.
@@ -47,13 +48,14 @@ pub fn is_less(v: Spacing, w: Spacing) -> bool
     wide::fraction_less(one.turn, one.squared, other.turn, other.squared)
 }
 
-// Returns whether boxes show that two shapes are no nearer than a distance. False says nothing of the shapes.
-pub fn is_far(e: Extent, f: Extent, w: Spacing) -> bool
-    requires { Bounded e × Bounded f × Sized w }
-    ensures { result ≡ true → Beyond e f (fraction_of w) }
+// Returns whether boxes show that two shapes are no nearer than a distance: the box that is given, and that about a
+// shape. False says nothing of the shapes.
+pub fn is_far(extent: Extent, shape: &[i32], w: Spacing) -> bool
+    requires { Bounded extent × Valid shape.now × Sized w }
+    ensures { result ≡ true → Beyond extent (points shape.now) (fraction_of w) }
 {
     let ratio = as_ratio(w);
-    extents::are_far(e, f, ratio.turn, ratio.squared)
+    extents::are_far(extent, extent::extent_of(shape), ratio.turn, ratio.squared)
 }
 
 // Returns the distance as a ratio. Two corners at the squared distance d are at d·d/d.

@@ -1,3 +1,2 @@
 -- Lemmas that function proofs share.
-pub mod Admitted
 pub mod Related

@@ -1,3 +1,2 @@
--- What the inner functions promise; then the theory, which only proves.
-pub mod Merged
+-- The theory, which only proves.
 pub mod theory

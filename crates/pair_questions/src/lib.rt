@@ -130,7 +130,7 @@ pub fn inside(a: &[i32], f: u16, b: &[i32], g: u16) -> Inside
         return Inside::No(refusal);
     }
     Inside::Is {
-        within: containment::inside(a, b),
+        within: separation::inside(a, b),
         floor: f,
     }
 }

@@ -1,8 +1,10 @@
 // Inner functions: a merge in a buffer of one of three sizes. To clear a buffer for the largest shapes takes a fifth of
 // the merge of two small ones.
-ghost use Rattle.std.specs.Prelude.{◌+◌, ◌≤◌, length};
+ghost use Rattle.std.specs.Prelude.{◌≡◌, ◌+◌, ◌≤◌, length};
 ghost use Rattle.plane.specs.Refusal.{Valid};
-ghost use Rattle.pair_questions.specs.Merged.{Merged};
+ghost use Rattle.plane.specs.Floor.{on};
+ghost use Rattle.plane.specs.Question.{reply, output, ask_merge};
+ghost use Rattle.answers.specs.Answer.{of_answer};
 
 use answers::Answer;
 use polygon::limits;
@@ -15,7 +17,9 @@ const MIDDLE_NUMBERS: usize = 1_024;
 // Writes the merge of two shapes on one floor at the front of the output, or refuses 6 or 8.
 pub fn merge(a: &[i32], b: &[i32], floor: u16, out: &mut [i32]) -> Answer
     requires { Valid a.now × Valid b.now }
-    ensures { Merged a.now b.now floor out.old result out.new }
+    ensures { (of_answer result ≡ reply (ask_merge (on a.now floor) (on b.now floor) out.old))
+        × (out.new
+        ≡ output (ask_merge (on a.now floor) (on b.now floor) out.old)) }
 {
     let all = a.len() + b.len();
     if all <= SMALL_NUMBERS {
@@ -30,7 +34,9 @@ pub fn merge(a: &[i32], b: &[i32], floor: u16, out: &mut [i32]) -> Answer
 // Does the same for two small shapes.
 fn merge_small(a: &[i32], b: &[i32], floor: u16, out: &mut [i32]) -> Answer
     requires { Valid a.now × Valid b.now × (length a.now + length b.now ≤ 256) }
-    ensures { Merged a.now b.now floor out.old result out.new }
+    ensures { (of_answer result ≡ reply (ask_merge (on a.now floor) (on b.now floor) out.old))
+        × (out.new
+        ≡ output (ask_merge (on a.now floor) (on b.now floor) out.old)) }
 {
     let mut shape = [0i32; SMALL_NUMBERS];
     merge_in(a, b, floor, &mut shape, out)
@@ -39,7 +45,9 @@ fn merge_small(a: &[i32], b: &[i32], floor: u16, out: &mut [i32]) -> Answer
 // Does the same for two shapes of middle size.
 fn merge_middle(a: &[i32], b: &[i32], floor: u16, out: &mut [i32]) -> Answer
     requires { Valid a.now × Valid b.now × (length a.now + length b.now ≤ 1_024) }
-    ensures { Merged a.now b.now floor out.old result out.new }
+    ensures { (of_answer result ≡ reply (ask_merge (on a.now floor) (on b.now floor) out.old))
+        × (out.new
+        ≡ output (ask_merge (on a.now floor) (on b.now floor) out.old)) }
 {
     let mut shape = [0i32; MIDDLE_NUMBERS];
     merge_in(a, b, floor, &mut shape, out)
@@ -48,7 +56,9 @@ fn merge_middle(a: &[i32], b: &[i32], floor: u16, out: &mut [i32]) -> Answer
 // Does the same for any two shapes.
 fn merge_large(a: &[i32], b: &[i32], floor: u16, out: &mut [i32]) -> Answer
     requires { Valid a.now × Valid b.now }
-    ensures { Merged a.now b.now floor out.old result out.new }
+    ensures { (of_answer result ≡ reply (ask_merge (on a.now floor) (on b.now floor) out.old))
+        × (out.new
+        ≡ output (ask_merge (on a.now floor) (on b.now floor) out.old)) }
 {
     let mut shape = [0i32; limits::PAIR_NUMBERS];
     merge_in(a, b, floor, &mut shape, out)
@@ -57,7 +67,9 @@ fn merge_large(a: &[i32], b: &[i32], floor: u16, out: &mut [i32]) -> Answer
 // Does the same in a lent buffer.
 fn merge_in(a: &[i32], b: &[i32], floor: u16, shape: &mut [i32], out: &mut [i32]) -> Answer
     requires { Valid a.now × Valid b.now × (length a.now + length b.now ≤ length shape.old) }
-    ensures { Merged a.now b.now floor out.old result out.new }
+    ensures { (of_answer result ≡ reply (ask_merge (on a.now floor) (on b.now floor) out.old))
+        × (out.new
+        ≡ output (ask_merge (on a.now floor) (on b.now floor) out.old)) }
 {
     let n = hull::merge(a, b, shape);
     delivery::deliver(&shape[..2 * n], floor, out)

@@ -2,5 +2,6 @@
 -- which only proves.
 pub mod Small
 pub mod Fronts
+pub mod Negated
 pub mod Peak
 pub mod Extents

@@ -73,14 +73,6 @@ pub fn next(n: usize, e: usize) -> usize
     if e + 1 == n { 0 } else { e + 1 }
 }
 
-// The position before i on the way round n corners.
-pub fn previous(n: usize, i: usize) -> usize
-    requires { i < n }
-    ensures { (result < n) × (shape_next n result ≡ i) }
-{
-    if i == 0 { n - 1 } else { i - 1 }
-}
-
 // Whether a corner breaks the left rule at an edge: it is neither end of it, and not strictly to its left.
 fn breaks_at(list: &[i32], edge: usize, corner: usize) -> bool
     requires { (edge < length (points list.now)) × (corner < length (points list.now)) × InRange list.now }

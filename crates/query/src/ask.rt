@@ -1,14 +1,14 @@
 // One arm for each question: it asks the library, and `replies` prints what it is told.
 use crate::table::{Entry, Question};
 use crate::{parts, readings, replies, table};
-use fields::{name, room};
 use log_questions::books;
 use pair_questions::separators;
 use part_questions::walk;
 use polygon::limits::SHAPE_NUMBERS;
 use reply::Reply;
 use shape_questions::rings;
-use streams::output;
+use text::fields::{name, room};
+use text::{fields, output};
 
 // A line has at most 65,536 characters, and a byte of a log two of them.
 const LOG: usize = 32768;

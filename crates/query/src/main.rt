@@ -7,10 +7,9 @@ mod readings;
 mod replies;
 mod table;
 
-use streams::lines::Reading;
-use streams::{lines, output, reasons};
+use text::lines::Reading;
 use text::reasons::Reason;
-use text::words;
+use text::{fields, lines, output, reasons, words};
 
 // How many numbers the fields of a line hold together, at most.
 const NUMBERS: usize = 16384;

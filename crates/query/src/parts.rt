@@ -4,7 +4,7 @@ use crate::replies::Form;
 use part_questions::answer::Part;
 use part_questions::walk::Walk;
 use polygon::limits::SHAPE_NUMBERS;
-use streams::output;
+use text::{fields, output};
 
 // How many bytes wait after a call, and the walk last handed back.
 #[derive(Drop)]

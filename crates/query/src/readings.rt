@@ -6,7 +6,7 @@ ghost use Rattle.std.specs.Float.Ieee.{nan_bits};
 use answers::Tablet;
 use reply::Reply;
 use tablet::reading::Reading;
-use text::readings;
+use text::{fields, readings};
 use wire::refusals;
 
 // The weight of the sign, of the exponent, and the exponent of an infinity or a NaN.

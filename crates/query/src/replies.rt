@@ -1,6 +1,6 @@
 // The one printer of replies, without their newlines.
 use reply::Reply;
-use streams::output;
+use text::output;
 
 // How an answer is written.
 #[derive(Drop)]

@@ -1,5 +1,6 @@
 // The table of questions: a row says a question's word and the kinds of its fields.
 use crate::replies::Form;
+use text::fields;
 
 // What can be asked.
 #[derive(Drop)]

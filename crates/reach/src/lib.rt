@@ -1,7 +1,8 @@
 // Inner functions for the greatest distance of a point of one shape and a point of another (000, 2.3; 003, 3). Callers
 // ask the crate `questions`.
-ghost use Rattle.std.specs.Prelude.{◌≡◌};
+ghost use Rattle.std.specs.Prelude.{◌≡◌, ◌<◌, ◌≤◌, length};
 ghost use Rattle.plane.specs.Point.{points};
+ghost use Rattle.plane.specs.Cycle.{turned};
 ghost use Rattle.plane.specs.Refusal.{Valid};
 ghost use Rattle.polygon.specs.Peak.{Peak};
 ghost use Rattle.calipers.specs.Image.{image as image_image};
@@ -12,7 +13,7 @@ ghost use Rattle.reach.specs.Answer.{IsGreatest, pair_at};
 use calipers::side::Side;
 use calipers::{edges, image, side};
 use measure::{Length, magnitude};
-use polygon::{peak, point};
+use polygon::{corners, peak, point};
 
 // The corner of the first shape and the corner of the second that are furthest apart, and their squared distance. Of
 // several such pairs: the smallest position in the first shape, then the smallest in the second.
@@ -57,8 +58,18 @@ fn pair(a: &[i32], b: &[i32], top: usize, s: Side, t: Side) -> Length
     Length {
         squared,
         from: edges::round(a, s.at),
-        to: image::place(b, top, t.at),
+        to: position(b, top, t.at),
     }
+}
+
+// The position i places after another, on the way round a list.
+fn position(list: &[i32], top: usize, i: usize) -> usize
+    requires { (top < length (points list.now)) × (i ≤ length (points list.now)) }
+    ensures { result ≡ turned (length (points list.now)) top i }
+{
+    let n = corners::count(list);
+    let k = top + i;
+    if k < n { k } else { k - n }
 }
 
 // The better of two pairs: further apart, then earlier.

@@ -1,2 +1,6 @@
--- What a ring is refused and answered by. The definitions are in `outline`.
+-- A ring of points cleaned, and brought to the standard list; positions as code holds them; then what it means, and its theory.
+pub mod Round
+pub mod Ring
+pub mod Places
+pub mod Meaning
 pub mod theory

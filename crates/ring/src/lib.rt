@@ -1,15 +1,18 @@
 // Inner functions: an outline as people have it, closed or open, in either sense, begun anywhere, with repeats and with
 // points in line. Its corners are found by their positions in the list. Nothing is filled up. Our own, not of
 // documents 01 and 02.
+pub mod inward;
+pub mod places;
 pub mod standard;
+pub mod turns;
 
 ghost use Rattle.std.specs.Prelude.{map, ◌≡◌, ◌*◌, ◌≤◌, ◌<◌, length};
 ghost use Rattle.plane.specs.Point.{points, numbers, corner};
 ghost use Rattle.plane.specs.Refusal.{InRange};
 ghost use Rattle.plane.specs.Output.{overwritten};
 ghost use Rattle.admission.specs.Admission.{Judged};
-ghost use Rattle.outline.specs.Ring.{open_ring, ring_corners, list_rows, ValidRing};
-ghost use Rattle.outline.specs.Places.{Started, Placed, Held};
+ghost use Rattle.ring.specs.Ring.{open_ring, ring_corners, list_rows, ValidRing};
+ghost use Rattle.ring.specs.Places.{Started, Placed, Held};
 
 use admission::Admission;
 use admission::answer::Refusal;
@@ -38,7 +41,7 @@ pub fn open_count(list: &[i32]) -> usize
     ensures { result ≡ length (open_ring (points list.now)) }
 {
     let n = corners::count(list);
-    repeats::less_closing(list, n, 0, n - 1)
+    places::less_closing(list, n, 0, n - 1)
 }
 
 // Writes the positions of the corners of a ring of n points to the front of `bent`, from the least corner on, in the
@@ -49,8 +52,8 @@ pub fn trace(list: &[i32], n: usize, start: usize, kept: &mut [usize], bent: &mu
         × (n ≤ length kept.old) × (n ≤ length bent.old) }
     ensures { Held (ring_corners (points list.now)) result bent.new }
 {
-    let m = repeats::distinct(list, n, start, kept);
-    bends::corners(list, &kept[..m], bent)
+    let m = places::distinct(list, n, start, kept);
+    turns::corners(list, &kept[..m], bent)
 }
 
 // Writes the corners at these positions of the list at the front of the output; all after them is kept.

@@ -6,10 +6,11 @@ ghost use Rattle.plane.specs.Cycle.{turned};
 ghost use Rattle.plane.specs.Output.{overwritten};
 ghost use Rattle.plane.specs.Shape.{IsShape};
 ghost use Rattle.polygon.specs.Front.{Front};
-ghost use Rattle.outline.specs.Round.{in_sense};
-ghost use Rattle.outline.specs.Ring.{walked, ring_shape, ValidRing};
-ghost use Rattle.outline.specs.Places.{Started};
+ghost use Rattle.ring.specs.Round.{in_sense};
+ghost use Rattle.ring.specs.Ring.{walked, ring_shape, ValidRing};
+ghost use Rattle.ring.specs.Places.{Started};
 
+use crate::turns;
 use polygon::{corners, rules};
 
 // Writes the n points of a ring from the least on, in the sense in which it turns left there, to the front of a buffer,
@@ -21,7 +22,7 @@ pub fn arranged(list: &[i32], n: usize, start: usize, shape: &mut [i32]) -> bool
     ensures { result ≡ true → Front (ring_shape (points list.now)) n shape.new
         × IsShape (ring_shape (points list.now)) }
 {
-    let before = bends::previous(n, start);
+    let before = turns::previous(n, start);
     let turn = corners::turn_at(list, before, start, rules::next(n, start));
     if turn == 0 {
         return false;

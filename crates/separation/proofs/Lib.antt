@@ -1,4 +1,4 @@
 -- Lemmas that function proofs share.
 pub mod Passing
 pub mod Striding
-pub mod Legs
+pub mod Beside

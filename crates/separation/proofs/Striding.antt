@@ -1,10 +1,9 @@
 -- The stride round the edges of a sum: the moves of its invariant, `Strode`.
 --     strode-start                             no edge is passed
---     strode-at                                the walk is at a place of the lists; `strode-with`: with other sides there
+--     strode-at                                the walk is at a place of the lists; `strode-same`: of equal sides
 --     strode-first, strode-second, -both       the one side goes on, or the other, or both
 --     strode-alone                             the second side goes on, where the first has no edge left
 --     goes_on                                  where a side goes on, it is one edge further
---     not-below, not-above                     a number is on one side of 0 only
 use mathlib.Core.Path.{◌≡◌, refl, sym, ◌∙◌, ap, ap₂, subst}
 use mathlib.Core.Bool.{true, false, cond}
 use mathlib.Core.List.{List, [], ◌∷◌}
@@ -23,10 +22,10 @@ use Rattle.plane.specs.Cycle.{corner_round}
 use Rattle.plane.specs.theory.forms.Vector.{cross-origin}
 use Rattle.calipers.specs.declared.side.Side.{Side}
 use Rattle.calipers.specs.Side.{corner_of, next_of, onward, Carried, walk_of}
-use Rattle.calipers.specs.Walk.{Walk, begun, finished, advanced, At}
+use Rattle.calipers.specs.Walk.{begun, finished, advanced, At}
 use Rattle.calipers.specs.theory.Sides.{along-edge, onward-inner, onward-end, edge_none}
 use Rattle.calipers.specs.theory.Carry.{some_left, sides-walk, sides-here, sides-advanced, sides-at}
-use Rattle.separation.specs.Passing.{Passing, Strode}
+use Rattle.separation.specs.Passing.{Strode}
 use Rattle.separation.proofs.Passing.{passing-start, passing-at, passing-more}
 
 -- ---- the turn by the edge that is passed
@@ -43,15 +42,15 @@ turn-both : (p q e f : Point) → cross (p ⊕ q) (e ⊕ f) ≡ cross (p ⊕ q) 
 unfolding cross
 turn-both p q e f = ring (p.x ∷ p.y ∷ q.x ∷ q.y ∷ e.x ∷ e.y ∷ f.x ∷ f.y ∷ []) (search reify depth 40) tt
 
-pub not-below : (c : ℤ) → pos 0 <ℤ c → lt_z c (pos 0) ≡ false
+not-below : (c : ℤ) → pos 0 <ℤ c → lt_z c (pos 0) ≡ false
 not-below c h = le-lt_z {x = c} {y = pos 0} (lia (c ∷ []) h (search linear depth 40) (omega arith))
 
-pub not-above : (c : ℤ) → c <ℤ pos 0 → lt_z (pos 0) c ≡ false
+not-above : (c : ℤ) → c <ℤ pos 0 → lt_z (pos 0) c ≡ false
 not-above c h = le-lt_z {x = pos 0} {y = c} (lia (c ∷ []) h (search linear depth 40) (omega arith))
 
 -- ---- a side that goes on
 
-module _ {l : List ℤ} {s : Side} (c : Carried l s) (h : s.at < s.end) where
+module _ {l : List ℤ} {s : Side} (c : Carried l s) (h : s.at + 2 < s.end) where
   pub goes_on : {k : ℕ} → k ≡ onward (points l) s.at → k ≡ s.at + 1
   goes_on i = i ∙ onward-inner (points l) s.at (omega (arith, c.end_is))
 
@@ -69,18 +68,13 @@ strode-start {a} {b} {s} {t} p h l u v = record {
   second-side = v;
 }
 
+pub strode-same : {a b : List ℤ} {s t m n : Side} {joined k : ℕ} → m ≡ s → n ≡ t → k ≡ joined → Strode a b s t joined → Strode a b m n k
+strode-same {a} {b} {s} {t} {m} {n} {joined} p q r w = subst (Strode a b m n) (sym r)
+    (subst (λ (z : Side). Strode a b m z joined) (sym q) (subst (λ (z : Side). Strode a b z t joined) (sym p) w))
+
 module _ {a b : List ℤ} {s t : Side} {joined : ℕ} (p : Strode a b s t joined) where
   pub strode-at : At a b (walk_of s t false)
   strode-at = passing-at p.passing
-
-  pub strode-with : (m n : Side) → m.at ≡ s.at → n.at ≡ t.at → Carried a m → Carried b n → Strode a b m n joined
-  strode-with m n i j u v = record {
-    count = p.count;
-    counted = omega (arith, p.counted, i, j);
-    passing = subst (λ (w : Walk). Passing a b w p.count false) (sym (sides-walk (walk_of s t false) m n i j)) p.passing;
-    first-side = u;
-    second-side = v;
-  }
 
   edges-left : s.end + t.end ≡ length (edges (points a)) + length (edges (points b))
   edges-left = omega (arith, p.first-side.end_is, p.second-side.end_is)
@@ -112,12 +106,12 @@ module _ {a b : List ℤ} {s t : Side} {joined : ℕ} (p : Strode a b s t joined
       }
 
     -- the turn by the edge of the second side
-    second-turn : (l : t.at < t.end) → turn ≡ cross from (next_of t) → (n : Side) → n.at ≡ onward (points b) t.at → Carried b n
+    second-turn : (l : t.at + 2 < t.end) → turn ≡ cross from (next_of t) → (n : Side) → n.at ≡ onward (points b) t.at → Carried b n
         → turn ≡ cross (corner_of s ⊕ corner_of t) (corner_of s ⊕ corner_of n)
     second-turn l e n j v = e ∙ ap (λ z. cross z (next_of t)) from_is ∙ turn-second (corner_of s) (corner_of t) (next_of t)
         ∙ ap (λ z. cross (corner_of s ⊕ corner_of t) (corner_of s ⊕ z)) (sym (there p.second-side l j v))
 
-    module _ (h : s.at < s.end) (l : t.at < t.end) where
+    module _ (h : s.at + 2 < s.end) (l : t.at + 2 < t.end) where
       pub strode-first : lt_z (pos 0) c ≡ true → turn ≡ cross from (next_of s) → (m : Side) → m.at ≡ onward (points a) s.at → Carried a m
           → Strode a b m t joined
       strode-first q e m i u =
@@ -136,10 +130,9 @@ module _ {a b : List ℤ} {s t : Side} {joined : ℕ} (p : Strode a b s t joined
           more s n (rw q refl) (rw waits j) p.first-side v
           (second-turn l e n j v) (omega (arith, edges-left)) (omega arith)
 
-      pub strode-both : s.at + 1 < s.end → lt_z (pos 0) c ≡ false → lt_z c (pos 0) ≡ false → turn ≡ cross from (next_of s ⊕ next_of t)
-          → (m n : Side)
+      pub strode-both : lt_z (pos 0) c ≡ false → lt_z c (pos 0) ≡ false → turn ≡ cross from (next_of s ⊕ next_of t) → (m n : Side)
           → m.at ≡ onward (points a) s.at → n.at ≡ onward (points b) t.at → Carried a m → Carried b n → Strode a b m n (joined + 1)
-      strode-both two q r e m n i j u v =
+      strode-both q r e m n i j u v =
           let one = goes_on p.first-side h i in
           let other = goes_on p.second-side l j in
           more m n (rw r i) (rw q j) u v
@@ -148,11 +141,10 @@ module _ {a b : List ℤ} {s t : Side} {joined : ℕ} (p : Strode a b s t joined
           (omega (arith, edges-left)) (omega arith)
 
   -- the first side has no edge left: it is that of a point
-  pub strode-alone : s.end ≤ s.at → t.at + 1 < t.end → {from : Point} → from ≡ corner_of s ⊕ corner_of t → {turn : ℤ}
+  pub strode-alone : s.end ≤ s.at → t.at + 2 < t.end → {from : Point} → from ≡ corner_of s ⊕ corner_of t → {turn : ℤ}
       → le_z turn (pos 0) ≡ false → turn ≡ cross from (next_of t) → (n : Side) → n.at ≡ onward (points b) t.at → Carried b n
       → Strode a b s n joined
-  strode-alone h two from_is left e n j v =
-      let l : t.at < t.end = omega (arith, two) in
+  strode-alone h l from_is left e n j v =
       let one = goes_on p.second-side l j in
       let over : s.at ≡ s.end = omega (arith, h, p.first-side.at_in, p.first-side.end_is) in
       let none = p.first-side.edge-is ∙ edge_none (points a) s.end s.at p.first-side.end_is over in

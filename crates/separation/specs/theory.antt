@@ -7,6 +7,7 @@ pub mod Rim
 pub mod Stops
 pub mod Around
 pub mod Image
+pub mod Within
 pub mod Edge
 pub mod Passed
 pub mod Outward

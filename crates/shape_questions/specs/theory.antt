@@ -1,4 +1,3 @@
 -- What each question answers of what its inner function finds.
 pub mod Measures
 pub mod Boxing
-pub mod Flat

@@ -12,8 +12,8 @@ ghost use Rattle.area.specs.Area.{ask_area};
 
 use admission::Admission;
 use answers::{Answer, Area, Furthest, Length, Refusal, Width};
-use polygon::corners;
 use polygon::point::Point;
+use polygon::{corners, opposite};
 
 // Whether the list is a shape, and how many corners it has. A point and a segment are shapes. Refused: an empty or odd
 // list, too many corners, a coordinate out of range, two equal corners or a broken left rule (with the first edge, then
@@ -71,7 +71,7 @@ pub fn mirror(list: &[i32], floor: u16, out: &mut [i32]) -> Answer
     if out.len() < list.len() {
         return Answer::No(Refusal::Room);
     }
-    mirror::mirror(list, out);
+    opposite::mirror(list, out);
     Answer::Corners {
         count: corners::count(list),
         floor,
@@ -103,7 +103,7 @@ pub fn length(list: &[i32], floor: u16) -> Length
     if let Admission::No(refusal) = admission::admit(list, 1) {
         return Length::No(refusal);
     }
-    let found = longest::furthest_pair(list);
+    let found = measure::furthest_pair(list);
     Length::Between {
         squared: found.squared,
         from: found.from,
@@ -140,7 +140,7 @@ pub fn width(list: &[i32], floor: u16) -> Width
     if corners::count(list) < 3 {
         return Width::No(Refusal::Flat);
     }
-    let found = narrowest::narrowest_edge(list);
+    let found = measure::narrowest_edge(list);
     Width::Across {
         edge: found.edge,
         corner: found.corner,

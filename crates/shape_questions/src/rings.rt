@@ -4,14 +4,14 @@ ghost use Rattle.plane.specs.Point.{points, numbers};
 ghost use Rattle.plane.specs.Shape.{IsShape};
 ghost use Rattle.plane.specs.Floor.{on};
 ghost use Rattle.plane.specs.Question.{reply, output};
-ghost use Rattle.outline.specs.Ring.{open_ring, ring_corners, ring_shape, ValidRing, ask_ring};
-ghost use Rattle.outline.specs.Places.{Started};
+ghost use Rattle.ring.specs.Ring.{open_ring, ring_corners, ring_shape, ValidRing, ask_ring};
+ghost use Rattle.ring.specs.Places.{Started};
 ghost use Rattle.answers.specs.Answer.{of_answer};
 
 use admission::Admission;
 use answers::{Answer, Refusal};
 use polygon::{corners, limits, numbers};
-use ring::standard;
+use ring::{inward, places, standard, turns};
 
 // Few points, and their numbers: a small buffer takes less time to clear.
 const FEW_POINTS: usize = 128;
@@ -46,7 +46,7 @@ fn ring_in(list: &[i32], floor: u16, shape: &mut [i32], out: &mut [i32]) -> Answ
         × (out.new ≡ output (ask_ring (on list.now floor) out.old)) }
 {
     let n = ring::open_count(list);
-    let start = repeats::least(list, n);
+    let start = places::least(list, n);
     if !standard::arranged(list, n, start, shape) {
         return traced(list, n, start, floor, out);
     }
@@ -116,7 +116,7 @@ fn told(list: &[i32], floor: u16, places: &[usize], out: &mut [i32]) -> Answer
     if at < n {
         return Answer::No(Refusal::Side {
             shape: 1,
-            edge: places[bends::previous(n, at)],
+            edge: places[turns::previous(n, at)],
             corner: places[at],
         });
     }

@@ -1,4 +1,5 @@
--- The theory of points in order, which only proves: what a buffer holds, and that its points are put in order.
+-- The theory of points in order, which only proves: what a buffer holds; that points in a rectangle may be dropped and the others put in
+-- order.
 pub mod Ahead
 pub mod Least
 pub mod Run
@@ -6,4 +7,6 @@ pub mod Stored
 pub mod CornersWritten
 pub mod Key
 pub mod Held
+pub mod Interior
 pub mod Insertion
+pub mod Digits

@@ -98,22 +98,8 @@ fn tidy(log: &mut [u8], p: usize, left: usize) -> usize
     byte(log, p, 0, left)
 }
 
-// Stores numbers, four bytes each, from a place on. How many stores are left. If all are allowed, none is counted:
-// `encode` stores the same bytes one by one, in the same order.
-// Ruled out: more stored than allowed.
+// Stores numbers, four bytes each, from a place on. How many stores are left.
 fn words(log: &mut [u8], p: usize, list: &[i32], allowed: usize) -> usize
-    requires { p + 4 * length list.now ≤ length log.old }
-    ensures { Ran allowed (writes p (bytes_words list.now)) log.old result log.new }
-{
-    if allowed < 4 * list.len() {
-        return counted(log, p, list, allowed);
-    }
-    endian::encode(list, list.len(), &mut log[p..]);
-    allowed - 4 * list.len()
-}
-
-// The same, each store counted.
-fn counted(log: &mut [u8], p: usize, list: &[i32], allowed: usize) -> usize
     requires { p + 4 * length list.now ≤ length log.old }
     ensures { Ran allowed (writes p (bytes_words list.now)) log.old result log.new }
 {

@@ -4,7 +4,6 @@
 --     side_of-carried, walked-with  the side at a position is carried; a walk with other sides at the same positions
 --     edges-sum                    the edges of both lists together are a number that fits; `all_edges`: the ends of both sides
 --     walked_at, -below, -here     the walk is at a place; a corner is to come, and the two sides are at it
---     walked-small                 the count fits
 use mathlib.Core.Path.{◌≡◌, refl, sym, ◌∙◌, ap, subst}
 use mathlib.Core.Bool.{Bool, true, false, cond}
 use mathlib.Core.List.{List}
@@ -25,7 +24,6 @@ use Rattle.plane.specs.theory.sum.Positions.{edges-at-most}
 use Rattle.calipers.specs.declared.side.Side.{Side}
 use Rattle.calipers.specs.Side.{corner_of, next_of, onward, Carried, walk_of}
 use Rattle.sums.specs.Advance.{state, side_of, next_corners, Walked}
-use Rattle.sums.specs.theory.Summed.{next-few}
 use Rattle.calipers.specs.Walk.{Walk, here, finished, advanced, stepped, remaining, At}
 use Rattle.calipers.specs.theory.Sides.{onward-end, onward-inner}
 use Rattle.calipers.specs.theory.Carry.{all-passed, some_left, sides-walk, sides-here, sides-advanced}
@@ -100,9 +98,6 @@ module _ {a b : List ℤ} {k : ℕ} where
 
     pub walked-below : count < length (next_corners a b w k)
     walked-below = taken-below k count coming p.few more-coming
-
-    pub walked-small : length a < 2 ^ 63 → length b < 2 ^ 63 → count + 1 < 2 ^ 63
-    walked-small h l = omega (arith, walked-below, next-few a b w k p.start, points-length a, points-length b, h, l)
 
     pub walked_here : corner_of s ⊕ corner_of t ≡ corner (next_corners a b w k) count
     walked_here = sides-here walked_at p.first-side p.second-side ∙ ap (here (points a) (points b)) p.moved

@@ -7,7 +7,7 @@ ghost use Rattle.plane.specs.Corner.{shape_of, sums};
 ghost use Rattle.calipers.specs.Walk.{At};
 ghost use Rattle.polygon.specs.Point.{at};
 ghost use Rattle.sums.specs.Advance.{state, side_of, next_corners, Walked};
-ghost use Rattle.sums.specs.Size.{Reckoned, Settles};
+ghost use Rattle.sums.specs.Size.{Reckoned};
 
 use crate::{extent, walk};
 use calipers::{edges, side};
@@ -15,8 +15,8 @@ use polygon::point::Point;
 use polygon::{corners, limits, point};
 
 // Returns the number of corners of a sum that is to be written to an output of `room` numbers. Where the corners of
-// both shapes together are few enough, their number is returned instead: no sum has more. The count stops where it
-// settles refusals 6 and 8: the sum is refused then, however many corners follow.
+// both shapes together are few enough, their number is returned instead: no sum has more. The count stops after one
+// corner more than a shape may have: the sum is refused then, however many follow.
 pub fn reckon(a: &[i32], b: &[i32], room: usize) -> usize
     requires { Valid a.now × Valid b.now }
     ensures { Reckoned (length (shape_of (sums (points a.now) (points b.now)))) room result }
@@ -25,7 +25,7 @@ pub fn reckon(a: &[i32], b: &[i32], room: usize) -> usize
     if suffices(most, room) {
         return most;
     }
-    count_on(a, b, 0, 0, settling(most, room))
+    count_on(a, b, 0, 0, limits::MAX_CORNERS + 1)
 }
 
 // Returns whether a shape may have this number of corners, and an output of `room` numbers holds them.
@@ -37,19 +37,6 @@ pub fn suffices(most: usize, room: usize) -> bool
         return false;
     }
     most <= room / 2
-}
-
-// Returns up to which number it takes to count the corners of a sum that has at most `most`, for an output of `room`
-// numbers. One more than a shape may have settles refusal 6. If `most` is no more than that, 6 is not refused, and one
-// corner more than the room holds settles 8.
-// Ruled out: too large a sum written; sum without room written.
-pub fn settling(most: usize, room: usize) -> usize
-    ensures { Settles most room result }
-{
-    if limits::exceeds_corners(most) {
-        return limits::MAX_CORNERS + 1;
-    }
-    room / 2 + 1
 }
 
 // Returns how many corners a walk would write that goes on from a place: k of them or what remains, whichever is less.
@@ -149,7 +136,7 @@ fn one_more(i: usize, waits: bool) -> usize
 }
 
 // Returns whether these corners fit in an output of `room` numbers. They are counted only if neither k nor the corners
-// of both shapes together settle it, and to one more than the room holds.
+// of both shapes together settle it.
 // Ruled out: room for one corner more asked.
 pub fn has_room(a: &[i32], b: &[i32], i: usize, j: usize, k: usize, room: usize) -> bool
     requires { At a.now b.now (state i j false) × (0 < k) }
@@ -163,7 +150,7 @@ pub fn has_room(a: &[i32], b: &[i32], i: usize, j: usize, k: usize, room: usize)
     if corners::count(a) + corners::count(b) <= most {
         return true;
     }
-    count_on(a, b, i, j, most + 1) <= most
+    count_on(a, b, i, j, k) <= most
 }
 
 // Returns whether a corner of the sum is out of range.

@@ -1,6 +1,6 @@
 -- What document 02, W4, and its reading say of single readings and corners, as one table over the definitions and one fact about all its
 -- rows, by computing.
-use Rattle.std.specs.Prelude.{◌≡◌, refl, true, false, List, [], ◌∷◌, map, pos, negsuc, Float}
+use Rattle.std.specs.Prelude.{◌≡◌, true, false, List, [], ◌∷◌, map, pos, negsuc, refl, Float}
 use Rattle.std.specs.Float.{nan, inf, fin, binary64}
 use Rattle.std.specs.Float.Ieee.{mul, of_int, round, size, span, climb, units, odd}
 use Rattle.std.specs.Int.Count.{count_trailing_zeros}

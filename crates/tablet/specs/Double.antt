@@ -5,7 +5,7 @@
 --     negative v, over v, under v      the sign and the two parts of the fraction
 --     signed s n                       n, or -n where s is true; minus zero is 0
 --     holding n                        the double that is sent back for n: the kit's rounding, which loses nothing (`sent-back-exactly`)
-use Rattle.std.specs.Prelude.{Bool, true, false, cond, ℕ, ◌*◌, ℤ, pos, neg_ℤ, Float}
+use Rattle.std.specs.Prelude.{ℕ, ◌*◌, Bool, true, false, cond, ℤ, pos, neg_ℤ, Float}
 use Rattle.std.specs.Float.{nan, inf, fin, binary64}
 use Rattle.std.specs.Float.Ieee.{up, down, of_int}
 

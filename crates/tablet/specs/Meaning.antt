@@ -2,7 +2,7 @@
 --     one reading     accepted exactly if finite, whole and in range; never rounded; what goes back; each refusal exactly for its reason;
 --                     scaling eighths
 --     a corner        accepted exactly if both readings are; the table, in its order; each refusal exactly for its reason; what goes back
-use Rattle.std.specs.Prelude.{◌≡◌, refl, true, false, List, [], ◌∷◌, ℕ, ◌≤◌, T, ℤ, pos, negsuc, ◌*ℤ◌, Float}
+use Rattle.std.specs.Prelude.{◌≡◌, ℕ, ◌≤◌, true, false, T, List, [], ◌∷◌, ℤ, pos, negsuc, ◌*ℤ◌, refl, Float}
 use Rattle.std.proofs.Common.{ap, subst}
 use Rattle.std.specs.Float.{fin, binary64}
 use Rattle.std.specs.Float.Ieee.{mul, fits, of_int, round, size, units, odd}

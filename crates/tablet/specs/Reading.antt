@@ -7,7 +7,7 @@
 --     tablet_reply x y           "x is judged wholly before y, and a refusal says which of them it was and gives nothing else"
 --     tablet_sent x y            the reply, and the doubles that go back: none on a refusal
 -- What it means: `accepted-exactly`, `exactly-accepted`, `never-rounded`, `sent-back-exactly` and the tables of `Meaning.antt`.
-use Rattle.std.specs.Prelude.{Bool, not, cond, List, [], ◌∷◌, ◌++◌, map, ℕ, ◌*◌, ◌/◌, ◌%◌, eqb, ℤ, Float}
+use Rattle.std.specs.Prelude.{ℕ, ◌*◌, ◌/◌, ◌%◌, Bool, cond, not, List, [], ◌∷◌, ◌++◌, map, ℤ, ◌==◌, Float}
 use Rattle.plane.specs.Reply.{Reply, answered, refused, Row, row, first_row}
 use Rattle.plane.specs.Refusal.{outside}
 use Rattle.tablet.specs.Double.{finite, negative, over, under, signed, holding}
@@ -38,7 +38,7 @@ not_finite r = not (finite (double r))
 
 -- 18: "if not whole"
 unfoldable pub not_whole : Reading → Bool
-not_whole r = not (eqb (over (double r) % bottom r) 0)
+not_whole r = not (over (double r) % bottom r == 0)
 
 unfoldable pub whole_number : Reading → ℤ
 whole_number r = signed (negative (double r)) (over (double r) / bottom r)

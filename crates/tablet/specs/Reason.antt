@@ -5,7 +5,7 @@
 --     Reason r n      the reason that the ticket gives for refusal n
 --     Blamed x y n c  "x is judged wholly before y, and a refusal says which of them it was": 1 or 2, which is all that c holds
 -- What it means: a corner is refused n with c exactly if it is so blamed (`refused-for-reason`, `reason-refuses`).
-use Rattle.std.specs.Prelude.{◌≡◌, true, false, List, [], ◌∷◌, ℕ, ℤ, pos, ◌*ℤ◌}
+use Rattle.std.specs.Prelude.{◌≡◌, ℕ, true, false, List, [], ◌∷◌, ℤ, pos, ◌*ℤ◌}
 use Rattle.integer.specs.Bound.{Within}
 use Rattle.plane.specs.Limits.{max_coordinate}
 use Rattle.tablet.specs.Double.{finite}

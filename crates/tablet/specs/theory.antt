@@ -1,11 +1,8 @@
 -- What the meaning rests on, in reading order.
 pub mod Fraction
 pub mod Exact
-pub mod Sum
-pub mod Rounding
 pub mod Tested
 pub mod Reads
-pub mod Short
 pub mod Rows
 pub mod Value
 pub mod Refused

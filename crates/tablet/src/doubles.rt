@@ -1,10 +1,9 @@
-// Tests of a double by operations whose rounding is known.
-ghost use Rattle.std.specs.Prelude.{◌≡◌, true, false, T, pos};
-ghost use Rattle.std.specs.Float.{binary64, fin};
-ghost use Rattle.std.specs.Float.Ieee.{fits, lt};
+// Tests of a double by operations that are exact.
+ghost use Rattle.std.specs.Prelude.{◌≡◌, true, T};
+ghost use Rattle.std.specs.Float.{binary64};
+ghost use Rattle.std.specs.Float.Ieee.{fits};
 ghost use Rattle.tablet.specs.Double.{finite};
-ghost use Rattle.tablet.specs.Test.{whole, short, Rounded};
-ghost use Rattle.tablet.specs.declared.reading.Reading.TheVariants.{Millimetres, Eighths};
+ghost use Rattle.tablet.specs.Test.{whole, small, short, truncated};
 
 // The bits of the infinity above 0: no constant may be one.
 const INFINITY: u64 = 0x7ff0_0000_0000_0000;
@@ -20,8 +19,34 @@ pub fn is_finite(v: f64) -> bool
     false
 }
 
-// Whether v is finite and less than 2^31 in size.
+// Whether v is a whole number: from 2^53 upward every double is, below that one that is equal to its whole part.
+pub fn is_whole(v: f64) -> bool
+    requires { T (fits binary64 v) × (finite v ≡ true) }
+    ensures { result ≡ whole v }
+{
+    if -9007199254740992.0 < v {
+        if v < 9007199254740992.0 {
+            return std::num::nearest_i64_to_f64(std::num::truncating_f64_to_i64(v)) == v;
+        }
+    }
+    true
+}
+
+// Whether v is not 0 and less than 1 in size.
+pub fn is_small(v: f64) -> bool
+    ensures { result ≡ small v }
+{
+    if -1.0 < v {
+        if v < 1.0 {
+            return v != 0.0;
+        }
+    }
+    false
+}
+
+// Whether v is less than 2^31 in size.
 pub fn is_short(v: f64) -> bool
+    requires { finite v ≡ true }
     ensures { result ≡ short v }
 {
     if -2147483648.0 < v {
@@ -30,42 +55,13 @@ pub fn is_short(v: f64) -> bool
     false
 }
 
-// Rounds v to a whole number. From 2^52 to 2^53 doubles have no digits after the point, so the sum with 3 · 2^51 is
-// rounded to a whole number, and its difference is exact. It is never minus zero.
-// Ruled out: halves read as whole.
-pub fn to_ones(v: f64) -> f64
-    requires { short v ≡ true }
-    ensures { Rounded (Millimetres v) result }
+// A whole number of less than 2^31 as an integer. Minus zero, which the cast does not take, is 0.
+pub fn number(v: f64) -> i32
+    requires { (finite v ≡ true) × (whole v ≡ true) × (short v ≡ true) }
+    ensures { result ≡ truncated v }
 {
-    v + 6755399441055744.0 - 6755399441055744.0
-}
-
-// Rounds v to a multiple of 8, in the same way.
-pub fn to_eights(v: f64) -> f64
-    requires { short v ≡ true }
-    ensures { Rounded (Eighths v) result }
-{
-    v + 54043195528445952.0 - 54043195528445952.0
-}
-
-// Whether v is a whole number.
-pub fn is_whole(v: f64) -> bool
-    requires { T (fits binary64 v) × (finite v ≡ true) }
-    ensures { result ≡ whole v }
-{
-    if v < 0.0 {
-        return is_whole_size(-v);
+    if v == 0.0 {
+        return 0;
     }
-    is_whole_size(v)
-}
-
-// Whether v, which is not below 0, is a whole number. From 2^52 upward every double is.
-fn is_whole_size(v: f64) -> bool
-    requires { T (fits binary64 v) × (finite v ≡ true) × (lt v (fin false 0 (pos 0)) ≡ false) }
-    ensures { result ≡ whole v }
-{
-    if v < 4503599627370496.0 {
-        return v + 4503599627370496.0 - 4503599627370496.0 == v;
-    }
-    true
+    v as i32
 }

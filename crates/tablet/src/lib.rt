@@ -6,90 +6,54 @@ ghost use Rattle.std.specs.Prelude.{◌≡◌, T};
 ghost use Rattle.std.specs.Float.{binary64};
 ghost use Rattle.std.specs.Float.Ieee.{fits, of_int};
 ghost use Rattle.tablet.specs.Reading.{read_as};
-ghost use Rattle.tablet.specs.Test.{of_fault, Refused, Numbered};
 ghost use Rattle.tablet.specs.declared.reading.Reading.TheVariants.{Millimetres, Eighths};
 
-use reading::{Fault, Reading};
+use polygon::limits;
+use reading::{Read, Reading};
 
-// What `number` returns for a reading that is not whole or not short. It is out of range.
-const NONE: i32 = 2147483647;
-
-// The whole number of millimetres that an accepted reading holds exactly; minus zero is 0. Of any other reading it is a
-// number out of range.
+// The whole number of millimetres that a reading holds exactly; minus zero is 0. Refused: a NaN or an infinity, then
+// what is not whole, then what is out of range.
 // Ruled out: scaled before the test; whole after range.
-pub fn number(reading: Reading) -> i32
-    ensures { Numbered reading result }
+pub fn read(reading: Reading) -> Read
+    ensures { result ≡ read_as reading }
 {
     match reading {
-        Reading::Millimetres(v) => ones(v),
-        Reading::Eighths(v) => eights(v),
+        Reading::Millimetres(v) => of_millimetres(v),
+        Reading::Eighths(v) => of_eighths(v),
     }
 }
 
-// Why a reading is refused: a NaN or an infinity, then what is not whole, then what is out of range.
-pub fn refusal(reading: Reading) -> Fault
-    requires { Refused reading }
-    ensures { of_fault result ≡ read_as reading }
+// A reading in eighths. Scaled by 0.125 it loses nothing from magnitude 1 upward, and 0 stays 0. What lies between is
+// less than an eighth of a millimetre and not whole; near 0 its eighth would be rounded.
+fn of_eighths(v: f64) -> Read
+    requires { T (fits binary64 v) }
+    ensures { result ≡ read_as (Eighths v) }
 {
-    match reading {
-        Reading::Millimetres(v) => refused(v),
-        Reading::Eighths(v) => refused_eighths(v),
+    if doubles::is_small(v) {
+        return Read::NotWhole;
     }
+    of_millimetres(v * 0.125)
 }
 
-// The number of a reading in millimetres.
-fn ones(v: f64) -> i32
-    ensures { Numbered (Millimetres v) result }
-{
-    if doubles::is_short(v) {
-        let whole = doubles::to_ones(v);
-        if whole == v {
-            return whole as i32;
-        }
-    }
-    NONE
-}
-
-// The number of a reading in eighths. It is tested before it is scaled by 0.125: near 0 its eighth would be rounded. A
-// multiple of 8 loses nothing.
-fn eights(v: f64) -> i32
-    ensures { Numbered (Eighths v) result }
-{
-    if doubles::is_short(v) {
-        let multiple = doubles::to_eights(v);
-        if multiple == v {
-            return (multiple * 0.125) as i32;
-        }
-    }
-    NONE
-}
-
-// Why a reading in eighths is refused. Scaled by 0.125 it loses nothing from magnitude 1 upward.
-fn refused_eighths(v: f64) -> Fault
-    requires { T (fits binary64 v) × Refused (Eighths v) }
-    ensures { of_fault result ≡ read_as (Eighths v) }
-{
-    if !doubles::is_short(v) {
-        return refused(v * 0.125);
-    }
-    if doubles::to_eights(v) == v {
-        return Fault::Far;
-    }
-    Fault::NotWhole
-}
-
-// Why a reading in millimetres is refused.
-fn refused(v: f64) -> Fault
-    requires { T (fits binary64 v) × Refused (Millimetres v) }
-    ensures { of_fault result ≡ read_as (Millimetres v) }
+// A reading in millimetres.
+fn of_millimetres(v: f64) -> Read
+    requires { T (fits binary64 v) }
+    ensures { result ≡ read_as (Millimetres v) }
 {
     if !doubles::is_finite(v) {
-        return Fault::NotFinite;
+        return Read::NotFinite;
     }
     if !doubles::is_whole(v) {
-        return Fault::NotWhole;
+        return Read::NotWhole;
     }
-    Fault::Far
+    if !doubles::is_short(v) {
+        return Read::Far;
+    }
+    let n = doubles::number(v);
+    if limits::outside(n) {
+        return Read::Far;
+    }
+    Read::Whole(n)
 }
 
 // The double that holds a whole number of 32 bits exactly; of 0 it is plus zero.

@@ -7,14 +7,6 @@ pub enum Reading {
     Eighths(f64),
 }
 
-// Why a reading is refused.
-#[derive(Drop)]
-pub enum Fault {
-    NotFinite,
-    NotWhole,
-    Far,
-}
-
 // The whole number of millimetres that a reading is, or why it is refused.
 #[derive(Drop)]
 pub enum Read {

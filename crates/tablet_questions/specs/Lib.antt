@@ -1,3 +1,4 @@
--- What a refused reading says; then its theory.
+-- What the judging of a reading says; then its theory.
+pub mod Coordinate
 pub mod Meaning
 pub mod theory

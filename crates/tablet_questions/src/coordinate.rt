@@ -1,20 +1,24 @@
-// Inner function: the refusal of a reading of a corner.
-ghost use Rattle.tablet.specs.Reading.{reading_rows};
-ghost use Rattle.tablet.specs.Test.{Refused};
-ghost use Rattle.admission.specs.Admission.{Refuses};
-ghost use Rattle.answers.specs.Answer.{of_unread};
+// Inner functions: a reading of the tablet judged before its corner is answered.
+ghost use Rattle.tablet_questions.specs.Coordinate.{Coordinated};
 
 use answers::Unread;
-use tablet::reading::{Fault, Reading};
+use tablet::reading::{Read, Reading};
 
-// Returns why a reading that is the part x, 1, or y, 2, of a corner is refused: 17, 18 or 3, in this order.
-pub fn refusal(reading: Reading, part: usize) -> Unread
-    requires { Refused reading }
-    ensures { Refuses (reading_rows part reading) (of_unread result) }
+// The whole number of a reading, or its refusal.
+#[derive(Drop)]
+pub enum Coordinate {
+    Whole(i32),
+    No(Unread),
+}
+
+// Judges a reading that is the part x, 1, or y, 2, of a corner: refusals 17, 18 and 3 in this order.
+pub fn read_part(reading: Reading, part: usize) -> Coordinate
+    ensures { Coordinated part reading result }
 {
-    match tablet::refusal(reading) {
-        Fault::NotFinite => Unread::NotFinite { part },
-        Fault::NotWhole => Unread::NotWhole { part },
-        Fault::Far => Unread::Far { part },
+    match tablet::read(reading) {
+        Read::Whole(n) => Coordinate::Whole(n),
+        Read::NotFinite => Coordinate::No(Unread::NotFinite { part }),
+        Read::NotWhole => Coordinate::No(Unread::NotWhole { part }),
+        Read::Far => Coordinate::No(Unread::Far { part }),
     }
 }

@@ -6,7 +6,7 @@ ghost use Rattle.tablet.specs.Reading.{tablet_sent};
 ghost use Rattle.answers.specs.Answer.{of_tablet};
 
 use answers::{Sent, Tablet};
-use polygon::limits;
+use coordinate::Coordinate;
 use tablet::reading::Reading;
 
 // A corner of two readings of the tablet, each in millimetres or in eighths: the doubles that go back, and the whole
@@ -17,20 +17,18 @@ use tablet::reading::Reading;
 pub fn tablet(x: Reading, y: Reading) -> Tablet
     ensures { of_tablet result ≡ tablet_sent x y }
 {
-    let m = tablet::number(x);
-    if limits::outside(m) {
-        return Tablet::No(coordinate::refusal(x, 1));
-    }
-    let n = tablet::number(y);
-    if limits::outside(n) {
-        return Tablet::No(coordinate::refusal(y, 2));
-    }
-    Tablet::Corner {
-        sent: Sent {
-            x: tablet::double(m),
-            y: tablet::double(n),
+    match coordinate::read_part(x, 1) {
+        Coordinate::No(refusal) => Tablet::No(refusal),
+        Coordinate::Whole(m) => match coordinate::read_part(y, 2) {
+            Coordinate::No(refusal) => Tablet::No(refusal),
+            Coordinate::Whole(n) => Tablet::Corner {
+                sent: Sent {
+                    x: tablet::double(m),
+                    y: tablet::double(n),
+                },
+                x: m,
+                y: n,
+            },
         },
-        x: m,
-        y: n,
     }
 }

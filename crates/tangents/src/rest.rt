@@ -47,7 +47,7 @@ fn beside(n: usize, i: usize, forward: bool) -> usize
     if forward {
         return rules::next(n, i);
     }
-    rules::previous(n, i)
+    previous(n, i)
 }
 
 // A neighbour of corner i that draws the start of the line to q away from it; i itself where it rests.
@@ -60,7 +60,7 @@ pub fn better(list: &[i32], i: usize, q: Point, s: bool) -> usize
     if drawn(list, i, after, q, s) {
         return after;
     }
-    let before = rules::previous(n, i);
+    let before = previous(n, i);
     if drawn(list, i, before, q, s) {
         return before;
     }
@@ -80,4 +80,12 @@ fn drawn(list: &[i32], i: usize, k: usize, q: Point, s: bool) -> bool
         corners::corner_at(list, k),
         s,
     )
+}
+
+// The position before i on the way round n corners.
+fn previous(n: usize, i: usize) -> usize
+    requires { i < n }
+    ensures { (result < n) × (next n result ≡ i) }
+{
+    if i == 0 { n - 1 } else { i - 1 }
 }

@@ -1,4 +1,6 @@
-// Why a line is no question.
+// Why a line is no question, and the answer that says so.
+use crate::output;
+
 #[derive(Drop)]
 pub enum Reason {
     // The line is a question.
@@ -17,4 +19,26 @@ pub enum Reason {
     NotAWalk,
     NotACall,
     NotAFloor,
+}
+
+// Adds the reason, without a newline.
+pub fn unreadable(out: &mut [u8], filled: usize, reason: Reason) -> usize {
+    let begun = output::word(out, filled, b"unreadable: ");
+    match reason {
+        Reason::Nothing => begun,
+        Reason::LineTooLong => output::word(out, begun, b"line too long"),
+        Reason::UnknownWord => output::word(out, begun, b"unknown word"),
+        Reason::MissingField => output::word(out, begun, b"missing field"),
+        Reason::TooManyFields => output::word(out, begun, b"too many fields"),
+        Reason::NotANumber => output::word(out, begun, b"not a number of 32 bits"),
+        Reason::TooManyNumbers => output::word(out, begun, b"too many numbers"),
+        Reason::WrongCount => output::word(out, begun, b"wrong count of numbers"),
+        Reason::NotACount => output::word(out, begun, b"not a count"),
+        Reason::NotAReading => output::word(out, begun, b"not a reading"),
+        Reason::NotBytes => output::word(out, begun, b"not bytes"),
+        Reason::NotAName => output::word(out, begun, b"not a name"),
+        Reason::NotAWalk => output::word(out, begun, b"not a walk"),
+        Reason::NotACall => output::word(out, begun, b"not a call"),
+        Reason::NotAFloor => output::word(out, begun, b"not a floor"),
+    }
 }

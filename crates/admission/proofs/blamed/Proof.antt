@@ -27,7 +27,7 @@ row-3 c = sym c.before.some-outside.ensures ∙ c.if3.false
 -- past the search for a broken edge there is none
 row-4 : (c : tie.After-enum-told) → rule_broken
     (points c.before.before.before.before.before.before.before.before.before.args.list.now) ≡ false
-row-4 c = broken-none _ (sym c.before.before.broken-at.ensures ∙ c.enum_told.given.1)
+row-4 c = broken-none _ (sym c.before.before.first-broken.ensures ∙ c.enum_told.given.1)
 
 -- ---- the needs
 
@@ -43,15 +43,15 @@ returns-3 c =
     turns-away (refuses (later (row-1 at-2.before.before) (later (row-2 at-2)
     (here (sym c.before.some-outside.ensures ∙ c.if3.true)))))
 
-broken-at-requires : tie.Need-broken-at-requires
-broken-at-requires c κs = near→in_range _ (row-3 c)
+first-broken-requires : tie.Need-first-broken-requires
+first-broken-requires c κs = near→in_range _ (row-3 c)
 
 returns-4 : tie.Need-returns-4
 returns-4 c =
     let at-3 = c.before.before.before.before in
     let at-2 = at-3.before.before in
     let start = at-2.before.before.before.before in
-    let found = broken-found _ _ _ (sym c.before.before.before.broken-at.ensures ∙ c.before.edge.given.1) in
+    let found = broken-found _ _ _ (sym c.before.before.before.first-broken.ensures ∙ c.before.edge.given.1) in
     turns-away (record {
       by = _;
       first = later (row-1 at-2.before.before) (later (row-2 at-2) (later (row-3 at-3) (here found.0)));
@@ -78,5 +78,5 @@ returns-6 c =
 pub blamed-spec : {M : Type 1} → statement M
 blamed-spec =
     tie.close
-    (tie.spec (λ c κs. search rules) returns (λ c κs. search rules) returns-2 (λ c κs. search rules) returns-3 broken-at-requires
+    (tie.spec (λ c κs. search rules) returns (λ c κs. search rules) returns-2 (λ c κs. search rules) returns-3 first-broken-requires
     (λ c. search rules) returns-4 (λ c. search rules) (λ c κs. search rules) returns-5 returns-6)

@@ -5,12 +5,10 @@
 --     image-corner       corner i on the way round is the opposite of the shape's corner i places after the peak
 --     image-small        and may be added
 --     image-edge         the edge that leaves a corner ends at the next on the way round
---     image-back         an edge of the shape, pointing the other way, is one of the image
-use Rattle.std.specs.Prelude.{◌≡◌, refl, Bool, true, false, List, [], ◌∷◌, ℕ, ◌+◌, ◌-◌, ◌^◌, ◌≤◌, ◌<◌, ltb, ℤ, length}
-use Rattle.std.proofs.Common.{sym, ◌∙◌, ap, ap₂, arith, ltb-true, ltb-false, le-ltb, eq-eqb}
+use Rattle.std.specs.Prelude.{◌≡◌, refl, Bool, true, false, List, ℕ, ◌+◌, ◌-◌, ◌^◌, ◌≤◌, ◌<◌, ltb, ℤ, length}
+use Rattle.std.proofs.Common.{sym, ◌∙◌, ap, arith, ltb-true, ltb-false, le-ltb, eq-eqb}
 use Rattle.std.proofs.Math.Decide.{ℕ_discrete}
-use Rattle.integer.specs.Ring.{ring, reify}
-use Rattle.plane.specs.Point.{Point, point, points, corner, opposite, ◌⊖◌}
+use Rattle.plane.specs.Point.{Point, points, corner, opposite, ◌⊖◌}
 use Rattle.plane.specs.Refusal.{Valid}
 use Rattle.plane.specs.Corner.{shape_of, mirrored}
 use Rattle.plane.specs.Forms.{edges}
@@ -23,7 +21,7 @@ use Rattle.plane.specs.theory.lists.Turned.{turned-start}
 use Rattle.plane.specs.theory.mirror.Mirror.{mirror-known, mirror-count, mirrored_from-at}
 use Rattle.plane.specs.theory.mirror.MirrorSize.{mirror-few, mirror-near}
 use Rattle.plane.specs.theory.refusals.Accept.{few-corners, near→in_range}
-use Rattle.plane.specs.theory.sum.Positions.{edges_some, edges_few, edges-at-most, round-inner, round-within, round-step}
+use Rattle.plane.specs.theory.sum.Positions.{edges_some, edges_few, round-inner, round-within, round-step}
 use Rattle.polygon.specs.Peak.{Peak}
 use Rattle.polygon.specs.Point.{Small}
 use Rattle.polygon.specs.theory.Peak.{peak-last}
@@ -94,16 +92,3 @@ module _ (l : List ℤ) (v : Valid l) where
 pub image-edge : (A : List Point) (i : ℕ) → i < length (edges A) → {p : Point} → p ≡ corner_round A (i + 1)
     → p ⊖ corner_round A i ≡ corner (edges A) i
 image-edge A i h e = ap (λ (q : Point). q ⊖ corner_round A i) (e ∙ round-step A i h) ∙ step_back (corner_round A i) (corner (edges A) i)
-
-opposite-step : (p q : Point) → opposite q ⊖ opposite p ≡ p ⊖ q
-opposite-step p q = ap₂ point (ring (p.x ∷ q.x ∷ []) (search reify depth 40) tt) (ring (p.y ∷ q.y ∷ []) (search reify depth 40) tt)
-
-pub image-back : (l : List ℤ) → Valid l → (t : ℕ) → Peak (points l) t → (j k : ℕ) → j < length (edges (points (image l)))
-    → k ≡ turned (length (points l)) t j → k + 1 ≡ turned (length (points l)) t (j + 1)
-    → corner (points l) k ⊖ corner (points l) (k + 1) ≡ corner (edges (points (image l))) j
-image-back l v t peak j k h e f =
-    let few : j + 1 ≤ length (points l) = omega (arith, h, edges-at-most (points (image l)), image-count l v) in
-    let here = image-corner l v t peak j (omega (arith, few)) e refl in
-    sym (opposite-step (corner (points l) k) (corner (points l) (k + 1)))
-    ∙ ap (λ (p : Point). opposite (corner (points l) (k + 1)) ⊖ p) here
-    ∙ image-edge (points (image l)) j h (image-corner l v t peak (j + 1) few f refl)

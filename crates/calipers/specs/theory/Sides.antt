@@ -1,7 +1,6 @@
 -- A side of a walk: how it is made, and that its numbers are small.
 --     edge-inner, edge-last           the edge that leaves a corner, and the one back to the first; `edge_none`: past it
---     edge-between                    the edge between two neighbours of the list
---     carried-to                      a side that is at a corner, with its edge; `carried_none`: past the last edge
+--     carried-to                      a side that is at a corner, with its edge
 --     along-edge                      the corner where it ends
 --     corner-fits, edge-adds          its corner and its edge may be added; `edge-fits`: its edge may be multiplied
 --     round-end                       after the last edge comes the first corner again
@@ -52,15 +51,6 @@ edge-inner A n i e h =
     let on : next n i ≡ i + 1 = rw (ne_eqb (i + 1) n (λ q. omega arith)) in
     ap (λ (k : ℕ). corner A k ⊖ corner_round A i) (sym on) ∙ edge_to A n i e (omega arith)
 
-pub edge-between : (A : List Point) (i : ℕ) → i + 1 < length A → {e : Point} → e ≡ corner A (i + 1) ⊖ corner A i
-    → (i < length (edges A)) × (e ≡ corner (edges A) i)
-edge-between A i h is =
-    let all = edges_some A (omega (arith, h)) in (
-      omega (arith, all, h),
-      is ∙ ap (λ (k : ℕ). corner A (i + 1) ⊖ corner A k) (sym (round-inner (length A) i (omega (arith, h))))
-          ∙ edge-inner A _ i refl (omega (arith, all, h)),
-    )
-
 pub edge-last : (A : List Point) (n i : ℕ) → n ≡ length (edges A) → i + 1 ≡ n → corner A 0 ⊖ corner_round A i ≡ corner (edges A) i
 edge-last A n i e h =
     let home : next n i ≡ 0 = rw (eq-eqb (i + 1) n h) in
@@ -99,14 +89,6 @@ stands-fits {l} {s} r some c = small-corner l r (round (length (points l)) s.at)
 pub along-edge : {l : List ℤ} {s : Side} → Carried l s → s.at < length (edges (points l))
     → corner_of s ⊕ next_of s ≡ corner_round (points l) (s.at + 1)
 along-edge {l} {s} c h = ap₂ ◌⊕◌ c.corner-is c.edge-is ∙ sym (round-step (points l) s.at h)
-
-pub carried_none : {l : List ℤ} {s : Side} → Stands l s → s.at ≡ s.end → Carried l s
-carried_none {l} c e = record {
-  at_in = c.at_in;
-  end_is = c.end_is;
-  corner-is = c.corner-is;
-  edge-is = c.no_edge ∙ sym (edge_none (points l) _ _ c.end_is e);
-}
 
 -- the side r that s becomes where its edge is known
 pub carried-to : {l : List ℤ} {s r : Side} (p : Point) → Stands l s

@@ -1,9 +1,10 @@
 -- Buffers that are large enough.
---     all-enough         the largest buffer holds what is read of any list
+--     both_small         two lists are small
+--     small-enough       the small buffers hold a small list; `all-enough`: what is read of any list
 --     combined-few       what is made of two shapes has no more corners than both
 --     combined-holds     a buffer of both counts holds it
-use Rattle.std.proofs.Common.{subst, arith, length-append}
-use Rattle.std.specs.Prelude.{Bool, true, false, List, ◌++◌, ℕ, ◌+◌, ◌*◌, ◌≤◌, ℤ, length}
+use Rattle.std.specs.Prelude.{◌≡◌, refl, Bool, true, false, ◌&&◌, List, ◌++◌, ℕ, ◌+◌, ◌*◌, ◌≤◌, leb, ℤ, length}
+use Rattle.std.proofs.Common.{sym, subst, true≢false, arith, leb-true, length-append}
 use Rattle.plane.specs.Limits.{max_corners}
 use Rattle.plane.specs.Point.{Point, points}
 use Rattle.plane.specs.Refusal.{Valid}
@@ -12,7 +13,18 @@ use Rattle.plane.specs.theory.sweep.Few.{shape_of-few}
 use Rattle.plane.specs.theory.sum.EdgeSum.{vector_sum-shape}
 use Rattle.plane.specs.theory.refusals.Accept.{few-corners}
 use Rattle.separation.specs.theory.Stops.{sum-length}
-use Rattle.bytewise.specs.Passing.{Enough, Spacious, Holds, combined}
+use Rattle.bytewise.specs.Passing.{small_bytes, Enough, Spacious, Holds, combined}
+
+pub both_small : (m n : ℕ) → (leb m small_bytes && leb n small_bytes) ≡ true → (m ≤ small_bytes) × (n ≤ small_bytes)
+both_small m n e = go (leb m small_bytes) refl e
+  where
+    go : (b : Bool) → leb m small_bytes ≡ b → (b && leb n small_bytes) ≡ true → (m ≤ small_bytes) × (n ≤ small_bytes)
+    go true p q = (leb-true m small_bytes p, leb-true n small_bytes q)
+    go false p q = absurd (true≢false (sym q))
+
+pub small-enough : (b : ℕ) → b ≤ small_bytes → Enough b 256
+unfolding small_bytes
+small-enough b h r k few = omega (arith, h, k)
 
 pub all-enough : (b : ℕ) → Enough b (3 + 2 * max_corners)
 all-enough b r k few = few

@@ -24,8 +24,7 @@ use Rattle.wire.specs.Told.{bits, crossed}
 use Rattle.wire.specs.Heard.{number_of, values_of}
 use Rattle.wire.specs.theory.ReadBack.{answered-back}
 use Rattle.crossing.specs.LowFloor.{low_floor, Numbered}
-use Rattle.additions.specs.Addition.{added_low}
-use Rattle.calls.specs.Calls.{SeparatorTold}
+use Rattle.calls.specs.Calls.{SeparatorTold, added_low}
 use Rattle.crossing.specs.theory.High.{barred-shape, barred-shapes, barred-kept, high-reply, pair-reply}
 
 module _ (q : Question) where

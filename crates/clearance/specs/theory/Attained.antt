@@ -54,6 +54,11 @@ step-square : (p q c : Point)
 step-square p q c = ap (λ z. value z z) (foot-step p q c) ∙ times-square (turn p q c) (q ⊖ p)
     ∙ ap (λ z. turn p q c *ℤ turn p q c *ℤ z) (sym (squared-value p q))
 
+falls-before : (ps : List Point) (e : ℕ) (c : Point) → falls_on ps e c ≡ true
+    → value (corner ps (next (length ps) e) ⊖ corner ps e) (c ⊖ corner ps e) <ℤ edge_squared ps e
+unfolding edge_squared
+falls-before ps e c r = (falls-inside (corner ps e) (corner ps (next (length ps) e)) c r).1
+
 times-one : (p : Point) → times (pos 1) p ≡ p
 times-one p = point-path (ring (p.x ∷ []) (search reify depth 40) tt) (ring (p.y ∷ []) (search reify depth 40) tt)
 
@@ -75,7 +80,9 @@ one-is : pos 0 <ℤ pos 1
 one-is = record { lt = tt }
 
 -- the foot of c on edge e, as a mean of the two ends
-module _ (ps : List Point) (e : ℕ) (c : Point) (e-in : e < length ps) (falls : falls_on ps e c ≡ true) where
+module _ (ps : List Point) (e : ℕ) (c : Point) (e-in : e < length ps)
+    (after : pos 0 <ℤ value (corner ps (next (length ps) e) ⊖ corner ps e) (c ⊖ corner ps e))
+    (before : value (corner ps (next (length ps) e) ⊖ corner ps e) (c ⊖ corner ps e) <ℤ edge_squared ps e) where
   abbrev p : Point
   p = corner ps e
 
@@ -84,14 +91,6 @@ module _ (ps : List Point) (e : ℕ) (c : Point) (e-in : e < length ps) (falls :
 
   abbrev along : ℤ
   along = value (q ⊖ p) (c ⊖ p)
-
-  -- c falls between the ends
-  after : pos 0 <ℤ along
-  after = (falls-inside p q c falls).0
-
-  before : along <ℤ edge_squared ps e
-  unfolding edge_squared
-  before = (falls-inside p q c falls).1
 
   abbrev foot : ℕ → ℕ
   foot = two e (nat_abs (edge_squared ps e -ℤ along)) (next (length ps) e) (nat_abs along)
@@ -121,11 +120,7 @@ module _ (ps : List Point) (e : ℕ) (c : Point) (e-in : e < length ps) (falls :
   foot-some : pos 0 <ℤ edge_squared ps e
   foot-some = lia (edge_squared ps e ∷ along ∷ []) (after & before) (search linear depth 40) (omega arith)
 
-  -- the numerator of the squared distance
-  abbrev height-square : ℤ
-  height-square = turn p q c *ℤ turn p q c
-
-  foot-square : value step step ≡ height-square *ℤ edge_squared ps e
+  foot-square : value step step ≡ turn p q c *ℤ turn p q c *ℤ edge_squared ps e
   unfolding edge_squared
   foot-square = step-square p q c
 
@@ -151,38 +146,63 @@ attained A B (corners i j) (h, k) = record {
 }
 attained A B (on_second i e) (h, k, r) = record {
   one = unit i 1;
-  other = foot B e c k r;
+  other = foot B e c k after before;
   one-point = rw (weight-unit i 1 A h) one-is;
-  other-point = rw (foot-weight B e c k r) (foot-some B e c k r);
-  exact = exactly-by (height-square B e c k r) (edge_squared B e) (unit i 1) A (foot B e c k r) B
-      (weight-unit i 1 A h) (foot-weight B e c k r)
-      (gap_is (unit i 1) A (foot B e c k r) B (weight-unit i 1 A h) (foot-weight B e c k r)
-      (heap-unit i 1 A h ∙ times-one c) (foot-heap B e c k r)
+  other-point = rw (foot-weight B e c k after before) (foot-some B e c k after before);
+  exact = exactly-by (turn p q c *ℤ turn p q c) (edge_squared B e) (unit i 1) A (foot B e c k after before) B
+      (weight-unit i 1 A h) (foot-weight B e c k after before)
+      (gap_is (unit i 1) A (foot B e c k after before) B (weight-unit i 1 A h) (foot-weight B e c k after before)
+      (heap-unit i 1 A h ∙ times-one c) (foot-heap B e c k after before)
       ∙ ap (λ z. times (edge_squared B e) c ⊖ z) {x = times (pos 1) m} {y = m} (times-one m))
-      (scale-second (height-square B e c k r) (edge_squared B e) (value (step B e c k r) (step B e c k r)) (foot-square B e c k r));
+      (scale-second (turn p q c *ℤ turn p q c) (edge_squared B e) (value (step B e c k after before) (step B e c k after before))
+      (foot-square B e c k after before));
 }
   where
     c : Point
     c = corner A i
 
+    p : Point
+    p = corner B e
+
+    q : Point
+    q = corner B (next (length B) e)
+
+    after : pos 0 <ℤ value (q ⊖ p) (c ⊖ p)
+    after = (falls-inside p q c r).0
+
+    before : value (q ⊖ p) (c ⊖ p) <ℤ edge_squared B e
+    before = falls-before B e c r
+
     m : Point
-    m = mean B e c k r
+    m = mean B e c k after before
 attained A B (on_first j e) (h, k, r) = record {
-  one = foot A e c k r;
+  one = foot A e c k after before;
   other = unit j 1;
-  one-point = rw (foot-weight A e c k r) (foot-some A e c k r);
+  one-point = rw (foot-weight A e c k after before) (foot-some A e c k after before);
   other-point = rw (weight-unit j 1 B h) one-is;
-  exact = exactly-by (height-square A e c k r) (edge_squared A e) (foot A e c k r) A (unit j 1) B
-      (foot-weight A e c k r) (weight-unit j 1 B h)
-      (gap_is (foot A e c k r) A (unit j 1) B (foot-weight A e c k r) (weight-unit j 1 B h)
-      (foot-heap A e c k r) (heap-unit j 1 B h ∙ times-one c)
+  exact = exactly-by (turn p q c *ℤ turn p q c) (edge_squared A e) (foot A e c k after before) A (unit j 1) B
+      (foot-weight A e c k after before) (weight-unit j 1 B h)
+      (gap_is (foot A e c k after before) A (unit j 1) B (foot-weight A e c k after before) (weight-unit j 1 B h)
+      (foot-heap A e c k after before) (heap-unit j 1 B h ∙ times-one c)
       ∙ ap (λ z. z ⊖ times (edge_squared A e) c) {x = times (pos 1) m} {y = m} (times-one m))
-      (scale-first (height-square A e c k r) (edge_squared A e) (value (m ⊖ times (edge_squared A e) c) (m ⊖ times (edge_squared A e) c))
-      (opposite-square m (times (edge_squared A e) c) ∙ foot-square A e c k r));
+      (scale-first (turn p q c *ℤ turn p q c) (edge_squared A e) (value (m ⊖ times (edge_squared A e) c) (m ⊖ times (edge_squared A e) c))
+      (opposite-square m (times (edge_squared A e) c) ∙ foot-square A e c k after before));
 }
   where
     c : Point
     c = corner B j
 
+    p : Point
+    p = corner A e
+
+    q : Point
+    q = corner A (next (length A) e)
+
+    after : pos 0 <ℤ value (q ⊖ p) (c ⊖ p)
+    after = (falls-inside p q c r).0
+
+    before : value (q ⊖ p) (c ⊖ p) <ℤ edge_squared A e
+    before = falls-before A e c r
+
     m : Point
-    m = mean A e c k r
+    m = mean A e c k after before

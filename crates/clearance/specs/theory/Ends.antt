@@ -16,13 +16,12 @@ use Rattle.plane.specs.Clearance.{Candidate, corners, on_second, on_first, neare
 use Rattle.plane.specs.theory.lists.Members.{position-member}
 use Rattle.plane.specs.theory.forms.Vector.{opposite-opposite, below-non-zero}
 use Rattle.clearance.specs.Order.{Sooner, Earlier}
-use Rattle.faces.specs.Faces.{Lowest}
-use Rattle.clearance.specs.Facing.{Foot, Across, Reached, Facing}
-use Rattle.faces.specs.Faces.{IsFace, is_end, is_along, is_foot, picked_of, tried}
+use Rattle.clearance.specs.Facing.{Lowest, Foot, Across, Reached, Facing}
+use Rattle.clearance.specs.Faces.{IsFace, is_end, is_along, is_foot, picked_of, tried}
 use Rattle.clearance.specs.theory.First.{nearest-is}
-use Rattle.faces.specs.declared.Face.{Face}
-use Rattle.faces.specs.declared.pairs.Spot.{Spot}
-use Rattle.faces.specs.declared.pairs.Spot.TheVariants.{At, Nowhere}
+use Rattle.clearance.specs.declared.face.Face.{Face}
+use Rattle.clearance.specs.declared.reach.Spot.{Spot}
+use Rattle.clearance.specs.declared.reach.Spot.TheVariants.{At, Nowhere}
 
 -- ---- the ends of a face
 

@@ -17,11 +17,10 @@ use Rattle.plane.specs.Measure.{squared}
 use Rattle.plane.specs.Clearance.{falls, falls_on, Candidate, corners, on_second, on_first}
 use Rattle.plane.specs.theory.forms.Vector.{value-⊖, turned-back, turned_lt}
 use Rattle.plane.specs.theory.forms.Squared.{squared-value}
-use Rattle.faces.specs.Faces.{Lowest}
-use Rattle.clearance.specs.Facing.{Reached}
+use Rattle.clearance.specs.Facing.{Lowest, Reached}
 use Rattle.clearance.specs.theory.First.{lowest-twice, turned-square}
 use Rattle.clearance.specs.theory.Along.{by-edge}
-use Rattle.faces.specs.theory.Lowest.{lowest-neighbours}
+use Rattle.clearance.specs.theory.Lowest.{lowest-neighbours}
 
 -- ---- a point over an edge
 

@@ -21,8 +21,7 @@ use Rattle.plane.specs.theory.lists.Members.{position-member}
 use Rattle.plane.specs.theory.lists.Next.{next-below}
 use Rattle.plane.specs.theory.forms.Vector.{value-turned, square-positive, opposite-opposite, below-non-zero}
 use Rattle.clearance.specs.Order.{Earlier, AtOrAfter, itself, after, Listed}
-use Rattle.faces.specs.Faces.{Lowest}
-use Rattle.clearance.specs.Facing.{Reached, Facing}
+use Rattle.clearance.specs.Facing.{Lowest, Reached, Facing}
 use Rattle.clearance.specs.theory.Candidates.{least-listed, least-passes, least_first}
 use Rattle.clearance.specs.theory.Bound.{pair-bound, pair-attains, pair-attained}
 use Rattle.clearance.specs.theory.Bound.{foot-positive, foot-bound, foot-attains, foot-attained}

@@ -24,11 +24,10 @@ use Rattle.plane.specs.theory.hull.ShapeOf.{shape_of-shape, shape_of-support, sh
 use Rattle.plane.specs.theory.forms.Vector.{positive-non-zero, value-sym}
 use Rattle.separation.specs.theory.Apart.{Separated, value-difference, differences-some, difference-member, member-difference}
 use Rattle.separation.specs.theory.Apart.{apart→direction}
-use Rattle.faces.specs.Faces.{Lowest}
-use Rattle.clearance.specs.Facing.{Facing, StopsAtCorner, StopsOnEdge}
+use Rattle.clearance.specs.Facing.{Lowest, Facing, StopsAtCorner, StopsOnEdge}
 use Rattle.clearance.specs.theory.First.{Held, touched-low, touched-high}
 use Rattle.clearance.specs.theory.Pairs.{Pair, pair_of, pair-value}
-use Rattle.faces.specs.theory.Lowest.{neighbours-lowest}
+use Rattle.clearance.specs.theory.Lowest.{neighbours-lowest}
 use Rattle.clearance.specs.theory.Segments.{inside-span}
 use Rattle.clearance.specs.theory.Along.{value-end}
 use Rattle.clearance.specs.theory.Closest.{Closest, at-point, at-foot, closest}

@@ -1,12 +1,15 @@
 -- What the loop over the walls finds, for the way and the way back: whether they are apart from the shape, and the contact.
---     wall-none, wall-box, wall-more     what is found before the edges, and with one edge more; `wall-cut`: of both ways
+--     wall-none, wall-box, wall-more     what is found before the edges, and with one edge more
 --     walls-on-way, walls-first          what is found after all of them, in lowest terms, is the contact of a way that meets
 --     within-reached, back-within        two ways that do not pass each other, wall by wall, and at a place that meets
 --     walls-apart                        the way is apart exactly if both arrivals are together more than the way
 --     all-met, out-met                   so the loop shows it after all walls, and at a wall that both ends are past
-use Rattle.std.specs.Prelude.{◌≡◌, ℕ, suc, ◌+◌, ◌<◌, ◌≤◌, Bool, true, false, cond, not, ◌&&◌, List, [], ◌∷◌, length, ℤ, pos, ◌-ℤ◌, ◌*ℤ◌, ◌≤ℤ◌, ◌<ℤ◌, int_le, int_lt, nat_lt}
+use Rattle.std.specs.Prelude.{◌≡◌, Bool, cond, ◌&&◌, List, [], ◌∷◌, ℕ, suc, ◌+◌, ◌≤◌, ◌<◌, ℤ, pos, ◌-ℤ◌, ◌*ℤ◌, length, ◌≤ℤ◌, ◌<ℤ◌}
 use Rattle.std.proofs.Math.Path.{refl, ap}
 use Rattle.std.proofs.Common.{sym, ◌∙◌, ap₂, subst, true≢false, arith, le-ltb, lt-ltb, ltb-false}
+use Rattle.std.proofs.Math.Bool.{true, false, not}
+use Rattle.std.proofs.Math.Dec.{ltb}
+use Rattle.std.specs.Int.Signed.{le_z, lt_z}
 use Rattle.integer.specs.Linear.{linear, lia, ◌&◌}
 use Rattle.integer.specs.Order.{◌<×<◌, ◌≤×≤◌, contra≤, weaken, le_z-true, le_z-false, lt_z-true, lt_z-false, le-lt_z}
 use Rattle.plane.specs.Point.{Point}
@@ -21,7 +24,7 @@ use Rattle.motion.specs.theory.Entry.{Reached, later_trans}
 use Rattle.motion.specs.theory.Meeting.{reached→held, reached→meets, arrival-on-way, arrival-above, arrival-below}
 use Rattle.motion.specs.theory.Meeting.{not-past, first-on-way, common-met, met-not-apart, met-unless-apart}
 use Rattle.motion.specs.theory.Edges.{edges-on-way, edge-above, edges-no-later, edges-first}
-use Rattle.contact.specs.Share.{last_wall, exceed, Arrived, Cut, Met, both_ends}
+use Rattle.contact.specs.Share.{last_wall, exceed, Arrived, Met}
 use Rattle.contact.specs.declared.walls.BothWays.{BothWays}
 use Rattle.contact.specs.theory.Beyond.{both, past-apart}
 
@@ -31,7 +34,7 @@ use Rattle.contact.specs.theory.Beyond.{both, past-apart}
 pub within-reached : (a b : ℤ) (f g : Fraction) → OnWay f → OnWay g → exceed f g ≡ false
     → NoLater (entering a b) f → NoLater (entering b a) g → Reached a b f
 unfolding entering
-within-reached a b f g p q e = go (int_le a (pos 0)) refl (int_le b (pos 0)) refl
+within-reached a b f g p q e = go (le_z a (pos 0)) refl (le_z b (pos 0)) refl
   where
     together : (g.numerator *ℤ f.denominator) ≤ℤ ((f.denominator -ℤ f.numerator) *ℤ g.denominator)
     together = lt_z-false {x = (f.denominator -ℤ f.numerator) *ℤ g.denominator} {y = g.numerator *ℤ f.denominator} e
@@ -39,7 +42,7 @@ within-reached a b f g p q e = go (int_le a (pos 0)) refl (int_le b (pos 0)) ref
     entered : ℤ → ℤ → Bool → Bool → Fraction
     entered a b s t = cond s (over (pos 0) (pos 1)) (cond t (over a (a -ℤ b)) (over (pos 1) (pos 1)))
 
-    go : (s : Bool) → int_le a (pos 0) ≡ s → (t : Bool) → int_le b (pos 0) ≡ t
+    go : (s : Bool) → le_z a (pos 0) ≡ s → (t : Bool) → le_z b (pos 0) ≡ t
         → NoLater (entered a b s t) f → NoLater (entered b a t s) g → Reached a b f
     go true h true k i j = lia (a ∷ b ∷ f.numerator ∷ f.denominator ∷ [])
         (p.ended ≤×≤ le_z-true {x = a} {y = pos 0} h & p.begun ≤×≤ le_z-true {x = b} {y = pos 0} k) (search linear depth 40) (omega arith)
@@ -87,7 +90,7 @@ module _ (t u : Point) (G : List Point) where
   wall-box h = ap (λ (few : Bool). found t u G few 0) (sym (lt-ltb (length G) 3 h))
 
   pub wall-more : (i : ℕ) → later (last_wall t u G i) (entry t u G (suc (suc (suc (suc i))))) ≡ last_wall t u G (i + 1)
-  wall-more i = go (nat_lt (length G) 3)
+  wall-more i = go (ltb (length G) 3)
     where
       go : (few : Bool) → later (found t u G few i) (entry t u G (suc (suc (suc (suc i))))) ≡ found t u G few (i + 1)
       go true =
@@ -103,7 +106,7 @@ module _ (t u : Point) (G : List Point) where
     found-on-way false = edges-on-way t u G s
 
     pub walls-on-way : OnWay (last_wall t u G (length G))
-    walls-on-way = found-on-way (nat_lt (length G) 3)
+    walls-on-way = found-on-way (ltb (length G) 3)
 
     found_below : (few : Bool) (h : Fraction) → OnWay h
         → ((i : ℕ) → i < wall_count G → Reached (past G (wall G i) t) (past G (wall G i) u) h) → NoLater (found t u G few (length G)) h
@@ -114,23 +117,14 @@ module _ (t u : Point) (G : List Point) where
 
     pub walls-first : apart (t ∷ u ∷ []) G ≡ false → lowest (last_wall t u G (length G)) ≡ contact t u G
     unfolding arrival edge_arrival
-    walls-first h = go (nat_lt (length G) 3) refl
+    walls-first h = go (ltb (length G) 3) refl
       where
-        go : (few : Bool) → nat_lt (length G) 3 ≡ few → lowest (found t u G few (length G)) ≡ contact t u G
+        go : (few : Bool) → ltb (length G) 3 ≡ few → lowest (found t u G few (length G)) ≡ contact t u G
         go true e = refl
         go false e = edges-first t u G s (ltb-false (length G) 3 e) (contact t u G) (first-on-way t u G)
             (met-unless-apart t u G s ∙ ap not h)
 
 -- ---- both ways
-
--- with one edge more
-pub wall-cut : {t u : Point} {G : List Point} {i : ℕ} {r : BothWays} → Arrived t u G i r
-    → {a b : ℤ} → a ≡ past G (edge_normal G i) t → b ≡ past G (edge_normal G i) u
-    → {n : BothWays} → Cut r a b n → Arrived t u G (i + 1) n
-wall-cut {t} {u} {G} {i} p from to c = record {
-  there-is = c.there-is ∙ ap₂ later p.there-is (ap₂ entering from to) ∙ wall-more t u G i;
-  back_is = c.back_is ∙ ap₂ later p.back_is (ap₂ entering to from) ∙ wall-more u t G i;
-}
 
 agree : (x y : Bool) → (x ≡ false → y ≡ false) → (y ≡ false → x ≡ false) → x ≡ y
 agree x false f g = g refl
@@ -139,7 +133,7 @@ agree true true f g = refl
 
 module _ (t u : Point) (G : List Point) (s : IsShape G) where
   -- at the arrival no wall is left yet
-  found-meets : (few : Bool) → nat_lt (length G) 3 ≡ few → exceed (found t u G few (length G)) (found u t G few (length G)) ≡ false
+  found-meets : (few : Bool) → ltb (length G) 3 ≡ few → exceed (found t u G few (length G)) (found u t G few (length G)) ≡ false
       → meets t u G (found t u G few (length G)) ≡ true
   unfolding meets arrival edge_arrival
   found-meets true c e = reached→meets t u G s (arrival t u G) (arrival-on-way t u G).whole
@@ -154,9 +148,9 @@ module _ (t u : Point) (G : List Point) (s : IsShape G) where
       (edge-above t u G s i k) (edge-above u t G s i k)))
 
   pub walls-apart : apart (t ∷ u ∷ []) G ≡ exceed (last_wall t u G (length G)) (last_wall u t G (length G))
-  walls-apart = go (nat_lt (length G) 3) refl
+  walls-apart = go (ltb (length G) 3) refl
     where
-      go : (few : Bool) → nat_lt (length G) 3 ≡ few → apart (t ∷ u ∷ []) G ≡ exceed (found t u G few (length G)) (found u t G few (length G))
+      go : (few : Bool) → ltb (length G) 3 ≡ few → apart (t ∷ u ∷ []) G ≡ exceed (found t u G few (length G)) (found u t G few (length G))
       go few c = agree _ _ (λ a.
           let (h, on, met) = common-met t u G s (not-apart-common (t ∷ u ∷ []) G (omega arith) s.some a) in
           let held = not-past t u G s h on met in
@@ -174,8 +168,8 @@ module _ (t u : Point) (G : List Point) (s : IsShape G) where
   }
 
   -- a wall that both ends are past
-  pub out-met : (e : Point) {a b : ℤ} → a ≡ past G e t → b ≡ past G e u → (int_lt (pos 0) a && int_lt (pos 0) b) ≡ true
-      → Met t u G both_ends
+  pub out-met : (e : Point) {a b : ℤ} → a ≡ past G e t → b ≡ past G e u → (lt_z (pos 0) a && lt_z (pos 0) b) ≡ true
+      → Met t u G (record { there = record { numerator = 1; denominator = 1 }; back = record { numerator = 1; denominator = 1 } })
   out-met e {a} {b} i j k = record {
     on-way = record { begun = record { le = tt }; ended = record { le = tt }; whole = record { lt = tt } };
     apart-is = away;
@@ -183,6 +177,6 @@ module _ (t u : Point) (G : List Point) (s : IsShape G) where
   }
     where
       away : apart (t ∷ u ∷ []) G ≡ true
-      away = let (p, q) = both (int_lt (pos 0) a) (int_lt (pos 0) b) k in
+      away = let (p, q) = both (lt_z (pos 0) a) (lt_z (pos 0) b) k in
           past-apart t u G s e (subst (λ (z : ℤ). pos 0 <ℤ z) i (lt_z-true {x = pos 0} {y = a} p))
           (subst (λ (z : ℤ). pos 0 <ℤ z) j (lt_z-true {x = pos 0} {y = b} q))

@@ -1,13 +1,14 @@
 -- A way that has the box about a shape on the other side of a line is apart from it.
 --     past-apart         both ends are past a line that has all of a shape on its other side
 --     by_first, both     two tests
---     high-apart, low-apart      both are further right or up than all of it, or further left or down
 --     beside-apart       both are past the box about it in a direction, or in the opposite one
 --     grown-extends      the box about a grown obstacle: supports add
 --     corner-small, opposite-small, step-opposite, way-small     the numbers on the way there
-use Rattle.std.specs.Prelude.{◌≡◌, ◌^◌, ◌<◌, Bool, true, false, cond, ◌&&◌, ◌||◌, List, [], ◌∷◌, length, ℤ, pos, ◌+ℤ◌, ◌*ℤ◌, neg_ℤ, ◌≤ℤ◌, ◌<ℤ◌, int_lt, refl}
-use Rattle.std.proofs.Math.Path.{sym, ap, ap₂}
-use Rattle.std.proofs.Common.{◌∙◌, subst, true≢false, arith, lit≤}
+use Rattle.std.specs.Prelude.{◌≡◌, refl, Bool, true, false, cond, ◌&&◌, ◌||◌, List, [], ◌∷◌, ◌^◌, ◌<◌, ℤ, neg_ℤ, ◌+ℤ◌, ◌*ℤ◌, length, ◌≤ℤ◌, ◌<ℤ◌}
+use Rattle.std.proofs.Math.Path.{sym, ap₂}
+use Rattle.std.proofs.Common.{◌∙◌, ap, subst, true≢false, arith, lit≤}
+use Rattle.std.proofs.Math.IntN.{pos}
+use Rattle.std.specs.Int.Signed.{lt_z}
 use Rattle.integer.specs.Ring.{ring, reify}
 use Rattle.integer.specs.Linear.{linear, lia, ◌&◌}
 use Rattle.integer.specs.Order.{◌<×≤◌, ◌≤×≤◌, lt_z-true, lt_z-false}
@@ -21,7 +22,7 @@ use Rattle.plane.specs.Separation.{differences, apart}
 use Rattle.plane.specs.theory.lists.Members.{point-path, sums-some, mirrored-some}
 use Rattle.plane.specs.theory.forms.Vector.{opposite-opposite, value-turned}
 use Rattle.plane.specs.theory.support.Support.{value-le-support, support-attained, support-sums, support-mirrored}
-use Rattle.plane.specs.theory.hull.ShapeOf.{shape_of-support}
+use Rattle.plane.specs.theory.hull.ShapeOf.{shape_of-support, shape_of-shape}
 use Rattle.polygon.specs.declared.extent.Extent.{Extent}
 use Rattle.polygon.specs.Point.{at, Small}
 use Rattle.polygon.specs.Extent.{highest, Extends}
@@ -30,7 +31,7 @@ use Rattle.growth.specs.Grown.{grown}
 use Rattle.motion.specs.Contact.{past}
 use Rattle.motion.specs.theory.Entry.{never}
 use Rattle.motion.specs.theory.Meeting.{meets→reached, common-met}
-use Rattle.contact.specs.Share.{are_above, is_over, box_part, box_corner, is_past, is_beside}
+use Rattle.contact.specs.Share.{box_part, box_corner, is_past, is_beside}
 
 -- the directions of the sides
 abbrev right : Point
@@ -77,9 +78,9 @@ up-value p = ring (p.x ∷ p.y ∷ []) (search reify depth 40) tt
 
 -- a coordinate between its ends, times a number
 part-reach : (d z h l : ℤ) → z ≤ℤ h → neg_ℤ z ≤ℤ l → (d *ℤ z) ≤ℤ (d *ℤ box_part d h l)
-part-reach d z h l i j = go (int_lt d (pos 0)) refl
+part-reach d z h l i j = go (lt_z d (pos 0)) refl
   where
-    go : (b : Bool) → int_lt d (pos 0) ≡ b → (d *ℤ z) ≤ℤ (d *ℤ cond b (neg_ℤ l) h)
+    go : (b : Bool) → lt_z d (pos 0) ≡ b → (d *ℤ z) ≤ℤ (d *ℤ cond b (neg_ℤ l) h)
     go true e = lia (d ∷ z ∷ l ∷ []) (lt_z-true {x = d} {y = pos 0} e <×≤ j) (search linear depth 40) (omega arith)
     go false e = lia (d ∷ z ∷ h ∷ []) (lt_z-false {x = d} {y = pos 0} e ≤×≤ i) (search linear depth 40) (omega arith)
 
@@ -118,10 +119,10 @@ module _ (G : List Point) (some : 0 < length G) {e : Extent} (x : Extends G e) w
     box-apart : (d : Point) → is_past (at e.high) (at e.low) d t u ≡ true → apart (t ∷ u ∷ []) G ≡ true
     box-apart d k =
         let far = value d (box_corner (at e.high) (at e.low) d) in
-        let (i, j) = both (int_lt far (value d t)) (int_lt far (value d u)) k in
+        let (i, j) = both (lt_z far (value d t)) (lt_z far (value d u)) k in
         beyond-apart t u G s d (further (value d t) i) (further (value d u) j)
       where
-        further : (v : ℤ) → int_lt (value d (box_corner (at e.high) (at e.low) d)) v ≡ true → support d G <ℤ v
+        further : (v : ℤ) → lt_z (value d (box_corner (at e.high) (at e.low) d)) v ≡ true → support d G <ℤ v
         further v h =
             let far = value d (box_corner (at e.high) (at e.low) d) in
             lia (support d G ∷ far ∷ v ∷ []) (box-reach d & lt_z-true {x = far} {y = v} h) (search linear depth 40) (omega arith)
@@ -134,45 +135,15 @@ module _ (G : List Point) (some : 0 < length G) {e : Extent} (x : Extends G e) w
         go true h k = box-apart d h
         go false h k = box-apart (opposite d) k
 
--- ---- upright and level lines
-
--- a line with direction a, and numbers that are its values
-over-line : (t u : Point) (G : List Point) (s : IsShape G) (a : Point) (far v w : ℤ) → far ≡ support a G → v ≡ value a t → w ≡ value a u
-    → are_above far v w ≡ true → apart (t ∷ u ∷ []) G ≡ true
-over-line t u G s a far v w i j k h =
-    let (p, q) = both (int_lt far v) (int_lt far w) h in
-    beyond-apart t u G s a (cc-less p i j) (cc-less q i k)
-  where
-    cc-less : {x y z : ℤ} → int_lt x y ≡ true → x ≡ support a G → y ≡ z → support a G <ℤ z
-    cc-less {x} {y} h e f = subst (λ (z : ℤ). support a G <ℤ z) f (subst (λ (z : ℤ). z <ℤ y) e (lt_z-true {x = x} {y = y} h))
-
-either_way : (x y : Bool) {A : Type 0} → (x || y) ≡ true → (x ≡ true → A) → (y ≡ true → A) → A
-either_way true y h f g = f refl
-either_way false y h f g = g h
-
-module _ (t u : Point) (G : List Point) (s : IsShape G) {e : Extent} (x : Extends G e) where
-  pub high-apart : is_over (at e.high) t u ≡ true → apart (t ∷ u ∷ []) G ≡ true
-  unfolding highest
-  high-apart h = either_way (are_above e.high.x t.x u.x) (are_above e.high.y t.y u.y) h
-      (over-line t u G s right _ _ _ (ap (λ (q : Point). q.x) x.high_is) (right-value t) (right-value u))
-      (over-line t u G s up _ _ _ (ap (λ (q : Point). q.y) x.high_is) (up-value t) (up-value u))
-
-  pub low-apart : is_over (at e.low) (opposite t) (opposite u) ≡ true → apart (t ∷ u ∷ []) G ≡ true
-  unfolding highest
-  low-apart h = either_way (are_above e.low.x (neg_ℤ t.x) (neg_ℤ u.x)) (are_above e.low.y (neg_ℤ t.y) (neg_ℤ u.y)) h
-      (over-line t u G s (opposite right) _ _ _ (ap (λ (q : Point). q.x) x.low-is ∙ support-mirrored right G)
-      (turned right t (right-value t)) (turned right u (right-value u)))
-      (over-line t u G s (opposite up) _ _ _ (ap (λ (q : Point). q.y) x.low-is ∙ support-mirrored up G) (turned up t (up-value t))
-      (turned up u (up-value u)))
-    where
-      turned : (a p : Point) {z : ℤ} → z ≡ value a p → neg_ℤ z ≡ value (opposite a) p
-      turned a p e = ap neg_ℤ e ∙ sym (value-turned a p)
-
 -- ---- a grown obstacle
 
 module _ (B A : List Point) (some : 0 < length B) (any : 0 < length A) where
   all-some : 0 < length (differences B A)
   all-some = sums-some B (mirrored A) some (mirrored-some A any)
+
+  pub grown-shape : IsShape (grown B A)
+  unfolding grown
+  grown-shape = shape_of-shape (differences B A) all-some
 
   reach : (d : Point) → support d B +ℤ support d (mirrored A) ≡ support d (grown B A)
   unfolding grown
@@ -196,8 +167,8 @@ module _ (B A : List Point) (some : 0 < length B) (any : 0 < length A) where
 
 pub corner-small : {h l : Point} (d : Point) → Small (2 ^ 22) h → Small (2 ^ 22) l → Small (2 ^ 22) (box_corner h l d)
 corner-small {h} {l} d s r = record {
-  small-x = part (int_lt d.x (pos 0)) s.small-x r.small-x;
-  small-y = part (int_lt d.y (pos 0)) s.small-y r.small-y;
+  small-x = part (lt_z d.x (pos 0)) s.small-x r.small-x;
+  small-y = part (lt_z d.y (pos 0)) s.small-y r.small-y;
 }
   where
     part : (b : Bool) {x y : ℤ} → Within (2 ^ 22) x → Within (2 ^ 22) y → Within (2 ^ 22) (cond b (neg_ℤ y) x)

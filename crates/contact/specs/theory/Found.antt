@@ -1,9 +1,9 @@
 -- What the code's searches find.
 --     gcd-step                     one of Euclid's steps
 --     lowest-words                 lowest terms, of two words
---     spanned-start, -end          the beginning and the end of the search
---     narrowed-down, -up           a number is tried: a test asks whether n < q·(m·m)
-use Rattle.std.specs.Prelude.{◌≡◌, ℕ, ◌+◌, ◌-◌, ◌*◌, ◌/◌, ◌%◌, ◌<◌, ◌≤◌, true, false, pos, nat_lt, refl}
+--     Spanned n q low high         low is reached, and high + 1 is not
+--     spanned-start, -down, -up, -end     the moves of the loop; a test asks whether n < q·(m·m)
+use Rattle.std.specs.Prelude.{◌≡◌, refl, true, false, ℕ, ◌+◌, ◌-◌, ◌*◌, ◌/◌, ◌%◌, ◌≤◌, ◌<◌, ltb, pos}
 use Rattle.std.proofs.Common.{sym, mul-le-mul, mul-le-mul_left, mul-le-mul_right, mul_comm, mul-pos, arith, ltb-true, ltb-false}
 use Rattle.std.proofs.Math.Nat.{dvd-mod_iff}
 use Rattle.divisor.specs.Divisor.{gcd, Gcd}
@@ -13,8 +13,6 @@ use Rattle.plane.specs.Measure.{root_below}
 use Rattle.plane.specs.Distance.{over}
 use Rattle.measure.specs.theory.Rounded.{rounded-unique}
 use Rattle.motion.specs.Contact.{lowest}
-use Rattle.contact.specs.declared.share.Span.{Span}
-use Rattle.contact.specs.Share.{Spanned, Narrowed}
 
 -- ---- lowest terms
 
@@ -34,6 +32,12 @@ lowest-words n d = refl
 
 -- ---- the root
 
+pub record Spanned (n q low high : ℕ) : Type 0 where
+  pub ordered : low ≤ high
+  pub below : high ≤ 4_194_304
+  pub reached : low * low * q ≤ n
+  pub next-above : n < (high + 1) * (high + 1) * q
+
 pub spanned-start : (n d l : ℕ) → n ≤ d → 0 < d → l < 17_592_186_044_416 → Spanned (n * n * l) (d * d) 0 4_194_304
 spanned-start n d l h some short = record {
   ordered = omega arith;
@@ -48,32 +52,22 @@ spanned-start n d l h some short = record {
     product : d * d * l ≤ d * d * 17_592_186_044_416
     product = mul-le-mul_left (d * d) most
 
-module _ {n q : ℕ} {s : Span} (b : Spanned n q s.low s.high) (m : ℕ) where
-  pub narrowed-down : s.low < m → m ≤ s.high → nat_lt n (q * (m * m)) ≡ true → Narrowed n q s m (record { low = s.low; high = m - 1 })
-  narrowed-down l h e =
+module _ {n q : ℕ} where
+  pub spanned-down : {low high : ℕ} (m : ℕ) → Spanned n q low high → low < m → m ≤ high → ltb n (q * (m * m)) ≡ true
+      → Spanned n q low (m - 1)
+  spanned-down m b l h e =
       let back : m - 1 + 1 ≡ m = omega arith in
       record {
-        spanned = record {
-          ordered = omega arith;
-          below = omega (arith, b.below);
-          reached = b.reached;
-          next-above = rw (back, mul_comm (m * m) q) (ltb-true n (q * (m * m)) e);
-        };
-        less = λ i j. omega arith;
+        ordered = omega arith;
+        below = omega (arith, b.below);
+        reached = b.reached;
+        next-above = rw (back, mul_comm (m * m) q) (ltb-true n (q * (m * m)) e);
       }
 
-  pub narrowed-up : s.low < m → m ≤ s.high → nat_lt n (q * (m * m)) ≡ false → Narrowed n q s m (record { low = m; high = s.high })
-  narrowed-up l h e = record {
-    spanned = record {
-      ordered = h;
-      below = b.below;
-      reached = rw (mul_comm (m * m) q) (ltb-false n (q * (m * m)) e);
-      next-above = b.next-above;
-    };
-    less = λ i j. omega arith;
-  }
+  pub spanned-up : {low high : ℕ} (m : ℕ) → Spanned n q low high → m ≤ high → ltb n (q * (m * m)) ≡ false → Spanned n q m high
+  spanned-up m b l e =
+      record { ordered = l; below = b.below; reached = rw (mul_comm (m * m) q) (ltb-false n (q * (m * m)) e); next-above = b.next-above }
 
-module _ {n q : ℕ} where
   pub spanned-end : {low high : ℕ} → 0 < q → Spanned n q low high → high ≤ low → low ≡ root_below n q
   spanned-end {low} {high} some b h =
       let same : low ≡ high = omega (arith, b.ordered) in

@@ -3,7 +3,7 @@
 --     side-value, side-support, side-past       the numbers at a side are bounded
 --     past-edge                                 past an edge: to its right
 --     past-cross                                that as a product
-use Rattle.std.specs.Prelude.{◌≡◌, ℕ, ◌^◌, ◌<◌, List, [], ◌∷◌, length, ℤ, neg_ℤ}
+use Rattle.std.specs.Prelude.{◌≡◌, List, [], ◌∷◌, ℕ, ◌<◌, ◌^◌, ℤ, neg_ℤ, length}
 use Rattle.std.proofs.Common.{arith, lit≤}
 use Rattle.integer.specs.Ring.{ring, reify}
 use Rattle.integer.specs.Linear.{linear, lia, ◌&◌}

@@ -2,9 +2,10 @@
 --     whole_words                  a fraction of the way, of two words
 --     length-bounded               the squared length of a way
 --     never-told, at_told          the two kinds of answer
-use Rattle.std.specs.Prelude.{◌≡◌, ℕ, ◌*◌, ◌<◌, ◌≤◌, Bool, true, false, cond, List, [], ◌∷◌, ℤ, pos, unsigned_abs}
+use Rattle.std.specs.Prelude.{◌≡◌, Bool, true, false, cond, List, [], ◌∷◌, ℕ, ◌*◌, ◌≤◌, ◌<◌, ℤ}
 use Rattle.std.proofs.Common.{sym, ◌∙◌, ap, leb→le, ltb→lt}
 use Rattle.std.proofs.Math.Path.{ap₂}
+use Rattle.std.proofs.Math.IntN.{pos, nat_abs}
 use Rattle.integer.specs.Bound.{Within, within-add, within-mul, within-neg}
 use Rattle.plane.specs.Limits.{max_coordinate}
 use Rattle.plane.specs.Point.{Point}
@@ -38,5 +39,5 @@ module _ (t u : Point) (G : List Point) where
       → (pos 1 ∷ pos n ∷ pos d ∷ pos (root_below (n * n * l) (d * d)) ∷ []) ≡ contact_numbers t u G
   unfolding safe
   at_told k n d l e s = ap₂ (λ (c : Fraction) (z : ℤ). pos 1 ∷ c.numerator ∷ c.denominator
-      ∷ pos (root_below (unsigned_abs c.numerator * unsigned_abs c.numerator * unsigned_abs z) (unsigned_abs c.denominator * unsigned_abs c.denominator)) ∷ [])
+      ∷ pos (root_below (nat_abs c.numerator * nat_abs c.numerator * nat_abs z) (nat_abs c.denominator * nat_abs c.denominator)) ∷ [])
       e s ∙ numbers-by k

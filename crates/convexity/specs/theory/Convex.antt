@@ -1,6 +1,4 @@
 -- One pass over the corners: edges that go on up, then down, and close make a shape, and those of every shape do.
---     passed-from                     vectors of which each is before the next are in order
---     before-shape                    edges of which each is before the next are those of a shape
 --     point-shape, pair-shape         one corner is a shape, and two of which the first precedes the other
 --     round-shape                     three or more are if the first precedes the second, the edges go on up, then down, and so to the last
 --     shape-begins                    a shape's first corner precedes its second
@@ -34,7 +32,7 @@ before-non-zero {e} {f} b = go (before→earlier b)
     go (apart u d) = record { non_zero = λ z. precedes-irrefl {p = origin} (record { precedes-true = sym (ap up z) ∙ u }) }
     go (alike s c) = (cross-nonzero c).0
 
-pub passed-from : (e : Point) (E : List Point) → ((k : ℕ) → k < length E → Before (corner (e ∷ E) k) (corner (e ∷ E) (suc k)))
+passed-from : (e : Point) (E : List Point) → ((k : ℕ) → k < length E → Before (corner (e ∷ E) k) (corner (e ∷ E) (suc k)))
     → NonZero (corner (e ∷ E) (length E)) → InOrder (e ∷ E)
 passed-from e [] step last = (last, tt)
 passed-from e (f ∷ E) step last =
@@ -43,7 +41,7 @@ passed-from e (f ∷ E) step last =
     (before-non-zero first, (first, later.0, later.1))
 
 -- edges of which each is before the next, and the last not zero
-pub before-shape : (ps : List Point) → 1 < length ps
+before-shape : (ps : List Point) → 1 < length ps
     → ((k : ℕ) → suc k < length (edges ps) → Before (corner (edges ps) k) (corner (edges ps) (suc k)))
     → ((k : ℕ) → suc k ≡ length (edges ps) → NonZero (corner (edges ps) k)) → IsShape ps
 before-shape [] h step last = absurd (omega arith)

@@ -1,40 +1,36 @@
 -- On a floor above its limit the rows of the shapes are judged, and then 13 is due, whatever the question.
---     barred-refused, barred-accepted                what judging says of lists that do not pass, and of lists that do, where it crosses
---     barred-shape, barred-shapes                    13 after lists that pass
+--     barred-refused                                 what judging says
+--     barred-shape, barred-points, barred-shapes     13 after lists that pass
 --     barred-kept                                    the output of a question that is answered so stays as it was
 --     high-reply, above                              reply, then numbers and output of `low_floor`, of one shape or many points
---     pair-reply                                     the reply of two shapes, one of which is on a floor above its limit
+--     pair-reply, above-pair                         the same of two shapes, one of which is on a floor above its limit
 use Rattle.std.specs.Prelude.{◌≡◌, refl, Bool, true, false, cond, ◌||◌, List, [], ◌∷◌, ◌++◌, ℕ, eqb, ltb, ℤ}
 use Rattle.std.proofs.Common.{sym, ◌∙◌, ap, eqb-true}
 use Rattle.plane.specs.Limits.{max_floor}
 use Rattle.plane.specs.Reply.{Reply, answered, refused, Row, row, first_row, NoneApply}
 use Rattle.plane.specs.Refusal.{shape_rows, Valid}
+use Rattle.plane.specs.Sweep.{point_rows, ValidPoints}
 use Rattle.plane.specs.Floor.{Floored, Shapes, two_shapes, floor_row, rows_of, floor_of}
 use Rattle.plane.specs.Question.{Question, values, reply, output}
 use Rattle.plane.specs.theory.refusals.Rows.{first_row-append, first_row-given, first_row-none, none-join, Outcome, given, passed, outcome}
 use Rattle.plane.specs.theory.refusals.Accept.{valid→accepted}
+use Rattle.plane.specs.theory.refusals.Points.{points→accepted}
 use Rattle.plane.specs.theory.refusals.Asked.{asked-kept}
-use Rattle.admission.specs.declared.answer.Refusal.{Refusal}
-use Rattle.admission.specs.declared.Admission.{Admission}
-use Rattle.admission.specs.declared.Admission.TheVariants as Admission
-use Rattle.admission.specs.Answer.{of_refusal}
-use Rattle.admission.specs.Admission.{Judged}
+use Rattle.admission.specs.Admission.{Refuses}
 use Rattle.wire.specs.Told.{crossed}
 use Rattle.crossing.specs.LowFloor.{low_floor, barred}
 
-module _ {T : Type 0} {rows : List Row} {x : Admission} (judged : Judged T rows x) where
-  pub barred-refused : {r : Refusal} → x ≡ Admission.No r → {ns : List ℕ} → ns ≡ crossed (of_refusal r) → ns ≡ crossed (barred rows)
-  barred-refused e n = let f = judged.no _ e in n ∙ ap crossed (f.is ∙ sym (first_row-given _ f.first))
-
-  pub barred-accepted : (T → NoneApply rows) → x ≡ Admission.Valid → {ns : List ℕ} → ns ≡ crossed (refused 13 [])
-      → ns ≡ crossed (barred rows)
-  barred-accepted accepted e n = n ∙ ap crossed (sym (first_row-none rows _ (accepted (judged.valid e))))
+pub barred-refused : {rows : List Row} {r : Reply} → Refuses rows r → r ≡ barred rows
+barred-refused f = f.is ∙ sym (first_row-given _ f.first)
 
 barred-passed : (rows : List Row) → NoneApply rows → refused 13 [] ≡ barred rows
 barred-passed rows n = sym (first_row-none rows _ n)
 
 pub barred-shape : (l : List ℤ) → Valid l → refused 13 [] ≡ barred (shape_rows 1 l)
 barred-shape l v = barred-passed (shape_rows 1 l) (valid→accepted l 1 v)
+
+pub barred-points : (l : List ℤ) → ValidPoints l → refused 13 [] ≡ barred (point_rows l)
+barred-points l v = barred-passed (point_rows l) (points→accepted l v)
 
 pub barred-shapes : (l m : List ℤ) → Valid l → Valid m → refused 13 [] ≡ barred (shape_rows 1 l ++ shape_rows 2 m)
 barred-shapes l m v w =
@@ -89,3 +85,11 @@ pair-reply q {a} {b} e high =
     let shapes = shape_rows 1 a.list ++ shape_rows 2 b.list in
     ap (λ (x : Reply). first_row shapes x) (thirteen a.floor b.floor q.rest answer high)
     ∙ ap (λ (s : Shapes). first_row (rows_of s ++ (row 13 (ltb max_floor (floor_of s)) [] ∷ q.rest)) answer) (sym e)
+
+pub above-pair : (q : Question) {a b : Floored} → q.shapes ≡ two_shapes a b → (ltb max_floor a.floor || ltb max_floor b.floor) ≡ true
+    → {ns : List ℕ} → ns ≡ crossed (barred (shape_rows 1 a.list ++ shape_rows 2 b.list))
+    → (ns ≡ crossed (reply (low_floor q))) × (q.lent ≡ output (low_floor q))
+unfolding low_floor
+above-pair q {a} {b} e high n =
+    let told = pair-reply q e high in
+    (n ∙ ap crossed told, barred-kept (low_floor q) (shape_rows 1 a.list ++ shape_rows 2 b.list) told)

@@ -1,6 +1,7 @@
 -- A ring on a floor that is any number: 13 for one above its limit comes after 1 to 3.
 --     ring-within     on a floor within its limit nothing changes
 --     ring-above      above it, 1 to 3 are judged, and then 13 is due; the output stays as it was
+--     ring-barred     13 after points that pass
 use Rattle.std.specs.Prelude.{◌≡◌, Bool, true, false, cond, List, [], ◌∷◌, ℕ, ltb, ℤ}
 use Rattle.std.proofs.Math.Path.{sym, ap}
 use Rattle.std.proofs.Common.{◌∙◌}
@@ -9,12 +10,16 @@ use Rattle.plane.specs.Reply.{Reply, answered, refused, Row, row, first_row}
 use Rattle.plane.specs.Output.{room_row}
 use Rattle.plane.specs.Floor.{Floored, corners}
 use Rattle.plane.specs.Question.{values, reply, output}
-use Rattle.plane.specs.theory.refusals.Rows.{first_row-append}
-use Rattle.outline.specs.Ring.{ring_shape, inward_row, list_rows, ask_ring}
+use Rattle.plane.specs.theory.refusals.Rows.{first_row-append, first_row-none}
+use Rattle.ring.specs.Ring.{ring_shape, inward_row, list_rows, ValidRing, ask_ring}
+use Rattle.ring.specs.theory.Rows.{ring→accepted}
 use Rattle.wire.specs.Told.{crossed}
 use Rattle.crossing.specs.LowFloor.{low_ring, barred}
 use Rattle.crossing.specs.theory.Low.{skipped-reply, skipped-output}
 use Rattle.crossing.specs.theory.High.{barred-kept}
+
+pub ring-barred : (l : List ℤ) → ValidRing l → refused 13 [] ≡ barred (list_rows l)
+ring-barred l v = sym (first_row-none (list_rows l) _ (ring→accepted l v))
 
 module _ (a : Floored) (old : List ℤ) where
   -- the rows after 1 to 3

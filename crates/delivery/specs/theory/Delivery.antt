@@ -27,7 +27,7 @@ use Rattle.plane.specs.theory.refusals.Asked.{admitted→none}
 use Rattle.plane.specs.theory.sweep.SweepSize.{sweep-size}
 use Rattle.polygon.specs.Front.{Front}
 use Rattle.polygon.specs.theory.Fronts.{front-points, front_length}
-use Rattle.sums.specs.Size.{Reckoned, exact, enough, short, many}
+use Rattle.sums.specs.Size.{Reckoned, exact, enough, many}
 use Rattle.admission.specs.declared.Admission.{Admission}
 use Rattle.admission.specs.Admission.{Refuses, Judged}
 use Rattle.delivery.specs.Fit.{sized_rows, fit_rows}
@@ -43,7 +43,6 @@ module _ (S : List Point) where
   unfolding too_many
   many_is (exact e) = ap (ltb max_corners) e
   many_is (enough h k l) = le-ltb max_corners _ k ∙ sym (le-ltb max_corners (length S) (omega arith))
-  many_is (short h k l) = le-ltb max_corners _ (omega arith) ∙ sym (le-ltb max_corners (length S) k)
   many_is (many h k) = lt-ltb max_corners _ k ∙ sym (lt-ltb max_corners (length S) h)
 
   module _ {far : Bool} (f : far ≡ some_outside (numbers S)) where
@@ -73,8 +72,6 @@ module _ (S : List Point) where
       fit-judged (exact e) j = judged-by (fit-rows (exact e) (ap (ltb (length old)) (ap (λ k. 2 * k) e ∙ sym (numbers-length S)))) j
       fit-judged (enough h k l) j = judged-by (fit-rows (enough h k l)
           (le-ltb (length old) _ l ∙ sym (le-ltb (length old) (length (numbers S)) (omega (arith, numbers-length S))))) j
-      fit-judged (short h k l) j = judged-by (fit-rows (short h k l)
-          (lt-ltb (length old) _ l ∙ sym (lt-ltb (length old) (length (numbers S)) (omega (arith, numbers-length S))))) j
       fit-judged (many h k) j = record {
         valid = λ e. absurd (true≢false (sym (lt-ltb max_corners n k) ∙ (j.valid e).0));
         no = λ r e. large k (lt-ltb max_corners (length S) h) (j.no r e);

@@ -47,7 +47,7 @@ meet-requires : tie.Need-meet-requires
 meet-requires c κs =
     let at_read = c.before.before in
     let pre = at_read.before.before.before.before.before.before.requires in
-    (subst Valid (sym at_read.read_at.ensures.0) (here-valid pre.1), pre.2, pre.3, pre.5)
+    (subst Valid (sym at_read.read_at.ensures.0) (here-valid pre.1), pre.2, pre.3)
 
 returns-2 : tie.Need-returns-2
 unfolding grown_of

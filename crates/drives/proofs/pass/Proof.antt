@@ -15,24 +15,19 @@ use Rattle.drives.proofs.pass.Statement.{statement}
 use Rattle.drives.proofs.pass.Tie as tie
 
 abbrev invariant-loop : tie.invariant-loop
-invariant-loop log floor cart t u shape₀ span best₀ p₀ shape best p =
+invariant-loop log floor cart t u shape₀ best₀ p₀ shape best p =
     Searched (points cart) (at t) (at u) floor log p best × (length shape ≡ 2 * max_corners)
 
 abbrev decreases-loop : tie.decreases-loop
-decreases-loop log floor cart t u shape₀ span best₀ p₀ shape best p = length log - p
-
-abbrev start : tie.At-loop invariant-loop decreases-loop → tie.Start invariant-loop decreases-loop
-start c = c.before.before.before
+decreases-loop log floor cart t u shape₀ best₀ p₀ shape best p = length log - p
 
 -- there is a whole record here
-here : (c : tie.Then1 invariant-loop decreases-loop) → whole (drop c.before.before.loop.p (start c.before.before).args.log.now) ≡ true
+here : (c : tie.Then1 invariant-loop decreases-loop)
+    → whole (drop c.before.before.loop.p c.before.before.before.before.args.log.now) ≡ true
 here c = sym c.before.whole-at.ensures ∙ c.if1.true
 
-extent-of-requires : tie.Need-extent-of-requires invariant-loop decreases-loop
-extent-of-requires c κs = let valid = c.before.requires.1 in (valid.shape.some, valid.in_range)
-
 loop-holds : tie.Need-loop-init invariant-loop decreases-loop
-loop-holds c = let pre = c.before.before.requires in (searched-start _ _ _ _ _ pre.0, pre.3)
+loop-holds c = (searched-start _ _ _ _ _ c.before.requires.0, c.before.requires.3)
 
 whole-at-requires : tie.Need-whole-at-requires invariant-loop decreases-loop
 whole-at-requires c κs = c.loop.invariant.0.walk.inside
@@ -41,18 +36,18 @@ look-requires : tie.Need-look-requires invariant-loop decreases-loop
 look-requires c κs =
     let at-then = c.before in
     let at-loop = at-then.before.before in
-    let pre = (start at-loop).requires in
+    let pre = at-loop.before.before.requires in
     let walk = at-loop.loop.invariant.0.walk in
-    (walk, walk-sound _ walk (here at-then), pre.1, pre.2, at-loop.loop.invariant.1, at-loop.before.extent-of.ensures)
+    (walk, walk-sound _ walk (here at-then), pre.1, pre.2, at-loop.loop.invariant.1)
 
 -- the next place is past the record, and still inside
 step : (c : tie.After-pair-at invariant-loop decreases-loop) → let at-loop = c.before.before.before.before.before.before in
-    let log = (start at-loop).args.log.now in
+    let log = at-loop.before.before.args.log.now in
     (c.pair-at.result ≡ size (drop at-loop.loop.p log)) × (at-loop.loop.p + (2 + c.pair-at.result) ≤ length log)
 step c =
     let at-then = c.before.before.before.before in
     let at-loop = at-then.before.before in
-    let log = (start at-loop).args.log.now in
+    let log = at-loop.before.before.args.log.now in
     let same = c.pair-at.ensures.0 ∙ sym (size-at log at-loop.loop.p) in
     (same, omega (arith, same, next-inside log at-loop.loop.p (here at-then)))
 
@@ -75,7 +70,7 @@ loop-again c =
     let at-look = c.before.before in
     let at-then = at-look.before.before in
     let at-loop = at-then.before.before in
-    let args = (start at-loop).args in (
+    let args = at-loop.before.before.args in (
       subst (λ (k : ℕ). Searched (points args.cart.now) (at args.t) (at args.u) args.floor args.log.now
           (at-loop.loop.p + (2 + k)) at-look.look.result) (sym (step c).0)
           (searched-next at-loop.loop.invariant.0 (here at-then) at-look.look.ensures.0),
@@ -83,7 +78,7 @@ loop-again c =
     )
 
 same_length : tie.Need-same-length invariant-loop decreases-loop
-same_length c = let at-loop = c.before.before in at-loop.loop.invariant.1 ∙ sym (start at-loop).requires.3
+same_length c = let at-loop = c.before.before in at-loop.loop.invariant.1 ∙ sym at-loop.before.before.requires.3
 
 returns : tie.Need-returns invariant-loop decreases-loop
 returns c = searched-end c.before.before.loop.invariant.0 (sym c.before.whole-at.ensures ∙ c.if1.false)
@@ -94,7 +89,6 @@ pass_spec =
     (tie.spec
     invariant-loop
     decreases-loop
-    extent-of-requires
     loop-holds
     whole-at-requires
     look-requires

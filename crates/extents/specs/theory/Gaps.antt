@@ -4,17 +4,15 @@
 --     at-most-far          a distance that is at most such a number is at most the shapes' own
 --     extends-bounded      the box about a shape may be added
 --     extends-spans        the boxes about two shapes span them
---     small-widen, small-add    small points by a wider bound, and their sums
---     wider-reaches        the box about an obstacle, made wider by the cart's size, is that about the grown obstacle and the cart
 --     grown-spans          the box about a shape and the cart, and that about an obstacle, span the shape and the grown obstacle
-use Rattle.std.specs.Prelude.{◌≡◌, Bool, true, false, List, [], ◌∷◌, ◌⊎◌, ℕ, ◌+◌, ◌*◌, ◌^◌, ◌<◌, ◌≤◌, ℤ, pos, ◌+ℤ◌, ◌-ℤ◌, ◌*ℤ◌, length, ◌≤ℤ◌, ◌<ℤ◌}
+use Rattle.std.specs.Prelude.{◌≡◌, Bool, true, false, List, [], ◌∷◌, ◌⊎◌, ℕ, ◌*◌, ◌^◌, ◌<◌, ◌≤◌, ℤ, pos, ◌+ℤ◌, ◌-ℤ◌, ◌*ℤ◌, length, ◌≤ℤ◌, ◌<ℤ◌}
 use Rattle.std.proofs.Math.Path.{refl, ap, ap₂, subst}
 use Rattle.std.proofs.Common.{sym, ◌∙◌, inl, inr, arith, lit≤, le→leb}
 use Rattle.std.proofs.Math.IntN.{neg_ℤ}
 use Rattle.integer.specs.Ring.{ring, reify}
 use Rattle.integer.specs.Linear.{linear, lia, ◌&◌}
 use Rattle.integer.specs.Order.{◌≤×≤◌, ◌≤×<◌, ◌≡×◌, le_trans}
-use Rattle.integer.specs.Bound.{within-widen, within-add}
+use Rattle.integer.specs.Bound.{within-widen}
 use Rattle.plane.specs.Point.{Point, point, points, opposite, ◌⊕◌}
 use Rattle.plane.specs.Shape.{IsShape}
 use Rattle.plane.specs.Direction.{value, greater, support}
@@ -33,11 +31,10 @@ use Rattle.strips.specs.theory.Corridors.{corridor-no-wider, corridor-level}
 use Rattle.growth.specs.Grown.{grown}
 use Rattle.growth.specs.theory.Places.{grown-reach}
 use Rattle.polygon.specs.declared.extent.Extent.{Extent}
-use Rattle.polygon.specs.declared.point.Point.{Point as Code-as-Point}
 use Rattle.polygon.specs.Point.{at, Small}
 use Rattle.polygon.specs.Extent.{highest, Extends}
 use Rattle.polygon.specs.theory.Extents.{extends-small}
-use Rattle.extents.specs.Far.{past, gap_of, Bounded, Spans, Reaches, Measures, Wider}
+use Rattle.extents.specs.Far.{past, gap_of, Bounded, Spans, Reaches}
 
 -- the two directions
 abbrev right : Point
@@ -136,19 +133,13 @@ module _ (A B : List Point) (s : IsShape A) (t : IsShape B) where
 
 -- ---- boxes that span two shapes
 
--- what is small is small by any wider bound
-pub small-widen : {m n : ℕ} → m ≤ n → {p : Point} → Small m p → Small n p
-small-widen le h = record { small-x = within-widen le h.small-x; small-y = within-widen le h.small-y }
-
 -- the box about a shape may be added
 pub extends-bounded : (l : List ℤ) → Valid l → {e : Extent} → Extends (points l) e → Bounded e
 extends-bounded l v x = let small = extends-small l v.in_range v.shape.some x in
-    record { high = small-widen (lit≤ tt) small.0; low = small-widen (lit≤ tt) small.1 }
-
--- a sum of small points is small
-pub small-add : {m n : ℕ} {p q r : Point} → r ≡ p ⊕ q → Small m p → Small n q → Small (m + n) r
-small-add {m} {n} e h k = subst (Small (m + n)) (sym e)
-    (record { small-x = within-add h.small-x k.small-x; small-y = within-add h.small-y k.small-y })
+    record { high = wide small.0; low = wide small.1 }
+  where
+    wide : {p : Point} → Small (2 ^ 21) p → Small (2 ^ 22) p
+    wide h = record { small-x = within-widen (lit≤ tt) h.small-x; small-y = within-widen (lit≤ tt) h.small-y }
 
 pub extends-spans : {A B : List Point} {e f : Extent} → Extends A e → Extends B f → Spans A B e f
 extends-spans x y = record { ahead = ap₂ ◌⊕◌ x.high_is y.low-is; behind = ap₂ ◌⊕◌ x.low-is y.high_is }
@@ -174,19 +165,6 @@ module _ (B C : List Point) (b : 0 < length B) (c : 0 < length C) where
   moved : (p q r : Point) → p ⊕ q ⊕ r ≡ p ⊕ (r ⊕ q)
   moved p q r = ap₂ point (ring (p.x ∷ q.x ∷ r.x ∷ []) (search reify depth 40) tt)
       (ring (p.y ∷ q.y ∷ r.y ∷ []) (search reify depth 40) tt)
-
-  -- the cart's size, added to the obstacle's box, is its mirror image and then the cart
-  pub wider-reaches : {e r : Extent} {s : Code-as-Point} → Extends B e → Measures C s → Wider e s r → Reaches (grown B C) C r
-  wider-reaches {e} {r} {s} x m w = record {
-    high_is = w.high_is ∙ ap₂ ◌⊕◌ x.high_is m.is ∙ sym (moved (highest B) (highest (mirrored C)) (highest C))
-        ∙ ap (λ p. p ⊕ highest C) (sym grown-highest);
-    low-is = w.low-is ∙ ap₂ ◌⊕◌ x.low-is m.is ∙ turned (highest (mirrored B)) (highest C) (highest (mirrored C))
-        ∙ ap (λ p. p ⊕ highest (mirrored C)) (sym grown-lowest);
-  }
-    where
-      turned : (p q t : Point) → p ⊕ (q ⊕ t) ≡ p ⊕ q ⊕ t
-      turned p q t = ap₂ point (ring (p.x ∷ q.x ∷ t.x ∷ []) (search reify depth 40) tt)
-          (ring (p.y ∷ q.y ∷ t.y ∷ []) (search reify depth 40) tt)
 
   pub grown-spans : {A : List Point} {e f : Extent} → Reaches A C e → Extends B f → Spans A (grown B C) e f
   grown-spans {A} x y = record {

@@ -1,16 +1,13 @@
 -- `gap` meets its contract: the search keeps the narrowest pair, and the heads of its records name it.
-use mathlib.Core.Path.{◌≡◌, refl, sym}
-use Prim.Native.Nat.{◌*◌, ◌≤◌}
+use mathlib.Core.Path.{◌≡◌, refl}
+use Prim.Native.Nat.{◌*◌}
 use mathlib.Core.List.{List}
-use native.Mathlib.Omega.{arith}
 use borrow.Author.Rules.{rules}
-use lib.Seq.{length-take-le}
 use Rattle.plane.specs.Limits.{max_corners}
 use Rattle.plane.specs.Point.{points}
 use Rattle.gaps.specs.Gap.{pairs_of, on_floor}
 use Rattle.gaps.specs.Search.{Found}
 use Rattle.gaps.specs.theory.Steps.{walk_start}
-use Rattle.gaps.specs.theory.Boxes.{noted-filled}
 use Rattle.gaps.specs.theory.Passed.{answer-nothing, answer-found, answer-numbers}
 use Rattle.gaps.proofs.gap.Statement.{statement}
 use Rattle.gaps.proofs.gap.Tie as tie
@@ -20,30 +17,18 @@ full : 2048 ≡ 2 * max_corners
 unfolding max_corners
 full = refl
 
--- the table has what was noted
-room : (c : tie.After-table2) → 4 * c.before.note.result ≤ 448
-room c = omega (arith, c.before.note.ensures.room)
-
-slice-aggregate-narrowest : tie.Need-slice-aggregate-narrowest
-slice-aggregate-narrowest c = sym (length-take-le _ _ c.before.before.note.ensures.room)
-
 narrowest-requires : tie.Need-narrowest-requires
 narrowest-requires c κs =
-    let at-note = c.before.before.before.before.before in
-    let pre = at-note.before.before.before.requires in
-    (walk_start _ _ _ pre.0 pre.2, pre.1, noted-filled at-note.note.ensures, full, full, full)
+    let pre = c.before.before.before.before.requires in
+    (walk_start _ _ _ pre.0 pre.2, pre.1, full, full, full)
 
 returns : tie.Need-returns
 returns c =
     let at-search = c.before.before.before.before.before in
     answer-nothing _ _ _ at-search.narrowest.result at-search.narrowest.ensures c.enum_told.given.1
 
--- where the search was asked for, and where all began
-abbrev start_of : tie.After-below → tie.Start
-start_of c = c.before.before.before.before.before.before.before.before
-
 -- the pair that was found
-found : (c : tie.After-first) → let args = (start_of c.before.before.before.before.before.before).args in
+found : (c : tie.After-first) → let args = c.before.before.before.before.before.before.before.before.before.before.args in
     let told = c.first.given.0 in
     Found (points args.cart.now) args.log.now told.0 told.1.0 told.1.1.0
 found c =
@@ -66,6 +51,5 @@ returns-2 c =
 pub gap-spec : {M : Type 1} → statement M
 gap-spec =
     tie.close
-    (tie.spec (λ c. search rules) (λ c κs. search rules) (λ c. omega (arith, room c)) (λ c. c.before.note.ensures.room)
-    slice-aggregate-narrowest (λ c. search rules) (λ c. search rules) (λ c. search rules) narrowest-requires (λ c. search rules)
-    (λ c. search rules) returns head-at-requires head-at-requires-2 returns-2)
+    (tie.spec (λ c. search rules) (λ c. search rules) (λ c. search rules) narrowest-requires (λ c. search rules) (λ c. search rules) returns
+    head-at-requires head-at-requires-2 returns-2)

@@ -5,10 +5,11 @@
 --     grown_of-shape, grown_of-valid, grown_of-few      the grown shape is one; if 6 and 7 pass, it fits such a buffer
 --     pair-gap, found_of         the gap of a pair is a fraction, and what was measured is it
 --     left_out                   boxes show that it is not nearer than what is kept
-use Rattle.std.specs.Prelude.{◌≡◌, Bool, cond, ◌&&◌, List, [], ◌∷◌, ℕ, ◌*◌, ◌<◌, ◌≤◌, ℤ, length, take, drop}
+use Rattle.std.specs.Prelude.{◌≡◌, Bool, cond, ◌&&◌, ℕ, ◌*◌, ◌<◌, ◌≤◌, ℤ, length, take, drop}
 use Rattle.std.proofs.Math.Path.{refl, sym, ap₂}
 use Rattle.std.proofs.Common.{◌∙◌, ap, subst, arith, eq-eqb, ne_eqb, length-take-le}
 use Rattle.std.proofs.Math.Bool.{true, false, not}
+use mathlib.Core.List.{List, [], ◌∷◌}
 use Rattle.std.proofs.Math.Dec.{eqb}
 use Rattle.plane.specs.Limits.{max_corners}
 use Rattle.plane.specs.Point.{Point, points, numbers}
@@ -17,10 +18,9 @@ use Rattle.plane.specs.Refusal.{Valid}
 use Rattle.plane.specs.Output.{overwritten}
 use Rattle.plane.specs.theory.lists.Flat.{points-length, points-numbers, numbers-length}
 use Rattle.polygon.specs.declared.extent.Extent.{Extent}
-use Rattle.polygon.specs.declared.point.Point.{Point as Code-as-Point}
 use Rattle.polygon.specs.Extent.{Extends}
-use Rattle.extents.specs.Far.{Spans, Reaches, Measures, Wider}
-use Rattle.extents.specs.theory.Gaps.{grown-spans, wider-reaches}
+use Rattle.extents.specs.Far.{Spans, Reaches}
+use Rattle.extents.specs.theory.Gaps.{grown-spans}
 use Rattle.endian.specs.Bytes.{words_at}
 use Rattle.endian.specs.theory.Bytes.{words_at-length}
 use Rattle.endian.specs.theory.Coded.{front-is, front_length}
@@ -115,16 +115,11 @@ module _ (A : List Point) (r : List ℕ) (v : Valid (list r)) (a : 0 < length A)
   pub grown_of-few : Fits A r → 2 * length (grown_of A r) ≤ 2 * max_corners
   grown_of-few f = let few = rw points-numbers at (grown_of-valid f).few in omega (arith, few)
 
-  -- the box about another shape and the cart, and that about the record, span that shape and the grown one
-  pub grown_of-spans : {G : List Point} {e g : Extent} → Reaches G A e → Extends (points (list r)) g → Spans G (grown_of A r) e g
+  -- the box about another shape and the cart, and that about the record's numbers, span that shape and the grown one
+  pub grown_of-spans : {G : List Point} {e : Extent} → Reaches G A e → {l : List ℤ} → l ≡ list r
+      → (g : Extent) → Extends (points l) g → Spans G (grown_of A r) e g
   unfolding grown_of
-  grown_of-spans x y = grown-spans (points (list r)) A v.shape.some a x y
-
-  -- the box about the record, made wider by the cart's size, is that about the grown one and the cart
-  pub grown_of-reaches : {e g : Extent} {s : Code-as-Point} → Extends (points (list r)) e → Measures A s → Wider e s g
-      → Reaches (grown_of A r) A g
-  unfolding grown_of
-  grown_of-reaches x m w = wider-reaches (points (list r)) A v.shape.some a x m w
+  grown_of-spans x same g y = grown-spans (points (list r)) A v.shape.some a x (subst (λ (l : List ℤ). Extends (points l) g) same y)
 
 -- ---- a pair
 
@@ -157,7 +152,7 @@ module _ (A : List Point) (b : List ℕ) (p q : ℕ) (a : 0 < length A) (k : Sou
   }
 
   -- the box about G and the cart, and that about the record, show that the pair is not nearer than what is kept
-  pub left_out : (f : ℕ) {e : Extent} (s : Best) → Reaches G A e → LeftOut f b q e s → is_on f b q ≡ true
+  pub left_out : (f : ℕ) {e : Extent} (s : Best) {g : List Point} → g ≡ G → Reaches g A e → LeftOut f b q e s → is_on f b q ≡ true
       → is_nearer (gap_of A (pair_at b p q)) s ≡ false
   unfolding gap_of
-  left_out f s x far on = far on A G a first-shape x
+  left_out f {e} s {g} same x far on = far on A G a first-shape (subst (λ (ps : List Point). Reaches ps A e) same x)

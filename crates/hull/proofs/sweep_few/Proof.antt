@@ -4,13 +4,14 @@ use mathlib.Core.List.{List}
 use native.Mathlib.Omega.{arith}
 use borrow.Author.Rules.{rules}
 use lib.ListN.{take}
+use lib.Seq.{length-take-le}
 use Rattle.plane.specs.Point.{Point, points}
 use Rattle.plane.specs.theory.lists.Flat.{points-length}
 use Rattle.plane.specs.Corner.{ascending, outline, shape_of}
 use Rattle.polygon.specs.Front.{Front}
 use Rattle.sorting.specs.Buffer.{Holds, SmallTo}
-use Rattle.sorting.specs.theory.Held.{held-front, part_small}
-use Rattle.hull.specs.theory.Sorted.{sorted-ready}
+use Rattle.sorting.specs.theory.Least.{ascending-length}
+use Rattle.sorting.specs.theory.Held.{held-count, held-some, held-front, held-part, part_small}
 use Rattle.hull.proofs.sweep_few.Statement.{statement}
 use Rattle.hull.proofs.sweep_few.Tie as tie
 
@@ -43,19 +44,24 @@ outline-requires c κs =
     let at-sort = c.before.before.before in
     let at-reduce = at-sort.before.before.before.before in
     let start = at-reduce.before.before in
-    let h = sorted at-sort in
-    let ready = sorted-ready start.args.list.now start.requires.0.in_range at-reduce.reduce.ensures h in (
-      ready.0,
+    let m = at-reduce.reduce.result in
+    let ps = points at-reduce.reduce.new.1.0 in
+    let r = at-reduce.reduce.ensures in
+    let h = sorted at-sort in (
+      held-some (take m ps) h (omega (arith, r.some, length-take-le m ps r.within)),
       h.within,
       omega (
         arith,
-        ready.1,
+        held-count h,
+        ascending-length (take m ps),
+        length-take-le m ps r.within,
+        r.few,
         start.requires.1,
         at-reduce.reduce.auto.1.0,
         points-length start.args.buf.now,
         points-length at-reduce.reduce.new.1.0,
       ),
-      ready.2,
+      part_small start.args.list.now start.requires.0.in_range h.within (λ p n. r.part p (held-part (take m ps) h p n)),
     )
 
 returns : tie.Need-returns

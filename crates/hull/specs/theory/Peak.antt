@@ -1,5 +1,5 @@
 -- The two chains of a shape: its corners rise to the peak and fall from there back to the first.
---     closed-within, closed-last, closed-member, closed-small, line_small      the corners on the way round
+--     closed-within, closed-last, closed-member, closed-small      the corners on the way round
 --     home-behind, home-corner    the chain down ends at the first corner
 --     peak-between                every corner lies between the first and the peak
 --     Half half A low high        the corners from low to high on the way round are A's chain of that half: no other corner is further in
@@ -22,7 +22,7 @@ use Rattle.polygon.specs.Peak.{Peak}
 use Rattle.polygon.specs.theory.Peak.{least, left, rise, behind-peak, fall}
 use Rattle.polygon.specs.Point.{Small}
 use Rattle.polygon.specs.theory.Small.{small-corner}
-use Rattle.sorting.specs.Order.{Ahead, closed, Line, Rises}
+use Rattle.sorting.specs.Order.{Ahead, closed, Rises}
 use Rattle.hull.specs.Chain.{home}
 use Rattle.sorting.specs.theory.Ahead.{NotBehind, up-ahead, down-ahead}
 
@@ -51,11 +51,6 @@ closed-member ps some = closed_at (λ p. p ∈ ps) ps some (position-member ps)
 pub closed-small : (l : List ℤ) → InRange l → 0 < length (points l) → (i : ℕ) → i ≤ length (points l)
     → Small (2 ^ 21) (corner (closed (points l)) i)
 closed-small l r some = closed_at (Small (2 ^ 21)) (points l) some (λ i h. small-corner l r i h refl)
-
--- a corner of a line may be computed with
-pub line_small : {l : List ℤ} (i : ℕ) → Line l (i + 1) → {p : Point} → p ≡ corner (closed (points l)) i → Small (2 ^ 21) p
-line_small {l} i line e =
-    subst (Small (2 ^ 21)) (sym e) (closed-small l line.near line.some i (omega (arith, line.within)))
 
 -- ---- no other corner is further to that side
 

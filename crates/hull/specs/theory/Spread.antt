@@ -4,9 +4,8 @@
 --     rows_few         no corner is taken for both chains, and s and t for none: so there is room for both
 --     spread-shape     both chains together are the shape of both
 --     spread-small     s and t may be computed with
---     chain-ends       where a shape's own chain begins and ends; first-side, second-side, side-small: the facts above for either chain
-use Rattle.std.specs.Prelude.{◌≡◌, refl, Bool, true, false, cond, List, [], ◌∷◌, ◌++◌, ◌⊎◌, ℕ, suc, ◌+◌, ◌^◌, ◌≤◌, ◌<◌, eqb, ℤ, length}
-use Rattle.std.proofs.Common.{sym, ◌∙◌, subst, inl, inr, arith, eqb-true, length-append}
+use Rattle.std.specs.Prelude.{◌≡◌, Bool, true, false, List, [], ◌∷◌, ◌++◌, ◌⊎◌, ℕ, suc, ◌+◌, ◌^◌, ◌≤◌, ◌<◌, ℤ, length}
+use Rattle.std.proofs.Common.{sym, ◌∙◌, subst, inl, inr, arith, length-append}
 use mathlib.Core.List.Memᴰ
 use Rattle.plane.specs.Point.{Point, points, corner, ◌∈◌}
 use Rattle.plane.specs.Shape.{IsShape}
@@ -19,7 +18,7 @@ use Rattle.polygon.specs.Point.{Small}
 use Rattle.polygon.specs.theory.Small.{small-corner}
 use Rattle.sorting.specs.Order.{closed, in_order, left_over, Line, Rising, foremost}
 use Rattle.polygon.specs.Peak.{Peak}
-use Rattle.hull.specs.Chain.{home, chain_start, chain_end, row_first, row_end, taken, right_rows, left_rows, Spread}
+use Rattle.hull.specs.Chain.{home, row_first, row_end, taken, right_rows, left_rows, Spread}
 use Rattle.sorting.specs.theory.Ahead.{NotBehind, turned_up, turned_down, foremost-le, foremost-one}
 use Rattle.hull.specs.theory.Peak.{closed-within, home-corner, right-half, left-half}
 use Rattle.hull.specs.theory.Trimmed.{Spans, row-rises, row_within}
@@ -173,29 +172,3 @@ spread-small {l} {k} {i} {j} v w c = (
         pick : {p : Point} → (p ≡ corner (points l) x) ⊎ (p ≡ corner (points k) y) → Small (2 ^ 21) p
         pick (inl e) = small-corner l v.in_range x h e
         pick (inr e) = small-corner k w.in_range y i e
-
--- ---- a chain up, or down
-
--- the end of a shape's own chain comes after its start, and is on the way round
-pub chain-ends : (up : Bool) (ps : List Point) (t : ℕ) → t < length ps
-    → (chain_start up t ≤ chain_end up ps t) × (chain_end up ps t ≤ length ps)
-chain-ends true ps t h = (omega arith, omega arith)
-chain-ends false ps t h = go (eqb t 0) refl
-  where
-    go : (none : Bool) → eqb t 0 ≡ none → (t ≤ cond none 0 (length ps)) × (cond none 0 (length ps) ≤ length ps)
-    go true e = (omega (arith, eqb-true t 0 e), omega arith)
-    go false e = (omega arith, omega arith)
-
-module _ {A : List Point} {a : ℕ} {B : List Point} {b : ℕ} {s t : Point} (shape : IsShape A) (other : IsShape B) where
-  pub first-side : (up : Bool) → Spread A a B b (cond up s t) (cond up t s) → Spans up A (chain_start up a) (chain_end up A a) s t
-  first-side true c = first-right shape other c
-  first-side false c = first-left shape other c
-
-  pub second-side : (up : Bool) → Spread A a B b (cond up s t) (cond up t s) → Spans up B (chain_start up b) (chain_end up B b) s t
-  second-side true c = second-right shape other c
-  second-side false c = second-left shape other c
-
-pub side-small : (up : Bool) {l k : List ℤ} {i j : ℕ} {s t : Point} → Valid l → Valid k
-    → Spread (points l) i (points k) j (cond up s t) (cond up t s) → Small (2 ^ 21) s × Small (2 ^ 21) t
-side-small true v w c = spread-small v w c
-side-small false v w c = let both = spread-small v w c in (both.1, both.0)

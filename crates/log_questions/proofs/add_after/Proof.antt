@@ -1,5 +1,5 @@
 -- `add_after` meets its contract: too little room, or the stores are made.
-use mathlib.Core.Path.{refl, sym, ◌∙◌}
+use mathlib.Core.Path.{sym, ◌∙◌}
 use Prim.Native.Nat.{◌+◌, ◌-◌, ◌≤◌}
 use native.Mathlib.Omega.{arith}
 use borrow.Author.Rules.{rules}
@@ -45,10 +45,19 @@ returns-2 c =
     let at_room = at-add.before.before in
     let start = at_room.before.before.before.before in
     let end = start.requires.2 in
-    let made = add_done _ _ _ _ _ start.requires.0 start.requires.1 (omega (arith, room at_room, end)) refl at-add.add.ensures.0
-    at-add.add.ensures.1 in
-    (c.stored.ensures ∙ made.0, made.1)
+    add_done _ _ _ _ _ start.requires.0 start.requires.1 (omega (arith, room at_room, end)) c.if2.true at-add.add.ensures.0
+    at-add.add.ensures.1
+
+returns-3 : tie.Need-returns-3
+returns-3 c =
+    let at-add = c.before.before.before in
+    let at_room = at-add.before.before in
+    let start = at_room.before.before.before.before in
+    let end = start.requires.2 in
+    add_done _ _ _ _ _ start.requires.0 start.requires.1 (omega (arith, room at_room, end)) c.if2.false at-add.add.ensures.0
+    at-add.add.ensures.1
 
 pub add-after-spec : {M : Type 1} → statement M
 add-after-spec =
-    tie.close (tie.spec is-full-requires (λ c. search rules) returns add-requires (λ c κs. search rules) (λ c. search rules) returns-2)
+    tie.close
+    (tie.spec is-full-requires (λ c. search rules) returns add-requires (λ c. search rules) returns-2 (λ c. search rules) returns-3)

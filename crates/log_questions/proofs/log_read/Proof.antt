@@ -23,6 +23,9 @@ found c = subst (Latest _ _) c.place2.given.1 c.before.before.latest.ensures
 returns : tie.Need-returns
 returns c = read-damaged _ _ _ _ (sym c.before.before.before.survey.ensures ∙ c.before.place.given.1)
 
+latest-requires : tie.Need-latest-requires
+latest-requires c κs = sound c
+
 returns-2 : tie.Need-returns-2
 returns-2 c =
     read-missing _ _ _ (sound c.before.before.before)
@@ -46,5 +49,5 @@ returns-4 c =
 pub log-read-spec : {M : Type 1} → statement M
 log-read-spec =
     tie.close
-    (tie.spec (λ c κs. search rules) (λ c. search rules) returns (λ c. search rules) (λ c κs. sound c) (λ c. search rules)
-    (λ c. search rules) returns-2 returns-3 decode-requires (λ c. search rules) returns-4)
+    (tie.spec (λ c κs. search rules) (λ c. search rules) returns (λ c. search rules) latest-requires (λ c. search rules) (λ c. search rules)
+    returns-2 returns-3 decode-requires (λ c. search rules) returns-4)

@@ -2,7 +2,7 @@
 use mathlib.Core.Path.{◌≡◌, sym, ◌∙◌, ap, subst}
 use mathlib.Core.Bool.{Bool, true, false, not, ◌&&◌}
 use mathlib.Core.List.{List}
-use Prim.Native.Nat.{ℕ, ◌*◌, ◌≤◌}
+use Prim.Native.Nat.{◌*◌, ◌≤◌}
 use native.Mathlib.Omega.{arith}
 use borrow.Author.Rules.{rules}
 use borrow.Author.Tests.{not-true, not-false}
@@ -14,14 +14,13 @@ use Rattle.plane.specs.Limits.{max_corners}
 use Rattle.plane.specs.Point.{points}
 use Rattle.plane.specs.Refusal.{Valid}
 use Rattle.plane.specs.Clearance.{clearance_numbers}
+use Rattle.plane.specs.Distance.{distance}
 use Rattle.extents.specs.theory.Gaps.{extends-bounded}
 use Rattle.endian.specs.Bytes.{words_at}
 use Rattle.endian.specs.theory.Bytes.{words_at-length}
 use Rattle.endian.specs.theory.Coded.{front-is, front_length}
 use Rattle.journal.specs.Survey.{Stated}
-use Rattle.journal.specs.theory.Stepping.{here-valid}
-use Rattle.journal.specs.declared.head.Head.{Head}
-use Rattle.neighbours.specs.Search.{Onward}
+use Rattle.neighbours.specs.Search.{is_nearer, Onward}
 use Rattle.neighbours.specs.theory.Spacings.{spacing-sized}
 use Rattle.neighbours.specs.theory.Search.{here-numbers, count_fits, onward-other, onward-passed, onward-kept}
 use Rattle.neighbours.proofs.look.Statement.{statement}
@@ -37,76 +36,44 @@ returns c =
       start.requires.3,
     )
 
--- the record is asked for
-module _ (c : tie.Else1) where
+-- what the record says, and that it is good
+stated-here : (c : tie.After-decode-arg) → let at_head = c.before.before.before in
+    let args = at_head.before.before.args in Stated args.log.now args.p at_head.head_at.result
+stated-here c = c.before.before.before.head_at.ensures
+
+decode-requires : tie.Need-decode-requires
+decode-requires c κs =
+    let start = c.before.before.before.before.before in
+    let few = count_fits start.requires.0 (stated-here c) in
+    ((stated-here c).inside, omega (arith, start.requires.3))
+
+-- the buffer is as long as it was, and begins with the record's numbers
+module _ (c : tie.After-buffer) where
   abbrev at_head : tie.After-head-at
-  at_head = c.before.before
+  at_head = c.before.before.before.before.before
 
   abbrev start : tie.Start
   start = at_head.before.before
 
-  stated-here : Stated start.args.log.now start.args.p at_head.head_at.result
-  stated-here = at_head.head_at.ensures
-
-  asked : let args = start.args in let head = at_head.head_at.result in
-      (eqb head.floor args.floor && not (eqb head.name args.but)) ≡ true
-  asked = sym c.before.is-asked.ensures ∙ not-false _ c.if1.false
-
-is-passed-requires : tie.Need-is-passed-requires
-is-passed-requires c κs =
-    let pre = (start c.before).pre in
-    (extends-bounded _ pre.1 pre.4, extends-bounded _ (here-valid pre.0) c.box-at.ensures, pre.2)
-
-returns-2 : tie.Need-returns-2
-returns-2 c =
-    let at-box = c.before.before in
-    let at-else = at-box.before in
-    let args = (start at-else).args in
-    let pre = (start at-else).requires in (
-      onward-passed pre.0 (stated-here at-else) args.floor args.but (points args.list.now) args.best pre.1.shape
-          (asked at-else) (c.before.is-passed.ensures c.if2.true _ _ pre.1.shape (here-valid pre.0).shape pre.4
-          at-box.box-at.ensures),
-      pre.3,
-    )
-
-decode-requires : tie.Need-decode-requires
-decode-requires c κs =
-    let at-else = c.before.before.before.before in
-    let pre = (start at-else).requires in
-    let few = count_fits pre.0 (stated-here at-else) in
-    ((stated-here at-else).inside, omega (arith, pre.3))
-
--- the buffer is as long as it was, and begins with the record's numbers
-module _ (c : tie.After-buffer) where
-  abbrev else-at : tie.Else1
-  else-at = c.before.before.before.before.before.before
-
-  abbrev head : Head
-  head = (at_head else-at).head_at.result
-
-  abbrev log : List ℕ
-  log = (start else-at).args.log.now
-
   abbrev numbers : List ℤ
-  numbers = words_at head.count log head.place
+  numbers = words_at at_head.head_at.result.count start.args.log.now at_head.head_at.result.place
 
-  few : head.count ≤ 2 * max_corners
-  few = count_fits (start else-at).pre.0 (stated-here else-at)
+  few : at_head.head_at.result.count ≤ 2 * max_corners
+  few = count_fits start.pre.0 (stated-here c.before.before)
 
-  numbers-length : length numbers ≡ head.count
-  numbers-length = words_at-length log head.count head.place
+  numbers-length : length numbers ≡ at_head.head_at.result.count
+  numbers-length = words_at-length start.args.log.now at_head.head_at.result.count at_head.head_at.result.place
 
   decoded-length : length c.before.decode.new.1.1.1.0 ≡ 2 * max_corners
   decoded-length =
-      front_length numbers (start else-at).args.buffer.now _ c.before.decode.ensures
-      (omega (arith, numbers-length, few, (start else-at).pre.3))
-      ∙ (start else-at).pre.3
+      front_length numbers start.args.buffer.now _ c.before.decode.ensures (omega (arith, numbers-length, few, start.pre.3))
+      ∙ start.pre.3
 
-  decoded : take head.count c.before.decode.new.1.1.1.0 ≡ numbers
-  decoded = front-is numbers (start else-at).args.buffer.now _ c.before.decode.ensures head.count numbers-length
+  decoded : take at_head.head_at.result.count c.before.decode.new.1.1.1.0 ≡ numbers
+  decoded = front-is numbers start.args.buffer.now _ c.before.decode.ensures at_head.head_at.result.count numbers-length
 
-  decoded-valid : Valid (take head.count c.before.decode.new.1.1.1.0)
-  decoded-valid = subst Valid (sym decoded) (here-numbers (start else-at).pre.0 (stated-here else-at))
+  decoded-valid : Valid (take at_head.head_at.result.count c.before.decode.new.1.1.1.0)
+  decoded-valid = subst Valid (sym decoded) (here-numbers start.pre.0 (stated-here c.before.before))
 
 slice-reshare-prefix-shape : tie.Need-slice-reshare-prefix-shape
 slice-reshare-prefix-shape c = omega (arith, decoded-length c, few c)
@@ -116,13 +83,36 @@ slice-aggregate-shape c =
     let at-buffer = c.before in
     sym (length-take-le _ at-buffer.before.decode.new.1.1.1.0 (omega (arith, decoded-length at-buffer, few at-buffer)))
 
+is-passed-requires : tie.Need-is-passed-requires
+is-passed-requires c κs =
+    let at-buffer = c.before in
+    let pre = (start at-buffer).requires in
+    (extends-bounded _ pre.1 pre.4, decoded-valid at-buffer, pre.2)
+
+-- the record is asked for
+asked : (c : tie.After-buffer) → let args = (start c).args in
+    let head = (at_head c).head_at.result in (eqb head.floor args.floor && not (eqb head.name args.but)) ≡ true
+asked c = let at-else = c.before.before.before in sym at-else.before.is-asked.ensures ∙ not-false _ at-else.if1.false
+
+returns-2 : tie.Need-returns-2
+returns-2 c =
+    let at-buffer = c.before.before.before in
+    let args = (start at-buffer).args in
+    let pre = (start at-buffer).requires in
+    let far = c.before.is-passed.ensures c.if2.true (points args.list.now) pre.1.shape pre.4 in (
+      onward-passed pre.0 (stated-here at-buffer.before.before) args.floor args.but (points args.list.now)
+          args.best pre.1.shape (asked at-buffer)
+          (subst (λ l. is_nearer (distance (points args.list.now) (points l)) args.best ≡ false) (decoded at-buffer) far),
+      decoded-length at-buffer,
+    )
+
 between-requires : tie.Need-between-requires
-between-requires c κs = let at-buffer = c.before in ((start (else-at at-buffer)).pre.1, decoded-valid at-buffer)
+between-requires c κs = let at-buffer = c.before.before.before in ((start at-buffer).requires.1, decoded-valid at-buffer)
 
 kept-requires : tie.Need-kept-requires
 kept-requires c κs =
-    let at-buffer = c.before.before in
-    let pre = (start (else-at at-buffer)).pre in (
+    let at-buffer = c.before.before.before.before in
+    let pre = (start at-buffer).requires in (
       pre.0,
       spacing-sized _ _ pre.1.shape (decoded-valid at-buffer).shape c.between.result c.between.ensures,
       pre.2,
@@ -130,20 +120,19 @@ kept-requires c κs =
 
 returns-3 : tie.Need-returns-3
 returns-3 c =
-    let at-buffer = c.before.before.before in
-    let at-else = else-at at-buffer in
-    let given = (start at-else).args in
-    let pre = (start at-else).pre in
-    let A = points given.list.now in
-    let spaced = c.before.between.ensures ∙ ap (λ l. clearance_numbers A (points l)) (decoded at-buffer) in (
-      subst (Onward A given.floor given.but given.log.now given.p given.best) (sym c.kept.ensures)
-          (onward-kept pre.0 (stated-here at-else) given.floor given.but A given.best pre.1.shape (asked at-else)
-          c.before.between.result spaced),
+    let at-buffer = c.before.before.before.before.before in
+    let args = (start at-buffer).args in
+    let pre = (start at-buffer).requires in
+    let spaced = c.before.between.ensures ∙ ap (λ l. clearance_numbers (points args.list.now) (points l)) (decoded at-buffer) in (
+      subst (Onward (points args.list.now) args.floor args.but args.log.now args.p args.best)
+          (sym c.kept.ensures)
+          (onward-kept pre.0 (stated-here at-buffer.before.before) args.floor args.but (points args.list.now)
+          args.best pre.1.shape (asked at-buffer) c.before.between.result spaced),
       decoded-length at-buffer,
     )
 
 pub look_spec : {M : Type 1} → statement M
 look_spec =
     tie.close
-    (tie.spec (λ c κs. search rules) (λ c κs. search rules) returns (λ c κs. search rules) is-passed-requires returns-2 decode-requires
-    slice-reshare-prefix-shape slice-aggregate-shape between-requires kept-requires (λ c. search rules) returns-3)
+    (tie.spec (λ c κs. search rules) (λ c κs. search rules) returns decode-requires slice-reshare-prefix-shape slice-aggregate-shape
+    is-passed-requires (λ c. search rules) returns-2 between-requires kept-requires (λ c. search rules) returns-3)

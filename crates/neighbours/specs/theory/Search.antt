@@ -24,7 +24,7 @@ use Rattle.plane.specs.theory.lists.Flat.{points-length}
 use Rattle.clearance.specs.theory.Distance.{le-no_more, distance-nonneg}
 use Rattle.endian.specs.Bytes.{words_at}
 use Rattle.endian.specs.theory.Bytes.{words_at-length}
-use Rattle.journal.specs.Format.{whole, records, name, floor, list}
+use Rattle.journal.specs.Format.{whole, records, name, floor}
 use Rattle.journal.specs.Reading.{damaged, held}
 use Rattle.journal.specs.Current.{current, keep, is_other, is_around, around}
 use Rattle.journal.specs.Survey.{record_at, next_at, Sound, Stated}
@@ -205,13 +205,13 @@ module _ {b : List ℕ} {p : ℕ} (sound : Sound b p) {h : Head} (st : Stated b 
           → Still A all best (here ∷ around f but later)
       current-here e all x = subst (Still A all best) (around-at (around_here f but here later e (asked_is ∙ asked))) x
 
-      pub onward-passed : is_nearer (distance A (points (list here))) best ≡ false → Onward A f but b p best best
+      pub onward-passed : is_nearer (distance A shape) best ≡ false → Onward A f but b p best best
       onward-passed far = go (held (name here) later) refl
         where
           go : (x : Bool) → held (name here) later ≡ x → Onward A f but b p best best
           go true e = same (around-held f but here later e)
           go false e = λ all x. still-passed A s all (around f but later) here (good-whole here (here-good sound)) whole-later best
-              (current-here e all x) far
+              (current-here e all x) (subst (λ l. is_nearer (distance A (points l)) best ≡ false) (sym st.list-is) far)
 
       pub onward-kept : (u : Spacing) → spacing_numbers u ≡ clearance_numbers A shape
           → Onward A f but b p best (kept_of (is_latest b p) h.name u best)

@@ -10,7 +10,7 @@ use Rattle.plane.specs.Reply.{here}
 use Rattle.plane.specs.Refusal.{Valid}
 use Rattle.plane.specs.Separation.{apart}
 use Rattle.plane.specs.Tangent.{tangent_from, tangent_to}
-use Rattle.plane.specs.Floor.{on, Same}
+use Rattle.plane.specs.Floor.{Floored, on, Same}
 use Rattle.plane.specs.Question.{ask_tangents}
 use Rattle.separation.specs.Answer.{number_of}
 use Rattle.separation.specs.theory.Around.{related-apart}
@@ -18,21 +18,35 @@ use Rattle.tangents.specs.theory.TangentSearch.{tangent-within}
 use Rattle.admission.specs.theory.Judged.{refuses}
 use Rattle.admission.specs.theory.Door.{shapes-refused, rest-refused, all-answered}
 use Rattle.pair_questions.specs.theory.Lines.{tangents-values}
-use Rattle.pair_questions.proofs.Admitted.{both-valid}
 use Rattle.pair_questions.proofs.Related.{not-apart}
 use Rattle.pair_questions.proofs.tangents.Statement.{statement}
 use Rattle.pair_questions.proofs.tangents.Tie as tie
 
+-- the two shapes
+abbrev one : tie.Start → Floored
+one c = on c.args.a.now c.args.f
+
+abbrev other : tie.Start → Floored
+other c = on c.args.b.now c.args.g
+
 -- past the judging they are shapes on one floor
-shapes : (c : tie.After-enum-told) → let args = c.before.before.before.args in
-    Same (on args.a.now args.f) (on args.b.now args.g)
+shapes : (c : tie.After-enum-told) → let start = c.before.before.before in Same (one start) (other start)
 shapes c = c.before.before.admit-pair.ensures.valid c.enum_told.given.1
+
+returns : tie.Need-returns
+returns c =
+    let start = c.before.before.before.before in
+    (shapes-refused (ask_tangents (one start) (other start))
+    (c.before.before.before.admit-pair.ensures.no _ c.before.refusal.given.1)).0
+
+relation-requires : tie.Need-relation-requires
+relation-requires c κs = let both = shapes c in (both.first-valid, both.second-valid)
 
 returns-2 : tie.Need-returns-2
 returns-2 c =
     let at_place = c.before in
-    let args = at_place.before.before.before.before.args in
-    let q = ask_tangents (on args.a.now args.f) (on args.b.now args.g) in
+    let start = at_place.before.before.before.before in
+    let q = ask_tangents (one start) (other start) in
     (rest-refused q (shapes at_place.before) (refuses {rows = q.rest}
     (here (ap not (not-apart _ _ at_place.relation.result c.match2.keys2 at_place.relation.ensures))))).0
 
@@ -79,16 +93,13 @@ line-requires-4 c κs =
 returns-3 : tie.Need-returns-3
 returns-3 c =
     let at_told = c.before.before.before.before in
-    let args = at_told.before.before.before.before.before.before.args in
-    all-answered _ (shapes at_told.before.before.before) (ap not (ready at_told).2, tt)
-    (tangents-values (on args.a.now args.f) (on args.b.now args.g) c.before.before.before.line.ensures
-    c.before.line3.ensures c.before.before.line2.ensures c.line4.ensures)
+    let start = at_told.before.before.before.before.before.before in
+    all-answered (ask_tangents (one start) (other start)) (shapes at_told.before.before.before) (ap not (ready at_told).2, tt)
+    (tangents-values (one start) (other start) c.before.before.before.line.ensures c.before.line3.ensures
+    c.before.before.line2.ensures c.line4.ensures)
 
 pub tangents-spec : {M : Type 1} → statement M
 tangents-spec =
     tie.close
-    (tie.spec (λ c κs. search rules) (λ c. search rules)
-    (λ c. (shapes-refused _ (c.before.before.before.admit-pair.ensures.no _ c.before.refusal.given.1)).0)
-    (λ c. search rules)
-    (λ c κs. both-valid c.before.before.admit-pair.ensures c.enum_told.given.1) (λ c. search rules) returns-2
+    (tie.spec (λ c κs. search rules) (λ c. search rules) returns (λ c. search rules) relation-requires (λ c. search rules) returns-2
     line-requires line-requires-2 line-requires-3 line-requires-4 returns-3)

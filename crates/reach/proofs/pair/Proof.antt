@@ -61,8 +61,8 @@ round-requires c κs =
     let start = c.before.before.before in
     (omega (arith, edges-at-most (points start.args.a.now), start.requires.3.at_in), start.requires.0.shape.some)
 
-place-requires : tie.Need-place-requires
-place-requires c κs =
+position-requires : tie.Need-position-requires
+position-requires c κs =
     let start = c.before.before.before.before in
     let b = start.args.b.now in (
       start.requires.2.within,
@@ -74,8 +74,8 @@ unfolding pair_of
 returns c =
     let at-magnitude = c.before.before in
     let size = ap nat_abs (sym at-magnitude.magnitude.ensures ∙ distance at-magnitude.before) in
-    cc (size, c.before.round.ensures.0, c.place.ensures.0)
+    cc (size, c.before.round.ensures.0, c.position.ensures)
 
 pub pair_spec : {M : Type 1} → statement M
 pair_spec =
-    tie.close (tie.spec here-requires dot-requires magnitude-requires round-requires place-requires returns)
+    tie.close (tie.spec here-requires dot-requires magnitude-requires round-requires position-requires returns)

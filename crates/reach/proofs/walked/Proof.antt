@@ -10,11 +10,12 @@ use Rattle.integer.specs.Machine.{result-is}
 use Rattle.plane.specs.Point.{points}
 use Rattle.plane.specs.Forms.{edges}
 use Rattle.calipers.specs.Image.{image}
+use Rattle.calipers.specs.Places.{passed as places_passed}
 use Rattle.calipers.specs.Side.{Carried, walk_of}
-use Rattle.calipers.specs.Walk.{Walk, begun, finished, advanced, At}
+use Rattle.calipers.specs.Walk.{Walk, begun, passed, finished, advanced, At}
 use Rattle.calipers.specs.theory.Carry.{all-passed, some_left, sides-walk, sides-advanced, sides-at, first_next, edges_fit}
+use Rattle.calipers.specs.theory.Standing.{passed-ended, edges-less}
 use Rattle.separation.specs.theory.Image.{image-begun, image-few, image-sides}
-use Rattle.clearance.specs.theory.Rounds.{ends-few, round-less}
 use Rattle.reach.specs.theory.Scan.{Leads, leads-start, leads-next, leads-done}
 use Rattle.reach.proofs.walked.Statement.{statement}
 use Rattle.reach.proofs.walked.Tie as tie
@@ -35,8 +36,12 @@ side-at-requires-2 c κs = let pre = c.before.requires in (pre.1, pre.2, omega a
 add-all : tie.Need-overflow-add-all invariant-loop decreases-loop
 add-all c =
     let second = c.before.before in
-    let pre = second.before.before.requires in
-    omega (arith, ends-few pre.0 pre.1 second.before.side-at.ensures.1 second.side-at2.ensures.1)
+    let start = second.before.before in
+    omega (
+      arith,
+      image-sides second.before.side-at.ensures.1 second.side-at2.ensures.1,
+      image-few _ _ start.requires.0 start.requires.1,
+    )
 
 pair-requires : tie.Need-pair-requires invariant-loop decreases-loop
 pair-requires c κs =
@@ -90,6 +95,20 @@ advances c =
     sides-advanced inv.0.place_is inv.1 inv.2 (result-is w64 at-order.order.type-inv at-order.order.ensures)
     c.before.next.result c.next2.result c.before.next.ensures.0 c.next2.ensures.0 refl
 
+first_step : (c : tie.After-next2 invariant-loop decreases-loop) → let at-loop = c.before.before.before in
+    let args = at-loop.before.before.before.before.before.before.args in
+    c.before.next.result.at
+    ≡ places_passed (edges (points args.a.now)) at-loop.loop.s.at (edges (points (image args.b.now))) at-loop.loop.t.at
+unfolding advanced passed
+first_step c = ap (λ (w : Walk). w.i) (advances c)
+
+second-step : (c : tie.After-next2 invariant-loop decreases-loop) → let at-loop = c.before.before.before in
+    let args = at-loop.before.before.before.before.before.before.args in
+    c.next2.result.at
+    ≡ places_passed (edges (points (image args.b.now))) at-loop.loop.t.at (edges (points args.a.now)) at-loop.loop.s.at
+unfolding advanced passed
+second-step c = ap (λ (w : Walk). w.j) (advances c)
+
 add-if1 : tie.Need-overflow-add-if1 invariant-loop decreases-loop
 add-if1 c =
     let at_next = c.before.before in
@@ -122,9 +141,19 @@ loop-less c =
     let at-else = c.before.before in
     let at_next = at-else.before.before.before in
     let at-loop = at_next.before.before.before in
-    round-less at-loop.loop.invariant.1 at-loop.loop.invariant.2 (advances at_next) (λ e. at-else.if1.false (e ∙ sym
-    (image-sides at-loop.before.before.before.before.before.side-at.ensures.1
-    at-loop.before.before.before.before.side-at2.ensures.1)))
+    let inv = at-loop.loop.invariant in
+    let args = at-loop.before.before.before.before.before.before.args in
+    let E = edges (points args.a.now) in
+    let F = edges (points (image args.b.now)) in
+    edges-less E F _ _ (first_step at_next) (second-step at_next) (λ h k. at-else.if1.false (omega (
+      arith,
+      image-sides at-loop.before.before.before.before.before.side-at.ensures.1
+          at-loop.before.before.before.before.side-at2.ensures.1,
+      first_step at_next ∙ passed-ended E _ F _ h,
+      second-step at_next ∙ passed-ended F _ E _ k,
+      inv.1.at_in,
+      inv.2.at_in,
+    )))
 
 loop-again : tie.Need-loop-preserved invariant-loop decreases-loop
 loop-again c =

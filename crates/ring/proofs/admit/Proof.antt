@@ -10,8 +10,8 @@ use Rattle.plane.specs.Refusal.{bad_count}
 use Rattle.plane.specs.Sweep.{too_many_points}
 use Rattle.plane.specs.theory.refusals.Accept.{counted}
 use Rattle.admission.specs.theory.Judged.{refuses, passes, turns-away}
-use Rattle.outline.specs.Ring.{open_ring}
-use Rattle.outline.specs.theory.Rows.{accepted→ring}
+use Rattle.ring.specs.Ring.{open_ring}
+use Rattle.ring.specs.theory.Rows.{accepted→ring}
 use Rattle.ring.proofs.admit.Statement.{statement}
 use Rattle.ring.proofs.admit.Tie as tie
 

@@ -7,7 +7,7 @@ use borrow.Author.Rules.{rules}
 use lib.Dec.{ltb}
 use lib.ListN.{length}
 use Rattle.plane.specs.Point.{points, corner, origin, same_point}
-use Rattle.outline.specs.theory.Steps.{closed_at, opened-count}
+use Rattle.ring.specs.theory.Steps.{closed_at, opened-count}
 use Rattle.ring.proofs.open_count.Statement.{statement}
 use Rattle.ring.proofs.open_count.Tie as tie
 

@@ -6,11 +6,11 @@ use native.Mathlib.Omega.{arith}
 use borrow.Author.Rules.{rules}
 use lib.ListN.{length}
 use Rattle.plane.specs.Point.{Point, points, corner}
-use Rattle.outline.specs.Round.{distinct, sensed, bends}
-use Rattle.outline.specs.Ring.{ring_places}
-use Rattle.outline.specs.Places.{Placed, Held}
-use Rattle.outline.specs.theory.Steps.{opened-le, opened_some, least-below}
-use Rattle.outline.specs.theory.Under.{under_at, places-under, places-some, places-few, places-are, corners-are}
+use Rattle.ring.specs.Round.{distinct, sensed, bends}
+use Rattle.ring.specs.Ring.{ring_places}
+use Rattle.ring.specs.Places.{Placed, Held}
+use Rattle.ring.specs.theory.Steps.{opened-le, opened_some, least-below}
+use Rattle.ring.specs.theory.Under.{under_at, places-under, places-some, places-few, places-are, corners-are}
 use Rattle.ring.proofs.trace.Statement.{statement}
 use Rattle.ring.proofs.trace.Tie as tie
 

@@ -8,7 +8,7 @@ use lib.ListN.{length, length-map}
 use Rattle.plane.specs.Point.{Point, points, numbers, corner}
 use Rattle.plane.specs.theory.lists.Flat.{numbers-length}
 use Rattle.plane.specs.theory.lists.Filled.{Filled, filled-start, filled-length, filled-corner, filled-done}
-use Rattle.outline.specs.theory.Steps.{map_at}
+use Rattle.ring.specs.theory.Steps.{map_at}
 use Rattle.ring.proofs.write.Statement.{statement}
 use Rattle.ring.proofs.write.Tie as tie
 

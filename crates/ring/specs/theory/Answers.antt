@@ -16,8 +16,8 @@ use Rattle.plane.specs.theory.lists.Sought.{some-here, none-some, first-true, fi
 use Rattle.plane.specs.theory.refusals.Rows.{none-join}
 use Rattle.admission.specs.Admission.{Refuses}
 use Rattle.admission.specs.theory.Judged.{refuses, refuses-join}
-use Rattle.outline.specs.Ring.{previous, ring_corners, ring_shape, inward_at, first_inward, inward_row, list_rows, ring_rows, ValidRing}
-use Rattle.outline.specs.theory.Rows.{ring→accepted}
+use Rattle.ring.specs.Ring.{previous, ring_corners, ring_shape, inward_at, first_inward, inward_row, list_rows, ring_rows, ValidRing}
+use Rattle.ring.specs.theory.Rows.{ring→accepted}
 
 module _ (l out : List ℤ) (v : ValidRing l) where
   abbrev is : List ℕ

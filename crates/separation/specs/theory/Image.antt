@@ -3,7 +3,7 @@
 --     image-visited      the corners that it visits are those of the differences; `image-related`: how the shapes relate
 --     image-sum          the shape of the sum is that of the differences; `image-all`: all corners to come are its own
 --     differences-few    it has no more corners than both shapes together
---     image-sides        the ends of two sides are all edges; `image-few`: these are no more than the corners; `image-ends`
+--     image-sides        the ends of two sides are all edges; `image-few`: these are no more than the corners
 --     image-extends      the image reaches as far, the other way round
 use Rattle.std.specs.Prelude.{◌≡◌, refl, List, [], ◌∷◌, ℕ, ◌+◌, ◌/◌, ◌≤◌, ℤ, length}
 use Rattle.std.proofs.Common.{sym, ◌∙◌, ap, ap₂, arith}
@@ -60,10 +60,6 @@ module _ (a b : List ℤ) (u : Valid a) (v : Valid b) where
 pub image-sides : {a b : List ℤ} {s t : Side} → Carried a s → Carried b t
     → s.end + t.end ≡ length (edges (points a)) + length (edges (points b))
 image-sides p q = ap₂ ◌+◌ p.end_is q.end_is
-
-pub image-ends : {a b : List ℤ} → Valid a → Valid b → {s t : Side} → Carried a s → Carried (image b) t
-    → s.end + t.end ≤ length a / 2 + length b / 2
-image-ends {a} {b} u v p q = omega (arith, image-sides p q, image-few a b u v)
 
 -- ---- how far the image reaches
 

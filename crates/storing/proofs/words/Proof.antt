@@ -1,63 +1,81 @@
--- `words` meets its contract. Where enough stores are left, the bytes are written over those from the place on.
-use mathlib.Core.Path.{◌≡◌, refl, sym, ◌∙◌, ap, ap₂}
-use mathlib.Core.List.{List, [], ◌∷◌, ◌++◌, append_assoc, append-nil}
-use Prim.Native.Nat.{ℕ, suc, ◌+◌, ◌*◌, ◌-◌, ◌≤◌}
+-- `words` meets its contract. The invariant: i numbers are written; the measure is what is left.
+use mathlib.Core.Path.{◌≡◌, ◌∙◌, ap, subst}
+use mathlib.Core.List.{List}
+use Prim.Native.Nat.{ℕ, ◌-◌, ◌≤◌}
 use native.Mathlib.Omega.{arith}
-use borrow.Author.Rules.{rules}
-use borrow.Rule.Slice.PartMut.{put_mid, mid_of}
+use borrow.Author.Rules.{sfits_of}
 use lib.IntN.{ℤ}
-use lib.ListN.{length, take, drop, set, length-drop}
-use lib.Seq.{sets, sets-eq, take_all, take-length, drop-drop, drop-length}
+use lib.ListN.{length, take}
+use lib.Seq.{take-length}
+use mir.Facts.{to_z-of_z}
 use Rattle.endian.specs.Bytes.{words}
-use Rattle.endian.specs.theory.Bytes.{words-length}
-use Rattle.plane.specs.Output.{overwritten}
-use Rattle.journal.specs.Adding.{Store, writes, made}
+use Rattle.journal.specs.Adding.{writes}
 use Rattle.journal.specs.Allowance.{Ran}
-use Rattle.journal.specs.theory.Stores.{writes-length}
+use Rattle.journal.specs.theory.Storing.{ran-length, ran-start, ran-more}
 use Rattle.storing.proofs.words.Statement.{statement}
 use Rattle.storing.proofs.words.Tie as tie
 
-made-sets : (p : ℕ) (r b : List ℕ) → made (writes p r) b ≡ sets b p r
-made-sets p [] b = refl
-made-sets p (x ∷ r) b =
-    made-sets (1 + p) r (set b p x) ∙ ap (λ (q : ℕ). sets (set b p x) q r) (let e : 1 + p ≡ suc p = omega arith in e)
+abbrev invariant-loop : tie.invariant-loop
+invariant-loop log₀ p list allowed left₀ i₀ log left i = (i ≤ length list) × Ran allowed (writes p (words (take i list))) log₀ left log
 
--- what a list writes over the part from a place on
-put-over : (p : ℕ) (r b : List ℕ) → p + length r ≤ length b
-    → put_mid p (length b - p) b (overwritten r (mid_of p (length b - p) b)) ≡ sets b p r
-unfolding overwritten
-put-over p r b h =
-    let q = length b - p in
-    let part : take q (drop p b) ≡ drop p b = take_all q (drop p b) (omega (arith, length-drop p b)) in
-    let none : drop q (drop p b) ≡ [] =
-    drop-drop q p b ∙ ap (λ (i : ℕ). drop i b) (let e : p + q ≡ length b = omega arith in e) ∙ drop-length b in
-    ap₂ (λ (t u : List ℕ). take p b ++ ((r ++ drop (length r) t) ++ u)) part none
-    ∙ ap (λ (t : List ℕ). take p b ++ t) (append-nil (r ++ drop (length r) (drop p b))
-    ∙ ap (λ (t : List ℕ). r ++ t) (drop-drop (length r) p b))
-    ∙ sym (append_assoc (take p b) r (drop (p + length r) b)) ∙ sym (sets-eq r b p h)
+abbrev decreases-loop : tie.decreases-loop
+decreases-loop log₀ p list allowed left₀ i₀ log left i = length list - i
 
-ran-all : (k p : ℕ) (l : List ℤ) (b c : List ℕ) → 4 * length l ≤ k → p + 4 * length l ≤ length b
-    → c ≡ overwritten (words (take (length l) l)) (mid_of p (length b - p) b)
-    → Ran k (writes p (words l)) b (k - 4 * length l) (put_mid p (length b - p) b c)
-ran-all k p l b c e h is = record {
-  left_is = omega (arith, writes-length p (words l), words-length l);
-  log_is =
-      ap (put_mid p (length b - p) b) (is ∙ ap (λ (m : List ℤ). overwritten (words m) (mid_of p (length b - p) b)) (take-length l))
-      ∙ put-over p (words l) b (omega (arith, words-length l)) ∙ sym (made-sets p (words l) b)
-      ∙ ap (λ (ss : List Store). made ss b)
-      (sym (take_all k (writes p (words l)) (omega (arith, writes-length p (words l), words-length l))));
-}
+-- the log is as long as it was
+room : (c : tie.At-loop invariant-loop decreases-loop) → length c.loop.log ≡ length c.before.before.args.log.now
+room c = ran-length c.loop.invariant.1
 
-returns-2 : tie.Need-returns-2
-returns-2 c =
-    let at-encode = c.before.before in
-    let passed = at-encode.before.before in
-    let start = passed.before.before in
-    ran-all start.args.allowed start.args.p start.args.list.now start.args.log.now _ (omega (arith, passed.if1.false))
-    start.requires at-encode.encode.ensures
+loop-holds : tie.Need-loop-init invariant-loop decreases-loop
+loop-holds c = (omega arith, ran-start _ _ _)
+
+mul-word : tie.Need-overflow-mul-word invariant-loop decreases-loop
+mul-word c = omega (arith, c.before.loop-test.true, c.before.before.before.before.requires)
+
+add-word : tie.Need-overflow-add-word invariant-loop decreases-loop
+add-word c = omega (arith, c.before.loop-test.true, c.before.before.before.before.requires)
+
+mul-word-2 : tie.Need-overflow-mul-word-2 invariant-loop decreases-loop
+mul-word-2 c = omega (arith, c.before.loop-test.true, c.before.before.before.before.requires)
+
+shared-slice-copy-out-word : tie.Need-shared-slice-copy-out-word invariant-loop decreases-loop
+shared-slice-copy-out-word c = c.before.loop-test.true
+
+word-requires : tie.Need-word-requires invariant-loop decreases-loop
+word-requires c κs =
+    let in-loop = c.before.before in
+    omega (arith, in-loop.loop-test.true, in-loop.before.before.before.requires, room in-loop.before)
+
+add-i : tie.Need-overflow-add-i invariant-loop decreases-loop
+add-i c = omega (arith, c.before.before.before.before.before.loop-test.true)
+
+loop-less : tie.Need-loop-smaller invariant-loop decreases-loop
+loop-less c = omega (arith, c.before.before.before.before.before.loop-test.true)
+
+loop-again : tie.Need-loop-preserved invariant-loop decreases-loop
+loop-again c =
+    let at-word = c.before.before in
+    let in-loop = at-word.before.before.before in
+    let at-loop = in-loop.before in
+    let args = at-loop.before.before.args in
+    let more = in-loop.loop-test.true in (
+      omega (arith, more),
+      ran-more args.p at-loop.loop.i args.list.now more (to_z-of_z (sfits_of at-word.before.word-arg2.given))
+          at-loop.loop.invariant.1 at-word.word.ensures,
+    )
+
+same_length : tie.Need-same-length invariant-loop decreases-loop
+same_length c = room c.before
+
+returns : tie.Need-returns invariant-loop decreases-loop
+returns c =
+    let at-loop = c.before in
+    let args = at-loop.before.before.args in
+    let all : at-loop.loop.i ≡ length args.list.now = omega (arith, c.loop-test.false, at-loop.loop.invariant.0) in
+    subst (λ (l : List ℤ). Ran args.allowed (writes args.p (words l)) args.log.now at-loop.loop.left at-loop.loop.log)
+    (ap (λ (i : ℕ). take i args.list.now) all ∙ take-length args.list.now) at-loop.loop.invariant.1
 
 pub words-spec : {M : Type 1} → statement M
 words-spec =
     tie.close
-    (tie.spec (λ c. search rules) (λ c κs. search rules) (λ c. search rules) (λ c. search rules) (λ c. search rules) (λ c. search rules)
-    (λ c. search rules) (λ c κs. search rules) (λ c. search rules) (λ c. search rules) (λ c. search rules) returns-2)
+    (tie.spec invariant-loop decreases-loop loop-holds mul-word add-word mul-word-2 shared-slice-copy-out-word word-requires add-i loop-less
+    loop-again same_length returns)

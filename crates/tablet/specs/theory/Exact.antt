@@ -1,15 +1,40 @@
 -- The operations of the code that are exact, by the size of their result: `HasValue x s a c` says that x is a / c, with the sign s.
---     fits-digits         what a double's digits and exponent are bounded by
+--     fits-parts          what a double's digits and exponent are bounded by
 --     eighth-exact        a multiplication by 0.125, from magnitude 1 upward
-use Rattle.std.specs.Prelude.{◌≡◌, Bool, true, false, ◌&&◌, ℕ, zero, suc, ◌+◌, ◌-◌, ◌*◌, ◌%◌, ◌^◌, ◌≤◌, ◌<◌, T, eqb, ltb, leb, ℤ, pos, negsuc, Float}
+--     zero-exact          a double equals 0 exactly if its size is 0
+use Rattle.std.specs.Prelude.{◌≡◌, ℕ, zero, suc, ◌+◌, ◌-◌, ◌*◌, ◌%◌, ◌^◌, ◌<◌, ◌≤◌, Bool, true, false, ◌&&◌, ◌||◌, T, ℤ, pos, negsuc, ◌==◌, nat_eq, nat_le, nat_lt, refl, Float}
 use Rattle.std.proofs.Common.{sym, ap, ◌∙◌, subst, mul-one, zero-mul, mul_assoc, lt_of_le_of_lt, lt_of_lt_of_le, le_trans, not-le_of_lt, lt_of_not-le, le_of_suc-le-suc, le_refl, le_of_eq, mul-pos, arith, ltb→lt, leb→le, lit<, lit≤, pow-add, pow_pos, pow_mono, shl_lt}
+use Rattle.std.specs.Bool.{beq}
 use Rattle.std.proofs.Math.Pow.{pow-lt}
-use Rattle.std.specs.Float.{fin, binary64}
-use Rattle.std.specs.Float.Ieee.{emax, low, up, down, round, mul, fits}
+use Rattle.std.specs.Float.{nan, inf, fin, binary64}
+use Rattle.std.specs.Float.Ieee.{emax, low, up, down, round, mul, eq, fits}
 use Rattle.std.specs.Float.Ieee.Exact.{HasValue, round_exact}
 use Rattle.std.specs.Float.Ieee.Fits.{down_pos, up_pos}
+use Rattle.tablet.specs.theory.Fraction.{zero_same}
 
 -- ---- 0
+
+level-zero : (a : ℕ) (b : Bool) → (a == 0 && (b || a == 0)) ≡ (a == 0)
+level-zero a true = go (a == 0)
+  where
+    go : (x : Bool) → (x && true) ≡ x
+    go true = refl
+    go false = refl
+level-zero a false = go (a == 0)
+  where
+    go : (x : Bool) → (x && x) ≡ x
+    go true = refl
+    go false = refl
+
+pub zero-exact : (x : Float) (s : Bool) (a c : ℕ) → 0 < c → HasValue x s a c → eq x (fin false 0 (pos 0)) ≡ (a == 0)
+unfolding eq
+zero-exact nan s a c C v = absurd v
+zero-exact (inf t) s a c C v = absurd v
+zero-exact (fin t m e) s a c C v =
+    ap (λ (z : ℕ). (m * up e * 1 == z) && (beq t false || m * up e * 1 == 0)) (zero-mul (down e))
+    ∙ level-zero (m * up e * 1) (beq t false)
+    ∙ ap (λ (z : ℕ). nat_eq z 0) (mul-one (m * up e))
+    ∙ zero_same (m * up e) a c (down e) C (down_pos e) v.1
 
 round-zero : (s : Bool) (den : ℕ) → 0 < den → HasValue (round binary64 s 0 den) s 0 den
 round-zero s den D = round_exact binary64 s 0 den 0 0 D (lit< tt) (lit< tt) (sym (zero-mul den))
@@ -27,7 +52,7 @@ parted true true true true t = (tt, tt, tt)
 pub fits-digits : (s : Bool) (m : ℕ) (e : ℤ) → T (fits binary64 (fin s (suc m) e)) → Digits (suc m) e
 unfolding fits
 fits-digits s m e t =
-    let p = parted (eqb (suc m % 2) 1) (ltb (suc m) (2 ^ 53)) (leb (down e) (2 ^ 1074)) (ltb (suc m * up e) (2 ^ 1024 * down e)) t in
+    let p = parted (suc m % 2 == 1) (nat_lt (suc m) (2 ^ 53)) (nat_le (down e) (2 ^ 1074)) (nat_lt (suc m * up e) (2 ^ 1024 * down e)) t in
     record {
       few = ltb→lt (suc m) (2 ^ 53) p.0;
       fine = leb→le (down e) (2 ^ 1074) p.1;

@@ -1,12 +1,12 @@
 -- Two fractions of the same size, a / b and c / d with a · d = c · b, are whole together and have the same whole part.
 --     zero_same    over positive factors, one is 0 exactly if the other is
 --     whole_same, part_same
-use Rattle.std.specs.Prelude.{◌≡◌, refl, ℕ, zero, suc, ◌+◌, ◌*◌, ◌/◌, ◌%◌, ◌<◌, eqb}
+use Rattle.std.specs.Prelude.{◌≡◌, ℕ, zero, suc, ◌+◌, ◌*◌, ◌/◌, ◌%◌, ◌<◌, ◌==◌, refl}
 use Rattle.std.proofs.Common.{sym, ap, ◌∙◌, mul-pos, mul_right_comm, add-mul, zero-mul, arith, ne_eqb}
 use Rattle.std.proofs.Math.Nat.{mod-add-div'}
 use Rattle.std.specs.Float.Ieee.Nearest.{div_same}
 
-pub zero_same : (a b c d : ℕ) → 0 < c → 0 < d → a * c ≡ b * d → eqb a 0 ≡ eqb b 0
+pub zero_same : (a b c d : ℕ) → 0 < c → 0 < d → a * c ≡ b * d → (a == 0) ≡ (b == 0)
 zero_same zero zero c d C D h = refl
 zero_same zero (suc b) c d C D h =
     let p : 0 < suc b * d = mul-pos (omega arith) D in
@@ -34,5 +34,5 @@ rest-same a b c d B D h =
     h
     (ap (λ (q : ℕ). q * b * d) (part_same a b c d B D h) ∙ mul_right_comm (c / d) b d)
 
-pub whole_same : (a b c d : ℕ) → 0 < b → 0 < d → a * d ≡ c * b → eqb (a % b) 0 ≡ eqb (c % d) 0
+pub whole_same : (a b c d : ℕ) → 0 < b → 0 < d → a * d ≡ c * b → (a % b == 0) ≡ (c % d == 0)
 whole_same a b c d B D h = zero_same (a % b) (c % d) d b D B (rest-same a b c d B D h)

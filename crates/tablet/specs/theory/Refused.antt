@@ -2,10 +2,9 @@
 --     Comes r x                                               what the ticket says of a reading that comes to x
 --     comes, not-finite-comes, not-whole-comes, far-comes     it does so exactly then
 --     blamed-refused, refused-blamed                          a corner is refused exactly if x or y is so blamed
-use Rattle.std.specs.Prelude.{◌≡◌, Bool, List, [], ◌∷◌, ℕ, ℤ}
+use Rattle.std.specs.Prelude.{◌≡◌, ℕ, Bool, true, false, not, List, [], ◌∷◌, ℤ}
 use Rattle.std.proofs.Math.Path.{refl, sym, subst}
 use Rattle.std.proofs.Common.{ap, ◌∙◌, arith}
-use Rattle.std.proofs.Math.Bool.{true, false, not}
 use Rattle.std.proofs.lemmas.Bool.{not-true, not-false}
 use Rattle.integer.specs.Bound.{Within}
 use Rattle.plane.specs.Limits.{max_coordinate}

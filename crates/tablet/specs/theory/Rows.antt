@@ -1,7 +1,7 @@
 -- A reading's rows, by what the reading comes to.
 --     not-finite-row, not-whole-row, far-row     the first row that applies
 --     whole-passed, whole_is                     no row, and the whole number; `passed-whole`: the other way
-use Rattle.std.specs.Prelude.{◌≡◌, refl, Bool, true, false, [], ◌∷◌, ℕ, ℤ}
+use Rattle.std.specs.Prelude.{◌≡◌, ℕ, Bool, true, false, [], ◌∷◌, ℤ, refl}
 use Rattle.std.proofs.Common.{sym, subst}
 use Rattle.plane.specs.Reply.{Row, row, NoneApply, First, here, later}
 use Rattle.tablet.specs.Reading.{not_finite, not_whole, far, whole_number, read_as, reading_rows}

@@ -1,26 +1,26 @@
--- What the operations of the code say of a double.
+-- What the comparisons of the code say of a double.
 --     finite-below, finite-not            against the infinities
---     short-tested, short-low             against -2^31 and 2^31
---     ones-rounded, eights-rounded        rounded to whole millimetres
---     held-castable, scaled-held          what holds a whole number: cast to 32 bits, and scaled by 0.125
---     negated-whole, size-whole, size-large   a whole number, by its size; from 2^52 upward every double is one
-use Rattle.std.specs.Prelude.{◌≡◌, refl, Bool, true, false, not, ℕ, zero, suc, ◌+◌, ◌-◌, ◌*◌, ◌%◌, ◌^◌, ◌≤◌, ◌<◌, T, eqb, ltb, ℤ, pos, negsuc, Float}
-use Rattle.std.proofs.Common.{sym, ap, ◌∙◌, subst, mul-one, mul-pos, zero-mul, le_trans, le_of_lt, le_of_eq, not-le_of_lt, mul-le-mul_left, mul_assoc, mul_comm, arith, ltb-true, ltb-false, lt-ltb, le-ltb, eq-eqb, lit<, lit≤, lt→ltb, le→leb, pow_mono}
+--     within-below, within-not            against -n and n: less than n in size
+--     small-tested, small-high, small_low, short-tested, short-low
+--     zero-tested                         against 0
+--     cuttable, whole-tested              below 2^53 the whole part against the double itself
+--     large-high, large-low               from 2^53 upward every double is whole
+--     castable, cast_is                   what the cast to 32 bits asks and gives
+use Rattle.std.specs.Prelude.{◌≡◌, ℕ, zero, suc, ◌+◌, ◌-◌, ◌*◌, ◌/◌, ◌%◌, ◌^◌, ◌<◌, ◌≤◌, min, Bool, true, false, cond, not, ◌&&◌, ◌||◌, T, ltb, ◌⊎◌, ℤ, pos, negsuc, neg_ℤ, ◌==◌, nat_le, nat_lt, refl, Float}
+use Rattle.std.proofs.Common.{sym, ap, ap₂, ◌∙◌, subst, inl, inr, mul-one, one-mul, mul-pos, zero-mul, div-lt_iff_lt-mul, le_trans, le_of_lt, lt_of_lt_of_le, le_of_eq, not-le_of_lt, mul_right_comm, mul-le-mul_right, mul-le-mul_left, div-add-mod', add-zero, arith, ltb-true, ltb-false, lt-ltb, eqb-true, eq-eqb, ne_eqb, lit<, lit≤, lt→ltb, le→leb, pow_pos}
 use Rattle.std.specs.Bool.{beq}
-use Rattle.std.proofs.Math.Nat.{mod-one}
-use Rattle.std.proofs.lemmas.Bool.{not-false}
+use Rattle.std.proofs.Math.Bool.{and-true, and-false, or-true}
+use Rattle.std.proofs.Math.Nat.{zero-div, mul-mod_left, eq_of_mul-eq-mul_right, mod-one}
+use Rattle.std.proofs.lemmas.Bool.{eqb-false}
 use Rattle.std.specs.Float.{nan, inf, fin, binary64}
-use Rattle.std.specs.Float.Ieee.{up, down, below, round, mul, lt, eq, fits, neg, of_int, in_signed, in_float, to_signed}
-use Rattle.std.specs.Float.Ieee.Fits.{down_pos}
+use Rattle.std.specs.Float.Ieee.{up, down, below, lt, le, eq, ne, fits, of_int, in_signed, to_signed, whole as ieee_whole}
+use Rattle.std.specs.Float.Ieee.Fits.{and_i, down_pos}
 use Rattle.std.specs.Float.Ieee.Exact.{HasValue}
-use Rattle.std.specs.Float.Ieee.Back.{round_whole, positive_back, negative_back}
-use Rattle.std.specs.Float.Ieee.Scale.{round_same}
-use Rattle.tablet.specs.Double.{finite, negative, over, under, signed, holding}
-use Rattle.tablet.specs.Reading.{not_whole}
-use Rattle.tablet.specs.Test.{whole, short, Rounded}
-use Rattle.tablet.specs.theory.Exact.{fits-digits}
-use Rattle.tablet.specs.theory.Rounding.{Between, left, multiple-tested, multiple-held}
-use Rattle.tablet.specs.declared.reading.Reading.TheVariants.{Millimetres, Eighths}
+use Rattle.std.specs.Float.Ieee.Back.{round_whole}
+use Rattle.std.specs.Float.Ieee.Casts.{to_signed_cut}
+use Rattle.tablet.specs.Double.{finite, negative, over, under, signed}
+use Rattle.tablet.specs.Test.{whole, small, short, truncated}
+use Rattle.tablet.specs.theory.Exact.{zero-exact, fits-digits}
 
 clash : false ≡ true → ⊥
 clash h = subst T (sym h) tt
@@ -43,180 +43,257 @@ finite-not (fin s m e) h = sym h
 
 -- ---- -n and n
 
-within-below : (s : Bool) (a b : ℕ) → 0 < a → below true a s b ≡ true → below s b false a ≡ ltb b a
+within-below : (s : Bool) (a b : ℕ) → 0 < a → below true a s b ≡ true → below s b false a ≡ nat_lt b a
 within-below false a b p h = refl
 within-below true a b p h = lt-ltb 0 (b + a) (let q : 0 < b + a = omega arith in q) ∙ sym h
 
-within-not : (s : Bool) (a b : ℕ) → 0 < a → below true a s b ≡ false → ltb b a ≡ false
+within-not : (s : Bool) (a b : ℕ) → 0 < a → below true a s b ≡ false → nat_lt b a ≡ false
 within-not false a b p h =
     absurd (let q : 0 < a + b = omega arith in let z : a + b ≤ 0 = ltb-false 0 (a + b) h in let k : ⊥ = omega arith in k)
 within-not true a b p h = h
 
 -- of a finite double against n = 2^k
 against : (s : Bool) (m : ℕ) (e : ℤ) (n : ℕ) → 0 < n → below true (n * down e) s (m * up e * 1) ≡ true
-    → below s (m * up e * 1) false (n * down e) ≡ ltb (m * up e) (n * down e)
+    → below s (m * up e * 1) false (n * down e) ≡ nat_lt (m * up e) (n * down e)
 against s m e n p h =
     within-below s (n * down e) (m * up e * 1) (mul-pos p (down_pos e)) h ∙ ap (λ (z : ℕ). ltb z (n * down e)) (mul-one (m * up e))
 
 against-not : (s : Bool) (m : ℕ) (e : ℤ) (n : ℕ) → 0 < n → below true (n * down e) s (m * up e * 1) ≡ false
-    → false ≡ ltb (m * up e) (n * down e)
+    → false ≡ nat_lt (m * up e) (n * down e)
 against-not s m e n p h =
     sym (ap (λ (z : ℕ). ltb z (n * down e)) (sym (mul-one (m * up e)))
     ∙ within-not s (n * down e) (m * up e * 1) (mul-pos p (down_pos e)) h)
 
-pub short-tested : (v : Float) → lt (fin true 1 (pos 31)) v ≡ true → lt v (fin false 1 (pos 31)) ≡ short v
+pub short-tested : (v : Float) → finite v ≡ true → lt (fin true 1 (pos 31)) v ≡ true → lt v (fin false 1 (pos 31)) ≡ short v
 unfolding lt finite short over under
-short-tested nan h = refl
-short-tested (inf true) h = absurd (clash h)
-short-tested (inf false) h = refl
-short-tested (fin s m e) h = against s m e (2 ^ 31) (lit< tt) h
+short-tested nan f h = absurd (clash f)
+short-tested (inf t) f h = absurd (clash f)
+short-tested (fin s m e) f h = against s m e (2 ^ 31) (lit< tt) h
 
-pub short-low : (v : Float) → lt (fin true 1 (pos 31)) v ≡ false → false ≡ short v
+pub short-low : (v : Float) → finite v ≡ true → lt (fin true 1 (pos 31)) v ≡ false → false ≡ short v
 unfolding lt finite short over under
-short-low nan h = refl
-short-low (inf t) h = refl
-short-low (fin s m e) h = against-not s m e (2 ^ 31) (lit< tt) h
+short-low nan f h = absurd (clash f)
+short-low (inf t) f h = absurd (clash f)
+short-low (fin s m e) f h = against-not s m e (2 ^ 31) (lit< tt) h
 
--- ---- rounded
+-- ---- 0
 
-twice-not : (b : Bool) → b ≡ not (not b)
-twice-not true = refl
-twice-not false = refl
+pub zero-tested : (v : Float) → finite v ≡ true → eq v (fin false 0 (pos 0)) ≡ (over v == 0)
+unfolding finite over
+zero-tested nan f = absurd (clash f)
+zero-tested (inf t) f = absurd (clash f)
+zero-tested (fin s m e) f = zero-exact (fin s m e) s (m * up e) (down e) (down_pos e) (refl, refl)
 
-near : (s : Bool) (a b : ℕ) → a < 2 ^ 31 * b → Between s a b 0 (3 * 2 ^ 51)
-near true a b h = record { less = omega arith; at_least = omega arith; below = omega arith }
-near false a b h = record { less = omega arith; at_least = omega arith; below = omega arith }
+not-zero : (a : ℕ) → not (a == 0) ≡ nat_lt 0 a
+not-zero zero = refl
+not-zero (suc a) =
+    ap not (ne_eqb (suc a) 0 (λ e. let k : ⊥ = omega arith in k))
+    ∙ sym (lt-ltb 0 (suc a) (let k : 0 < suc a = omega arith in k))
 
-near-eights : (s : Bool) (a b : ℕ) → a < 2 ^ 31 * b → Between s a b 3 (3 * 2 ^ 54)
-near-eights true a b h = record { less = omega arith; at_least = omega arith; below = omega arith }
-near-eights false a b h = record { less = omega arith; at_least = omega arith; below = omega arith }
+pub small-tested : (v : Float) → lt (fin true 1 (pos 0)) v ≡ true
+    → lt v (fin false 1 (pos 0)) ≡ true → ne v (fin false 0 (pos 0)) ≡ small v
+unfolding lt ne finite small over under
+small-tested (inf true) h k = absurd (clash h)
+small-tested (inf false) h k = absurd (clash k)
+small-tested nan h k = absurd (clash h)
+small-tested (fin s m e) h k =
+    let low : ltb (m * up e) (1 * down e) ≡ true = sym (against s m e 1 (lit< tt) h) ∙ k in
+    ap not (zero-tested (fin s m e) refl) ∙ not-zero (m * up e) ∙ sym (and-true (nat_lt 0 (m * up e)))
+    ∙ ap (λ (b : Bool). nat_lt 0 (m * up e) && b) (sym low ∙ ap (λ (z : ℕ). ltb (m * up e) z) (one-mul (down e)))
 
-pub ones-rounded : (v : Float) → short v ≡ true → Rounded (Millimetres v) (left v 3 51)
-unfolding short finite not_whole negative over under holding
-ones-rounded nan h = absurd (clash h)
-ones-rounded (inf t) h = absurd (clash h)
-ones-rounded (fin s m e) h =
-    let n = near s (m * up e) (down e) (ltb-true (m * up e) (2 ^ 31 * down e) h) in record {
-      equal = multiple-tested 0 3 51 (3 * 2 ^ 51) refl (lit≤ tt) (lit< tt) (lit< tt) s m e n ∙ twice-not _;
-      held = λ w. multiple-held 0 3 51 (3 * 2 ^ 51) refl (lit≤ tt) (lit< tt) (lit< tt) s m e n (not-false _ w);
-    }
+pub small-high : (v : Float) → lt (fin true 1 (pos 0)) v ≡ true → lt v (fin false 1 (pos 0)) ≡ false → false ≡ small v
+unfolding lt small over under
+small-high nan h k = refl
+small-high (inf s) h k = refl
+small-high (fin s m e) h k =
+    sym (and-false (nat_lt 0 (m * up e)))
+    ∙ ap (λ (b : Bool). nat_lt 0 (m * up e) && b)
+    (sym k ∙ against s m e 1 (lit< tt) h ∙ ap (λ (z : ℕ). ltb (m * up e) z) (one-mul (down e)))
 
-pub eights-rounded : (v : Float) → short v ≡ true → Rounded (Eighths v) (left v 3 54)
-unfolding short finite not_whole negative over under holding
-eights-rounded nan h = absurd (clash h)
-eights-rounded (inf t) h = absurd (clash h)
-eights-rounded (fin s m e) h =
-    let n = near-eights s (m * up e) (down e) (ltb-true (m * up e) (2 ^ 31 * down e) h) in record {
-      equal = multiple-tested 3 3 54 (3 * 2 ^ 51) refl (lit≤ tt) (lit< tt) (lit< tt) s m e n ∙ twice-not _;
-      held = λ w. multiple-held 3 3 54 (3 * 2 ^ 51) refl (lit≤ tt) (lit< tt) (lit< tt) s m e n (not-false _ w);
-    }
-
--- ---- what holds a whole number
-
-pub held-castable : (s : Bool) (q : ℕ) → q < 2 ^ 31
-    → T (in_signed binary64 31 (holding (signed s q))) × (to_signed 31 (holding (signed s q)) ≡ signed s q)
-unfolding holding in_float
-held-castable false q h = positive_back binary64 31 q (le→leb q (2 ^ 53) (le_trans (le_of_lt h) (lit≤ tt))) h
-held-castable true zero h = positive_back binary64 31 0 tt h
-held-castable true (suc q) h = negative_back binary64 31 q (lt→ltb q (2 ^ 53) (le_trans (le_of_lt h) (lit≤ tt))) (le_of_lt h)
-
-scaled_value : (x : Float) (s : Bool) (q : ℕ) → HasValue x s (q * 8) 1 → mul binary64 x (fin false 1 (negsuc 2)) ≡ round binary64 s q 1
-unfolding mul
-scaled_value nan s q v = absurd v
-scaled_value (inf t) s q v = absurd v
-scaled_value (fin t m e) s q v =
-    ap (λ (b : Bool). round binary64 b (m * up e * 1) (down e * 8)) (unlike-false t ∙ v.0)
-    ∙ round_same binary64 s (m * up e * 1) (down e * 8) q 1 (mul-pos (down_pos e) (lit< tt)) (lit< tt)
-    (mul-one (m * up e * 1) ∙ v.1 ∙ mul_assoc q 8 (down e) ∙ ap (λ (z : ℕ). q * z) (mul_comm 8 (down e)))
-  where
-    unlike-false : (b : Bool) → not (beq b false) ≡ b
-    unlike-false true = refl
-    unlike-false false = refl
-
-negative-held : (n : ℕ) → 0 < n → holding (signed true n) ≡ round binary64 true n 1
-unfolding holding of_int
-negative-held zero h = absurd (let k : ⊥ = omega arith in k)
-negative-held (suc n) h = refl
-
-pub scaled-held : (s : Bool) (q : ℕ) → q * 8 ≤ 2 ^ 53
-    → mul binary64 (holding (signed s (q * 8))) (fin false 1 (negsuc 2)) ≡ holding (signed s q)
-unfolding holding of_int
-scaled-held false q h = scaled_value (round binary64 false (q * 8) 1) false q (round_whole binary64 false (q * 8) h)
-scaled-held true zero h = scaled_value (round binary64 false 0 1) false 0 (round_whole binary64 false 0 h)
-scaled-held true (suc q) h =
-    ap (λ (x : Float). mul binary64 x (fin false 1 (negsuc 2)))
-    (negative-held (suc q * 8) (mul-pos (let k : 0 < suc q = omega arith in k) (lit< tt)))
-    ∙ scaled_value (round binary64 true (suc q * 8) 1) true (suc q) (round_whole binary64 true (suc q * 8) h)
+pub small_low : (v : Float) → lt (fin true 1 (pos 0)) v ≡ false → false ≡ small v
+unfolding lt small over under
+small_low nan h = refl
+small_low (inf s) h = refl
+small_low (fin s m e) h =
+    sym (and-false (nat_lt 0 (m * up e)))
+    ∙ ap (λ (b : Bool). nat_lt 0 (m * up e) && b)
+    (against-not s m e 1 (lit< tt) h ∙ ap (λ (z : ℕ). ltb (m * up e) z) (one-mul (down e)))
 
 -- ---- whole
 
-pub negated-whole : (v : Float) → whole (neg v) ≡ whole v
-unfolding whole over under neg
-negated-whole nan = refl
-negated-whole (inf s) = refl
-negated-whole (fin s m e) = refl
+is : {b : Bool} → b ≡ true → T b
+is {b} h = subst T (sym h) tt
 
--- of 0 or more
-not-below-zero : (m : ℕ) (e : ℤ) → below true (m * up e * 1) false (0 * down e) ≡ false → m * up e ≡ 0
-not-below-zero m e h =
-    let k : m * up e * 1 + 0 * down e ≤ 0 = ltb-false 0 (m * up e * 1 + 0 * down e) h in
-    let l : m * up e * 1 ≡ m * up e = mul-one (m * up e) in omega arith
+-- a double and the double of its whole part q
+part-equal : (x : Float) (t s : Bool) (m : ℕ) (e : ℤ) (q : ℕ) → q ≡ m * up e / down e → (t ≡ s) ⊎ (q ≡ 0) → HasValue x t q 1
+    → eq x (fin s m e) ≡ (m * up e % down e == 0)
+unfolding eq
+part-equal nan t s m e q h o v = absurd v
+part-equal (inf u) t s m e q h o v = absurd v
+part-equal (fin u n d) t s m e q h o v = go (m * up e % down e == 0) refl
+  where
+    size : n * up d * down e ≡ q * down e * down d
+    size = ap (λ (z : ℕ). z * down e) (sym (mul-one (n * up d)) ∙ v.1) ∙ mul_right_comm q (down d) (down e)
 
-between-sizes : (s : Bool) (m : ℕ) (e : ℤ) → lt (fin s m e) (fin false 0 (pos 0)) ≡ false → lt (fin s m e) (fin false 1 (pos 52)) ≡ true
-    → Between s (m * up e) (down e) 0 (2 ^ 52)
-unfolding lt
-between-sizes false m e z h =
-    let k : m * up e * 1 < 2 ^ 52 * down e = ltb-true (m * up e * 1) (2 ^ 52 * down e) h in
-    let l : m * up e * 1 ≡ m * up e = mul-one (m * up e) in
-    record { less = omega arith; at_least = omega arith; below = omega arith }
-between-sizes true m e z h =
-    let k : m * up e ≡ 0 = not-below-zero m e z in
-    let p : 0 < down e = down_pos e in
-    record { less = omega arith; at_least = omega arith; below = omega arith }
+    sign : (u ≡ s) ⊎ (q ≡ 0) → (beq u s || n * up d * down e == 0) ≡ true
+    sign (inl k) = ap (λ (z : Bool). beq z s || n * up d * down e == 0) k ∙ same_sign s
+      where
+        same_sign : (b : Bool) → (beq b b || n * up d * down e == 0) ≡ true
+        same_sign true = refl
+        same_sign false = refl
+    sign (inr k) =
+        ap (λ (b : Bool). beq u s || b) (eq-eqb (n * up d * down e) 0 (size ∙ ap (λ (z : ℕ). z * down e * down d) k
+        ∙ ap (λ (z : ℕ). z * down d) (zero-mul (down e)) ∙ zero-mul (down d))) ∙ or-true (beq u s)
 
-pub size-whole : (v : Float) → finite v ≡ true → lt v (fin false 0 (pos 0)) ≡ false → lt v (fin false 1 (pos 52)) ≡ true
-    → eq (left v 1 52) v ≡ whole v
+    own : (t ≡ s) ⊎ (q ≡ 0) → (u ≡ s) ⊎ (q ≡ 0)
+    own (inl k) = inl (v.0 ∙ k)
+    own (inr k) = inr k
+
+    go : (b : Bool) → (m * up e % down e == 0) ≡ b
+        → (n * up d * down e == m * up e * down d && (beq u s || n * up d * down e == 0)) ≡ b
+    go true k =
+        let whole-size : m * up e ≡ q * down e = sym (div-add-mod' (m * up e) (down e)) ∙ ap (λ (z : ℕ). m * up e / down e * down e + z)
+        (eqb-true (m * up e % down e) 0 k) ∙ add-zero (m * up e / down e * down e) ∙ ap (λ (z : ℕ). z * down e) (sym h) in
+        ap₂ (λ (a b : Bool). a && b) (eq-eqb (n * up d * down e) (m * up e * down d) (size ∙ ap (λ (z : ℕ). z * down d) (sym whole-size)))
+        (sign (own o))
+    go false k =
+        ap (λ (b : Bool). b && (beq u s || n * up d * down e == 0))
+        (ne_eqb (n * up d * down e) (m * up e * down d) (λ z.
+        eqb-false (m * up e % down e) 0 k
+        (ap (λ (y : ℕ). y % down e) (sym (eq_of_mul-eq-mul_right (down d) (down_pos d) (q * down e) (m * up e) (sym size ∙ z)))
+        ∙ mul-mod_left q (down e))))
+
+part-double : (s : Bool) (m : ℕ) (e : ℤ) (q : ℕ) → q ≡ m * up e / down e → q ≤ 2 ^ 53
+    → eq (of_int binary64 (signed s q)) (fin s m e) ≡ (m * up e % down e == 0)
+unfolding of_int
+part-double false m e q h b = part-equal _ false false m e q h (inl refl) (round_whole binary64 false q b)
+part-double true m e zero h b = part-equal _ false true m e 0 h (inr refl) (round_whole binary64 false 0 b)
+part-double true m e (suc q) h b = part-equal _ true true m e (suc q) h (inl refl) (round_whole binary64 true (suc q) b)
+
+capped : (q c : ℕ) → q < c → min q (c - 1) ≡ q
+capped q c h = omega arith
+
+capped_le : (q c : ℕ) → q < c → min q c ≡ q
+capped_le q c h = omega arith
+
+cut-is : (s : Bool) (m : ℕ) (e : ℤ) → m * up e / down e < 2 ^ 63 → to_signed 63 (fin s m e) ≡ signed s (m * up e / down e)
+unfolding to_signed
+cut-is true m e h = ap (λ (z : ℕ). neg_ℤ (pos z)) (capped_le (m * up e / down e) (2 ^ 63) h)
+cut-is false m e h = ap pos (capped (m * up e / down e) (2 ^ 63) h)
+
+-- of a finite double less than 2^53 in size, by the two tests
+under-53 : (v : Float) → lt (fin true 1 (pos 53)) v ≡ true → lt v (fin false 1 (pos 53)) ≡ true → over v < 2 ^ 53 * under v
+unfolding lt over under
+under-53 nan h k = absurd (clash h)
+under-53 (inf true) h k = absurd (clash h)
+under-53 (inf false) h k = absurd (clash k)
+under-53 (fin s m e) h k = ltb-true (m * up e) (2 ^ 53 * down e) (sym (against s m e (2 ^ 53) (lit< tt) h) ∙ k)
+
+pub whole-tested : (v : Float) → finite v ≡ true → lt (fin true 1 (pos 53)) v ≡ true → lt v (fin false 1 (pos 53)) ≡ true
+    → eq (of_int binary64 (to_signed 63 v)) v ≡ whole v
 unfolding finite whole over under
-size-whole nan f z h = absurd (clash f)
-size-whole (inf s) f z h = absurd (clash f)
-size-whole (fin s m e) f z h =
-    multiple-tested 0 1 52 (2 ^ 52) refl (lit≤ tt) (lit< tt) (lit< tt) s m e (between-sizes s m e z h)
-    ∙ ap (λ (d : ℕ). eqb (m * up e % d) 0) (mul-one (down e))
+whole-tested nan f h k = absurd (clash f)
+whole-tested (inf s) f h k = absurd (clash f)
+whole-tested (fin s m e) f h k =
+    let q : m * up e / down e < 2 ^ 53 = (div-lt_iff_lt-mul (down_pos e)).1 (under-53 (fin s m e) h k) in
+    ap (λ z. eq (of_int binary64 z) (fin s m e)) (cut-is s m e (lt_of_lt_of_le q (lit≤ tt)))
+    ∙ part-double s m e (m * up e / down e) refl (le_of_lt q)
 
--- from 2^52 upward
-large-whole : (s : Bool) (m : ℕ) (e : ℤ) → T (fits binary64 (fin s m e)) → 2 ^ 52 * down e ≤ m * up e → true ≡ whole (fin s m e)
+-- what the cut to 64 bits asks
+between : (s : Bool) (a b : ℕ) → b < a → (below true a s b ≡ true) × (below s b false a ≡ true)
+between true a b h = (lt-ltb b a h, lt-ltb 0 (b + a) (let k : 0 < b + a = omega arith in k))
+between false a b h = (lt-ltb 0 (a + b) (let k : 0 < a + b = omega arith in k), lt-ltb b a h)
+
+or_left : (a b : Bool) → a ≡ true → T (a || b)
+or_left true b h = tt
+or_left false b h = absurd (clash h)
+
+pub cuttable : (v : Float) → lt (fin true 1 (pos 53)) v ≡ true → lt v (fin false 1 (pos 53)) ≡ true
+    → T (le (fin true 1 (pos 63)) v) × T (lt v (fin false 1 (pos 63)))
+unfolding lt le over under
+cuttable nan h k = absurd (clash h)
+cuttable (inf true) h k = absurd (clash h)
+cuttable (inf false) h k = absurd (clash k)
+cuttable (fin s m e) h k =
+    let far : m * up e * 1 < 2 ^ 63 * down e = lt_of_lt_of_le
+    (subst (λ (z : ℕ). z < 2 ^ 53 * down e) (sym (mul-one (m * up e))) (under-53 (fin s m e) h k))
+    (mul-le-mul_right (down e) (lit≤ tt)) in
+    let b = between s (2 ^ 63 * down e) (m * up e * 1) far in
+    (or_left _ _ b.0, is b.1)
+
+-- from 2^53 upward
+large-whole : (s : Bool) (m : ℕ) (e : ℤ) → T (fits binary64 (fin s m e))
+    → nat_lt (m * up e) (2 ^ 53 * down e) ≡ false → true ≡ whole (fin s m e)
 unfolding whole over under
 large-whole s zero e t h =
-    absurd (let p : 0 < down e = down_pos e in let z : 0 * up e ≡ 0 = zero-mul (up e) in let b : ⊥ = omega arith in b)
+    absurd (let p : 0 < 2 ^ 53 * down e = mul-pos (lit< tt) (down_pos e) in
+    let z : 0 * up e ≡ 0 = zero-mul (up e) in
+    let k : 2 ^ 53 * down e ≤ 0 * up e = ltb-false (0 * up e) (2 ^ 53 * down e) h in
+    let b : ⊥ = omega arith in b)
 large-whole s (suc m) (pos k) t h = sym (eq-eqb (suc m * 2 ^ k % 1) 0 (mod-one (suc m * 2 ^ k)))
 large-whole s (suc m) (negsuc k) t h =
     absurd (not-le_of_lt (fits-digits s m (negsuc k) t).few
-    (le_trans (le_trans (lit≤ tt) (mul-le-mul_left (2 ^ 52) (pow_mono {i = 1} {j = suc k} (let l : 1 ≤ suc k = omega arith in l))))
-    (le_trans h (le_of_eq (mul-one (suc m))))))
+    (le_trans (le_trans (le_of_eq (sym (mul-one (2 ^ 53)))) (mul-le-mul_left (2 ^ 53) (pow_pos (suc k))))
+    (le_trans (ltb-false (suc m * 1) (2 ^ 53 * 2 ^ suc k) h) (le_of_eq (mul-one (suc m))))))
 
-pub size-large : (v : Float) → T (fits binary64 v) → finite v ≡ true → lt v (fin false 1 (pos 52)) ≡ false → true ≡ whole v
+pub large-high : (v : Float) → T (fits binary64 v) → finite v ≡ true → lt (fin true 1 (pos 53)) v ≡ true
+    → lt v (fin false 1 (pos 53)) ≡ false → true ≡ whole v
 unfolding lt finite
-size-large nan t f h = absurd (clash f)
-size-large (inf s) t f h = absurd (clash f)
-size-large (fin false m e) t f h =
-    large-whole false m e t (le_trans (ltb-false (m * up e * 1) (2 ^ 52 * down e) h) (le_of_eq (mul-one (m * up e))))
-size-large (fin true m e) t f h =
-    absurd (let k : m * up e * 1 + 2 ^ 52 * down e ≤ 0 = ltb-false 0 (m * up e * 1 + 2 ^ 52 * down e) h in
-    let p : 0 < down e = down_pos e in let b : ⊥ = omega arith in b)
+large-high nan t f h k = absurd (clash f)
+large-high (inf s) t f h k = absurd (clash f)
+large-high (fin s m e) t f h k = large-whole s m e t (sym (against s m e (2 ^ 53) (lit< tt) h) ∙ k)
 
--- what is below 0 is not below 0 when negated
-pub negated-high : (v : Float) → lt v (fin false 0 (pos 0)) ≡ true → lt (neg v) (fin false 0 (pos 0)) ≡ false
-unfolding lt neg
-negated-high nan h = refl
-negated-high (inf true) h = refl
-negated-high (inf false) h = absurd (clash h)
-negated-high (fin false m e) h =
-    absurd (let k : m * up e * 1 < 0 * down e = ltb-true (m * up e * 1) (0 * down e) h in
-    let z : 0 * down e ≡ 0 = zero-mul (down e) in let b : ⊥ = omega arith in b)
-negated-high (fin true m e) h = le-ltb (m * up e * 1) (0 * down e) (let z : 0 * down e ≡ 0 = zero-mul (down e) in omega arith)
+pub large-low : (v : Float) → T (fits binary64 v) → finite v ≡ true → lt (fin true 1 (pos 53)) v ≡ false → true ≡ whole v
+unfolding lt finite
+large-low nan t f h = absurd (clash f)
+large-low (inf s) t f h = absurd (clash f)
+large-low (fin s m e) t f h = large-whole s m e t (sym (against-not s m e (2 ^ 53) (lit< tt) h))
 
-pub negated-finite : (v : Float) → finite (neg v) ≡ finite v
-unfolding finite neg
-negated-finite nan = refl
-negated-finite (inf s) = refl
-negated-finite (fin s m e) = refl
+-- ---- the cast
+
+-- the whole part is below 2^31 too
+part-short : (s : Bool) (m : ℕ) (e : ℤ) → short (fin s m e) ≡ true → m * up e / down e < 2 ^ 31
+unfolding short over under
+part-short s m e h = (div-lt_iff_lt-mul (down_pos e)).1 (ltb-true (m * up e) (2 ^ 31 * down e) h)
+
+digits-not-zero : (m : ℕ) (e : ℤ) → (m * up e == 0) ≡ false → (m == 0) ≡ false
+digits-not-zero zero e h = absurd (eqb-false (0 * up e) 0 h (zero-mul (up e)))
+digits-not-zero (suc m) e h = ne_eqb (suc m) 0 (λ e. let k : ⊥ = omega arith in k)
+
+and-not : (a b s c : Bool) → T a → T b → c ≡ false → T (a && b && not (s && c))
+and-not true true true false x y h = tt
+and-not true true false c x y h = tt
+and-not true true true true x y h = absurd (clash (sym h))
+
+either : (s : Bool) (q : ℕ) → q < 2 ^ 31 → T (cond s (nat_le q (2 ^ 31)) (nat_lt q (2 ^ 31)))
+either true q h = le→leb q (2 ^ 31) (le_of_lt h)
+either false q h = lt→ltb q (2 ^ 31) h
+
+pub castable : (v : Float) → finite v ≡ true → whole v ≡ true → short v ≡ true
+    → eq v (fin false 0 (pos 0)) ≡ false → T (in_signed binary64 31 v)
+unfolding finite whole over under in_signed ieee_whole
+castable nan f w h z = absurd (clash f)
+castable (inf t) f w h z = absurd (clash f)
+castable (fin s m e) f w h z =
+    let q = part-short s m e h in
+    and_i (ieee_whole binary64 (fin s m e)) (cond s (nat_le (m * up e / down e) (2 ^ 31)) (nat_lt (m * up e / down e) (2 ^ 31)))
+    (and-not (m * up e % down e == 0) (nat_le (m * up e / down e) (2 ^ 53)) s (m == 0) (is w)
+    (le→leb (m * up e / down e) (2 ^ 53) (le_trans (le_of_lt q) (lit≤ tt)))
+    (digits-not-zero m e (sym (zero-tested (fin s m e) refl) ∙ z)))
+    (either s (m * up e / down e) q)
+
+pub cast_is : (v : Float) → T (in_signed binary64 31 v) → to_signed 31 v ≡ truncated v
+unfolding in_signed truncated negative over under
+cast_is nan t = absurd t
+cast_is (inf s) t = absurd t
+cast_is (fin s m e) t = to_signed_cut binary64 31 s m e t
+
+signed-zero : (s : Bool) → pos 0 ≡ signed s 0
+signed-zero true = refl
+signed-zero false = refl
+
+pub zero_is : (v : Float) → finite v ≡ true → eq v (fin false 0 (pos 0)) ≡ true → pos 0 ≡ truncated v
+unfolding truncated
+zero_is v f h =
+    signed-zero (negative v)
+    ∙ ap (signed (negative v)) (sym (ap (λ (z : ℕ). z / under v) (eqb-true (over v) 0 (sym (zero-tested v f) ∙ h)) ∙ zero-div (under v)))

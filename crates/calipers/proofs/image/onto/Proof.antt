@@ -10,12 +10,22 @@ use Rattle.plane.specs.theory.sum.Positions.{edges-at-most}
 use Rattle.polygon.specs.Point.{at}
 use Rattle.calipers.specs.Image.{image}
 use Rattle.calipers.specs.theory.Image.{image-count, image-valid, image-small, image-edge}
-use Rattle.calipers.specs.theory.Sides.{stands-fits, carried-to, carried_none}
+use Rattle.calipers.specs.theory.Sides.{edge_none, stands-fits, carried-to}
 use Rattle.calipers.proofs.image.onto.Statement.{statement}
 use Rattle.calipers.proofs.image.onto.Tie as tie
 
 returns : tie.Need-returns
-returns c = (refl, carried_none c.before.before.requires.2 c.if1.true)
+returns c =
+    let start = c.before.before in
+    let stands = start.requires.2 in (
+      refl,
+      record {
+        at_in = stands.at_in;
+        end_is = stands.end_is;
+        corner-is = stands.corner-is;
+        edge-is = stands.no_edge ∙ sym (edge_none (points (image start.args.list.now)) _ _ stands.end_is c.if1.true);
+      },
+    )
 
 -- an edge is left
 left : (c : tie.Else1) → let start = c.before.before in

@@ -6,12 +6,22 @@ use Rattle.plane.specs.Point.{points, ◌⊖◌}
 use Rattle.plane.specs.Cycle.{corner_round}
 use Rattle.polygon.specs.Point.{at}
 use Rattle.polygon.specs.theory.Small.{small-corner}
-use Rattle.calipers.specs.theory.Sides.{edge-last, stands-fits, carried-to, carried_none}
+use Rattle.calipers.specs.theory.Sides.{edge-last, edge_none, stands-fits, carried-to}
 use Rattle.calipers.proofs.side.closing.Statement.{statement}
 use Rattle.calipers.proofs.side.closing.Tie as tie
 
 returns : tie.Need-returns
-returns c = (refl, carried_none c.before.before.requires.0 c.if1.true)
+returns c =
+    let start = c.before.before in
+    let stands = start.requires.0 in (
+      refl,
+      record {
+        at_in = stands.at_in;
+        end_is = stands.end_is;
+        corner-is = stands.corner-is;
+        edge-is = stands.no_edge ∙ sym (edge_none (points start.args.list.now) _ _ stands.end_is c.if1.true);
+      },
+    )
 
 facing-requires : tie.Need-facing-requires
 facing-requires c κs =

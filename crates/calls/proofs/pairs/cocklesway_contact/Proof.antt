@@ -1,27 +1,37 @@
--- `cocklesway_contact` meets its contract: `contact` is asked with floors that fit, and its reply crosses.
-use mathlib.Core.Path.{refl, ◌∙◌, ap₂}
+-- `cocklesway_contact` meets its contract: 13 for a floor above its limit, else the reply of `contact`, crossed.
+use mathlib.Core.Path.{◌≡◌, refl, sym, ◌∙◌, ap₂}
+use mathlib.Core.Bool.{false}
+use lib.Dec.{ltb}
 use mir.Facts.{to_z-of_z}
+use Rattle.plane.specs.Limits.{max_floor}
 use Rattle.plane.specs.Point.{Point, point}
-use Rattle.plane.specs.Floor.{Floored, on}
+use Rattle.plane.specs.Floor.{on}
 use Rattle.plane.specs.Question.{reply}
 use Rattle.motion.specs.Contact.{ask_contact}
-use Rattle.crossing.specs.theory.Lowered.{lowered-told}
+use Rattle.crossing.specs.theory.Low.{low_fits, both-low, within-told}
+use Rattle.crossing.specs.theory.High.{above-pair}
 use borrow.Author.Rules.{rules}
 use Rattle.calls.proofs.pairs.cocklesway_contact.Statement.{statement}
 use Rattle.calls.proofs.pairs.cocklesway_contact.Tie as tie
 
-returns : tie.Need-returns
-returns c =
-    let start = c.before.before.before in
-    let args = start.args in
-    let low = c.before.before.lowered.result in
-    let obstacle = on args.obstacle.now low.first in
-    let cart = on args.cart.now low.second in
+-- past the test both floors are within their limit
+low : (c : tie.Else1) → (ltb max_floor c.before.before.args.f ≡ false) × (ltb max_floor c.before.before.args.g ≡ false)
+low c = both-low _ _ (sym c.before.exceeds.ensures ∙ c.if1.false)
+
+returns-2 : tie.Need-returns-2
+returns-2 c =
+    let start = c.before.before.before.before in
     let from = ap₂ point (to_z-of_z start.ranges.x) (to_z-of_z start.ranges.y) in
     let to = ap₂ point (to_z-of_z start.ranges.u) (to_z-of_z start.ranges.v) in
-    lowered-told (λ (a b : Floored). ask_contact a b (point args.x args.y) (point args.u args.v)) (λ a b. (refl, refl)) _ _
-    c.before.before.lowered.ensures c.of-contact.ensures
+    let obstacle = on start.args.obstacle.now start.args.f in
+    let cart = on start.args.cart.now start.args.g in
+    within-told _ (low c.before.before).0 c.of-contact.ensures
     (c.before.contact.ensures ∙ ap₂ (λ (t u : Point). reply (ask_contact obstacle cart t u)) from to)
 
 pub cocklesway-contact-spec : {M : Type 1} → statement M
-cocklesway-contact-spec = tie.close (tie.spec (λ c κs. search rules) (λ c κs. search rules) (λ c κs. search rules) returns)
+cocklesway-contact-spec =
+    tie.close
+    (tie.spec (λ c κs. search rules) (λ c κs. search rules)
+    (λ c. (above-pair _ refl (sym c.before.before.exceeds.ensures ∙ c.before.if1.true) c.barred-pair.ensures).0)
+    (λ c. low_fits _ (low c).0)
+    (λ c. low_fits _ (low c).1) (λ c κs. search rules) (λ c κs. search rules) returns-2)

@@ -1,14 +1,23 @@
--- `cocklesway_greatest` meets its contract: `greatest` is asked with floors that fit, and its reply crosses.
-use mathlib.Core.Path.{refl}
-use Rattle.reach.specs.Greatest.{ask_greatest}
-use Rattle.crossing.specs.theory.Lowered.{lowered-told}
+-- `cocklesway_greatest` meets its contract: 13 for a floor above its limit, else the reply of `greatest`, crossed.
+use mathlib.Core.Path.{◌≡◌, refl, sym, ◌∙◌}
+use mathlib.Core.Bool.{false}
+use lib.Dec.{ltb}
+use Rattle.plane.specs.Limits.{max_floor}
+use Rattle.crossing.specs.theory.Low.{low_fits, both-low, within-told}
+use Rattle.crossing.specs.theory.High.{above-pair}
 use borrow.Author.Rules.{rules}
 use Rattle.calls.proofs.pairs.cocklesway_greatest.Statement.{statement}
 use Rattle.calls.proofs.pairs.cocklesway_greatest.Tie as tie
 
+-- past the test both floors are within their limit
+low : (c : tie.Else1) → (ltb max_floor c.before.before.args.f ≡ false) × (ltb max_floor c.before.before.args.g ≡ false)
+low c = both-low _ _ (sym c.before.exceeds.ensures ∙ c.if1.false)
+
 pub cocklesway-greatest-spec : {M : Type 1} → statement M
 cocklesway-greatest-spec =
     tie.close
-    (tie.spec (λ c κs. search rules) (λ c κs. search rules) (λ c κs. search rules)
-    (λ c. lowered-told ask_greatest (λ a b. (refl, refl)) _ _ c.before.before.lowered.ensures c.of-greatest.ensures
-    c.before.greatest.ensures))
+    (tie.spec (λ c κs. search rules) (λ c κs. search rules)
+    (λ c. (above-pair _ refl (sym c.before.before.exceeds.ensures ∙ c.before.if1.true) c.barred-pair.ensures).0)
+    (λ c. low_fits _ (low c).0)
+    (λ c. low_fits _ (low c).1) (λ c κs. search rules) (λ c κs. search rules)
+    (λ c. within-told _ (low c.before.before).0 c.of-greatest.ensures c.before.greatest.ensures))

@@ -1,18 +1,23 @@
--- `cocklesway_part` meets its contract: `part` is asked with floors that fit, and its reply crosses, and its output.
-use mathlib.Core.Path.{refl}
-use Rattle.sums.specs.Advance.{state}
-use Rattle.parts.specs.Part.{ask_part}
-use Rattle.crossing.specs.theory.Lowered.{lowered-written}
+-- `cocklesway_part` meets its contract: 13 for a floor above its limit, else the reply of `part`, crossed, and its output.
+use mathlib.Core.Path.{◌≡◌, refl, sym, ◌∙◌}
+use mathlib.Core.Bool.{false}
+use lib.Dec.{ltb}
+use Rattle.plane.specs.Limits.{max_floor}
+use Rattle.crossing.specs.theory.Low.{low_fits, both-low, within-written}
+use Rattle.crossing.specs.theory.High.{above-pair}
 use borrow.Author.Rules.{rules}
 use Rattle.calls.proofs.walks.cocklesway_part.Statement.{statement}
 use Rattle.calls.proofs.walks.cocklesway_part.Tie as tie
 
-returns : tie.Need-returns
-returns c =
-    let args = c.before.before.before.before.before.args in
-    lowered-written (λ a b. ask_part a b (state args.first args.second args.over) args.k args.out.now)
-    (λ a b. (refl, refl)) _ _ c.before.before.before.before.lowered.ensures c.of_part.ensures c.before.before.part.ensures
+-- past the test both floors are within their limit
+low : (c : tie.Else1) → (ltb max_floor c.before.before.args.f ≡ false) × (ltb max_floor c.before.before.args.g ≡ false)
+low c = both-low _ _ (sym c.before.exceeds.ensures ∙ c.if1.false)
 
 pub cocklesway-part-spec : {M : Type 1} → statement M
 cocklesway-part-spec =
-    tie.close (tie.spec (λ c κs. search rules) (λ c κs. search rules) (λ c κs. search rules) (λ c. search rules) returns)
+    tie.close
+    (tie.spec (λ c κs. search rules) (λ c κs. search rules)
+    (λ c. above-pair _ refl (sym c.before.before.exceeds.ensures ∙ c.before.if1.true) c.barred-pair.ensures)
+    (λ c. low_fits _ (low c).0)
+    (λ c. low_fits _ (low c).1) (λ c κs. search rules) (λ c κs. search rules) (λ c. search rules)
+    (λ c. within-written _ (low c.before.before.before.before).0 c.of_part.ensures c.before.before.part.ensures))

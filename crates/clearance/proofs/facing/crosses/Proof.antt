@@ -9,7 +9,7 @@ use Rattle.integer.specs.Machine.{result-is}
 use Rattle.plane.specs.Turn.{cross}
 use Rattle.polygon.specs.Point.{at}
 use Rattle.clearance.specs.Stop.{crosses}
-use Rattle.faces.proofs.Tests.{and-taken, and_left}
+use Rattle.clearance.proofs.Tests.{and-taken, and_left}
 use Rattle.clearance.proofs.facing.crosses.Statement.{statement}
 use Rattle.clearance.proofs.facing.crosses.Tie as tie
 

@@ -7,7 +7,7 @@ use mir.Val.{to_z, of_z}
 use Rattle.integer.specs.Machine.{result-is}
 use Rattle.plane.specs.Direction.{value}
 use Rattle.polygon.specs.Point.{at}
-use Rattle.faces.proofs.Tests.{and-taken, and_left}
+use Rattle.clearance.proofs.Tests.{and-taken, and_left}
 use Rattle.clearance.proofs.facing.foot_inside.Statement.{statement}
 use Rattle.clearance.proofs.facing.foot_inside.Tie as tie
 

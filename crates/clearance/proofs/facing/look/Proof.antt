@@ -8,22 +8,23 @@ use lib.ListN.{length}
 use mir.Syntax.{w64}
 use Rattle.integer.specs.Bound.{within-add, within-neg}
 use Rattle.integer.specs.Machine.{result-is}
-use Rattle.plane.specs.Point.{points}
+use Rattle.plane.specs.Point.{points, corner}
 use Rattle.plane.specs.Forms.{edges}
 use Rattle.plane.specs.VectorSum.{vector_sum}
 use Rattle.polygon.specs.Point.{at, Small}
 use Rattle.polygon.specs.theory.Small.{small-wide}
 use Rattle.calipers.specs.Image.{image}
 use Rattle.calipers.specs.Side.{Carried, walk_of}
-use Rattle.calipers.specs.Walk.{here, begun, finished, advanced, stepped, At}
+use Rattle.calipers.specs.Places as Places
+use Rattle.calipers.specs.Walk.{Walk, here, begun, finished, advanced, passed, stepped, At}
 use Rattle.calipers.specs.theory.Carry.{all-passed, some_left, sides-walk, sides-here, sides-advanced, sides-at}
 use Rattle.calipers.specs.theory.Carry.{here-near, first_next, corners-fit, edges_fit}
+use Rattle.calipers.specs.theory.Standing.{passed-ended, edges-less}
 use Rattle.calipers.specs.theory.Steps.{at-stepped}
 use Rattle.separation.specs.theory.Image.{image-begun, image-few, image-sides}
 use Rattle.separation.specs.theory.Stops.{corner-here}
 use Rattle.clearance.specs.Stop.{rests, crosses, Stopped}
 use Rattle.clearance.specs.Sight.{Nowhere}
-use Rattle.clearance.specs.theory.Rounds.{ends-few, round-less}
 use Rattle.clearance.proofs.Looking.{Looking, looking-start, looking-at, looking-corner, looking-edge, looking-more, looking-end}
 use Rattle.clearance.proofs.facing.look.Statement.{statement}
 use Rattle.clearance.proofs.facing.look.Tie as tie
@@ -56,8 +57,12 @@ side-at-requires-2 c κs = let pre = c.before.requires in (pre.1, pre.2, (placed
 add-all : tie.Need-overflow-add-all invariant-loop decreases-loop
 add-all c =
     let second = c.before.before in
-    let pre = second.before.before.requires in
-    omega (arith, ends-few pre.0 pre.1 second.before.side-at.ensures.1 second.side-at2.ensures.1)
+    let start = second.before.before in
+    omega (
+      arith,
+      image-sides second.before.side-at.ensures.1 second.side-at2.ensures.1,
+      image-few _ _ start.requires.0 start.requires.1,
+    )
 
 begins : (c : tie.After-struct-known2 invariant-loop decreases-loop) → let second = c.before.before in
     let args = second.before.before.args in
@@ -141,6 +146,20 @@ advances c =
     sides-advanced (looking-at (looking at-order.before)) inv.1 inv.2
     (result-is w64 at-order.order.type-inv at-order.order.ensures)
     c.before.next.result c.next2.result c.before.next.ensures.0 c.next2.ensures.0 refl
+
+first_step : (c : tie.After-next2 invariant-loop decreases-loop) → let at-loop = c.before.before.before in
+    let args = (start at-loop).args in
+    c.before.next.result.at
+    ≡ Places.passed (edges (points args.a.now)) at-loop.loop.s.at (edges (points (image args.b.now))) at-loop.loop.t.at
+unfolding advanced passed
+first_step c = ap (λ (w : Walk). w.i) (advances c)
+
+second-step : (c : tie.After-next2 invariant-loop decreases-loop) → let at-loop = c.before.before.before in
+    let args = (start at-loop).args in
+    c.next2.result.at
+    ≡ Places.passed (edges (points (image args.b.now))) at-loop.loop.t.at (edges (points args.a.now)) at-loop.loop.s.at
+unfolding advanced passed
+second-step c = ap (λ (w : Walk). w.j) (advances c)
 
 here-requires-3 : tie.Need-here-requires-3 invariant-loop decreases-loop
 here-requires-3 c κs =
@@ -264,9 +283,19 @@ loop-less : tie.Need-loop-smaller invariant-loop decreases-loop
 loop-less c =
     let at_next = c.before.before.before.before.before.before.before.before.before in
     let at-loop = at_next.before.before.before in
-    round-less at-loop.loop.invariant.1 at-loop.loop.invariant.2 (advances at_next) (λ e. c.if3.false (e ∙ sym
-    (image-sides at-loop.before.before.before.before.before.side-at.ensures.1
-    at-loop.before.before.before.before.side-at2.ensures.1)))
+    let inv = at-loop.loop.invariant in
+    let args = (start at-loop).args in
+    let E = edges (points args.a.now) in
+    let F = edges (points (image args.b.now)) in
+    edges-less E F _ _ (first_step at_next) (second-step at_next) (λ h k. c.if3.false (omega (
+      arith,
+      image-sides at-loop.before.before.before.before.before.side-at.ensures.1
+          at-loop.before.before.before.before.side-at2.ensures.1,
+      first_step at_next ∙ passed-ended E _ F _ h,
+      second-step at_next ∙ passed-ended F _ E _ k,
+      inv.1.at_in,
+      inv.2.at_in,
+    )))
 
 loop-again : tie.Need-loop-preserved invariant-loop decreases-loop
 loop-again c =

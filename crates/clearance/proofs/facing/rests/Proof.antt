@@ -8,7 +8,7 @@ use Rattle.integer.specs.Machine.{result-is}
 use Rattle.plane.specs.Direction.{value}
 use Rattle.polygon.specs.Point.{at}
 use Rattle.clearance.specs.Stop.{rests}
-use Rattle.faces.proofs.Tests.{and-taken, and_left}
+use Rattle.clearance.proofs.Tests.{and-taken, and_left}
 use Rattle.clearance.proofs.facing.rests.Statement.{statement}
 use Rattle.clearance.proofs.facing.rests.Tie as tie
 

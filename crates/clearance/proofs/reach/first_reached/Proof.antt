@@ -6,9 +6,9 @@ use Rattle.plane.specs.Point.{Point, points, opposite}
 use Rattle.plane.specs.Forms.{NonZero}
 use Rattle.plane.specs.theory.forms.Vector.{opposite-non-zero}
 use Rattle.polygon.specs.Point.{at, Small}
-use Rattle.faces.specs.Faces.{IsFace, Ends, is_along, is_foot}
+use Rattle.clearance.specs.Faces.{IsFace, Ends, is_along, is_foot}
 use Rattle.clearance.specs.theory.Ends.{facing-some, Tried, tried-is, corners-first, second-first, first-first, some-reached}
-use Rattle.faces.specs.declared.pairs.Spot.{Spot}
+use Rattle.clearance.specs.declared.reach.Spot.{Spot}
 use Rattle.clearance.proofs.reach.first_reached.Statement.{statement}
 use Rattle.clearance.proofs.reach.first_reached.Tie as tie
 

@@ -1,5 +1,11 @@
 -- `far_corner` meets its contract, one coordinate after the other.
-use Rattle.std.proofs.Common.{◌≡◌, ◌^◌, ℤ, refl, ◌∙◌, ap₂, to_z-of_z, w32, to_z, of_z, rules}
+use mathlib.Core.Path.{◌≡◌, refl, ◌∙◌, ap₂}
+use Prim.Native.Nat.{◌^◌}
+use borrow.Author.Rules.{rules}
+use mir.Syntax.{w32}
+use mir.Val.{to_z, of_z}
+use mir.Facts.{to_z-of_z}
+use lib.IntN.{ℤ}
 use Rattle.integer.specs.Bound.{Within}
 use Rattle.integer.specs.Machine.{within-fits, result-is}
 use Rattle.plane.specs.Point.{point}

@@ -1,6 +1,8 @@
 -- `far_part` meets its contract: the opposite of a small part fits 32 bits.
-use Rattle.std.proofs.Common.{◌≡◌, Bool, cond, ℤ, pos, neg_ℤ, sym, ap, ◌∙◌, to_z-of_z}
-use lib.IntN.{+ℤ_idl}
+use mathlib.Core.Path.{◌≡◌, sym, ◌∙◌, ap}
+use mathlib.Core.Bool.{Bool, cond}
+use mir.Facts.{to_z-of_z}
+use lib.IntN.{ℤ, pos, neg_ℤ, +ℤ_idl}
 use lib.Signed.{lt_z}
 use Rattle.integer.specs.Machine.{machine, bounded, machine-fits, machine-is}
 use Rattle.contact.specs.Share.{box_part}

@@ -1,5 +1,7 @@
 -- `is_beside` meets its contract: the opposite direction is as small.
-use Rattle.std.proofs.Common.{Bool, ◌||◌, sym, ap, ◌∙◌, rules}
+use mathlib.Core.Path.{sym, ◌∙◌, ap}
+use mathlib.Core.Bool.{Bool, ◌||◌}
+use borrow.Author.Rules.{rules}
 use Rattle.plane.specs.Point.{Point, opposite}
 use Rattle.polygon.specs.Point.{at}
 use Rattle.contact.specs.Share.{is_past}

@@ -1,5 +1,9 @@
 -- `is_past` meets its contract: the corner of the box is as small as its ends.
-use Rattle.std.proofs.Common.{◌≡◌, ◌^◌, sym, ap, ◌∙◌, subst, ap₂, w64, to_z, of_z, rules}
+use mathlib.Core.Path.{◌≡◌, sym, ◌∙◌, ap, ap₂, subst}
+use Prim.Native.Nat.{◌^◌}
+use borrow.Author.Rules.{rules}
+use mir.Syntax.{w64}
+use mir.Val.{to_z, of_z}
 use lib.Signed.{lt_z}
 use Rattle.integer.specs.Machine.{result-is}
 use Rattle.plane.specs.Direction.{value}

@@ -1,5 +1,11 @@
 -- `first_of` meets its contract: the last entry in lowest terms, unless the way is apart.
-use Rattle.std.proofs.Common.{◌≡◌, ℕ, [], ◌∷◌, ℤ, pos, sym, ap, ◌∙◌, subst, arith, w64, rules}
+use borrow.Author.Rules.{rules}
+use mathlib.Core.Path.{◌≡◌, sym, ◌∙◌, ap, subst}
+use mathlib.Core.List.{[], ◌∷◌}
+use Prim.Native.Nat.{ℕ}
+use native.Mathlib.Omega.{arith}
+use lib.IntN.{ℤ, pos}
+use mir.Syntax.{w64}
 use Rattle.integer.specs.Bound.{Within}
 use Rattle.integer.specs.Machine.{result-is}
 use Rattle.plane.specs.Point.{points}
@@ -7,7 +13,6 @@ use Rattle.plane.specs.Measure.{squared}
 use Rattle.plane.specs.Separation.{apart}
 use Rattle.plane.specs.theory.forms.Squared.{squared-nonneg}
 use Rattle.polygon.specs.Point.{at}
-use Rattle.growth.specs.Grown.{grown}
 use Rattle.motion.specs.Contact.{OnWay, lowest, contact}
 use Rattle.contact.specs.Share.{fraction, exceed}
 use Rattle.motion.specs.theory.Meeting.{first-on-way}
@@ -21,7 +26,7 @@ exceed-requires c κs = (whole_words _ _ c.arrivals.ensures.on-way).0
 
 -- the way is apart as the test says
 apart-is : (c : tie.After-exceed) → let args = c.before.before.args in
-    apart (at args.t ∷ at args.u ∷ []) (grown (points args.obstacle.now) (points args.cart.now)) ≡ c.exceed.result
+    apart (at args.t ∷ at args.u ∷ []) (points args.list.now) ≡ c.exceed.result
 apart-is c = c.before.arrivals.ensures.apart-is ∙ sym c.exceed.ensures
 
 returns : tie.Need-returns
@@ -32,7 +37,7 @@ lowest-requires c κs = (whole_words _ _ c.before.before.arrivals.ensures.on-way
 
 squared-requires : tie.Need-squared-requires
 squared-requires c κs =
-    let places = c.before.before.before.before.requires.3 in
+    let places = c.before.before.before.before.requires.1 in
     (small-place places.from-near, small-place places.to-near)
 
 magnitude-requires : tie.Need-magnitude-requires
@@ -40,7 +45,7 @@ magnitude-requires c κs = rw (result-is w64 c.squared.type-inv c.squared.ensure
 
 -- the contact, and the squared length of the way
 told : (c : tie.After-lowest) → let args = c.before.before.before.before.args in
-    fraction c.lowest.result ≡ contact (at args.t) (at args.u) (grown (points args.obstacle.now) (points args.cart.now))
+    fraction c.lowest.result ≡ contact (at args.t) (at args.u) (points args.list.now)
 told c =
     let at-else = c.before in
     c.lowest.ensures ∙ at-else.before.before.arrivals.ensures.first-is (apart-is at-else.before ∙ at-else.if1.false)
@@ -53,10 +58,9 @@ millimetres-requires : tie.Need-millimetres-requires
 millimetres-requires c κs =
     let at-lowest = c.before.before in
     let args = at-lowest.before.before.before.before.args in
-    let G = grown (points args.obstacle.now) (points args.cart.now) in
-    let w = whole_words _ _ (subst OnWay (sym (told at-lowest)) (first-on-way (at args.t) (at args.u) G)) in
+    let w = whole_words _ _ (subst OnWay (sym (told at-lowest)) (first-on-way (at args.t) (at args.u) (points args.list.now))) in
     let near = subst (λ (z : ℤ). Within 8_000_000_000_000 z) (sym (length-is c))
-    (length-bounded at-lowest.before.before.before.before.requires.3) in
+    (length-bounded at-lowest.before.before.before.before.requires.1) in
     (w.0, w.1, omega (arith, near.size))
 
 returns-2 : tie.Need-returns-2

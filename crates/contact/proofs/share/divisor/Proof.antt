@@ -1,5 +1,7 @@
 -- `divisor` meets its contract. The invariant: the divisor of x and y is that of a and b; the measure is y.
-use Rattle.std.proofs.Common.{◌≡◌, sym, refl, ap, ◌∙◌, mod-lt, arith}
+use mathlib.Core.Path.{◌≡◌, refl, sym, ◌∙◌, ap}
+use native.Mathlib.Nat.{mod-lt}
+use native.Mathlib.Omega.{arith}
 use Rattle.divisor.specs.Divisor.{gcd}
 use Rattle.divisor.specs.Euclid.{gcd-zero}
 use Rattle.contact.specs.theory.Found.{gcd-step}

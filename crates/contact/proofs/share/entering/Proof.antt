@@ -1,15 +1,28 @@
--- `entering` meets its contract, case by case.
-use Rattle.std.proofs.Common.{pos, ◌≤ℤ◌, ◌<ℤ◌, ap, ◌∙◌, ap₂, to_z-of_z, rules}
-use Rattle.integer.specs.Order.{le_z-true, le_z-false}
-use Rattle.motion.specs.Contact.{entering}
-use Rattle.contact.specs.Share.{fraction}
-use Rattle.contact.specs.theory.Words.{entering-begun, entering-never}
+-- `entering` meets its contract, case by case; the difference of two bounded numbers fits.
+use mathlib.Core.Path.{◌≡◌, sym, ◌∙◌, ap₂}
+use native.Mathlib.Omega.{arith}
+use mathlib.Core.List.{[], ◌∷◌}
+use lib.IntN.{pos, ◌-ℤ◌}
+use lib.Signed.{◌≤ℤ◌, ◌<ℤ◌}
+use mir.Syntax.{w64}
+use mir.Val.{to_z, of_z}
+use mir.Facts.{to_z-of_z}
+use Rattle.integer.specs.Linear.{linear, lia}
+use Rattle.integer.specs.Order.{weaken, le_z-true, le_z-false}
+use Rattle.integer.specs.Machine.{machine, bounded, machine-fits, machine-is}
+use Rattle.plane.specs.Distance.{over}
+use Rattle.contact.specs.theory.Words.{entering-begun, entering-inside, entering-never}
 use Rattle.contact.proofs.share.entering.Statement.{statement}
 use Rattle.contact.proofs.share.entering.Tie as tie
 
 returns : tie.Need-returns
-returns c = let start = c.before.before in
-    ap fraction c.start.ensures ∙ entering-begun _ _ (le_z-true (rw (to_z-of_z start.ranges.a) at c.before.if1.true))
+returns c = entering-begun _ _ (le_z-true (rw (to_z-of_z c.before.ranges.a) at c.if1.true))
+
+magnitude-requires : tie.Need-magnitude-requires
+magnitude-requires c κs = weaken (le_z-false c.before.if1.false)
+
+sub-magnitude : tie.Need-overflow-sub-magnitude
+sub-magnitude c = machine-fits (search (machine, bounded) depth 40) tt
 
 -- before it and not after it
 ends : (c : tie.Then2) → (pos 0 <ℤ c.before.before.args.a) × (c.before.before.args.b ≤ℤ pos 0)
@@ -18,24 +31,28 @@ ends c = (
   le_z-true {x = c.before.before.args.b} (rw (to_z-of_z c.before.before.ranges.b) at c.if2.true),
 )
 
-crossing-requires : tie.Need-crossing-requires
-crossing-requires c κs =
-    let start = c.before.before in
-    let a = to_z-of_z start.ranges.a in
-    let b = to_z-of_z start.ranges.b in
-    rw (a, b) (start.requires.0, start.requires.1, (ends c).0, (ends c).1)
+-- the difference, as the machine reads it back
+step : (c : tie.After-magnitude) → let start = c.before.before.before in
+    to_z w64 (of_z w64 (to_z w64 (of_z w64 start.args.a) -ℤ to_z w64 (of_z w64 start.args.b))) ≡ start.args.a -ℤ start.args.b
+step c = machine-is (search (machine, bounded) depth 40) tt
+
+magnitude-requires-2 : tie.Need-magnitude-requires-2
+magnitude-requires-2 c κs =
+    let args = c.before.before.before.args in
+    rw (step c) (lia (args.a ∷ args.b ∷ []) (ends c.before) (search linear depth 40) (omega arith))
 
 returns-2 : tie.Need-returns-2
 returns-2 c =
-    let start = c.before.before.before in
-    c.crossing.ensures ∙ ap₂ entering (to_z-of_z start.ranges.a) (to_z-of_z start.ranges.b)
+    let held = ends c.before.before in
+    let start = c.before.before.before.before in
+    ap₂ over (sym c.before.magnitude.ensures ∙ to_z-of_z start.ranges.a) (sym c.magnitude2.ensures ∙ step c.before)
+    ∙ entering-inside _ _ held.0 held.1
 
 returns-3 : tie.Need-returns-3
-returns-3 c = let at-else = c.before in let start = at-else.before.before in
-    ap fraction c.end.ensures ∙ entering-never _ _ (le_z-false (rw (to_z-of_z start.ranges.a) at at-else.before.if1.false))
-    (le_z-false (rw (to_z-of_z start.ranges.b) at at-else.if2.false))
+returns-3 c = entering-never _ _ (le_z-false (rw (to_z-of_z c.before.before.ranges.a) at c.before.if1.false))
+    (le_z-false (rw (to_z-of_z c.before.before.ranges.b) at c.if2.false))
 
 pub entering-spec : {M : Type 1} → statement M
 entering-spec =
     tie.close
-    (tie.spec (λ c κs. search rules) returns crossing-requires returns-2 (λ c κs. search rules) returns-3)
+    (tie.spec returns magnitude-requires sub-magnitude magnitude-requires-2 returns-2 returns-3)

@@ -1,5 +1,6 @@
 -- `exceed` meets its contract: what a part leaves of the way, and two products.
-use Rattle.std.proofs.Common.{◌∙◌, rules}
+use mathlib.Core.Path.{◌∙◌}
+use borrow.Author.Rules.{rules}
 use Rattle.contact.specs.theory.Words.{exceed-words}
 use Rattle.contact.proofs.share.exceed.Statement.{statement}
 use Rattle.contact.proofs.share.exceed.Tie as tie

@@ -1,5 +1,8 @@
 -- `is_less` meets its contract: both products have two words, and are compared.
-use Rattle.std.proofs.Common.{◌*◌, ltb, ap, ◌∙◌, ap₂, rules}
+use mathlib.Core.Path.{◌∙◌, ap, ap₂}
+use Prim.Native.Nat.{◌*◌}
+use borrow.Author.Rules.{rules}
+use lib.Dec.{ltb}
 use Rattle.wide.specs.theory.Laws.{value-word}
 use Rattle.contact.proofs.share.is_less.Statement.{statement}
 use Rattle.contact.proofs.share.is_less.Tie as tie

@@ -1,5 +1,10 @@
 -- `lowest` meets its contract: the divisor is not 0, since the denominator is not.
-use Rattle.std.proofs.Common.{ℕ, ◌/◌, ◌<◌, pos, ap, ◌∙◌, inr, arith, rules}
+use borrow.Author.Rules.{rules}
+use mathlib.Core.Path.{◌∙◌, ap}
+use mathlib.Core.Logic.{inr}
+use Prim.Native.Nat.{ℕ, ◌/◌, ◌<◌}
+use native.Mathlib.Omega.{arith}
+use lib.IntN.{pos}
 use Rattle.plane.specs.Distance.{over}
 use Rattle.divisor.specs.Euclid.{gcd-positive}
 use Rattle.contact.specs.theory.Found.{lowest-words}

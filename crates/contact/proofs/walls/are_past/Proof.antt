@@ -1,5 +1,7 @@
 -- `are_past` meets its contract.
-use Rattle.std.proofs.Common.{pos, sym, ap, ◌∙◌, to_z-of_z}
+use mathlib.Core.Path.{sym, ◌∙◌, ap}
+use mir.Facts.{to_z-of_z}
+use lib.IntN.{pos}
 use lib.Signed.{lt_z}
 use Rattle.contact.specs.theory.Beyond.{by_first}
 use Rattle.contact.proofs.walls.are_past.Statement.{statement}

@@ -1,5 +1,11 @@
 -- `edge_past` meets its contract: no corner is past the line of an edge, so how far a place is past it is its turn.
-use Rattle.std.proofs.Common.{◌≡◌, ℕ, length, ℤ, neg_ℤ, sym, ap, ◌∙◌, subst, ap₂, w64, to_z, of_z, rules}
+use borrow.Author.Rules.{rules}
+use mathlib.Core.Path.{◌≡◌, sym, ◌∙◌, ap, ap₂, subst}
+use Prim.Native.Nat.{ℕ}
+use lib.IntN.{ℤ, neg_ℤ}
+use lib.ListN.{length}
+use mir.Syntax.{w64}
+use mir.Val.{to_z, of_z}
 use Rattle.integer.specs.Bound.{Within, within-neg}
 use Rattle.integer.specs.Machine.{result-is}
 use Rattle.plane.specs.Point.{Point, points, corner}

@@ -1,5 +1,7 @@
 -- `past` meets its contract: the product of the steps, the other way round.
-use Rattle.std.proofs.Common.{◌∙◌, ap₂, w64, rules}
+use borrow.Author.Rules.{rules}
+use mathlib.Core.Path.{◌∙◌, ap₂}
+use mir.Syntax.{w64}
 use Rattle.integer.specs.Machine.{result-is}
 use Rattle.plane.specs.Turn.{cross}
 use Rattle.polygon.specs.theory.Small.{small-step}

@@ -1,5 +1,9 @@
 -- `side_entry` meets its contract: the values and the greatest value are bounded, so that their differences fit.
-use Rattle.std.proofs.Common.{◌≡◌, ◌-ℤ◌, ◌∙◌, ap₂, w64, to_z, of_z, rules}
+use borrow.Author.Rules.{rules}
+use mathlib.Core.Path.{◌≡◌, ◌∙◌, ap₂}
+use lib.IntN.{◌-ℤ◌}
+use mir.Syntax.{w64}
+use mir.Val.{to_z, of_z}
 use Rattle.integer.specs.Machine.{machine, known, machine-fits, machine-is}
 use Rattle.plane.specs.Point.{points}
 use Rattle.polygon.specs.Point.{at}

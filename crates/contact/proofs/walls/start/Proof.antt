@@ -1,18 +1,18 @@
 -- `start` meets its contract: three corners or more, or the box.
-use Rattle.std.proofs.Common.{ap, ◌∙◌, arith, rules}
+use mathlib.Core.Path.{◌∙◌}
+use native.Mathlib.Omega.{arith}
+use borrow.Author.Rules.{rules}
 use Rattle.plane.specs.Point.{points}
 use Rattle.polygon.specs.Point.{at}
-use Rattle.contact.specs.Share.{fraction}
 use Rattle.contact.specs.theory.Arrivals.{wall-none, wall-box}
 use Rattle.contact.proofs.walls.start.Statement.{statement}
 use Rattle.contact.proofs.walls.start.Tie as tie
 
 returns : tie.Need-returns
 returns c =
-    let at_test = c.before in
-    let start = at_test.before.before in
-    ap fraction c.start.ensures ∙ wall-none (at start.args.t) (at start.args.u) (points start.args.list.now)
-    (omega (arith, at_test.before.count.ensures))
+    let start = c.before.before in
+    wall-none (at start.args.t) (at start.args.u) (points start.args.list.now)
+    (omega (arith, c.before.count.ensures))
 
 returns-2 : tie.Need-returns-2
 returns-2 c =
@@ -23,4 +23,4 @@ returns-2 c =
     (omega (arith, at-else.before.count.ensures))
 
 pub start_spec : {M : Type 1} → statement M
-start_spec = tie.close (tie.spec (λ c κs. search rules) (λ c κs. search rules) returns (λ c κs. search rules) returns-2)
+start_spec = tie.close (tie.spec (λ c κs. search rules) returns (λ c κs. search rules) returns-2)

@@ -5,7 +5,6 @@ use mathlib.Core.List.{List, [], ◌∷◌}
 use native.Mathlib.Omega.{arith}
 use borrow.Author.Rules.{rules}
 use borrow.Author.Tests.{not-true, not-false}
-use Rattle.plane.specs.Limits.{max_corners}
 use Rattle.plane.specs.Point.{points}
 use Rattle.plane.specs.Refusal.{Valid}
 use Rattle.plane.specs.Clearance.{clearance_numbers}
@@ -22,53 +21,55 @@ use Rattle.gaps.proofs.search.tried.Tie as tie
 
 -- what is kept stays, unless the record is on the floor and its pair is nearer
 left : (c : tie.Start) → let args = c.args in let A = points args.cart.now in
-    (is_on args.floor args.log.now args.q.place ≡ true
-    → is_nearer (gap_of A (pair_at args.log.now args.p args.q.place)) args.best ≡ false)
-    → Passed A args.log.now (tried_at args.floor args.log.now args.p args.q.place) args.best args.best
+    (is_on args.floor args.log.now args.q ≡ true
+    → is_nearer (gap_of A (pair_at args.log.now args.p args.q)) args.best ≡ false)
+    → Passed A args.log.now (tried_at args.floor args.log.now args.p args.q) args.best args.best
 left c far =
     let args = c.args in
     let pre = c.requires in
-    passed-left (points args.cart.now) args.log.now args.floor args.p args.q.place args.best pre.10
-    (pair-gap (points args.cart.now) args.log.now args.p args.q.place pre.3.shape.some pre.1 pre.2) far
+    passed-left (points args.cart.now) args.log.now args.floor args.p args.q args.best pre.6
+    (pair-gap (points args.cart.now) args.log.now args.p args.q pre.3.shape.some pre.1 pre.2) far
 
 is-passed-requires : tie.Need-is-passed-requires
 is-passed-requires c κs =
-    let start = c.before in
-    (start.requires.2, start.requires.4, start.requires.5, told-sized _ _ start.args.best start.requires.10, start.requires.7)
+    let start = c.before.before in
+    (start.requires.2, told-sized _ _ start.args.best start.requires.6, start.requires.4, start.requires.10)
 
 returns : tie.Need-returns
 returns c =
-    let at-passed = c.before in
-    let start = at-passed.before.before in
+    let at-passed = c.before.before in
+    let start = at-passed.before.before.before in
     let args = start.args in
     let pre = start.requires in (
-      left start (left_out (points args.cart.now) args.log.now args.p args.q.place pre.3.shape.some pre.1 pre.2
-          args.floor args.best pre.6 (at-passed.is-passed.ensures c.if1.true)),
-      pre.8,
-      pre.9,
+      left start (left_out (points args.cart.now) args.log.now args.p args.q pre.3.shape.some pre.1 pre.2
+          args.floor args.best pre.8 pre.9 (at-passed.is-passed.ensures.0 c.if1.true)),
+      at-passed.is-passed.ensures.1,
+      pre.5,
     )
 
+abbrev passed-at : tie.After-is-on → tie.After-is-passed
+passed-at c = c.before.before.before
+
 abbrev start_of : tie.After-is-on → tie.Start
-start_of c = c.before.before.before.before
+start_of c = (passed-at c).before.before.before
 
 returns-2 : tie.Need-returns-2
 returns-2 c =
-    let off = sym c.before.is-on.ensures ∙ not-true _ c.if2.true in
-    let start = start_of c.before in
-    (left start (λ on. absurd (true≢false (sym on ∙ off))), start.pre.8, start.pre.9)
+    let off = sym c.before.is-on.ensures ∙ not-true _ c.if2.true in (
+      left (start_of c.before) (λ on. absurd (true≢false (sym on ∙ off))),
+      (passed-at c.before).is-passed.ensures.1,
+      (start_of c.before).requires.5,
+    )
 
-is-on : (c : tie.Else2) → let args = (start_of c.before).args in is_on args.floor args.log.now args.q.place ≡ true
+is-on : (c : tie.Else2) → let args = (start_of c.before).args in is_on args.floor args.log.now args.q ≡ true
 is-on c = sym c.before.is-on.ensures ∙ not-false _ c.if2.false
 
 grow-at-requires : tie.Need-grow-at-requires
 grow-at-requires c κs =
     let at-else = c.before.before in
     let pre = (start_of at-else.before).requires in
-    (pre.2, pre.3, pre.8, pre.9, walk-fits _ pre.0 pre.2.here (is-on at-else))
-
-mul-between : tie.Need-overflow-mul-between
-unfolding max_corners
-mul-between c = let grown = c.before.before.grow-at.ensures in omega (arith, grown.0.fits, grown.2)
+    let passed = (passed-at at-else.before).is-passed.ensures in
+    (pre.2, pre.3, passed.1, pre.5, walk-fits _ pre.0 pre.2.here (is-on at-else))
 
 slice-aggregate-between : tie.Need-slice-aggregate-between
 slice-aggregate-between c = sym (front_length c.before.before.before.grow-at.ensures.0)
@@ -78,24 +79,24 @@ between-requires c κs =
     let at-grown = c.before.before.before in
     let at-else = at-grown.before.before.before in
     let pre = (start_of at-else.before).requires in (
-      pre.11,
+      pre.7,
       subst Valid (sym at-grown.grow-at.ensures.0.front)
           (grown_of-valid _ _ (here-valid pre.2) pre.3.shape.some (walk-fits _ pre.0 pre.2.here (is-on at-else))),
     )
 
 -- how far apart the two are
 found : (c : tie.After-between) → let args = (start_of c.before.before.before.before.before.before.before.before).args in
-    Found (points args.cart.now) args.log.now args.p args.q.place c.between.result
+    Found (points args.cart.now) args.log.now args.p args.q c.between.result
 found c =
     let at-grown = c.before.before.before.before in
     let pre = (start_of at-grown.before.before.before.before).requires in
     found_of _ _ _ _ pre.3.shape.some pre.1 pre.2 c.between.result
-    (c.between.ensures ∙ ap₂ clearance_numbers pre.12 (front-points at-grown.grow-at.ensures.0))
+    (c.between.ensures ∙ ap₂ clearance_numbers pre.8 (front-points at-grown.grow-at.ensures.0))
 
 nearer-requires : tie.Need-nearer-requires
 nearer-requires c κs =
     let start = start_of c.before.before.before.before.before.before.before.before in
-    ((found c).sized, told-sized _ _ start.args.best start.pre.10)
+    ((found c).sized, told-sized _ _ start.args.best start.pre.6)
 
 returns-3 : tie.Need-returns-3
 returns-3 c =
@@ -105,12 +106,12 @@ returns-3 c =
     let start = start_of at-else.before in
     let args = start.args in
     let A = points args.cart.now in
-    let pairs = ap (λ (t : Bool). cond t (pair_at args.log.now args.p args.q.place ∷ []) []) (sym (is-on at-else)) in
-    let passed = passed-tried A args.log.now args.p args.q.place at-between.between.result args.best start.pre.10
+    let pairs = ap (λ (t : Bool). cond t (pair_at args.log.now args.p args.q ∷ []) []) (sym (is-on at-else)) in
+    let passed = passed-tried A args.log.now args.p args.q at-between.between.result args.best start.pre.6
     (found at-between) in (
-      subst (λ (r : Best). Passed A args.log.now (tried_at args.floor args.log.now args.p args.q.place) args.best r)
+      subst (λ (r : Best). Passed A args.log.now (tried_at args.floor args.log.now args.p args.q) args.best r)
           (sym c.nearer.ensures) (subst (λ (ps : List Pair). Passed A args.log.now ps args.best
-          (nearer args.p args.q.place at-between.between.result args.best)) pairs passed),
+          (nearer args.p args.q at-between.between.result args.best)) pairs passed),
       at-grown.grow-at.ensures.1,
       at-grown.grow-at.ensures.2,
     )
@@ -118,6 +119,6 @@ returns-3 c =
 pub tried-spec : {M : Type 1} → statement M
 tried-spec =
     tie.close
-    (tie.spec is-passed-requires returns (λ c κs. search rules) returns-2 grow-at-requires
-    mul-between (λ c. c.before.before.grow-at.ensures.0.fits) slice-aggregate-between between-requires nearer-requires
-    (λ c. search rules) (λ c. search rules) returns-3)
+    (tie.spec is-passed-requires (λ c. search rules) returns (λ c κs. search rules) (λ c. search rules) returns-2 grow-at-requires
+    (λ c. search rules) (λ c. search rules) slice-aggregate-between between-requires nearer-requires (λ c. search rules)
+    (λ c. search rules) returns-3)

@@ -1,5 +1,6 @@
 -- `push_next` meets its contract: the order of the two corners says which one is pushed, and what is read.
-use mathlib.Core.Path.{◌≡◌, ◌∙◌, ap₂}
+use mathlib.Core.Path.{◌≡◌, sym, ◌∙◌, ap₂, subst}
+use Prim.Native.Nat.{◌^◌}
 use native.Mathlib.Omega.{arith}
 use borrow.Author.Rules.{rules}
 use mir.Syntax.{w32}
@@ -7,8 +8,9 @@ use mir.Val.{to_z, of_z}
 use Rattle.integer.specs.Machine.{result-is}
 use Rattle.plane.specs.Point.{points, corner}
 use Rattle.plane.specs.theory.lists.Flat.{points-length}
+use Rattle.polygon.specs.Point.{Small}
 use Rattle.sorting.specs.Order.{order, closed}
-use Rattle.hull.specs.theory.Peak.{line_small}
+use Rattle.hull.specs.theory.Peak.{closed-small}
 use Rattle.hull.specs.theory.Reading.{stepped-first, stepped-second}
 use Rattle.hull.proofs.chains.push_next.Statement.{statement}
 use Rattle.hull.proofs.chains.push_next.Tie as tie
@@ -33,8 +35,13 @@ order-requires c κs = tt
 push-requires : tie.Need-push-requires
 push-requires c κs =
     let at_first = c.before.before.before.before in
-    let pre = at_first.before.requires in
-    (pre.2, pre.3, line_small _ pre.0 at_first.closed_at.ensures)
+    let start = at_first.before in
+    let line = start.requires.0 in (
+      start.requires.2,
+      start.requires.3,
+      subst (Small (2 ^ 21)) (sym at_first.closed_at.ensures)
+          (closed-small start.args.a.now line.near line.some start.args.i (omega (arith, line.within))),
+    )
 
 add-t : tie.Need-overflow-add-t16
 add-t c =
@@ -56,8 +63,13 @@ returns c =
 push-requires-2 : tie.Need-push-requires-2
 push-requires-2 c κs =
     let at_second = c.before.before.before in
-    let pre = at_second.before.before.requires in
-    (pre.2, pre.3, line_small _ pre.1 at_second.closed-at2.ensures)
+    let start = at_second.before.before in
+    let line = start.requires.1 in (
+      start.requires.2,
+      start.requires.3,
+      subst (Small (2 ^ 21)) (sym at_second.closed-at2.ensures)
+          (closed-small start.args.b.now line.near line.some start.args.j (omega (arith, line.within))),
+    )
 
 add-t-2 : tie.Need-overflow-add-t21
 add-t-2 c =

@@ -23,6 +23,9 @@ found c = subst (Entered _ _) c.head.given.1 c.before.before.entry.ensures
 returns : tie.Need-returns
 returns c = entry-damaged _ _ _ _ (sym c.before.before.before.survey.ensures ∙ c.before.place.given.1)
 
+entry-requires : tie.Need-entry-requires
+entry-requires c κs = sound c
+
 returns-2 : tie.Need-returns-2
 returns-2 c =
     entry-few _ _ _ (sound c.before.before.before)
@@ -47,5 +50,5 @@ returns-4 c =
 pub log-entry-spec : {M : Type 1} → statement M
 log-entry-spec =
     tie.close
-    (tie.spec (λ c κs. search rules) (λ c. search rules) returns (λ c. search rules) (λ c κs. sound c) (λ c. search rules)
-    (λ c. search rules) returns-2 returns-3 decode-requires (λ c. search rules) returns-4)
+    (tie.spec (λ c κs. search rules) (λ c. search rules) returns (λ c. search rules) entry-requires (λ c. search rules) (λ c. search rules)
+    returns-2 returns-3 decode-requires (λ c. search rules) returns-4)

@@ -3,8 +3,8 @@
 use mathlib.Core.Path.{◌≡◌, sym, ◌∙◌, ap}
 use mathlib.Core.Bool.{false}
 use Prim.Native.Nat.{◌≤◌}
+use native.Mathlib.Omega.{arith}
 use borrow.Author.Rules.{rules}
-use borrow.Author.Tests.{not-true, not-false}
 use lib.ListN.{length}
 use Rattle.plane.specs.Point.{points}
 use Rattle.plane.specs.Reply.{NoneApply}
@@ -42,21 +42,21 @@ returns-2 c =
 sound : (c : tie.After-enum-told2) → damaged (records c.before.before.before.before.before.before.before.args.log.now) ≡ false
 sound c = (surveyed-ends _ c.enum-told2.given.0.0 (sym c.before.before.survey.ensures ∙ c.enum-told2.given.1)).0
 
-has-two-requires : tie.Need-has-two-requires
-has-two-requires c κs = sound c
+count-requires : tie.Need-count-requires
+count-requires c κs = sound c
 
 returns-3 : tie.Need-returns-3
 returns-3 c =
-    let at-two = c.before in
-    let at-sound = at-two.before in
+    let at_count = c.before in
+    let at-sound = at_count.before in
     let at_told = at-sound.before.before.before in
     gap-few _ (lent at_told.before.before.before.before) (valid at_told) (sound at-sound)
-    (at-two.has-two.ensures.1 (not-true _ c.if1.true))
+    (omega (arith, at_count.count.ensures, c.if1.true))
 
--- past this test there are two shapes
+-- past the count there are two shapes
 two : (c : tie.Else1) → let args = c.before.before.before.before.before.before.before.before.before.args in
     2 ≤ length (on_floor args.floor args.log.now)
-two c = c.before.has-two.ensures.0 (not-false _ c.if1.false)
+two c = omega (arith, c.before.count.ensures, c.if1.false)
 
 admit-sizes-requires : tie.Need-admit-sizes-requires
 admit-sizes-requires c κs = let at-sound = c.before.before in (sound at-sound, valid at-sound.before.before.before)
@@ -105,5 +105,5 @@ pub log-gap-spec : {M : Type 1} → statement M
 log-gap-spec =
     tie.close
     (tie.spec (λ c κs. search rules) (λ c. search rules) returns (λ c. search rules) (λ c κs. search rules) (λ c. search rules) returns-2
-    (λ c. search rules) has-two-requires returns-3 admit-sizes-requires (λ c. search rules) returns-4 (λ c. search rules) gap-requires
+    (λ c. search rules) count-requires returns-3 admit-sizes-requires (λ c. search rules) returns-4 (λ c. search rules) gap-requires
     (λ c. search rules) (λ c. search rules) returns-5 (λ c κs. search rules) returns-6)

@@ -1,5 +1,5 @@
 -- `pack_sound` meets its contract: too little room, or the stores are made.
-use mathlib.Core.Path.{refl, ◌∙◌}
+use mathlib.Core.Path.{sym, ◌∙◌}
 use Prim.Native.Nat.{◌≤◌}
 use native.Mathlib.Omega.{arith}
 use borrow.Author.Rules.{rules}
@@ -28,9 +28,16 @@ returns-2 c =
     let at-pack = c.before.before.before in
     let at_room = at-pack.before.before in
     let start = at_room.before.before.before.before in
-    let made = pack-done _ _ _ _ start.requires (room at_room) refl at-pack.pack.ensures.0 at-pack.pack.ensures.1 in
-    (c.stored.ensures ∙ made.0, made.1)
+    pack-done _ _ _ _ start.requires (room at_room) c.if2.true at-pack.pack.ensures.0 at-pack.pack.ensures.1
+
+returns-3 : tie.Need-returns-3
+returns-3 c =
+    let at-pack = c.before.before.before in
+    let at_room = at-pack.before.before in
+    let start = at_room.before.before.before.before in
+    pack-done _ _ _ _ start.requires (room at_room) c.if2.false at-pack.pack.ensures.0 at-pack.pack.ensures.1
 
 pub pack-sound-spec : {M : Type 1} → statement M
 pack-sound-spec =
-    tie.close (tie.spec (λ c κs. search rules) returns pack-requires (λ c κs. search rules) (λ c. search rules) returns-2)
+    tie.close
+    (tie.spec (λ c κs. search rules) returns pack-requires (λ c. search rules) returns-2 (λ c. search rules) returns-3)

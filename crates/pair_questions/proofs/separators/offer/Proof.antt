@@ -1,58 +1,79 @@
--- `offer` meets its contract: a list is refused, or the direction, or it is tried. The direction is read back from its bits at the end.
-use mathlib.Core.Path.{◌≡◌, ◌∙◌, ap, ap₂}
-use mathlib.Core.Bool.{Bool, cond}
+-- `offer` meets its contract: a list is refused, or the direction, or it is tried.
+use mathlib.Core.Path.{◌≡◌, sym, ◌∙◌, ap, ap₂, subst}
+use mathlib.Core.Bool.{Bool, false, cond}
 use mathlib.Core.List.{[], ◌∷◌}
 use borrow.Author.Rules.{rules}
 use lib.IntN.{pos}
 use mir.Syntax.{w32}
 use mir.Val.{to_z, of_z}
 use mir.Facts.{to_z-of_z}
-use Rattle.plane.specs.Point.{Point, point}
-use Rattle.plane.specs.Reply.{Reply}
-use Rattle.plane.specs.Floor.{on}
-use Rattle.plane.specs.Question.{Question, reply, ask_offer}
+use Rattle.plane.specs.Point.{Point, point, points}
+use Rattle.plane.specs.Reply.{NoneApply}
+use Rattle.plane.specs.Furthest.{bad_direction, direction_rows}
+use Rattle.plane.specs.Offer.{below}
+use Rattle.plane.specs.Floor.{Floored, on, Same}
+use Rattle.plane.specs.Question.{Question, ask_offer}
+use Rattle.admission.specs.Admission.{Judged}
 use Rattle.admission.specs.theory.Door.{shapes-refused, rest-refused, all-answered}
-use Rattle.pair_questions.proofs.Admitted.{both-valid}
 use Rattle.pair_questions.proofs.separators.offer.Statement.{statement}
 use Rattle.pair_questions.proofs.separators.offer.Tie as tie
 
--- what is asked in a direction
-abbrev asked : tie.Start → Point → Question
-asked c d = ask_offer (on c.args.a.now c.args.f) (on c.args.b.now c.args.g) d
+-- the two shapes, and the direction
+abbrev one : tie.Start → Floored
+one c = on c.args.a.now c.args.f
 
--- the direction as the code has it is the one that is offered
-offered : (c : tie.Start) {r : Reply}
-    → r ≡ reply (asked c (point (to_z w32 (of_z w32 c.args.u)) (to_z w32 (of_z w32 c.args.v))))
-    → r ≡ reply (asked c (point c.args.u c.args.v))
-offered c e = e ∙ ap (λ (d : Point). reply (asked c d)) (ap₂ point (to_z-of_z c.ranges.u) (to_z-of_z c.ranges.v))
+abbrev other : tie.Start → Floored
+other c = on c.args.b.now c.args.g
+
+abbrev offered : tie.Start → Point
+offered c = point c.args.u c.args.v
+
+abbrev asked : tie.Start → Question
+asked c = ask_offer (one c) (other c) (offered c)
+
+-- past the judging they are shapes on one floor
+shapes : (c : tie.After-enum-told) → let start = c.before.before.before in Same (one start) (other start)
+shapes c = c.before.before.admit-pair.ensures.valid c.enum_told.given.1
+
+-- the direction, read back from its bits
+direction-is : (c : tie.Start) → point (to_z w32 (of_z w32 c.args.u)) (to_z w32 (of_z w32 c.args.v)) ≡ offered c
+direction-is c = ap₂ point (to_z-of_z c.ranges.u) (to_z-of_z c.ranges.v)
+
+-- what judging it says
+judged-direction : (c : tie.After-admit-direction) → let d = offered c.before.before.before.before in
+    Judged (NoneApply (direction_rows d)) (direction_rows d) c.admit-direction.result
+judged-direction c =
+    subst (λ (d : Point). Judged (NoneApply (direction_rows d)) (direction_rows d) c.admit-direction.result)
+    (direction-is c.before.before.before.before) c.admit-direction.ensures
+
+-- past it, neither row applies
+passed : (c : tie.After-enum-told2) → NoneApply (direction_rows (offered c.before.before.before.before.before.before))
+passed c = (judged-direction c.before.before).valid c.enum-told2.given.1
 
 returns : tie.Need-returns
-returns c = offered c.before.before.before.before
-    (shapes-refused _ (c.before.before.before.admit-pair.ensures.no _ c.before.refusal.given.1)).0
+returns c = (shapes-refused (asked c.before.before.before.before)
+    (c.before.before.before.admit-pair.ensures.no _ c.before.refusal.given.1)).0
 
 returns-2 : tie.Need-returns-2
 returns-2 c =
     let at-judged = c.before.before.before in
-    let at_told = at-judged.before in
-    offered at_told.before.before.before
-    (rest-refused _ (at_told.before.before.admit-pair.ensures.valid at_told.enum_told.given.1)
-    (at-judged.admit-direction.ensures.no _ c.before.direction.given.1)).0
+    (rest-refused (asked at-judged.before.before.before.before) (shapes at-judged.before)
+    ((judged-direction at-judged).no _ c.before.direction.given.1)).0
 
 is-below-requires : tie.Need-is-below-requires
 is-below-requires c κs =
-    let at_told = c.before.before.before in
-    let both = both-valid at_told.before.before.admit-pair.ensures at_told.enum_told.given.1 in
-    (both.0, both.1, (c.before.before.admit-direction.ensures.valid c.enum-told2.given.1).0)
+    let both = shapes c.before.before.before in
+    let direction = sym (direction-is c.before.before.before.before.before.before) in
+    (both.first-valid, both.second-valid, subst (λ (d : Point). bad_direction d ≡ false) direction (passed c).0)
 
 returns-3 : tie.Need-returns-3
 returns-3 c =
     let at-passed = c.before in
-    let at_told = at-passed.before.before.before in
-    let start = at_told.before.before.before in
-    offered start
-    (all-answered _ (at_told.before.before.admit-pair.ensures.valid at_told.enum_told.given.1)
-    (at-passed.before.before.admit-direction.ensures.valid at-passed.enum-told2.given.1)
-    (ap (λ (t : Bool). cond t (pos 1) (pos 0) ∷ pos start.args.f ∷ []) c.is_below.ensures))
+    let at-shapes = at-passed.before.before.before in
+    let start = at-shapes.before.before.before in
+    all-answered (asked start) (shapes at-shapes) (passed at-passed)
+    (ap (λ (t : Bool). cond t (pos 1) (pos 0) ∷ pos start.args.f ∷ []) (c.is_below.ensures
+    ∙ ap (λ (d : Point). below d (points start.args.a.now) (points start.args.b.now)) (direction-is start)))
 
 pub offer-spec : {M : Type 1} → statement M
 offer-spec =

@@ -9,10 +9,10 @@ use lib.ListN.{length, length-map}
 use Rattle.plane.specs.Point.{Point, points, numbers, corner}
 use Rattle.plane.specs.theory.lists.Flat.{numbers-length}
 use Rattle.plane.specs.theory.lists.Filled.{Filled, filled-start, filled-length, filled-corner, filled-done}
-use Rattle.outline.specs.Round.{in_sense}
-use Rattle.outline.specs.Ring.{walked}
-use Rattle.outline.specs.theory.Steps.{map_at, sense-length}
-use Rattle.outline.specs.theory.Under.{walked-length}
+use Rattle.ring.specs.Round.{in_sense}
+use Rattle.ring.specs.Ring.{walked}
+use Rattle.ring.specs.theory.Steps.{map_at, sense-length}
+use Rattle.ring.specs.theory.Under.{walked-length}
 use Rattle.ring.proofs.standard.arrange.Statement.{statement}
 use Rattle.ring.proofs.standard.arrange.Tie as tie
 

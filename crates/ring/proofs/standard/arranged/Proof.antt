@@ -11,8 +11,8 @@ use lib.Signed.{lt_z}
 use mir.Syntax.{w64}
 use mir.Val.{to_z, of_z}
 use Rattle.plane.specs.Point.{points, corner}
-use Rattle.outline.specs.theory.Steps.{opened-le, opened_some, least-below}
-use Rattle.outline.specs.theory.Arranged.{arranged-front}
+use Rattle.ring.specs.theory.Steps.{opened-le, opened_some, least-below}
+use Rattle.ring.specs.theory.Arranged.{arranged-front}
 use Rattle.ring.proofs.standard.arranged.Statement.{statement}
 use Rattle.ring.proofs.standard.arranged.Tie as tie
 

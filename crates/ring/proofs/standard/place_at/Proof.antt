@@ -6,9 +6,9 @@ use native.Mathlib.Omega.{arith}
 use borrow.Author.Rules.{rules}
 use lib.ListN.{get_or}
 use Rattle.plane.specs.Cycle.{turned}
-use Rattle.outline.specs.Round.{in_sense}
-use Rattle.outline.specs.Ring.{walked}
-use Rattle.outline.specs.theory.Arranged.{sense-walked}
+use Rattle.ring.specs.Round.{in_sense}
+use Rattle.ring.specs.Ring.{walked}
+use Rattle.ring.specs.theory.Arranged.{sense-walked}
 use Rattle.ring.proofs.standard.place_at.Statement.{statement}
 use Rattle.ring.proofs.standard.place_at.Tie as tie
 

@@ -17,7 +17,7 @@ use Rattle.calipers.specs.theory.Carry.{first_next, edges_fit}
 use Rattle.calipers.specs.theory.Image.{image-count}
 use Rattle.sums.specs.theory.Summed.{next-few}
 use Rattle.sums.proofs.Walked.{walked_start, walked_at, walked-below, walked_more, walked-over}
-use Rattle.separation.specs.theory.Image.{image-begun, image-all, image-few, image-sides, image-ends}
+use Rattle.separation.specs.theory.Image.{image-begun, image-all, image-few, image-sides}
 use Rattle.separation.proofs.differences.count.Statement.{statement}
 use Rattle.separation.proofs.differences.count.Tie as tie
 
@@ -41,7 +41,11 @@ add-all : tie.Need-overflow-add-all invariant-loop decreases-loop
 add-all c =
     let second = c.before.before in
     let start = second.before.before in
-    omega (arith, image-ends start.requires.0 start.requires.1 second.before.side-at.ensures.1 second.side-at2.ensures.1)
+    omega (
+      arith,
+      image-sides second.before.side-at.ensures.1 second.side-at2.ensures.1,
+      image-few _ _ start.requires.0 start.requires.1,
+    )
 
 loop-holds : tie.Need-loop-init invariant-loop decreases-loop
 loop-holds c =

@@ -22,7 +22,7 @@ use Rattle.plane.specs.Output.{overwritten}
 use Rattle.sums.proofs.Walked.{walked_start, walked_at, walked-below, walked_more, walked-over}
 use Rattle.sums.proofs.Progress.{Progress, part-progress, progress-room, progress-kept, progress-more, progress-done}
 use Rattle.separation.specs.Differences.{enough}
-use Rattle.separation.specs.theory.Image.{image-begun, image-all, image-few, image-sides, image-ends}
+use Rattle.separation.specs.theory.Image.{image-begun, image-all, image-few, image-sides}
 use Rattle.separation.proofs.differences.write.Statement.{statement}
 use Rattle.separation.proofs.differences.write.Tie as tie
 
@@ -44,7 +44,11 @@ add-all : tie.Need-overflow-add-all invariant-loop decreases-loop
 add-all c =
     let second = c.before.before in
     let start = second.before.before in
-    omega (arith, image-ends start.requires.0 start.requires.1 second.before.side-at.ensures.1 second.side-at2.ensures.1)
+    omega (
+      arith,
+      image-sides second.before.side-at.ensures.1 second.side-at2.ensures.1,
+      image-few _ _ start.requires.0 start.requires.1,
+    )
 
 -- there is room for all corners
 room : (c : tie.Start invariant-loop decreases-loop) → let args = c.args in

@@ -9,8 +9,8 @@ use Rattle.plane.specs.Output.{room_row}
 use Rattle.plane.specs.theory.lists.Flat.{points-length}
 use Rattle.admission.specs.theory.Judged.{refuses-append}
 use Rattle.admission.specs.theory.Door.{rest-refused}
-use Rattle.outline.specs.Ring.{ring_shape, inward_row, ask_ring}
-use Rattle.outline.specs.theory.Steps.{opened-le}
+use Rattle.ring.specs.Ring.{ring_shape, inward_row, ask_ring}
+use Rattle.ring.specs.theory.Steps.{opened-le}
 use Rattle.shape_questions.proofs.rings.ring.Statement.{statement}
 use Rattle.shape_questions.proofs.rings.ring.Tie as tie
 

@@ -7,7 +7,7 @@ use borrow.Author.Tests.{not-false}
 use lib.ListN.{length}
 use Rattle.plane.specs.Point.{points}
 use Rattle.polygon.specs.theory.Fronts.{front_length}
-use Rattle.outline.specs.theory.Steps.{opened-le}
+use Rattle.ring.specs.theory.Steps.{opened-le}
 use Rattle.shape_questions.proofs.rings.ring_in.Statement.{statement}
 use Rattle.shape_questions.proofs.rings.ring_in.Tie as tie
 

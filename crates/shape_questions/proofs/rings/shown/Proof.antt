@@ -14,8 +14,8 @@ use Rattle.plane.specs.Question.{Question}
 use Rattle.plane.specs.theory.lists.Flat.{points-numbers, numbers-length}
 use Rattle.delivery.specs.theory.Delivery.{copied}
 use Rattle.admission.specs.theory.Door.{rest-refused, all-written}
-use Rattle.outline.specs.Ring.{ring_shape, inward_row, ask_ring}
-use Rattle.outline.specs.theory.Outline.{shape→quiet}
+use Rattle.ring.specs.Ring.{ring_shape, inward_row, ask_ring}
+use Rattle.ring.specs.theory.Outline.{shape→quiet}
 use Rattle.ring.specs.theory.Answers.{counted-shape, room-refuses, ring-passes}
 use Rattle.shape_questions.proofs.rings.shown.Statement.{statement}
 use Rattle.shape_questions.proofs.rings.shown.Tie as tie

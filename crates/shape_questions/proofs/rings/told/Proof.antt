@@ -13,9 +13,9 @@ use Rattle.plane.specs.Floor.{on}
 use Rattle.plane.specs.Question.{Question}
 use Rattle.admission.specs.Admission.{Refuses}
 use Rattle.admission.specs.theory.Door.{rest-refused, all-written}
-use Rattle.outline.specs.Ring.{previous, ring_corners, first_inward, inward_row, ring_rows, ask_ring}
-use Rattle.outline.specs.Places.{Placed}
-use Rattle.outline.specs.theory.Under.{under_at, corners-under}
+use Rattle.ring.specs.Ring.{previous, ring_corners, first_inward, inward_row, ring_rows, ask_ring}
+use Rattle.ring.specs.Places.{Placed}
+use Rattle.ring.specs.theory.Under.{under_at, corners-under}
 use Rattle.ring.specs.theory.Answers.{none-inward, inward-refuses, room-refuses, ring-passes}
 use Rattle.shape_questions.proofs.rings.told.Statement.{statement}
 use Rattle.shape_questions.proofs.rings.told.Tie as tie

@@ -13,8 +13,7 @@ use Rattle.plane.specs.theory.lists.Flat.{points-length}
 use Rattle.sums.specs.Advance.{state, next_corners, Walked}
 use Rattle.calipers.specs.theory.Carry.{first_next, second-next, edges_fit}
 use Rattle.sums.specs.theory.Summed.{next-few}
-use Rattle.sums.proofs.Walked.{edges-sum, all_edges, walked-with, walked_at, walked-below, walked-small}
-use Rattle.sums.proofs.Walked.{walked_more, walked-spent, walked-over}
+use Rattle.sums.proofs.Walked.{edges-sum, all_edges, walked-with, walked_at, walked-below, walked_more, walked-spent, walked-over}
 use Rattle.sums.proofs.size.count_on.Statement.{statement}
 use Rattle.sums.proofs.size.count_on.Tie as tie
 
@@ -54,7 +53,17 @@ loop-holds c =
 add-count : tie.Need-overflow-add-count invariant-loop decreases-loop
 add-count c =
     let start = c.before.before.before.before.before.before in
-    omega (arith, walked-small c.loop.invariant (omega (arith, start.well-formed.0)) (omega (arith, start.well-formed.1.0)))
+    let a = start.args.a.now in
+    let b = start.args.b.now in
+    omega (
+      arith,
+      walked-below c.loop.invariant,
+      next-few a b (state start.args.i start.args.j false) start.args.k start.requires.0,
+      points-length a,
+      points-length b,
+      start.well-formed.0,
+      start.well-formed.1.0,
+    )
 
 order-requires : tie.Need-order-requires invariant-loop decreases-loop
 order-requires c κs = let w = c.loop.invariant in edges_fit (walked_at w) w.first-side w.second-side

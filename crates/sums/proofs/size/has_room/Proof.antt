@@ -1,12 +1,12 @@
 -- `has_room` meets its contract: no more corners than k are due, nor than both shapes have together; else they are counted.
 use mathlib.Core.Bool.{false, true≢false}
-use Prim.Native.Nat.{◌+◌, ◌/◌}
+use Prim.Native.Nat.{◌/◌}
 use native.Mathlib.Omega.{arith}
 use borrow.Author.Rules.{rules}
 use borrow.Author.Tests.{leb-true, leb-false}
 use Rattle.plane.specs.theory.lists.Flat.{points-length}
 use Rattle.sums.specs.Advance.{state}
-use Rattle.sums.specs.theory.Summed.{next-few, next-at-most, next-fewer}
+use Rattle.sums.specs.theory.Summed.{next-few, next-at-most}
 use Rattle.sums.proofs.size.has_room.Statement.{statement}
 use Rattle.sums.proofs.size.has_room.Tie as tie
 
@@ -32,17 +32,13 @@ returns-2 c =
 
 returns-3 : tie.Need-returns-3
 returns-3 c =
-    let at-k = c.before.before.before.before in
-    let args = at-k.before.args in
     let n = c.count-on.result in
-    let half = args.room / 2 in
-    let up_to_lem = next-fewer args.a.now args.b.now (state args.i args.j false) (half + 1) args.k
-    (omega (arith, at-k.if1.false)) in (
-      (λ e. omega (arith, leb-true n half e, c.count-on.ensures, up_to_lem)),
-      (λ e. omega (arith, leb-false n half e, c.count-on.ensures, up_to_lem)),
+    let half = c.before.before.before.before.before.args.room / 2 in (
+      (λ e. omega (arith, leb-true n half e, c.count-on.ensures)),
+      (λ e. omega (arith, leb-false n half e, c.count-on.ensures)),
     )
 
 pub has-room-spec : {M : Type 1} → statement M
 has-room-spec =
     tie.close
-    (tie.spec returns (λ c κs. search rules) (λ c κs. search rules) add-if2 returns-2 (λ c. search rules) (λ c κs. search rules) returns-3)
+    (tie.spec returns (λ c κs. search rules) (λ c κs. search rules) add-if2 returns-2 (λ c κs. search rules) returns-3)

@@ -3,12 +3,13 @@ use native.Mathlib.Omega.{arith}
 use Prim.Native.Nat.{◌+◌, ◌≤◌}
 use borrow.Author.Rules.{rules}
 use lib.ListN.{length}
+use Rattle.plane.specs.Limits.{max_corners}
 use Rattle.plane.specs.Point.{points}
 use Rattle.plane.specs.Corner.{shape_of, sums}
 use Rattle.plane.specs.theory.lists.Flat.{points-length}
 use Rattle.sums.specs.Size.{enough}
 use Rattle.calipers.specs.theory.Steps.{at-begin}
-use Rattle.sums.specs.theory.Summed.{sum-few, settles-some, reckoned-count}
+use Rattle.sums.specs.theory.Summed.{sum-few, reckoned-count}
 use Rattle.sums.proofs.size.reckon.Statement.{statement}
 use Rattle.sums.proofs.size.reckon.Tie as tie
 
@@ -31,17 +32,17 @@ returns c =
 
 count-on-requires : tie.Need-count-on-requires
 count-on-requires c κs =
-    let pre = c.before.before.before.before.before.requires in (at-begin _ _ pre.0 pre.1, settles-some c.settling.ensures)
+    let pre = c.before.before.before.before.requires in (at-begin _ _ pre.0 pre.1, omega arith)
 
 returns-2 : tie.Need-returns-2
+unfolding max_corners
 returns-2 c =
-    let at_most = c.before.before.before.before in
-    let start = at_most.before.before in
-    reckoned-count start.args.a.now start.args.b.now start.requires.0 start.requires.1 (few at_most) c.before.settling.ensures
+    let start = c.before.before.before.before.before in
+    reckoned-count start.args.a.now start.args.b.now start.requires.0 start.requires.1 (max_corners + 1) (omega arith)
     c.count-on.ensures
 
 pub reckon-spec : {M : Type 1} → statement M
 reckon-spec =
     tie.close
-    (tie.spec (λ c κs. search rules) (λ c κs. search rules) add_most (λ c κs. search rules) returns (λ c κs. search rules) count-on-requires
+    (tie.spec (λ c κs. search rules) (λ c κs. search rules) add_most (λ c κs. search rules) returns (λ c. search rules) count-on-requires
     returns-2)

@@ -23,7 +23,7 @@ use Rattle.calipers.specs.Side.{onward, Carried}
 use Rattle.calipers.specs.theory.Sides.{onward-inner, edge-inner}
 use Rattle.sums.specs.Advance.{state, side_of, next_corners, Walked}
 use Rattle.sums.specs.theory.Summed.{next-few}
-use Rattle.sums.proofs.Walked.{side_of-carried, walked_start, walked-below, walked-small, walked-inside}
+use Rattle.sums.proofs.Walked.{side_of-carried, walked_start, walked-below, walked-inside}
 use Rattle.sums.proofs.size.skim.Statement.{statement}
 use Rattle.sums.proofs.size.skim.Tie as tie
 
@@ -65,7 +65,18 @@ module _ (c : tie.At-loop invariant-loop decreases-loop) where
       omega (arith, c.loop.invariant.second-side.at_in, edges-at-most (points b), points-length b, start.good.1.0)
 
   count_small : c.loop.count < 9223372036854775808
-  count_small = omega (arith, walked-small c.loop.invariant (omega (arith, start.good.0)) (omega (arith, start.good.1.0)))
+  count_small =
+      let a = start.args.a.now in
+      let b = start.args.b.now in
+      omega (
+        arith,
+        walked-below c.loop.invariant,
+        next-few a b (state start.args.i start.args.j false) start.args.k start.pre.0,
+        points-length a,
+        points-length b,
+        start.good.0,
+        start.good.1.0,
+      )
 
 inside-requires : tie.Need-inside-requires invariant-loop decreases-loop
 inside-requires c κs = (first_small c, second-small c, count_small c)

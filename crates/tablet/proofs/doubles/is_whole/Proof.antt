@@ -1,24 +1,33 @@
--- `is_whole` meets its contract: a double is whole with either sign.
-use mathlib.Core.Path.{◌∙◌}
-use borrow.Author.Rules.{rules}
-use lib.Ieee.{binary64, of_bits}
-use lib.Ieee.Fits.{neg-fits}
-use Rattle.tablet.specs.theory.Tested.{negated-whole, negated-finite, negated-high}
+-- `is_whole` meets its contract: below 2^53 the whole part is a double exactly, and above it every double is whole.
+use Rattle.std.proofs.Common.{ap, ◌∙◌, w64, rules}
+use lib.Ieee.{Float, binary64, of_bits, neg, eq, of_int}
+use Rattle.integer.specs.Machine.{result-is}
+use Rattle.tablet.specs.theory.Tested.{cuttable, whole-tested, large-high, large-low}
 use Rattle.tablet.proofs.doubles.is_whole.Statement.{statement}
 use Rattle.tablet.proofs.doubles.is_whole.Tie as tie
 
-is-whole-size-requires : tie.Need-is-whole-size-requires
-unfolding of_bits
-is-whole-size-requires c κs =
-    let v = c.before.args.v in
-    (neg-fits binary64 v c.before.requires.0, negated-finite v ∙ c.before.requires.1, negated-high v c.if1.true)
+truncating-f64-to-i64-requires : tie.Need-truncating-f64-to-i64-requires
+unfolding of_bits neg
+truncating-f64-to-i64-requires c κs = cuttable c.before.before.args.v c.before.if1.true c.if2.true
 
 returns : tie.Need-returns
-returns c = c.is-whole-size.ensures ∙ negated-whole c.before.before.args.v
+unfolding of_bits neg
+returns c =
+    let tested = c.before.before in
+    let start = tested.before.before in
+    let cut = result-is w64 c.before.truncating-f64-to-i64.type-inv c.before.truncating-f64-to-i64.ensures in
+    ap (λ (x : Float). eq x start.args.v) (c.nearest-i64-to-f64.ensures ∙ ap (of_int binary64) cut)
+    ∙ whole-tested start.args.v start.requires.1 tested.before.if1.true tested.if2.true
 
-is-whole-size-requires-2 : tie.Need-is-whole-size-requires-2
-unfolding of_bits
-is-whole-size-requires-2 c κs = (c.before.requires.0, c.before.requires.1, c.if1.false)
+returns-2 : tie.Need-returns-2
+unfolding of_bits neg
+returns-2 c =
+    let start = c.before.before in
+    large-high start.args.v start.requires.0 start.requires.1 c.before.if1.true c.if2.false
+
+returns-3 : tie.Need-returns-3
+unfolding of_bits neg
+returns-3 c = large-low c.before.args.v c.before.requires.0 c.before.requires.1 c.if1.false
 
 pub is-whole-spec : {M : Type 1} → statement M
-is-whole-spec = tie.close (tie.spec is-whole-size-requires returns is-whole-size-requires-2 (λ c. search rules))
+is-whole-spec = tie.close (tie.spec truncating-f64-to-i64-requires (λ c κs. search rules) returns returns-2 returns-3)

@@ -1,0 +1,22 @@
+-- `first_along` meets its contract: the four tests are those of the pairs of ends.
+use mathlib.Core.Path.{◌∙◌}
+use borrow.Author.Rules.{rules}
+use Rattle.clearance.specs.Faces.{picked_of}
+use Rattle.clearance.proofs.Tests.{four}
+use Rattle.clearance.proofs.reach.first_along.Statement.{statement}
+use Rattle.clearance.proofs.reach.first_along.Tie as tie
+
+returns : tie.Need-returns
+returns c =
+    let fourth = c.before in
+    let third = fourth.before in
+    let second = third.before in
+    let first = second.before in
+    let args = first.before.args in
+    c.picked.ensures ∙ four (picked_of args.f args.g) first.along.ensures second.along2.ensures third.along3.ensures
+    fourth.along4.ensures
+
+pub first-along-spec : {M : Type 1} → statement M
+first-along-spec =
+    tie.close
+    (tie.spec (λ c κs. search rules) (λ c κs. search rules) (λ c κs. search rules) (λ c κs. search rules) (λ c κs. search rules) returns)

@@ -1,2 +1,0 @@
--- Lemmas that function proofs share.
-pub mod Entered

@@ -1,3 +1,0 @@
--- Lemmas that function proofs share.
-pub mod Beside
-pub mod Along

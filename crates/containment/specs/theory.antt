@@ -1,2 +1,0 @@
--- That what the walk finds is what the question asks.
-pub mod Within

@@ -1,3 +1,0 @@
--- Points brought near their order by digits; then the theory.
-pub mod Digits
-pub mod theory

@@ -1,2 +1,0 @@
--- The theory of counting digits, which only proves.
-pub mod Digits

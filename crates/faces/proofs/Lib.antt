@@ -1,2 +1,0 @@
--- What several proofs share.
-pub mod Tests

@@ -1,2 +1,0 @@
--- The theory of lowest corners, which only proves.
-pub mod Lowest

@@ -1,2 +1,0 @@
--- Why the opposites of a list's numbers are those of its corners.
-pub mod theory

@@ -1,2 +1,0 @@
--- The theory of opposites, which only proves.
-pub mod Negated
