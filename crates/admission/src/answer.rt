@@ -3,7 +3,7 @@
 
 // A row of document 01's table, and what it carries: 1 to 5 the shape that is blamed, the first or the second, and 4
 // the edge and the corner that break the left rule.
-#[derive(Drop)]
+#[derive(Clone, Copy)]
 pub enum Refusal {
     // 1: an empty list, or an odd count of numbers
     Count {
@@ -59,7 +59,7 @@ pub enum Refusal {
 }
 
 // How many corners a shape has that was judged or written.
-#[derive(Drop)]
+#[derive(Clone, Copy)]
 pub enum Answer {
     Corners { count: usize, floor: u16 },
     No(Refusal),

@@ -1,5 +1,7 @@
 // Inner functions: lists judged, each once, before a question is asked of them, and the direction of a question.
 // Callers ask the crate `questions`.
+#![tactic(auto)]
+
 pub mod answer;
 
 ghost use Rattle.std.specs.Prelude.{[], ◌∷◌, ◌≡◌};
@@ -18,7 +20,7 @@ use polygon::rules::Broken;
 
 // A list that is a shape, two or three shapes on one floor, the points of a sweep, a direction that passes, or the
 // first refusal.
-#[derive(Drop)]
+#[derive(Clone, Copy)]
 pub enum Admission {
     Valid,
     No(Refusal),

@@ -1,4 +1,6 @@
 // Inner functions for the area of a shape (002). Callers ask the crate `questions`.
+#![tactic(auto)]
+
 ghost use Rattle.std.specs.Prelude.{◌≡◌, ◌<◌, pos, length};
 ghost use Rattle.plane.specs.Point.{points, corner};
 ghost use Rattle.plane.specs.Refusal.{Valid, InRange};

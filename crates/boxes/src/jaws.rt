@@ -16,7 +16,7 @@ use polygon::{corners, point};
 
 // The corners at which the box on an edge touches the shape: the one furthest from the edge, the one furthest along it
 // and the one furthest back.
-#[derive(Drop)]
+#[derive(Clone, Copy)]
 pub struct Jaws {
     pub high: usize,
     pub far: usize,

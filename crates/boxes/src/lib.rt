@@ -1,5 +1,7 @@
 // Inner functions for the least box about a shape (000, section 3.2), by rotating calipers. Callers ask the crate
 // `questions`.
+#![tactic(auto)]
+
 mod climb;
 mod jaws;
 
@@ -13,7 +15,7 @@ use polygon::corners;
 
 // The box on an edge: the greatest turn over the corners, the spread of the corners' values along the edge, both
 // together, and the edge's squared length.
-#[derive(Drop)]
+#[derive(Clone, Copy)]
 pub struct Boxed {
     pub edge: usize,
     pub height: u64,

@@ -17,7 +17,7 @@ use polygon::point::Point;
 // How many edges of a shape are passed, of how many, the corner (x, y) there, and the next edge (run, rise), which is
 // (0, 0) where none is left. Run and rise are differences of 32 bits, widened once to the width of their products. The
 // parts are no points: each has a register of its own in a loop.
-#[derive(Drop)]
+#[derive(Clone, Copy)]
 pub struct Side {
     pub at: usize,
     pub end: usize,

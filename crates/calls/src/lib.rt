@@ -2,6 +2,8 @@
 // lent as a pointer and a count. A floor above its limit is refused 13, after the lists and before what the question
 // itself refuses. Each call answers a `Reply`: the numbers of the reply that the question's definition states. Four
 // questions can be asked on plain bytes too; each of these calls answers one number.
+#![tactic(auto)]
+
 mod bytes;
 mod lent;
 mod logs;
@@ -28,7 +30,7 @@ pub extern "C" fn cocklesway_version_2() -> u64
 // The limits of every call: corners of a shape, points of a sweep, the size of a coordinate and of a part of a
 // direction, and the highest floor.
 #[repr(C)]
-#[derive(Drop)]
+#[derive(Clone, Copy)]
 pub struct Limits {
     pub corners: u64,
     pub points: u64,

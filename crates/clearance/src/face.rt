@@ -12,7 +12,7 @@ use polygon::point::Point;
 use polygon::{corners, point, rules};
 
 // Their smaller and their larger position.
-#[derive(Drop)]
+#[derive(Clone, Copy)]
 pub struct Face {
     pub first: usize,
     pub last: usize,

@@ -19,7 +19,7 @@ use polygon::point;
 use polygon::point::Point;
 
 // What a walk found: whether a place, the direction there, and how many edges of each shape it had passed.
-#[derive(Drop)]
+#[derive(Clone, Copy)]
 pub struct Sight {
     pub found: bool,
     pub n: Point,

@@ -1,5 +1,7 @@
 // Inner functions for the clearance of two shapes that are apart (document 02, request W3). Callers ask the crate
 // `questions`.
+#![tactic(auto)]
+
 mod face;
 mod facing;
 pub mod measured;
@@ -25,7 +27,7 @@ use separation::answer::Relation;
 use separation::around;
 
 // Shapes that have a point in common; or shapes that are apart, with the place where they are nearest.
-#[derive(Drop)]
+#[derive(Clone, Copy)]
 pub enum Spacing {
     Meets,
     Apart(Distance),

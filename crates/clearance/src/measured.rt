@@ -13,7 +13,7 @@ use polygon::{corners, point, rules};
 
 // Two corners, their squared distance, and the distance rounded down; or a corner of the one shape and an edge of the
 // other, the size of the corner's turn against the edge, the edge's squared length, and the distance rounded down.
-#[derive(Drop)]
+#[derive(Clone, Copy)]
 pub enum Distance {
     Corners {
         first: usize,
@@ -38,7 +38,7 @@ pub enum Distance {
 }
 
 // The height of a corner over an edge: the size of its turn, the squared length of the edge, and the root rounded down.
-#[derive(Drop)]
+#[derive(Clone, Copy)]
 pub struct Height {
     pub turn: u64,
     pub squared: u64,

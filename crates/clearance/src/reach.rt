@@ -15,7 +15,7 @@ use polygon::point::Point;
 use polygon::{corners, point, rules};
 
 // Two corners by their positions; or a corner of one shape and an edge of the other.
-#[derive(Drop)]
+#[derive(Clone, Copy)]
 pub enum Pair {
     Corners { first: usize, second: usize },
     OnSecond { corner: usize, edge: usize },
@@ -23,7 +23,7 @@ pub enum Pair {
 }
 
 // Two positions, if any.
-#[derive(Drop)]
+#[derive(Clone, Copy)]
 pub enum Spot {
     At { one: usize, other: usize },
     Nowhere,

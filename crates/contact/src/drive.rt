@@ -12,7 +12,7 @@ use polygon::point;
 use polygon::point::Point;
 
 // Never, or the fraction of the way in lowest terms and the millimetres up to there, rounded down.
-#[derive(Drop)]
+#[derive(Clone, Copy)]
 pub enum Meeting {
     Never,
     At {

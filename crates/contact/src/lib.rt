@@ -1,4 +1,6 @@
 // Inner functions: where a cart that drives straight first meets an obstacle. Callers ask the crate `questions`.
+#![tactic(auto)]
+
 mod beyond;
 pub mod drive;
 pub mod share;

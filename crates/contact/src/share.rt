@@ -14,7 +14,7 @@ use wide::arithmetic;
 const LONGEST: u64 = 4_194_304;
 
 // A numerator over a denominator.
-#[derive(Drop)]
+#[derive(Clone, Copy)]
 pub struct Share {
     pub numerator: u64,
     pub denominator: u64,

@@ -16,7 +16,7 @@ use polygon::point::Point;
 use polygon::{corners, point, rules};
 
 // The last entries of a way through the walls of a shape, and of the way back.
-#[derive(Drop)]
+#[derive(Clone, Copy)]
 pub struct BothWays {
     pub there: Share,
     pub back: Share,

@@ -1,5 +1,7 @@
 // One pass over the corners of a list decides whether it is a convex shape in standard order (document
 // 02, request W2).
+#![tactic(auto)]
+
 ghost use Rattle.std.specs.Prelude.{true, false, ◌≡◌, ◌+◌, ◌-◌, ◌^◌, ◌<◌, ◌≤◌, pos, length};
 ghost use Rattle.std.specs.Int.Signed.{lt_z};
 ghost use Rattle.plane.specs.Point.{points, corner, ◌⊖◌};
@@ -14,7 +16,7 @@ use polygon::point::Point;
 use polygon::{corners, rules};
 
 // An edge as a vector. The parts have the width of their products.
-#[derive(Drop)]
+#[derive(Clone, Copy)]
 struct Edge {
     run: i64,
     rise: i64,

@@ -1,5 +1,7 @@
 // An answer that is a shape: judged by its size, and written to the lent output. Inner functions; callers ask the crate
 // `questions`.
+#![tactic(auto)]
+
 ghost use Rattle.std.specs.Prelude.{◌≡◌, ◌%◌, length};
 ghost use Rattle.plane.specs.Point.{points};
 ghost use Rattle.plane.specs.Reply.{NoneApply};

@@ -1,4 +1,6 @@
 // Inner functions on directions: refusals 11 and 12, and the corners of a shape that have the greatest value.
+#![tactic(auto)]
+
 ghost use Rattle.std.specs.Prelude.{◌&&◌, ◌≡◌, ◌^◌, ◌<◌, eqb, nat_abs, length};
 ghost use Rattle.std.specs.Int.Signed.{le_z};
 ghost use Rattle.plane.specs.Point.{point, points, corner};
@@ -54,7 +56,7 @@ pub fn magnitude(z: i32) -> u32
 }
 
 // The first and the last of the corners with the greatest value, counterclockwise, and that value.
-#[derive(Drop)]
+#[derive(Clone, Copy)]
 pub struct Face {
     pub first: usize,
     pub last: usize,

@@ -1,4 +1,6 @@
 // The greatest common divisor of two numbers (document 02, request W12): refusal 12 asks it.
+#![tactic(auto)]
+
 ghost use Rattle.std.specs.Prelude.{◌≡◌, ◌/◌, ◌%◌, ◌^◌, ◌<◌};
 ghost use Rattle.divisor.specs.Divisor.{gcd};
 

@@ -1,5 +1,7 @@
 // The questions on a straight drive: where a cart first meets an obstacle, or a shape of a floor. Callers ask the crate
 // `questions`.
+#![tactic(auto)]
+
 ghost use Rattle.std.specs.Prelude.{false, ◌≡◌, [], ◌∷◌, ◌++◌, pos};
 ghost use Rattle.plane.specs.Point.{point};
 ghost use Rattle.plane.specs.Floor.{on};

@@ -1,4 +1,6 @@
 // Inner functions: the first shape of a floor that a straight drive of a cart meets. Callers ask the crate `questions`.
+#![tactic(auto)]
+
 pub mod floor;
 
 ghost use Rattle.std.specs.Prelude.{false, ◌≡◌, ◌*◌, length};
@@ -27,7 +29,7 @@ use polygon::point::Point;
 
 // The name of the first shape that is met, the fraction of the way at which it is, and the millimetres before it,
 // rounded down; never if no shape is met.
-#[derive(Drop)]
+#[derive(Clone, Copy)]
 pub enum Soonest {
     Never,
     At {

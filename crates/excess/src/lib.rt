@@ -1,4 +1,6 @@
 // Inner functions for how far a changed shape reaches beyond the old one. Callers ask the crate `questions`.
+#![tactic(auto)]
+
 mod alone;
 pub mod answer;
 mod outermost;

@@ -11,7 +11,7 @@ use clearance::measured::Distance;
 use polygon::corners;
 
 // A corner's position, and its squared distance from the old shape: turn·turn/squared, as an exact fraction.
-#[derive(Drop)]
+#[derive(Clone, Copy)]
 pub struct Far {
     pub corner: usize,
     pub turn: u64,

@@ -1,5 +1,7 @@
 // Boxes about shapes: two shapes are at least as far from each other as their boxes are along x or along y. Inner
 // functions, by which shapes need not be measured.
+#![tactic(auto)]
+
 ghost use Rattle.std.specs.Prelude.{true, ◌≡◌, ◌^◌};
 ghost use Rattle.plane.specs.Point.{points, ◌⊕◌};
 ghost use Rattle.plane.specs.Direction.{greater as direction_greater};

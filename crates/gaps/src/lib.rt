@@ -1,4 +1,6 @@
 // Inner functions: the narrowest gap between the shapes of a floor. Callers ask the crate `questions`.
+#![tactic(auto)]
+
 pub mod floor;
 pub mod growing;
 mod search;
@@ -19,7 +21,7 @@ use polygon::limits;
 use search::Best;
 
 // The names of two shapes, and how far apart they are once both are grown; nothing if a floor has fewer than two.
-#[derive(Drop)]
+#[derive(Clone, Copy)]
 pub enum Narrowest {
     Nothing,
     Of {

@@ -18,7 +18,7 @@ use neighbours::spacing::Spacing;
 use polygon::extent::Extent;
 
 // The pair that is kept: the places of its two records, and how far apart their grown shapes are.
-#[derive(Drop)]
+#[derive(Clone, Copy)]
 pub enum Best {
     Nothing,
     Pair {

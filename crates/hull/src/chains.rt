@@ -12,7 +12,7 @@ use polygon::point::Point;
 use sorting::order;
 
 // Where two rows go on, and how many corners are kept.
-#[derive(Drop)]
+#[derive(Clone, Copy)]
 pub struct Step {
     pub first: usize,
     pub second: usize,

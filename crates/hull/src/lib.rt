@@ -1,5 +1,7 @@
 // Inner functions for the shape of two shapes together, chain by chain (document 01, "Merge"), and for the shape of
 // many points (document 02, W10). Callers ask the crate `questions`.
+#![tactic(auto)]
+
 mod chains;
 mod outline;
 mod rows;

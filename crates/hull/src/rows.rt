@@ -13,7 +13,7 @@ use polygon::{corners, point};
 use sorting::order;
 
 // The corners from one position up to another.
-#[derive(Drop)]
+#[derive(Clone, Copy)]
 pub struct Row {
     pub first: usize,
     pub end: usize,

@@ -1,1 +1,2 @@
 // The crate holds theory alone: see specs/.
+#![tactic(auto)]

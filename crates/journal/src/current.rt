@@ -9,7 +9,7 @@ use crate::head::Head;
 use crate::{head, marks, records};
 
 // What the current record at a position says, or that there are too few.
-#[derive(Drop)]
+#[derive(Clone, Copy)]
 pub enum Listed {
     At(Head),
     Few,

@@ -4,7 +4,7 @@ ghost use Rattle.journal.specs.Survey.{Sound, Stated};
 use crate::records;
 
 // Where the numbers of a record are, how many they are, and its name and floor.
-#[derive(Drop)]
+#[derive(Clone, Copy)]
 pub struct Head {
     pub place: usize,
     pub count: usize,

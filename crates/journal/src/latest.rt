@@ -8,7 +8,7 @@ use crate::head::Head;
 use crate::{head, records};
 
 // Where the numbers of the latest record of a name are, how many they are, and the floor of the record.
-#[derive(Drop)]
+#[derive(Clone, Copy)]
 pub enum Found {
     At {
         place: usize,

@@ -1,5 +1,7 @@
 // A log of shapes in a lent run of bytes (document 02, W5 and W11: the floor book). Inner functions; callers ask the
 // crate `questions`.
+#![tactic(auto)]
+
 mod corners;
 pub mod current;
 pub mod head;

@@ -12,7 +12,7 @@ const SHORT: usize = 1024;
 const SHORT_NUMBERS: usize = 256;
 
 // Where the last whole record ends, if no record is bad; else where the first bad record is.
-#[derive(Drop)]
+#[derive(Clone, Copy)]
 pub enum Surveyed {
     Ends(usize),
     Bad(usize),

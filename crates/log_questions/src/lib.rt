@@ -1,4 +1,6 @@
 // The questions on a log. Callers ask the crate `questions`.
+#![tactic(auto)]
+
 pub mod books;
 
 ghost use Rattle.std.specs.Prelude.{◌≡◌, ◌<◌, false};

@@ -1,5 +1,7 @@
 // Inner functions for length and width of a shape by rotating calipers (document 01, "Length" and "Width"). Callers ask
 // the crate `questions`.
+#![tactic(auto)]
+
 mod half;
 mod longest;
 pub mod magnitude;
@@ -11,7 +13,7 @@ ghost use Rattle.plane.specs.Refusal.{Valid};
 ghost use Rattle.measure.specs.Answer.{IsLength, IsWidth};
 
 // The greatest squared distance between two corners, and their positions.
-#[derive(Drop)]
+#[derive(Clone, Copy)]
 pub struct Length {
     pub squared: u64,
     pub from: usize,
@@ -20,7 +22,7 @@ pub struct Length {
 
 // The edge that a shape is narrowest across, the corner furthest from it, the turn of that corner against the edge, the
 // edge's squared length, and the width rounded down.
-#[derive(Drop)]
+#[derive(Clone, Copy)]
 pub struct Width {
     pub edge: usize,
     pub corner: usize,

@@ -15,7 +15,7 @@ use calipers::{edges, side};
 use polygon::{corners, peak};
 
 // Two sides on the half walk, and the best pair so far.
-#[derive(Drop)]
+#[derive(Clone, Copy)]
 struct Partway {
     s: Side,
     t: Side,

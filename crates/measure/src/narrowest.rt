@@ -13,7 +13,7 @@ use calipers::{edges, side};
 use polygon::{corners, peak};
 
 // An edge, a corner on the way round that is furthest from it, that corner's turn and the edge's squared length.
-#[derive(Drop)]
+#[derive(Clone, Copy)]
 pub struct Across {
     pub edge: usize,
     pub corner: usize,
@@ -22,7 +22,7 @@ pub struct Across {
 }
 
 // Two sides on the half walk, and the best edge so far.
-#[derive(Drop)]
+#[derive(Clone, Copy)]
 struct Partway {
     s: Side,
     t: Side,

@@ -1,1 +1,2 @@
 // Where a place that moves straight first meets a shape: see specs/. There is no code here.
+#![tactic(auto)]

@@ -1,4 +1,6 @@
 // The nearest current shape of a floor. Inner functions; callers ask the crate `questions`.
+#![tactic(auto)]
+
 pub mod spacing;
 
 ghost use Rattle.std.specs.Prelude.{true, false, not, ◌&&◌, ◌≡◌, ◌*◌, eqb, length};
@@ -23,7 +25,7 @@ use polygon::{extent, limits};
 use spacing::Spacing;
 
 // The name of a shape and how far it is; or no shape.
-#[derive(Drop)]
+#[derive(Clone, Copy)]
 pub enum Near {
     Nobody,
     Of { name: u16, spacing: Spacing },

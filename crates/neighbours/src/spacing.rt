@@ -13,14 +13,14 @@ use polygon::extent;
 use polygon::extent::Extent;
 
 // Shapes that have a point in common; or shapes that are apart, with the place where they are nearest.
-#[derive(Drop)]
+#[derive(Clone, Copy)]
 pub enum Spacing {
     Meets,
     Apart(Distance),
 }
 
 // A distance as the root of turn·turn/squared.
-#[derive(Drop)]
+#[derive(Clone, Copy)]
 pub struct Ratio {
     pub turn: u64,
     pub squared: u64,

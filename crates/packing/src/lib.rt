@@ -1,4 +1,6 @@
 // Packing a log into a second run of bytes. Inner functions; callers ask the crate `questions`.
+#![tactic(auto)]
+
 mod copying;
 
 ghost use Rattle.std.specs.Prelude.{false, ◌≡◌, ◌≤◌, leb, length, take, drop};

@@ -1,4 +1,6 @@
 // The questions on two or three lists. Callers ask the crate `questions`.
+#![tactic(auto)]
+
 pub mod changes;
 mod merging;
 pub mod reaches;

@@ -3,14 +3,14 @@ use crate::walk::Walk;
 use admission::answer::Refusal;
 
 // A walk begun: where a sum in parts is taken up.
-#[derive(Drop)]
+#[derive(Clone, Copy)]
 pub enum Begun {
     At { walk: Walk, floor: u16 },
     No(Refusal),
 }
 
 // How many corners were written of a sum in parts, and the walk that the next call is given.
-#[derive(Drop)]
+#[derive(Clone, Copy)]
 pub enum Part {
     Corners {
         count: usize,

@@ -20,7 +20,7 @@ use sums::size;
 // How far the walk round two shapes is: how many edges of the first and of the second are passed, and over if all
 // corners of their sum are written. It is a plain value, which a caller may keep, copy or make up: one that is at no
 // place of the sum at hand is refused.
-#[derive(Drop)]
+#[derive(Clone, Copy)]
 pub struct Walk {
     pub first: usize,
     pub second: usize,

@@ -18,7 +18,7 @@ use separator::primitive;
 
 // No way, or one: the direction across it, the values of its two lines in that direction, and its width in millimetres
 // rounded down.
-#[derive(Drop)]
+#[derive(Clone, Copy)]
 pub enum Way {
     Blocked,
     Free {

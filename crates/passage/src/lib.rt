@@ -1,4 +1,6 @@
 // Inner functions: may a cart pass straight between two obstacles. Callers ask the crate `questions`.
+#![tactic(auto)]
+
 pub mod corridor;
 
 ghost use Rattle.std.specs.Prelude.{◌≡◌};

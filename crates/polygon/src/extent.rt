@@ -12,7 +12,7 @@ use crate::{corners, limits, point, rules};
 
 // The greatest x and the greatest y of some corners, and the greatest -x and the greatest -y. Those of a mirror image
 // are the same two, exchanged.
-#[derive(Drop)]
+#[derive(Clone, Copy)]
 pub struct Extent {
     pub high: Point,
     pub low: Point,

@@ -8,7 +8,7 @@ ghost use Rattle.plane.specs.Shape.{precedes as shape_precedes};
 ghost use Rattle.polygon.specs.Point.{at, Small};
 
 // A corner, a vector or a direction.
-#[derive(Drop)]
+#[derive(Clone, Copy)]
 pub struct Point {
     pub x: i32,
     pub y: i32,

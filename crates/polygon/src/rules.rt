@@ -89,7 +89,7 @@ fn breaks_at(list: &[i32], edge: usize, corner: usize) -> bool
 }
 
 // Where refusal 4 finds the rules broken.
-#[derive(Drop)]
+#[derive(Clone, Copy)]
 pub enum Broken {
     At { edge: usize, corner: usize },
     Nowhere,

@@ -1,6 +1,8 @@
 // Answers questions about shapes. Each line of standard input is a question: a word, and after a bar each field. It is
 // answered by one line of standard output, in order; a line that is no question is answered with the reason. A line has
 // at most 65,536 characters, and its fields hold at most 16,384 numbers together.
+#![tactic(auto)]
+
 mod ask;
 mod parts;
 mod readings;

@@ -7,7 +7,7 @@ use polygon::limits::SHAPE_NUMBERS;
 use text::{fields, output};
 
 // How many bytes wait after a call, and the walk last handed back.
-#[derive(Drop)]
+#[derive(Clone, Copy)]
 struct Told {
     filled: usize,
     walk: Walk,

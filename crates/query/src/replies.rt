@@ -3,7 +3,7 @@ use reply::Reply;
 use text::output;
 
 // How an answer is written.
-#[derive(Drop)]
+#[derive(Clone, Copy)]
 pub enum Form {
     // `ok`, the values, and the last of them as a floor.
     Numbers,

@@ -3,7 +3,7 @@ use crate::replies::Form;
 use text::fields;
 
 // What can be asked.
-#[derive(Drop)]
+#[derive(Clone, Copy)]
 pub enum Question {
     Judge,
     Furthest,
@@ -40,7 +40,7 @@ pub enum Question {
 }
 
 // What a word asks: a question, and the kinds of its fields.
-#[derive(Drop)]
+#[derive(Clone, Copy)]
 pub struct Entry {
     pub question: Question,
     pub kinds: u64,

@@ -3,6 +3,8 @@
 // its floor, and every answer on shapes carries it: of two shapes, a on floor f and b on floor g, both have the same,
 // or are refused 13 after 1 to 5 of the first and of the second. The questions are stated where they are proved, and
 // passed on here.
+#![tactic(auto)]
+
 pub mod answer;
 pub mod books;
 pub mod rings;

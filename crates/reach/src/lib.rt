@@ -1,5 +1,7 @@
 // Inner functions for the greatest distance of a point of one shape and a point of another (000, 2.3; 003, 3). Callers
 // ask the crate `questions`.
+#![tactic(auto)]
+
 ghost use Rattle.std.specs.Prelude.{◌≡◌, ◌<◌, ◌≤◌, length};
 ghost use Rattle.plane.specs.Point.{points};
 ghost use Rattle.plane.specs.Cycle.{turned};

@@ -1,5 +1,7 @@
 // The one reply of every question, as numbers for a host: an answer enum does not cross to one. No other code turns an
 // answer or a refusal into numbers.
+#![tactic(auto)]
+
 ghost use Rattle.std.specs.Prelude.{◌≡◌, [], ◌∷◌, ◌++◌, pos};
 ghost use Rattle.plane.specs.Reply.{answered};
 ghost use Rattle.clearance.specs.Answer.{values_of};

@@ -1,6 +1,8 @@
 // Inner functions: an outline as people have it, closed or open, in either sense, begun anywhere, with repeats and with
 // points in line. Its corners are found by their positions in the list. Nothing is filled up. Our own, not of
 // documents 01 and 02.
+#![tactic(auto)]
+
 pub mod inward;
 pub mod places;
 pub mod standard;

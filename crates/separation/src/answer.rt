@@ -1,5 +1,5 @@
 // How two shapes relate to each other.
-#[derive(Drop)]
+#[derive(Clone, Copy)]
 pub enum Relation {
     Apart,
     Touching,

@@ -22,7 +22,7 @@ use polygon::rules::either;
 // What a walk round the edges saw: whether the origin is to the right of one, at which it stops, and then its outer
 // normal; if of none, how many edges there are and whether the origin is not to the left of one. And how many edges of
 // each shape are passed before the edge at which it ended.
-#[derive(Drop)]
+#[derive(Clone, Copy)]
 pub struct Sides {
     pub count: usize,
     pub outside: bool,

@@ -48,7 +48,7 @@ pub fn write(a: &[i32], b: &[i32], top: usize, out: &mut [i32]) -> usize
 }
 
 // The sides to which a walk came, and the corners that were written.
-#[derive(Drop)]
+#[derive(Clone, Copy)]
 struct Partway {
     count: usize,
     first: Side,

@@ -1,5 +1,7 @@
 // Inner functions for how two shapes relate to each other (document 01, "Relation" and "Inside"), and for their
 // differences. Callers ask the crate `questions`.
+#![tactic(auto)]
+
 pub mod answer;
 pub mod around;
 pub mod differences;

@@ -16,7 +16,7 @@ use calipers::{image, side};
 use polygon::point::Point;
 
 // The sides to which the walk came, and at how many steps both went on.
-#[derive(Drop)]
+#[derive(Clone, Copy)]
 pub struct Partway {
     pub s: Side,
     pub t: Side,

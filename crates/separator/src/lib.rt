@@ -1,5 +1,7 @@
 // Inner functions for a direction in which one shape is below another: the witness that they are apart (document 02,
 // request W13). Callers ask the crate `questions`.
+#![tactic(auto)]
+
 pub mod primitive;
 
 ghost use Rattle.std.specs.Prelude.{false, ◌≡◌};
@@ -29,7 +31,7 @@ pub fn is_below(a: &[i32], b: &[i32], d: Point) -> bool
 }
 
 // A direction in which the first shape is below the second, or that there is none.
-#[derive(Drop)]
+#[derive(Clone, Copy)]
 pub enum Separator {
     Direction { u: i32, v: i32 },
     Nothing,

@@ -1,4 +1,6 @@
 // The questions on one list: a shape, the points of a sweep, a ring. Callers ask the crate `questions`.
+#![tactic(auto)]
+
 pub mod boxing;
 pub mod rings;
 mod sweeping;

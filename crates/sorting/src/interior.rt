@@ -13,7 +13,7 @@ use polygon::corners;
 use polygon::point::Point;
 
 // A rectangle by its sides.
-#[derive(Drop)]
+#[derive(Clone, Copy)]
 pub struct Rectangle {
     pub left: i32,
     pub right: i32,
@@ -22,7 +22,7 @@ pub struct Rectangle {
 }
 
 // The positions of four points of a list.
-#[derive(Drop)]
+#[derive(Clone, Copy)]
 pub struct Extremes {
     pub northeast: usize,
     pub northwest: usize,
@@ -31,7 +31,7 @@ pub struct Extremes {
 }
 
 // A position, and how far out the point there is along a diagonal.
-#[derive(Drop)]
+#[derive(Clone, Copy)]
 pub struct Far {
     pub at: usize,
     pub value: i32,

@@ -1,5 +1,7 @@
 // Adding a record to a log, byte by byte, with no more stores than are allowed. Inner functions; callers ask the crate
 // `questions`. The definitions are those of the crate `journal`.
+#![tactic(auto)]
+
 ghost use Rattle.std.specs.Prelude.{true, ◌≡◌, [], ◌∷◌, ℕ, ◌+◌, ◌*◌, ◌-◌, ◌≤◌, ◌<◌, leb, ltb, length, take, drop, get_or};
 ghost use Rattle.endian.specs.Bytes.{pair as bytes_pair, word as bytes_word, words as bytes_words};
 ghost use Rattle.journal.specs.Format.{recorded};

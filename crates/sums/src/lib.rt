@@ -1,5 +1,7 @@
 // Inner functions for the vector sum of two shapes by the caliper walk (document 01, "Sum"). Callers ask the crate
 // `questions`.
+#![tactic(auto)]
+
 pub mod extent;
 pub mod size;
 pub mod walk;

@@ -65,7 +65,7 @@ pub fn count_on(a: &[i32], b: &[i32], i: usize, j: usize, k: usize) -> usize
 }
 
 // How far a count came: the corners that were counted, and the edges of each shape that are passed.
-#[derive(Drop)]
+#[derive(Clone, Copy)]
 struct Tally {
     count: usize,
     first: usize,

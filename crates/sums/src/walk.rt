@@ -16,7 +16,7 @@ use polygon::corners;
 
 // How far a walk went: the corners that were written, the edges of each shape that are passed, and whether no corner is
 // left.
-#[derive(Drop)]
+#[derive(Clone, Copy)]
 pub struct Advance {
     pub count: usize,
     pub first: usize,
@@ -59,7 +59,7 @@ pub fn walk_on(a: &[i32], b: &[i32], i: usize, j: usize, k: usize, out: &mut [i3
 }
 
 // The sides to which a walk came, and the corners that were written.
-#[derive(Drop)]
+#[derive(Clone, Copy)]
 struct Partway {
     count: usize,
     first: Side,

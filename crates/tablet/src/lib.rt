@@ -1,4 +1,6 @@
 // Inner functions for readings of the surveyor's tablet (document 02, W4). Callers ask the crate `questions`.
+#![tactic(auto)]
+
 mod doubles;
 pub mod reading;
 

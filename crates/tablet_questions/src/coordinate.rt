@@ -5,7 +5,7 @@ use answers::Unread;
 use tablet::reading::{Read, Reading};
 
 // The whole number of a reading, or its refusal.
-#[derive(Drop)]
+#[derive(Clone, Copy)]
 pub enum Coordinate {
     Whole(i32),
     No(Unread),

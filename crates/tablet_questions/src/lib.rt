@@ -1,4 +1,6 @@
 // The question on readings of the tablet. Callers ask the crate `questions`.
+#![tactic(auto)]
+
 mod coordinate;
 
 ghost use Rattle.std.specs.Prelude.{◌≡◌};

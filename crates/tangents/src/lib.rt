@@ -1,5 +1,7 @@
 // Inner functions for the lines that just touch two shapes (document 02, request W1).
 // Callers ask the crate `questions`.
+#![tactic(auto)]
+
 mod draws;
 mod rest;
 
@@ -12,7 +14,7 @@ ghost use Rattle.plane.specs.Tangent.{tangent_from, tangent_to};
 use polygon::corners;
 
 // A line from a corner of the first shape to a corner of the second, by their positions.
-#[derive(Drop)]
+#[derive(Clone, Copy)]
 pub struct Line {
     pub from: usize,
     pub to: usize,

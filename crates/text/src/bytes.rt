@@ -2,7 +2,7 @@
 use crate::{digits, words};
 
 // How many bytes a text has, or none if it is no pairs of digits.
-#[derive(Drop)]
+#[derive(Clone, Copy)]
 pub enum Pairs {
     Bytes(usize),
     Nothing,

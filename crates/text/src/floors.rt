@@ -9,7 +9,7 @@ const MARK: u8 = b'@';
 const GREATEST: u64 = 65535;
 
 // The floor that a text says, or that its first word should be one and is not.
-#[derive(Drop)]
+#[derive(Clone, Copy)]
 pub enum Floor {
     On(u16),
     Wrong,

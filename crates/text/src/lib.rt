@@ -3,6 +3,8 @@
 //
 // A line has at most as many characters as the buffer that the caller lends for it, without its newline; spaces after
 // them are dropped. The fields of a line hold together at most as many numbers as the caller lends room for.
+#![tactic(auto)]
+
 mod bytes;
 mod calls;
 mod digits;

@@ -5,7 +5,7 @@ use crate::standard::Input;
 use crate::{output, standard, words};
 
 // How far the reading has come.
-#[derive(Drop)]
+#[derive(Clone, Copy)]
 pub struct Reading {
     // How many bytes of answers wait to be written.
     pub filled: usize,

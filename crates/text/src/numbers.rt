@@ -12,14 +12,14 @@ const LEAST: u64 = 2147483648;
 const NO_DIGITS: u64 = u64::MAX;
 
 // How many numbers are held after a field, or why it could not be read.
-#[derive(Drop)]
+#[derive(Clone, Copy)]
 pub enum Taken {
     Held(usize),
     No(Reason),
 }
 
 // What a sign and digits stand for: a number of 32 bits, or one that is too large for them.
-#[derive(Drop)]
+#[derive(Clone, Copy)]
 pub enum Value {
     Fits(i32),
     Wide,

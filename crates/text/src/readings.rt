@@ -9,7 +9,7 @@ const LENGTH: usize = 18;
 const SHORT: u64 = 0x1000000000000000;
 
 // The unit and the bits of a reading, or none if the text is no reading.
-#[derive(Drop)]
+#[derive(Clone, Copy)]
 pub enum Reading {
     Millimetres(u64),
     Eighths(u64),
@@ -17,7 +17,7 @@ pub enum Reading {
 }
 
 // The value of hexadecimal digits, or none.
-#[derive(Drop)]
+#[derive(Clone, Copy)]
 enum Bits {
     Of(u64),
     Nothing,

@@ -1,7 +1,7 @@
 // Why a line is no question, and the answer that says so.
 use crate::output;
 
-#[derive(Drop)]
+#[derive(Clone, Copy)]
 pub enum Reason {
     // The line is a question.
     Nothing,

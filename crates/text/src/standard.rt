@@ -3,7 +3,7 @@
 use libc::{STDIN_FILENO, STDOUT_FILENO};
 
 // What a read has found.
-#[derive(Drop)]
+#[derive(Clone, Copy)]
 pub enum Input {
     // The count of bytes; 0 if it is to be tried again.
     Bytes(usize),

@@ -1,4 +1,6 @@
 // Numbers of many words, and what width asks of them (document 01, "Width").
+#![tactic(auto)]
+
 pub mod arithmetic;
 mod root;
 

@@ -1,4 +1,6 @@
 // A reply as the struct of numbers that crosses to a host, and refusals in it.
+#![tactic(auto)]
+
 pub mod numbers;
 pub mod refusals;
 
@@ -6,7 +8,7 @@ pub mod refusals;
 // `carried` a refusal has; the rest is 0. The values are in document 01's order, the floor last. A value below 0 is its
 // two's complement in 64 bits.
 #[repr(C)]
-#[derive(Drop)]
+#[derive(Clone, Copy)]
 pub struct Reply {
     pub number: u64,
     pub carried: [u64; 3],
