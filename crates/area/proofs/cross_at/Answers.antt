@@ -1,0 +1,19 @@
+-- `cross_at` meets its contract.
+use mathlib.Core.Path.{◌∙◌, ap₂}
+use borrow.Author.Rules.{rules}
+use mir.Syntax.{w64}
+use Rattle.integer.specs.Machine.{result-is}
+use Rattle.plane.specs.Turn.{cross}
+use Rattle.polygon.specs.theory.Small.{small-corner, small-wide}
+use Rattle.area.proofs.cross_at.Goals as goal
+
+pub cross-requires : goal.cross-requires
+cross-requires c =
+    let pre = c.before.before.requires in (
+      small-wide (small-corner _ pre.2 _ pre.0 c.before.corner_at.ensures),
+      small-wide (small-corner _ pre.2 _ pre.1 c.corner_at-2.ensures),
+    )
+
+pub returns : goal.returns
+returns c = result-is w64 c.cross.type-inv (c.cross.ensures
+    ∙ ap₂ cross c.before.before.corner_at.ensures c.before.corner_at-2.ensures)

@@ -1,0 +1,13 @@
+use Prim.Native.Nat.{◌-◌, ◌<◌}
+use native.Mathlib.Omega.{arith}
+use lib.ListN.{length}
+use Rattle.plane.specs.Limits.{corners-small}
+use Rattle.plane.specs.Point.{points}
+use Rattle.boxes.proofs.Walk.{Walk, walk_start, walk-closing, walk-next, walk-done}
+use Rattle.boxes.proofs.least_box.Given as goal
+
+abbrev pub invariant-loop-edge : goal.invariant-loop-edge
+invariant-loop-edge l = Walk l.list l.edge l.at l.best
+
+abbrev pub decreases-loop-edge : goal.decreases-loop-edge
+decreases-loop-edge l = l.n - l.edge

@@ -1,0 +1,20 @@
+-- `round` meets its contract.
+use mathlib.Core.Path.{◌≡◌, sym, ◌∙◌, ap}
+use mathlib.Core.Bool.{Bool, cond}
+use borrow.Author.Tests.{eq-eqb, ne_eqb}
+use native.Mathlib.Omega.{arith}
+use lib.ListN.{length}
+use Rattle.plane.specs.Point.{points}
+use Rattle.calipers.proofs.edges.round.Goals as goal
+
+pub count-requires : goal.count-requires
+count-requires c = tt
+
+pub returns-then-i-count : goal.returns-then-i-count
+returns-then-i-count c = let start = c.before.before in
+    (ap (λ (b : Bool). cond b 0 start.args.i) (sym (eq-eqb _ _ (c.if-i-count.true ∙ c.before.count.ensures))), start.requires.1)
+
+pub returns-else-i-count : goal.returns-else-i-count
+returns-else-i-count c = let start = c.before.before in
+    let other : start.args.i ≡ length (points start.args.list.now) → ⊥ = λ e. c.if-i-count.false (e ∙ sym c.before.count.ensures) in
+    (ap (λ (b : Bool). cond b 0 start.args.i) (sym (ne_eqb _ _ other)), omega (arith, other, start.requires.0))

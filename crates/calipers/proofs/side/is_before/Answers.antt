@@ -1,0 +1,37 @@
+-- `is_before` meets its contract: of two edges in different halves the one that points up is first, of two in one half the product tells.
+use mathlib.Core.Path.{◌≡◌, refl, sym, ◌∙◌, ap}
+use mathlib.Core.Bool.{Bool, true, false, not, ◌&&◌, ◌||◌}
+use borrow.Author.Rules.{rules}
+use lib.IntN.{pos}
+use lib.Signed.{lt_z}
+use mir.Syntax.{w64}
+use Rattle.integer.specs.Machine.{result-is}
+use Rattle.plane.specs.Point.{Point}
+use Rattle.plane.specs.Turn.{cross}
+use Rattle.plane.specs.Forms.{up, before}
+use Rattle.plane.specs.theory.forms.Angle.{before-alike}
+use Rattle.calipers.proofs.Tests.{equal, different}
+use Rattle.calipers.proofs.side.is_before.Goals as goal
+
+-- of two halves the upper is first
+before-apart : (e f : Point) → up e ≡ not (up f) → up e ≡ before e f
+unfolding before
+before-apart e f h = rw h (go (up f) (lt_z (pos 0) (cross e f)))
+  where
+    go : (t u : Bool) → not t ≡ ((not t && not t) || ((not t || not t) && u))
+    go true u = refl
+    go false u = refl
+
+pub returns-then-is_up : goal.returns-then-is_up
+returns-then-is_up c =
+    let second = c.before.before in
+    let first = second.before in
+    c.is_up-then-is_up.ensures ∙ before-apart _ _
+    (sym first.is_up.ensures ∙ different _ _ c.before.if-is_up.true ∙ ap not second.is_up-2.ensures)
+
+pub returns : goal.returns
+returns c =
+    let second = c.before.before in
+    let first = second.before in
+    ap (lt_z (pos 0)) (result-is w64 c.order.type-inv c.order.ensures)
+    ∙ sym (before-alike _ _ (sym first.is_up.ensures ∙ equal _ _ c.before.if-is_up.false ∙ second.is_up-2.ensures))

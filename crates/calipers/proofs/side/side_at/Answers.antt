@@ -1,0 +1,37 @@
+-- `side_at` meets its contract.
+use mathlib.Core.Path.{sym, ◌∙◌, ap}
+use native.Mathlib.Omega.{arith}
+use borrow.Author.Rules.{rules}
+use Rattle.plane.specs.Point.{points, corner}
+use Rattle.plane.specs.Cycle.{corner_round}
+use Rattle.plane.specs.theory.sum.Positions.{edges-at-most}
+use Rattle.polygon.specs.theory.Small.{small-corner}
+use Rattle.calipers.proofs.side.side_at.Goals as goal
+
+pub round-requires : goal.round-requires
+round-requires c = (omega (arith, c.requires.0, edges-at-most (points c.args.list.now)), c.requires.2)
+
+pub standing-requires : goal.standing-requires
+standing-requires c =
+    let at-corner = c.before in
+    small-corner _ at-corner.before.before.requires.1 _ at-corner.before.round.ensures.upper_bound at-corner.corner_at-corner.ensures
+
+pub onto-requires : goal.onto-requires
+onto-requires c =
+    let at-corner = c.before.before in
+    let start = at-corner.before.before in
+    let ps = points start.args.list.now in
+    let made = c.standing.ensures in (
+      record {
+        at_in = omega (arith, made.0, start.requires.0);
+        end_is = made.1 ∙ c.before.sides.ensures;
+        corner-is = made.2 ∙ at-corner.corner_at-corner.ensures ∙ ap (corner ps) at-corner.before.round.ensures.value
+            ∙ ap (corner_round ps) (sym made.0);
+        no_edge = made.3;
+      },
+      start.requires.1,
+      start.requires.2,
+    )
+
+pub returns : goal.returns
+returns c = (c.onto.ensures.0 ∙ c.before.standing.ensures.0, c.onto.ensures.1)

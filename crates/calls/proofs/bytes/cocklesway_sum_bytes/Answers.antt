@@ -1,0 +1,6 @@
+-- `cocklesway_sum_bytes` meets its contract, which is that of `combine`.
+use borrow.Author.Rules.{rules}
+use Rattle.calls.proofs.bytes.cocklesway_sum_bytes.Goals as goal
+
+pub returns : goal.returns
+returns c = c.before.before.combine.ensures

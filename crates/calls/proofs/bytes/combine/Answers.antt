@@ -1,0 +1,8 @@
+-- `combine` meets its contract, which is that of the one that it calls.
+use mathlib.Core.Path.{sym, ◌∙◌}
+use Rattle.calls.specs.theory.Few.{both_small}
+use borrow.Author.Rules.{rules}
+use Rattle.calls.proofs.bytes.combine.Goals as goal
+
+pub combine_small-requires : goal.combine_small-requires
+combine_small-requires c = both_small _ _ (sym c.before.before.are_small.ensures ∙ c.before.if-are_small.true)

@@ -1,0 +1,9 @@
+-- `combine_small` meets its contract, which is that of `combine` with small buffers.
+use Rattle.calls.specs.theory.Few.{small-enough}
+use borrow.Author.Rules.{rules}
+use Rattle.calls.proofs.bytes.combine_small.Goals as goal
+
+pub combine-requires : goal.combine-requires
+combine-requires c =
+    let small = c.before.before.before.before.before.before.before.requires in
+    (small-enough _ small.0, small-enough _ small.1, λ n few k. k)

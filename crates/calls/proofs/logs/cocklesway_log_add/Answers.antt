@@ -1,0 +1,25 @@
+-- `cocklesway_log_add` meets its contract: 13 for a floor above its limit, else the reply of `log_add`, crossed, and its log.
+use mathlib.Core.Path.{◌≡◌, sym, ◌∙◌}
+use mathlib.Core.Bool.{false}
+use lib.Dec.{ltb}
+use Rattle.plane.specs.Limits.{max_floor}
+use Rattle.crossing.specs.theory.Low.{low_fits}
+use Rattle.calls.specs.theory.Logs.{added-above, added-within}
+use borrow.Author.Rules.{rules}
+use Rattle.calls.proofs.logs.cocklesway_log_add.Goals as goal
+use Rattle.calls.proofs.logs.cocklesway_log_add.Goals.{Else-exceeds_floor}
+
+-- past the test the floor is within its limit
+low : (c : Else-exceeds_floor) → ltb max_floor c.before.before.before.args.f ≡ false
+low c = sym c.before.exceeds_floor.ensures ∙ c.if-exceeds_floor.false
+
+pub returns : goal.returns
+returns c =
+    added-within _ _ _ _ _ (low c.before.before.before.before.before) c.of_addition.ensures
+    c.before.before.before.log_add.ensures
+
+pub returns-then-exceeds_floor : goal.returns-then-exceeds_floor
+returns-then-exceeds_floor c = added-above _ _ _ _ _ (sym c.before.before.exceeds_floor.ensures ∙ c.before.if-exceeds_floor.true) c.barred.ensures
+
+pub overflow_cast-f : goal.overflow_cast-f
+overflow_cast-f c = low_fits _ (low c.before)

@@ -1,0 +1,23 @@
+-- `cocklesway_sweep` meets its contract: 13 for a floor above its limit, else the reply of `sweep`, crossed, and its output.
+use mathlib.Core.Path.{◌≡◌, sym, ◌∙◌}
+use mathlib.Core.Bool.{false}
+use lib.Dec.{ltb}
+use Rattle.plane.specs.Limits.{max_floor}
+use Rattle.crossing.specs.theory.Low.{low_fits, within-written}
+use Rattle.crossing.specs.theory.High.{above}
+use borrow.Author.Rules.{rules}
+use Rattle.calls.proofs.shapes.cocklesway_sweep.Goals as goal
+use Rattle.calls.proofs.shapes.cocklesway_sweep.Goals.{Else-exceeds_floor}
+
+-- past the test the floor is within its limit
+low : (c : Else-exceeds_floor) → ltb max_floor c.before.before.args.floor ≡ false
+low c = sym c.before.exceeds_floor.ensures ∙ c.if-exceeds_floor.false
+
+pub returns-then-exceeds_floor : goal.returns-then-exceeds_floor
+returns-then-exceeds_floor c = above _ (sym c.before.before.exceeds_floor.ensures ∙ c.before.if-exceeds_floor.true) c.barred_points.ensures
+
+pub overflow_cast-floor : goal.overflow_cast-floor
+overflow_cast-floor c = low_fits _ (low c)
+
+pub returns : goal.returns
+returns c = within-written _ (low c.before.before.before.before) c.of_answer.ensures c.before.before.sweep.ensures

@@ -1,0 +1,23 @@
+-- `place` meets its contract: past the last corner the first comes again.
+use native.Mathlib.Omega.{arith}
+use Rattle.plane.specs.theory.lists.Flat.{points-length}
+use Rattle.clearance.proofs.face.place.Goals as goal
+
+pub count-n-requires : goal.count-n-requires
+count-n-requires c = tt
+
+pub returns-then-n-i : goal.returns-then-n-i
+returns-then-n-i c = c.before.before.requires
+
+pub overflow_add-k : goal.overflow_add-k
+overflow_add-k c =
+    let counted = c.before in
+    omega (arith, counted.count-n.ensures, counted.before.requires, c.if-n-i.false, points-length counted.before.args.list.now)
+
+pub returns-then-k-n : goal.returns-then-k-n
+returns-then-k-n c = omega (arith, c.before.before.count-n.ensures, c.if-k-n.true)
+
+pub returns-else-k-n : goal.returns-else-k-n
+returns-else-k-n c =
+    let counted = c.before.before in
+    omega (arith, counted.count-n.ensures, counted.before.requires, c.before.if-n-i.false, c.if-k-n.false)

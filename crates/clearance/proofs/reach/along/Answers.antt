@@ -1,0 +1,45 @@
+-- `along` meets its contract: the cross product with the direction, from both sides of 0.
+use mathlib.Core.Path.{◌≡◌, ◌∙◌, ap, ap₂}
+use borrow.Author.Rules.{rules}
+use lib.IntN.{ℤ, pos}
+use lib.Signed.{le_z}
+use mir.Syntax.{w64}
+use mir.Val.{to_z, of_z}
+use Rattle.integer.specs.Machine.{result-is}
+use Rattle.plane.specs.Point.{points, corner, ◌⊖◌}
+use Rattle.plane.specs.Turn.{cross}
+use Rattle.polygon.specs.Point.{at}
+use Rattle.polygon.specs.theory.Small.{small-corner, small-step}
+use Rattle.clearance.specs.Faces.{is_along}
+use Rattle.clearance.proofs.Tests.{and-taken, and_left}
+use Rattle.clearance.proofs.reach.along.Goals as goal
+use Rattle.clearance.proofs.reach.along.Goals.{After-cross-beside}
+
+pub step-requires : goal.step-requires
+step-requires c =
+    let pre = c.before.before.requires in
+    (small-corner _ pre.3 _ pre.1 c.before.corner_at.ensures, small-corner _ pre.2 _ pre.0 c.corner_at-2.ensures)
+
+pub cross-beside-requires : goal.cross-beside-requires
+cross-beside-requires c =
+    let at-corner = c.before in
+    let both = step-requires at-corner c.lifetimes in
+    (at-corner.before.before.requires.4, small-step both.0 both.1 c.step.ensures)
+
+beside-is : (c : After-cross-beside) → let start = c.before.before.before.before in
+    to_z w64 (of_z w64 c.cross-beside.result)
+    ≡ cross (at start.args.n)
+    (corner (points start.args.a.now) start.args.i ⊖ corner (points start.args.b.now) start.args.j)
+beside-is c =
+    let at-step = c.before in
+    let start = at-step.before.before.before in
+    result-is w64 c.cross-beside.type-inv (c.cross-beside.ensures ∙ ap (cross (at start.args.n))
+    (at-step.step.ensures ∙ ap₂ ◌⊖◌ at-step.before.corner_at-2.ensures at-step.before.before.corner_at.ensures))
+
+pub returns-then-beside-ge0 : goal.returns-then-beside-ge0
+unfolding is_along
+returns-then-beside-ge0 c = and-taken _ (ap (le_z (pos 0)) (beside-is c.before)) c.if-beside-ge0.true (ap (λ (z : ℤ). le_z z (pos 0)) (beside-is c.before))
+
+pub returns-else-beside-ge0 : goal.returns-else-beside-ge0
+unfolding is_along
+returns-else-beside-ge0 c = and_left _ (ap (le_z (pos 0)) (beside-is c.before)) c.if-beside-ge0.false

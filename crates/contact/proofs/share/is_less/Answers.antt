@@ -1,0 +1,15 @@
+-- `is_less` meets its contract: both products have two words, and are compared.
+use mathlib.Core.Path.{◌∙◌, ap, ap₂}
+use Prim.Native.Nat.{◌*◌}
+use borrow.Author.Rules.{rules}
+use lib.Dec.{ltb}
+use Rattle.wide.specs.theory.Laws.{value-word}
+use Rattle.contact.proofs.share.is_less.Goals as goal
+
+pub returns : goal.returns
+returns c =
+    let second = c.before.before.before.before in
+    let first = second.before.before.before.before in
+    let args = first.before.before.before.args in
+    c.is_less.ensures ∙ ap₂ ltb (first.scale.ensures ∙ ap (λ z. z * args.b) (value-word args.a))
+    (second.scale-2.ensures ∙ ap (λ z. z * args.d) (value-word args.c))

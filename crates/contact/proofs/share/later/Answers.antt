@@ -1,0 +1,18 @@
+-- `later` meets its contract: the second is the start, or it is later exactly if its product is greater.
+use mathlib.Core.Path.{sym, ◌∙◌}
+use borrow.Author.Rules.{rules}
+use Rattle.contact.specs.theory.Words.{later_first, later_second, later-begun}
+use Rattle.contact.proofs.share.later.Goals as goal
+
+pub returns-then-g-eq0 : goal.returns-then-g-eq0
+returns-then-g-eq0 c = later-begun c.before.before.args.f c.before.before.args.g c.if-g-eq0.true
+
+pub returns-then-is_less : goal.returns-then-is_less
+returns-then-is_less c =
+    let args = c.before.before.before.before.args in
+    later_second args.f args.g (sym c.before.is_less.ensures ∙ c.if-is_less.true)
+
+pub returns-else-is_less : goal.returns-else-is_less
+returns-else-is_less c =
+    let args = c.before.before.before.before.args in
+    later_first args.f args.g (sym c.before.is_less.ensures ∙ c.if-is_less.false)

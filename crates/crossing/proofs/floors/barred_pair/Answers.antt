@@ -1,0 +1,37 @@
+-- `barred_pair` meets its contract: the first list is refused, or the second, or 13 is due.
+use mathlib.Core.Path.{◌∙◌, ap}
+use Rattle.wire.specs.Told.{crossed}
+use Rattle.crossing.specs.theory.High.{barred-refused, barred-shapes}
+use Rattle.plane.specs.Refusal.{shape_rows, Valid}
+use Rattle.plane.specs.theory.refusals.Accept.{valid→accepted}
+use Rattle.admission.specs.theory.Judged.{refuses-append, refuses-join}
+use borrow.Author.Rules.{rules}
+use Rattle.crossing.proofs.floors.barred_pair.Goals as goal
+use Rattle.crossing.proofs.floors.barred_pair.Goals.{In_default, In_default-admit}
+
+-- past its judging each list is a shape
+first : (c : In_default) → Valid c.before.before.before.args.a.now
+first c = c.before.before.admit.ensures.valid c.in_default.is
+
+second : (c : In_default-admit) → Valid c.before.before.before.before.before.before.args.b.now
+second c = c.before.before.admit-2.ensures.valid c.in_default-admit.is
+
+pub returns-in-No : goal.returns-in-No
+returns-in-No c =
+    let judged = c.before.before.before.before.admit.ensures in
+    let start = c.before.before.before.before.before in
+    c.of_refusal.ensures
+    ∙ ap crossed (barred-refused (refuses-append (shape_rows 2 start.args.b.now) (judged.no _ c.before.before.in-No.is)))
+
+pub returns-in-No-admit : goal.returns-in-No-admit
+returns-in-No-admit c =
+    let at_second = c.before.before.before.before in
+    let start = at_second.before.before.before.before in
+    c.of_refusal-in-No-admit.ensures
+    ∙ ap crossed (barred-refused (refuses-join (shape_rows 1 start.args.a.now) (valid→accepted _ 1 (first at_second.before))
+    (at_second.admit-2.ensures.no _ c.before.before.in-No-admit.is)))
+
+pub returns : goal.returns
+returns c =
+    let at_told = c.before in
+    c.of_refusal-2.ensures ∙ ap crossed (barred-shapes _ _ (first at_told.before.before.before) (second at_told))

@@ -1,0 +1,45 @@
+-- `odd_divisor` meets its contract. The invariant: both numbers are odd, and their divisor is the one sought; the measure is their sum.
+use Prim.Native.Nat.{◌+◌}
+use native.Mathlib.Omega.{arith}
+use borrow.Author.Rules.{rules}
+use Rattle.divisor.specs.Halving.{Halved, halved-swap, shift_fits, next-less, halved-next, halved-end}
+use Rattle.divisor.proofs.odd_divisor.Goals as goal
+
+pub loop-x-init : goal.loop-x-init
+loop-x-init c = record {
+  left-odd = c.requires.odd.0;
+  right-odd = c.requires.odd.1;
+  left-fits = c.ranges.a.fits;
+  right-fits = c.ranges.b.fits;
+  same = λ g p. p;
+
+}
+
+pub strip-y-requires : goal.strip-y-requires
+strip-y-requires c = shift_fits c.before.before.loop-x.invariant c.if-x-y.true
+
+pub loop-x-smaller-then-x-y : goal.loop-x-smaller-then-x-y
+loop-x-smaller-then-x-y c =
+    let at-loop = c.before.before.before in
+    omega (arith, next-less at-loop.loop-x.invariant c.before.if-x-y.true _ c.strip-y.ensures)
+
+pub loop-x-preserved-then-x-y : goal.loop-x-preserved-then-x-y
+loop-x-preserved-then-x-y c =
+    let at-loop = c.before.before.before in
+    halved-next at-loop.loop-x.invariant c.before.if-x-y.true _ c.strip-y.ensures
+
+pub strip-x-requires : goal.strip-x-requires
+strip-x-requires c = shift_fits (halved-swap c.before.before.loop-x.invariant) (omega arith)
+
+pub loop-x-smaller : goal.loop-x-smaller
+loop-x-smaller c =
+    let at-loop = c.before.before.before in
+    omega (arith, next-less (halved-swap at-loop.loop-x.invariant) (omega arith) _ c.strip-x.ensures)
+
+pub loop-x-preserved : goal.loop-x-preserved
+loop-x-preserved c =
+    let at-loop = c.before.before.before in
+    halved-swap (halved-next (halved-swap at-loop.loop-x.invariant) (omega arith) _ c.strip-x.ensures)
+
+pub returns : goal.returns
+returns c = halved-end c.before.loop-x.invariant c.loop-x-test.false

@@ -1,0 +1,18 @@
+-- `contact` meets its contract: the places are read back from their bits.
+use mathlib.Core.Path.{◌∙◌, ap₂}
+use borrow.Author.Rules.{rules}
+use mir.Facts.{to_z-of_z}
+use Rattle.plane.specs.Point.{Point, point}
+use Rattle.plane.specs.Floor.{on}
+use Rattle.plane.specs.Question.{reply}
+use Rattle.motion.specs.Contact.{ask_contact}
+use Rattle.drive_questions.proofs.contact.Goals as goal
+
+pub returns : goal.returns
+returns c =
+    let start = c.before in
+    let args = start.args in
+    let fits = start.ranges in
+    c.driven.ensures
+    ∙ ap₂ (λ (p q : Point). reply (ask_contact (on args.obstacle.now args.f) (on args.cart.now args.g) p q))
+    (ap₂ point (to_z-of_z fits.x) (to_z-of_z fits.y)) (ap₂ point (to_z-of_z fits.u) (to_z-of_z fits.v))

@@ -1,0 +1,43 @@
+-- `kept` meets its contract: the shape is not met, or not sooner, or a later record has its name, or it is kept.
+use mathlib.Core.Path.{◌≡◌, refl, sym, ◌∙◌, ap, ap₂}
+use mathlib.Core.Bool.{Bool, cond, ◌&&◌}
+use Prim.Native.Nat.{ℕ}
+use borrow.Author.Rules.{rules}
+use borrow.Author.Tests.{not-true, not-false}
+use Rattle.contact.specs.declared.drive.Meeting.{Meeting}
+use Rattle.contact.specs.declared.drive.Meeting.TheVariants as Meeting
+use Rattle.drives.specs.Search.{is_sooner, kept_of}
+use Rattle.drives.specs.declared.Soonest.{Soonest}
+use Rattle.drives.specs.declared.Soonest.TheVariants as Soonest
+use Rattle.drives.proofs.kept.Goals as goal
+
+-- by what the two tests say
+kept_by : (now : Bool) (n a d w : ℕ) (s : Soonest) {m : Meeting} {x y : Bool} → m ≡ Meeting.At a d w → is_sooner a d s ≡ x → now ≡ y
+    → cond (x && y) (Soonest.At n a d w) s ≡ kept_of now n m s
+kept_by now n a d w s e h k =
+    ap₂ (λ (x y : Bool). cond (x && y) (Soonest.At n a d w) s) (sym h) (sym k) ∙ ap (λ (m : Meeting). kept_of now n m s) (sym e)
+
+pub returns-then-not-is_sooner : goal.returns-then-not-is_sooner
+returns-then-not-is_sooner c =
+    let at-meeting = c.before.before.before in
+    let best = at-meeting.before.before.before.args.best in
+    kept_by _ _ _ _ _ best at-meeting.in-At.is (sym c.before.is_sooner.ensures ∙ not-true _ c.if-not-is_sooner.true) refl
+
+pub returns-then-not-is_current : goal.returns-then-not-is_current
+returns-then-not-is_current c =
+    let at-else = c.before.before in
+    let at-meeting = at-else.before.before.before in
+    let best = at-meeting.before.before.before.args.best in
+    kept_by _ _ _ _ _ best at-meeting.in-At.is (sym at-else.before.is_sooner.ensures ∙ not-false _ at-else.if-not-is_sooner.false)
+    (sym c.before.is_current.ensures ∙ not-true c.before.is_current.result c.if-not-is_current.true)
+
+pub returns : goal.returns
+returns c =
+    let at-current = c.before.before in
+    let at-else = at-current.before in
+    let at-meeting = at-else.before.before.before in
+    let best = at-meeting.before.before.before.args.best in
+    let m = at-meeting.meeting-1.given in
+    ap (λ (n : ℕ). Soonest.At n m.0.0 m.0.1.0 m.0.1.1.0) (sym c.head_at.ensures.name-is)
+    ∙ kept_by _ _ _ _ _ best m.1 (sym at-else.before.is_sooner.ensures ∙ not-false _ at-else.if-not-is_sooner.false)
+    (sym at-current.is_current.ensures ∙ not-false at-current.is_current.result c.before.if-not-is_current.false)

@@ -1,0 +1,23 @@
+-- `meet` meets its contract: of a grown obstacle that is no shape nothing is asked.
+use borrow.Author.Rules.{rules}
+use Rattle.plane.specs.theory.refusals.Rows.{first-not-none}
+use Rattle.passage.specs.theory.Found.{grown-valid}
+use Rattle.drives.proofs.meet.Goals as goal
+
+pub returns-in-No : goal.returns-in-No
+returns-in-No c =
+    let refused = c.before.before.before.admit_grown.ensures.no _ c.before.in-No.is in
+    λ none. absurd (first-not-none refused.first none)
+
+pub first-requires : goal.first-requires
+first-requires c =
+    let at-judged = c.before.before in
+    let pre = at-judged.before.requires in (
+      pre.0,
+      pre.1,
+      grown-valid _ _ pre.0.shape.some pre.1.shape.some (at-judged.admit_grown.ensures.valid c.in_default.is),
+      pre.2,
+    )
+
+pub returns : goal.returns
+returns c = λ none. c.first.ensures

@@ -1,0 +1,19 @@
+-- `word_at` meets its contract: two numbers of two bytes, the lower first.
+use mathlib.Core.Path.{◌≡◌, ◌∙◌, ap, ap₂}
+use Prim.Native.Nat.{ℕ, ◌+◌, ◌*◌}
+use native.Mathlib.Omega.{arith}
+use borrow.Author.Rules.{rules, sfits_of}
+use mir.Syntax.{w32}
+use mir.Val.{to_z}
+use mir.Facts.{to_z-of_z}
+use Rattle.endian.specs.Bytes.{pair_at, word_at}
+use Rattle.endian.proofs.word_at.Goals as goal
+
+pub returns : goal.returns
+unfolding word_at
+returns c =
+    let start = c.before.before.before.before in
+    let next : start.args.p + 2 ≡ 2 + start.args.p = omega arith in
+    to_z-of_z (sfits_of c.signed.type-inv) ∙ c.signed.ensures
+    ∙ ap₂ (λ (x y : ℕ). to_z w32 (x + 65536 * y)) c.before.before.pair_at.ensures.0
+    (c.before.pair_at-2.ensures.0 ∙ ap (pair_at start.args.bytes.now) next)

@@ -1,0 +1,15 @@
+-- `spacing` meets its contract: it is clearance's, of a list of one corner.
+use mathlib.Core.Path.{subst}
+use mathlib.Core.List.{List}
+use borrow.Author.Rules.{rules}
+use Rattle.plane.specs.Point.{Point, points}
+use Rattle.polygon.specs.Point.{at}
+use Rattle.clearance.specs.Answer.{Spaced}
+use Rattle.excess.proofs.Reading.{reads-back}
+use Rattle.excess.proofs.alone.spacing.Goals as goal
+
+pub returns : goal.returns
+returns c =
+    let start = c.before.before.before in
+    subst (λ (ps : List Point). Spaced ps (points start.args.shape.now) c.between.result)
+    (reads-back (at start.args.p) start.requires.0) c.between.ensures

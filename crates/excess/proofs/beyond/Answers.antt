@@ -1,0 +1,89 @@
+-- `beyond` meets its contract: inside, or the numbers of the outermost corner.
+use mathlib.Core.Path.{◌≡◌, sym, ◌∙◌, ap, subst}
+use mathlib.Core.List.{List, [], ◌∷◌}
+use mathlib.Core.Bool.{Bool, true, cond, true≢false}
+use Prim.Native.Nat.{ℕ}
+use borrow.Author.Rules.{rules}
+use lib.IntN.{pos}
+use Rattle.plane.specs.Point.{Point, points, corner}
+use Rattle.plane.specs.Separation.{inside, apart}
+use Rattle.plane.specs.Clearance.{nearest}
+use Rattle.polygon.specs.Point.{at}
+use Rattle.clearance.specs.declared.Spacing.{Spacing}
+use Rattle.clearance.specs.Answer.{Spaced}
+use Rattle.excess.specs.Answer.{up_numbers}
+use Rattle.excess.specs.Excess.{outermost, corner_numbers, excess_numbers}
+use Rattle.excess.specs.theory.Outermost.{outermost-among}
+use Rattle.excess.specs.theory.Reach.{outermost-apart}
+use Rattle.excess.specs.theory.Found.{corner-valid, point-found, found-rounded, found_up}
+use Rattle.excess.proofs.beyond.Goals as goal
+use Rattle.excess.proofs.beyond.Goals.{After-corner_at, After-spacing}
+
+-- what is answered where `inside` says t
+told : (N O : List Point) {t : Bool} → inside N O ≡ t
+    → cond t (pos 0 ∷ []) (corner_numbers N O (outermost N O) (nearest (corner N (outermost N O) ∷ []) O)) ≡ excess_numbers N O
+told N O e = ap (λ (t : Bool). cond t (pos 0 ∷ []) (corner_numbers N O (outermost N O) (nearest (corner N (outermost N O) ∷ []) O))) (sym e)
+
+pub returns-then-inside : goal.returns-then-inside
+returns-then-inside c = told _ _ (sym c.before.inside.ensures ∙ c.if-inside.true)
+
+pub corner_at-requires : goal.corner_at-requires
+corner_at-requires c =
+    let pre = c.before.before.before.requires in
+    rw c.outermost-corner.ensures (outermost-among _ _ pre.0.shape.some pre.1.shape)
+
+-- past the first test the outermost corner is at hand, and it is apart from the old shape
+place : (c : After-corner_at) → let args = c.before.before.before.before.args in
+    let N = points args.new.now in
+    at c.corner_at.result ≡ corner N (outermost N (points args.old.now))
+place c = c.corner_at.ensures
+    ∙ ap (corner (points c.before.before.before.before.args.new.now)) c.before.outermost-corner.ensures
+
+clear : (c : After-corner_at) → let args = c.before.before.before.before.args in
+    let N = points args.new.now in
+    let O = points args.old.now in
+    apart (corner N (outermost N O) ∷ []) O ≡ true
+clear c =
+    let at-else = c.before.before in
+    let pre = at-else.before.before.requires in
+    outermost-apart _ _ pre.0.shape.some pre.1.shape (sym at-else.before.inside.ensures ∙ at-else.if-inside.false)
+
+pub spacing-requires : goal.spacing-requires
+spacing-requires c =
+    let start = c.before.before.before.before in (
+      corner-valid _ start.requires.0 _ (outermost-among _ _ start.requires.0.shape.some start.requires.1.shape) (place c),
+      start.requires.1,
+    )
+
+-- what is known of its spacing, where it is told
+known : (c : After-spacing) {s : Spacing} → c.spacing.result ≡ s → let args = c.before.before.before.before.before.args in
+    let N = points args.new.now in
+    let O = points args.old.now in
+    Spaced (corner N (outermost N O) ∷ []) O s
+known c {s} e = let O = points c.before.before.before.before.before.args.old.now in
+    subst (λ (p : Point). Spaced (p ∷ []) O s) (place c.before)
+    (subst (Spaced (at c.before.corner_at.result ∷ []) O) e c.spacing.ensures)
+
+pub rounded-requires : goal.rounded-requires
+rounded-requires c =
+    let at-found = c.before in
+    let at-spacing = at-found.before.before in
+    let start = at-spacing.before.before.before.before.before in
+    found-rounded (point-found _ _ start.requires.1.shape (clear at-spacing.before)
+    at-found.in-Apart.found (known at-spacing at-found.in-Apart.is).1)
+
+pub returns-in-Meets : goal.returns-in-Meets
+returns-in-Meets c =
+    let at-spacing = c.before.before in
+    absurd (true≢false (sym (clear at-spacing.before) ∙ known at-spacing c.in-Meets.is))
+
+pub returns-in-Apart : goal.returns-in-Apart
+returns-in-Apart c =
+    let at-found = c.before.before in
+    let at-spacing = at-found.before.before in
+    let at-else = at-spacing.before.before.before in
+    c.rounded.ensures ∙ ap (λ (k : ℕ). up_numbers k at-found.in-Apart.found) at-spacing.before.before.outermost-corner.ensures
+    ∙ found_up (points at-else.before.before.args.new.now) _ at-else.before.before.requires.1.shape
+    (clear at-spacing.before) at-found.in-Apart.found
+    (known at-spacing at-found.in-Apart.is).1
+    ∙ told _ _ (sym at-else.before.inside.ensures ∙ at-else.if-inside.false)

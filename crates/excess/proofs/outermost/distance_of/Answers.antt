@@ -1,0 +1,35 @@
+-- `distance_of` meets its contract: the corner is a shape by itself.
+use mathlib.Core.Path.{◌≡◌, subst}
+use mathlib.Core.List.{[], ◌∷◌}
+use borrow.Author.Rules.{rules}
+use Rattle.plane.specs.Point.{points}
+use Rattle.polygon.specs.Point.{at}
+use Rattle.clearance.specs.declared.Spacing.{Spacing}
+use Rattle.clearance.specs.Answer.{Spaced}
+use Rattle.excess.specs.theory.Found.{corner-valid, found-far, none-far}
+use Rattle.excess.proofs.outermost.distance_of.Goals as goal
+use Rattle.excess.proofs.outermost.distance_of.Goals.{After-spacing}
+
+pub spacing-requires : goal.spacing-requires
+spacing-requires c =
+    let pre = c.before.requires in (corner-valid _ pre.0 _ pre.2 c.corner_at.ensures, pre.1)
+
+-- what is known of the corner's spacing, where it is told
+known : (c : After-spacing) {s : Spacing} → c.spacing.result ≡ s
+    → Spaced (at c.before.corner_at.result ∷ []) (points c.before.before.args.old.now) s
+known c e = subst (Spaced (at c.before.corner_at.result ∷ []) (points c.before.before.args.old.now)) e c.spacing.ensures
+
+pub returns-in-Meets : goal.returns-in-Meets
+returns-in-Meets c =
+    let at-spacing = c.before.before in
+    let at-corner = at-spacing.before in
+    none-far _ _ at-corner.before.requires.1.shape _ at-corner.corner_at.ensures (known at-spacing c.in-Meets.is)
+
+pub returns-in-Apart : goal.returns-in-Apart
+returns-in-Apart c =
+    let at-found = c.before.before in
+    let at-spacing = at-found.before.before in
+    let at-corner = at-spacing.before in
+    let apart = known at-spacing at-found.in-Apart.is in
+    found-far _ _ at-corner.before.requires.1.shape _ at-corner.corner_at.ensures apart.0
+    at-found.in-Apart.found apart.1 c.measured.ensures

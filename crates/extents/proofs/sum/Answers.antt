@@ -1,0 +1,14 @@
+-- `sum` meets its contract: sums of small parts fit 32 bits.
+use mathlib.Core.Path.{ap₂}
+use Rattle.integer.specs.Machine.{machine, bounded, machine-fits, machine-is}
+use Rattle.plane.specs.Point.{point}
+use Rattle.extents.proofs.sum.Goals as goal
+
+pub overflow_add-result : goal.overflow_add-result
+overflow_add-result c = machine-fits (search (machine, bounded) depth 40) tt
+
+pub overflow_add-result-2 : goal.overflow_add-result-2
+overflow_add-result-2 c = machine-fits (search (machine, bounded) depth 40) tt
+
+pub returns : goal.returns
+returns c = ap₂ point (machine-is (search (machine, bounded) depth 40) tt) (machine-is (search (machine, bounded) depth 40) tt)

@@ -1,0 +1,88 @@
+-- `grow_at` meets its contract: the record is read, and its differences with the cart are written.
+use mathlib.Core.Path.{◌≡◌, sym, ◌∙◌, subst}
+use mathlib.Core.List.{List}
+use Prim.Native.Nat.{◌*◌, ◌≤◌}
+use native.Mathlib.Omega.{arith}
+use borrow.Author.Rules.{rules}
+use lib.IntN.{ℤ}
+use lib.ListN.{length, take}
+use lib.Seq.{length-take-le}
+use Rattle.plane.specs.Limits.{max_corners}
+use Rattle.plane.specs.Point.{points, numbers}
+use Rattle.plane.specs.Refusal.{Valid}
+use Rattle.plane.specs.Corner.{shape_of}
+use Rattle.plane.specs.Separation.{differences}
+use Rattle.polygon.specs.Front.{Front}
+use Rattle.polygon.specs.theory.Fronts.{overwritten-front}
+use Rattle.growth.specs.Grown.{grown}
+use Rattle.journal.specs.Survey.{record_at}
+use Rattle.journal.specs.theory.Stepping.{here-valid}
+use Rattle.gaps.specs.Gap.{grown_of}
+use Rattle.gaps.specs.theory.Read.{valid-fits, written-length, grown_of-few}
+use Rattle.gaps.proofs.growing.grow_at.Goals as goal
+use Rattle.gaps.proofs.growing.grow_at.Goals.{After-read_at-n, After-write}
+
+-- the numbers that were read are in the buffer
+fits : (c : After-read_at-n) → c.read_at-n.result ≤ length c.read_at-n.new.1.1.0
+fits c =
+    let start = c.before.before.before in
+    let read = c.read_at-n.ensures in
+    omega (arith, read.1, read.2, valid-fits _ (here-valid start.requires.0))
+
+pub slice_bounds-write-end : goal.slice_bounds-write-end
+slice_bounds-write-end c = fits c.before
+
+pub slice_bounds-write-end-2 : goal.slice_bounds-write-end-2
+slice_bounds-write-end-2 c = let at_read = c.before.before in
+    sym (length-take-le _ at_read.read_at-n.new.1.1.0 (fits at_read))
+
+pub top-requires : goal.top-requires
+top-requires c = c.before.before.before.before.before.requires.1.shape-1.some
+
+-- the grown shape has room
+room : (c : After-write-arg2) → let start = c.before.before.before.before.before.before.before in
+    2 * length (grown_of (points start.args.cart.now) (record_at start.args.log.now start.args.p))
+    ≤ length start.args.out-1.now
+room c =
+    let start = c.before.before.before.before.before.before.before in
+    let pre = start.requires in
+    let few = grown_of-few (points start.args.cart.now) _ (here-valid pre.0) pre.1.shape-1.some pre.4 in
+    omega (arith, few, pre.3)
+
+pub write-requires : goal.write-requires
+unfolding grown grown_of
+write-requires c =
+    let at_read = c.before.before.before.before in
+    let start = at_read.before.before.before in
+    let pre = start.requires in
+    let read = sym at_read.read_at-n.ensures.0 in (
+      subst Valid read (here-valid pre.0),
+      pre.1,
+      c.before.top.ensures,
+      subst (λ (l : List ℤ). 2 * length (shape_of (differences (points l) (points start.args.cart.now)))
+          ≤ length start.args.out-1.now) read (room c),
+    )
+
+-- the output is as long as it was
+wrote-length : (c : After-write) → let start = c.before.before.before.before.before.before.before.before in
+    length c.write.new.1.1.1.0 ≡ length start.args.out-1.now
+wrote-length c =
+    let at_read = c.before.before.before.before.before in
+    let start = at_read.before.before.before in
+    let l = take at_read.read_at-n.result at_read.read_at-n.new.1.1.0 in
+    let grown_list = shape_of (differences (points l) (points start.args.cart.now)) in
+    written-length grown_list start.args.out-1.now c.write.new.1.1.1.0 c.write.ensures.1
+    (write-requires c.before c.write.lifetimes).3
+
+pub returns : goal.returns
+unfolding grown grown_of
+returns c =
+    let at-write = c.before in
+    let at-args = at-write.before in
+    let at_read = at-args.before.before.before.before in
+    let start = at_read.before.before.before in
+    let wrote = at-write.write.ensures in
+    let read = at_read.read_at-n.ensures in
+    let front = subst (λ (l : List ℤ). Front (shape_of (differences (points l) (points start.args.cart.now))) at-write.write.result
+    at-write.write.new.1.1.1.0) read.0 (overwritten-front _ _ _ _ wrote.0 wrote.1) in
+    (front, read.1, wrote-length at-write ∙ start.requires.3)

@@ -1,0 +1,80 @@
+-- `from` meets its contract: a record that is not on the floor makes no pair, and another is grown and tried with the later ones.
+use mathlib.Core.Path.{◌≡◌, sym, ◌∙◌, ap, subst}
+use mathlib.Core.Bool.{Bool, true, cond}
+use mathlib.Core.List.{List, []}
+use borrow.Author.Rules.{rules}
+use borrow.Author.Tests.{not-true, not-false}
+use Rattle.plane.specs.Point.{points}
+use Rattle.plane.specs.Refusal.{Valid}
+use Rattle.polygon.specs.theory.Fronts.{front-points, front_length}
+use Rattle.journal.specs.Survey.{next_at}
+use Rattle.journal.specs.theory.Stepping.{here-valid}
+use Rattle.gaps.specs.Gap.{Pair}
+use Rattle.gaps.specs.Search.{is_on, later_pairs, pairs_at, Passed}
+use Rattle.gaps.specs.theory.Steps.{walk-fits}
+use Rattle.gaps.specs.theory.Read.{grown_of-valid}
+use Rattle.gaps.specs.theory.Passed.{passed_none}
+use Rattle.gaps.proofs.search.from.Goals as goal
+use Rattle.gaps.proofs.search.from.Goals.{Else-not-is_on, Start}
+
+-- the pairs, by whether the record is on the floor
+pairs-are : (c : Start) {t : Bool} → let args = c.args in is_on args.floor args.log.now args.p ≡ t
+    → cond t (later_pairs args.floor args.log.now args.p (next_at args.log.now args.p)) []
+    ≡ pairs_at args.floor args.log.now args.p
+pairs-are c e = let args = c.args in
+    ap (λ (t : Bool). cond t (later_pairs args.floor args.log.now args.p (next_at args.log.now args.p)) []) (sym e)
+
+is-on : (c : Else-not-is_on) → let args = c.before.before.before.args in is_on args.floor args.log.now args.p ≡ true
+is-on c = sym c.before.is_on.ensures ∙ not-false _ c.if-not-is_on.false
+
+pub returns-then-not-is_on : goal.returns-then-not-is_on
+returns-then-not-is_on c =
+    let start = c.before.before.before in
+    let args = start.args in
+    let off = sym c.before.is_on.ensures ∙ not-true _ c.if-not-is_on.true in (
+      subst (λ (ps : List Pair). Passed (points args.cart.now) args.log.now ps args.best args.best) (pairs-are start off)
+          (passed_none _ _ _ start.requires.6),
+      start.requires.3,
+      start.requires.4,
+      start.requires.5,
+    )
+
+pub grow_at-n-requires : goal.grow_at-n-requires
+grow_at-n-requires c =
+    let at-else = c.before.before in
+    let pre = at-else.before.before.before.requires in
+    (pre.1, pre.2, pre.3, pre.4, walk-fits _ pre.0 pre.1.here (is-on at-else))
+
+pub slice_bounds-later-end-2 : goal.slice_bounds-later-end-2
+slice_bounds-later-end-2 c = sym (front_length c.before.before.before.grow_at-n.ensures.0)
+
+pub later-requires : goal.later-requires
+later-requires c =
+    let at-grown = c.before.before.before.before.before in
+    let at-else = at-grown.before.before.before in
+    let pre = at-else.before.before.before.requires in
+    let front = at-grown.grow_at-n.ensures.0 in (
+      pre.0,
+      pre.1,
+      pre.2,
+      at-grown.grow_at-n.ensures.1,
+      pre.5,
+      pre.6,
+      subst Valid (sym front.front)
+          (grown_of-valid _ _ (here-valid pre.1) pre.2.shape-1.some (walk-fits _ pre.0 pre.1.here (is-on at-else))),
+      front-points front,
+    )
+
+pub returns : goal.returns
+returns c =
+    let at-later = c.before.before in
+    let at-grown = at-later.before.before.before.before.before.before in
+    let at-else = at-grown.before.before.before in
+    let start = at-else.before.before.before in
+    let args = start.args in (
+      subst (λ (ps : List Pair). Passed (points args.cart.now) args.log.now ps args.best at-later.later.result)
+          (pairs-are start (is-on at-else)) at-later.later.ensures.0,
+      at-later.later.ensures.1,
+      at-grown.grow_at-n.ensures.2,
+      at-later.later.ensures.2,
+    )

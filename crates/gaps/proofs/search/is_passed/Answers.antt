@@ -1,0 +1,63 @@
+-- `is_passed` meets its contract: the record is on another floor, or nothing is kept yet, or the boxes decide.
+use mathlib.Core.Path.{◌≡◌, sym, ◌∙◌, ap, subst}
+use mathlib.Core.Bool.{true, not, true≢false}
+use Prim.Native.Nat.{◌≤◌}
+use native.Mathlib.Omega.{arith}
+use borrow.Author.Rules.{rules}
+use lib.ListN.{length}
+use lib.Seq.{length-take-le}
+use Rattle.plane.specs.Refusal.{Valid}
+use Rattle.plane.specs.Distance.{distance}
+use Rattle.journal.specs.Survey.{record_at}
+use Rattle.journal.specs.theory.Stepping.{here-valid}
+use Rattle.gaps.specs.Gap.{grown_of}
+use Rattle.gaps.specs.Search.{is_nearer, KeptSized}
+use Rattle.gaps.specs.theory.Read.{on-elsewhere, valid-fits, grown_of-shape, grown_of-spans}
+use Rattle.gaps.proofs.search.is_passed.Goals as goal
+use Rattle.gaps.proofs.search.is_passed.Goals.{After-read_at-n, Start}
+
+pub returns-then-head_at-floor : goal.returns-then-head_at-floor
+returns-then-head_at-floor c =
+    let at_head = c.before.before in
+    let elsewhere = on-elsewhere at_head.head_at.ensures _ c.if-head_at-floor.true in
+    ((λ k on A G a s x. absurd (true≢false (sym (elsewhere ∙ on)))), at_head.before.before.requires.2)
+
+pub returns-in_default : goal.returns-in_default
+returns-in_default c = ((λ k. absurd (true≢false (sym k))), c.before.before.before.before.before.before.requires.2)
+
+abbrev start : After-read_at-n → Start
+start c = c.before.before.before.before.before.before.before.before.before
+
+-- the numbers that were read are in the buffer
+fits : (c : After-read_at-n) → c.read_at-n.result ≤ length c.read_at-n.new.1.1.0
+fits c =
+    let read = c.read_at-n.ensures in
+    omega (arith, read.1, read.2, valid-fits _ (here-valid (start c).requires.0))
+
+pub slice_bounds-is_far-end : goal.slice_bounds-is_far-end
+slice_bounds-is_far-end c = fits c.before
+
+pub slice_bounds-is_far-end-2 : goal.slice_bounds-is_far-end-2
+slice_bounds-is_far-end-2 c = let at_read = c.before.before in
+    sym (length-take-le _ at_read.read_at-n.new.1.1.0 (fits at_read))
+
+pub is_far-requires : goal.is_far-requires
+is_far-requires c =
+    let at_read = c.before.before in
+    let pre = (start at_read).requires in (
+      pre.3,
+      subst Valid (sym at_read.read_at-n.ensures.0) (here-valid pre.0),
+      subst KeptSized at_read.before.before.before.in-Pair.is pre.1,
+    )
+
+pub returns : goal.returns
+returns c =
+    let at_read = c.before.before.before in
+    let args = (start at_read).args in
+    let r = record_at args.log.now args.q in
+    let valid = here-valid (start at_read).requires.0 in (
+      (λ k on A G a s x. ap (is_nearer (distance G (grown_of A r))) at_read.before.before.before.in-Pair.is
+          ∙ ap not (c.is_far.ensures k G (grown_of A r) s (grown_of-shape A r valid a)
+          (grown_of-spans A r valid a x at_read.read_at-n.ensures.0))),
+      at_read.read_at-n.ensures.1,
+    )

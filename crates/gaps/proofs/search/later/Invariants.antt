@@ -1,0 +1,23 @@
+use mathlib.Core.Path.{◌≡◌, sym, ◌∙◌, ap, subst}
+use mathlib.Core.Bool.{true}
+use mathlib.Core.List.{map}
+use Prim.Native.Nat.{ℕ, ◌+◌, ◌*◌, ◌-◌, ◌≤◌}
+use native.Mathlib.Omega.{arith}
+use lib.ListN.{length, drop}
+use Rattle.plane.specs.Limits.{max_corners}
+use Rattle.plane.specs.Point.{points}
+use Rattle.journal.specs.Format.{size, whole}
+use Rattle.journal.specs.Survey.{record_at, next_at}
+use Rattle.journal.specs.theory.Survey.{size-at, next-inside}
+use Rattle.gaps.specs.Search.{later_pairs, Walk}
+use Rattle.gaps.specs.theory.Steps.{walk-sound, walk-next, later-step, from_end}
+use Rattle.gaps.specs.theory.Passed.{Along, along-start, along-next, along-end}
+use Rattle.gaps.proofs.search.later.Given as goal
+
+abbrev pub invariant-loop-reach : goal.invariant-loop-reach
+invariant-loop-reach l =
+    Walk (points l.cart) l.log l.floor l.q × Along (points l.cart) l.log (later_pairs l.floor l.log l.p) (next_at l.log l.p) l.initial.kept l.kept l.q
+    × (length l.shape ≡ 2 * max_corners) × (length l.below ≡ 2 * max_corners)
+
+abbrev pub decreases-loop-reach : goal.decreases-loop-reach
+decreases-loop-reach l = length l.log - l.q

@@ -1,0 +1,109 @@
+-- `both_chains` meets its contract: the right-hand chain at the front, the left-hand one in the rest.
+use mathlib.Core.Path.{subst}
+use mathlib.Core.List.{List}
+use Prim.Native.Nat.{suc, ◌+◌, ◌-◌, ◌*◌, ◌^◌, ◌≤◌}
+use native.Mathlib.Omega.{arith}
+use borrow.Author.Rules.{rules}
+use borrow.Rule.Slice.PartMut.{put_mid}
+use lib.ListN.{length, take, drop, length-drop}
+use lib.Seq.{length-take-le}
+use Rattle.plane.specs.Limits.{corners-small}
+use Rattle.plane.specs.Point.{Point, points}
+use Rattle.plane.specs.theory.lists.Flat.{points-length}
+use Rattle.polygon.specs.Front.{Front}
+use Rattle.polygon.specs.Point.{at}
+use Rattle.hull.specs.Chain.{left_rows}
+use Rattle.hull.specs.theory.Spread.{rows_few}
+use Rattle.hull.specs.theory.Written.{chains-shape, front-put}
+use Rattle.hull.proofs.both_chains.Goals as goal
+use Rattle.hull.proofs.both_chains.Goals.{After-right_chain-right}
+
+-- the right-hand chain leaves room for the left-hand one, and what is counted fits
+room : (c : After-right_chain-right) → let args = c.before.before.args in
+    c.right_chain-right.result + suc (length (left_rows (points args.a.now) args.i (points args.b.now) args.j
+    (at args.bottom) (at args.top)))
+    ≤ length (points c.right_chain-right.new.1.1.1.1.1.1.0)
+room c =
+    let start = c.before.before in
+    omega (
+      arith,
+      rows_few start.requires.0.shape start.requires.1.shape start.requires.2,
+      start.requires.3,
+      c.right_chain-right.ensures.few,
+      c.right_chain-right.ensures.same,
+      points-length start.args.buf-1.now,
+      points-length c.right_chain-right.new.1.1.1.1.1.1.0,
+    )
+
+few : (c : After-right_chain-right) → let args = c.before.before.args in
+    c.right_chain-right.result + suc (length (left_rows (points args.a.now) args.i (points args.b.now) args.j
+    (at args.bottom) (at args.top)))
+    ≤ 2 ^ 17
+few c =
+    let pre = c.before.before.requires in
+    omega (
+      arith,
+      rows_few pre.0.shape pre.1.shape pre.2,
+      c.right_chain-right.ensures.few,
+      pre.0.few,
+      pre.1.few,
+      corners-small,
+    )
+
+pub right_chain-right-requires : goal.right_chain-right-requires
+right_chain-right-requires c =
+    let pre = c.before.requires in
+    (pre.0, pre.1, pre.2, omega (arith, rows_few pre.0.shape pre.1.shape pre.2, pre.3))
+
+pub overflow_mul-start : goal.overflow_mul-start
+overflow_mul-start c = omega (arith, few c.before)
+
+pub offset_bounds-buf-start : goal.offset_bounds-buf-start
+offset_bounds-buf-start c = omega (arith, few c.before)
+
+pub slice_bounds-left_chain-count : goal.slice_bounds-left_chain-count
+slice_bounds-left_chain-count c = omega (arith, room c.before, points-length c.before.right_chain-right.new.1.1.1.1.1.1.0)
+
+pub slice_bounds-left_chain-start : goal.slice_bounds-left_chain-start
+slice_bounds-left_chain-start c = slice_bounds-left_chain-count c
+
+pub slice_bounds-left_chain-end : goal.slice_bounds-left_chain-end
+slice_bounds-left_chain-end c = omega arith
+
+pub left_chain-left-requires : goal.left_chain-left-requires
+left_chain-left-requires c =
+    let at_right = c.before.before in
+    let pre = at_right.before.before.requires in
+    let xs = at_right.right_chain-right.new.1.1.1.1.1.1.0 in
+    let start = 2 * at_right.right_chain-right.result in (
+      pre.0,
+      pre.1,
+      pre.2,
+      omega (
+        arith,
+        room at_right,
+        points-length xs,
+        points-length (take (length xs - start) (drop start xs)),
+        length-take-le (length xs - start) (drop start xs) (omega (arith, length-drop start xs)),
+      ),
+    )
+
+pub overflow_add-result : goal.overflow_add-result
+overflow_add-result c = omega (arith, c.before.left_chain-left.ensures.few, few c.before.before.before.before)
+
+pub returns : goal.returns
+returns c =
+    let at_left = c.before in
+    let at_right = at_left.before.before.before in
+    let pre = at_right.before.before.requires in
+    let xs = at_right.right_chain-right.new.1.1.1.1.1.1.0 in
+    let ys = at_left.left_chain-left.new.1.1.1.1.1.1.0 in
+    let m = at_right.right_chain-right.result in
+    let n = at_left.left_chain-left.result in
+    let down = at_left.left_chain-left.ensures in
+    let part = length-take-le (length xs - 2 * m) (drop (2 * m) xs) (omega (arith, length-drop (2 * m) xs)) in
+    let right-in : m ≤ length (points xs) = omega (arith, room at_right) in
+    let left_in : n ≤ length (points ys) = omega (arith, room at_right, down.few, down.same, part, points-length xs, points-length ys) in
+    subst (λ (ps : List Point). Front ps (m + n) (put_mid (2 * m) (length xs - 2 * m) xs ys))
+    (chains-shape pre.0.shape pre.1.shape pre.2 at_right.right_chain-right.ensures down right-in left_in)
+    (front-put xs ys m n (length xs - 2 * m) right-in left_in)

@@ -1,0 +1,69 @@
+-- `rest` meets its contract. The invariant: the stack, and the corners from i on, still give what the scan of all gives; the measure is
+-- what is left.
+use mathlib.Core.Path.{◌≡◌, sym, ap, subst}
+use mathlib.Core.List.{◌∷◌}
+use Prim.Native.Nat.{◌+◌, ◌-◌, ◌^◌}
+use native.Mathlib.Numerals.{add-one}
+use native.Mathlib.Omega.{arith}
+use Rattle.plane.specs.Point.{points}
+use Rattle.polygon.specs.Point.{at, Small}
+use Rattle.sorting.specs.Order.{closed, run}
+use Rattle.hull.specs.theory.Peak.{closed-small}
+use Rattle.sorting.specs.theory.Run.{run_length, run_more}
+use Rattle.hull.specs.theory.Stack.{Scanning, scanning-start, scanning-room, scanning-one, scanning-end}
+use Rattle.hull.proofs.chains.rest.Goals as goal
+use Rattle.hull.proofs.chains.rest.Goals.{After-closed_at}
+
+-- the corner at i is the next
+next : (c : After-closed_at) → let at-loop = c.before.before.before in
+    let args = at-loop.before.args in
+    let ps = closed (points args.list.now) in
+    run ps at-loop.loop-i.i (args.end - at-loop.loop-i.i) ≡ at c.closed_at.result ∷ run ps (at-loop.loop-i.i + 1)
+    (args.end - (at-loop.loop-i.i + 1))
+next c =
+    let at-loop = c.before.before.before in
+    let ps = closed (points at-loop.before.args.list.now) in
+    rw (c.closed_at.ensures, add-one at-loop.loop-i.i) (run_more ps c.before.before.loop-i-test.true)
+
+pub loop-i-init : goal.loop-i-init
+loop-i-init c =
+    let args = c.args in
+    scanning-start c.requires.2
+    (omega (arith, c.requires.1, run_length (closed (points args.list.now)) args.from (args.end - args.from)))
+
+pub closed_at-requires : goal.closed_at-requires
+closed_at-requires c =
+    let line = c.before.before.before.requires.0 in
+    (omega (arith, line.within, c.before.loop-i-test.true), line.some)
+
+pub push-kept-requires : goal.push-kept-requires
+push-kept-requires c =
+    let at-loop = c.before.before.before in
+    let start = at-loop.before in
+    let line = start.requires.0 in (
+      scanning-room at-loop.loop-i.invariant (next c),
+      at-loop.loop-i.invariant.small,
+      subst (Small (2 ^ 21)) (sym c.closed_at.ensures) (closed-small start.args.list.now line.near line.some
+          at-loop.loop-i.i (omega (arith, line.within, c.before.before.loop-i-test.true))),
+    )
+
+pub overflow_add-i : goal.overflow_add-i
+overflow_add-i c = omega arith
+
+pub loop-i-smaller : goal.loop-i-smaller
+loop-i-smaller c = omega arith
+
+pub loop-i-preserved : goal.loop-i-preserved
+loop-i-preserved c =
+    let at-closed = c.before.before in
+    scanning-one at-closed.before.before.before.loop-i.invariant (next at-closed) c.before.push-kept.ensures
+
+pub shape_of-buf : goal.shape_of-buf
+shape_of-buf c = c.before.loop-i.invariant.same
+
+pub returns : goal.returns
+returns c =
+    let at-loop = c.before in
+    let args = at-loop.before.args in
+    let none : args.end - at-loop.loop-i.i ≡ 0 = omega arith in
+    scanning-end at-loop.loop-i.invariant (ap (run (closed (points args.list.now)) at-loop.loop-i.i) none)

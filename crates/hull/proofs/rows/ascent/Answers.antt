@@ -1,0 +1,21 @@
+-- `ascent` meets its contract: both tests in turn.
+use mathlib.Core.Path.{sym, ◌∙◌}
+use borrow.Author.Rules.{rules}
+use Rattle.sorting.specs.Order.{order}
+use Rattle.hull.proofs.rows.ascent.Goals as goal
+
+pub returns-then-precedes : goal.returns-then-precedes
+unfolding order
+returns-then-precedes c = rw (sym c.before.precedes.ensures ∙ c.if-precedes.true)
+
+pub returns-then-precedes-2 : goal.returns-then-precedes-2
+unfolding order
+returns-then-precedes-2 c =
+    let first = c.before.before in
+    rw (sym first.before.precedes.ensures ∙ first.if-precedes.false, sym c.before.precedes-2.ensures ∙ c.if-precedes-2.true)
+
+pub returns : goal.returns
+unfolding order
+returns c =
+    let first = c.before.before in
+    rw (sym first.before.precedes.ensures ∙ first.if-precedes.false, sym c.before.precedes-2.ensures ∙ c.if-precedes-2.false)

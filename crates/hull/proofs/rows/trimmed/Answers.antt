@@ -1,0 +1,45 @@
+-- `trimmed` meets its contract: an end is left out unless it lies to the right.
+use mathlib.Core.Path.{◌≡◌, ◌∙◌, ap}
+use mathlib.Core.Bool.{Bool, true, false, not, cond}
+use Prim.Native.Nat.{ℕ, ◌+◌, ◌-◌}
+use native.Mathlib.Omega.{arith}
+use Rattle.plane.specs.Point.{points, corner}
+use Rattle.plane.specs.theory.lists.Flat.{points-length}
+use Rattle.polygon.specs.Point.{at}
+use Rattle.sorting.specs.Order.{closed}
+use Rattle.hull.specs.Chain.{is_right, one}
+use Rattle.hull.proofs.rows.trimmed.Goals as goal
+
+-- a position passed or not, as a sum
+passed-unless : (b : Bool) (i : ℕ) → cond (not b) (i + 1) i ≡ i + (1 - one b)
+passed-unless true i = omega arith
+passed-unless false i = omega arith
+
+passed-if : (b : Bool) (i : ℕ) → cond b (i + 1) i ≡ i + one b
+passed-if true i = omega arith
+passed-if false i = omega arith
+
+pub is_right-requires : goal.is_right-requires
+is_right-requires c = (omega (arith, c.requires.0, c.requires.1), c.requires.2.some, c.requires.2.near, c.requires.3, c.requires.4)
+
+pub after-requires : goal.after-requires
+after-requires c = let start = c.before in omega (arith, start.requires.0, start.requires.1, points-length start.args.list.now)
+
+pub is_right-requires-2 : goal.is_right-requires-2
+is_right-requires-2 c =
+    let pre = c.before.before.requires in
+    (pre.1, pre.2.some, pre.2.near, pre.3, pre.4)
+
+pub after-requires-2 : goal.after-requires-2
+after-requires-2 c = let start = c.before.before.before in omega (arith, start.requires.1, points-length start.args.list.now)
+
+pub returns : goal.returns
+returns c =
+    let args = c.before.before.before.before.args in
+    let at_first = c.before.before in
+    let right : ℕ → Bool = λ i. is_right (at args.from) (at args.to) (corner (closed (points args.list.now)) i) in (
+      at_first.after.ensures ∙ ap (λ (b : Bool). cond (not b) (args.low + 1) args.low) at_first.before.is_right.ensures
+          ∙ passed-unless (right args.low) args.low,
+      c.after-2.ensures ∙ ap (λ (b : Bool). cond b (args.high + 1) args.high) c.before.is_right-2.ensures
+          ∙ passed-if (right args.high) args.high,
+    )

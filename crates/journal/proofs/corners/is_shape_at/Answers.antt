@@ -1,0 +1,69 @@
+-- `is_shape_at` meets its contract: too many numbers are no shape, and others have room in the buffer.
+use mathlib.Core.Path.{◌≡◌, refl, sym, ◌∙◌, ap}
+use Prim.Native.Nat.{ℕ, ◌/◌, ◌≤◌}
+use native.Mathlib.Omega.{arith}
+use borrow.Author.Rules.{rules}
+use borrow.Author.Tests.{ltb-false}
+use lib.Dec.{ltb}
+use lib.ListN.{length}
+use lib.Seq.{length-take-le}
+use Rattle.plane.specs.Limits.{max_corners}
+use Rattle.plane.specs.Point.{points}
+use Rattle.plane.specs.Refusal.{too_many}
+use Rattle.plane.specs.theory.lists.Flat.{points-length}
+use Rattle.endian.specs.Bytes.{words_at}
+use Rattle.endian.specs.theory.Bytes.{words_at-length}
+use Rattle.endian.specs.theory.Coded.{front-is, front_length}
+use Rattle.journal.specs.Format.{judged, is_answer}
+use Rattle.journal.specs.theory.Judging.{many-refused, passed-answers}
+use Rattle.journal.proofs.corners.is_shape_at.Goals as goal
+use Rattle.journal.proofs.corners.is_shape_at.Goals.{After-buffer-1, Else-exceeds_corners}
+
+-- the numbers fit the buffer
+fits : (c : Else-exceeds_corners) → let start = c.before.before.before in start.args.n ≤ length start.args.buffer-1.now
+fits c =
+    let start = c.before.before.before in
+    let few = ltb-false max_corners (start.args.n / 2) (sym c.before.exceeds_corners.ensures ∙ c.if-exceeds_corners.false) in
+    start.requires.2 start.args.n (omega (arith, start.requires.0)) (omega (arith, few, start.requires.1))
+
+pub returns-then-exceeds_corners : goal.returns-then-exceeds_corners
+unfolding too_many
+returns-then-exceeds_corners c =
+    let start = c.before.before.before in
+    let args = start.args in
+    let l = words_at args.n args.log.now args.p in
+    let count : length (points l) ≡ args.n / 2 =
+    points-length l ∙ ap (λ (k : ℕ). k / 2) (words_at-length args.log.now args.n args.p) in
+    (many-refused l (ap (ltb max_corners) count ∙ sym c.before.exceeds_corners.ensures ∙ c.if-exceeds_corners.true), refl)
+
+pub decode-requires : goal.decode-requires
+decode-requires c = (c.before.before.before.before.requires.0, fits c.before)
+
+-- the buffer is as long as it was
+kept : (c : After-buffer-1) → let start = c.before.before.before.before.before.before in
+    length c.before.decode.new.1.1.1.0 ≡ length start.args.buffer-1.now
+kept c =
+    let start = c.before.before.before.before.before.before in
+    let args = start.args in
+    front_length (words_at args.n args.log.now args.p) args.buffer-1.now _ c.before.decode.ensures
+    (omega (arith, words_at-length args.log.now args.n args.p, fits c.before.before.before))
+
+pub slice_bounds-passes-end : goal.slice_bounds-passes-end
+slice_bounds-passes-end c = omega (arith, kept c, fits c.before.before.before)
+
+pub slice_bounds-passes-end-2 : goal.slice_bounds-passes-end-2
+slice_bounds-passes-end-2 c =
+    let at-decode = c.before.before in
+    sym (length-take-le _ at-decode.decode.new.1.1.1.0 (omega (arith, kept c.before, fits at-decode.before.before)))
+
+pub returns : goal.returns
+returns c =
+    let at-buffer = c.before.before in
+    let start = at-buffer.before.before.before.before.before.before in
+    let args = start.args in
+    let l = words_at args.n args.log.now args.p in
+    let count = words_at-length args.log.now args.n args.p in (
+      passed-answers _ _ c.passes.ensures
+          ∙ ap (λ m. is_answer (judged m)) (front-is l args.buffer-1.now _ at-buffer.before.decode.ensures args.n count),
+      kept at-buffer,
+    )

@@ -1,0 +1,13 @@
+-- `entry` meets its contract: a table of all places says what was marked, and an empty one says nothing of any name.
+use mathlib.Core.Path.{refl}
+use borrow.Author.Rules.{rules}
+use Rattle.journal.specs.theory.Marks.{marked_empty}
+use Rattle.journal.proofs.current.entry.Goals as goal
+
+pub slice_bounds-mark-end : goal.mark-requires
+slice_bounds-mark-end c =
+    let at-then = c.before in
+    (at-then.before.before.before.requires, at-then.before.serves.ensures at-then.if-serves.true, refl)
+
+pub nth-requires-2 : goal.nth-requires-2
+nth-requires-2 c = (c.before.before.before.before.requires, marked_empty _ _)

@@ -1,0 +1,54 @@
+-- `latest` meets its contract. The invariant: what is found up to p, and what is still to come; the measure is what is left.
+use mathlib.Core.Path.{◌≡◌, sym, ◌∙◌, subst}
+use mathlib.Core.Bool.{true}
+use Prim.Native.Nat.{ℕ, ◌-◌}
+use native.Mathlib.Omega.{arith}
+use borrow.Author.Rules.{rules}
+use lib.ListN.{length, drop}
+use Rattle.journal.specs.Format.{whole}
+use Rattle.journal.specs.Survey.{newer}
+use Rattle.journal.specs.declared.latest.Found.{Found}
+use Rattle.journal.specs.theory.Survey.{next-inside}
+use Rattle.journal.specs.theory.Stepping.{reached-sound}
+use Rattle.journal.specs.theory.Latest.{SoFar, so-far-start, so-far-next, so-far-end}
+use Rattle.journal.proofs.latest.latest.Goals as goal
+use Rattle.journal.proofs.latest.latest.Goals.{In-loop-found}
+
+-- a whole record is here
+here : (c : In-loop-found)
+    → whole (drop c.before.before.loop-found.p c.before.before.before.before.args.log.now) ≡ true
+here c = sym c.before.whole_at.ensures ∙ c.loop-found-test.true
+
+pub loop-found-init : goal.loop-found-init
+loop-found-init c = so-far-start _ _ c.before.requires
+
+pub whole_at-requires : goal.whole_at-requires
+whole_at-requires c = c.loop-found.invariant.reached.inside
+
+pub head_at-requires : goal.head_at-requires
+head_at-requires c = reached-sound c.before.before.loop-found.invariant.reached (here c)
+
+pub next_at-p-requires : goal.next_at-p-requires
+next_at-p-requires c = here c.before.before
+
+pub loop-found-smaller : goal.loop-found-smaller
+loop-found-smaller c =
+    let at-then = c.before.before.before in
+    omega (arith, c.next_at-p.ensures, next-inside _ at-then.before.before.loop-found.p (here at-then))
+
+pub loop-found-preserved : goal.loop-found-preserved
+loop-found-preserved c =
+    let at_new = c.before in
+    let at_head = at_new.before in
+    let at-then = at_head.before in
+    let at-loop = at-then.before.before in
+    let args = at-loop.before.before.args in
+    subst (λ (r : Found). SoFar args.name args.log.now c.next_at-p.result r) (sym at_new.newer-found.ensures)
+    (subst (λ (q : ℕ). SoFar args.name args.log.now q (newer args.name at_head.head_at.result at-loop.loop-found.found))
+    (sym c.next_at-p.ensures)
+    (so-far-next at-loop.loop-found.invariant (here at-then) at_head.head_at.ensures))
+
+pub returns : goal.returns
+returns c =
+    let at-loop = c.before.before in
+    so-far-end _ _ _ _ at-loop.loop-found.invariant (sym c.before.whole_at.ensures ∙ c.loop-found-test.false)

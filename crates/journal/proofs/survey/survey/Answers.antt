@@ -1,0 +1,12 @@
+-- `survey` meets its contract: the pass, with a buffer of its own.
+use native.Mathlib.Omega.{arith}
+use borrow.Author.Rules.{rules}
+use Rattle.plane.specs.Limits.{max_corners}
+use Rattle.journal.proofs.survey.survey.Goals as goal
+
+pub pass-requires : goal.pass-requires
+pass-requires c = omega (arith, l, c.before.if-log-le-SHORT.true)
+
+pub pass-requires-2 : goal.pass-requires-2
+unfolding max_corners
+pass-requires-2 c = omega (arith, m)

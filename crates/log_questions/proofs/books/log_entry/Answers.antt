@@ -1,0 +1,48 @@
+-- `log_entry` meets its contract: a bad record, too few current shapes, too small an output, or the corners are read.
+use mathlib.Core.Path.{◌≡◌, sym, ◌∙◌, subst}
+use mathlib.Core.Bool.{false}
+use native.Mathlib.Omega.{arith}
+use borrow.Author.Rules.{rules}
+use Rattle.journal.specs.Format.{records}
+use Rattle.journal.specs.Reading.{damaged}
+use Rattle.journal.specs.Survey.{Entered, EntryAt}
+use Rattle.journal.specs.theory.Survey.{surveyed-ends}
+use Rattle.log_questions.specs.theory.Entries.{entry-damaged, entry-few, entry-room, entry_found}
+use Rattle.log_questions.proofs.books.log_entry.Goals as goal
+use Rattle.log_questions.proofs.books.log_entry.Goals.{In-At-2, In_default}
+
+-- past the survey no record is bad
+sound : (c : In_default) → damaged (records c.before.before.before.before.args.log.now) ≡ false
+sound c = (surveyed-ends _ c.in_default.field-0 (sym c.before.before.survey.ensures ∙ c.in_default.is)).0
+
+-- past the search the head is that of the current record
+found : (c : In-At-2) → let start = c.before.before.before.before.before.before.before in
+    EntryAt start.args.log.now start.args.k c.in-At.head
+found c = subst (Entered _ _) c.in-At.is c.before.before.entry.ensures
+
+pub returns-in-Bad : goal.returns-in-Bad
+returns-in-Bad c = entry-damaged _ _ _ _ (sym c.before.before.before.survey.ensures ∙ c.before.in-Bad.is)
+
+pub entry-requires : goal.entry-requires
+entry-requires c = sound c
+
+pub returns-in_default-entry : goal.returns-in_default-entry
+returns-in_default-entry c =
+    entry-few _ _ _ (sound c.before.before.before)
+    (subst (Entered _ _) c.in_default-entry.is c.before.before.entry.ensures)
+
+pub returns-then-out-head : goal.returns-then-out-head
+returns-then-out-head c =
+    let at-found = c.before.before.before in
+    entry-room _ _ _ (sound at-found.before.before.before) _ (found at-found) c.if-out-head.true
+
+pub decode-requires : goal.decode-requires
+decode-requires c = ((found c.before.before.before.before).stated.inside, omega (arith, c.before.if-out-head.false))
+
+pub returns : goal.returns
+returns c =
+    let at-decode = c.before.before in
+    let at_room = at-decode.before.before in
+    let at-found = at_room.before.before.before in
+    entry_found _ _ _ (sound at-found.before.before.before) _ (found at-found) (omega (arith, at_room.if-out-head.false))
+    at-decode.decode.ensures

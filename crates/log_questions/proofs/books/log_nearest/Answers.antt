@@ -1,0 +1,46 @@
+-- `log_nearest` meets its contract: a list is refused, a record is bad, no shape is left, or the nearest is found.
+use mathlib.Core.Path.{◌≡◌, sym, ◌∙◌, ap}
+use mathlib.Core.Bool.{false}
+use borrow.Author.Rules.{rules}
+use Rattle.plane.specs.Refusal.{Valid}
+use Rattle.journal.specs.Format.{records}
+use Rattle.journal.specs.Reading.{damaged}
+use Rattle.journal.specs.theory.Survey.{surveyed-ends}
+use Rattle.neighbours.specs.Search.{near_numbers}
+use Rattle.log_questions.specs.theory.Books.{nearest-refused, nearest-damaged, nearest-nobody, nearest-somebody}
+use Rattle.log_questions.proofs.books.log_nearest.Goals as goal
+use Rattle.log_questions.proofs.books.log_nearest.Goals.{In_default, In_default-survey}
+
+pub returns-in-No : goal.returns-in-No
+returns-in-No c =
+    nearest-refused _ _ _ _ (c.before.before.before.admit.ensures.no _ c.before.in-No.is)
+
+-- past the judging the list is a shape
+valid : (c : In_default) → Valid c.before.before.before.before.args.list.now
+valid c = c.before.before.admit.ensures.valid c.in_default.is
+
+pub returns-in-Bad : goal.returns-in-Bad
+returns-in-Bad c =
+    let at_told = c.before.before.before.before in
+    nearest-damaged _ _ _ _ (valid at_told) _ (sym c.before.before.before.survey.ensures ∙ c.before.in-Bad.is)
+
+-- past the survey no record is bad
+sound : (c : In_default-survey) → damaged (records c.before.before.before.before.before.before.before.args.log.now) ≡ false
+sound c = (surveyed-ends _ c.in_default-survey.field-0 (sym c.before.before.survey.ensures ∙ c.in_default-survey.is)).0
+
+pub nearest-requires : goal.nearest-requires
+nearest-requires c = (sound c, valid c.before.before.before)
+
+pub returns-in_default-nearest : goal.returns-in_default-nearest
+returns-in_default-nearest c =
+    let at-sound = c.before.before.before in
+    nearest-nobody _ _ _ _ (valid at-sound.before.before.before) (sound at-sound)
+    (ap near_numbers (sym c.in_default-nearest.is) ∙ c.before.before.nearest.ensures)
+
+pub returns : goal.returns
+returns c =
+    let at-near = c.before.before.before.before in
+    let at-sound = at-near.before in
+    c.named.ensures
+    ∙ nearest-somebody _ _ _ _ (valid at-sound.before.before.before) (sound at-sound) _ _
+    (ap near_numbers (sym c.before.before.in-Of.is) ∙ at-near.nearest.ensures)

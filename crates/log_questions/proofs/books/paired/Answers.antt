@@ -1,0 +1,21 @@
+-- `paired` meets its contract: the shapes meet, or are apart.
+use mathlib.Core.Path.{sym, ap}
+use mathlib.Core.List.{[], ◌∷◌, ◌++◌}
+use borrow.Author.Rules.{rules}
+use lib.IntN.{pos}
+use Rattle.plane.specs.Reply.{answered}
+use Rattle.neighbours.specs.Spacing.{spacing_numbers}
+use Rattle.neighbours.specs.declared.spacing.Spacing.{Spacing}
+use Rattle.log_questions.proofs.books.paired.Goals as goal
+
+pub returns-in-Meets : goal.returns-in-Meets
+returns-in-Meets c =
+    let args = c.before.before.args in
+    ap (λ (w : Spacing). answered (pos args.name ∷ pos args.other ∷ spacing_numbers w ++ (pos args.floor ∷ [])))
+    (sym c.in-Meets.is)
+
+pub returns-in-Apart : goal.returns-in-Apart
+returns-in-Apart c =
+    let args = c.before.before.before.args in
+    ap (λ (w : Spacing). answered (pos args.name ∷ pos args.other ∷ spacing_numbers w ++ (pos args.floor ∷ [])))
+    (sym c.before.in-Apart.is)

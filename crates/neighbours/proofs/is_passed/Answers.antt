@@ -1,0 +1,25 @@
+-- `is_passed` meets its contract: nothing was found, or its distance is held against the boxes.
+use mathlib.Core.Path.{◌≡◌, sym, ◌∙◌, ap, subst}
+use mathlib.Core.Bool.{Bool, false, not, true≢false}
+use borrow.Author.Rules.{rules}
+use Rattle.plane.specs.Point.{points}
+use Rattle.plane.specs.Distance.{distance}
+use Rattle.extents.specs.theory.Gaps.{extends-spans}
+use Rattle.neighbours.specs.Search.{is_nearer, NearSized}
+use Rattle.neighbours.proofs.is_passed.Goals as goal
+
+pub returns-in_default : goal.returns-in_default
+returns-in_default c = absurd (true≢false (sym c.lifetimes))
+
+pub is_far-requires : goal.is_far-requires
+is_far-requires c =
+    let pre = c.before.before.before.requires in
+    (pre.0, pre.1, subst NearSized c.before.in-Of.is pre.2)
+
+pub returns : goal.returns
+returns c =
+    let at-best = c.before.before in
+    let start = at-best.before.before in
+    let S = points start.args.shape.now in
+    ap (is_nearer (distance A S)) at-best.in-Of.is
+    ∙ ap not (c.is_far.ensures c.lifetimes A S s start.requires.1.shape (λ g y. extends-spans x y))

@@ -1,0 +1,36 @@
+-- `kept` meets its contract: the shape is not nearer, or a later record has its name, or it is kept.
+use mathlib.Core.Path.{◌≡◌, refl, sym, ◌∙◌, ap₂}
+use mathlib.Core.Bool.{Bool, cond, ◌&&◌}
+use Prim.Native.Nat.{ℕ}
+use borrow.Author.Rules.{rules}
+use borrow.Author.Tests.{not-true, not-false}
+use Rattle.neighbours.specs.Spacing.{fraction_of}
+use Rattle.neighbours.specs.Search.{is_nearer, kept_of}
+use Rattle.neighbours.specs.declared.spacing.Spacing.{Spacing}
+use Rattle.neighbours.specs.declared.Near.{Near}
+use Rattle.neighbours.specs.declared.Near.TheVariants as Near
+use Rattle.neighbours.proofs.kept.Goals as goal
+
+-- by what the two tests say
+kept_by : (now : Bool) (n : ℕ) (s : Spacing) (best : Near) {x y : Bool} → is_nearer (fraction_of s) best ≡ x → now ≡ y
+    → cond (x && y) (Near.Of n s) best ≡ kept_of now n s best
+kept_by now n s best h k = ap₂ (λ (x y : Bool). cond (x && y) (Near.Of n s) best) (sym h) (sym k)
+
+pub returns-then-not-is_nearer : goal.returns-then-not-is_nearer
+returns-then-not-is_nearer c =
+    let args = c.before.before.before.args in
+    kept_by _ args.name args.spacing args.best (sym c.before.is_nearer.ensures ∙ not-true _ c.if-not-is_nearer.true) refl
+
+pub returns-then-not-is_current : goal.returns-then-not-is_current
+returns-then-not-is_current c =
+    let at-else = c.before.before in
+    let args = at-else.before.before.before.args in
+    kept_by _ args.name args.spacing args.best (sym at-else.before.is_nearer.ensures ∙ not-false _ at-else.if-not-is_nearer.false)
+    (sym c.before.is_current.ensures ∙ not-true _ c.if-not-is_current.true)
+
+pub returns : goal.returns
+returns c =
+    let at-else = c.before.before in
+    let args = at-else.before.before.before.args in
+    kept_by _ args.name args.spacing args.best (sym at-else.before.is_nearer.ensures ∙ not-false _ at-else.if-not-is_nearer.false)
+    (sym c.before.is_current.ensures ∙ not-false _ c.if-not-is_current.false)

@@ -1,0 +1,15 @@
+-- `is_less` meets its contract: ratios compare as the fractions that they are.
+use mathlib.Core.Path.{◌∙◌}
+use borrow.Author.Rules.{rules}
+use Rattle.neighbours.specs.Spacing.{fraction_of}
+use Rattle.neighbours.specs.theory.Spacings.{ratio-less, sized-whole}
+use Rattle.neighbours.proofs.spacing.is_less.Goals as goal
+
+pub returns : goal.returns
+returns c =
+    let at_other = c.before in
+    let at_one = at_other.before in
+    let args = at_one.before.args in
+    let pre = at_one.before.requires in
+    c.fraction_less.ensures ∙ ratio-less (fraction_of args.v) (fraction_of args.w) _ _ (sized-whole args.v pre.0)
+    (sized-whole args.w pre.1) at_one.as_ratio-one.ensures at_other.as_ratio-other.ensures

@@ -1,0 +1,14 @@
+use mathlib.Core.Path.{◌≡◌, sym, subst}
+use Prim.Native.Nat.{ℕ, ◌+◌, ◌-◌, ◌≤◌}
+use native.Mathlib.Omega.{arith}
+use lib.ListN.{length, take, drop, length-drop}
+use lib.Seq.{get_or-drop, length-take-le}
+use Rattle.packing.specs.Copying.{Copied}
+use Rattle.packing.specs.theory.Copying.{copied_none, copied-length, copied-few, copied_more}
+use Rattle.packing.proofs.copying.copy.Given as goal
+
+abbrev pub invariant-loop-i : goal.invariant-loop-i
+invariant-loop-i l = (l.i ≤ l.n) × Copied l.allowed l.need l.initial.new l.q (take l.i (drop l.p l.old)) l.count l.new
+
+abbrev pub decreases-loop-i : goal.decreases-loop-i
+decreases-loop-i l = l.n - l.i

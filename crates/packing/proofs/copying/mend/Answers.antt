@@ -1,0 +1,39 @@
+-- `mend` meets its contract: the byte is right, or a store is needed, and made if it is allowed.
+use mathlib.Core.Path.{sym, subst}
+use mathlib.Core.Logic.{inl, inr}
+use mathlib.Core.List.{List, [], ◌∷◌}
+use Prim.Native.Nat.{ℕ, ◌+◌}
+use borrow.Author.Rules.{rules}
+use Rattle.packing.specs.Copying.{Copied}
+use Rattle.packing.specs.theory.Copying.{copied-same, copied-made, copied-past, copied-length}
+use Rattle.packing.proofs.copying.mend.Goals as goal
+use Rattle.packing.proofs.copying.mend.Goals.{Joined-need-allowed}
+
+pub returns-then-new-at : goal.returns-then-new-at
+returns-then-new-at c =
+    let start = c.before.before in
+    copied-same start.args.allowed start.args.need start.args.new.now start.args.at start.args.x start.requires.0
+    c.if-new-at.true
+
+-- both ways of the last test
+both : (c : Joined-need-allowed) → let args = c.before.before.before.args in
+    Copied args.allowed args.need args.new.now args.at (args.x ∷ []) (args.need + 1) c.if-need-allowed.new
+both c =
+    let at-else = c.before in
+    let start = at-else.before.before in
+    let args = start.args in
+    let b = args.new.now in
+    elim c.if-need-allowed.branch [
+      | inl q ↦
+          subst (λ (d : List ℕ). Copied args.allowed args.need b args.at (args.x ∷ []) (args.need + 1) d) (sym q.1)
+          (copied-made args.allowed args.need b args.at args.x start.requires.0 at-else.if-new-at.false q.0.taken)
+      | inr q ↦
+          subst (λ (d : List ℕ). Copied args.allowed args.need b args.at (args.x ∷ []) (args.need + 1) d) (sym q.1)
+          (copied-past args.allowed args.need b args.at args.x start.requires.0 at-else.if-new-at.false q.0.left)
+    ]
+
+pub shape_of-new : goal.shape_of-new
+shape_of-new c = copied-length (both c)
+
+pub returns : goal.returns
+returns c = both c

@@ -1,0 +1,13 @@
+-- `packed_length` meets its contract: with a table of all places or with none.
+use mathlib.Core.Path.{refl}
+use borrow.Author.Rules.{rules}
+use Rattle.journal.specs.theory.Marks.{marked_empty}
+use Rattle.packing.proofs.packed_length.Goals as goal
+
+pub slice_bounds-mark-end : goal.mark-requires
+slice_bounds-mark-end c =
+    let at-then = c.before in
+    (at-then.before.before.before.requires, at-then.before.serves.ensures at-then.if-serves.true, refl)
+
+pub measure-requires-2 : goal.measure-requires-2
+measure-requires-2 c = (c.before.before.before.before.requires, marked_empty _ _)

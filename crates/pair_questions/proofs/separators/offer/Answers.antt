@@ -1,0 +1,76 @@
+-- `offer` meets its contract: a list is refused, or the direction, or it is tried.
+use mathlib.Core.Path.{◌≡◌, sym, ◌∙◌, ap, ap₂, subst}
+use mathlib.Core.Bool.{Bool, false, cond}
+use mathlib.Core.List.{[], ◌∷◌}
+use borrow.Author.Rules.{rules}
+use lib.IntN.{pos}
+use mir.Syntax.{w32}
+use mir.Val.{to_z, of_z}
+use mir.Facts.{to_z-of_z}
+use Rattle.plane.specs.Point.{Point, point, points}
+use Rattle.plane.specs.Reply.{NoneApply}
+use Rattle.plane.specs.Furthest.{bad_direction, direction_rows}
+use Rattle.plane.specs.Offer.{below}
+use Rattle.plane.specs.Floor.{Floored, on, Same}
+use Rattle.plane.specs.Question.{Question, ask_offer}
+use Rattle.admission.specs.Admission.{Judged}
+use Rattle.admission.specs.theory.Door.{shapes-refused, rest-refused, all-answered}
+use Rattle.pair_questions.proofs.separators.offer.Goals as goal
+use Rattle.pair_questions.proofs.separators.offer.Goals.{After-admit_direction, In_default, In_default-admit_direction, Start}
+
+-- the two shapes, and the direction
+abbrev one : Start → Floored
+one c = on c.args.a.now c.args.f
+
+abbrev other : Start → Floored
+other c = on c.args.b.now c.args.g
+
+abbrev offered : Start → Point
+offered c = point c.args.u c.args.v
+
+abbrev asked : Start → Question
+asked c = ask_offer (one c) (other c) (offered c)
+
+-- past the judging they are shapes on one floor
+shapes : (c : In_default) → let start = c.before.before.before in Same (one start) (other start)
+shapes c = c.before.before.admit_pair.ensures.valid c.in_default.is
+
+-- the direction, read back from its bits
+direction-is : (c : Start) → point (to_z w32 (of_z w32 c.args.u)) (to_z w32 (of_z w32 c.args.v)) ≡ offered c
+direction-is c = ap₂ point (to_z-of_z c.ranges.u) (to_z-of_z c.ranges.v)
+
+-- what judging it says
+judged-direction : (c : After-admit_direction) → let d = offered c.before.before.before.before in
+    Judged (NoneApply (direction_rows d)) (direction_rows d) c.admit_direction.result
+judged-direction c =
+    subst (λ (d : Point). Judged (NoneApply (direction_rows d)) (direction_rows d) c.admit_direction.result)
+    (direction-is c.before.before.before.before) c.admit_direction.ensures
+
+-- past it, neither row applies
+passed : (c : In_default-admit_direction) → NoneApply (direction_rows (offered c.before.before.before.before.before.before))
+passed c = (judged-direction c.before.before).valid c.in_default-admit_direction.is
+
+pub returns-in-No : goal.returns-in-No
+returns-in-No c = (shapes-refused (asked c.before.before.before.before)
+    (c.before.before.before.admit_pair.ensures.no _ c.before.in-No.is)).0
+
+pub returns-in-No-admit_direction : goal.returns-in-No-admit_direction
+returns-in-No-admit_direction c =
+    let at-judged = c.before.before.before in
+    (rest-refused (asked at-judged.before.before.before.before) (shapes at-judged.before)
+    ((judged-direction at-judged).no _ c.before.in-No-admit_direction.is)).0
+
+pub is_below-requires : goal.is_below-requires
+is_below-requires c =
+    let both = shapes c.before.before.before in
+    let direction = sym (direction-is c.before.before.before.before.before.before) in
+    (both.first-valid, both.second-valid, subst (λ (d : Point). bad_direction d ≡ false) direction (passed c).0)
+
+pub returns : goal.returns
+returns c =
+    let at-passed = c.before in
+    let at-shapes = at-passed.before.before.before in
+    let start = at-shapes.before.before.before in
+    all-answered (asked start) (shapes at-shapes) (passed at-passed)
+    (ap (λ (t : Bool). cond t (pos 1) (pos 0) ∷ pos start.args.f ∷ []) (c.is_below.ensures
+    ∙ ap (λ (d : Point). below d (points start.args.a.now) (points start.args.b.now)) (direction-is start)))

@@ -1,0 +1,22 @@
+-- `told` meets its contract, case by case; the parts of a direction are read back from their bits.
+use mathlib.Core.Path.{refl, sym, ◌∙◌, ap, ap₂}
+use mathlib.Core.List.{[], ◌∷◌, ◌++◌}
+use borrow.Author.Rules.{rules}
+use lib.IntN.{ℤ, pos}
+use mir.Syntax.{w32}
+use Rattle.integer.specs.Machine.{result-is}
+use Rattle.plane.specs.Reply.{answered}
+use Rattle.separator.specs.declared.Separator.{Separator}
+use Rattle.separator.specs.Separator.{separator_numbers}
+use Rattle.pair_questions.proofs.separators.told.Goals as goal
+
+pub returns-in-Direction : goal.returns-in-Direction
+returns-in-Direction c =
+    ap₂ (λ (u v : ℤ). answered (pos 1 ∷ u ∷ v ∷ pos c.before.before.before.args.floor ∷ []))
+    (result-is w32 c.known_told-1.given.0.1 refl) (result-is w32 c.known_told-1.given.1.0.1 refl)
+    ∙ ap (λ (x : Separator). answered (separator_numbers x ++ (pos c.before.before.before.args.floor ∷ [])))
+    (sym c.before.in-Direction.is)
+
+pub returns-in-Nothing : goal.returns-in-Nothing
+returns-in-Nothing c =
+    ap (λ (x : Separator). answered (separator_numbers x ++ (pos c.before.before.args.floor ∷ []))) (sym c.in-Nothing.is)

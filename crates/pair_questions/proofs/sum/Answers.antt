@@ -1,0 +1,75 @@
+-- `sum` meets its contract: a list is refused, or the size of the sum, or it is written.
+use mathlib.Core.Path.{ap}
+use mathlib.Core.List.{[], ◌∷◌}
+use borrow.Author.Rules.{rules}
+use lib.IntN.{pos}
+use Rattle.plane.specs.Reply.{NoneApply}
+use Rattle.plane.specs.Output.{answer_rows}
+use Rattle.plane.specs.Floor.{Floored, on, Same}
+use Rattle.plane.specs.Question.{Question, ask_sum}
+use Rattle.sums.specs.PlaceAfter.{whole_sum}
+use Rattle.admission.specs.Admission.{Judged}
+use Rattle.admission.specs.theory.Door.{shapes-refused, rest-refused, all-written}
+use Rattle.delivery.specs.theory.Delivery.{fit-judged, room-there}
+use Rattle.pair_questions.proofs.sum.Goals as goal
+use Rattle.pair_questions.proofs.sum.Goals.{In_default, In_default-fits, Start}
+
+-- the two shapes, and what is asked of them
+abbrev one : Start → Floored
+one c = on c.args.a.now c.args.f
+
+abbrev other : Start → Floored
+other c = on c.args.b.now c.args.g
+
+abbrev asked : Start → Question
+asked c = ask_sum (one c) (other c) c.args.out-1.now
+
+-- past the judging they are shapes on one floor
+shapes : (c : In_default) → let start = c.before.before.before in Same (one start) (other start)
+shapes c = c.before.before.admit_pair.ensures.valid c.in_default.is
+
+-- the sum is judged by its size
+judged : (c : After-fits2) → let args = c.before.before.before.before.before.before.args in
+    let rows = answer_rows (whole_sum args.a.now args.b.now) args.out-1.now in
+    Judged (NoneApply rows) rows c.fits2.result
+judged c =
+    let args = c.before.before.before.before.before.before.args in
+    fit-judged (whole_sum args.a.now args.b.now) c.before.is_far.ensures args.out-1.now
+    c.before.before.reckon-n.ensures c.fits2.ensures
+
+pub returns-in-No : goal.returns-in-No
+returns-in-No c =
+    shapes-refused (asked c.before.before.before.before)
+    (c.before.before.before.admit_pair.ensures.no _ c.before.in-No.is)
+
+pub reckon-n-requires : goal.reckon-n-requires
+reckon-n-requires c = let both = shapes c in (both.first-valid, both.second-valid)
+
+pub is_far-requires : goal.is_far-requires
+is_far-requires c = let both = shapes c.before in (both.first-valid, both.second-valid)
+
+pub returns-in-No-fits : goal.returns-in-No-fits
+returns-in-No-fits c =
+    let at-fits = c.before.before.before in
+    let at_told = at-fits.before.before.before in
+    rest-refused (asked at_told.before.before.before) (shapes at_told) ((judged at-fits).no _ c.before.in-No-fits.is)
+
+-- past this judging no row applies
+passed : (c : In_default-fits) → let args = c.before.before.before.before.before.before.before.before.args in
+    NoneApply (answer_rows (whole_sum args.a.now args.b.now) args.out-1.now)
+passed c = (judged c.before.before).valid c.in_default-fits.is
+
+pub sum-requires : goal.sum-requires
+sum-requires c =
+    let at-passed = c.before in
+    let both = shapes at-passed.before.before.before.before.before in
+    (both.first-valid, both.second-valid, room-there _ _ (passed at-passed))
+
+pub returns : goal.returns
+returns c =
+    let at_sum = c.before in
+    let at-passed = at_sum.before.before in
+    let at_told = at-passed.before.before.before.before.before in
+    let start = at_told.before.before.before in
+    all-written (asked start) (shapes at_told) (passed at-passed)
+    (ap (λ n. pos n ∷ pos start.args.f ∷ []) at_sum.sum.ensures.0) at_sum.sum.ensures.1

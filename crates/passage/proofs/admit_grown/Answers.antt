@@ -1,0 +1,18 @@
+-- `admit_grown` meets its contract: the size of the differences is judged.
+use borrow.Author.Rules.{rules}
+use Rattle.delivery.specs.theory.Delivery.{sized_rows_lem, judged-by}
+use Rattle.growth.specs.Grown.{grown}
+use Rattle.passage.proofs.admit_grown.Goals as goal
+
+pub top-requires : goal.top-requires
+top-requires c = c.requires.1.shape.some
+
+pub reckon-n-requires : goal.reckon-n-requires
+reckon-n-requires c = (c.before.requires.0, c.before.requires.1, c.top.ensures)
+
+pub is_far-requires : goal.is_far-requires
+is_far-requires c = c.before.before.requires
+
+pub returns : goal.returns
+unfolding grown
+returns c = judged-by (sized_rows_lem _ c.before.is_far.ensures c.before.before.reckon-n.ensures) c.sized.ensures

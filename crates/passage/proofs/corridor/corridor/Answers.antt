@@ -1,0 +1,36 @@
+-- `corridor` meets its contract: where the shapes are apart the widest is found, and else there is none.
+use mathlib.Core.Path.{◌≡◌, sym, ◌∙◌, ap}
+use mathlib.Core.List.{List, [], ◌∷◌}
+use mathlib.Core.Bool.{Bool, true, cond}
+use native.Mathlib.Omega.{arith}
+use borrow.Author.Rules.{rules}
+use lib.IntN.{pos}
+use Rattle.plane.specs.Point.{Point, points}
+use Rattle.plane.specs.Separation.{apart}
+use Rattle.separation.specs.Answer.{number_of}
+use Rattle.separation.specs.theory.Around.{related-apart, related-not-apart}
+use Rattle.passage.specs.Corridor.{widest_numbers, corridor_numbers}
+use Rattle.passage.proofs.corridor.corridor.Goals as goal
+use Rattle.passage.proofs.corridor.corridor.Goals.{In-Apart}
+
+-- where they are apart, and where they are not
+apart-numbers : (A B : List Point) {t : Bool} → apart A B ≡ t → cond t (widest_numbers A B) (pos 0 ∷ []) ≡ corridor_numbers A B
+apart-numbers A B e = ap (λ (t : Bool). cond t (widest_numbers A B) (pos 0 ∷ [])) (sym e)
+
+ready : (c : In-Apart) → let args = c.before.before.before.args in
+    apart (points args.a.now) (points args.b.now) ≡ true
+ready c = related-apart _ _ (ap number_of (sym c.in-Apart.is) ∙ c.before.before.relation.ensures)
+
+pub widest-requires : goal.widest-requires
+widest-requires c = let pre = c.before.before.before.requires in (pre.0, pre.1, ready c)
+
+pub returns-in-Apart : goal.returns-in-Apart
+returns-in-Apart c = c.widest.ensures ∙ apart-numbers _ _ (ready c.before)
+
+pub returns-in-Touching : goal.returns-in-Touching
+returns-in-Touching c = apart-numbers _ _ (related-not-apart _ _ (omega arith)
+    (ap number_of (sym c.in-Touching.is) ∙ c.before.before.relation.ensures))
+
+pub returns-in-Overlapping : goal.returns-in-Overlapping
+returns-in-Overlapping c = apart-numbers _ _ (related-not-apart _ _ (omega arith)
+    (ap number_of (sym c.in-Overlapping.is) ∙ c.before.before.relation.ensures))

@@ -1,0 +1,8 @@
+-- `precedes_at` meets its contract.
+use mathlib.Core.Path.{◌∙◌, ap₂}
+use borrow.Author.Rules.{rules}
+use Rattle.plane.specs.Shape.{precedes}
+use Rattle.polygon.proofs.corners.precedes_at.Goals as goal
+
+pub returns : goal.returns
+returns c = c.precedes.ensures ∙ ap₂ precedes c.before.before.corner_at.ensures c.before.corner_at-2.ensures

@@ -1,0 +1,21 @@
+-- `outside` meets its contract. The limit is opened here alone.
+use mathlib.Core.Path.{◌∙◌, ap}
+use mathlib.Core.Bool.{◌||◌}
+use lib.IntN.{ℤ, pos, neg_ℤ}
+use lib.Signed.{lt_z}
+use mir.Facts.{to_z-of_z}
+use borrow.Author.Rules.{rules}
+use Rattle.integer.specs.Bound.{beyond-size}
+use Rattle.plane.specs.Limits.{max_coordinate}
+use Rattle.plane.specs.Refusal.{outside}
+use Rattle.polygon.proofs.limits.outside.Goals as goal
+
+pub beyond-requires : goal.beyond-requires
+beyond-requires c = tt
+
+pub returns : goal.returns
+unfolding outside max_coordinate
+returns c =
+    c.beyond.ensures
+    ∙ ap (λ (z : ℤ). lt_z z (neg_ℤ (pos max_coordinate)) || lt_z (pos max_coordinate) z) (to_z-of_z c.before.ranges.z)
+    ∙ beyond-size max_coordinate c.before.args.z

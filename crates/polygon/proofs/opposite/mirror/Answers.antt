@@ -1,0 +1,26 @@
+-- `mirror` meets its contract: begun at the top, the opposites are the mirror image.
+use mathlib.Core.Path.{sym, ◌∙◌, ap}
+use mathlib.Core.List.{List}
+use borrow.Author.Rules.{rules}
+use Rattle.plane.specs.Point.{Point, numbers}
+use Rattle.plane.specs.Output.{overwritten}
+use Rattle.plane.specs.theory.mirror.Mirror.{mirror-known}
+use Rattle.polygon.specs.theory.Peak.{peak-last}
+use Rattle.polygon.proofs.opposite.mirror.Goals as goal
+
+pub top-requires : goal.top-requires
+top-requires c = c.requires.0.shape.some
+
+pub write_from-requires : goal.write_from-requires
+write_from-requires c = (c.before.top.ensures.within, c.before.before.requires.0.in_range, c.before.before.requires.1)
+
+pub returns : goal.returns
+returns c =
+    let at_top = c.before.before.before in
+    let start = at_top.before in
+    c.before.write_from.ensures
+    ∙ ap (λ (ps : List Point). overwritten (numbers ps) start.args.out-1.now)
+    (sym (mirror-known _ start.requires.0.shape _ (record {
+      within = at_top.top.ensures.within;
+      last = peak-last _ start.requires.0.shape _ at_top.top.ensures;
+    })))

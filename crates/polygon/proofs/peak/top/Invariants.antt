@@ -1,0 +1,17 @@
+use mathlib.Core.Path.{◌≡◌, sym, ◌∙◌, subst}
+use mathlib.Core.Bool.{true}
+use Prim.Native.Nat.{ℕ, suc, ◌-◌, ◌<◌}
+use native.Mathlib.Numerals.{add-one}
+use native.Mathlib.Omega.{arith}
+use borrow.Author.Count.{below_more}
+use borrow.Author.Tests.{not-true, not-false}
+use Rattle.plane.specs.Point.{points, corner}
+use Rattle.plane.specs.Shape.{precedes}
+use Rattle.polygon.proofs.peak.top.Given as goal
+
+abbrev pub invariant-loop-top : goal.invariant-loop-top
+invariant-loop-top l =
+    (l.top < l.n) × ((k : ℕ) → k < l.top → precedes (corner (points l.list) k) (corner (points l.list) (suc k)) ≡ true)
+
+abbrev pub decreases-loop-top : goal.decreases-loop-top
+decreases-loop-top l = l.n - l.top

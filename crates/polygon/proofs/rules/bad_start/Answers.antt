@@ -1,0 +1,46 @@
+-- `bad_start` meets its contract. The invariant: no corner before c precedes the first; the measure is what is left.
+use mathlib.Core.Path.{sym, ◌∙◌}
+use Prim.Native.Nat.{◌-◌, ◌<◌}
+use native.Mathlib.Omega.{arith}
+use lib.ListN.{length}
+use Rattle.plane.specs.Point.{points, corner}
+use Rattle.plane.specs.Shape.{precedes}
+use Rattle.plane.specs.Refusal.{bad_start}
+use Rattle.plane.specs.theory.lists.Sought.{Sought, sought-start, sought-more, sought-yes, sought-no}
+use Rattle.polygon.proofs.rules.bad_start.Goals as goal
+use Rattle.polygon.proofs.rules.bad_start.Goals.{In-loop-c}
+
+pub count-n-requires : goal.count-n-requires
+count-n-requires c = tt
+
+pub loop-c-init : goal.loop-c-init
+loop-c-init c = sought-start _ _
+
+pub precedes_at-requires : goal.precedes_at-requires
+precedes_at-requires c = omega (arith, c.before.before.count-n.ensures)
+
+-- the loop's test, said of the corners
+below : (c : In-loop-c) → c.before.loop-c.c < length (points c.before.before.before.args.list.now)
+below c = omega (arith, c.before.before.count-n.ensures)
+
+pub returns-then-precedes_at : goal.returns-then-precedes_at
+unfolding bad_start
+returns-then-precedes_at c =
+    let at-loop = c.before.before.before in
+    sym (sought-yes _ _ at-loop.loop-c.c (below c.before.before) (sym c.before.precedes_at.ensures ∙ c.if-precedes_at.true))
+
+pub overflow_add-c : goal.overflow_add-c
+overflow_add-c c = omega arith
+
+pub loop-c-smaller : goal.loop-c-smaller
+loop-c-smaller c = omega arith
+
+pub loop-c-preserved : goal.loop-c-preserved
+loop-c-preserved c =
+    let at-loop = c.before.before.before in
+    sought-more _ _ at-loop.loop-c.c at-loop.loop-c.invariant (below c.before.before)
+    (sym c.before.precedes_at.ensures ∙ c.if-precedes_at.false)
+
+pub returns : goal.returns
+unfolding bad_start
+returns c = sym (sought-no _ _ c.before.loop-c.c c.before.loop-c.invariant (omega (arith, c.before.before.count-n.ensures)))

@@ -1,0 +1,87 @@
+-- `left_break` meets its contract. The invariants: nothing was found, at no edge before this one, and at this edge at no corner before
+-- this one; the measures are what is left.
+use mathlib.Core.Path.{◌≡◌, refl, sym, ◌∙◌}
+use Prim.Native.Nat.{◌-◌, ◌<◌}
+use native.Mathlib.Omega.{arith}
+use lib.ListN.{length}
+use Rattle.plane.specs.Point.{points}
+use Rattle.plane.specs.Search.{some}
+use Rattle.plane.specs.Shape.{breaks}
+use Rattle.plane.specs.Refusal.{left_broken, breaking_edge}
+use Rattle.plane.specs.theory.lists.Sought.{Sought, sought-start, sought-more, sought-found, sought-yes, sought-no}
+use Rattle.polygon.specs.declared.rules.Broken.TheVariants.{Nowhere}
+use Rattle.polygon.proofs.LeftRule.{left-break-at, left-break-nowhere}
+use Rattle.polygon.proofs.rules.left_break.Goals as goal
+use Rattle.polygon.proofs.rules.left_break.Goals.{In-edges, In-loop-corner}
+
+pub count-n-requires : goal.count-n-requires
+count-n-requires c = tt
+
+pub edges-init : goal.edges-init
+edges-init c = (refl, sought-start _ _)
+
+pub loop-corner-init : goal.loop-corner-init
+loop-corner-init c = (c.before.edges.invariant.0, sought-start _ _)
+
+-- the loops' tests, said of the corners
+edge-below : (c : In-edges)
+    → c.before.edges.edge < length (points c.before.before.before.args.list.now)
+edge-below c = omega (arith, c.before.before.count-n.ensures)
+
+corner-below : (c : In-loop-corner)
+    → c.before.loop-corner.corner < length (points c.before.before.before.before.before.args.list.now)
+corner-below c = omega (arith, c.before.before.before.before.count-n.ensures)
+
+pub breaks_at-requires : goal.breaks_at-requires
+breaks_at-requires c = (edge-below c.before.before, corner-below c, c.before.before.before.before.before.requires)
+
+pub overflow_step-corner : goal.overflow_step-corner
+overflow_step-corner c = omega arith
+
+pub loop-corner-smaller : goal.loop-corner-smaller
+loop-corner-smaller c = omega arith
+
+pub loop-corner-preserved : goal.loop-corner-preserved
+loop-corner-preserved c =
+    let at-loop = c.before.before.before in (
+      at-loop.loop-corner.invariant.0,
+      sought-more _ _ at-loop.loop-corner.corner at-loop.loop-corner.invariant.1 (corner-below c.before.before)
+          (sym c.before.breaks_at.ensures ∙ c.if-breaks_at.false),
+    )
+
+pub overflow_step-edge : goal.overflow_step-edge
+overflow_step-edge c = omega arith
+
+pub edges-smaller : goal.edges-smaller
+edges-smaller c = omega arith
+
+pub edges-preserved : goal.edges-preserved
+edges-preserved c =
+    let at-loop = c.before in
+    let at-edges = c.before.before.before in (
+      at-loop.loop-corner.invariant.0,
+      sought-more _ _ at-edges.edges.edge at-edges.edges.invariant.1 (edge-below c.before.before)
+          (sought-no _ _ at-loop.loop-corner.corner at-loop.loop-corner.invariant.1 (omega (arith, at-edges.before.count-n.ensures))),
+    )
+
+pub returns-after-edges : goal.returns-after-edges
+unfolding left_broken
+returns-after-edges c =
+    let at-edges = c.before in
+    at-edges.edges.invariant.0
+    ∙ left-break-nowhere (points at-edges.before.before.args.list.now)
+    (sought-no _ _ at-edges.edges.edge at-edges.edges.invariant.1 (omega (arith, at-edges.before.count-n.ensures)))
+
+pub returns-then-breaks_at : goal.returns-then-breaks_at
+unfolding left_broken breaking_edge
+returns-then-breaks_at c =
+    let at-loop = c.before.before.before in
+    let at-edges = at-loop.before.before in
+    let here = sym c.before.breaks_at.ensures ∙ c.if-breaks_at.true in
+    let corner-in = corner-below c.before.before in
+    let edge_in = edge-below at-loop.before in
+    let at_edge = sought-yes _ _ at-loop.loop-corner.corner corner-in here in
+    left-break-at (points at-edges.before.before.args.list.now) at-edges.edges.edge at-loop.loop-corner.corner
+    (sought-yes _ _ at-edges.edges.edge edge_in at_edge)
+    (sought-found _ _ at-edges.edges.edge at-edges.edges.invariant.1 edge_in at_edge)
+    (sought-found _ _ at-loop.loop-corner.corner at-loop.loop-corner.invariant.1 corner-in here)

@@ -1,0 +1,47 @@
+-- `some_outside` meets its contract. The invariant: what is gathered is the test of the first i numbers; the measure is what is left.
+use mathlib.Core.Path.{◌≡◌, refl, sym, ◌∙◌, ap, ap₂}
+use mathlib.Core.Bool.{Bool, ◌||◌}
+use Prim.Native.Nat.{ℕ, ◌-◌, ◌≤◌}
+use native.Mathlib.Numerals.{add-one}
+use native.Mathlib.Omega.{arith}
+use borrow.Author.Rules.{rules, sfits_of}
+use lib.IntN.{pos}
+use lib.ListN.{length, get_or}
+use mir.Facts.{to_z-of_z}
+use Rattle.plane.specs.Search.{some}
+use Rattle.plane.specs.Refusal.{outside}
+use Rattle.plane.specs.theory.refusals.Tests.{outside-some}
+use Rattle.polygon.proofs.rules.some_outside.Goals as goal
+use Rattle.polygon.proofs.rules.some_outside.Goals.{After-outside}
+
+-- the test's result is that of the coordinate, which was read back from its bits
+told : (c : After-outside)
+    → c.outside.result ≡ outside (get_or c.before.before.before.before.args.list.now c.before.before.before.loop-i.i (pos 0))
+told c = c.outside.ensures ∙ ap outside (to_z-of_z (sfits_of c.before.outside-arg-1.given))
+
+pub loop-i-init : goal.loop-i-init
+loop-i-init c = (omega arith, refl)
+
+pub overflow_add-i : goal.overflow_add-i
+overflow_add-i c = omega arith
+
+pub loop-i-smaller : goal.loop-i-smaller
+loop-i-smaller c = let in-loop = c.before.before.before in omega (arith, in-loop.loop-i-test.true)
+
+pub loop-i-preserved : goal.loop-i-preserved
+loop-i-preserved c =
+    let in-loop = c.before.before.before in
+    let at-loop = in-loop.before in
+    let list = at-loop.before.args.list.now in (
+      omega (arith, in-loop.loop-i-test.true),
+      c.either-some.ensures ∙ ap₂ (λ (s t : Bool). s || t) at-loop.loop-i.invariant.1 (told c.before)
+          ∙ ap (some (λ (k : ℕ). outside (get_or list k (pos 0)))) (sym (add-one at-loop.loop-i.i)),
+    )
+
+pub returns : goal.returns
+returns c =
+    let at-loop = c.before in
+    let list = at-loop.before.args.list.now in
+    let all : at-loop.loop-i.i ≡ length list = omega (arith, c.loop-i-test.false, at-loop.loop-i.invariant.0) in
+    at-loop.loop-i.invariant.1 ∙ ap (some (λ (k : ℕ). outside (get_or list k (pos 0)))) all
+    ∙ outside-some list

@@ -1,0 +1,21 @@
+-- `of_begun` meets its contract, case by case.
+use mathlib.Core.Path.{◌∙◌, ap}
+use mathlib.Core.List.{[], ◌∷◌}
+use lib.IntN.{ℤ, pos}
+use Rattle.plane.specs.Reply.{answered}
+use Rattle.part_questions.specs.Answer.{of_begun}
+use Rattle.wire.specs.theory.Bits.{told}
+use Rattle.wire.specs.Told.{crossed}
+use borrow.Author.Rules.{rules}
+use Rattle.reply.proofs.of_begun.Goals as goal
+
+pub returns-in-At : goal.returns-in-At
+returns-in-At c =
+    let at = c.before.before.before.answer-1.given in
+    let walk = at.0.0 in
+    c.answered4.ensures
+    ∙ ap (λ (z : ℤ). crossed (answered (pos walk.first ∷ pos walk.second ∷ z ∷ pos at.0.1.0 ∷ []))) c.before.flag.ensures
+    ∙ told of_begun at.1
+
+pub returns-in-No : goal.returns-in-No
+returns-in-No c = c.of_refusal.ensures ∙ told of_begun c.before.before.in-No.is

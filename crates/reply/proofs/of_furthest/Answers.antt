@@ -1,0 +1,24 @@
+-- `of_furthest` meets its contract, case by case.
+use mathlib.Core.Path.{◌∙◌, ap}
+use mathlib.Core.List.{[], ◌∷◌}
+use Prim.Native.Nat.{ℕ}
+use lib.IntN.{pos}
+use mir.Syntax.{w64}
+use Rattle.plane.specs.Reply.{answered}
+use Rattle.answers.specs.Answer.{of_furthest}
+use Rattle.wire.specs.theory.Bits.{told, kept-bits}
+use Rattle.wire.specs.Told.{crossed}
+use borrow.Author.Rules.{rules}
+use Rattle.reply.proofs.of_furthest.Goals as goal
+
+pub returns-in-At : goal.returns-in-At
+returns-in-At c =
+    let found = c.before.before in
+    let at = found.before.answer-1.given in
+    let value = kept-bits w64 at.0.1.1.0 found.known_told-1.given.1.1.0.1 c.before.bits.ensures in
+    c.answered4.ensures
+    ∙ ap (λ (n : ℕ). crossed (answered (pos at.0.0 ∷ pos at.0.1.0 ∷ pos n ∷ pos at.0.1.1.1.0 ∷ []))) value
+    ∙ told of_furthest at.1
+
+pub returns-in-No : goal.returns-in-No
+returns-in-No c = c.of_refusal.ensures ∙ told of_furthest c.before.before.in-No.is

@@ -1,0 +1,15 @@
+-- `of_nearest` meets its contract, case by case.
+use mathlib.Core.Path.{◌∙◌}
+use Rattle.answers.specs.Answer.{of_nearest}
+use Rattle.wire.specs.theory.Bits.{told}
+use borrow.Author.Rules.{rules}
+use Rattle.reply.proofs.of_nearest.Goals as goal
+
+pub returns-in-Meets : goal.returns-in-Meets
+returns-in-Meets c = c.answered3.ensures ∙ told of_nearest c.before.before.in-Meets.is
+
+pub returns-in-Apart : goal.returns-in-Apart
+returns-in-Apart c = c.named.ensures ∙ told of_nearest c.before.before.in-Apart.is
+
+pub returns-in-No : goal.returns-in-No
+returns-in-No c = c.of_refusal.ensures ∙ told of_nearest c.before.before.in-No.is

@@ -1,0 +1,22 @@
+-- `of_part` meets its contract, case by case.
+use mathlib.Core.Path.{◌∙◌, ap}
+use mathlib.Core.List.{[], ◌∷◌}
+use lib.IntN.{ℤ, pos}
+use Rattle.plane.specs.Reply.{answered}
+use Rattle.part_questions.specs.Answer.{of_part}
+use Rattle.wire.specs.theory.Bits.{told}
+use Rattle.wire.specs.Told.{crossed}
+use borrow.Author.Rules.{rules}
+use Rattle.reply.proofs.of_part.Goals as goal
+
+pub returns-in-Corners : goal.returns-in-Corners
+returns-in-Corners c =
+    let at = c.before.before.before.answer-1.given in
+    let walk = at.0.1.0 in
+    let floor = at.0.1.1.0 in
+    c.answered5.ensures
+    ∙ ap (λ (z : ℤ). crossed (answered (pos at.0.0 ∷ pos walk.first ∷ pos walk.second ∷ z ∷ pos floor ∷ [])))
+    c.before.flag.ensures ∙ told of_part at.1
+
+pub returns-in-No : goal.returns-in-No
+returns-in-No c = c.of_refusal.ensures ∙ told of_part c.before.before.in-No.is

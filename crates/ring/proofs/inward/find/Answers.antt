@@ -1,0 +1,38 @@
+-- `find` meets its contract. The invariant: no corner before i turns in; the measure is what is left.
+use mathlib.Core.Path.{sym, ◌∙◌}
+use Prim.Native.Nat.{◌-◌}
+use native.Mathlib.Omega.{arith}
+use lib.ListN.{length}
+use Rattle.plane.specs.Point.{points}
+use Rattle.plane.specs.theory.lists.Sought.{Sought, sought-start, sought-more, sought-found, sought-none}
+use Rattle.ring.specs.Ring.{inward_at, first_inward}
+use Rattle.ring.proofs.inward.find.Goals as goal
+
+pub loop-i-init : goal.loop-i-init
+loop-i-init c = sought-start _ _
+
+pub turns_in-requires : goal.turns_in-requires
+turns_in-requires c = (c.before.before.before.requires, c.loop-i-test.true)
+
+pub returns-then-turns_in : goal.returns-then-turns_in
+unfolding first_inward
+returns-then-turns_in c =
+    let at-loop = c.before.before.before in
+    sym (sought-found _ _ at-loop.loop-i.i at-loop.loop-i.invariant c.before.before.loop-i-test.true
+    (sym c.before.turns_in.ensures ∙ c.if-turns_in.true))
+
+pub overflow_add-i : goal.overflow_add-i
+overflow_add-i c = omega arith
+
+pub loop-i-smaller : goal.loop-i-smaller
+loop-i-smaller c = omega arith
+
+pub loop-i-preserved : goal.loop-i-preserved
+loop-i-preserved c =
+    let at-loop = c.before.before.before in
+    sought-more _ _ at-loop.loop-i.i at-loop.loop-i.invariant c.before.before.loop-i-test.true
+    (sym c.before.turns_in.ensures ∙ c.if-turns_in.false)
+
+pub returns : goal.returns
+unfolding first_inward
+returns c = sym (sought-none _ _ c.before.loop-i.i c.before.loop-i.invariant (omega (arith, c.loop-i-test.false)))

@@ -1,0 +1,88 @@
+-- `distinct` meets its contract: what was gathered, without a closing point.
+use mathlib.Core.Path.{◌≡◌, sym, ◌∙◌, ap, ap₂, subst}
+use mathlib.Core.Bool.{Bool, cond, ◌&&◌}
+use mathlib.Core.List.{List, ◌∷◌}
+use Prim.Native.Nat.{ℕ, ◌-◌, ◌<◌}
+use native.Mathlib.Omega.{arith}
+use borrow.Author.Rules.{rules}
+use lib.Dec.{ltb}
+use lib.ListN.{length, get_or}
+use Rattle.plane.specs.Point.{Point, points, corner, same_point}
+use Rattle.plane.specs.Shape.{next}
+use Rattle.plane.specs.theory.lists.Next.{next-below}
+use Rattle.ring.specs.Round.{closed, differing, distinct}
+use Rattle.ring.specs.Ring.{walked}
+use Rattle.ring.specs.Places.{Held}
+use Rattle.ring.specs.theory.Buffers.{held-less, held-last}
+use Rattle.ring.specs.theory.Steps.{closed_at, walked_whole}
+use Rattle.ring.specs.theory.Under.{Under, under_at, under-weaken, walked-under, differing-under}
+use Rattle.ring.proofs.places.distinct.Goals as goal
+use Rattle.ring.proofs.places.distinct.Goals.{After-gather-count, Start}
+
+-- what was gathered
+module _ (c : After-gather-count) where
+  abbrev begin : Start
+  begin = c.before.before.before
+
+  abbrev f : ℕ → Point
+  f = corner (points begin.args.list.now)
+
+  abbrev all : List ℕ
+  all =
+      let n = begin.args.n in
+      let s = begin.args.start in
+      s ∷ differing f s (walked n (next n s) (n - 1))
+
+  under : Under (length (points begin.args.list.now)) all
+  under =
+      let n = begin.args.n in
+      let s = begin.args.start in
+      let b = length (points begin.args.list.now) in (
+        omega (arith, begin.pre.0, begin.pre.1),
+        differing-under f b s (walked n (next n s) (n - 1)) (under-weaken n b (walked n (next n s) (n - 1)) begin.pre.0
+            (walked-under n (next n s) (n - 1) (next-below n s begin.pre.1))),
+      )
+
+  last-is : get_or c.gather-count.new.1.1.1.0 (c.gather-count.result - 1) 0 ≡ get_or all (length all - 1) 0
+  last-is = held-last c.gather-count.ensures (omega arith)
+
+pub overflow_sub-count : goal.overflow_sub-count
+overflow_sub-count c = omega (arith, c.before.before.gather-count.ensures.counted)
+
+pub offset_bounds-kept-count : goal.offset_bounds-kept-count
+offset_bounds-kept-count c =
+    let at = c.before.before in
+    omega (arith, at.gather-count.ensures.counted, at.gather-count.ensures.fits, at.gather-count.auto.1.1.1.0, (begin at).well-formed.1.1.1.0)
+
+pub bounds-kept-count : goal.bounds-kept-count
+bounds-kept-count c =
+    let held = c.before.before.before.gather-count.ensures in
+    omega (arith, held.counted, held.fits)
+
+pub less_closing-requires : goal.less_closing-requires
+less_closing-requires c =
+    let at = c.before.before.before in
+    let start = begin at in
+    let b = length (points start.args.list.now) in (
+      omega (arith, start.pre.0, start.pre.1),
+      subst (λ (i : ℕ). i < b) (sym (last-is at)) (under_at b (all at) (under at) (length (all at) - 1) (omega arith)),
+    )
+
+pub returns : goal.returns
+returns c =
+    let at = c.before.before.before.before in
+    let start = begin at in
+    let n = start.args.n in
+    let s = start.args.start in
+    let ps = points start.args.list.now in
+    let xs = all at in
+    let k = at.gather-count.result in
+    let l = at.gather-count.new.1.1.1.0 in
+    let counted = at.gather-count.ensures.counted in
+    let test =
+    ap₂ (λ (m i : ℕ). ltb 1 m && same_point (corner ps s) (corner ps i)) counted (last-is at) ∙ sym (closed_at (f at) 0 xs) in
+    let count = c.less_closing.ensures ∙ ap (λ (t : Bool). cond t (k - 1) k) test in
+    subst (λ (r : ℕ). Held (distinct (f at) (walked n s n)) r l) (sym count)
+    (subst (λ (w : List ℕ). Held (distinct (f at) w) (cond (closed (f at) xs) (k - 1) k) l)
+    (sym (walked_whole n s (omega (arith, start.pre.1))))
+    (held-less (closed (f at) xs) at.gather-count.ensures))

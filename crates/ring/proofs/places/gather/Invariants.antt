@@ -1,0 +1,22 @@
+use mathlib.Core.Path.{◌≡◌, refl, sym, ◌∙◌, ap, subst}
+use mathlib.Core.Bool.{Bool, not}
+use mathlib.Core.List.{List, ◌∷◌, ◌++◌}
+use Prim.Native.Nat.{ℕ, ◌+◌, ◌-◌, ◌≤◌, ◌<◌}
+use native.Mathlib.Omega.{arith}
+use lib.ListN.{length, length-set}
+use Rattle.plane.specs.Point.{points, corner}
+use Rattle.plane.specs.Shape.{next}
+use Rattle.ring.specs.Round.{optional, differing}
+use Rattle.ring.specs.Ring.{walked}
+use Rattle.ring.specs.theory.Buffers.{Coming, coming-keep, coming-end, coming-put}
+use Rattle.ring.specs.theory.Steps.{walked_step}
+use Rattle.ring.proofs.places.gather.Given as goal
+
+abbrev pub invariant-loop-i : goal.invariant-loop-i
+invariant-loop-i l =
+    Coming (l.start ∷ differing (corner (points l.list)) l.start (walked l.n (next l.n l.start) (l.n - 1)))
+    (differing (corner (points l.list)) l.from (walked l.n (next l.n l.from) (l.n - l.i))) l.count l.kept
+    × (l.from < l.n) × (l.count ≤ l.i) × (l.i ≤ l.n) × (length l.kept ≡ length l.initial.kept)
+
+abbrev pub decreases-loop-i : goal.decreases-loop-i
+decreases-loop-i l = l.n - l.i

@@ -1,0 +1,15 @@
+-- `lower` meets its contract.
+use mathlib.Core.Path.{sym, ◌∙◌, ap}
+use mathlib.Core.Bool.{Bool, cond}
+use borrow.Author.Rules.{rules}
+use Rattle.ring.proofs.places.lower.Goals as goal
+
+pub returns-then-precedes_at : goal.returns-then-precedes_at
+returns-then-precedes_at c =
+    let args = c.before.before.args in
+    sym (ap (λ (t : Bool). cond t args.i args.best) (sym c.before.precedes_at.ensures ∙ c.if-precedes_at.true))
+
+pub returns : goal.returns
+returns c =
+    let args = c.before.before.args in
+    sym (ap (λ (t : Bool). cond t args.i args.best) (sym c.before.precedes_at.ensures ∙ c.if-precedes_at.false))

@@ -1,0 +1,67 @@
+-- `arranged` meets its contract: points from the least on that are a shape are the corners, whichever way they are read.
+use mathlib.Core.Path.{sym, subst}
+use mathlib.Core.Bool.{false≢true}
+use Prim.Native.Nat.{ℕ, ◌<◌}
+use native.Mathlib.Omega.{arith}
+use borrow.Author.Rules.{rules}
+use lib.IntN.{pos}
+use lib.ListN.{length}
+use lib.Seq.{length-take-le}
+use lib.Signed.{lt_z}
+use mir.Syntax.{w64}
+use mir.Val.{to_z, of_z}
+use Rattle.plane.specs.Point.{points, corner}
+use Rattle.ring.specs.theory.Steps.{opened-le, opened_some, least-below}
+use Rattle.ring.specs.theory.Arranged.{arranged-front}
+use Rattle.ring.proofs.standard.arranged.Goals as goal
+use Rattle.ring.proofs.standard.arranged.Goals.{Start}
+
+-- the start is one of the points
+begins : (c : Start) → c.args.start < c.args.n
+begins c =
+    let ps = points c.args.list.now in
+    let n = c.args.n in
+    subst (λ (k : ℕ). k < n) (sym c.requires.1.least)
+    (least-below (corner ps) n (omega (arith, c.requires.1.all, opened_some (λ p. p) ps c.requires.0.some)))
+
+pub previous-before-requires : goal.previous-before-requires
+previous-before-requires c = begins c
+
+pub next-requires : goal.next-requires
+next-requires c = begins c.before
+
+pub turn_at-turn-requires : goal.turn_at-turn-requires
+turn_at-turn-requires c =
+    let start = c.before.before in
+    let few = opened-le (λ p. p) (points start.args.list.now) in
+    let n = start.requires.1.all in (
+      omega (arith, few, n, c.before.previous-before.ensures.upper_bound),
+      omega (arith, few, n, begins start),
+      omega (arith, few, n, c.next.ensures.upper_bound),
+      start.requires.0.in_range,
+    )
+
+pub returns-then-turn-eq0 : goal.returns-then-turn-eq0
+returns-then-turn-eq0 c = absurd (false≢true c.lifetimes)
+
+pub arrange-requires : goal.arrange-requires
+arrange-requires c =
+    let start = c.before.before.before.before.before in
+    (omega (arith, start.requires.1.all, opened-le (λ p. p) (points start.args.list.now)), begins start, start.requires.2)
+
+pub slice_bounds-passes-end-2 : goal.slice_bounds-passes-end-2
+slice_bounds-passes-end-2 c =
+    let at-arrange = c.before.before in
+    let start = at-arrange.before.before.before.before.before.before in
+    sym (length-take-le _ at-arrange.arrange.new.1.1.1.1.0
+    (omega (arith, start.requires.2, at-arrange.arrange.auto.1.1.1.1.0)))
+
+pub returns : goal.returns
+returns c =
+    let at-arrange = c.before.before.before in
+    let at_turn = at-arrange.before.before.before in
+    let start = at_turn.before.before.before in
+    let args = start.args in
+    let back = lt_z (to_z w64 (of_z w64 at_turn.turn_at-turn.result)) (pos 0) in
+    arranged-front (points args.list.now) args.n args.start back start.requires.1.all start.requires.1.least
+    args.shape-1.now at-arrange.arrange.new.1.1.1.1.0 at-arrange.arrange.ensures (c.passes.ensures.0 c.lifetimes).shape-1

@@ -1,0 +1,59 @@
+-- `bends_at` meets its contract.
+use mathlib.Core.Path.{◌≡◌, sym, ◌∙◌, ap, ap₂, subst}
+use mathlib.Core.Bool.{not}
+use Prim.Native.Nat.{ℕ, ◌<◌}
+use borrow.Author.Rules.{rules}
+use lib.ListN.{length, get_or}
+use Rattle.plane.specs.Point.{points, corner}
+use Rattle.plane.specs.Shape.{next}
+use Rattle.plane.specs.theory.lists.Next.{next-below}
+use Rattle.ring.specs.Round.{in_sense, straight}
+use Rattle.ring.specs.Ring.{previous}
+use Rattle.ring.specs.theory.Steps.{sense-below, previous-below}
+use Rattle.ring.proofs.turns.bends_at.Goals as goal
+use Rattle.ring.proofs.turns.bends_at.Goals.{After-place, Start}
+
+pub place-a-requires : goal.place-a-requires
+place-a-requires c = c.previous.ensures.upper_bound
+
+-- the three places, said of the list
+module _ (c : After-place) where
+  abbrev begin : Start
+  begin = c.before.before.before.before.before.before
+
+  abbrev sense : ℕ → ℕ
+  sense j = get_or (in_sense begin.args.back begin.args.kept.now) j 0
+
+  abbrev all : ℕ
+  all = length begin.args.kept.now
+
+  is-before : c.before.before.before.place-a.result ≡ sense (previous all begin.args.j)
+  is-before = c.before.before.before.place-a.ensures ∙ ap sense c.before.before.before.before.previous.ensures.value
+
+  is-after : c.before.place-c.result ≡ sense (next all begin.args.j)
+  is-after = c.before.place-c.ensures ∙ ap sense c.before.before.next.ensures.value
+
+  sound : (j : ℕ) → j < all → sense j < length (points begin.args.list.now)
+  sound j h = sense-below _ begin.args.back begin.args.kept.now begin.pre.0.below j h
+
+pub straight_at-requires : goal.straight_at-requires
+straight_at-requires c =
+    let start = begin c in
+    let n = all c in
+    let j = start.args.j in
+    let b = length (points start.args.list.now) in (
+      subst (λ (i : ℕ). i < b) (sym (is-before c)) (sound c (previous n j) (previous-below n j start.pre.1)),
+      subst (λ (i : ℕ). i < b) (sym c.place.ensures) (sound c j start.pre.1),
+      subst (λ (i : ℕ). i < b) (sym (is-after c)) (sound c (next n j) (next-below n j start.pre.1)),
+      start.pre.0.near,
+    )
+
+pub returns : goal.returns
+returns c =
+    let at-3 = c.before in
+    let start = begin at-3 in
+    let ps = points start.args.list.now in
+    ap not (c.straight_at.ensures
+    ∙ ap₂ (λ (a d : ℕ). straight (corner ps a) (corner ps at-3.place.result) (corner ps d)) (is-before at-3) (is-after at-3)
+    ∙ ap (λ (b : ℕ). straight (corner ps (sense at-3 (previous (all at-3) start.args.j))) (corner ps b)
+    (corner ps (sense at-3 (next (all at-3) start.args.j)))) at-3.place.ensures)

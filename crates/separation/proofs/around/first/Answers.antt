@@ -1,0 +1,40 @@
+-- `first` meets its contract: the walk begins there.
+use mathlib.Core.Path.{◌≡◌, refl, sym, ◌∙◌, ap, subst}
+use Prim.Native.Nat.{zero-le}
+use mathlib.Core.Bool.{false}
+use native.Mathlib.Omega.{arith}
+use Rattle.plane.specs.Point.{points}
+use Rattle.calipers.specs.Image.{image}
+use Rattle.calipers.specs.Side.{walk_of}
+use Rattle.calipers.specs.Walk.{here, begun, At}
+use Rattle.calipers.specs.theory.Carry.{here-near, sides-walk, sides-here, corners-fit}
+use Rattle.separation.specs.theory.Image.{image-begun}
+use Rattle.separation.specs.theory.Stops.{on_below, corner-here}
+use Rattle.separation.proofs.around.first.Goals as goal
+use Rattle.separation.proofs.around.first.Goals.{After-side_at-2, Start}
+
+pub side_at-requires : goal.side_at-requires
+side_at-requires c = (omega arith, c.requires.0.in_range, c.requires.0.shape.some)
+
+pub side_at-requires-2 : goal.side_at-requires-2
+side_at-requires-2 c = let pre = c.before.requires in (pre.1, pre.2, omega arith)
+
+starts : (c : Start) → At c.args.a.now (image c.args.b.now) begun
+starts c = image-begun _ _ c.requires.0 c.requires.1
+
+begins : (c : After-side_at-2) → walk_of c.before.side_at.result c.side_at-2.result false ≡ begun
+begins c = sides-walk begun c.before.side_at.result c.side_at-2.result c.before.side_at.ensures.0 c.side_at-2.ensures.0
+
+stands : (c : After-side_at-2) → let start = c.before.before in
+    At start.args.a.now (image start.args.b.now) (walk_of c.before.side_at.result c.side_at-2.result false)
+stands c = subst (At _ _) (sym (begins c)) (starts c.before.before)
+
+pub here-requires : goal.here-requires
+here-requires c = corners-fit (stands c) c.before.side_at.ensures.1 c.side_at-2.ensures.1
+
+pub returns : goal.returns
+returns c =
+    let at-sides = c.before in
+    let start = starts at-sides.before.before in
+    let is = c.here.ensures ∙ sides-here (stands at-sides) at-sides.before.side_at.ensures.1 at-sides.side_at-2.ensures.1 in
+    (is ∙ ap (here _ _) (begins at-sides) ∙ corner-here _ _ start 0 (on_below _ _ start 0 zero-le refl), here-near (stands at-sides) is)

@@ -1,0 +1,42 @@
+-- `passed_normal` meets its contract: the corner of the other shape, which both ends have in common, drops out.
+use mathlib.Core.Path.{◌≡◌, refl, ◌∙◌, ap₂}
+use mathlib.Core.Bool.{Bool, cond}
+use borrow.Author.Rules.{rules}
+use borrow.Author.Tests.{lt-ltb, le-ltb}
+use lib.Dec.{ltb}
+use Rattle.plane.specs.Cut.{outward}
+use Rattle.polygon.specs.theory.Small.{small-plus}
+use Rattle.calipers.specs.Side.{corner_of}
+use Rattle.separation.specs.theory.Passed.{normal-left, normal-right}
+use Rattle.separation.proofs.normal.passed_normal.Goals as goal
+use Rattle.separation.proofs.normal.passed_normal.Goals.{After-struct_known-2-1}
+
+pub normal-requires : goal.normal-requires
+normal-requires c = search (rules, small-plus)
+
+-- which edge it is, by the test
+picked : (c : After-struct_known-2-1) {t : Bool} → let args = c.before.before.args in
+    ltb args.s.at args.m.at ≡ t → cond t (outward (corner_of args.s) (corner_of args.m))
+    (outward (corner_of args.t) (corner_of args.n))
+    ≡ cond (ltb args.s.at args.m.at) (outward (corner_of args.s) (corner_of args.m))
+    (outward (corner_of args.t) (corner_of args.n))
+picked c e = rw e refl
+
+pub returns-then-s-m : goal.returns-then-s-m
+returns-then-s-m c =
+    let at_test = c.before.before.before.before in
+    let args = at_test.before.before.args in
+    c.normal.ensures ∙ ap₂ outward c.before.before.here.ensures c.before.here-then-s-m.ensures
+    ∙ normal-right (corner_of args.s) (corner_of args.m) (corner_of args.t)
+    ∙ picked at_test (lt-ltb args.s.at args.m.at c.before.before.before.if-s-m.true)
+
+pub normal-requires-2 : goal.normal-requires-2
+normal-requires-2 c = search (rules, small-plus)
+
+pub returns : goal.returns
+returns c =
+    let at_test = c.before.before.before.before in
+    let args = at_test.before.before.args in
+    c.normal-2.ensures ∙ ap₂ outward c.before.before.here-2.ensures c.before.here-3.ensures
+    ∙ normal-left (corner_of args.t) (corner_of args.n) (corner_of args.s)
+    ∙ picked at_test (le-ltb args.s.at args.m.at c.before.before.before.if-s-m.false)

@@ -1,0 +1,204 @@
+-- `stride` meets its contract. The invariant is what it promises, with three edges left of both shapes; the measure: the edges that are
+-- left.
+use mathlib.Core.Path.{◌∙◌, ap}
+use mathlib.Core.Logic.{inl, inr}
+use Prim.Native.Nat.{ℕ, ◌+◌, ◌-◌, ◌^◌, ◌<◌}
+use borrow.Author.Tests.{not-false}
+use native.Mathlib.Omega.{arith}
+use lib.ListN.{length}
+use mir.Syntax.{w64}
+use Rattle.integer.specs.Machine.{result-is}
+use Rattle.plane.specs.Point.{points}
+use Rattle.plane.specs.Refusal.{InRange, Valid}
+use Rattle.plane.specs.Forms.{edges}
+use Rattle.polygon.specs.Peak.{Peak}
+use Rattle.polygon.specs.Point.{at, Small}
+use Rattle.polygon.specs.theory.Small.{small-wide}
+use Rattle.calipers.specs.declared.side.Side.{Side}
+use Rattle.calipers.specs.Image.{image}
+use Rattle.calipers.specs.Side.{next_of, Carried}
+use Rattle.calipers.specs.theory.Carry.{sides-here, here-near, first_next, corners-fit, edges_fit}
+use Rattle.separation.specs.Passing.{Strode}
+use Rattle.separation.specs.theory.Image.{image-begun, image-few}
+use Rattle.separation.proofs.Striding.{strode-start, strode-at, strode-first, strode-second, strode-both, strode-same, goes_on}
+use Rattle.separation.proofs.stride.stride.Goals as goal
+use Rattle.separation.proofs.stride.stride.Goals.{After-order-c, At-loop-from, Joined-c-gt0, Start}
+
+pub side_at-s-requires : goal.side_at-s-requires
+side_at-s-requires c = (omega arith, c.requires.0.in_range, c.requires.0.shape.some)
+
+pub side_at-requires : goal.side_at-requires
+side_at-requires c = let pre = c.before.requires in (pre.1, pre.2, omega arith)
+
+pub alone-t-requires : goal.alone-t-requires
+alone-t-requires c =
+    let first = c.before in
+    let pre = first.before.requires in (
+      pre.0,
+      pre.1,
+      pre.2,
+      strode-start (image-begun _ _ pre.0 pre.1) first.side_at-s.ensures.0 c.side_at.ensures.0 first.side_at-s.ensures.1
+          c.side_at.ensures.1,
+    )
+
+-- the edges that are passed fit
+bound : (c : Start) {s t : Side} {joined : ℕ} → Strode c.args.a.now (image c.args.b.now) s t joined
+    → s.at + t.at < 2 ^ 63
+bound c p = omega (
+  arith,
+  p.first-side.at_in,
+  p.second-side.at_in,
+  image-few _ _ c.requires.0 c.requires.1,
+  c.well-formed.0,
+  c.well-formed.1.0,
+
+)
+
+pub are_inside-requires : goal.are_inside-requires
+are_inside-requires c = let fits = bound c.before.before.before c.alone-t.ensures in (omega (arith, fits), omega (arith, fits))
+
+pub returns-then-not-are_inside : goal.returns-then-not-are_inside
+returns-then-not-are_inside c = c.before.before.alone-t.ensures
+
+pub loop-from-init : goal.loop-from-init
+loop-from-init c =
+    let three = c.before.are_inside.ensures (not-false _ c.if-not-are_inside.false) in (c.before.before.alone-t.ensures, three.0, three.1)
+
+abbrev start : At-loop-from → Start
+start c = c.before.before.before.before.before.before
+
+pub here-from-requires : goal.here-from-requires
+here-from-requires c = let p = c.loop-from.invariant.0 in corners-fit (strode-at p) p.first-side p.second-side
+
+pub order-c-requires : goal.order-c-requires
+order-c-requires c = let p = c.before.loop-from.invariant.0 in edges_fit (strode-at p) p.first-side p.second-side
+
+-- the corner and the edges may be multiplied
+fit : (c : After-order-c) → let at-loop = c.before.before in
+    Small (2 ^ 22) (at c.before.here-from.result) × Small (2 ^ 22) (next_of at-loop.loop-from.s) × Small (2 ^ 22) (next_of at-loop.loop-from.t)
+fit c =
+    let p = c.before.before.loop-from.invariant.0 in
+    let both = edges_fit (strode-at p) p.first-side p.second-side in
+    let near = here-near (strode-at p) (c.before.here-from.ensures ∙ sides-here (strode-at p) p.first-side p.second-side) in
+    (small-wide near, both.0, both.1)
+
+-- what the sides ask for to go on
+first-ahead : (c : At-loop-from) → let args = (start c).args in
+    let s = c.loop-from.s in
+    Carried args.a.now s × InRange args.a.now × (0 < length (points args.a.now)) × (s.at + 2 < s.end)
+first-ahead c =
+    let p = c.loop-from.invariant.0 in
+    let ready = first_next (strode-at p) p.first-side p.second-side in
+    (ready.0, ready.1, ready.2, c.loop-from.invariant.1)
+
+second-ahead : (c : At-loop-from) → let args = (start c).args in
+    let t = c.loop-from.t in
+    Valid args.b.now × Peak (points args.b.now) args.top × Carried (image args.b.now) t × (t.at + 2 < t.end)
+second-ahead c = let pre = (start c).requires in (pre.1, pre.2, c.loop-from.invariant.0.second-side, c.loop-from.invariant.2)
+
+pub moment-requires : goal.moment-requires
+moment-requires c = let f = fit c.before in (f.0, f.1)
+
+pub returns-then-moment-le0 : goal.returns-then-moment-le0
+returns-then-moment-le0 c = c.before.before.before.before.before.loop-from.invariant.0
+
+pub ahead-s-requires : goal.ahead-s-requires
+ahead-s-requires c = first-ahead c.before.before.before.before.before
+
+pub moment-requires-then-c-lt0 : goal.moment-requires-then-c-lt0
+moment-requires-then-c-lt0 c = let f = fit c.before.before in (f.0, f.2)
+
+pub returns-then-moment-le0-2 : goal.returns-then-moment-le0-2
+returns-then-moment-le0-2 c = c.before.before.before.before.before.before.loop-from.invariant.0
+
+pub ahead-t-requires : goal.ahead-t-requires
+ahead-t-requires c = second-ahead c.before.before.before.before.before.before
+
+pub joint_moment-requires : goal.joint_moment-requires
+joint_moment-requires c = fit c.before.before
+
+pub returns-then-joint_moment-le0 : goal.returns-then-joint_moment-le0
+returns-then-joint_moment-le0 c = c.before.before.before.before.before.before.loop-from.invariant.0
+
+pub ahead-s-requires-else-c-lt0 : goal.ahead-s-requires-else-c-lt0
+ahead-s-requires-else-c-lt0 c = first-ahead c.before.before.before.before.before.before
+
+pub ahead-t-requires-else-c-lt0 : goal.ahead-t-requires-else-c-lt0
+ahead-t-requires-else-c-lt0 c = second-ahead c.before.before.before.before.before.before.before
+
+pub overflow_add-joined : goal.overflow_add-joined
+overflow_add-joined c =
+    let at-loop = c.before.before.before.before.before.before.before.before in
+    let p = at-loop.loop-from.invariant.0 in
+    omega (arith, p.counted, bound (start at-loop) p, at-loop.loop-from.invariant.1, p.first-side.end_is)
+
+-- one side went on, or both: the walk is further, and less is left
+further : (c : Joined-c-gt0) → let at-loop = c.before.before.before in
+    let args = (start at-loop).args in
+    let E = edges (points args.a.now) in
+    let F = edges (points (image args.b.now)) in
+    Strode args.a.now (image args.b.now) c.if-c-gt0.s c.if-c-gt0.t c.if-c-gt0.joined
+    × (length E - c.if-c-gt0.s.at + (length F - c.if-c-gt0.t.at) < length E - at-loop.loop-from.s.at + (length F - at-loop.loop-from.t.at))
+further c =
+    let o = c.before in
+    let inv = o.before.before.loop-from.invariant in
+    let p = inv.0 in
+    let product = result-is w64 o.order-c.type-inv o.order-c.ensures in
+    elim c.if-c-gt0.branch [
+      | inl q ↦ (
+        strode-same q.4 q.5 q.6 (strode-first p product o.before.here-from.ensures q.2.left inv.1 inv.2
+            q.0.taken (result-is w64 q.1.ok q.1.ensures) _ q.3.ensures.0 q.3.ensures.1),
+        omega (
+          arith,
+          ap (λ (z : Side). z.at) q.4,
+          ap (λ (z : Side). z.at) q.5,
+          inv.1,
+          p.first-side.end_is,
+          goes_on p.first-side inv.1 q.3.ensures.0,
+        ),
+      )
+      | inr r ↦ elim r [
+        | inl q ↦ (
+          strode-same q.5 q.6 q.7 (strode-second p product o.before.here-from.ensures q.3.left inv.1 inv.2
+              q.1.taken (result-is w64 q.2.ok q.2.ensures) _ q.4.ensures.0 q.4.ensures.1),
+          omega (
+            arith,
+            ap (λ (z : Side). z.at) q.5,
+            ap (λ (z : Side). z.at) q.6,
+            inv.2,
+            p.second-side.end_is,
+            goes_on p.second-side inv.2 q.4.ensures.0,
+          ),
+        )
+        | inr q ↦ (
+          strode-same q.6 q.7 q.8 (strode-both p product o.before.here-from.ensures q.3.left inv.1 inv.2
+              q.0.left q.1.left (result-is w64 q.2.ok q.2.ensures) _ _ q.4.ensures.0 q.5.ensures.0
+              q.4.ensures.1 q.5.ensures.1),
+          omega (
+            arith,
+            ap (λ (z : Side). z.at) q.6,
+            ap (λ (z : Side). z.at) q.7,
+            inv.1,
+            inv.2,
+            p.first-side.end_is,
+            p.second-side.end_is,
+            goes_on p.first-side inv.1 q.4.ensures.0,
+            goes_on p.second-side inv.2 q.5.ensures.0,
+          ),
+        )
+      ]
+    ]
+
+pub are_inside-requires-in-loop-from : goal.are_inside-requires-in-loop-from
+are_inside-requires-in-loop-from c =
+    let fits = bound (start c.before.before.before) (further c).0 in (omega (arith, fits), omega (arith, fits))
+
+pub returns-then-not-are_inside-2 : goal.returns-then-not-are_inside-2
+returns-then-not-are_inside-2 c = (further c.before.before).0
+
+pub loop-from-smaller : goal.loop-from-smaller
+loop-from-smaller c = (further c.before.before).1
+
+pub loop-from-preserved : goal.loop-from-preserved
+loop-from-preserved c =
+    let three = c.before.are_inside-in-loop-from.ensures (not-false _ c.if-not-are_inside-2.false) in ((further c.before.before).0, three.0, three.1)

@@ -1,0 +1,44 @@
+-- `on_segment` meets its contract: the turn, and the value of the steps to the ends.
+use mathlib.Core.Path.{◌≡◌, sym, ◌∙◌, ap, ap₂}
+use borrow.Author.Rules.{rules}
+use lib.IntN.{ℤ, pos}
+use lib.Signed.{le_z}
+use mir.Syntax.{w64}
+use mir.Val.{to_z, of_z}
+use Rattle.integer.specs.Machine.{result-is}
+use Rattle.plane.specs.Point.{◌⊖◌}
+use Rattle.plane.specs.Turn.{cross}
+use Rattle.plane.specs.Direction.{value}
+use Rattle.polygon.specs.Point.{at}
+use Rattle.polygon.specs.theory.Small.{small-step}
+use Rattle.separation.specs.theory.Within.{segment-off, segment-level}
+use Rattle.separation.proofs.within.on_segment.Goals as goal
+use Rattle.separation.proofs.within.on_segment.Goals.{After-cross}
+
+pub cross-requires : goal.cross-requires
+cross-requires c =
+    let start = c.before.before in
+    (small-step start.requires.0 start.requires.1 c.before.step-to_first.ensures, small-step start.requires.0 start.requires.2 c.step-to_last.ensures)
+
+-- the product of the steps to the ends
+crossed : (c : After-cross) → let start = c.before.before.before in
+    c.cross.result ≡ cross (at start.args.p ⊖ at start.args.x) (at start.args.q ⊖ at start.args.x)
+crossed c = c.cross.ensures ∙ ap₂ cross c.before.before.step-to_first.ensures c.before.step-to_last.ensures
+
+pub returns-then-cross-ne0 : goal.returns-then-cross-ne0
+returns-then-cross-ne0 c =
+    let start = c.before.before.before.before in
+    sym (segment-off (at start.args.p) (at start.args.q) (at start.args.x)
+    (λ e. c.if-cross-ne0.true (ap (of_z w64) (crossed c.before ∙ e))))
+
+pub dot-requires : goal.dot-requires
+dot-requires c = cross-requires c.before.before c.lifetimes
+
+pub returns : goal.returns
+returns c =
+    let at-cross = c.before.before in
+    let start = at-cross.before.before.before in
+    let steps = ap₂ value at-cross.before.before.step-to_first.ensures at-cross.before.step-to_last.ensures in
+    ap (λ (z : ℤ). le_z z (pos 0)) (result-is w64 c.dot.type-inv (c.dot.ensures ∙ steps))
+    ∙ segment-level (at start.args.p) (at start.args.q) (at start.args.x)
+    (sym (result-is w64 at-cross.cross.type-inv (crossed at-cross)) ∙ ap (to_z w64) c.before.if-cross-ne0.false)

@@ -1,0 +1,94 @@
+-- `furthest` meets its contract: the list is refused, or the direction, or the face sought.
+use mathlib.Core.Path.{◌≡◌, refl, sym, ◌∙◌, ap, ap₂, subst}
+use mathlib.Core.List.{[], ◌∷◌}
+use Prim.Native.Nat.{ℕ}
+use lib.IntN.{ℤ, pos}
+use mir.Syntax.{w32, w64}
+use mir.Val.{to_z, of_z}
+use mir.Facts.{to_z-of_z}
+use borrow.Author.Rules.{rules}
+use Rattle.integer.specs.Machine.{known, machine-read, machine-is}
+use Rattle.integer.specs.Bound.{within-widen}
+use Rattle.plane.specs.Limits.{part_small}
+use Rattle.plane.specs.Point.{Point, point, points}
+use Rattle.plane.specs.Forms.{NonZero}
+use Rattle.plane.specs.Reply.{NoneApply}
+use Rattle.plane.specs.Refusal.{Valid}
+use Rattle.plane.specs.Direction.{support}
+use Rattle.plane.specs.Face.{face_first, face_last}
+use Rattle.plane.specs.Furthest.{direction_rows}
+use Rattle.plane.specs.Floor.{on}
+use Rattle.plane.specs.Question.{Question, ask_furthest}
+use Rattle.plane.specs.theory.support.Bounds.{support-size}
+use Rattle.plane.specs.theory.direction.Rows.{direction-near, direction-some}
+use Rattle.polygon.specs.Point.{Small}
+use Rattle.polygon.specs.theory.Small.{small-wide}
+use Rattle.admission.specs.Admission.{Judged}
+use Rattle.admission.specs.theory.Door.{shapes-refused, rest-refused, all-answered}
+use Rattle.shape_questions.proofs.furthest.Goals as goal
+use Rattle.shape_questions.proofs.furthest.Goals.{After-admit_direction, In_default, In_default-admit_direction, Start}
+
+-- the direction, and the question
+abbrev towards : Start → Point
+towards c = point c.args.u c.args.v
+
+abbrev asked : Start → Question
+asked c = ask_furthest (on c.args.list.now c.args.floor) (towards c)
+
+-- past the judging the list is a shape
+valid : (c : In_default) → Valid c.before.before.before.args.list.now
+valid c = c.before.before.admit.ensures.valid c.in_default.is
+
+-- the direction, read back from its bits
+direction-is : (c : Start) → point (to_z w32 (of_z w32 c.args.u)) (to_z w32 (of_z w32 c.args.v)) ≡ towards c
+direction-is c = ap₂ point (to_z-of_z c.ranges.u) (to_z-of_z c.ranges.v)
+
+-- what judging it says
+judged-direction : (c : After-admit_direction) → let d = towards c.before.before.before.before in
+    Judged (NoneApply (direction_rows d)) (direction_rows d) c.admit_direction.result
+judged-direction c =
+    subst (λ (d : Point). Judged (NoneApply (direction_rows d)) (direction_rows d) c.admit_direction.result)
+    (direction-is c.before.before.before.before) c.admit_direction.ensures
+
+-- past it, neither row applies
+passed : (c : In_default-admit_direction) → NoneApply (direction_rows (towards c.before.before.before.before.before.before))
+passed c = (judged-direction c.before.before).valid c.in_default-admit_direction.is
+
+pub returns-in-No : goal.returns-in-No
+returns-in-No c = (shapes-refused (asked c.before.before.before.before)
+    (c.before.before.before.admit.ensures.no _ c.before.in-No.is)).0
+
+pub returns-in-No-admit_direction : goal.returns-in-No-admit_direction
+returns-in-No-admit_direction c =
+    let at-judged = c.before.before.before in
+    (rest-refused (asked at-judged.before.before.before.before) (valid at-judged.before)
+    ((judged-direction at-judged).no _ c.before.in-No-admit_direction.is)).0
+
+pub face_towards-face-requires : goal.face_towards-face-requires
+face_towards-face-requires c =
+    let direction = sym (direction-is c.before.before.before.before.before.before) in
+    let v = valid c.before.before.before in
+    let good = (passed c).0 in
+    let near = direction-near _ good in
+    let small : Small 2097152 _ = record { small-x = within-widen part_small near.0; small-y = within-widen part_small near.1 } in
+    (v.in_range, v.shape, subst (Small 4194304) direction (small-wide small), subst NonZero direction (direction-some _ good))
+
+told : {p q i j f : ℕ} {y z : ℤ} → p ≡ i → q ≡ j → y ≡ z
+    → pos p ∷ pos q ∷ y ∷ pos f ∷ [] ≡ pos i ∷ pos j ∷ z ∷ pos f ∷ []
+told e f g = rw (e, f, g) refl
+
+pub returns : goal.returns
+returns c =
+    let at-passed = c.before.before in
+    let start = at-passed.before.before.before.before.before.before in
+    let ps = points start.args.list.now in
+    let face = c.before.face_towards-face.ensures in
+    let first = face.0 ∙ ap (λ (d : Point). face_first d ps) (direction-is start) in
+    let last = face.1.0 ∙ ap (λ (d : Point). face_last d ps) (direction-is start) in
+    let good = passed at-passed in
+    let v = valid at-passed.before.before.before in
+    let near = direction-near _ good.0 in
+    let small = known (face.1.1 ∙ ap (λ (d : Point). support d ps) (direction-is start))
+    (support-size _ v.in_range near.0 near.1 v.shape.some) in
+    let value = machine-is (machine-read w64 _ small) tt in
+    all-answered (asked start) v good (told first last value)

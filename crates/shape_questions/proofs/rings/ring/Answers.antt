@@ -1,0 +1,38 @@
+-- `ring` meets its contract: a list is refused by 1 to 3, or the inner function answers.
+use mathlib.Core.List.{[], ◌∷◌}
+use native.Mathlib.Omega.{arith}
+use borrow.Author.Rules.{rules}
+use Rattle.plane.specs.Limits.{max_points}
+use Rattle.plane.specs.Point.{points}
+use Rattle.plane.specs.Floor.{on}
+use Rattle.plane.specs.Output.{room_row}
+use Rattle.plane.specs.theory.lists.Flat.{points-length}
+use Rattle.admission.specs.theory.Judged.{refuses-append}
+use Rattle.admission.specs.theory.Door.{rest-refused}
+use Rattle.ring.specs.Ring.{ring_shape, inward_row, ask_ring}
+use Rattle.ring.specs.theory.Steps.{opened-le}
+use Rattle.shape_questions.proofs.rings.ring.Goals as goal
+
+pub returns-in-No : goal.returns-in-No
+returns-in-No c =
+    let at-admit = c.before.before.before in
+    let args = at-admit.before.args in
+    let qs = points args.list.now in
+    rest-refused (ask_ring (on args.list.now args.floor) args.out-1.now) tt
+    (refuses-append (inward_row qs ∷ room_row (ring_shape qs) args.out-1.now ∷ [])
+    (at-admit.admit.ensures.no _ c.before.in-No.is))
+
+pub ring_in-requires : goal.ring_in-requires
+ring_in-requires c =
+    let at_told = c.before.before.before in
+    let l = at_told.before.before.before.args.list.now in (
+      at_told.before.before.admit.ensures.valid at_told.in_default.is,
+      omega (arith, c.before.before.if-list-le-FEW_NUMBERS.true, opened-le (λ p. p) (points l), points-length l),
+    )
+
+pub ring_in-requires-2 : goal.ring_in-requires-2
+unfolding max_points
+ring_in-requires-2 c =
+    let at_told = c.before.before.before in
+    let v = at_told.before.before.admit.ensures.valid at_told.in_default.is in
+    (v, omega (arith, v.few-1))

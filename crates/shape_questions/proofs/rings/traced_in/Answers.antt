@@ -1,0 +1,10 @@
+-- `traced_in` meets its contract: the positions of the corners are found, and then told.
+use mathlib.Core.Path.{sym, ◌∙◌, ap}
+use borrow.Author.Rules.{rules}
+use lib.ListN.{length}
+use Rattle.shape_questions.proofs.rings.traced_in.Goals as goal
+
+pub slice_bounds-told-end-2 : goal.slice_bounds-told-end-2
+slice_bounds-told-end-2 c =
+    let held = c.before.before.before.before.before.trace-m.ensures in
+    held.counted ∙ ap length (sym held.front)

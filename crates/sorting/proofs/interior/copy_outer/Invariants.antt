@@ -1,0 +1,14 @@
+use Prim.Native.Nat.{◌-◌, ◌<◌}
+use native.Mathlib.Omega.{arith}
+use borrow.Author.Rules.{rules}
+use lib.ListN.{length}
+use Rattle.plane.specs.Point.{points}
+use Rattle.plane.specs.theory.lists.Flat.{points-length}
+use Rattle.sorting.specs.theory.Interior.{Sifting, sift-start, sift-room, sift-one, sift-end}
+use Rattle.sorting.proofs.interior.copy_outer.Given as goal
+
+abbrev pub invariant-loop-i : goal.invariant-loop-i
+invariant-loop-i l = Sifting l.inner (points l.list) l.initial.buf l.i l.k l.buf
+
+abbrev pub decreases-loop-i : goal.decreases-loop-i
+decreases-loop-i l = l.n - l.i

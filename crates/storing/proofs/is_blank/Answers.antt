@@ -1,0 +1,50 @@
+-- `is_blank` meets its contract. The invariant: if the most is 0, all bytes up to p are; the measure is what is left.
+use mathlib.Core.Path.{◌≡◌, ap}
+use mathlib.Core.Logic.{inl, inr}
+use mathlib.Core.List.{List}
+use Prim.Native.Nat.{ℕ, ◌+◌, ◌-◌, ◌≤◌, ◌<◌}
+use native.Mathlib.Decide.{ℕ_discrete}
+use native.Mathlib.Omega.{arith}
+use borrow.Author.Tests.{eqb-true}
+use lib.ListN.{length, get_or}
+use Rattle.storing.proofs.is_blank.Goals as goal
+
+-- one byte more
+most-next : (b : List ℕ) (from p m n : ℕ) → ((i : ℕ) → from ≤ i → i < p → get_or b i 0 ≤ m) → get_or b p 0 ≤ n → m ≤ n → (i : ℕ)
+    → from ≤ i → i < p + 1 → get_or b i 0 ≤ n
+most-next b from p m n h own le i l k = go (ℕ_discrete i p)
+  where
+    go : Dec (i ≡ p) → get_or b i 0 ≤ n
+    go (yes e) = omega (arith, own, ap (λ (j : ℕ). get_or b j 0) e)
+    go (no f) = omega (arith, h i l (omega (arith, k, f)), le)
+
+pub loop-p-init : goal.loop-p-init
+loop-p-init c = absurd (omega (arith, l, m))
+
+pub bounds-log-p : goal.bounds-log-p
+bounds-log-p c = c.before.loop-p-test.true
+
+pub bounds-log-p-then-most-log : goal.bounds-log-p-then-most-log
+bounds-log-p-then-most-log c = c.before.before.before.loop-p-test.true
+
+pub overflow_add-p : goal.overflow_add-p
+overflow_add-p c = omega (arith, c.before.before.loop-p-test.true)
+
+pub loop-p-smaller : goal.loop-p-smaller
+loop-p-smaller c = omega (arith, c.before.before.loop-p-test.true)
+
+pub loop-p-preserved : goal.loop-p-preserved
+loop-p-preserved c =
+    let at-loop = c.before.before.before in
+    let log = at-loop.before.args.log.now in
+    let both : (get_or log at-loop.loop-p.p 0 ≤ c.if-most-log.most) × (at-loop.loop-p.most ≤ c.if-most-log.most) =
+    elim c.if-most-log.branch [
+      | inl q ↦ (omega (arith, q.2), omega (arith, q.0.taken, q.2))
+      | inr q ↦ (omega (arith, q.0.left, q.1), omega (arith, q.1))
+    ] in
+    most-next log _ at-loop.loop-p.p _ _ at-loop.loop-p.invariant both.0 both.1
+
+pub returns : goal.returns
+returns c =
+    let at-loop = c.before in
+    omega (arith, at-loop.loop-p.invariant i l (omega (arith, m, c.loop-p-test.false)), eqb-true at-loop.loop-p.most 0 c.lifetimes)

@@ -1,0 +1,8 @@
+-- `pair` meets its contract: two bytes, the lower first.
+use borrow.Author.Rules.{rules}
+use Rattle.journal.specs.theory.Storing.{ran-pair}
+use Rattle.storing.proofs.pair.Goals as goal
+
+pub returns : goal.returns
+returns c =
+    ran-pair _ _ c.before.before.before.before.before.before.byte-left.ensures c.before.before.byte.ensures

@@ -1,0 +1,42 @@
+-- `goes_on` meets its contract: it compares the values of two corners.
+use mathlib.Core.Path.{◌∙◌, ap, ap₂}
+use Prim.Native.Nat.{ℕ, ◌<◌}
+use native.Mathlib.Omega.{arith}
+use borrow.Author.Rules.{rules}
+use lib.ListN.{length}
+use lib.Signed.{le_z}
+use mir.Syntax.{w64}
+use Rattle.integer.specs.Machine.{result-is}
+use Rattle.plane.specs.Point.{points, corner}
+use Rattle.plane.specs.Shape.{next}
+use Rattle.plane.specs.Direction.{value}
+use Rattle.polygon.specs.Point.{at}
+use Rattle.polygon.specs.theory.Small.{small-corner, small-wide}
+use Rattle.sums.proofs.extent.goes_on.Goals as goal
+use Rattle.sums.proofs.extent.goes_on.Goals.{After-next-after}
+
+-- the next position is one of the list
+next-in : (c : After-next-after) → c.next-after.result < length (points c.before.before.args.list.now)
+next-in c = omega (arith, c.next-after.ensures.upper_bound, c.before.count.ensures)
+
+pub dot-requires : goal.dot-requires
+dot-requires c =
+    let start = c.before.before.before in
+    (start.requires.2, small-wide (small-corner _ start.requires.1 _ start.requires.0 c.corner_at.ensures))
+
+pub dot-requires-2 : goal.dot-requires-2
+dot-requires-2 c =
+    let at_next = c.before.before.before in
+    let start = at_next.before.before in
+    (start.requires.2, small-wide (small-corner _ start.requires.1 _ (next-in at_next) c.corner_at-2.ensures))
+
+pub returns : goal.returns
+returns c =
+    let at_next = c.before.before.before.before in
+    let start = at_next.before.before in
+    let ps = points start.args.list.now in
+    let here = c.before.before.before.corner_at.ensures in
+    let there = c.before.corner_at-2.ensures
+    ∙ ap (corner ps) (at_next.next-after.ensures.value ∙ ap (λ (n : ℕ). next n start.args.i) at_next.before.count.ensures) in
+    ap₂ le_z (result-is w64 c.before.before.dot.type-inv (c.before.before.dot.ensures ∙ ap (value (at start.args.d)) here))
+    (result-is w64 c.dot-2.type-inv (c.dot-2.ensures ∙ ap (value (at start.args.d)) there))

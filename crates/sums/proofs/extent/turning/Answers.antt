@@ -1,0 +1,104 @@
+-- `turning` meets its contract. The invariant: the corner before `low` goes on to it, and that at `high` does not; the measure is what is
+-- between them.
+use mathlib.Core.Path.{◌≡◌, sym, ◌∙◌, subst}
+use mathlib.Core.List.{List}
+use Prim.Native.Nat.{ℕ, suc, ◌+◌, ◌-◌, ◌/◌, ◌≤◌, ◌<◌}
+use native.Mathlib.Omega.{arith}
+use lib.ListN.{length}
+use lib.Signed.{◌≤ℤ◌, ◌<ℤ◌}
+use Rattle.integer.specs.Order.{le_z-true, le_z-false}
+use Rattle.plane.specs.Point.{Point, points, corner}
+use Rattle.plane.specs.Shape.{next}
+use Rattle.plane.specs.Direction.{value}
+use Rattle.polygon.specs.Point.{at}
+use Rattle.sums.proofs.extent.turning.Goals as goal
+use Rattle.sums.proofs.extent.turning.Goals.{In-loop-low}
+
+abbrev GoesOn : List Point → Point → ℕ → Type 0
+GoesOn ps d i = value d (corner ps i) ≤ℤ value d (corner ps (next (length ps) i))
+
+abbrev Stops : List Point → Point → ℕ → Type 0
+Stops ps d i = value d (corner ps (next (length ps) i)) <ℤ value d (corner ps i)
+
+record Halved (ps : List Point) (d : Point) (from to low high : ℕ) : Type 0 where
+  after : from ≤ low
+  order : low ≤ high
+  within : high ≤ to
+  goes : (k : ℕ) → from ≤ k → suc k ≡ low → GoesOn ps d k
+  stops : high < to → Stops ps d high
+
+pub loop-low-init : goal.loop-low-init
+loop-low-init c = record {
+  after = omega arith;
+  order = c.requires.0;
+  within = omega arith;
+  goes = λ k h e. absurd (omega (arith, h, e));
+  stops = λ h. absurd (omega (arith, h));
+
+}
+
+pub overflow_sub-middle : goal.overflow_sub-middle
+overflow_sub-middle c = omega arith
+
+pub overflow_add-middle : goal.overflow_add-middle
+overflow_add-middle c = omega (arith, c.before.loop-low.invariant.within)
+
+-- the middle is before the end
+inside : (c : In-loop-low) → let at-loop = c.before in
+    at-loop.loop-low.low + (at-loop.loop-low.high - at-loop.loop-low.low) / 2 < at-loop.loop-low.high
+inside c = omega (arith, c.loop-low-test.true)
+
+pub goes_on-requires : goal.goes_on-requires
+goes_on-requires c =
+    let pre = c.before.before.requires in
+    (omega (arith, inside c, c.before.loop-low.invariant.within, pre.1), pre.2, pre.3)
+
+pub overflow_add-low : goal.overflow_add-low
+overflow_add-low c = omega (arith, inside c.before.before, c.before.before.before.loop-low.invariant.within)
+
+pub loop-low-smaller-then-goes_on : goal.loop-low-smaller-then-goes_on
+loop-low-smaller-then-goes_on c = omega (arith, inside c.before.before)
+
+pub loop-low-preserved-then-goes_on : goal.loop-low-preserved-then-goes_on
+loop-low-preserved-then-goes_on c =
+    let at-loop = c.before.before.before in
+    let inv = at-loop.loop-low.invariant in
+    let args = at-loop.before.args in
+    let middle = at-loop.loop-low.low + (at-loop.loop-low.high - at-loop.loop-low.low) / 2 in
+    record {
+      after = omega (arith, inv.after);
+      order = omega (arith, inside c.before.before);
+      within = inv.within;
+      goes = λ k h e.
+          let same : middle ≡ k = omega (arith, e) in
+          subst (λ (i : ℕ). GoesOn (points args.list.now) (at args.d) i) same
+          (le_z-true (sym c.before.goes_on.ensures ∙ c.if-goes_on.true));
+      stops = inv.stops;
+    }
+
+pub loop-low-smaller : goal.loop-low-smaller
+loop-low-smaller c = omega (arith, inside c.before.before)
+
+pub loop-low-preserved : goal.loop-low-preserved
+loop-low-preserved c =
+    let at-loop = c.before.before.before in
+    let inv = at-loop.loop-low.invariant in
+    record {
+      after = inv.after;
+      order = omega arith;
+      within = omega (arith, inside c.before.before, inv.within);
+      goes = inv.goes;
+      stops = λ h. le_z-false (sym c.before.goes_on.ensures ∙ c.if-goes_on.false);
+    }
+
+pub returns : goal.returns
+returns c =
+    let inv = c.before.loop-low.invariant in
+    let all : c.before.loop-low.high ≡ c.before.loop-low.low = omega (arith, inv.order, c.loop-low-test.false) in
+    let args = c.before.before.args in
+    record {
+      after = inv.after;
+      within = omega (arith, inv.order, inv.within);
+      goes = inv.goes;
+      stops = λ h. subst (λ (i : ℕ). Stops (points args.list.now) (at args.d) i) all (inv.stops (omega (arith, all, h)));
+    }

@@ -1,0 +1,18 @@
+use mathlib.Core.Path.{◌≡◌, sym, ◌∙◌, subst}
+use mathlib.Core.List.{List}
+use Prim.Native.Nat.{ℕ, suc, ◌+◌, ◌-◌, ◌/◌, ◌≤◌, ◌<◌}
+use native.Mathlib.Omega.{arith}
+use lib.ListN.{length}
+use lib.Signed.{◌≤ℤ◌, ◌<ℤ◌}
+use Rattle.integer.specs.Order.{le_z-true, le_z-false}
+use Rattle.plane.specs.Point.{Point, points, corner}
+use Rattle.plane.specs.Shape.{next}
+use Rattle.plane.specs.Direction.{value}
+use Rattle.polygon.specs.Point.{at}
+use Rattle.sums.proofs.extent.turning.Given as goal
+
+abbrev pub invariant-loop-low : goal.invariant-loop-low
+invariant-loop-low l = Halved (points l.list) (at l.d) l.from l.to l.low l.high
+
+abbrev pub decreases-loop-low : goal.decreases-loop-low
+decreases-loop-low l = l.high - l.low

@@ -1,0 +1,21 @@
+-- `edge_at` meets its contract.
+use mathlib.Core.Path.{◌∙◌, ap₂}
+use native.Mathlib.Omega.{arith}
+use borrow.Author.Rules.{rules}
+use Rattle.plane.specs.Point.{◌⊖◌}
+use Rattle.plane.specs.theory.lists.Flat.{points-length}
+use Rattle.polygon.specs.theory.Small.{small-corner}
+use Rattle.sums.proofs.size.edge_at.Goals as goal
+
+pub overflow_add-i : goal.overflow_add-i
+overflow_add-i c = let start = c.before in omega (arith, start.requires.0, points-length start.args.list.now, start.well-formed.0)
+
+pub step-requires : goal.step-requires
+step-requires c =
+    let pre = c.before.before.requires in (
+      small-corner _ pre.1 _ (omega (arith, pre.0)) c.before.corner_at.ensures,
+      small-corner _ pre.1 _ pre.0 c.corner_at-2.ensures,
+    )
+
+pub returns : goal.returns
+returns c = c.step.ensures ∙ ap₂ (λ p q. q ⊖ p) c.before.before.corner_at.ensures c.before.corner_at-2.ensures

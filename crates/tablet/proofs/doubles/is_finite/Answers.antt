@@ -1,0 +1,16 @@
+-- `is_finite` meets its contract: between the infinities is what is finite.
+use lib.Ieee.{of_bits, neg, nan_bits}
+use Rattle.tablet.specs.theory.Tested.{finite-below, finite-not}
+use Rattle.tablet.proofs.doubles.is_finite.Goals as goal
+
+pub float_from_bits-infinity : goal.float_from_bits-infinity
+unfolding nan_bits
+float_from_bits-infinity c = tt
+
+pub returns-then-v-infinity : goal.returns-then-v-infinity
+unfolding of_bits neg
+returns-then-v-infinity c = finite-below c.before.args.v c.if-v-infinity.true
+
+pub returns : goal.returns
+unfolding of_bits
+returns c = finite-not c.before.args.v c.if-v-infinity.false

@@ -1,0 +1,10 @@
+use Rattle.std.proofs.Common.{◌≡◌, ◌≤◌, length, drop, arith, rules}
+use Rattle.wide.specs.Value.{value}
+use Rattle.wide.specs.theory.Compare.{above-none, word-agrees, word-decides, none_below}
+use Rattle.wide.proofs.arithmetic.is_less.Given as goal
+
+abbrev pub invariant-loop-i : goal.invariant-loop-i
+invariant-loop-i l = (l.i ≤ length l.a) × (value (drop l.i l.a) ≡ value (drop l.i l.b))
+
+abbrev pub decreases-loop-i : goal.decreases-loop-i
+decreases-loop-i l = l.i

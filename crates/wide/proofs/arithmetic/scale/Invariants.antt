@@ -1,0 +1,9 @@
+use Rattle.std.proofs.Common.{◌-◌, length, arith, length-set, rules}
+use Rattle.wide.specs.theory.Carry.{Scaling, scaling-start, scaling-more, scaling-end}
+use Rattle.wide.proofs.arithmetic.scale.Given as goal
+
+abbrev pub invariant-loop-i : goal.invariant-loop-i
+invariant-loop-i l = Scaling l.a l.w l.out l.carry l.i
+
+abbrev pub decreases-loop-i : goal.decreases-loop-i
+decreases-loop-i l = length l.a - l.i

@@ -1,0 +1,11 @@
+-- `square_times` meets its contract: each product has one word more.
+use Rattle.std.proofs.Common.{◌*◌, ap, ◌∙◌, rules}
+use Rattle.wide.specs.theory.Laws.{value-word}
+use Rattle.wide.proofs.square_times.Goals as goal
+
+pub returns : goal.returns
+returns c =
+    let second = c.before.before in
+    let first = second.before.before.before.before in
+    let args = first.before.before.before.before.args in
+    second.scale-2.ensures ∙ ap (λ z. z * args.q) (first.scale.ensures ∙ ap (λ z. z * args.t) (value-word args.t))
