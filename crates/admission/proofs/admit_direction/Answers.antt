@@ -14,16 +14,16 @@ use Rattle.admission.proofs.admit_direction.Goals.{After-bad_direction, After-co
 
 -- the direction, read back from its bits
 direction-is : (c : Start) → point (to_z w32 (of_z w32 c.args.u)) (to_z w32 (of_z w32 c.args.v)) ≡ point c.args.u c.args.v
-direction-is c = ap₂ point (to_z-of_z c.ranges.u) (to_z-of_z c.ranges.v)
+direction-is c = ap₂ point (to_z-of_z {w = w32} c.ranges.u) (to_z-of_z {w = w32} c.ranges.v)
 
-bad-is : (c : After-bad_direction) → c.bad_direction.result ≡ bad_direction (point c.before.args.u c.before.args.v)
+bad-is : (c : After-bad_direction) → c.bad_direction.result ≡ bad_direction (point c.args.u c.args.v)
 bad-is c = c.bad_direction.ensures ∙ ap bad_direction (direction-is c.before)
 
-row-11 : (c : Else-bad_direction) → bad_direction (point c.before.before.args.u c.before.before.args.v) ≡ false
+row-11 : (c : Else-bad_direction) → bad_direction (point c.args.u c.args.v) ≡ false
 row-11 c = sym (bad-is c.before) ∙ c.if-bad_direction.false
 
 common-is : (c : After-common_divisor)
-    → c.common_divisor.result ≡ common_divisor (point c.before.before.before.args.u c.before.before.before.args.v)
+    → c.common_divisor.result ≡ common_divisor (point c.args.u c.args.v)
 common-is c = c.common_divisor.ensures ∙ ap common_divisor (direction-is c.before.before.before)
 
 pub returns-then-bad_direction : goal.returns-then-bad_direction

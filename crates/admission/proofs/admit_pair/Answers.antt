@@ -13,9 +13,7 @@ returns-then-not-passes-2 c = c.blamed_pair-then-not-passes-2.ensures
 
 pub returns : goal.returns
 returns c =
-    let second = c.before.before in
-    let first = second.before.before in
-    let args = first.before.args in
+    let args = c.args in
     then-floors (on args.a.now args.f) (on args.b.now args.g)
-    (first.passes.ensures.0 (not-false _ second.before.if-not-passes.false))
-    (second.passes-2.ensures.0 (not-false _ c.before.if-not-passes-2.false)) c.admit_floors.ensures
+    (c.passes.ensures.0 (c.if-not-passes.false))
+    (c.passes-2.ensures.0 (c.if-not-passes-2.false)) c.admit_floors.ensures

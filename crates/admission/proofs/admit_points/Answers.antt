@@ -12,26 +12,24 @@ use Rattle.admission.proofs.admit_points.Goals as goal
 use Rattle.admission.proofs.admit_points.Goals.{Else-bad_count, Else-too_many_points}
 
 -- ---- the rows that do not apply, each where it is known
-row-1 : (c : Else-bad_count) → bad_count c.before.before.args.list.now ≡ false
-row-1 c = sym c.before.bad_count.ensures ∙ c.if-bad_count.false
+row-1 : (c : Else-bad_count) → bad_count c.args.list.now ≡ false
+row-1 c = sym c.bad_count.ensures ∙ c.if-bad_count.false
 
-row-2 : (c : Else-too_many_points) → too_many_points (points c.before.before.before.before.args.list.now) ≡ false
-row-2 c = sym c.before.too_many_points.ensures ∙ c.if-too_many_points.false
+row-2 : (c : Else-too_many_points) → too_many_points (points c.args.list.now) ≡ false
+row-2 c = sym c.too_many_points.ensures ∙ c.if-too_many_points.false
 
 -- ---- the needs
 pub returns-then-bad_count : goal.returns-then-bad_count
-returns-then-bad_count c = turns-away (refuses (here (sym c.before.bad_count.ensures ∙ c.if-bad_count.true)))
+returns-then-bad_count c = turns-away (refuses (here (sym c.bad_count.ensures ∙ c.if-bad_count.true)))
 
 pub returns-then-too_many_points : goal.returns-then-too_many_points
-returns-then-too_many_points c = turns-away (refuses (later (row-1 c.before.before) (here (sym c.before.too_many_points.ensures ∙ c.if-too_many_points.true))))
+returns-then-too_many_points c = turns-away (refuses (later (row-1 c.before.before) (here (sym c.too_many_points.ensures ∙ c.if-too_many_points.true))))
 
 pub returns-then-some_outside : goal.returns-then-some_outside
 returns-then-some_outside c =
-    let at-2 = c.before.before in
-    turns-away (refuses (later (row-1 at-2.before.before) (later (row-2 at-2)
-    (here (sym c.before.some_outside.ensures ∙ c.if-some_outside.true)))))
+    turns-away (refuses (later (row-1 c.before.before.before.before) (later (row-2 c.before.before)
+    (here (sym c.some_outside.ensures ∙ c.if-some_outside.true)))))
 
 pub returns : goal.returns
 returns c =
-    let at-2 = c.before.before in
-    passes (accepted→points _ (row-1 at-2.before.before, (row-2 at-2, (sym c.before.some_outside.ensures ∙ c.if-some_outside.false, tt))))
+    passes (accepted→points _ (row-1 c.before.before.before.before, (row-2 c.before.before, (sym c.some_outside.ensures ∙ c.if-some_outside.false, tt))))

@@ -22,60 +22,42 @@ abbrev three : Start → Floored
 three c = on c.args.c.now c.args.h
 
 -- past its judging each is valid; then the first two are on one floor
-first : (c : In_default) → Valid c.before.before.before.args.a.now
-first c = c.before.before.admit.ensures.valid c.in_default.is
+first : (c : In_default) → Valid c.args.a.now
+first c = c.admit.ensures.valid c.in_default.is
 
-second : (c : In_default-admit) → Valid c.before.before.before.before.before.before.args.b.now
-second c = c.before.before.admit-2.ensures.valid c.in_default-admit.is
+second : (c : In_default-admit) → Valid c.args.b.now
+second c = c.admit-2.ensures.valid c.in_default-admit.is
 
-third : (c : In_default-admit-2) → Valid c.before.before.before.before.before.before.before.before.before.args.c.now
-third c = c.before.before.admit-3.ensures.valid c.in_default-admit-2.is
+third : (c : In_default-admit-2) → Valid c.args.c.now
+third c = c.admit-3.ensures.valid c.in_default-admit-2.is
 
-level : (c : In_default-admit_floors) → let start = c.before.before.before.before.before.before.before.before.before.before.before.before in start.args.f ≡ start.args.g
-level c = c.before.before.admit_floors.ensures.valid c.in_default-admit_floors.is
+level : (c : In_default-admit_floors) → c.args.f ≡ c.args.g
+level c = c.admit_floors.ensures.valid c.in_default-admit_floors.is
 
 pub returns-in-No : goal.returns-in-No
 returns-in-No c =
-    let start = c.before.before.before.before in
-    turns-away (refuses-append (shape_rows 2 start.args.b.now ++ (shape_rows 3 start.args.c.now
-    ++ floor_rows (one start) (two start) (three start))) (c.before.before.before.admit.ensures.no _ c.before.in-No.is))
+    turns-away (refuses-append (shape_rows 2 c.args.b.now ++ (shape_rows 3 c.args.c.now
+    ++ floor_rows (one (goal.at.returns-in-No c).Start) (two (goal.at.returns-in-No c).Start) (three (goal.at.returns-in-No c).Start))) (c.admit.ensures.no _ c.in-No.is))
 
 pub returns-in-No-admit : goal.returns-in-No-admit
 returns-in-No-admit c =
-    let at_second = c.before.before.before in
-    let at_first = at_second.before in
-    let start = at_first.before.before.before in
-    turns-away (refuses-join (shape_rows 1 start.args.a.now) (valid→accepted _ 1 (first at_first))
-    (refuses-append (shape_rows 3 start.args.c.now ++ floor_rows (one start) (two start) (three start))
-    (at_second.admit-2.ensures.no _ c.before.in-No-admit.is)))
+    turns-away (refuses-join (shape_rows 1 c.args.a.now) (valid→accepted _ 1 (first (goal.at.returns-in-No-admit c).In_default))
+    (refuses-append (shape_rows 3 c.args.c.now ++ floor_rows (one (goal.at.returns-in-No-admit c).Start) (two (goal.at.returns-in-No-admit c).Start) (three (goal.at.returns-in-No-admit c).Start))
+    (c.admit-2.ensures.no _ c.in-No-admit.is)))
 
 pub returns-in-No-admit-2 : goal.returns-in-No-admit-2
 returns-in-No-admit-2 c =
-    let at-third = c.before.before.before in
-    let at_second = at-third.before in
-    let at_first = at_second.before.before.before in
-    let start = at_first.before.before.before in
-    turns-away (refuses-join (shape_rows 1 start.args.a.now) (valid→accepted _ 1 (first at_first))
-    (refuses-join (shape_rows 2 start.args.b.now) (valid→accepted _ 2 (second at_second))
-    (refuses-append (floor_rows (one start) (two start) (three start)) (at-third.admit-3.ensures.no _ c.before.in-No-admit-2.is))))
+    turns-away (refuses-join (shape_rows 1 c.args.a.now) (valid→accepted _ 1 (first (goal.at.returns-in-No-admit-2 c).In_default))
+    (refuses-join (shape_rows 2 c.args.b.now) (valid→accepted _ 2 (second (goal.at.returns-in-No-admit-2 c).In_default-admit))
+    (refuses-append (floor_rows (one (goal.at.returns-in-No-admit-2 c).Start) (two (goal.at.returns-in-No-admit-2 c).Start) (three (goal.at.returns-in-No-admit-2 c).Start)) (c.admit-3.ensures.no _ c.in-No-admit-2.is))))
 
 pub returns-in-No-admit_floors : goal.returns-in-No-admit_floors
 returns-in-No-admit_floors c =
-    let at-floors = c.before.before.before in
-    let at-third = at-floors.before in
-    let at_second = at-third.before.before.before in
-    let at_first = at_second.before.before.before in
-    let start = at_first.before.before.before in
-    turns-away (floors-refused (one start) (two start) (three start) (first at_first) (second at_second) (third at-third)
-    (refuses-append (floor_row start.args.f start.args.h ∷ [])
-    (at-floors.admit_floors.ensures.no _ c.before.in-No-admit_floors.is)))
+    turns-away (floors-refused (one (goal.at.returns-in-No-admit_floors c).Start) (two (goal.at.returns-in-No-admit_floors c).Start) (three (goal.at.returns-in-No-admit_floors c).Start) (first (goal.at.returns-in-No-admit_floors c).In_default) (second (goal.at.returns-in-No-admit_floors c).In_default-admit) (third (goal.at.returns-in-No-admit_floors c).In_default-admit-2)
+    (refuses-append (floor_row c.args.f c.args.h ∷ [])
+    (c.admit_floors.ensures.no _ c.in-No-admit_floors.is)))
 
 pub returns : goal.returns
 returns c =
-    let at_level = c.before in
-    let at-third = at_level.before.before.before in
-    let at_second = at-third.before.before.before in
-    let at_first = at_second.before.before.before in
-    let start = at_first.before.before.before in
-    then-last (one start) (two start) (three start) (first at_first) (second at_second) (third at-third) (level at_level)
+    then-last (one c.before.before.before.before.before.before.before.before.before.before.before.before.before) (two c.before.before.before.before.before.before.before.before.before.before.before.before.before) (three c.before.before.before.before.before.before.before.before.before.before.before.before.before) (first (goal.at.returns c).In_default) (second (goal.at.returns c).In_default-admit) (third (goal.at.returns c).In_default-admit-2) (level (goal.at.returns c).In_default-admit_floors)
     c.admit_floors-2.ensures

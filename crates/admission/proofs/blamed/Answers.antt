@@ -14,61 +14,50 @@ use Rattle.admission.proofs.blamed.Goals as goal
 use Rattle.admission.proofs.blamed.Goals.{Else-bad_count, Else-some_outside, Else-too_many, In_default}
 
 -- ---- the rows that do not apply, each where it is known
-row-1 : (c : Else-bad_count) → bad_count c.before.before.args.list.now ≡ false
-row-1 c = sym c.before.bad_count.ensures ∙ c.if-bad_count.false
+row-1 : (c : Else-bad_count) → bad_count c.args.list.now ≡ false
+row-1 c = sym c.bad_count.ensures ∙ c.if-bad_count.false
 
-row-2 : (c : Else-too_many) → too_many (points c.before.before.before.before.args.list.now) ≡ false
-row-2 c = sym c.before.too_many.ensures ∙ c.if-too_many.false
+row-2 : (c : Else-too_many) → too_many (points c.args.list.now) ≡ false
+row-2 c = sym c.too_many.ensures ∙ c.if-too_many.false
 
-row-3 : (c : Else-some_outside) → some_outside c.before.before.before.before.before.before.args.list.now ≡ false
-row-3 c = sym c.before.some_outside.ensures ∙ c.if-some_outside.false
+row-3 : (c : Else-some_outside) → some_outside c.args.list.now ≡ false
+row-3 c = sym c.some_outside.ensures ∙ c.if-some_outside.false
 
 -- past the search for a broken edge there is none
 row-4 : (c : In_default) → rule_broken
-    (points c.before.before.before.before.before.before.before.before.before.args.list.now) ≡ false
-row-4 c = broken-none _ (sym c.before.before.first_broken.ensures ∙ c.in_default.is)
+    (points c.args.list.now) ≡ false
+row-4 c = broken-none _ (sym c.first_broken.ensures ∙ c.in_default.is)
 
 -- ---- the needs
 pub returns-then-bad_count : goal.returns-then-bad_count
-returns-then-bad_count c = turns-away (refuses (here (sym c.before.bad_count.ensures ∙ c.if-bad_count.true)))
+returns-then-bad_count c = turns-away (refuses (here (sym c.bad_count.ensures ∙ c.if-bad_count.true)))
 
 pub returns-then-too_many : goal.returns-then-too_many
-returns-then-too_many c = turns-away (refuses (later (row-1 c.before.before) (here (sym c.before.too_many.ensures ∙ c.if-too_many.true))))
+returns-then-too_many c = turns-away (refuses (later (row-1 c.before.before) (here (sym c.too_many.ensures ∙ c.if-too_many.true))))
 
 pub returns-then-some_outside : goal.returns-then-some_outside
 returns-then-some_outside c =
-    let at-2 = c.before.before in
-    turns-away (refuses (later (row-1 at-2.before.before) (later (row-2 at-2)
-    (here (sym c.before.some_outside.ensures ∙ c.if-some_outside.true)))))
+    turns-away (refuses (later (row-1 c.before.before.before.before) (later (row-2 c.before.before)
+    (here (sym c.some_outside.ensures ∙ c.if-some_outside.true)))))
 
 pub first_broken-requires : goal.first_broken-requires
 first_broken-requires c = near→in_range _ (row-3 c)
 
 pub returns-in-At : goal.returns-in-At
 returns-in-At c =
-    let at-3 = c.before.before.before.before in
-    let at-2 = at-3.before.before in
-    let start = at-2.before.before.before.before in
-    let found = broken-found _ _ _ (sym c.before.before.before.first_broken.ensures ∙ c.before.in-At.is) in
+    let found = broken-found _ _ _ (sym c.first_broken.ensures ∙ c.in-At.is) in
     turns-away (record {
       by = _;
-      first = later (row-1 at-2.before.before) (later (row-2 at-2) (later (row-3 at-3) (here found.0)));
-      is = ap₂ (λ (e k : ℕ). refused 4 (start.args.shape ∷ e ∷ k ∷ [])) (sym found.1) (sym found.2);
+      first = later (row-1 (goal.at.returns-in-At c).Else-bad_count) (later (row-2 (goal.at.returns-in-At c).Else-too_many) (later (row-3 (goal.at.returns-in-At c).Else-some_outside) (here found.0)));
+      is = ap₂ (λ (e k : ℕ). refused 4 (c.args.shape ∷ e ∷ k ∷ [])) (sym found.1) (sym found.2);
     })
 
 pub returns-then-bad_start : goal.returns-then-bad_start
 returns-then-bad_start c =
-    let at-4 = c.before.before in
-    let at-3 = at-4.before.before.before in
-    let at-2 = at-3.before.before in
-    turns-away (refuses (later (row-1 at-2.before.before) (later (row-2 at-2) (later (row-3 at-3) (later (row-4 at-4)
-    (here (sym c.before.bad_start.ensures ∙ c.if-bad_start.true)))))))
+    turns-away (refuses (later (row-1 c.before.before.before.before.before.before.before.before.before) (later (row-2 c.before.before.before.before.before.before.before) (later (row-3 c.before.before.before.before.before) (later (row-4 (goal.at.returns-then-bad_start c).In_default)
+    (here (sym c.bad_start.ensures ∙ c.if-bad_start.true)))))))
 
 pub returns : goal.returns
 returns c =
-    let at-4 = c.before.before in
-    let at-3 = at-4.before.before.before in
-    let at-2 = at-3.before.before in
-    let start = at-2.before.before.before.before in
-    passes (accepted→valid _ start.args.shape
-    (row-1 at-2.before.before, (row-2 at-2, (row-3 at-3, (row-4 at-4, (sym c.before.bad_start.ensures ∙ c.if-bad_start.false, tt))))))
+    passes (accepted→valid _ c.args.shape
+    (row-1 c.before.before.before.before.before.before.before.before.before, (row-2 c.before.before.before.before.before.before.before, (row-3 c.before.before.before.before.before, (row-4 (goal.at.returns c).In_default, (sym c.bad_start.ensures ∙ c.if-bad_start.false, tt))))))

@@ -9,11 +9,11 @@ use Rattle.area.proofs.cross_at.Goals as goal
 
 pub cross-requires : goal.cross-requires
 cross-requires c =
-    let pre = c.before.before.requires in (
-      small-wide (small-corner _ pre.2 _ pre.0 c.before.corner_at.ensures),
+    let pre = c.requires in (
+      small-wide (small-corner _ pre.2 _ pre.0 c.corner_at.ensures),
       small-wide (small-corner _ pre.2 _ pre.1 c.corner_at-2.ensures),
     )
 
 pub returns : goal.returns
-returns c = result-is w64 c.cross.type-inv (c.cross.ensures
-    ∙ ap₂ cross c.before.before.corner_at.ensures c.before.corner_at-2.ensures)
+returns c = result-is w64 c.cross.type_inv (c.cross.ensures
+    ∙ ap₂ cross c.corner_at.ensures c.corner_at-2.ensures)

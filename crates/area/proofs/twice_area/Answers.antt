@@ -22,21 +22,19 @@ pub count-n-requires : goal.count-n-requires
 count-n-requires c = tt
 
 pub overflow_sub-n : goal.overflow_sub-n
-overflow_sub-n c = omega (arith, c.count-n.ensures, c.before.requires.shape.some)
+overflow_sub-n c = omega (arith, c.count-n.ensures, c.requires.shape.some)
 
 pub cross_at-sum-requires : goal.cross_at-sum-requires
 cross_at-sum-requires c =
-    let start = c.before in
-    let some = start.requires.shape.some in
-    (omega (arith, c.count-n.ensures, some), some, start.requires.in_range)
+    let some = c.requires.shape.some in
+    (omega (arith, c.count-n.ensures, some), some, c.requires.in_range)
 
 pub loop-i-init : goal.loop-i-init
 loop-i-init c =
-    let start = c.before.before in
-    let ps = points start.args.list.now in
-    let n = c.before.count-n.ensures in (
-      result-is w64 c.cross_at-sum.type-inv c.cross_at-sum.ensures ∙ ap (λ k. cross (corner ps (k - 1)) (corner ps 0)) n ∙ partial-start ps,
-      omega (arith, n, start.requires.shape.some),
+    let ps = points c.args.list.now in
+    let n = c.count-n.ensures in (
+      result-is w64 c.cross_at-sum.type_inv c.cross_at-sum.ensures ∙ ap (λ k. cross (corner ps (k - 1)) (corner ps 0)) n ∙ partial-start ps,
+      omega (arith, n, c.requires.shape.some),
     )
 
 pub overflow_add-i : goal.overflow_add-i
@@ -47,9 +45,8 @@ overflow_add-i-in-loop-i c = omega arith
 
 pub cross_at-sum-requires-in-loop-i : goal.cross_at-sum-requires-in-loop-i
 cross_at-sum-requires-in-loop-i c =
-    let start = c.before.before.before.before in
-    let n = c.before.before.before.count-n.ensures in
-    (omega (arith, n, c.loop-i-test.true), omega (arith, n, c.loop-i-test.true), start.requires.in_range)
+    let n = c.count-n.ensures in
+    (omega (arith, n, c.loop-i-test.true), omega (arith, n, c.loop-i-test.true), c.requires.in_range)
 
 -- a partial sum v, and one more product u
 module _ (s r v u : ℤ) (e : s ≡ v) (h : Within (2 ^ 60) v) (f : r ≡ u) (k : Within (2 ^ 43) u) where
@@ -69,19 +66,19 @@ module _ (c : After-cross_at-sum-in-loop-i) where
   abbrev ps : List Point
   ps = points start.args.list.now
 
-  inside : (at-loop.loop-i.i < length ps) × (at-loop.loop-i.i + 1 < length ps)
+  inside : (at-loop.loop.i < length ps) × (at-loop.loop.i + 1 < length ps)
   inside =
-      let n = c.before.before.before.before.count-n.ensures in
-      (omega (arith, n, c.before.loop-i-test.true), omega (arith, n, c.before.loop-i-test.true))
+      let n = c.before.before.before.before.count.ensures in
+      (omega (arith, n, c.before.loop-test.true), omega (arith, n, c.before.loop-test.true))
 
-  sum-within : Within (2 ^ 60) (partial ps at-loop.loop-i.i)
-  sum-within = partial-within _ start.pre at-loop.loop-i.i inside.0
+  sum-within : Within (2 ^ 60) (partial ps at-loop.loop.i)
+  sum-within = partial-within _ start.pre at-loop.loop.i inside.0
 
-  product-within : Within (2 ^ 43) (cross (corner ps at-loop.loop-i.i) (corner ps (at-loop.loop-i.i + 1)))
-  product-within = corners-within _ start.pre.in_range at-loop.loop-i.i (at-loop.loop-i.i + 1) inside.0 inside.1
+  product-within : Within (2 ^ 43) (cross (corner ps at-loop.loop.i) (corner ps (at-loop.loop.i + 1)))
+  product-within = corners-within _ start.pre.in_range at-loop.loop.i (at-loop.loop.i + 1) inside.0 inside.1
 
 pub overflow_add-sum : goal.overflow_add-sum
-overflow_add-sum c = sum_fits _ _ _ _ c.before.before.loop-i.invariant.0 (sum-within c) c.cross_at-sum-in-loop-i.ensures (product-within c)
+overflow_add-sum c = sum_fits _ _ _ _ c.loop-i.invariant.0 (sum-within c) c.cross_at-sum-in-loop-i.ensures (product-within c)
 
 pub overflow_add-i-in-loop-i-2 : goal.overflow_add-i-in-loop-i-2
 overflow_add-i-in-loop-i-2 c = omega arith
@@ -91,22 +88,22 @@ loop-i-smaller c = omega arith
 
 pub loop-i-preserved : goal.loop-i-preserved
 loop-i-preserved c =
-    let n = c.before.before.before.before.count-n.ensures in (
-      sum_is _ _ _ _ c.before.before.loop-i.invariant.0 (sum-within c) c.cross_at-sum-in-loop-i.ensures (product-within c)
-          ∙ partial-more (points (start c).args.list.now) c.before.before.loop-i.i,
-      omega (arith, n, c.before.loop-i-test.true),
+    let n = c.count-n.ensures in (
+      sum_is _ _ _ _ c.loop-i.invariant.0 (sum-within c) c.cross_at-sum-in-loop-i.ensures (product-within c)
+          ∙ partial-more (points (start c).args.list.now) c.loop-i.i,
+      omega (arith, n, c.loop-i-test.true),
     )
 
 -- at the last corner the sum is all of it
 whole : (c : After-loop-i)
-    → twice_area (points c.before.before.before.before.args.list.now) ≡ to_z w64 c.before.loop-i.sum
+    → twice_area (points c.args.list.now) ≡ to_z w64 c.loop-i.sum
 whole c =
-    let n = c.before.before.before.count-n.ensures in
-    let inv = c.before.loop-i.invariant in
-    partial-all _ c.before.loop-i.i (omega (arith, n, inv.1)) (omega (arith, n, c.loop-i-test.false)) ∙ sym inv.0
+    let n = c.count-n.ensures in
+    let inv = c.loop-i.invariant in
+    partial-all _ c.loop-i.i (omega (arith, n, inv.1)) (omega (arith, n, c.loop-i-test.false)) ∙ sym inv.0
 
 pub magnitude-requires : goal.magnitude-requires
-magnitude-requires c = rw (← whole c) (area-nonneg _ c.before.before.before.before.requires.shape)
+magnitude-requires c = rw (← whole c) (area-nonneg _ c.requires.shape)
 
 pub returns : goal.returns
 returns c = whole c.before ∙ c.magnitude.ensures

@@ -12,43 +12,42 @@ pub count-n-requires : goal.count-n-requires
 count-n-requires c = tt
 
 pub first-at-requires : goal.first-at-requires
-first-at-requires c = c.before.requires
+first-at-requires c = c.requires
 
 pub measured-best-requires : goal.measured-best-requires
 measured-best-requires c =
-    let pre = c.before.before.requires in record { valid = pre.0; edge_in = pre.0.shape.some; holds = c.first-at.ensures }
+    let pre = c.requires in record { valid = pre.0; edge_in = pre.0.shape.some; holds = c.first-at.ensures }
 
 pub loop-edge-init : goal.loop-edge-init
 loop-edge-init c =
-    let pre = c.before.before.before.requires in
-    walk_start pre.0 pre.1 c.before.first-at.ensures c.measured-best.ensures.0 c.measured-best.ensures.1
+    let pre = c.requires in
+    walk_start pre.0 pre.1 c.first-at.ensures c.measured-best.ensures.0 c.measured-best.ensures.1
 
 -- the edge that is measured next is one of the list
 edge_in : (c : In-loop-edge)
-    → c.before.loop-edge.edge < length (points c.before.before.before.before.before.args.list.now)
-edge_in c = omega (arith, c.loop-edge-test.true, c.before.before.before.before.count-n.ensures)
+    → c.loop-edge.edge < length (points c.args.list.now)
+edge_in c = omega (arith, c.loop-edge-test.true, c.count-n.ensures)
 
 pub closed-at-requires : goal.closed-at-requires
-closed-at-requires c = walk-closing c.before.loop-edge.invariant (edge_in c)
+closed-at-requires c = walk-closing c.loop-edge.invariant (edge_in c)
 
 pub measured-requires : goal.measured-requires
 measured-requires c =
-    record { valid = c.before.before.loop-edge.invariant.valid; edge_in = edge_in c.before; holds = c.closed-at.ensures }
+    record { valid = c.loop-edge.invariant.valid; edge_in = edge_in c.before; holds = c.closed-at.ensures }
 
 pub smaller-best-requires : goal.smaller-best-requires
 smaller-best-requires c = tt
 
 pub overflow_add-edge : goal.overflow_add-edge
-overflow_add-edge c = let test = c.before.before.before in omega (arith, edge_in test, test.before.loop-edge.invariant.valid.few, corners-small)
+overflow_add-edge c = omega (arith, edge_in c.before.before.before, c.loop-edge.invariant.valid.few, corners-small)
 
 pub loop-edge-smaller : goal.loop-edge-smaller
-loop-edge-smaller c = omega (arith, c.before.before.before.loop-edge-test.true)
+loop-edge-smaller c = omega (arith, c.loop-edge-test.true)
 
 pub loop-edge-preserved : goal.loop-edge-preserved
 loop-edge-preserved c =
-    let found = c.before.measured.ensures in
-    let test = c.before.before.before in
-    walk-next test.before.loop-edge.invariant (edge_in test) c.before.before.closed-at.ensures found.0 found.1 c.smaller-best.ensures
+    let found = c.measured.ensures in
+    walk-next c.loop-edge.invariant (edge_in c.before.before.before) c.closed-at.ensures found.0 found.1 c.smaller-best.ensures
 
 pub returns : goal.returns
-returns c = walk-done c.before.loop-edge.invariant (omega (arith, c.loop-edge-test.false, c.before.before.before.before.count-n.ensures))
+returns c = walk-done c.loop-edge.invariant (omega (arith, c.loop-edge-test.false, c.count-n.ensures))

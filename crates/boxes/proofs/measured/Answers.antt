@@ -9,17 +9,17 @@ pub height-height-requires : goal.height-height-requires
 height-height-requires c = c.requires
 
 pub along-along-requires : goal.along-along-requires
-along-along-requires c = c.before.requires
+along-along-requires c = c.requires
 
 pub squared-squared-requires : goal.squared-squared-requires
-squared-squared-requires c = let pre = c.before.before.requires in (pre.valid, pre.edge_in)
+squared-squared-requires c = let pre = c.requires in (pre.valid, pre.edge_in)
 
 pub overflow_add-result : goal.overflow_add-result
-overflow_add-result c = omega (arith, c.before.before.height-height.ensures.1, c.before.along-along.ensures.1)
+overflow_add-result c = omega (arith, c.height-height.ensures.1, c.along-along.ensures.1)
 
 pub returns : goal.returns
 unfolding half_round
 returns c =
-    let tall = c.before.before.height-height.ensures.0 in
-    let wide = c.before.along-along.ensures.0 in
+    let tall = c.height-height.ensures.0 in
+    let wide = c.along-along.ensures.0 in
     (refl, record { height-is = tall; along-is = wide; half_is = ap₂ (λ t s. t +ℤ s) tall wide; squared-is = c.squared-squared.ensures })

@@ -14,28 +14,27 @@ pub top-top-requires : goal.top-top-requires
 top-top-requires c = c.requires.1.shape.some
 
 pub pass-sides-requires : goal.pass-sides-requires
-pass-sides-requires c = let pre = c.before.requires in (pre.0, pre.1, c.top-top.ensures)
+pass-sides-requires c = let pre = c.requires in (pre.0, pre.1, c.top-top.ensures)
 
 pub related-requires : goal.related-requires
-related-requires c = let pre = c.before.before.requires in (pre.0, pre.1, c.before.top-top.ensures, c.pass-sides.ensures.passed)
+related-requires c = let pre = c.requires in (pre.0, pre.1, c.top-top.ensures, c.pass-sides.ensures.passed)
 
 -- where the relation is told
-clear : (c : In-Apart) → let args = c.before.before.before.before.before.args in
+clear : (c : In-Apart) → let args = c.args in
     apart (points args.a.now) (points args.b.now) ≡ true
-clear c = related-apart _ _ (ap number_of (sym c.in-Apart.is) ∙ c.before.before.related.ensures)
+clear c = related-apart _ _ (ap number_of (sym c.in-Apart.is) ∙ c.related.ensures)
 
 pub found-requires : goal.found-requires
 found-requires c =
-    let at-pass = c.before.before.before in
-    let pre = at-pass.before.before.requires in (pre.0, pre.1, clear c, at-pass.before.top-top.ensures, at-pass.pass-sides.ensures.stood)
+    let pre = c.requires in (pre.0, pre.1, clear c, c.top-top.ensures, c.pass-sides.ensures.stood)
 
 pub returns-in-Apart : goal.returns-in-Apart
-returns-in-Apart c = (clear c.before, c.found.ensures)
+returns-in-Apart c = (clear (goal.at.returns-in-Apart c).In-Apart, c.found.ensures)
 
 pub returns-in-Touching : goal.returns-in-Touching
 returns-in-Touching c = related-not-apart _ _ {n = 1} (omega arith)
-    (ap number_of (sym c.in-Touching.is) ∙ c.before.before.related.ensures)
+    (ap number_of (sym c.in-Touching.is) ∙ c.related.ensures)
 
 pub returns-in-Overlapping : goal.returns-in-Overlapping
 returns-in-Overlapping c = related-not-apart _ _ {n = 2} (omega arith)
-    (ap number_of (sym c.in-Overlapping.is) ∙ c.before.before.related.ensures)
+    (ap number_of (sym c.in-Overlapping.is) ∙ c.related.ensures)

@@ -23,11 +23,10 @@ facing-requires c =
 
 pub returns : goal.returns
 returns c =
-    let start = c.before in
-    let u = start.requires.0 in
-    let v = start.requires.1 in (
+    let u = c.requires.0 in
+    let v = c.requires.1 in (
       c.facing.ensures.0,
-      stopped-facing (points start.args.a.now) (points start.args.b.now) u.shape v.shape start.requires.2
+      stopped-facing (points c.args.a.now) (points c.args.b.now) u.shape v.shape c.requires.2
           (subst (λ (D : List Point). Stopped D (at c.facing.result.n))
-          (image-visited start.args.a.now start.args.b.now u v) c.facing.ensures.1),
+          (image-visited c.args.a.now c.args.b.now u v) c.facing.ensures.1),
     )

@@ -24,30 +24,29 @@ unfolding max_corners
 few B A v = rw points-numbers at v.few
 
 -- the grown obstacle, at the front of its buffer
-made : (c : After-write-n) → let args = c.before.before.before.before.before.args in
-    Front (grown (points args.obstacle.now) (points args.cart.now)) c.write-n.result c.write-n.new.1.1.1.0
+made : (c : After-write-n) → let args = c.args in
+    Front (grown (points args.obstacle.now) (points args.cart.now)) c.write-n.result c.write-n.new.out
 unfolding grown
 made c = overwritten-front _ _ _ _ c.write-n.ensures.0 c.write-n.ensures.1
 
 size_is : (c : After-write-n) → c.write-n.result ≤ 1024
-size_is c = let start = c.before.before.before.before.before in
-    omega (arith, (made c).counted, few (points start.args.obstacle.now) (points start.args.cart.now) start.requires.2)
+size_is c =
+    omega (arith, (made c).counted, few (points c.args.obstacle.now) (points c.args.cart.now) c.requires.2)
 
 pub is_beyond-requires : goal.is_beyond-requires
 is_beyond-requires c = (c.requires.0, c.requires.1, c.requires.3)
 
 pub returns-then-is_beyond : goal.returns-then-is_beyond
-returns-then-is_beyond c = never-told _ _ _ (c.before.is_beyond.ensures c.if-is_beyond.true)
+returns-then-is_beyond c = never-told _ _ _ (c.is_beyond.ensures c.if-is_beyond.true)
 
 pub top-top-requires : goal.top-top-requires
-top-top-requires c = c.before.before.requires.1.shape.some
+top-top-requires c = c.requires.1.shape.some
 
 pub write-n-requires : goal.write-n-requires
 unfolding grown
 write-n-requires c =
-    let start = c.before.before.before.before in
-    let size = few (points start.args.obstacle.now) (points start.args.cart.now) start.requires.2 in
-    (start.requires.0, start.requires.1, c.before.top-top.ensures, omega arith)
+    let size = few (points c.args.obstacle.now) (points c.args.cart.now) c.requires.2 in
+    (c.requires.0, c.requires.1, c.top-top.ensures, omega arith)
 
 pub overflow_mul-grown : goal.overflow_mul-grown
 overflow_mul-grown c = omega (arith, size_is c.before)
@@ -60,12 +59,9 @@ slice_bounds-first_of-end c = sym (front_length (made c.before.before))
 
 pub first_of-requires : goal.first_of-requires
 first_of-requires c =
-    let at-write = c.before.before in
-    let start = at-write.before.before.before.before.before in
-    (subst Valid (sym (made at-write).front) start.requires.2, start.requires.3)
+    (subst Valid (sym (made c.before.before).front) c.requires.2, c.requires.3)
 
 pub returns : goal.returns
 returns c =
-    let at-write = c.before.before.before in
-    let args = at-write.before.before.before.before.before.args in
-    c.first_of.ensures ∙ ap (contact_numbers (at args.t) (at args.u)) (front-points (made at-write))
+    let args = c.args in
+    c.first_of.ensures ∙ ap (contact_numbers (at args.t) (at args.u)) (front-points (made c.before.before.before))

@@ -10,22 +10,19 @@ use Rattle.convexity.specs.theory.Stretches.{edge-from}
 use Rattle.convexity.proofs.edge_at.Goals as goal
 
 pub overflow_add-k : goal.overflow_add-k
-overflow_add-k c = omega (arith, points-length c.before.args.list.now)
+overflow_add-k c = omega (arith, points-length c.args.list.now)
 
 pub between-requires : goal.between-requires
 between-requires c =
-    let start = c.before.before in
-    let l = start.args.list.now in
-    let r = start.requires.1 in
-    (small-corner l r _ (omega arith) c.before.corner_at.ensures, small-corner l r _ start.requires.0 c.corner_at-2.ensures)
+    let l = c.args.list.now in
+    let r = c.requires.1 in
+    (small-corner l r _ (omega arith) c.corner_at.ensures, small-corner l r _ c.requires.0 c.corner_at-2.ensures)
 
 pub returns : goal.returns
 returns c =
-    let at-corner = c.before.before in
-    let start = at-corner.before in
-    let l = start.args.list.now in
-    let k = start.args.k in
-    let is = c.between.ensures ∙ ap₂ (λ (p q : Point). p ⊖ q) c.before.corner_at-2.ensures at-corner.corner_at.ensures in (
-      is ∙ edge-from (points l) k start.requires.0,
-      small-wide (small-edge l start.requires.1 k (k + 1) (omega arith) start.requires.0 is),
+    let l = c.args.list.now in
+    let k = c.args.k in
+    let is = c.between.ensures ∙ ap₂ (λ (p q : Point). p ⊖ q) c.corner_at-2.ensures c.corner_at.ensures in (
+      is ∙ edge-from (points l) k c.requires.0,
+      small-wide (small-edge l c.requires.1 k (k + 1) (omega arith) c.requires.0 is),
     )

@@ -25,5 +25,4 @@ returns-then-f-up c = sym (other_half _ _ _ (half_is c.before.before.before ∙ 
 
 pub returns : goal.returns
 returns c =
-    let at-else = c.before in
-    c.is_left.ensures ∙ sym (own-half _ _ _ (half_is at-else.before.before.before ∙ not-false _ at-else.if-f-up.false))
+    c.is_left.ensures ∙ sym (own-half _ _ _ (half_is c.before.before.before.before ∙ not-false _ c.if-f-up.false))

@@ -40,5 +40,5 @@ overflow_mul-result-2 c = machine-fits (search (machine, bounded) depth 40) tt
 pub returns : goal.returns
 unfolding cross
 returns c =
-    let pre = c.before.before.before.before.before.before.before.before.requires in
+    let pre = c.requires in
     less (product_is pre.0.small-y pre.1.small-x) (product_is pre.0.small-x pre.1.small-y)

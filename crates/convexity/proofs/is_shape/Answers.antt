@@ -15,78 +15,70 @@ use Rattle.convexity.proofs.is_shape.Goals as goal
 use Rattle.convexity.proofs.is_shape.Goals.{Else-n-eq1, Else-n-eq2}
 
 -- past the first test there are two corners, past the third there are three, and as many edges
-two : (c : Else-n-eq1) → 1 < length (points c.before.before.args.list.now)
-two c = omega (arith, c.if-n-eq1.false, c.before.count-n.ensures, c.before.before.requires.1)
+two : (c : Else-n-eq1) → 1 < length (points c.args.list.now)
+two c = omega (arith, c.if-n-eq1.false, c.count-n.ensures, c.requires.1)
 
-three : (c : Else-n-eq2) → let ps = points c.before.before.before.before.before.args.list.now in
-    (2 < length ps) × (length (edges ps) ≡ length ps) × (c.before.before.before.before.count-n.result ≡ length ps)
+three : (c : Else-n-eq2) → let ps = points c.args.list.now in
+    (2 < length ps) × (length (edges ps) ≡ length ps) × (c.count-n.result ≡ length ps)
 three c =
-    let at_1 = c.before.before.before in
-    let n = at_1.before.count-n.ensures in
-    let more = two at_1 in
-    (omega (arith, c.if-n-eq2.false), edges_some (points at_1.before.before.args.list.now) more, n)
+    let n = c.count-n.ensures in
+    let more = two c.before.before.before in
+    (omega (arith, c.if-n-eq2.false), edges_some (points c.args.list.now) more, n)
 
 pub returns-then-n-eq1 : goal.returns-then-n-eq1
-returns-then-n-eq1 c = ((λ t. point-shape _ (sym c.before.count-n.ensures ∙ c.if-n-eq1.true)), (λ s. refl))
+returns-then-n-eq1 c = ((λ t. point-shape _ (sym c.count-n.ensures ∙ c.if-n-eq1.true)), (λ s. refl))
 
 pub precedes_at-requires : goal.precedes_at-requires
 precedes_at-requires c = (omega (arith, two c), omega (arith, two c))
 
 pub returns-then-not-precedes_at : goal.returns-then-not-precedes_at
 returns-then-not-precedes_at c =
-    let at_first = c.before in (
+    (
       (λ t. absurd (false≢true t)),
-      (λ s. sym (not-true _ c.if-not-precedes_at.true) ∙ at_first.precedes_at.ensures ∙ shape-begins _ s (two at_first.before)),
+      (λ s. sym (c.if-not-precedes_at.true) ∙ c.precedes_at.ensures ∙ shape-begins _ s (two c.before.before)),
     )
 
 pub returns-then-n-eq2 : goal.returns-then-n-eq2
 returns-then-n-eq2 c =
-    let at_first = c.before.before in
-    let n = at_first.before.before.count-n.ensures in (
-      (λ t. pair-shape _ (sym n ∙ c.if-n-eq2.true) (sym at_first.precedes_at.ensures ∙ not-false _ c.before.if-not-precedes_at.false)),
+    let n = c.count-n.ensures in (
+      (λ t. pair-shape _ (sym n ∙ c.if-n-eq2.true) (sym c.precedes_at.ensures ∙ c.if-not-precedes_at.false)),
       (λ s. refl),
     )
 
 pub stretch-top-requires : goal.stretch-top-requires
-stretch-top-requires c = (omega (arith, (three c).0), c.before.before.before.before.before.requires.0)
+stretch-top-requires c = (omega (arith, (three c).0), c.requires.0)
 
 pub stretch-end-requires : goal.stretch-end-requires
 stretch-end-requires c =
     let more = three c.before in
-    (omega (arith, c.stretch-top.ensures.ends, more.1), c.before.before.before.before.before.before.requires.0)
+    (omega (arith, c.stretch-top.ensures.ends, more.1), c.requires.0)
 
 pub overflow_add-end : goal.overflow_add-end
 overflow_add-end c =
-    let at-3 = c.before.before in
-    omega (arith, c.stretch-end.ensures.ends, (three at-3).1, points-length at-3.before.before.before.before.before.args.list.now)
+    omega (arith, c.stretch-end.ensures.ends, (three c.before.before).1, points-length c.args.list.now)
 
 pub returns-then-end-n : goal.returns-then-end-n
 returns-then-end-n c =
-    let at_top = c.before.before in
-    let more = three at_top.before in (
+    let more = three c.before.before.before in (
       (λ t. absurd (false≢true t)),
       (λ s. absurd (omega (
         arith,
         c.if-end-n.true,
         more.2,
-        shape-falls _ s more.0 _ _ at_top.stretch-top.ensures c.before.stretch-end.ensures,
+        shape-falls _ s more.0 _ _ c.stretch-top.ensures c.stretch-end.ensures,
       ))),
     )
 
 pub closes-requires : goal.closes-requires
 closes-requires c =
-    let at-3 = c.before.before.before in
-    ((three at-3).0, at-3.before.before.before.before.before.requires.0)
+    ((three c.before.before.before).0, c.requires.0)
 
 pub returns : goal.returns
 returns c =
-    let at-end = c.before.before in
-    let at_top = at-end.before in
-    let at-3 = at_top.before in
-    let more = three at-3 in
-    let whole = subst (λ (n : ℕ). n ≤ at-end.stretch-end.result + 2) more.2 c.before.if-end-n.false in
-    let first = sym at-3.before.before.precedes_at.ensures ∙ not-false _ at-3.before.if-not-precedes_at.false in (
-      (λ t. round-shape _ more.0 first _ _ at_top.stretch-top.ensures at-end.stretch-end.ensures
+    let more = three c.before.before.before.before in
+    let whole = subst (λ (n : ℕ). n ≤ c.stretch-end.result + 2) more.2 c.if-end-n.false in
+    let first = sym c.precedes_at.ensures ∙ c.if-not-precedes_at.false in (
+      (λ t. round-shape _ more.0 first _ _ c.stretch-top.ensures c.stretch-end.ensures
           whole (sym c.closes.ensures ∙ t)),
       (λ s. c.closes.ensures ∙ shape-closes _ s more.0),
     )

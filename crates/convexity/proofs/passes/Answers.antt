@@ -9,34 +9,34 @@ use Rattle.convexity.proofs.passes.Goals as goal
 use Rattle.convexity.proofs.passes.Goals.{Else-bad_count, Else-some_outside, Else-too_many}
 
 -- ---- the rows that do not apply, each where it is known
-row-1 : (c : Else-bad_count) → bad_count c.before.before.args.list.now ≡ false
-row-1 c = sym c.before.bad_count.ensures ∙ c.if-bad_count.false
+row-1 : (c : Else-bad_count) → bad_count c.args.list.now ≡ false
+row-1 c = sym c.bad_count.ensures ∙ c.if-bad_count.false
 
-row-2 : (c : Else-too_many) → too_many (points c.before.before.before.before.args.list.now) ≡ false
-row-2 c = sym c.before.too_many.ensures ∙ c.if-too_many.false
+row-2 : (c : Else-too_many) → too_many (points c.args.list.now) ≡ false
+row-2 c = sym c.too_many.ensures ∙ c.if-too_many.false
 
-row-3 : (c : Else-some_outside) → some_outside c.before.before.before.before.before.before.args.list.now ≡ false
-row-3 c = sym c.before.some_outside.ensures ∙ c.if-some_outside.false
+row-3 : (c : Else-some_outside) → some_outside c.args.list.now ≡ false
+row-3 c = sym c.some_outside.ensures ∙ c.if-some_outside.false
 
 -- ---- the needs
 pub returns-then-bad_count : goal.returns-then-bad_count
 returns-then-bad_count c = (
   (λ t. absurd (false≢true t)),
-  (λ v. sym (valid→accepted _ 1 v).0 ∙ sym c.before.bad_count.ensures ∙ c.if-bad_count.true),
+  (λ v. sym (valid→accepted _ 1 v).0 ∙ sym c.bad_count.ensures ∙ c.if-bad_count.true),
 
 )
 
 pub returns-then-too_many : goal.returns-then-too_many
 returns-then-too_many c = (
   (λ t. absurd (false≢true t)),
-  (λ v. sym (valid→accepted _ 1 v).1.0 ∙ sym c.before.too_many.ensures ∙ c.if-too_many.true),
+  (λ v. sym (valid→accepted _ 1 v).1.0 ∙ sym c.too_many.ensures ∙ c.if-too_many.true),
 
 )
 
 pub returns-then-some_outside : goal.returns-then-some_outside
 returns-then-some_outside c = (
   (λ t. absurd (false≢true t)),
-  (λ v. sym (valid→accepted _ 1 v).1.1.0 ∙ sym c.before.some_outside.ensures ∙ c.if-some_outside.true),
+  (λ v. sym (valid→accepted _ 1 v).1.1.0 ∙ sym c.some_outside.ensures ∙ c.if-some_outside.true),
 
 )
 
@@ -45,8 +45,7 @@ is_shape-requires c = (near→in_range _ (row-3 c), (counted _ (row-1 c.before.b
 
 pub returns : goal.returns
 returns c =
-    let at-3 = c.before in
-    let at-2 = at-3.before.before in (
-      (λ t. shape→valid _ (row-1 at-2.before.before) (row-2 at-2) (row-3 at-3) (c.is_shape.ensures.0 t)),
+    (
+      (λ t. shape→valid _ (row-1 c.before.before.before.before.before) (row-2 c.before.before.before) (row-3 c.before) (c.is_shape.ensures.0 t)),
       (λ v. c.is_shape.ensures.1 v.shape),
     )

@@ -21,39 +21,33 @@ use Rattle.delivery.proofs.deliver.Goals.{In_default}
 
 -- its size is judged by the rows of the shape
 judged : (c : After-fits2) → let args = c.before.before.before.args in
-    let rows = answer_rows (points args.shape.now) args.out-1.now in
+    let rows = answer_rows (points args.shape.now) args.out.now in
     Judged (NoneApply rows) rows c.fits2.result
 judged c =
     let start = c.before.before.before in
-    fit-judged _ (c.before.some_outside.ensures ∙ numbers-outside _ start.requires.paired) start.args.out-1.now
-    (exact c.before.before.count-n.ensures) c.fits2.ensures
+    fit-judged _ (c.before.some-outside.ensures ∙ numbers-outside _ start.requires) start.args.out.now
+    (exact c.before.before.count.ensures) c.fits2.ensures
 
 pub returns-in-No : goal.returns-in-No
 returns-in-No c =
-    let at-fits = c.before.before.before in
-    let start = at-fits.before.before.before in
-    rest-refused (makes (no_shape start.args.floor) (points start.args.shape.now) start.args.out-1.now) tt
-    ((judged at-fits).no _ c.before.in-No.is)
+    rest-refused (makes (no_shape c.args.floor) (points c.args.shape.now) c.args.out.now) tt
+    ((judged (goal.at.returns-in-No c).After-fits).no _ c.in-No.is)
 
 -- past the judging no row applies, and there is room
-passed : (c : In_default) → let args = c.before.before.before.before.before.args in
-    NoneApply (answer_rows (points args.shape.now) args.out-1.now)
-passed c = (judged c.before.before).valid c.in_default.is
+passed : (c : In_default) → let args = c.args in
+    NoneApply (answer_rows (points args.shape.now) args.out.now)
+passed c = (judged (goal.at.In_default c).After-fits).valid c.in_default.is
 
-room : (c : In_default) → let args = c.before.before.before.before.before.args in
-    length args.shape.now ≤ length args.out-1.now
+room : (c : In_default) → let args = c.args in
+    length args.shape.now ≤ length args.out.now
 room c =
-    let start = c.before.before.before.before.before in
-    omega (arith, room-there _ _ (passed c), points-length start.args.shape.now, start.requires.paired)
+    omega (arith, room-there _ _ (passed c), points-length c.args.shape.now, c.requires.paired)
 
 pub copy-requires : goal.copy-requires
-copy-requires c = (omega arith, omega (arith, room c.before))
+copy-requires c = (omega arith, omega (arith, room (goal.at.copy-requires c).In_default))
 
 pub returns : goal.returns
 returns c =
-    let at_copy = c.before in
-    let at_told = at_copy.before.before in
-    let start = at_told.before.before.before.before.before in
-    all-written (makes (no_shape start.args.floor) (points start.args.shape.now) start.args.out-1.now) tt (passed at_told)
-    (ap (λ n. pos n ∷ pos start.args.floor ∷ []) at_told.before.before.before.before.count-n.ensures)
-    (copied start.args.shape.now start.requires.paired start.args.out-1.now at_copy.copy.ensures)
+    all-written (makes (no_shape c.args.floor) (points c.args.shape.now) c.args.out.now) tt (passed (goal.at.returns c).In_default)
+    (ap (λ n. pos n ∷ pos c.args.floor ∷ []) c.count-n.ensures)
+    (copied c.args.shape.now c.requires.paired c.args.out.now c.copy.ensures)

@@ -14,26 +14,26 @@ use Rattle.delivery.proofs.fits.Goals as goal
 use Rattle.delivery.proofs.fits.Goals.{In_default}
 
 -- past its size neither 6 nor 7 applies
-good : (c : In_default) → let args = c.before.before.before.args in NoneApply (sized_rows args.n args.far)
-good c = c.before.before.sized.ensures.valid c.in_default.is
+good : (c : In_default) → let args = c.args in NoneApply (sized_rows args.n args.far)
+good c = c.sized.ensures.valid c.in_default.is
 
 pub returns-in-No : goal.returns-in-No
 returns-in-No c =
-    let args = c.before.before.before.before.args in
+    let args = c.args in
     turns-away (refuses-append (row 8 (ltb args.room (2 * args.n)) [] ∷ [])
-    (c.before.before.before.sized.ensures.no _ c.before.in-No.is))
+    (c.sized.ensures.no _ c.in-No.is))
 
 pub overflow_mul-n : goal.overflow_mul-n
 unfolding max_corners
-overflow_mul-n c = omega (arith, ltb-false max_corners c.before.before.before.args.n (good c).0)
+overflow_mul-n c = omega (arith, ltb-false max_corners c.args.n (good c).0)
 
 pub returns-then-room-n : goal.returns-then-room-n
 returns-then-room-n c =
-    let args = c.before.before.before.before.args in
-    turns-away (refuses-join (sized_rows args.n args.far) (good c.before) (refuses (here (lt-ltb _ _ c.if-room-n.true))))
+    let args = c.args in
+    turns-away (refuses-join (sized_rows args.n args.far) (good (goal.at.returns-then-room-n c).In_default) (refuses (here (lt-ltb _ _ c.if-room-n.true))))
 
 pub returns : goal.returns
 returns c =
-    let args = c.before.before.before.before.args in
-    passes (none-join (sized_rows args.n args.far) (row 8 (ltb args.room (2 * args.n)) [] ∷ []) (good c.before)
+    let args = c.args in
+    passes (none-join (sized_rows args.n args.far) (row 8 (ltb args.room (2 * args.n)) [] ∷ []) (good (goal.at.returns c).In_default)
     (le-ltb _ _ c.if-room-n.false, tt))

@@ -25,96 +25,84 @@ pub first_furthest-here-requires : goal.first_furthest-here-requires
 first_furthest-here-requires c = let pre = c.requires in (pre.1.some, pre.0, pre.2)
 
 -- the position that was found is one of the list
-here_in : (c : After-first_furthest-here) → c.first_furthest-here.result < length (points c.before.args.list.now)
+here_in : (c : After-first_furthest-here) → c.first_furthest-here.result < length (points c.args.list.now)
 here_in c =
-    let start = c.before in
     omega (
       arith,
       c.first_furthest-here.ensures,
-      (furthest-greatest (at start.args.d) (points start.args.list.now) start.requires.1.some).within,
+      (furthest-greatest (at c.args.d) (points c.args.list.now) c.requires.1.some).within,
     )
 
 pub value_at-value-requires : goal.value_at-value-requires
-value_at-value-requires c = let pre = c.before.requires in (here_in c, pre.0, pre.2)
+value_at-value-requires c = let pre = c.requires in (here_in c, pre.0, pre.2)
 
 -- the value there is the greatest
-value-is : (c : After-value_at-value) → let args = c.before.before.args in
+value-is : (c : After-value_at-value) → let args = c.args in
     to_z w64 (of_z w64 c.value_at-value.result) ≡ support (at args.d) (points args.list.now)
 value-is c =
-    let start = c.before.before in
-    let ps = points start.args.list.now in
-    result-is w64 c.value_at-value.type-inv c.value_at-value.ensures
-    ∙ ap (λ (i : ℕ). direction_value (at start.args.d) (corner ps i)) c.before.first_furthest-here.ensures
-    ∙ sym (furthest-greatest (at start.args.d) ps start.requires.1.some).has
+    let ps = points c.args.list.now in
+    result-is w64 c.value_at-value.type_inv c.value_at-value.ensures
+    ∙ ap (λ (i : ℕ). direction_value (at c.args.d) (corner ps i)) c.first_furthest-here.ensures
+    ∙ sym (furthest-greatest (at c.args.d) ps c.requires.1.some).has
 
 pub overflow_sub-end : goal.overflow_sub-end
 overflow_sub-end c = omega (arith, c.count-n.ensures, here_in c.before.before)
 
 pub overflow_add-next : goal.overflow_add-next
-overflow_add-next c = omega (arith, here_in c.before.before, c.count-n.ensures, c.count-n.type-inv)
+overflow_add-next c = omega (arith, here_in c.before.before, c.count-n.ensures, c.count-n.type_inv)
 
 pub reaches-requires : goal.reaches-requires
 reaches-requires c =
-    let counted = c.before.before in
-    let pre = counted.before.before.before.requires in
-    (omega (arith, counted.count-n.ensures, here_in counted.before.before), pre.0, pre.2)
+    let pre = c.requires in
+    (omega (arith, c.count-n.ensures, here_in c.before.before.before.before), pre.0, pre.2)
 
 -- a corner that has at least that value is furthest
-test-is : (c : After-count-n) {b : Bool} (i : ℕ) → let args = c.before.before.before.args in
-    b ≡ le_z (to_z w64 (of_z w64 c.before.value_at-value.result)) (direction_value (at args.d) (corner (points args.list.now) i))
+test-is : (c : After-count-n) {b : Bool} (i : ℕ) → let args = c.args in
+    b ≡ le_z (to_z w64 (of_z w64 c.value_at-value.result)) (direction_value (at args.d) (corner (points args.list.now) i))
     → b ≡ is_furthest (at args.d) (points args.list.now) i
 test-is c i e =
-    let args = c.before.before.before.args in
+    let args = c.args in
     e ∙ ap (λ (z : ℤ). le_z z (direction_value (at args.d) (corner (points args.list.now) i))) (value-is c.before)
 
 pub returns-then-reaches : goal.returns-then-reaches
 returns-then-reaches c =
-    let counted = c.before.before.before.before in
-    let start = counted.before.before.before in
-    let face = face-over-end start.requires.1 start.requires.3 counted.before.before.first_furthest-here.ensures counted.count-n.ensures
-    c.before.before.before.if1.true (ltb-true 2 _ c.before.before.if-n-gt2.true)
-    (sym (test-is counted _ c.before.reaches.ensures) ∙ c.if-reaches.true) in
-    (face.0, (face.1, value-is counted.before))
+    let face = face-over-end c.requires.1 c.requires.3 c.first_furthest-here.ensures c.count-n.ensures
+    c.if-here-eq0.true (ltb-true 2 _ c.if-n-gt2.true)
+    (sym (test-is c.before.before.before.before _ c.reaches.ensures) ∙ c.if-reaches.true) in
+    (face.0, (face.1, value-is c.before.before.before.before.before))
 
 pub reaches-requires-then-next-n : goal.reaches-requires-then-next-n
 reaches-requires-then-next-n c =
-    let counted = c.before.before in
-    let pre = counted.before.before.before.requires in
-    (omega (arith, counted.count-n.ensures, c.if-next-n.true), pre.0, pre.2)
+    let pre = c.requires in
+    (omega (arith, c.count-n.ensures, c.if-next-n.true), pre.0, pre.2)
 
 pub returns-then-reaches-2 : goal.returns-then-reaches-2
 returns-then-reaches-2 c =
-    let counted = c.before.before.before.before in
-    let start = counted.before.before.before in
-    let face = face-onward start.requires.1 start.requires.3 counted.before.before.first_furthest-here.ensures counted.count-n.ensures
-    c.before.before.if-next-n.true (sym (test-is counted _ c.before.reaches-then-next-n.ensures) ∙ c.if-reaches-2.true) in
-    (face.0, (face.1, value-is counted.before))
+    let face = face-onward c.requires.1 c.requires.3 c.first_furthest-here.ensures c.count-n.ensures
+    c.if-next-n.true (sym (test-is c.before.before.before.before _ c.reaches-then-next-n.ensures) ∙ c.if-reaches-2.true) in
+    (face.0, (face.1, value-is c.before.before.before.before.before))
 
 -- past the first test the last corner of the list is not furthest, where it would be the first of the face
-not-over-end : (c : Joined-here-eq0) → let counted = c.before in let args = counted.before.before.before.args in
-    counted.before.before.first_furthest-here.result ≡ 0 → 2 < counted.count-n.result
-    → is_furthest (at args.d) (points args.list.now) (counted.count-n.result - 1) ≡ false
-not-over-end c e h = elim c.if1.branch [
+not-over-end : (c : Joined-here-eq0) → let args = c.args in
+    c.first_furthest-here.result ≡ 0 → 2 < c.count-n.result
+    → is_furthest (at args.d) (points args.list.now) (c.count-n.result - 1) ≡ false
+not-over-end c e h = elim c.if-here-eq0.branch [
   | inl q ↦ sym (test-is c.before _ q.2.ensures) ∙ q.3.left
-  | inr q ↦ elim q.came [ inl r ↦ absurd (few (ltb-false 2 c.before.count-n.result r.1.left)) | inr r ↦ absurd (r.left e) ]
+  | inr q ↦ elim q.came [ inl r ↦ absurd (few (ltb-false 2 c.count-n.result r.1.left)) | inr r ↦ absurd (r.left e) ]
 
 ]
   where
-    few : c.before.count-n.result ≤ 2 → ⊥
+    few : c.before.count.result ≤ 2 → ⊥
     few k = omega arith
 
 pub returns-else-reaches-2 : goal.returns-else-reaches-2
 returns-else-reaches-2 c =
-    let counted = c.before.before.before.before in
-    let start = counted.before.before.before in
-    let face = face-alone start.requires.1 start.requires.3 counted.before.before.first_furthest-here.ensures counted.count-n.ensures
-    (not-over-end c.before.before.before) (λ h. sym (test-is counted _ c.before.reaches-then-next-n.ensures) ∙ c.if-reaches-2.false) in
-    (face.0, (face.1, value-is counted.before))
+    let face = face-alone c.requires.1 c.requires.3 c.first_furthest-here.ensures c.count-n.ensures
+    (not-over-end c.before.before.before) (λ h. sym (test-is c.before.before.before.before _ c.reaches-then-next-n.ensures) ∙ c.if-reaches-2.false) in
+    (face.0, (face.1, value-is c.before.before.before.before.before))
 
 pub returns-else-next-n : goal.returns-else-next-n
 returns-else-next-n c =
-    let counted = c.before.before in
-    let start = counted.before.before.before in
-    let face = face-alone start.requires.1 start.requires.3 counted.before.before.first_furthest-here.ensures counted.count-n.ensures
+    let face = face-alone c.requires.1 c.requires.3 c.first_furthest-here.ensures c.count-n.ensures
     (not-over-end c.before) (λ h. absurd (omega (arith, c.if-next-n.false))) in
-    (face.0, (face.1, value-is counted.before))
+    (face.0, (face.1, value-is c.before.before.before))

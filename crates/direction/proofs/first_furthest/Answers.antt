@@ -21,19 +21,18 @@ pub count-n-requires : goal.count-n-requires
 count-n-requires c = tt
 
 pub value_at-value-requires : goal.value_at-value-requires
-value_at-value-requires c = let start = c.before in (start.requires.0, start.requires.1, start.requires.2)
+value_at-value-requires c = (c.requires.0, c.requires.1, c.requires.2)
 
 pub loop-i-init : goal.loop-i-init
 loop-i-init c = (
-  greatest-start _ _ (result-is w64 c.value_at-value.type-inv c.value_at-value.ensures),
-  omega (arith, c.before.count-n.ensures, c.before.before.requires.0),
+  greatest-start _ _ (result-is w64 c.value_at-value.type_inv c.value_at-value.ensures),
+  omega (arith, c.count-n.ensures, c.requires.0),
 
 )
 
 pub value_at-next-requires : goal.value_at-next-requires
 value_at-next-requires c =
-    let start = c.before.before.before.before in
-    (omega (arith, c.before.before.before.count-n.ensures), start.requires.1, start.requires.2)
+    (omega (arith, c.count-n.ensures), c.requires.1, c.requires.2)
 
 pub overflow_add-i : goal.overflow_add-i
 overflow_add-i c = omega arith
@@ -43,18 +42,15 @@ loop-i-smaller c = omega arith
 
 pub loop-i-preserved : goal.loop-i-preserved
 loop-i-preserved c =
-    let at-loop = c.before.before.before in
-    let is = result-is w64 c.before.value_at-next.type-inv c.before.value_at-next.ensures in
-    let test = ap (lt_z (to_z w64 at-loop.loop-i.value)) is in (
-      ⊎_elim (λ t. greatest-rise _ at-loop.loop-i.invariant.0 (lt_z-true (sym test ∙ t.0.taken)) t.1 (ap (to_z w64) t.2 ∙ is))
-          (λ t. greatest-keep _ at-loop.loop-i.invariant.0 (lt_z-false (sym test ∙ t.0.left)) t.1 (ap (to_z w64) t.2)) c.if-value-next.branch,
+    let is = result-is w64 c.value_at-next.type_inv c.value_at-next.ensures in
+    let test = ap (lt_z (to_z w64 c.loop-i.value)) is in (
+      ⊎_elim (λ t. greatest-rise _ c.loop-i.invariant.0 (lt_z-true (sym test ∙ t.0.taken)) t.1 (ap (to_z w64) t.2 ∙ is))
+          (λ t. greatest-keep _ c.loop-i.invariant.0 (lt_z-false (sym test ∙ t.0.left)) t.1 (ap (to_z w64) t.2)) c.if-value-next.branch,
       omega arith,
     )
 
 pub returns : goal.returns
 returns c =
-    let at-loop = c.before in
-    let start = c.before.before.before.before in
-    let end : at-loop.loop-i.i ≡ length (points start.args.list.now) =
-    omega (arith, at-loop.before.before.count-n.ensures, at-loop.loop-i.invariant.1, c.loop-i-test.false) in
-    greatest-furthest _ _ at-loop.loop-i.invariant.0 end
+    let end : c.loop-i.i ≡ length (points c.args.list.now) =
+    omega (arith, c.count-n.ensures, c.loop-i.invariant.1, c.loop-i-test.false) in
+    greatest-furthest _ _ c.loop-i.invariant.0 end

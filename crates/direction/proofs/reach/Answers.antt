@@ -20,19 +20,18 @@ pub count-n-requires : goal.count-n-requires
 count-n-requires c = tt
 
 pub value_at-greatest-requires : goal.value_at-greatest-requires
-value_at-greatest-requires c = let start = c.before in (start.requires.0, start.requires.1, start.requires.2)
+value_at-greatest-requires c = (c.requires.0, c.requires.1, c.requires.2)
 
 pub loop-i-init : goal.loop-i-init
 loop-i-init c = (
-  (0, greatest-start _ _ (result-is w64 c.value_at-greatest.type-inv c.value_at-greatest.ensures)),
-  omega (arith, c.before.count-n.ensures, c.before.before.requires.0),
+  (0, greatest-start _ _ (result-is w64 c.value_at-greatest.type_inv c.value_at-greatest.ensures)),
+  omega (arith, c.count-n.ensures, c.requires.0),
 
 )
 
 pub value_at-next-requires : goal.value_at-next-requires
 value_at-next-requires c =
-    let start = c.before.before.before.before in
-    (omega (arith, c.before.before.before.count-n.ensures), start.requires.1, start.requires.2)
+    (omega (arith, c.count-n.ensures), c.requires.1, c.requires.2)
 
 pub overflow_add-i : goal.overflow_add-i
 overflow_add-i c = omega arith
@@ -42,19 +41,16 @@ loop-i-smaller c = omega arith
 
 pub loop-i-preserved : goal.loop-i-preserved
 loop-i-preserved c =
-    let at-loop = c.before.before.before in
-    let (k, found) = at-loop.loop-i.invariant.0 in
-    let is = result-is w64 c.before.value_at-next.type-inv c.before.value_at-next.ensures in
-    let test = ap (lt_z (to_z w64 at-loop.loop-i.greatest)) is in (
-      ⊎_elim (λ t. (at-loop.loop-i.i, greatest-rise _ found (lt_z-true (sym test ∙ t.0.taken)) refl (ap (to_z w64) t.1 ∙ is)))
+    let (k, found) = c.loop-i.invariant.0 in
+    let is = result-is w64 c.value_at-next.type_inv c.value_at-next.ensures in
+    let test = ap (lt_z (to_z w64 c.loop-i.greatest)) is in (
+      ⊎_elim (λ t. (c.loop-i.i, greatest-rise _ found (lt_z-true (sym test ∙ t.0.taken)) refl (ap (to_z w64) t.1 ∙ is)))
           (λ t. (k, greatest-keep _ found (lt_z-false (sym test ∙ t.0.left)) refl (ap (to_z w64) t.1))) c.if-greatest-next.branch,
       omega arith,
     )
 
 pub returns : goal.returns
 returns c =
-    let at-loop = c.before in
-    let start = c.before.before.before.before in
-    let end : at-loop.loop-i.i ≡ length (points start.args.list.now) =
-    omega (arith, at-loop.before.before.count-n.ensures, at-loop.loop-i.invariant.1, c.loop-i-test.false) in
-    greatest-support _ _ at-loop.loop-i.invariant.0.1 end
+    let end : c.loop-i.i ≡ length (points c.args.list.now) =
+    omega (arith, c.count-n.ensures, c.loop-i.invariant.1, c.loop-i-test.false) in
+    greatest-support _ _ c.loop-i.invariant.0.1 end

@@ -17,12 +17,10 @@ bits (negsuc n) f = let below : n < 2 ^ 31 = f.sfits in ne_eqb (2 ^ 32 - suc n) 
 
 pub returns-then-u-eq0 : goal.returns-then-u-eq0
 returns-then-u-eq0 c =
-    let start = c.before in
-    bits _ start.ranges.v ∙ sym (ap (λ (b : Bool). b && eqb (nat_abs start.args.v) 0)
-    (sym (bits _ start.ranges.u) ∙ eq-eqb _ 0 c.if-u-eq0.true))
+    bits _ c.ranges.v ∙ sym (ap (λ (b : Bool). b && eqb (nat_abs c.args.v) 0)
+    (sym (bits _ c.ranges.u) ∙ eq-eqb _ 0 c.if-u-eq0.true))
 
 pub returns-else-u-eq0 : goal.returns-else-u-eq0
 returns-else-u-eq0 c =
-    let start = c.before in
     let other = ne_eqb _ 0 c.if-u-eq0.false in
-    other ∙ sym (ap (λ (b : Bool). b && eqb (nat_abs start.args.v) 0) (sym (bits _ start.ranges.u) ∙ other))
+    other ∙ sym (ap (λ (b : Bool). b && eqb (nat_abs c.args.v) 0) (sym (bits _ c.ranges.u) ∙ other))

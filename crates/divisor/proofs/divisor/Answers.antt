@@ -11,17 +11,16 @@ use Rattle.divisor.proofs.divisor.Goals.{After-strip-2, Else-b-eq0}
 
 pub returns-then-a-eq0 : goal.returns-then-a-eq0
 returns-then-a-eq0 c =
-    let args = c.before.args in
+    let args = c.args in
     sym (ap (λ z. gcd z args.b) c.if-a-eq0.true ∙ gcd-comm 0 args.b ∙ gcd-zero args.b)
 
 pub returns-then-b-eq0 : goal.returns-then-b-eq0
-returns-then-b-eq0 c = let args = c.before.before.args in sym (ap (gcd args.a) c.if-b-eq0.true ∙ gcd-zero args.a)
+returns-then-b-eq0 c = let args = c.args in sym (ap (gcd args.a) c.if-b-eq0.true ∙ gcd-zero args.a)
 
 -- the counts of zeros of numbers other than 0
-zeros-fit : (c : Else-b-eq0) → let args = c.before.before.args in (count_trailing_zeros 32 args.a < 32) × (count_trailing_zeros 32 args.b < 32)
+zeros-fit : (c : Else-b-eq0) → let args = c.args in (count_trailing_zeros 32 args.a < 32) × (count_trailing_zeros 32 args.b < 32)
 zeros-fit c =
-    let start = c.before.before in
-    (trailing-fits 32 _ (omega arith) start.ranges.a.fits, trailing-fits 32 _ (omega arith) start.ranges.b.fits)
+    (trailing-fits 32 _ (omega arith) c.ranges.a.fits, trailing-fits 32 _ (omega arith) c.ranges.b.fits)
 
 pub strip-requires : goal.strip-requires
 strip-requires c = omega (arith, zeros-fit c)
@@ -30,13 +29,13 @@ pub strip-requires-2 : goal.strip-requires-2
 strip-requires-2 c = omega (arith, zeros-fit c.before)
 
 -- what is left of either number
-left : (c : After-strip-2) → let a = c.before.before.before.before.args.a in
-    Factors a (count_trailing_zeros 32 a) c.before.strip.result
-left c = trailing-factors 32 _ (omega arith) c.before.before.before.before.ranges.a.fits c.before.strip.ensures
+left : (c : After-strip-2) → let a = c.args.a in
+    Factors a (count_trailing_zeros 32 a) c.strip.result
+left c = trailing-factors 32 _ (omega arith) c.ranges.a.fits c.strip.ensures
 
-right : (c : After-strip-2) → let b = c.before.before.before.before.args.b in
+right : (c : After-strip-2) → let b = c.args.b in
     Factors b (count_trailing_zeros 32 b) c.strip-2.result
-right c = trailing-factors 32 _ (omega arith) c.before.before.before.before.ranges.b.fits c.strip-2.ensures
+right c = trailing-factors 32 _ (omega arith) c.ranges.b.fits c.strip-2.ensures
 
 pub odd_divisor-odd-requires : goal.odd_divisor-odd-requires
 odd_divisor-odd-requires c = record { odd = ((left c).odd, (right c).odd) }
@@ -46,17 +45,13 @@ overflow_shl-result c = (zeros-fit c.before.before.before.before).0
 
 pub returns-then-s-t : goal.returns-then-s-t
 returns-then-s-t c =
-    let at = c.before.before in
-    let start = at.before.before.before.before in
-    ap (λ z. z * 2 ^ count_trailing_zeros 32 start.args.a % 2 ^ 32) c.before.odd_divisor-odd.ensures
-    ∙ gcd-shifted 32 (left at) (right at) (omega arith) (omega arith) start.ranges.a.fits
+    ap (λ z. z * 2 ^ count_trailing_zeros 32 c.args.a % 2 ^ 32) c.odd_divisor-odd.ensures
+    ∙ gcd-shifted 32 (left c.before.before) (right c.before.before) (omega arith) (omega arith) c.ranges.a.fits
 
 pub overflow_shl-result-2 : goal.overflow_shl-result-2
 overflow_shl-result-2 c = (zeros-fit c.before.before.before.before).1
 
 pub returns : goal.returns
 returns c =
-    let at = c.before.before in
-    let start = at.before.before.before.before in
-    ap (λ z. z * 2 ^ count_trailing_zeros 32 start.args.b % 2 ^ 32) (c.before.odd_divisor-odd.ensures ∙ gcd-comm at.before.strip.result _)
-    ∙ gcd-shifted 32 (right at) (left at) (omega arith) (omega arith) start.ranges.b.fits ∙ gcd-comm start.args.b _
+    ap (λ z. z * 2 ^ count_trailing_zeros 32 c.args.b % 2 ^ 32) (c.odd_divisor-odd.ensures ∙ gcd-comm c.strip.result _)
+    ∙ gcd-shifted 32 (right c.before.before) (left c.before.before) (omega arith) (omega arith) c.ranges.b.fits ∙ gcd-comm c.args.b _

@@ -16,30 +16,26 @@ loop-x-init c = record {
 }
 
 pub strip-y-requires : goal.strip-y-requires
-strip-y-requires c = shift_fits c.before.before.loop-x.invariant c.if-x-y.true
+strip-y-requires c = shift_fits c.loop-x.invariant c.if-x-y.true
 
 pub loop-x-smaller-then-x-y : goal.loop-x-smaller-then-x-y
 loop-x-smaller-then-x-y c =
-    let at-loop = c.before.before.before in
-    omega (arith, next-less at-loop.loop-x.invariant c.before.if-x-y.true _ c.strip-y.ensures)
+    omega (arith, next-less c.loop-x.invariant c.if-x-y.true _ c.strip-y.ensures)
 
 pub loop-x-preserved-then-x-y : goal.loop-x-preserved-then-x-y
 loop-x-preserved-then-x-y c =
-    let at-loop = c.before.before.before in
-    halved-next at-loop.loop-x.invariant c.before.if-x-y.true _ c.strip-y.ensures
+    halved-next c.loop-x.invariant c.if-x-y.true _ c.strip-y.ensures
 
 pub strip-x-requires : goal.strip-x-requires
-strip-x-requires c = shift_fits (halved-swap c.before.before.loop-x.invariant) (omega arith)
+strip-x-requires c = shift_fits (halved-swap c.loop-x.invariant) (omega arith)
 
 pub loop-x-smaller : goal.loop-x-smaller
 loop-x-smaller c =
-    let at-loop = c.before.before.before in
-    omega (arith, next-less (halved-swap at-loop.loop-x.invariant) (omega arith) _ c.strip-x.ensures)
+    omega (arith, next-less (halved-swap c.loop-x.invariant) (omega arith) _ c.strip-x.ensures)
 
 pub loop-x-preserved : goal.loop-x-preserved
 loop-x-preserved c =
-    let at-loop = c.before.before.before in
-    halved-swap (halved-next (halved-swap at-loop.loop-x.invariant) (omega arith) _ c.strip-x.ensures)
+    halved-swap (halved-next (halved-swap c.loop-x.invariant) (omega arith) _ c.strip-x.ensures)
 
 pub returns : goal.returns
-returns c = halved-end c.before.loop-x.invariant c.loop-x-test.false
+returns c = halved-end c.loop-x.invariant c.loop-x-test.false

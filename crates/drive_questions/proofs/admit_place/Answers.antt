@@ -17,19 +17,19 @@ either : (x y : ℤ) {a b : Bool} → outside x ≡ a → outside y ≡ b → so
 unfolding some_outside
 either x y e f = ap₂ (λ (a b : Bool). a || (b || false)) e f
 
-x-is : (c : After-outside) {b : Bool} → c.outside.result ≡ b → outside c.before.before.args.p.x ≡ b
-x-is c e = sym (c.outside.ensures ∙ ap outside (result-is w32 c.before.struct_told-1.given.0.1 refl)) ∙ e
+x-is : (c : After-outside) {b : Bool} → c.outside.result ≡ b → outside c.args.p.x ≡ b
+x-is c e = sym (c.outside.ensures ∙ ap outside (result-is w32 c.struct_told-1.given.0.1 refl)) ∙ e
 
-y-is : (c : After-outside-2) {b : Bool} → c.outside-2.result ≡ b → outside c.before.before.before.before.before.args.p.y ≡ b
-y-is c e = sym (c.outside-2.ensures ∙ ap outside (result-is w32 c.before.struct_told-2-1.given.1.0.1 refl)) ∙ e
+y-is : (c : After-outside-2) {b : Bool} → c.outside-2.result ≡ b → outside c.args.p.y ≡ b
+y-is c e = sym (c.outside-2.ensures ∙ ap outside (result-is w32 c.struct_told-2-1.given.1.0.1 refl)) ∙ e
 
 pub returns-then-outside : goal.returns-then-outside
-returns-then-outside c = turns-away (refuses (here (either _ _ (x-is c.before c.if-outside.true) refl)))
+returns-then-outside c = turns-away (refuses (here (either _ _ (x-is (goal.at.returns-then-outside c).After-outside c.if-outside.true) refl)))
 
 pub returns-then-outside-2 : goal.returns-then-outside-2
-returns-then-outside-2 c = turns-away (refuses (here (either _ _ (x-is c.before.before.before.before c.before.before.before.if-outside.false)
+returns-then-outside-2 c = turns-away (refuses (here (either _ _ (x-is (goal.at.returns-then-outside-2 c).After-outside c.if-outside.false)
     (y-is c.before c.if-outside-2.true))))
 
 pub returns : goal.returns
-returns c = passes (either _ _ (x-is c.before.before.before.before c.before.before.before.if-outside.false)
+returns c = passes (either _ _ (x-is (goal.at.returns c).After-outside c.if-outside.false)
     (y-is c.before c.if-outside-2.false))

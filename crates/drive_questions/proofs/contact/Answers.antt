@@ -1,4 +1,5 @@
 -- `contact` meets its contract: the places are read back from their bits.
+use mir.Syntax.{w32}
 use mathlib.Core.Path.{◌∙◌, ap₂}
 use borrow.Author.Rules.{rules}
 use mir.Facts.{to_z-of_z}
@@ -10,9 +11,8 @@ use Rattle.drive_questions.proofs.contact.Goals as goal
 
 pub returns : goal.returns
 returns c =
-    let start = c.before in
-    let args = start.args in
-    let fits = start.ranges in
+    let args = c.args in
+    let fits = c.ranges in
     c.driven.ensures
     ∙ ap₂ (λ (p q : Point). reply (ask_contact (on args.obstacle.now args.f) (on args.cart.now args.g) p q))
-    (ap₂ point (to_z-of_z fits.x) (to_z-of_z fits.y)) (ap₂ point (to_z-of_z fits.u) (to_z-of_z fits.v))
+    (ap₂ point (to_z-of_z {w = w32} fits.x) (to_z-of_z {w = w32} fits.y)) (ap₂ point (to_z-of_z {w = w32} fits.u) (to_z-of_z {w = w32} fits.v))

@@ -15,7 +15,7 @@ same : {x y : Meeting} (floor : ℕ)
 same floor e = ap (λ (m : Meeting). answered (meeting_numbers m ++ (pos floor ∷ []))) (sym e)
 
 pub returns-in-Never : goal.returns-in-Never
-returns-in-Never c = same c.before.before.args.floor c.in-Never.is
+returns-in-Never c = same c.args.floor c.in-Never.is
 
 pub returns-in-At : goal.returns-in-At
-returns-in-At c = same c.before.before.before.args.floor c.before.in-At.is
+returns-in-At c = same c.args.floor c.in-At.is

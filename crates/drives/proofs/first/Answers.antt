@@ -13,5 +13,5 @@ full = refl
 
 pub pass-requires : goal.pass-requires
 pass-requires c =
-    let pre = c.before.before.requires in
+    let pre = c.requires in
     (walk_start _ _ _ pre.0 pre.3, pre.1, pre.2, full)

@@ -6,6 +6,5 @@ use Rattle.drives.proofs.is_sooner.Goals as goal
 
 pub returns : goal.returns
 returns c =
-    let at-best = c.before.before in
-    let args = at-best.before.before.args in
-    c.is_less.ensures ∙ sym (ap (is_sooner args.numerator args.denominator) at-best.in-At.is)
+    let args = c.args in
+    c.is_less.ensures ∙ sym (ap (is_sooner args.numerator args.denominator) c.in-At.is)

@@ -19,25 +19,19 @@ kept_by now n a d w s e h k =
 
 pub returns-then-not-is_sooner : goal.returns-then-not-is_sooner
 returns-then-not-is_sooner c =
-    let at-meeting = c.before.before.before in
-    let best = at-meeting.before.before.before.args.best in
-    kept_by _ _ _ _ _ best at-meeting.in-At.is (sym c.before.is_sooner.ensures ∙ not-true _ c.if-not-is_sooner.true) refl
+    let best = c.args.best in
+    kept_by _ _ _ _ _ best c.in-At.is (sym c.is_sooner.ensures ∙ c.if-not-is_sooner.true) refl
 
 pub returns-then-not-is_current : goal.returns-then-not-is_current
 returns-then-not-is_current c =
-    let at-else = c.before.before in
-    let at-meeting = at-else.before.before.before in
-    let best = at-meeting.before.before.before.args.best in
-    kept_by _ _ _ _ _ best at-meeting.in-At.is (sym at-else.before.is_sooner.ensures ∙ not-false _ at-else.if-not-is_sooner.false)
-    (sym c.before.is_current.ensures ∙ not-true c.before.is_current.result c.if-not-is_current.true)
+    let best = c.args.best in
+    kept_by _ _ _ _ _ best c.in-At.is (sym c.is_sooner.ensures ∙ c.if-not-is_sooner.false)
+    (sym c.is_current.ensures ∙ c.if-not-is_current.true)
 
 pub returns : goal.returns
 returns c =
-    let at-current = c.before.before in
-    let at-else = at-current.before in
-    let at-meeting = at-else.before.before.before in
-    let best = at-meeting.before.before.before.args.best in
-    let m = at-meeting.meeting-1.given in
+    let best = c.args.best in
+    let m = c.meeting-1.given in
     ap (λ (n : ℕ). Soonest.At n m.0.0 m.0.1.0 m.0.1.1.0) (sym c.head_at.ensures.name-is)
-    ∙ kept_by _ _ _ _ _ best m.1 (sym at-else.before.is_sooner.ensures ∙ not-false _ at-else.if-not-is_sooner.false)
-    (sym at-current.is_current.ensures ∙ not-false at-current.is_current.result c.before.if-not-is_current.false)
+    ∙ kept_by _ _ _ _ _ best m.1 (sym c.is_sooner.ensures ∙ c.if-not-is_sooner.false)
+    (sym c.is_current.ensures ∙ c.if-not-is_current.false)

@@ -20,50 +20,41 @@ use Rattle.drives.proofs.look.Goals as goal
 use Rattle.drives.proofs.look.Goals.{After-read_at-n}
 
 -- the numbers that were read are in the buffer
-fits : (c : After-read_at-n) → c.read_at-n.result ≤ length c.read_at-n.new.1.1.0
+fits : (c : After-read_at-n) → c.read_at-n.result ≤ length c.read_at-n.new.shape
 fits c =
-    let start = c.before.before.before.before.before.before in
     let read = c.read_at-n.ensures in
-    omega (arith, read.1, read.2, valid-fits _ (here-valid start.requires.1))
+    omega (arith, read.1, read.2, valid-fits _ (here-valid c.requires.1))
 
 pub returns-then-head_at-floor : goal.returns-then-head_at-floor
 returns-then-head_at-floor c =
-    let at_head = c.before.before in
-    let start = at_head.before.before in
-    let args = start.args in (
-      onward-elsewhere start.requires.0 start.requires.1 at_head.head_at.ensures (at args.t) (at args.u) args.best
+    let args = c.args in (
+      onward-elsewhere c.requires.0 c.requires.1 c.head_at.ensures (at args.t) (at args.u) args.best
           c.if-head_at-floor.true,
-      start.requires.4,
+      c.requires.4,
     )
 
 pub slice_bounds-meet-end : goal.slice_bounds-meet-end
-slice_bounds-meet-end c = fits c.before
+slice_bounds-meet-end c = fits (goal.at.slice_bounds-meet-end c).After-read_at-n
 
 pub slice_bounds-meet-end-2 : goal.slice_bounds-meet-end-2
-slice_bounds-meet-end-2 c = let at_read = c.before.before in
-    sym (length-take-le _ at_read.read_at-n.new.1.1.0 (fits at_read))
+slice_bounds-meet-end-2 c =
+    sym (length-take-le _ c.read_at-n.new.1.1.0 (fits (goal.at.slice_bounds-meet-end-2 c).After-read_at-arg-1))
 
 pub meet-requires : goal.meet-requires
 meet-requires c =
-    let at_read = c.before.before in
-    let pre = at_read.before.before.before.before.before.before.requires in
-    (subst Valid (sym at_read.read_at-n.ensures.0) (here-valid pre.1), pre.2, pre.3)
+    let pre = c.requires in
+    (subst Valid (sym c.read_at-n.ensures.0) (here-valid pre.1), pre.2, pre.3)
 
 pub returns : goal.returns
 unfolding grown_of
 returns c =
-    let at_meet = c.before in
-    let at_read = at_meet.before.before.before in
-    let at-else = at_read.before.before in
-    let at_head = at-else.before.before in
-    let start = at_head.before.before in
-    let args = start.args in
+    let args = c.args in
     let t = at args.t in
     let u = at args.u in
     let A = points args.cart.now in
-    let m = at_meet.meet.result in
-    let met = subst (λ (l : List ℤ). MetAs t u (grown (points l) A) m) at_read.read_at-n.ensures.0 at_meet.meet.ensures in (
+    let m = c.meet.result in
+    let met = subst (λ (l : List ℤ). MetAs t u (grown (points l) A) m) c.read_at-n.ensures.0 c.meet.ensures in (
       subst (Onward A t u args.floor args.log.now args.p args.best) (sym c.kept.ensures)
-          (onward-kept start.requires.0 start.requires.1 at_head.head_at.ensures t u args.best at-else.if-head_at-floor.false m met),
-      at_read.read_at-n.ensures.1,
+          (onward-kept c.requires.0 c.requires.1 c.head_at.ensures t u args.best c.if-head_at-floor.false m met),
+      c.read_at-n.ensures.1,
     )

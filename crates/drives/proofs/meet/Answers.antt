@@ -6,16 +6,15 @@ use Rattle.drives.proofs.meet.Goals as goal
 
 pub returns-in-No : goal.returns-in-No
 returns-in-No c =
-    let refused = c.before.before.before.admit_grown.ensures.no _ c.before.in-No.is in
+    let refused = c.admit_grown.ensures.no _ c.in-No.is in
     λ none. absurd (first-not-none refused.first none)
 
 pub first-requires : goal.first-requires
 first-requires c =
-    let at-judged = c.before.before in
-    let pre = at-judged.before.requires in (
+    let pre = c.requires in (
       pre.0,
       pre.1,
-      grown-valid _ _ pre.0.shape.some pre.1.shape.some (at-judged.admit_grown.ensures.valid c.in_default.is),
+      grown-valid _ _ pre.0.shape.some pre.1.shape.some (c.admit_grown.ensures.valid c.in_default.is),
       pre.2,
     )
 

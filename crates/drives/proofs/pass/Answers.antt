@@ -16,38 +16,33 @@ use Rattle.drives.proofs.pass.Goals.{After-pair_at, In-loop-t}
 
 -- there is a whole record here
 here : (c : In-loop-t)
-    → whole (drop c.before.before.loop-t.p c.before.before.before.before.args.log.now) ≡ true
-here c = sym c.before.whole_at.ensures ∙ c.loop-t-test.true
+    → whole (drop c.loop-t.p c.args.log.now) ≡ true
+here c = sym c.whole_at.ensures ∙ c.loop-t-test.true
 
 pub loop-t-init : goal.loop-t-init
-loop-t-init c = (searched-start _ _ _ _ _ c.before.requires.0, c.before.requires.3)
+loop-t-init c = (searched-start _ _ _ _ _ c.requires.0, c.requires.3)
 
 pub whole_at-requires : goal.whole_at-requires
 whole_at-requires c = c.loop-t.invariant.0.walk.inside
 
 pub look-best-requires : goal.look-best-requires
 look-best-requires c =
-    let at-then = c.before in
-    let at-loop = at-then.before.before in
-    let pre = at-loop.before.before.requires in
-    let walk = at-loop.loop-t.invariant.0.walk in
-    (walk, walk-sound _ walk (here at-then), pre.1, pre.2, at-loop.loop-t.invariant.1)
+    let pre = c.requires in
+    let walk = c.loop-t.invariant.0.walk in
+    (walk, walk-sound _ walk (here (goal.at.look-best-requires c).In-loop-t), pre.1, pre.2, c.loop-t.invariant.1)
 
 -- the next place is past the record, and still inside
-step : (c : After-pair_at) → let at-loop = c.before.before.before.before.before.before in
-    let log = at-loop.before.before.args.log.now in
-    (c.pair_at.result ≡ size (drop at-loop.loop-t.p log)) × (at-loop.loop-t.p + (2 + c.pair_at.result) ≤ length log)
+step : (c : After-pair_at) →
+    let log = c.args.log.now in
+    (c.pair_at.result ≡ size (drop c.loop-t.p log)) × (c.loop-t.p + (2 + c.pair_at.result) ≤ length log)
 step c =
-    let at-then = c.before.before.before.before in
-    let at-loop = at-then.before.before in
-    let log = at-loop.before.before.args.log.now in
-    let same = c.pair_at.ensures.0 ∙ sym (size-at log at-loop.loop-t.p) in
-    (same, omega (arith, same, next-inside log at-loop.loop-t.p (here at-then)))
+    let log = c.args.log.now in
+    let same = c.pair_at.ensures.0 ∙ sym (size-at log c.loop-t.p) in
+    (same, omega (arith, same, next-inside log c.loop-t.p (here (goal.at.After-pair_at c).In-loop-t)))
 
 pub pair_at-requires : goal.pair_at-requires
 pair_at-requires c =
-    let at-then = c.before.before.before in
-    omega (arith, next-inside _ at-then.before.before.loop-t.p (here at-then))
+    omega (arith, next-inside _ c.loop-t.p (here (goal.at.pair_at-requires c).In-loop-t))
 
 pub overflow_add-p : goal.overflow_add-p
 overflow_add-p c = omega (arith, c.pair_at.ensures.1)
@@ -60,18 +55,15 @@ loop-t-smaller c = omega (arith, (step c).1)
 
 pub loop-t-preserved : goal.loop-t-preserved
 loop-t-preserved c =
-    let at-look = c.before.before in
-    let at-then = at-look.before.before in
-    let at-loop = at-then.before.before in
-    let args = at-loop.before.before.args in (
+    let args = c.args in (
       subst (λ (k : ℕ). Searched (points args.cart.now) (at args.t) (at args.u) args.floor args.log.now
-          (at-loop.loop-t.p + (2 + k)) at-look.look-best.result) (sym (step c).0)
-          (searched-next at-loop.loop-t.invariant.0 (here at-then) at-look.look-best.ensures.0),
-      at-look.look-best.ensures.1,
+          (c.loop-t.p + (2 + k)) c.look-best.result) (sym (step c).0)
+          (searched-next c.loop-t.invariant.0 (here (goal.at.loop-t-preserved c).In-loop-t) c.look-best.ensures.0),
+      c.look-best.ensures.1,
     )
 
 pub shape_of-shape : goal.shape_of-shape
-shape_of-shape c = let at-loop = c.before.before in at-loop.loop-t.invariant.1 ∙ sym at-loop.before.before.requires.3
+shape_of-shape c = c.loop-t.invariant.1 ∙ sym c.requires.3
 
 pub returns : goal.returns
-returns c = searched-end c.before.before.loop-t.invariant.0 (sym c.before.whole_at.ensures ∙ c.loop-t-test.false)
+returns c = searched-end c.loop-t.invariant.0 (sym c.whole_at.ensures ∙ c.loop-t-test.false)

@@ -23,27 +23,25 @@ kept : (z : ℤ) → SFits w32 z → lt_z z (pos 0) ≡ false → T (non_neg z) 
 kept (pos n) f h = (tt, record { fits = omega (arith, f.sfits) }, refl)
 kept (negsuc m) f h = absurd (true≢false h)
 
-below : (c : Then-z-lt0) → to_z w32 (4294967295 - of_z w32 c.before.args.z) ≡ pos (4294967295 - of_z w32 c.before.args.z)
+below : (c : Then-z-lt0) → to_z w32 (4294967295 - of_z w32 c.args.z) ≡ pos (4294967295 - of_z w32 c.args.z)
 below c =
-    let start = c.before in
-    to_z_pos w32 (turned start.args.z start.ranges.z (ap (λ (z : ℤ). lt_z z (pos 0)) (sym (to_z-of_z start.ranges.z)) ∙ c.if-z-lt0.true))
+    to_z_pos w32 (turned c.args.z c.ranges.z (ap (λ (z : ℤ). lt_z z (pos 0)) (sym (to_z-of_z {w = w32} c.ranges.z)) ∙ c.if-z-lt0.true))
 
-above : (c : Else-z-lt0) → let z = c.before.args.z in T (non_neg z) × Fits w32 (nat_abs z) × (nat_abs z ≡ of_z w32 z)
+above : (c : Else-z-lt0) → let z = c.args.z in T (non_neg z) × Fits w32 (nat_abs z) × (nat_abs z ≡ of_z w32 z)
 above c =
-    let start = c.before in
-    kept start.args.z start.ranges.z (ap (λ (z : ℤ). lt_z z (pos 0)) (sym (to_z-of_z start.ranges.z)) ∙ c.if-z-lt0.false)
+    kept c.args.z c.ranges.z (ap (λ (z : ℤ). lt_z z (pos 0)) (sym (to_z-of_z {w = w32} c.ranges.z)) ∙ c.if-z-lt0.false)
 
 pub overflow_cast-result : goal.overflow_cast-result
 overflow_cast-result c = rw (below c) (tt, record { fits = omega arith })
 
 pub returns-then-z-lt0 : goal.returns-then-z-lt0
 returns-then-z-lt0 c =
-    let z = c.before.args.z in
-    let twice : 4294967295 - (4294967295 - of_z w32 z) ≡ of_z w32 z = omega (arith, (Fits-of_z c.before.ranges.z).fits) in
+    let z = c.args.z in
+    let twice : 4294967295 - (4294967295 - of_z w32 z) ≡ of_z w32 z = omega (arith, (Fits-of_z c.ranges.z).fits) in
     ap (λ (n : ℤ). 4294967295 - nat_abs n) (below c) ∙ twice
 
 pub overflow_cast-result-2 : goal.overflow_cast-result-2
-overflow_cast-result-2 c = let z = above c in rw (to_z-of_z c.before.ranges.z) (z.0, z.1)
+overflow_cast-result-2 c = let z = above c in rw (to_z-of_z {w = w32} c.ranges.z) (z.0, z.1)
 
 pub returns : goal.returns
-returns c = ap nat_abs (to_z-of_z c.before.ranges.z) ∙ (above c).2
+returns c = ap nat_abs (to_z-of_z {w = w32} c.ranges.z) ∙ (above c).2

@@ -5,7 +5,7 @@ use borrow.Author.Rules.{rules}
 use Rattle.endian.proofs.byte_at.Goals as goal
 
 pub overflow_cast-result : goal.overflow_cast-result
-overflow_cast-result c = omega (arith, c.shared_slice_known-1.given c.before.args.p)
+overflow_cast-result c = omega (arith, c.shared_slice_known-1.given c.args.p)
 
 pub returns : goal.returns
-returns c = (refl, omega (arith, c.shared_slice_known-1.given c.before.args.p))
+returns c = (refl, omega (arith, c.shared_slice_known-1.given c.args.p))

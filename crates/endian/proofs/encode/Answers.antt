@@ -1,4 +1,5 @@
 -- `encode` meets its contract. The invariant: i numbers are written; the measure is what is left.
+use mir.Syntax.{w32}
 use Prim.Native.Nat.{ℕ, ◌+◌, ◌-◌, ◌≤◌}
 use native.Mathlib.Omega.{arith}
 use mathlib.Core.Path.{◌≡◌, sym, subst}
@@ -11,47 +12,40 @@ use Rattle.endian.proofs.encode.Goals as goal
 use Rattle.endian.proofs.encode.Goals.{At-loop-i}
 
 -- the output is as long as it was
-room : (c : At-loop-i) → length c.loop-i.out-1 ≡ length c.before.before.args.out-1.now
+room : (c : At-loop-i) → length c.loop-i.out ≡ length c.args.out.now
 room c =
-    let start = c.before.before in
-    encoded-length c.loop-i.invariant.1 (omega (arith, c.loop-i.invariant.0, start.requires.0)) (omega (arith, c.loop-i.invariant.0, start.requires.1))
+    encoded-length c.loop-i.invariant.1 (omega (arith, c.loop-i.invariant.0, c.requires.0)) (omega (arith, c.loop-i.invariant.0, c.requires.1))
 
 pub loop-i-init : goal.loop-i-init
 loop-i-init c = (omega arith, encoded-start _ _)
 
 pub overflow_mul-i : goal.overflow_mul-i
-overflow_mul-i c = omega (arith, c.before.loop-i-test.true, c.before.before.before.before.requires.1)
+overflow_mul-i c = omega (arith, c.loop-i-test.true, c.requires.1)
 
 pub offset_bounds-list-i : goal.offset_bounds-list-i
-offset_bounds-list-i c = omega (arith, c.before.loop-i-test.true, c.before.before.before.before.requires.1)
+offset_bounds-list-i c = omega (arith, c.loop-i-test.true, c.requires.1)
 
 pub bounds-list-i : goal.bounds-list-i
-bounds-list-i c = omega (arith, c.before.loop-i-test.true, c.before.before.before.before.requires.0)
+bounds-list-i c = omega (arith, c.loop-i-test.true, c.requires.0)
 
 pub put-requires : goal.put-requires
 put-requires c =
-    let in-loop = c.before.before in
-    omega (arith, in-loop.loop-i-test.true, in-loop.before.before.before.requires.1, room in-loop.before)
+    omega (arith, c.loop-i-test.true, c.requires.1, room c.before.before.before)
 
 pub overflow_add-i : goal.overflow_add-i
 overflow_add-i c =
-    let in-loop = c.before.before.before.before.before in
-    omega (arith, in-loop.loop-i-test.true, in-loop.before.before.before.requires.1)
+    omega (arith, c.loop-i-test.true, c.requires.1)
 
 pub loop-i-smaller : goal.loop-i-smaller
-loop-i-smaller c = omega (arith, c.before.before.before.before.before.loop-i-test.true)
+loop-i-smaller c = omega (arith, c.loop-i-test.true)
 
 pub loop-i-preserved : goal.loop-i-preserved
 loop-i-preserved c =
-    let at-put = c.before.before in
-    let in-loop = at-put.before.before.before in
-    let at-loop = in-loop.before in
-    let start = at-loop.before.before in
-    let more = in-loop.loop-i-test.true in (
+    let more = c.loop-i-test.true in (
       omega (arith, more),
-      subst (λ (o : List ℕ). Encoded start.args.out-1.now start.args.list.now (at-loop.loop-i.i + 1) o) (sym at-put.put.ensures)
-          (encoded-more at-loop.loop-i.invariant.1 (omega (arith, more, start.requires.0)) (omega (arith, more, start.requires.1))
-          (to_z-of_z (sfits_of at-put.before.put-arg-in-loop-i-1.given))),
+      subst (λ (o : List ℕ). Encoded c.args.out.now c.args.list.now (c.loop-i.i + 1) o) (sym c.put.ensures)
+          (encoded-more c.loop-i.invariant.1 (omega (arith, more, c.requires.0)) (omega (arith, more, c.requires.1))
+          (to_z-of_z {w = w32} (sfits_of c.put-arg-in-loop-i-1.given))),
     )
 
 pub shape_of-out : goal.shape_of-out
@@ -59,5 +53,4 @@ shape_of-out c = room c.before
 
 pub returns : goal.returns
 returns c =
-    let at-loop = c.before in
-    encoded-done at-loop.loop-i.invariant.1 (omega (arith, c.loop-i-test.false, at-loop.loop-i.invariant.0)) at-loop.before.before.requires.0
+    encoded-done c.loop-i.invariant.1 (omega (arith, c.loop-i-test.false, c.loop-i.invariant.0)) c.requires.0

@@ -10,10 +10,9 @@ use Rattle.endian.proofs.pair_at.Goals as goal
 pub returns : goal.returns
 unfolding pair_at
 returns c =
-    let start = c.before.before.before in
-    let low = c.before.byte_at.ensures in
+    let low = c.byte_at.ensures in
     let high = c.byte_at-2.ensures in
-    let next : start.args.p + 1 ≡ 1 + start.args.p = omega arith in (
-      ap₂ (λ (x y : ℕ). x + 256 * y) low.0 (high.0 ∙ ap (λ (i : ℕ). get_or start.args.bytes.now i 0) next),
+    let next : c.args.p + 1 ≡ 1 + c.args.p = omega arith in (
+      ap₂ (λ (x y : ℕ). x + 256 * y) low.0 (high.0 ∙ ap (λ (i : ℕ). get_or c.args.bytes.now i 0) next),
       omega (arith, low.1, high.1),
     )

@@ -17,10 +17,10 @@ abbrev old : After-bits-n → List ℕ
 old c = c.before.before.args.out.now
 
 abbrev one : After-bits-n → List ℕ
-one c = set (old c) c.before.before.args.p (c.bits-n.result % 256)
+one c = set (old c) c.before.before.args.p (c.bits.result % 256)
 
 abbrev two : After-bits-n → List ℕ
-two c = set (one c) (c.before.before.args.p + 1) (c.bits-n.result / 256 % 256)
+two c = set (one c) (c.before.before.args.p + 1) (c.bits.result / 256 % 256)
 
 same-1 : (c : After-bits-n) → length (one c) ≡ length (old c)
 same-1 c = length-set (old c) _ _
@@ -28,18 +28,18 @@ same-1 c = length-set (old c) _ _
 same-2 : (c : After-bits-n) → length (two c) ≡ length (old c)
 same-2 c = length-set (one c) _ _ ∙ same-1 c
 
-same-3 : (c : After-bits-n) → length (set (two c) (c.before.before.args.p + 2) (c.bits-n.result / 65536 % 256)) ≡ length (old c)
+same-3 : (c : After-bits-n) → length (set (two c) (c.args.p + 2) (c.bits-n.result / 65536 % 256)) ≡ length (old c)
 same-3 c = length-set (two c) _ _ ∙ same-2 c
 
 pub bounds-out-p-2 : goal.bounds-out-p-2
-bounds-out-p-2 c = omega (arith, c.before.before.requires, same-1 c)
+bounds-out-p-2 c = omega (arith, c.requires, same-1 c)
 
 pub bounds-out-p-3 : goal.bounds-out-p-3
-bounds-out-p-3 c = omega (arith, c.before.before.requires, same-2 c)
+bounds-out-p-3 c = omega (arith, c.requires, same-2 c)
 
 pub bounds-out-p-4 : goal.bounds-out-p-4
-bounds-out-p-4 c = omega (arith, c.before.before.requires, same-3 c)
+bounds-out-p-4 c = omega (arith, c.requires, same-3 c)
 
 pub returns : goal.returns
 returns c =
-    let fits = c.before.before.ranges.z in word-stored _ fits _ (c.bits-n.ensures ∙ ap (of_z w32) (to_z-of_z fits)) _ _
+    let fits = c.ranges.z in word-stored _ fits _ (c.bits-n.ensures ∙ ap (of_z w32) (to_z-of_z {w = w32} fits)) _ _

@@ -9,5 +9,5 @@ use Rattle.endian.proofs.signed.Goals as goal
 
 pub returns : goal.returns
 returns c =
-    let bits = c.before.args.bits in
-    let twice : 4294967295 - (4294967295 - bits) ≡ bits = omega (arith, c.before.ranges.bits) in ap (to_z w32) twice
+    let bits = c.args.bits in
+    let twice : 4294967295 - (4294967295 - bits) ≡ bits = omega (arith, c.ranges.bits) in ap (to_z w32) twice

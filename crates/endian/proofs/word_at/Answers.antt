@@ -12,8 +12,7 @@ use Rattle.endian.proofs.word_at.Goals as goal
 pub returns : goal.returns
 unfolding word_at
 returns c =
-    let start = c.before.before.before.before in
-    let next : start.args.p + 2 ≡ 2 + start.args.p = omega arith in
-    to_z-of_z (sfits_of c.signed.type-inv) ∙ c.signed.ensures
-    ∙ ap₂ (λ (x y : ℕ). to_z w32 (x + 65536 * y)) c.before.before.pair_at.ensures.0
-    (c.before.pair_at-2.ensures.0 ∙ ap (pair_at start.args.bytes.now) next)
+    let next : c.args.p + 2 ≡ 2 + c.args.p = omega arith in
+    to_z-of_z {w = w32} (sfits_of c.signed.type_inv) ∙ c.signed.ensures
+    ∙ ap₂ (λ (x y : ℕ). to_z w32 (x + 65536 * y)) c.pair_at.ensures.0
+    (c.pair_at-2.ensures.0 ∙ ap (pair_at c.args.bytes.now) next)

@@ -25,65 +25,57 @@ told : (N O : List Point) {t : Bool} → inside N O ≡ t
 told N O e = ap (λ (t : Bool). cond t (pos 0 ∷ []) (corner_numbers N O (outermost N O) (nearest (corner N (outermost N O) ∷ []) O))) (sym e)
 
 pub returns-then-inside : goal.returns-then-inside
-returns-then-inside c = told _ _ (sym c.before.inside.ensures ∙ c.if-inside.true)
+returns-then-inside c = told _ _ (sym c.inside.ensures ∙ c.if-inside.true)
 
 pub corner_at-requires : goal.corner_at-requires
 corner_at-requires c =
-    let pre = c.before.before.before.requires in
+    let pre = c.requires in
     rw c.outermost-corner.ensures (outermost-among _ _ pre.0.shape.some pre.1.shape)
 
 -- past the first test the outermost corner is at hand, and it is apart from the old shape
-place : (c : After-corner_at) → let args = c.before.before.before.before.args in
+place : (c : After-corner_at) → let args = c.args in
     let N = points args.new.now in
     at c.corner_at.result ≡ corner N (outermost N (points args.old.now))
 place c = c.corner_at.ensures
-    ∙ ap (corner (points c.before.before.before.before.args.new.now)) c.before.outermost-corner.ensures
+    ∙ ap (corner (points c.args.new.now)) c.outermost-corner.ensures
 
-clear : (c : After-corner_at) → let args = c.before.before.before.before.args in
+clear : (c : After-corner_at) → let args = c.args in
     let N = points args.new.now in
     let O = points args.old.now in
     apart (corner N (outermost N O) ∷ []) O ≡ true
 clear c =
-    let at-else = c.before.before in
-    let pre = at-else.before.before.requires in
-    outermost-apart _ _ pre.0.shape.some pre.1.shape (sym at-else.before.inside.ensures ∙ at-else.if-inside.false)
+    let pre = c.requires in
+    outermost-apart _ _ pre.0.shape.some pre.1.shape (sym c.inside.ensures ∙ c.if-inside.false)
 
 pub spacing-requires : goal.spacing-requires
 spacing-requires c =
-    let start = c.before.before.before.before in (
-      corner-valid _ start.requires.0 _ (outermost-among _ _ start.requires.0.shape.some start.requires.1.shape) (place c),
-      start.requires.1,
+    (
+      corner-valid _ c.requires.0 _ (outermost-among _ _ c.requires.0.shape.some c.requires.1.shape) (place c),
+      c.requires.1,
     )
 
 -- what is known of its spacing, where it is told
-known : (c : After-spacing) {s : Spacing} → c.spacing.result ≡ s → let args = c.before.before.before.before.before.args in
+known : (c : After-spacing) {s : Spacing} → c.spacing.result ≡ s → let args = c.args in
     let N = points args.new.now in
     let O = points args.old.now in
     Spaced (corner N (outermost N O) ∷ []) O s
-known c {s} e = let O = points c.before.before.before.before.before.args.old.now in
+known c {s} e = let O = points c.args.old.now in
     subst (λ (p : Point). Spaced (p ∷ []) O s) (place c.before)
-    (subst (Spaced (at c.before.corner_at.result ∷ []) O) e c.spacing.ensures)
+    (subst (Spaced (at c.corner_at.result ∷ []) O) e c.spacing.ensures)
 
 pub rounded-requires : goal.rounded-requires
 rounded-requires c =
-    let at-found = c.before in
-    let at-spacing = at-found.before.before in
-    let start = at-spacing.before.before.before.before.before in
-    found-rounded (point-found _ _ start.requires.1.shape (clear at-spacing.before)
-    at-found.in-Apart.found (known at-spacing at-found.in-Apart.is).1)
+    found-rounded (point-found _ _ c.requires.1.shape (clear (goal.at.rounded-requires c).After-corner_at)
+    c.in-Apart.found (known (goal.at.rounded-requires c).After-spacing c.in-Apart.is).1)
 
 pub returns-in-Meets : goal.returns-in-Meets
 returns-in-Meets c =
-    let at-spacing = c.before.before in
-    absurd (true≢false (sym (clear at-spacing.before) ∙ known at-spacing c.in-Meets.is))
+    absurd (true≢false (sym (clear (goal.at.returns-in-Meets c).After-corner_at) ∙ known (goal.at.returns-in-Meets c).After-spacing c.in-Meets.is))
 
 pub returns-in-Apart : goal.returns-in-Apart
 returns-in-Apart c =
-    let at-found = c.before.before in
-    let at-spacing = at-found.before.before in
-    let at-else = at-spacing.before.before.before in
-    c.rounded.ensures ∙ ap (λ (k : ℕ). up_numbers k at-found.in-Apart.found) at-spacing.before.before.outermost-corner.ensures
-    ∙ found_up (points at-else.before.before.args.new.now) _ at-else.before.before.requires.1.shape
-    (clear at-spacing.before) at-found.in-Apart.found
-    (known at-spacing at-found.in-Apart.is).1
-    ∙ told _ _ (sym at-else.before.inside.ensures ∙ at-else.if-inside.false)
+    c.rounded.ensures ∙ ap (λ (k : ℕ). up_numbers k c.in-Apart.found) c.outermost-corner.ensures
+    ∙ found_up (points c.args.new.now) _ c.requires.1.shape
+    (clear c.before.before.before.before.before) c.in-Apart.found
+    (known c.before.before.before.before c.in-Apart.is).1
+    ∙ told _ _ (sym c.inside.ensures ∙ c.if-inside.false)

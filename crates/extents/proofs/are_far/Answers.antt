@@ -15,20 +15,20 @@ use Rattle.extents.proofs.are_far.Goals as goal
 use Rattle.extents.proofs.are_far.Goals.{After-gap-apart}
 
 -- the gap that the code found
-gap_is : (c : After-gap-apart) → let args = c.before.before.args in to_z w64 (of_z w64 c.gap-apart.result) ≡ gap_of args.e args.f
+gap_is : (c : After-gap-apart) → let args = c.args in to_z w64 (of_z w64 c.gap-apart.result) ≡ gap_of args.e args.f
 gap_is c =
-    let args = c.before.before.args in
-    result-is w64 c.gap-apart.type-inv (c.gap-apart.ensures ∙ ap (λ z. past z (at args.e.low ⊕ at args.f.high))
-    (result-is w64 c.before.gap-ahead.type-inv c.before.gap-ahead.ensures))
+    let args = c.args in
+    result-is w64 c.gap-apart.type_inv (c.gap-apart.ensures ∙ ap (λ z. past z (at args.e.low ⊕ at args.f.high))
+    (result-is w64 c.gap-ahead.type_inv c.gap-ahead.ensures))
 
 pub magnitude-requires : goal.magnitude-requires
 magnitude-requires c =
-    let args = c.before.before.args in
+    let args = c.args in
     subst (λ z. pos 0 ≤ℤ z) (sym (gap_is c)) (gap-nonneg args.e args.f)
 
 pub returns : goal.returns
-returns c =
-    let args = c.before.before.before.before.args in
-    at-most-far A B s t c.before.magnitude.result args.turn args.squared
-    (ltb-false _ _ (sym c.fraction_less.ensures ∙ not-true _ c.lifetimes))
-    (subst (AtMost A B) (sym (gap_is c.before.before) ∙ c.before.magnitude.ensures) (gap-at-most A B s t x))
+returns c k A B s t x =
+    let args = c.args in
+    at-most-far A B s t c.magnitude.result args.turn args.squared
+    (ltb-false _ _ (sym c.fraction_less.ensures ∙ not-true _ k))
+    (subst (AtMost A B) (sym (gap_is c.before.before) ∙ c.magnitude.ensures) (gap-at-most A B s t x))

@@ -14,8 +14,8 @@ module _ (c : After-extent_of-f) where
   abbrev start : Start
   start = c.before.before
 
-  first_small : Small (2 ^ 21) (at c.before.extent_of-e.result.high) × Small (2 ^ 21) (at c.before.extent_of-e.result.low)
-  first_small = extends-small _ start.pre.0.in_range start.pre.0.shape.some c.before.extent_of-e.ensures
+  first_small : Small (2 ^ 21) (at c.extent_of-e.result.high) × Small (2 ^ 21) (at c.extent_of-e.result.low)
+  first_small = extends-small _ start.pre.0.in_range start.pre.0.shape.some c.extent_of-e.ensures
 
   second-small : Small (2 ^ 21) (at c.extent_of-f.result.high) × Small (2 ^ 21) (at c.extent_of-f.result.low)
   second-small = extends-small _ start.pre.1.in_range start.pre.1.shape.some c.extent_of-f.ensures
@@ -32,15 +32,14 @@ sum-requires-2 c = ((first_small c.before).1, (second-small c.before).1)
 
 pub returns : goal.returns
 returns c =
-    let at-extents = c.before.before in
-    let one = at-extents.before.extent_of-e.ensures in
-    let other = at-extents.extent_of-f.ensures in (
+    let one = c.extent_of-e.ensures in
+    let other = c.extent_of-f.ensures in (
       record {
-        high_is = c.before.sum.ensures ∙ ap₂ ◌⊕◌ one.high_is other.high_is;
+        high_is = c.sum.ensures ∙ ap₂ ◌⊕◌ one.high_is other.high_is;
         low-is = c.sum-2.ensures ∙ ap₂ ◌⊕◌ one.low-is other.low-is;
       },
       record {
-        high = sum-small c.before.sum.ensures (first_small at-extents).0 (second-small at-extents).0;
-        low = sum-small c.sum-2.ensures (first_small at-extents).1 (second-small at-extents).1;
+        high = sum-small c.sum.ensures (first_small c.before.before).0 (second-small c.before.before).0;
+        low = sum-small c.sum-2.ensures (first_small c.before.before).1 (second-small c.before.before).1;
       },
     )

@@ -19,31 +19,27 @@ full = refl
 
 pub narrowest-requires : goal.narrowest-requires
 narrowest-requires c =
-    let pre = c.before.before.before.before.requires in
+    let pre = c.requires in
     (walk_start _ _ _ pre.0 pre.2, pre.1, full, full, full)
 
 pub returns-in_default : goal.returns-in_default
 returns-in_default c =
-    let at-search = c.before.before.before.before.before in
-    answer-nothing _ _ _ at-search.narrowest.result at-search.narrowest.ensures c.in_default.is
+    answer-nothing _ _ _ c.narrowest.result c.narrowest.ensures c.in_default.is
 
 -- the pair that was found
-found : (c : In-Pair-2) → let args = c.before.before.before.before.before.before.before.before.before.before.args in
+found : (c : In-Pair-2) → let args = c.args in
     let told = c.first-1.given.0 in
     Found (points args.cart.now) args.log.now told.0 told.1.0 told.1.1.0
 found c =
-    let at-search = c.before.before.before.before.before in
-    answer-found _ _ _ at-search.narrowest.result at-search.narrowest.ensures _ _ _ c.in-Pair.is
+    answer-found _ _ _ c.narrowest.result c.narrowest.ensures _ _ _ c.in-Pair.is
 
 pub head_at-requires : goal.head_at-requires
-head_at-requires c = (found c.before).first-sound
+head_at-requires c = (found (goal.at.head_at-requires c).In-Pair-2).first-sound
 
 pub head_at-requires-2 : goal.head_at-requires-2
-head_at-requires-2 c = (found c.before.before).second-sound
+head_at-requires-2 c = (found (goal.at.head_at-requires-2 c).In-Pair-2).second-sound
 
 pub returns : goal.returns
 returns c =
-    let at_first = c.before.before.before in
-    let at-search = at_first.before.before.before.before.before in
-    answer-numbers _ _ _ at-search.narrowest.result at-search.narrowest.ensures _ _ _ at_first.in-Pair.is
-    c.before.head_at.ensures c.head_at-2.ensures
+    answer-numbers _ _ _ c.narrowest.result c.narrowest.ensures _ _ _ c.in-Pair.is
+    c.head_at.ensures c.head_at-2.ensures

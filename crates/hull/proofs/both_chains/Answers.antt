@@ -19,28 +19,27 @@ use Rattle.hull.proofs.both_chains.Goals as goal
 use Rattle.hull.proofs.both_chains.Goals.{After-right_chain-right}
 
 -- the right-hand chain leaves room for the left-hand one, and what is counted fits
-room : (c : After-right_chain-right) → let args = c.before.before.args in
+room : (c : After-right_chain-right) → let args = c.args in
     c.right_chain-right.result + suc (length (left_rows (points args.a.now) args.i (points args.b.now) args.j
     (at args.bottom) (at args.top)))
-    ≤ length (points c.right_chain-right.new.1.1.1.1.1.1.0)
+    ≤ length (points c.right_chain-right.new.buf)
 room c =
-    let start = c.before.before in
     omega (
       arith,
-      rows_few start.requires.0.shape start.requires.1.shape start.requires.2,
-      start.requires.3,
+      rows_few c.requires.0.shape c.requires.1.shape c.requires.2,
+      c.requires.3,
       c.right_chain-right.ensures.few,
       c.right_chain-right.ensures.same,
-      points-length start.args.buf-1.now,
-      points-length c.right_chain-right.new.1.1.1.1.1.1.0,
+      points-length c.args.buf.now,
+      points-length c.right_chain-right.new.buf,
     )
 
-few : (c : After-right_chain-right) → let args = c.before.before.args in
+few : (c : After-right_chain-right) → let args = c.args in
     c.right_chain-right.result + suc (length (left_rows (points args.a.now) args.i (points args.b.now) args.j
     (at args.bottom) (at args.top)))
     ≤ 2 ^ 17
 few c =
-    let pre = c.before.before.requires in
+    let pre = c.requires in
     omega (
       arith,
       rows_few pre.0.shape pre.1.shape pre.2,
@@ -52,7 +51,7 @@ few c =
 
 pub right_chain-right-requires : goal.right_chain-right-requires
 right_chain-right-requires c =
-    let pre = c.before.requires in
+    let pre = c.requires in
     (pre.0, pre.1, pre.2, omega (arith, rows_few pre.0.shape pre.1.shape pre.2, pre.3))
 
 pub overflow_mul-start : goal.overflow_mul-start
@@ -62,7 +61,7 @@ pub offset_bounds-buf-start : goal.offset_bounds-buf-start
 offset_bounds-buf-start c = omega (arith, few c.before)
 
 pub slice_bounds-left_chain-count : goal.slice_bounds-left_chain-count
-slice_bounds-left_chain-count c = omega (arith, room c.before, points-length c.before.right_chain-right.new.1.1.1.1.1.1.0)
+slice_bounds-left_chain-count c = omega (arith, room c.before, points-length c.right_chain-right.new.buf)
 
 pub slice_bounds-left_chain-start : goal.slice_bounds-left_chain-start
 slice_bounds-left_chain-start c = slice_bounds-left_chain-count c
@@ -72,16 +71,15 @@ slice_bounds-left_chain-end c = omega arith
 
 pub left_chain-left-requires : goal.left_chain-left-requires
 left_chain-left-requires c =
-    let at_right = c.before.before in
-    let pre = at_right.before.before.requires in
-    let xs = at_right.right_chain-right.new.1.1.1.1.1.1.0 in
-    let start = 2 * at_right.right_chain-right.result in (
+    let pre = c.requires in
+    let xs = c.right_chain-right.new.buf in
+    let start = 2 * c.right_chain-right.result in (
       pre.0,
       pre.1,
       pre.2,
       omega (
         arith,
-        room at_right,
+        room c.before.before,
         points-length xs,
         points-length (take (length xs - start) (drop start xs)),
         length-take-le (length xs - start) (drop start xs) (omega (arith, length-drop start xs)),
@@ -89,21 +87,19 @@ left_chain-left-requires c =
     )
 
 pub overflow_add-result : goal.overflow_add-result
-overflow_add-result c = omega (arith, c.before.left_chain-left.ensures.few, few c.before.before.before.before)
+overflow_add-result c = omega (arith, c.left_chain-left.ensures.few, few c.before.before.before.before)
 
 pub returns : goal.returns
 returns c =
-    let at_left = c.before in
-    let at_right = at_left.before.before.before in
-    let pre = at_right.before.before.requires in
-    let xs = at_right.right_chain-right.new.1.1.1.1.1.1.0 in
-    let ys = at_left.left_chain-left.new.1.1.1.1.1.1.0 in
-    let m = at_right.right_chain-right.result in
-    let n = at_left.left_chain-left.result in
-    let down = at_left.left_chain-left.ensures in
+    let pre = c.requires in
+    let xs = c.right_chain-right.new.buf in
+    let ys = c.left_chain-left.new.buf in
+    let m = c.right_chain-right.result in
+    let n = c.left_chain-left.result in
+    let down = c.left_chain-left.ensures in
     let part = length-take-le (length xs - 2 * m) (drop (2 * m) xs) (omega (arith, length-drop (2 * m) xs)) in
-    let right-in : m ≤ length (points xs) = omega (arith, room at_right) in
-    let left_in : n ≤ length (points ys) = omega (arith, room at_right, down.few, down.same, part, points-length xs, points-length ys) in
+    let right-in : m ≤ length (points xs) = omega (arith, room c.before.before.before.before) in
+    let left_in : n ≤ length (points ys) = omega (arith, room c.before.before.before.before, down.few, down.same, part, points-length xs, points-length ys) in
     subst (λ (ps : List Point). Front ps (m + n) (put_mid (2 * m) (length xs - 2 * m) xs ys))
-    (chains-shape pre.0.shape pre.1.shape pre.2 at_right.right_chain-right.ensures down right-in left_in)
+    (chains-shape pre.0.shape pre.1.shape pre.2 c.right_chain-right.ensures down right-in left_in)
     (front-put xs ys m n (length xs - 2 * m) right-in left_in)

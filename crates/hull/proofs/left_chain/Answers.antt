@@ -17,41 +17,41 @@ use Rattle.hull.proofs.left_chain.Goals as goal
 use Rattle.hull.proofs.left_chain.Goals.{After-trimmed-other, After-trimmed-row}
 
 -- the ends of the rows, by the definition of where the chains end
-first-end : (c : After-trimmed-row) → let args = c.before.before.args in
+first-end : (c : After-trimmed-row) → let args = c.args in
     let A = points args.a.now in
     c.trimmed-row.result.end ≡ row_end (closed A) (home A args.i) (at args.top) (at args.bottom)
 first-end c =
-    let args = c.before.before.args in
+    let args = c.args in
     c.trimmed-row.ensures.1
-    ∙ ap (λ (k : ℕ). row_end (closed (points args.a.now)) k (at args.top) (at args.bottom)) c.before.home.ensures
+    ∙ ap (λ (k : ℕ). row_end (closed (points args.a.now)) k (at args.top) (at args.bottom)) c.home.ensures
 
-second-end : (c : After-trimmed-other) → let args = c.before.before.before.before.args in
+second-end : (c : After-trimmed-other) → let args = c.args in
     let B = points args.b.now in
     c.trimmed-other.result.end ≡ row_end (closed B) (home B args.j) (at args.top) (at args.bottom)
 second-end c =
-    let args = c.before.before.before.before.args in
+    let args = c.args in
     c.trimmed-other.ensures.1
-    ∙ ap (λ (k : ℕ). row_end (closed (points args.b.now)) k (at args.top) (at args.bottom)) c.before.home-2.ensures
+    ∙ ap (λ (k : ℕ). row_end (closed (points args.b.now)) k (at args.top) (at args.bottom)) c.home-2.ensures
 
 -- the rows, by their definition
-rows : (c : After-trimmed-other) → let args = c.before.before.before.before.args in
-    let row = c.before.before.trimmed-row.result in
+rows : (c : After-trimmed-other) → let args = c.args in
+    let row = c.trimmed-row.result in
     let other = c.trimmed-other.result in
     left_over (closed (points args.a.now)) row.first row.end (closed (points args.b.now)) other.first other.end
     ≡ left_rows (points args.a.now) args.i (points args.b.now) args.j (at args.bottom) (at args.top)
 rows c =
-    let args = c.before.before.before.before.args in
+    let args = c.args in
     let A = points args.a.now in
     let B = points args.b.now in
     rows_as A args.i (home A args.i) B args.j (home B args.j) (at args.top) (at args.bottom)
-    c.before.before.trimmed-row.ensures.0 (first-end c.before.before) c.trimmed-other.ensures.0 (second-end c)
+    c.trimmed-row.ensures.0 (first-end c.before.before) c.trimmed-other.ensures.0 (second-end c)
 
 pub home-requires : goal.home-requires
 home-requires c = tt
 
 pub trimmed-row-requires : goal.trimmed-row-requires
 trimmed-row-requires c =
-    let pre = c.before.requires in
+    let pre = c.requires in
     let chain = (first-left pre.0.shape pre.1.shape pre.2).chain in
     let small = spread-small pre.0 pre.1 pre.2 in (
       omega (arith, c.home.ensures, chain.order),
@@ -66,7 +66,7 @@ home-requires-2 c = tt
 
 pub trimmed-other-requires : goal.trimmed-other-requires
 trimmed-other-requires c =
-    let pre = c.before.before.before.requires in
+    let pre = c.requires in
     let chain = (second-left pre.0.shape pre.1.shape pre.2).chain in
     let small = spread-small pre.0 pre.1 pre.2 in (
       omega (arith, c.home-2.ensures, chain.order),
@@ -78,28 +78,24 @@ trimmed-other-requires c =
 
 pub chain-requires : goal.chain-requires
 chain-requires c =
-    let at_rows = c.before in
-    let at_row = at_rows.before.before in
-    let start = at_row.before.before in
-    let pre = start.requires in
+    let pre = c.requires in
     let A = pre.0.shape in
     let B = pre.1.shape in
-    let row = at_row.trimmed-row in
-    let other = at_rows.trimmed-other in
+    let row = c.trimmed-row in
+    let other = c.trimmed-other in
     let small = spread-small pre.0 pre.1 pre.2 in
-    let count = left_over-length (closed (points start.args.a.now)) row.result.first row.result.end
-    (closed (points start.args.b.now)) other.result.first other.result.end in (
-      row-rising pre.0 (first-left A B pre.2) row.ensures.0 (first-end at_row),
-      row-rising pre.1 (second-left A B pre.2) other.ensures.0 (second-end at_rows),
-      omega (arith, count, ap (λ (l : List Point). length l) (rows at_rows), pre.3),
+    let count = left_over-length (closed (points c.args.a.now)) row.result.first row.result.end
+    (closed (points c.args.b.now)) other.result.first other.result.end in (
+      row-rising pre.0 (first-left A B pre.2) row.ensures.0 (first-end c.before.before.before),
+      row-rising pre.1 (second-left A B pre.2) other.ensures.0 (second-end c.before),
+      omega (arith, count, ap (λ (l : List Point). length l) (rows c.before), pre.3),
       small.1,
       small.0,
     )
 
 pub returns : goal.returns
 returns c =
-    let at_rows = c.before.before.before in
-    let args = at_rows.before.before.before.before.args in
-    let after = c.before.chain.new.1.1.1.1.1.1.1.0 in
-    subst (λ (S : List Point). Chained false S (at args.top) (at args.bottom) args.buf-1.now after c.before.chain.result)
-    (rows at_rows) c.before.chain.ensures
+    let args = c.args in
+    let after = c.chain.new.buf in
+    subst (λ (S : List Point). Chained false S (at args.top) (at args.bottom) args.buf.now after c.chain.result)
+    (rows c.before.before.before) c.chain.ensures

@@ -16,15 +16,15 @@ use Rattle.hull.proofs.right_chain.Goals as goal
 use Rattle.hull.proofs.right_chain.Goals.{After-trimmed-other}
 
 -- the rows, by their definition
-rows : (c : After-trimmed-other) → let args = c.before.before.args in
-    let row = c.before.trimmed-row.result in
+rows : (c : After-trimmed-other) → let args = c.args in
+    let row = c.trimmed-row.result in
     let other = c.trimmed-other.result in
     left_over (closed (points args.a.now)) row.first row.end (closed (points args.b.now)) other.first other.end
     ≡ right_rows (points args.a.now) args.i (points args.b.now) args.j (at args.bottom) (at args.top)
 rows c =
-    let args = c.before.before.args in
+    let args = c.args in
     rows_as (points args.a.now) 0 args.i (points args.b.now) 0 args.j (at args.bottom) (at args.top)
-    c.before.trimmed-row.ensures.0 c.before.trimmed-row.ensures.1 c.trimmed-other.ensures.0 c.trimmed-other.ensures.1
+    c.trimmed-row.ensures.0 c.trimmed-row.ensures.1 c.trimmed-other.ensures.0 c.trimmed-other.ensures.1
 
 pub trimmed-row-requires : goal.trimmed-row-requires
 trimmed-row-requires c =
@@ -34,34 +34,31 @@ trimmed-row-requires c =
 
 pub trimmed-other-requires : goal.trimmed-other-requires
 trimmed-other-requires c =
-    let pre = c.before.requires in
+    let pre = c.requires in
     let peak = pre.2.second-peak in
     let small = spread-small pre.0 pre.1 pre.2 in
     (omega arith, omega (arith, peak.within), row_line pre.1 (omega (arith, peak.within)), small.0, small.1)
 
 pub chain-requires : goal.chain-requires
 chain-requires c =
-    let at_rows = c.before in
-    let start = at_rows.before.before in
-    let pre = start.requires in
+    let pre = c.requires in
     let A = pre.0.shape in
     let B = pre.1.shape in
-    let row = at_rows.before.trimmed-row in
-    let other = at_rows.trimmed-other in
+    let row = c.trimmed-row in
+    let other = c.trimmed-other in
     let small = spread-small pre.0 pre.1 pre.2 in
-    let count = left_over-length (closed (points start.args.a.now)) row.result.first row.result.end
-    (closed (points start.args.b.now)) other.result.first other.result.end in (
+    let count = left_over-length (closed (points c.args.a.now)) row.result.first row.result.end
+    (closed (points c.args.b.now)) other.result.first other.result.end in (
       row-rising pre.0 (first-right A B pre.2) row.ensures.0 row.ensures.1,
       row-rising pre.1 (second-right A B pre.2) other.ensures.0 other.ensures.1,
-      omega (arith, count, ap (λ (l : List Point). length l) (rows at_rows), pre.3),
+      omega (arith, count, ap (λ (l : List Point). length l) (rows c.before), pre.3),
       small.0,
       small.1,
     )
 
 pub returns : goal.returns
 returns c =
-    let at_rows = c.before.before.before in
-    let args = at_rows.before.before.args in
-    let after = c.before.chain.new.1.1.1.1.1.1.1.0 in
-    subst (λ (S : List Point). Chained true S (at args.bottom) (at args.top) args.buf-1.now after c.before.chain.result)
-    (rows at_rows) c.before.chain.ensures
+    let args = c.args in
+    let after = c.chain.new.buf in
+    subst (λ (S : List Point). Chained true S (at args.bottom) (at args.top) args.buf.now after c.chain.result)
+    (rows c.before.before.before) c.chain.ensures

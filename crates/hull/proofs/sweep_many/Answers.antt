@@ -19,54 +19,45 @@ use Rattle.hull.proofs.sweep_many.Goals as goal
 use Rattle.hull.proofs.sweep_many.Goals.{After-insert_all-n, After-presort}
 
 pub reduce-m-requires : goal.reduce-m-requires
-reduce-m-requires c = let start = c.before in (start.requires.0.some, start.requires.0.in_range, omega (arith, start.requires.1))
+reduce-m-requires c = (c.requires.0.some, c.requires.0.in_range, omega (arith, c.requires.1))
 
 pub presort-requires : goal.presort-requires
 unfolding max_points
 presort-requires c =
-    let at-reduce = c.before.before.before in
-    let start = at-reduce.before.before in
-    let r = at-reduce.reduce-m.ensures in (
+    let r = c.reduce-m.ensures in (
       r.within,
-      omega (arith, r.few, start.requires.0.few),
-      omega (arith, r.few, start.requires.0.few),
-      part_small start.args.list.now start.requires.0.in_range r.within r.part,
+      omega (arith, r.few, c.requires.0.few),
+      omega (arith, r.few, c.requires.0.few),
+      part_small c.args.list.now c.requires.0.in_range r.within r.part,
     )
 
 -- the points that stay, near their order
-kept : (c : After-presort) → let at-reduce = c.before.before.before.before in
-    Reduced (points at-reduce.before.before.args.list.now) c.presort.new.0 at-reduce.reduce-m.result
-kept c = reduced-rearranged c.before.before.before.before.reduce-m.ensures c.presort.ensures
+kept : (c : After-presort) →
+    Reduced (points c.args.list.now) c.presort.new.buf c.reduce-m.result
+kept c = reduced-rearranged c.reduce-m.ensures c.presort.ensures
 
 pub insert_all-n-requires : goal.insert_all-n-requires
 unfolding max_points
 insert_all-n-requires c =
-    let at-presort = c.before.before.before.before in
-    let start = at-presort.before.before.before.before.before.before in
-    let r = kept at-presort in (
+    let r = kept c.before.before.before.before in (
       r.within,
-      omega (arith, r.few, start.requires.0.few, at-presort.presort.auto.1.1.0, points-length at-presort.presort.new.1.1.0),
-      part_small start.args.list.now start.requires.0.in_range r.within r.part,
+      omega (arith, r.few, c.requires.0.few, c.presort.auto.1.1.0, points-length c.presort.new.1.1.0),
+      part_small c.args.list.now c.requires.0.in_range r.within r.part,
     )
 
 -- they are sorted
-sorted : (c : After-insert_all-n) → let at-presort = c.before.before.before.before.before in
-    let m = at-presort.before.before.before.before.reduce-m.result in
-    Holds c.insert_all-n.new.1.1.0 c.insert_all-n.result (ascending (take m (points at-presort.presort.new.0)))
+sorted : (c : After-insert_all-n) →
+    let m = c.reduce-m.result in
+    Holds c.insert_all-n.new.buf c.insert_all-n.result (ascending (take m (points c.presort.new.0)))
 sorted c =
-    let at-presort = c.before.before.before.before.before in
-    held-front (points at-presort.presort.new.0) (kept at-presort).within c.insert_all-n.ensures
+    held-front (points c.presort.new.0) (kept c.before.before.before.before.before).within c.insert_all-n.ensures
 
 pub outline-requires : goal.outline-requires
 outline-requires c =
-    let at-sort = c.before.before.before in
-    let at-presort = at-sort.before.before.before.before.before in
-    let at-reduce = at-presort.before.before.before.before in
-    let start = at-reduce.before.before in
-    let m = at-reduce.reduce-m.result in
-    let ps = points at-presort.presort.new.0 in
-    let r = kept at-presort in
-    let h = sorted at-sort in (
+    let m = c.reduce-m.result in
+    let ps = points c.presort.new.0 in
+    let r = kept c.before.before.before.before.before.before.before.before in
+    let h = sorted c.before.before.before in (
       held-some (take m ps) h (omega (arith, r.some, length-take-le m ps r.within)),
       h.within,
       omega (
@@ -75,19 +66,17 @@ outline-requires c =
         ascending-length (take m ps),
         length-take-le m ps r.within,
         r.few,
-        start.requires.1,
-        at-presort.presort.auto.0,
-        at-reduce.reduce-m.auto.1.0,
-        points-length start.args.buf-1.now,
-        points-length at-presort.presort.new.0,
+        c.requires.1,
+        c.presort.auto.0,
+        c.reduce-m.auto.1.0,
+        points-length c.args.buf.now,
+        points-length c.presort.new.0,
       ),
-      part_small start.args.list.now start.requires.0.in_range h.within (λ p n. r.part p (held-part (take m ps) h p n)),
+      part_small c.args.list.now c.requires.0.in_range h.within (λ p n. r.part p (held-part (take m ps) h p n)),
     )
 
 pub returns : goal.returns
 unfolding shape_of
 returns c =
-    let at-sort = c.before.before.before.before.before in
-    let at-presort = at-sort.before.before.before.before.before in
-    subst (λ (ps : List Point). Front ps c.before.outline.result c.before.outline.new.1.1.0)
-    (ap outline (sorted at-sort).front ∙ (kept at-presort).shape) c.before.outline.ensures
+    subst (λ (ps : List Point). Front ps c.outline.result c.outline.new.buf)
+    (ap outline (sorted c.before.before.before.before.before).front ∙ (kept c.before.before.before.before.before.before.before.before.before.before).shape) c.outline.ensures

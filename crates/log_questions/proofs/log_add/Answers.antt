@@ -8,20 +8,18 @@ use Rattle.log_questions.proofs.log_add.Goals as goal
 use Rattle.log_questions.proofs.log_add.Goals.{In_default}
 
 -- past the judging the list is a shape
-valid : (c : In_default) → Valid c.before.before.before.before.args.list.now
-valid c = c.before.before.admit.ensures.valid c.in_default.is
+valid : (c : In_default) → Valid c.args.list.now
+valid c = c.admit.ensures.valid c.in_default.is
 
 pub returns-in-No : goal.returns-in-No
-returns-in-No c = add-refused _ _ _ _ _ (c.before.before.before.admit.ensures.no _ c.before.in-No.is)
+returns-in-No c = add-refused _ _ _ _ _ (c.admit.ensures.no _ c.in-No.is)
 
 pub add_after-requires : goal.add_after-requires
 add_after-requires c =
-    let at-end = c.before.before in
-    let told = surveyed-ends _ _ (sym at-end.before.before.survey.ensures ∙ at-end.in-Ends.is) in
-    (valid at-end.before.before.before.before, told.0, told.1)
+    let told = surveyed-ends _ _ (sym c.survey.ensures ∙ c.in-Ends.is) in
+    (valid (goal.at.add_after-requires c).In_default-1, told.0, told.1)
 
 pub returns-in-Bad : goal.returns-in-Bad
 returns-in-Bad c =
-    let at_place = c.before in
-    add-damaged _ _ _ _ _ (valid at_place.before.before.before.before) _
-    (sym at_place.before.before.survey.ensures ∙ at_place.in-Bad.is)
+    add-damaged _ _ _ _ _ (valid (goal.at.returns-in-Bad c).In_default-1) _
+    (sym c.survey.ensures ∙ c.in-Bad.is)

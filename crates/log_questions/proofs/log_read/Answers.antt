@@ -12,36 +12,33 @@ use Rattle.log_questions.proofs.log_read.Goals as goal
 use Rattle.log_questions.proofs.log_read.Goals.{In-At-2, In_default}
 
 -- past the survey no record is bad
-sound : (c : In_default) → damaged (records c.before.before.before.before.args.log.now) ≡ false
-sound c = (surveyed-ends _ c.in_default.field-0 (sym c.before.before.survey.ensures ∙ c.in_default.is)).0
+sound : (c : In_default) → damaged (records c.args.log.now) ≡ false
+sound c = (surveyed-ends _ c.in_default.field-0 (sym c.survey.ensures ∙ c.in_default.is)).0
 
 -- past the search, the place, the count of numbers and the floor are those of the latest record
-found : (c : In-At-2) → let start = c.before.before.before.before.before.before.before in
-    LatestAt start.args.name start.args.log.now c.in-At.place c.in-At.count c.in-At.floor
-found c = subst (Latest _ _) c.in-At.is c.before.before.latest.ensures
+found : (c : In-At-2) →
+    LatestAt c.args.name c.args.log.now c.in-At.place c.in-At.count c.in-At.floor
+found c = subst (Latest _ _) c.in-At.is c.latest.ensures
 
 pub returns-in-Bad : goal.returns-in-Bad
-returns-in-Bad c = read-damaged _ _ _ _ (sym c.before.before.before.survey.ensures ∙ c.before.in-Bad.is)
+returns-in-Bad c = read-damaged _ _ _ _ (sym c.survey.ensures ∙ c.in-Bad.is)
 
 pub latest-requires : goal.latest-requires
 latest-requires c = sound c
 
 pub returns-in_default-latest : goal.returns-in_default-latest
 returns-in_default-latest c =
-    read-missing _ _ _ (sound c.before.before.before)
-    (subst (Latest _ _) c.in_default-latest.is c.before.before.latest.ensures)
+    read-missing _ _ _ (sound (goal.at.returns-in_default-latest c).In_default)
+    (subst (Latest _ _) c.in_default-latest.is c.latest.ensures)
 
 pub returns-then-out-count : goal.returns-then-out-count
 returns-then-out-count c =
-    let at-found = c.before.before in
-    read-room _ _ _ (sound at-found.before.before.before) _ _ _ (found at-found) c.if-out-count.true
+    read-room _ _ _ (sound (goal.at.returns-then-out-count c).In_default) _ _ _ (found (goal.at.returns-then-out-count c).In-At-2) c.if-out-count.true
 
 pub decode-requires : goal.decode-requires
-decode-requires c = ((found c.before.before.before).inside, omega (arith, c.before.if-out-count.false))
+decode-requires c = ((found (goal.at.decode-requires c).In-At-2).inside, omega (arith, c.if-out-count.false))
 
 pub returns : goal.returns
 returns c =
-    let at_room = c.before.before.before in
-    let at-found = at_room.before.before in
-    read_found _ _ _ (sound at-found.before.before.before) _ _ _ (found at-found) (omega (arith, at_room.if-out-count.false))
-    c.before.decode.ensures
+    read_found _ _ _ (sound (goal.at.returns c).In_default) _ _ _ (found (goal.at.returns c).In-At-2) (omega (arith, c.if-out-count.false))
+    c.decode.ensures

@@ -8,11 +8,11 @@ use Rattle.neighbours.proofs.is_asked.Goals as goal
 
 pub returns-then-head-floor : goal.returns-then-head-floor
 returns-then-head-floor c =
-    let args = c.before.before.args in
+    let args = c.args in
     sym (ap (λ (x : Bool). x && not (eqb args.head.name args.but)) (ne_eqb args.head.floor args.floor c.if-head-floor.true))
 
 pub returns : goal.returns
 returns c =
-    let args = c.before.before.before.args in
+    let args = c.args in
     sym (ap (λ (x : Bool). x && not (eqb args.head.name args.but))
-    (eq-eqb args.head.floor args.floor c.before.if-head-floor.false))
+    (eq-eqb args.head.floor args.floor c.if-head-floor.false))

@@ -9,17 +9,15 @@ use Rattle.neighbours.specs.Search.{is_nearer, NearSized}
 use Rattle.neighbours.proofs.is_passed.Goals as goal
 
 pub returns-in_default : goal.returns-in_default
-returns-in_default c = absurd (true≢false (sym c.lifetimes))
+returns-in_default c k = absurd (true≢false (sym k))
 
 pub is_far-requires : goal.is_far-requires
 is_far-requires c =
-    let pre = c.before.before.before.requires in
-    (pre.0, pre.1, subst NearSized c.before.in-Of.is pre.2)
+    let pre = c.requires in
+    (pre.0, pre.1, subst NearSized c.in-Of.is pre.2)
 
 pub returns : goal.returns
-returns c =
-    let at-best = c.before.before in
-    let start = at-best.before.before in
-    let S = points start.args.shape.now in
-    ap (is_nearer (distance A S)) at-best.in-Of.is
-    ∙ ap not (c.is_far.ensures c.lifetimes A S s start.requires.1.shape (λ g y. extends-spans x y))
+returns c k A s x =
+    let S = points c.args.shape.now in
+    ap (is_nearer (distance A S)) c.in-Of.is
+    ∙ ap not (c.is_far.ensures k A S s c.requires.1.shape (λ g y. extends-spans x y))

@@ -18,19 +18,17 @@ kept_by now n s best h k = ap₂ (λ (x y : Bool). cond (x && y) (Near.Of n s) b
 
 pub returns-then-not-is_nearer : goal.returns-then-not-is_nearer
 returns-then-not-is_nearer c =
-    let args = c.before.before.before.args in
-    kept_by _ args.name args.spacing args.best (sym c.before.is_nearer.ensures ∙ not-true _ c.if-not-is_nearer.true) refl
+    let args = c.args in
+    kept_by _ args.name args.spacing args.best (sym c.is_nearer.ensures ∙ c.if-not-is_nearer.true) refl
 
 pub returns-then-not-is_current : goal.returns-then-not-is_current
 returns-then-not-is_current c =
-    let at-else = c.before.before in
-    let args = at-else.before.before.before.args in
-    kept_by _ args.name args.spacing args.best (sym at-else.before.is_nearer.ensures ∙ not-false _ at-else.if-not-is_nearer.false)
-    (sym c.before.is_current.ensures ∙ not-true _ c.if-not-is_current.true)
+    let args = c.args in
+    kept_by _ args.name args.spacing args.best (sym c.is_nearer.ensures ∙ c.if-not-is_nearer.false)
+    (sym c.is_current.ensures ∙ c.if-not-is_current.true)
 
 pub returns : goal.returns
 returns c =
-    let at-else = c.before.before in
-    let args = at-else.before.before.before.args in
-    kept_by _ args.name args.spacing args.best (sym at-else.before.is_nearer.ensures ∙ not-false _ at-else.if-not-is_nearer.false)
-    (sym c.before.is_current.ensures ∙ not-false _ c.if-not-is_current.false)
+    let args = c.args in
+    kept_by _ args.name args.spacing args.best (sym c.is_nearer.ensures ∙ c.if-not-is_nearer.false)
+    (sym c.is_current.ensures ∙ c.if-not-is_current.false)

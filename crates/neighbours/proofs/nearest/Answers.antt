@@ -6,4 +6,4 @@ use Rattle.neighbours.proofs.nearest.Goals as goal
 
 pub pass-requires : goal.pass-requires
 unfolding max_corners
-pass-requires c = let start = c.before.before in (start.requires.0, start.requires.1, omega arith)
+pass-requires c = (c.requires.0, c.requires.1, omega arith)

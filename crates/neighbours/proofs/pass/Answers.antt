@@ -17,83 +17,71 @@ use Rattle.neighbours.proofs.pass.Goals.{After-look-best, After-pair_at, In-loop
 
 -- there is a whole record here
 here : (c : In-loop-extent)
-    → whole (drop c.before.before.loop-extent.p c.before.before.before.before.before.args.log.now) ≡ true
-here c = sym c.before.whole_at.ensures ∙ c.loop-extent-test.true
+    → whole (drop c.loop-extent.p c.args.log.now) ≡ true
+here c = sym c.whole_at.ensures ∙ c.loop-extent-test.true
 
 pub loop-extent-init : goal.loop-extent-init
-loop-extent-init c = let start = c.before.before in (searched-start _ _ _ _ start.requires.0, start.requires.2)
+loop-extent-init c = (searched-start _ _ _ _ c.requires.0, c.requires.2)
 
 pub whole_at-requires : goal.whole_at-requires
 whole_at-requires c = c.loop-extent.invariant.0.inside
 
 pub look-best-requires : goal.look-best-requires
 look-best-requires c =
-    let at-then = c.before in
-    let at-loop = at-then.before.before in
-    let start = at-loop.before.before.before in
-    let found = at-loop.loop-extent.invariant.0 in (
-      searched-sound found (here at-then),
-      start.requires.1,
-      searched-sized found start.requires.1.shape,
-      at-loop.loop-extent.invariant.1,
-      at-loop.before.extent_of-extent.ensures,
+    let found = c.loop-extent.invariant.0 in (
+      searched-sound found (here (goal.at.look-best-requires c).In-loop-extent),
+      c.requires.1,
+      searched-sized found c.requires.1.shape,
+      c.loop-extent.invariant.1,
+      c.extent_of-extent.ensures,
     )
 
 -- what is found once the record is looked at
-looked : (c : After-look-best) → let at-loop = c.before.before.before.before in
-    let args = at-loop.before.before.before.args in
+looked : (c : After-look-best) →
+    let args = c.args in
     let b = args.log.now in
-    Searched (points args.list.now) args.floor args.but b (next_at b at-loop.loop-extent.p) c.look-best.result
-looked c = let at-then = c.before.before in searched-next at-then.before.before.loop-extent.invariant.0 (here at-then) c.look-best.ensures.0
+    Searched (points args.list.now) args.floor args.but b (next_at b c.loop-extent.p) c.look-best.result
+looked c = searched-next c.loop-extent.invariant.0 (here (goal.at.After-look-best c).In-loop-extent) c.look-best.ensures.0
 
 pub shape_of-buffer-then-is_met : goal.shape_of-buffer-then-is_met
 shape_of-buffer-then-is_met c =
-    let at-look = c.before.before.before in
-    at-look.look-best.ensures.1 ∙ sym at-look.before.before.before.before.before.before.before.requires.2
+    c.look-best.ensures.1 ∙ sym c.requires.2
 
 pub returns-then-is_met : goal.returns-then-is_met
 returns-then-is_met c =
-    let at-look = c.before.before.before in
-    let start = at-look.before.before.before.before.before.before.before in
-    searched-met (looked at-look) start.requires.1.shape (sym c.before.is_met.ensures ∙ c.if-is_met.true)
+    searched-met (looked (goal.at.returns-then-is_met c).After-look-best) c.requires.1.shape (sym c.is_met.ensures ∙ c.if-is_met.true)
 
 -- the next place is past the record, and still inside
-step : (c : After-pair_at) → let at-loop = c.before.before.before.before.before.before.before.before in
-    let log = at-loop.before.before.before.args.log.now in
-    (c.pair_at.result ≡ size (drop at-loop.loop-extent.p log)) × (at-loop.loop-extent.p + (2 + c.pair_at.result) ≤ length log)
+step : (c : After-pair_at) →
+    let log = c.args.log.now in
+    (c.pair_at.result ≡ size (drop c.loop-extent.p log)) × (c.loop-extent.p + (2 + c.pair_at.result) ≤ length log)
 step c =
-    let at-then = c.before.before.before.before.before.before in
-    let at-loop = at-then.before.before in
-    let log = at-loop.before.before.before.args.log.now in
-    let same = c.pair_at.ensures.0 ∙ sym (size-at log at-loop.loop-extent.p) in
-    (same, omega (arith, same, next-inside log at-loop.loop-extent.p (here at-then)))
+    let log = c.args.log.now in
+    let same = c.pair_at.ensures.0 ∙ sym (size-at log c.loop-extent.p) in
+    (same, omega (arith, same, next-inside log c.loop-extent.p (here (goal.at.After-pair_at c).In-loop-extent)))
 
 pub pair_at-requires : goal.pair_at-requires
 pair_at-requires c =
-    let at-then = c.before.before.before.before.before in
-    omega (arith, next-inside _ at-then.before.before.loop-extent.p (here at-then))
+    omega (arith, next-inside _ c.loop-extent.p (here (goal.at.pair_at-requires c).In-loop-extent))
 
 pub loop-extent-preserved : goal.loop-extent-preserved
 loop-extent-preserved c =
-    let at-look = c.before.before.before.before in
-    let at-loop = at-look.before.before.before.before in
-    let args = at-loop.before.before.before.args in (
-      subst (λ (k : ℕ). Searched (points args.list.now) args.floor args.but args.log.now (at-loop.loop-extent.p + (2 + k))
-          at-look.look-best.result) (sym (step c).0) (looked at-look),
-      at-look.look-best.ensures.1,
+    let args = c.args in (
+      subst (λ (k : ℕ). Searched (points args.list.now) args.floor args.but args.log.now (c.loop-extent.p + (2 + k))
+          c.look-best.result) (sym (step c).0) (looked (goal.at.loop-extent-preserved c).After-look-best),
+      c.look-best.ensures.1,
     )
 
 pub shape_of-buffer : goal.shape_of-buffer
-shape_of-buffer c = let at-loop = c.before.before in at-loop.loop-extent.invariant.1 ∙ sym at-loop.before.before.before.requires.2
+shape_of-buffer c = c.loop-extent.invariant.1 ∙ sym c.requires.2
 
 pub returns : goal.returns
 returns c =
-    let at-loop = c.before.before in
-    searched-end at-loop.loop-extent.invariant.0 at-loop.before.before.before.requires.1.shape
-    (sym c.before.whole_at.ensures ∙ c.loop-extent-test.false)
+    searched-end c.loop-extent.invariant.0 c.requires.1.shape
+    (sym c.whole_at.ensures ∙ c.loop-extent-test.false)
 
 pub overflow_add-p : goal.overflow_add-p
-overflow_add-p c = omega (arith, c.pair_at.ensures.1)
+overflow_add-p c = omega (arith, c.pair-at.ensures.1)
 
 pub overflow_add-p-in-loop-extent : goal.overflow_add-p-in-loop-extent
 overflow_add-p-in-loop-extent c = omega (arith, (step c).1)

@@ -14,32 +14,29 @@ use Rattle.journal.specs.theory.Stepping.{name-here, name-inside}
 use Rattle.packing.proofs.is_kept.Goals as goal
 use Rattle.packing.proofs.is_kept.Goals.{After-pair_at}
 
-name-read : (c : After-pair_at) → let args = c.before.before.before.args in
+name-read : (c : After-pair_at) → let args = c.args in
     name (record_at args.old.now args.p) ≡ c.pair_at.result
-name-read c = name-here c.before.before.before.requires.0 ∙ name-at _ _ ∙ sym c.pair_at.ensures.0
+name-read c = name-here c.requires.0 ∙ name-at _ _ ∙ sym c.pair_at.ensures.0
 
 pub overflow_add-p : goal.overflow_add-p
-overflow_add-p c = omega (arith, name-inside c.before.before.requires.0)
+overflow_add-p c = omega (arith, name-inside c.requires.0)
 
 pub pair_at-requires : goal.pair_at-requires
-pair_at-requires c = omega (arith, name-inside c.before.before.requires.0)
+pair_at-requires c = omega (arith, name-inside c.requires.0)
 
 pub returns-then-pair_at-but : goal.returns-then-pair_at-but
 unfolding is_other
 returns-then-pair_at-but c =
-    let at_name = c.before in
-    let args = at_name.before.before.before.args in
+    let args = c.args in
     let b = args.old.now in
     let later = held (name (record_at b args.p)) (records (drop (next_at b args.p) b)) in
-    sym (ap (λ (t : Bool). not t && not later) (eq-eqb _ args.but (name-read at_name ∙ c.if-pair_at-but.true)))
+    sym (ap (λ (t : Bool). not t && not later) (eq-eqb _ args.but (name-read (goal.at.returns-then-pair_at-but c).After-pair_at ∙ c.if-pair_at-but.true)))
 
 pub returns : goal.returns
 unfolding is_other
 returns c =
-    let at-else = c.before in
-    let at_name = at-else.before in
-    let args = at_name.before.before.before.args in
+    let args = c.args in
     let b = args.old.now in
     let later = held (name (record_at b args.p)) (records (drop (next_at b args.p) b)) in
     c.is_latest.ensures
-    ∙ sym (ap (λ (t : Bool). not t && not later) (ne_eqb _ args.but (λ e. at-else.if-pair_at-but.false (sym (name-read at_name) ∙ e))))
+    ∙ sym (ap (λ (t : Bool). not t && not later) (ne_eqb _ args.but (λ e. c.if-pair_at-but.false (sym (name-read (goal.at.returns c).After-pair_at) ∙ e))))

@@ -5,11 +5,10 @@ use Rattle.journal.specs.theory.Marks.{marked_empty}
 use Rattle.packing.proofs.pack.Goals as goal
 
 pub slice_bounds-mark-end : goal.mark-requires
-slice_bounds-mark-end c =
-    let at-then = c.before in
-    (at-then.before.before.before.before.requires.0, at-then.before.serves.ensures at-then.if-serves.true, refl)
+slice_bounds-mark-end c κs =
+    (c.requires.0, c.serves.ensures c.if-serves.true, refl)
 
 pub store-requires-2 : goal.store-requires-2
 store-requires-2 c =
-    let pre = c.before.before.before.before.before.before.requires in
+    let pre = c.requires in
     (pre.0, pre.1, marked_empty _ _)

@@ -19,30 +19,28 @@ use Rattle.packing.proofs.store.Goals.{After-next_at-next, In-loop-next, Then-is
 
 -- a whole record is here
 here : (c : In-loop-next)
-    → whole (drop c.before.before.loop-next.p c.before.before.before.before.before.before.args.old.now) ≡ true
-here c = sym c.before.whole_at.ensures ∙ c.loop-next-test.true
+    → whole (drop c.loop-next.p c.args.old.now) ≡ true
+here c = sym c.whole_at.ensures ∙ c.loop-next-test.true
 
 -- the next place is inside
-inside : (c : After-next_at-next) → let at-loop = c.before.before.before in
-    let old = at-loop.before.before.before.before.args.old.now in
-    next_at old at-loop.loop-next.p ≤ length old
-inside c = next-inside _ _ (here c.before)
+inside : (c : After-next_at-next) →
+    let old = c.args.old.now in
+    next_at old c.loop-next.p ≤ length old
+inside c = next-inside _ _ (here (goal.at.After-next_at-next c).In-loop-next)
 
 -- a record that is kept has room in the new run
-room : (c : Then-is_kept) → let at-loop = c.before.before.before.before.before in
-    at-loop.loop-next.q + (c.before.before.next_at-next.result - at-loop.loop-next.p)
-    ≤ length at-loop.before.before.before.before.args.new-1.now
+room : (c : Then-is_kept) →
+    c.loop-next.q + (c.next_at-next.result - c.loop-next.p)
+    ≤ length c.args.new.now
 room c =
-    let at_next = c.before.before in
-    let at-then = at_next.before in
     omega (
       arith,
-      packs-room at-then.before.before.loop-next.invariant.0 (here at-then) (sym c.before.is_kept.ensures ∙ c.if-is_kept.true),
-      at_next.next_at-next.ensures,
+      packs-room c.loop-next.invariant.0 (here (goal.at.Then-is_kept c).In-loop-next) (sym c.is_kept.ensures ∙ c.if-is_kept.true),
+      c.next_at-next.ensures,
     )
 
 pub loop-next-init : goal.loop-next-init
-loop-next-init c = let pre = c.before.before.before.requires in (packs-start _ _ _ _ pre.0 pre.1, pre.2)
+loop-next-init c = let pre = c.requires in (packs-start _ _ _ _ pre.0 pre.1, pre.2)
 
 pub whole_at-requires : goal.whole_at-requires
 whole_at-requires c = c.loop-next.invariant.0.reached.inside
@@ -52,75 +50,61 @@ next_at-next-requires c = here c
 
 pub is_kept-requires : goal.is_kept-requires
 is_kept-requires c =
-    let inv = c.before.before.before.loop-next.invariant in
-    (reached-sound inv.0.reached (here c.before), inv.1)
+    let inv = c.loop-next.invariant in
+    (reached-sound inv.0.reached (here (goal.at.is_kept-requires c).In-loop-next), inv.1)
 
 pub overflow_sub-next : goal.overflow_sub-next
-overflow_sub-next c = omega (arith, c.before.before.next_at-next.ensures)
+overflow_sub-next c = omega (arith, c.next_at-next.ensures)
 
 pub copy-need-requires : goal.copy-need-requires
 copy-need-requires c =
-    let at-kept = c.before in
-    let at_next = at-kept.before.before in
-    let at-then = at_next.before in
-    let inv = at-then.before.before.loop-next.invariant.0 in (
-      omega (arith, inside at_next, at_next.next_at-next.ensures),
-      omega (arith, room at-kept, packs-length inv),
+    let inv = c.loop-next.invariant.0 in (
+      omega (arith, inside (goal.at.copy-need-requires c).After-next_at-next, c.next_at-next.ensures),
+      omega (arith, room (goal.at.copy-need-requires c).Then-is_kept, packs-length inv),
       packs-few inv,
     )
 
 pub overflow_sub-q : goal.overflow_sub-q
-overflow_sub-q c = omega (arith, c.before.before.before.before.before.before.next_at-next.ensures)
+overflow_sub-q c = omega (arith, c.next_at-next.ensures)
 
 pub overflow_add-q : goal.overflow_add-q
-overflow_add-q c = omega (arith, room c.before.before.before.before)
+overflow_add-q c = omega (arith, room (goal.at.overflow_add-q c).Then-is_kept)
 
 pub loop-next-smaller-then-is_kept : goal.loop-next-smaller-then-is_kept
 loop-next-smaller-then-is_kept c =
-    let at_next = c.before.before.before.before.before.before in
-    omega (arith, at_next.next_at-next.ensures, inside at_next)
+    omega (arith, c.next_at-next.ensures, inside (goal.at.loop-next-smaller-then-is_kept c).After-next_at-next)
 
 pub loop-next-preserved-then-is_kept : goal.loop-next-preserved-then-is_kept
 loop-next-preserved-then-is_kept c =
-    let at_copy = c.before.before in
-    let at-kept = at_copy.before.before in
-    let at_next = at-kept.before.before in
-    let at-then = at_next.before in
-    let at-loop = at-then.before.before in (
-      packs-copy at-loop.loop-next.invariant.0 (here at-then) (sym at-kept.before.is_kept.ensures ∙ at-kept.if-is_kept.true)
-          at_next.next_at-next.ensures at_copy.copy-need.ensures,
-      subst (Marked _ _) (sym at_next.next_at-next.ensures) (marked_next at-loop.loop-next.invariant.1 (here at-then)),
+    (
+      packs-copy c.loop-next.invariant.0 (here (goal.at.loop-next-preserved-then-is_kept c).In-loop-next) (sym c.is_kept.ensures ∙ c.if-is_kept.true)
+          c.next_at-next.ensures c.copy-need.ensures,
+      subst (Marked _ _) (sym c.next_at-next.ensures) (marked_next c.loop-next.invariant.1 (here (goal.at.loop-next-preserved-then-is_kept c).In-loop-next)),
     )
 
 pub loop-next-smaller : goal.loop-next-smaller
-loop-next-smaller c = let at_next = c.before.before in omega (arith, at_next.next_at-next.ensures, inside at_next)
+loop-next-smaller c = omega (arith, c.next_at-next.ensures, inside (goal.at.loop-next-smaller c).After-next_at-next)
 
 pub loop-next-preserved : goal.loop-next-preserved
 loop-next-preserved c =
-    let at_next = c.before.before in
-    let at-then = at_next.before in
-    let at-loop = at-then.before.before in
-    let args = at-loop.before.before.before.before.args in
-    subst (λ (i : ℕ). Packs args.allowed args.old.now args.new-1.now args.but i at-loop.loop-next.q at-loop.loop-next.need
-    at-loop.loop-next.new-1
-    × Marked args.old.now args.table.now i) (sym at_next.next_at-next.ensures) (
-      packs-skip at-loop.loop-next.invariant.0 (here at-then) (sym c.before.is_kept.ensures ∙ c.if-is_kept.false),
-      marked_next at-loop.loop-next.invariant.1 (here at-then),
+    let args = c.args in
+    subst (λ (i : ℕ). Packs args.allowed args.old.now args.new.now args.but i c.loop-next.q c.loop-next.need
+    c.loop-next.new
+    × Marked args.old.now args.table.now i) (sym c.next_at-next.ensures) (
+      packs-skip c.loop-next.invariant.0 (here (goal.at.loop-next-preserved c).In-loop-next) (sym c.is_kept.ensures ∙ c.if-is_kept.false),
+      marked_next c.loop-next.invariant.1 (here (goal.at.loop-next-preserved c).In-loop-next),
     )
 
 pub blank-need-requires : goal.blank-need-requires
 blank-need-requires c =
-    let inv = c.before.before.before.loop-next.invariant.0 in
+    let inv = c.loop-next.invariant.0 in
     (omega (arith, packs-length inv, inv.fits), packs-few inv)
 
 pub shape_of-new : goal.shape_of-new
 shape_of-new c =
-    let at-blank = c.before.before in
-    copied-length at-blank.blank-need.ensures ∙ packs-length at-blank.before.before.before.before.loop-next.invariant.0
+    copied-length c.blank-need.ensures ∙ packs-length c.loop-next.invariant.0
 
 pub returns : goal.returns
 returns c =
-    let at-blank = c.before.before in
-    let at-end = at-blank.before.before in
-    packs-end at-end.before.before.loop-next.invariant.0 (sym at-end.before.whole_at.ensures ∙ at-end.loop-next-test.false)
-    at-blank.blank-need.ensures
+    packs-end c.loop-next.invariant.0 (sym c.whole_at.ensures ∙ c.loop-next-test.false)
+    c.blank-need.ensures

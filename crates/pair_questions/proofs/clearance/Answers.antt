@@ -24,14 +24,13 @@ abbrev other : Start → Floored
 other c = on c.args.b.now c.args.g
 
 -- past the judging they are shapes on one floor
-shapes : (c : In_default) → let start = c.before.before.before in Same (one start) (other start)
-shapes c = c.before.before.admit_pair.ensures.valid c.in_default.is
+shapes : (c : In_default) → Same (one (goal.at.In_default c).Start) (other (goal.at.In_default c).Start)
+shapes c = c.admit_pair.ensures.valid c.in_default.is
 
 pub returns-in-No : goal.returns-in-No
 returns-in-No c =
-    let start = c.before.before.before.before in
-    (shapes-refused (ask_clearance (one start) (other start))
-    (c.before.before.before.admit_pair.ensures.no _ c.before.in-No.is)).0
+    (shapes-refused (ask_clearance (one (goal.at.returns-in-No c).Start) (other (goal.at.returns-in-No c).Start))
+    (c.admit_pair.ensures.no _ c.in-No.is)).0
 
 pub between-requires : goal.between-requires
 between-requires c = let both = shapes c in (both.first-valid, both.second-valid)
@@ -41,27 +40,24 @@ apart-numbers : (A B : List Point) {t : Bool} → apart A B ≡ t → cond t (nu
 apart-numbers A B e = ap (λ (t : Bool). cond t (numbers_of A B (nearest A B)) (pos 0 ∷ [])) (sym e)
 
 -- what is known of their spacing, where it is told
-known : (c : After-between) {s : Spacing} → c.between.result ≡ s → let args = c.before.before.before.before.args in
+known : (c : After-between) {s : Spacing} → c.between.result ≡ s → let args = c.args in
     Spaced (points args.a.now) (points args.b.now) s
-known c e = let args = c.before.before.before.before.args in
+known c e = let args = c.args in
     subst (Spaced (points args.a.now) (points args.b.now)) e c.between.ensures
 
 -- the answer
-answers : (c : After-between) {vs : List ℤ} → let start = c.before.before.before.before in
-    vs ≡ clearance_numbers (points start.args.a.now) (points start.args.b.now)
-    → answered (vs ++ (pos start.args.f ∷ [])) ≡ reply (ask_clearance (one start) (other start))
+answers : (c : After-between) {vs : List ℤ} →
+    vs ≡ clearance_numbers (points c.args.a.now) (points c.args.b.now)
+    → answered (vs ++ (pos c.args.f ∷ [])) ≡ reply (ask_clearance (one c.before.before.before.before) (other c.before.before.before.before))
 answers c e =
-    let start = c.before.before.before.before in
-    all-answered (ask_clearance (one start) (other start)) (shapes c.before) tt
-    (ap (λ (vs : List ℤ). vs ++ (pos start.args.f ∷ [])) e)
+    all-answered (ask_clearance (one c.before.before.before.before) (other c.before.before.before.before)) (shapes (goal.at.After-between c).In_default) tt
+    (ap (λ (vs : List ℤ). vs ++ (pos c.args.f ∷ [])) e)
 
 pub returns-in-Meets : goal.returns-in-Meets
-returns-in-Meets c = let at-between = c.before.before in
-    answers at-between (apart-numbers _ _ (known at-between c.in-Meets.is))
+returns-in-Meets c =
+    answers (goal.at.returns-in-Meets c).After-between (apart-numbers _ _ (known (goal.at.returns-in-Meets c).After-between c.in-Meets.is))
 
 pub returns-in-Apart : goal.returns-in-Apart
 returns-in-Apart c =
-    let at-found = c.before in
-    let at-between = at-found.before.before in
-    let apart = known at-between at-found.in-Apart.is in
-    answers at-between (apart.1 ∙ apart-numbers _ _ apart.0)
+    let apart = known (goal.at.returns-in-Apart c).After-between c.in-Apart.is in
+    answers (goal.at.returns-in-Apart c).After-between (apart.1 ∙ apart-numbers _ _ apart.0)

@@ -18,20 +18,18 @@ abbrev other : Start → Floored
 other c = on c.args.b.now c.args.g
 
 -- past the judging they are shapes on one floor
-shapes : (c : In_default) → let start = c.before.before.before in Same (one start) (other start)
-shapes c = c.before.before.admit_pair.ensures.valid c.in_default.is
+shapes : (c : In_default) → Same (one (goal.at.In_default c).Start) (other (goal.at.In_default c).Start)
+shapes c = c.admit_pair.ensures.valid c.in_default.is
 
 pub returns-in-No : goal.returns-in-No
 returns-in-No c =
-    let start = c.before.before.before.before in
-    (shapes-refused (ask_inside (one start) (other start))
-    (c.before.before.before.admit_pair.ensures.no _ c.before.in-No.is)).0
+    (shapes-refused (ask_inside (one (goal.at.returns-in-No c).Start) (other (goal.at.returns-in-No c).Start))
+    (c.admit_pair.ensures.no _ c.in-No.is)).0
 
 pub inside-requires : goal.inside-requires
 inside-requires c = let both = shapes c in (both.first-valid, both.second-valid)
 
 pub returns : goal.returns
 returns c =
-    let start = c.before.before.before.before in
-    all-answered (ask_inside (one start) (other start)) (shapes c.before) tt
-    (ap (λ (t : Bool). cond t (pos 1) (pos 0) ∷ pos start.args.f ∷ []) c.inside.ensures)
+    all-answered (ask_inside (one c.before.before.before.before) (other c.before.before.before.before)) (shapes (goal.at.returns c).In_default) tt
+    (ap (λ (t : Bool). cond t (pos 1) (pos 0) ∷ pos c.args.f ∷ []) c.inside.ensures)

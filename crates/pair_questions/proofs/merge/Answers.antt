@@ -17,23 +17,21 @@ abbrev other : Start → Floored
 other c = on c.args.b.now c.args.g
 
 -- past the judging they are shapes on one floor
-shapes : (c : In_default) → let start = c.before.before.before in Same (one start) (other start)
-shapes c = c.before.before.admit_pair.ensures.valid c.in_default.is
+shapes : (c : In_default) → Same (one (goal.at.In_default c).Start) (other (goal.at.In_default c).Start)
+shapes c = c.admit_pair.ensures.valid c.in_default.is
 
 pub returns-in-No : goal.returns-in-No
 returns-in-No c =
-    let start = c.before.before.before.before in
-    shapes-refused (ask_merge (one start) (other start) start.args.out-1.now)
-    (c.before.before.before.admit_pair.ensures.no _ c.before.in-No.is)
+    shapes-refused (ask_merge (one (goal.at.returns-in-No c).Start) (other (goal.at.returns-in-No c).Start) c.args.out.now)
+    (c.admit_pair.ensures.no _ c.in-No.is)
 
 pub merge-requires : goal.merge-requires
-merge-requires c = let good = shapes c.before in (good.first-valid, good.second-valid)
+merge-requires c = let good = shapes (goal.at.merge-requires c).In_default in (good.first-valid, good.second-valid)
 
 pub returns : goal.returns
 returns c =
-    let told = c.before.before.before in
-    let args = told.before.before.before.args in
+    let args = c.args in
     subst (λ (g : ℕ).
-    (of_answer c.before.merge.result ≡ reply (ask_merge (on args.a.now args.f) (on args.b.now g) args.out-1.now))
-    × (c.before.merge.new.1.1.1.0 ≡ output (ask_merge (on args.a.now args.f) (on args.b.now g) args.out-1.now)))
-    (shapes told).one-floor c.before.merge.ensures
+    (of_answer c.merge.result ≡ reply (ask_merge (on args.a.now args.f) (on args.b.now g) args.out.now))
+    × (c.merge.new.out ≡ output (ask_merge (on args.a.now args.f) (on args.b.now g) args.out.now)))
+    (shapes (goal.at.returns c).In_default).one-floor c.merge.ensures

@@ -33,65 +33,51 @@ abbrev asked : Start → Question
 asked c = ask_passage (one c) (two c) (three c)
 
 -- past the judging they are shapes on one floor, and then each grown obstacle is a shape too
-shapes : (c : In_default) → let start = c.before.before.before in SameThree (one start) (two start) (three start)
-shapes c = c.before.before.admit_three.ensures.valid c.in_default.is
+shapes : (c : In_default) → SameThree (one (goal.at.In_default c).Start) (two (goal.at.In_default c).Start) (three (goal.at.In_default c).Start)
+shapes c = c.admit_three.ensures.valid c.in_default.is
 
-left : (c : In_default-admit_grown) → let args = c.before.before.before.before.before.before.args in
+left : (c : In_default-admit_grown) → let args = c.args in
     NoneApply (size_rows (grown (points args.left.now) (points args.cart.now)))
-left c = c.before.before.admit_grown.ensures.valid c.in_default-admit_grown.is
+left c = c.admit_grown.ensures.valid c.in_default-admit_grown.is
 
-right : (c : In_default-admit_grown-2) → let args = c.before.before.before.before.before.before.before.before.before.args in
+right : (c : In_default-admit_grown-2) → let args = c.args in
     NoneApply (size_rows (grown (points args.right.now) (points args.cart.now)))
-right c = c.before.before.admit_grown-2.ensures.valid c.in_default-admit_grown-2.is
+right c = c.admit_grown-2.ensures.valid c.in_default-admit_grown-2.is
 
 pub returns-in-No : goal.returns-in-No
 returns-in-No c =
-    let at-three = c.before.before.before in
-    let start = at-three.before in
-    (rest-refused (asked start) tt (refuses-append (grown_rows (one start) (two start) (three start))
-    (at-three.admit_three.ensures.no _ c.before.in-No.is))).0
+    (rest-refused (asked (goal.at.returns-in-No c).Start) tt (refuses-append (grown_rows (one (goal.at.returns-in-No c).Start) (two (goal.at.returns-in-No c).Start) (three (goal.at.returns-in-No c).Start))
+    (c.admit_three.ensures.no _ c.in-No.is))).0
 
 pub admit_grown-requires : goal.admit_grown-requires
 admit_grown-requires c = let all = shapes c in (all.first-valid, all.third-valid)
 
 pub returns-in-No-admit_grown : goal.returns-in-No-admit_grown
 returns-in-No-admit_grown c =
-    let at_left = c.before.before.before in
-    let at_told = at_left.before in
-    let start = at_told.before.before.before in
-    (rest-refused (asked start) tt (refuses-join (three_rows (one start) (two start) (three start)) (three→none _ _ _ (shapes at_told))
-    (refuses-append (size_rows (grown (points start.args.right.now) (points start.args.cart.now)))
-    (at_left.admit_grown.ensures.no _ c.before.in-No-admit_grown.is)))).0
+    (rest-refused (asked (goal.at.returns-in-No-admit_grown c).Start) tt (refuses-join (three_rows (one (goal.at.returns-in-No-admit_grown c).Start) (two (goal.at.returns-in-No-admit_grown c).Start) (three (goal.at.returns-in-No-admit_grown c).Start)) (three→none _ _ _ (shapes (goal.at.returns-in-No-admit_grown c).In_default))
+    (refuses-append (size_rows (grown (points c.args.right.now) (points c.args.cart.now)))
+    (c.admit_grown.ensures.no _ c.in-No-admit_grown.is)))).0
 
 pub admit_grown-requires-2 : goal.admit_grown-requires-2
-admit_grown-requires-2 c = let all = shapes c.before.before.before in (all.second-valid, all.third-valid)
+admit_grown-requires-2 c = let all = shapes (goal.at.admit_grown-requires-2 c).In_default in (all.second-valid, all.third-valid)
 
 pub returns-in-No-admit_grown-2 : goal.returns-in-No-admit_grown-2
 returns-in-No-admit_grown-2 c =
-    let at_right = c.before.before.before in
-    let at_left = at_right.before in
-    let at_told = at_left.before.before.before in
-    let start = at_told.before.before.before in
-    (rest-refused (asked start) tt (refuses-join (three_rows (one start) (two start) (three start)) (three→none _ _ _ (shapes at_told))
-    (refuses-join (size_rows (grown (points start.args.left.now) (points start.args.cart.now))) (left at_left)
-    (at_right.admit_grown-2.ensures.no _ c.before.in-No-admit_grown-2.is)))).0
+    (rest-refused (asked (goal.at.returns-in-No-admit_grown-2 c).Start) tt (refuses-join (three_rows (one (goal.at.returns-in-No-admit_grown-2 c).Start) (two (goal.at.returns-in-No-admit_grown-2 c).Start) (three (goal.at.returns-in-No-admit_grown-2 c).Start)) (three→none _ _ _ (shapes (goal.at.returns-in-No-admit_grown-2 c).In_default))
+    (refuses-join (size_rows (grown (points c.args.left.now) (points c.args.cart.now))) (left (goal.at.returns-in-No-admit_grown-2 c).In_default-admit_grown)
+    (c.admit_grown-2.ensures.no _ c.in-No-admit_grown-2.is)))).0
 
 pub between-requires : goal.between-requires
 between-requires c =
-    let at_left = c.before.before.before in
-    let all = shapes at_left.before.before.before in (
+    let all = shapes (goal.at.between-requires c).In_default in (
       all.first-valid,
       all.second-valid,
       all.third-valid,
-      grown-valid _ _ all.first-valid.shape.some all.third-valid.shape.some (left at_left),
+      grown-valid _ _ all.first-valid.shape.some all.third-valid.shape.some (left (goal.at.between-requires c).In_default-admit_grown),
       grown-valid _ _ all.second-valid.shape.some all.third-valid.shape.some (right c),
     )
 
 pub returns : goal.returns
 returns c =
-    let at_right = c.before.before in
-    let at_left = at_right.before.before.before in
-    let at_told = at_left.before.before.before in
-    let start = at_told.before.before.before in
-    c.passed.ensures ∙ ap (λ (vs : List ℤ). answered (vs ++ (pos start.args.f ∷ []))) c.before.between.ensures
-    ∙ sym (passage-answers (one start) (two start) (three start) (shapes at_told) (left at_left) (right at_right))
+    c.passed.ensures ∙ ap (λ (vs : List ℤ). answered (vs ++ (pos c.args.f ∷ []))) c.between.ensures
+    ∙ sym (passage-answers (one c.before.before.before.before.before.before.before.before.before.before.before) (two c.before.before.before.before.before.before.before.before.before.before.before) (three c.before.before.before.before.before.before.before.before.before.before.before) (shapes (goal.at.returns c).In_default) (left (goal.at.returns c).In_default-admit_grown) (right (goal.at.returns c).In_default-admit_grown-2))

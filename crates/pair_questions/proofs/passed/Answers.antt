@@ -16,14 +16,14 @@ told : {x y : Way} (floor : ℕ) → x ≡ y → answered (way_numbers y ++ (pos
 told floor e = ap (λ (w : Way). answered (way_numbers w ++ (pos floor ∷ []))) (sym e)
 
 pub returns-in-Blocked : goal.returns-in-Blocked
-returns-in-Blocked c = told c.before.before.args.floor c.in-Blocked.is
+returns-in-Blocked c = told c.args.floor c.in-Blocked.is
 
 pub returns-in-Free : goal.returns-in-Free
 returns-in-Free c =
-    let at = c.before.found-1.given in
+    let at = c.found-1.given in
     let seen = c.known_told-1.given in
     let u = result-is w32 {x = at.0.0} seen.0.1 refl in
     let v = result-is w32 {x = at.0.1.0} seen.1.0.1 refl in
     let low = result-is w64 {x = at.0.1.1.0} seen.1.1.0.1 refl in
     let high = result-is w64 {x = at.0.1.1.1.0} seen.1.1.1.0.1 refl in
-    rw (u, v, low, high) (told c.before.before.before.args.floor at.1)
+    rw (u, v, low, high) (told c.args.floor at.1)

@@ -22,54 +22,47 @@ abbrev other : Start → Floored
 other c = on c.args.b.now c.args.g
 
 abbrev asked : Start → Question
-asked c = ask_sum (one c) (other c) c.args.out-1.now
+asked c = ask_sum (one c) (other c) c.args.out.now
 
 -- past the judging they are shapes on one floor
-shapes : (c : In_default) → let start = c.before.before.before in Same (one start) (other start)
-shapes c = c.before.before.admit_pair.ensures.valid c.in_default.is
+shapes : (c : In_default) → Same (one (goal.at.In_default c).Start) (other (goal.at.In_default c).Start)
+shapes c = c.admit_pair.ensures.valid c.in_default.is
 
 -- the sum is judged by its size
 judged : (c : After-fits2) → let args = c.before.before.before.before.before.before.args in
-    let rows = answer_rows (whole_sum args.a.now args.b.now) args.out-1.now in
+    let rows = answer_rows (whole_sum args.a.now args.b.now) args.out.now in
     Judged (NoneApply rows) rows c.fits2.result
 judged c =
     let args = c.before.before.before.before.before.before.args in
-    fit-judged (whole_sum args.a.now args.b.now) c.before.is_far.ensures args.out-1.now
-    c.before.before.reckon-n.ensures c.fits2.ensures
+    fit-judged (whole_sum args.a.now args.b.now) c.before.is-far.ensures args.out.now
+    c.before.before.reckon.ensures c.fits2.ensures
 
 pub returns-in-No : goal.returns-in-No
 returns-in-No c =
-    shapes-refused (asked c.before.before.before.before)
-    (c.before.before.before.admit_pair.ensures.no _ c.before.in-No.is)
+    shapes-refused (asked (goal.at.returns-in-No c).Start)
+    (c.admit_pair.ensures.no _ c.in-No.is)
 
 pub reckon-n-requires : goal.reckon-n-requires
 reckon-n-requires c = let both = shapes c in (both.first-valid, both.second-valid)
 
 pub is_far-requires : goal.is_far-requires
-is_far-requires c = let both = shapes c.before in (both.first-valid, both.second-valid)
+is_far-requires c = let both = shapes (goal.at.is_far-requires c).In_default in (both.first-valid, both.second-valid)
 
 pub returns-in-No-fits : goal.returns-in-No-fits
 returns-in-No-fits c =
-    let at-fits = c.before.before.before in
-    let at_told = at-fits.before.before.before in
-    rest-refused (asked at_told.before.before.before) (shapes at_told) ((judged at-fits).no _ c.before.in-No-fits.is)
+    rest-refused (asked (goal.at.returns-in-No-fits c).Start) (shapes (goal.at.returns-in-No-fits c).In_default) ((judged (goal.at.returns-in-No-fits c).After-fits).no _ c.in-No-fits.is)
 
 -- past this judging no row applies
-passed : (c : In_default-fits) → let args = c.before.before.before.before.before.before.before.before.args in
-    NoneApply (answer_rows (whole_sum args.a.now args.b.now) args.out-1.now)
-passed c = (judged c.before.before).valid c.in_default-fits.is
+passed : (c : In_default-fits) → let args = c.args in
+    NoneApply (answer_rows (whole_sum args.a.now args.b.now) args.out.now)
+passed c = (judged (goal.at.In_default-fits c).After-fits).valid c.in_default-fits.is
 
 pub sum-requires : goal.sum-requires
 sum-requires c =
-    let at-passed = c.before in
-    let both = shapes at-passed.before.before.before.before.before in
-    (both.first-valid, both.second-valid, room-there _ _ (passed at-passed))
+    let both = shapes (goal.at.sum-requires c).In_default in
+    (both.first-valid, both.second-valid, room-there _ _ (passed (goal.at.sum-requires c).In_default-fits))
 
 pub returns : goal.returns
 returns c =
-    let at_sum = c.before in
-    let at-passed = at_sum.before.before in
-    let at_told = at-passed.before.before.before.before.before in
-    let start = at_told.before.before.before in
-    all-written (asked start) (shapes at_told) (passed at-passed)
-    (ap (λ n. pos n ∷ pos start.args.f ∷ []) at_sum.sum.ensures.0) at_sum.sum.ensures.1
+    all-written (asked c.before.before.before.before.before.before.before.before.before.before.before) (shapes (goal.at.returns c).In_default) (passed (goal.at.returns c).In_default-fits)
+    (ap (λ n. pos n ∷ pos c.args.f ∷ []) c.sum.ensures.0) c.sum.ensures.1

@@ -30,37 +30,33 @@ abbrev other : Start → Floored
 other c = on c.args.b.now c.args.g
 
 -- past the judging they are shapes on one floor
-shapes : (c : In_default) → let start = c.before.before.before in Same (one start) (other start)
-shapes c = c.before.before.admit_pair.ensures.valid c.in_default.is
+shapes : (c : In_default) → Same (one (goal.at.In_default c).Start) (other (goal.at.In_default c).Start)
+shapes c = c.admit_pair.ensures.valid c.in_default.is
 
 pub returns-in-No : goal.returns-in-No
 returns-in-No c =
-    let start = c.before.before.before.before in
-    (shapes-refused (ask_tangents (one start) (other start))
-    (c.before.before.before.admit_pair.ensures.no _ c.before.in-No.is)).0
+    (shapes-refused (ask_tangents (one (goal.at.returns-in-No c).Start) (other (goal.at.returns-in-No c).Start))
+    (c.admit_pair.ensures.no _ c.in-No.is)).0
 
 pub relation-place-requires : goal.relation-place-requires
 relation-place-requires c = let both = shapes c in (both.first-valid, both.second-valid)
 
 pub returns-in_default-place : goal.returns-in_default-place
 returns-in_default-place c =
-    let at_place = c.before in
-    let start = at_place.before.before.before.before in
-    let q = ask_tangents (one start) (other start) in
-    (rest-refused q (shapes at_place.before) (refuses {rows = q.rest}
-    (here (ap not (not-apart _ _ at_place.relation-place.result c.match2.keys2 at_place.relation-place.ensures))))).0
+    let q = ask_tangents (one (goal.at.returns-in_default-place c).Start) (other (goal.at.returns-in_default-place c).Start) in
+    (rest-refused q (shapes (goal.at.returns-in_default-place c).In_default) (refuses {rows = q.rest}
+    (here (ap not (not-apart _ _ c.relation-place.result c.in_default-place.keys2 c.relation-place.ensures))))).0
 
 -- past the relation the shapes are apart
-ready : (c : In-Apart) → let args = c.before.before.before.before.before.before.args in
+ready : (c : In-Apart) → let args = c.args in
     Valid args.a.now × Valid args.b.now × (apart (points args.a.now) (points args.b.now) ≡ true)
 ready c =
-    let at_place = c.before.before in
-    let both = shapes at_place.before in
-    let apart-is = related-apart _ _ (ap number_of (sym c.in-Apart.is) ∙ at_place.relation-place.ensures) in
+    let both = shapes (goal.at.In-Apart c).In_default in
+    let apart-is = related-apart _ _ (ap number_of (sym c.in-Apart.is) ∙ c.relation-place.ensures) in
     (both.first-valid, both.second-valid, apart-is)
 
 -- the ends of a line that was found are positions of the two lists
-found : (c : In-Apart) (s t : Bool) {i j : ℕ} → let args = c.before.before.before.before.before.before.args in
+found : (c : In-Apart) (s t : Bool) {i j : ℕ} → let args = c.args in
     let A = points args.a.now in
     let B = points args.b.now in
     (i ≡ tangent_from s t A B) × (j ≡ tangent_to s t A B) → (i < length A) × (j < length B)
@@ -74,26 +70,24 @@ line-left-requires c = let r = ready c in (r.0, r.1, r.2, r.0.shape.some, r.1.sh
 
 pub line-crossing-requires : goal.line-crossing-requires
 line-crossing-requires c =
-    let r = ready c.before in
-    let near = found c.before true true c.line-left.ensures in
+    let r = ready (goal.at.line-crossing-requires c).In-Apart in
+    let near = found (goal.at.line-crossing-requires c).In-Apart true true c.line-left.ensures in
     (r.0, r.1, r.2, near.0, near.1)
 
 pub line-right-requires : goal.line-right-requires
 line-right-requires c =
-    let r = ready c.before.before in
-    let near = found c.before.before true false c.line-crossing.ensures in
+    let r = ready (goal.at.line-right-requires c).In-Apart in
+    let near = found (goal.at.line-right-requires c).In-Apart true false c.line-crossing.ensures in
     (r.0, r.1, r.2, near.0, near.1)
 
 pub line-reverse-requires : goal.line-reverse-requires
 line-reverse-requires c =
-    let r = ready c.before.before.before in
-    let near = found c.before.before.before false false c.line-right.ensures in
+    let r = ready (goal.at.line-reverse-requires c).In-Apart in
+    let near = found (goal.at.line-reverse-requires c).In-Apart false false c.line-right.ensures in
     (r.0, r.1, r.2, near.0, near.1)
 
 pub returns : goal.returns
 returns c =
-    let at_told = c.before.before.before.before in
-    let start = at_told.before.before.before.before.before.before in
-    all-answered (ask_tangents (one start) (other start)) (shapes at_told.before.before.before) (ap not (ready at_told).2, tt)
-    (tangents-values (one start) (other start) c.before.before.before.line-left.ensures c.before.line-right.ensures
-    c.before.before.line-crossing.ensures c.line-reverse.ensures)
+    all-answered (ask_tangents (one c.before.before.before.before.before.before.before.before.before.before) (other c.before.before.before.before.before.before.before.before.before.before)) (shapes (goal.at.returns c).In_default) (ap not (ready (goal.at.returns c).In-Apart).2, tt)
+    (tangents-values (one c.before.before.before.before.before.before.before.before.before.before) (other c.before.before.before.before.before.before.before.before.before.before) c.line-left.ensures c.line-right.ensures
+    c.line-crossing.ensures c.line-reverse.ensures)

@@ -8,11 +8,11 @@ pub top-requires : goal.top-requires
 top-requires c = c.requires.1.shape.some
 
 pub reckon-n-requires : goal.reckon-n-requires
-reckon-n-requires c = (c.before.requires.0, c.before.requires.1, c.top.ensures)
+reckon-n-requires c = (c.requires.0, c.requires.1, c.top.ensures)
 
 pub is_far-requires : goal.is_far-requires
-is_far-requires c = c.before.before.requires
+is_far-requires c = c.requires
 
 pub returns : goal.returns
 unfolding grown
-returns c = judged-by (sized_rows_lem _ c.before.is_far.ensures c.before.before.reckon-n.ensures) c.sized.ensures
+returns c = judged-by (sized_rows_lem _ c.is_far.ensures c.reckon-n.ensures) c.sized.ensures

@@ -23,23 +23,23 @@ unfolding max_corners
 few B A v = rw points-numbers at v.few
 
 -- the grown obstacles, at the fronts of their buffers
-above : (c : After-write-n) → let args = c.before.before.before.args in
-    Front (grown (points args.left.now) (points args.cart.now)) c.write-n.result c.write-n.new.1.1.1.0
+above : (c : After-write-n) → let args = c.args in
+    Front (grown (points args.left.now) (points args.cart.now)) c.write-n.result c.write-n.new.out
 unfolding grown
 above c = overwritten-front _ _ _ _ c.write-n.ensures.0 c.write-n.ensures.1
 
-below : (c : After-write-m) → let args = c.before.before.before.before.before.before.args in
-    Front (grown (points args.right.now) (points args.cart.now)) c.write-m.result c.write-m.new.1.1.1.0
+below : (c : After-write-m) → let args = c.args in
+    Front (grown (points args.right.now) (points args.cart.now)) c.write-m.result c.write-m.new.out
 unfolding grown
 below c = overwritten-front _ _ _ _ c.write-m.ensures.0 c.write-m.ensures.1
 
 above-few : (c : After-write-n) → c.write-n.result ≤ 1024
-above-few c = let start = c.before.before.before in
-    omega (arith, (above c).counted, few (points start.args.left.now) (points start.args.cart.now) start.requires.3)
+above-few c =
+    omega (arith, (above c).counted, few (points c.args.left.now) (points c.args.cart.now) c.requires.3)
 
 below-few : (c : After-write-m) → c.write-m.result ≤ 1024
-below-few c = let start = c.before.before.before.before.before.before in
-    omega (arith, (below c).counted, few (points start.args.right.now) (points start.args.cart.now) start.requires.4)
+below-few c =
+    omega (arith, (below c).counted, few (points c.args.right.now) (points c.args.cart.now) c.requires.4)
 
 pub top-top-requires : goal.top-top-requires
 top-top-requires c = c.requires.2.shape.some
@@ -47,16 +47,14 @@ top-top-requires c = c.requires.2.shape.some
 pub write-n-requires : goal.write-n-requires
 unfolding grown
 write-n-requires c =
-    let start = c.before.before in
-    let size = few (points start.args.left.now) (points start.args.cart.now) start.requires.3 in
-    (start.requires.0, start.requires.2, c.before.top-top.ensures, omega arith)
+    let size = few (points c.args.left.now) (points c.args.cart.now) c.requires.3 in
+    (c.requires.0, c.requires.2, c.top-top.ensures, omega arith)
 
 pub write-m-requires : goal.write-m-requires
 unfolding grown
 write-m-requires c =
-    let start = c.before.before.before.before.before in
-    let size = few (points start.args.right.now) (points start.args.cart.now) start.requires.4 in
-    (start.requires.1, start.requires.2, c.before.before.before.before.top-top.ensures, omega arith)
+    let size = few (points c.args.right.now) (points c.args.cart.now) c.requires.4 in
+    (c.requires.1, c.requires.2, c.top-top.ensures, omega arith)
 
 pub overflow_mul-above : goal.overflow_mul-above
 overflow_mul-above c = omega (arith, above-few c.before.before.before.before)
@@ -78,18 +76,13 @@ slice_bounds-corridor-end-2 c = sym (front_length (below c.before.before.before)
 
 pub corridor-requires : goal.corridor-requires
 corridor-requires c =
-    let at-below = c.before.before.before in
-    let at_above = at-below.before.before.before in
-    let start = at_above.before.before.before in (
-      subst Valid (sym (above at_above).front) start.requires.3,
-      subst Valid (sym (below at-below).front) start.requires.4,
+    (
+      subst Valid (sym (above c.before.before.before.before.before.before).front) c.requires.3,
+      subst Valid (sym (below c.before.before.before).front) c.requires.4,
     )
 
 pub returns : goal.returns
 returns c =
-    let at-below = c.before.before.before.before in
-    let at_above = at-below.before.before.before in
-    let start = at_above.before.before.before in
-    let pre = start.requires in
-    c.corridor.ensures ∙ ap₂ corridor_numbers (front-points (above at_above)) (front-points (below at-below))
+    let pre = c.requires in
+    c.corridor.ensures ∙ ap₂ corridor_numbers (front-points (above c.before.before.before.before.before.before.before)) (front-points (below c.before.before.before.before))
     ∙ corridor-passage _ _ _ pre.0.shape.some pre.1.shape.some pre.2.shape.some

@@ -33,45 +33,41 @@ here-step-requires c =
 
 pub dot-requires : goal.dot-requires
 dot-requires c =
-    let fits = here-step-requires c.before c.lifetimes in
+    let fits = here-step-requires c.before in
     let wide = subst (Small (2 ^ 22)) (sym c.here-step.ensures) (record {
       small-x = within-add fits.0.small-x fits.1.small-x;
       small-y = within-add fits.0.small-y fits.1.small-y;
     }) in
     (wide, wide)
 
-distance : (c : After-dot) → let args = c.before.before.args in
+distance : (c : After-dot) → let args = c.args in
     let A = points args.a.now in
     let B = points args.b.now in
     to_z w64 (of_z w64 c.dot.result)
     ≡ squared (corner A (round (length A) args.s.at)) (corner B (turned (length B) args.top args.t.at))
 distance c =
-    let start = c.before.before in
-    let pre = start.requires in
-    let step = c.before.here-step.ensures ∙ ap₂ ◌⊕◌ pre.3.corner-is pre.4.corner-is
-    ∙ place-step start.args.a.now start.args.b.now pre.0 pre.1 start.args.top pre.2 start.args.s.at
-    start.args.t.at pre.4.at_in in
-    result-is w64 c.dot.type-inv (c.dot.ensures ∙ ap (λ (z : Point). value z z) step ∙ step-squared _ _)
+    let pre = c.requires in
+    let step = c.here-step.ensures ∙ ap₂ ◌⊕◌ pre.3.corner-is pre.4.corner-is
+    ∙ place-step c.args.a.now c.args.b.now pre.0 pre.1 c.args.top pre.2 c.args.s.at
+    c.args.t.at pre.4.at_in in
+    result-is w64 c.dot.type_inv (c.dot.ensures ∙ ap (λ (z : Point). value z z) step ∙ step-squared _ _)
 
 pub magnitude-squared-requires : goal.magnitude-squared-requires
 magnitude-squared-requires c = rw (distance c) (squared-nonneg _ _)
 
 pub round-requires : goal.round-requires
 round-requires c =
-    let start = c.before.before.before in
-    (omega (arith, edges-at-most (points start.args.a.now), start.requires.3.at_in), start.requires.0.shape.some)
+    (omega (arith, edges-at-most (points c.args.a.now), c.requires.3.at_in), c.requires.0.shape.some)
 
 pub position-requires : goal.position-requires
 position-requires c =
-    let start = c.before.before.before.before in
-    let b = start.args.b.now in (
-      start.requires.2.within,
-      omega (arith, edges-at-most (points (image b)), image-count b start.requires.1, start.requires.4.at_in),
+    let b = c.args.b.now in (
+      c.requires.2.within,
+      omega (arith, edges-at-most (points (image b)), image-count b c.requires.1, c.requires.4.at_in),
     )
 
 pub returns : goal.returns
 unfolding pair_of
 returns c =
-    let at-magnitude = c.before.before in
-    let size = ap nat_abs (sym at-magnitude.magnitude-squared.ensures ∙ distance at-magnitude.before) in
-    cc (size, c.before.round.ensures.value, c.position.ensures)
+    let size = ap nat_abs (sym c.magnitude-squared.ensures ∙ distance c.before.before.before) in
+    cc (size, c.round.ensures.value, c.position.ensures)

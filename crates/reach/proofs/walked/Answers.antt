@@ -24,143 +24,123 @@ pub side_at-s-requires : goal.side_at-s-requires
 side_at-s-requires c = (omega arith, c.requires.0.in_range, c.requires.0.shape.some)
 
 pub side_at-t-requires : goal.side_at-t-requires
-side_at-t-requires c = let pre = c.before.requires in (pre.1, pre.2, omega arith)
+side_at-t-requires c = let pre = c.requires in (pre.1, pre.2, omega arith)
 
 pub overflow_add-all : goal.overflow_add-all
 overflow_add-all c =
-    let second = c.before.before in
-    let start = second.before.before in
     omega (
       arith,
-      image-sides second.before.side_at-s.ensures.1 second.side_at-t.ensures.1,
-      image-few _ _ start.requires.0 start.requires.1,
+      image-sides c.side_at-s.ensures.1 c.side_at-t.ensures.1,
+      image-few _ _ c.requires.0 c.requires.1,
     )
 
 pub pair-best-requires : goal.pair-best-requires
 pair-best-requires c =
-    let second = c.before.before in
-    let pre = second.before.before.requires in
-    (pre.0, pre.1, pre.2, second.before.side_at-s.ensures.1, second.side_at-t.ensures.1)
+    let pre = c.requires in
+    (pre.0, pre.1, pre.2, c.side_at-s.ensures.1, c.side_at-t.ensures.1)
 
 pub loop-s-init : goal.loop-s-init
 loop-s-init c =
-    let second = c.before.before.before in
-    let first = second.before in
-    let pre = first.before.requires in (
+    let pre = c.requires in (
       leads-start pre.0 pre.1 pre.2 (image-begun _ _ pre.0 pre.1)
-          (sides-walk begun first.side_at-s.result second.side_at-t.result first.side_at-s.ensures.0
-          second.side_at-t.ensures.0) c.pair-best.ensures,
-      first.side_at-s.ensures.1,
-      second.side_at-t.ensures.1,
+          (sides-walk begun c.side_at-s.result c.side_at-t.result c.side_at-s.ensures.0
+          c.side_at-t.ensures.0) c.pair-best.ensures,
+      c.side_at-s.ensures.1,
+      c.side_at-t.ensures.1,
     )
 
 pub order-c-requires : goal.order-c-requires
 order-c-requires c = let inv = c.loop-s.invariant in edges_fit inv.0.place_is inv.1 inv.2
 
 pub next-s-requires : goal.next-s-requires
-next-s-requires c = let inv = c.before.loop-s.invariant in first_next inv.0.place_is inv.1 inv.2
+next-s-requires c = let inv = c.loop-s.invariant in first_next inv.0.place_is inv.1 inv.2
 
 pub next-t-requires : goal.next-t-requires
 next-t-requires c =
-    let at-loop = c.before.before in
-    let pre = at-loop.before.before.before.before.before.before.requires in
-    (pre.1, pre.2, at-loop.loop-s.invariant.2)
+    let pre = c.requires in
+    (pre.1, pre.2, c.loop-s.invariant.2)
 
 -- the walk after the step
-steps : (c : After-next-t) (end : Bool) → let at-loop = c.before.before.before in
-    let args = at-loop.before.before.before.before.before.before.args in
-    At args.a.now (image args.b.now) (walk_of c.before.next-s.result c.next-t.result end)
+steps : (c : After-next-t) (end : Bool) →
+    let args = c.args in
+    At args.a.now (image args.b.now) (walk_of c.next-s.result c.next-t.result end)
 steps c end =
-    let at-order = c.before.before in
-    let inv = at-order.before.loop-s.invariant in
-    sides-at inv.0.place_is inv.1 inv.2 (result-is w64 at-order.order-c.type-inv at-order.order-c.ensures)
-    c.before.next-s.result c.next-t.result c.before.next-s.ensures.0 c.next-t.ensures.0
+    let inv = c.loop-s.invariant in
+    sides-at inv.0.place_is inv.1 inv.2 (result-is w64 c.order-c.type_inv c.order-c.ensures)
+    c.next-s.result c.next-t.result c.next-s.ensures.0 c.next-t.ensures.0
 
-advances : (c : After-next-t) → let at-loop = c.before.before.before in
-    let args = at-loop.before.before.before.before.before.before.args in
-    let m = c.before.next-s.result in
+advances : (c : After-next-t) →
+    let args = c.args in
+    let m = c.next-s.result in
     let n = c.next-t.result in
     walk_of m n (finished (points args.a.now) m.at (points (image args.b.now)) n.at)
-    ≡ advanced (points args.a.now) (points (image args.b.now)) (walk_of at-loop.loop-s.s at-loop.loop-s.t false)
+    ≡ advanced (points args.a.now) (points (image args.b.now)) (walk_of c.loop-s.s c.loop-s.t false)
 advances c =
-    let at-order = c.before.before in
-    let inv = at-order.before.loop-s.invariant in
-    sides-advanced inv.0.place_is inv.1 inv.2 (result-is w64 at-order.order-c.type-inv at-order.order-c.ensures)
-    c.before.next-s.result c.next-t.result c.before.next-s.ensures.0 c.next-t.ensures.0 refl
+    let inv = c.loop-s.invariant in
+    sides-advanced inv.0.place_is inv.1 inv.2 (result-is w64 c.order-c.type_inv c.order-c.ensures)
+    c.next-s.result c.next-t.result c.next-s.ensures.0 c.next-t.ensures.0 refl
 
-first_step : (c : After-next-t) → let at-loop = c.before.before.before in
-    let args = at-loop.before.before.before.before.before.before.args in
-    c.before.next-s.result.at
-    ≡ places_passed (edges (points args.a.now)) at-loop.loop-s.s.at (edges (points (image args.b.now))) at-loop.loop-s.t.at
+first_step : (c : After-next-t) →
+    let args = c.args in
+    c.next-s.result.at
+    ≡ places_passed (edges (points args.a.now)) c.loop-s.s.at (edges (points (image args.b.now))) c.loop-s.t.at
 unfolding advanced passed
 first_step c = ap (λ (w : Walk). w.i) (advances c)
 
-second-step : (c : After-next-t) → let at-loop = c.before.before.before in
-    let args = at-loop.before.before.before.before.before.before.args in
+second-step : (c : After-next-t) →
+    let args = c.args in
     c.next-t.result.at
-    ≡ places_passed (edges (points (image args.b.now))) at-loop.loop-s.t.at (edges (points args.a.now)) at-loop.loop-s.s.at
+    ≡ places_passed (edges (points (image args.b.now))) c.loop-s.t.at (edges (points args.a.now)) c.loop-s.s.at
 unfolding advanced passed
 second-step c = ap (λ (w : Walk). w.j) (advances c)
 
 pub overflow_add-s : goal.overflow_add-s
 overflow_add-s c =
-    let at_next = c.before.before in
-    let start = at_next.before.before.before.before.before.before.before.before.before in
-    let first = at_next.before.next-s.ensures.1.at_in in
-    let second = at_next.next-t.ensures.1.at_in in
-    omega (arith, image-few _ _ start.requires.0 start.requires.1)
+    let first = c.next-s.ensures.1.at_in in
+    let second = c.next-t.ensures.1.at_in in
+    omega (arith, image-few _ _ c.requires.0 c.requires.1)
 
 pub returns-then-s-t : goal.returns-then-s-t
 returns-then-s-t c =
-    let at_next = c.before.before.before in
-    let at-loop = at_next.before.before.before in
-    let pre = at-loop.before.before.before.before.before.before.requires in
-    let over = all-passed _ _ _ _ at_next.before.next-s.ensures.1.at_in at_next.next-t.ensures.1.at_in
-    (c.if-s-t.true ∙ image-sides at-loop.before.before.before.before.before.side_at-s.ensures.1
-    at-loop.before.before.before.before.side_at-t.ensures.1) in
-    leads-done pre.0 pre.1 pre.2 at-loop.loop-s.invariant.0 (ap (λ (w : Walk). w.over) (sym (advances at_next)) ∙ over)
+    let pre = c.requires in
+    let over = all-passed _ _ _ _ c.next-s.ensures.1.at_in c.next-t.ensures.1.at_in
+    (c.if-s-t.true ∙ image-sides c.side_at-s.ensures.1
+    c.side_at-t.ensures.1) in
+    leads-done pre.0 pre.1 pre.2 c.loop-s.invariant.0 (ap (λ (w : Walk). w.over) (sym (advances c.before.before.before)) ∙ over)
 
 pub pair-requires : goal.pair-requires
 pair-requires c =
-    let at_next = c.before.before.before in
-    let pre = at_next.before.before.before.before.before.before.before.before.before.requires in
-    (pre.0, pre.1, pre.2, at_next.before.next-s.ensures.1, at_next.next-t.ensures.1)
+    let pre = c.requires in
+    (pre.0, pre.1, pre.2, c.next-s.ensures.1, c.next-t.ensures.1)
 
 pub better-best-requires : goal.better-best-requires
 better-best-requires c = tt
 
 pub loop-s-smaller : goal.loop-s-smaller
 loop-s-smaller c =
-    let at-else = c.before.before in
-    let at_next = at-else.before.before.before in
-    let at-loop = at_next.before.before.before in
-    let inv = at-loop.loop-s.invariant in
-    let args = at-loop.before.before.before.before.before.before.args in
+    let inv = c.loop-s.invariant in
+    let args = c.args in
     let E = edges (points args.a.now) in
     let F = edges (points (image args.b.now)) in
-    edges-less E F _ _ (first_step at_next) (second-step at_next) (λ h k. at-else.if-s-t.false (omega (
+    edges-less E F _ _ (first_step c.before.before.before.before.before) (second-step c.before.before.before.before.before) (λ h k. c.if-s-t.false (omega (
       arith,
-      image-sides at-loop.before.before.before.before.before.side_at-s.ensures.1
-          at-loop.before.before.before.before.side_at-t.ensures.1,
-      first_step at_next ∙ passed-ended E _ F _ h,
-      second-step at_next ∙ passed-ended F _ E _ k,
+      image-sides c.side_at-s.ensures.1
+          c.side_at-t.ensures.1,
+      first_step c.before.before.before.before.before ∙ passed-ended E _ F _ h,
+      second-step c.before.before.before.before.before ∙ passed-ended F _ E _ k,
       inv.1.at_in,
       inv.2.at_in,
     )))
 
 pub loop-s-preserved : goal.loop-s-preserved
 loop-s-preserved c =
-    let at-else = c.before.before in
-    let at_next = at-else.before.before.before in
-    let at-loop = at_next.before.before.before in
-    let start = at-loop.before.before.before.before.before.before in
-    let m = at_next.before.next-s.result in
-    let n = at_next.next-t.result in
-    let on = some_left _ _ m.at n.at (λ e. at-else.if-s-t.false (e ∙ sym (
-    image-sides at-loop.before.before.before.before.before.side_at-s.ensures.1
-    at-loop.before.before.before.before.side_at-t.ensures.1))) in (
-      leads-next start.requires.0 start.requires.1 start.requires.2 at-loop.loop-s.invariant.0 (steps at_next false) refl
-          (ap (walk_of m n) (sym on) ∙ advances at_next) c.before.pair.ensures c.better-best.ensures,
-      at_next.before.next-s.ensures.1,
-      at_next.next-t.ensures.1,
+    let m = c.next-s.result in
+    let n = c.next-t.result in
+    let on = some_left _ _ m.at n.at (λ e. c.if-s-t.false (e ∙ sym (
+    image-sides c.side_at-s.ensures.1
+    c.side_at-t.ensures.1))) in (
+      leads-next c.requires.0 c.requires.1 c.requires.2 c.loop-s.invariant.0 (steps c.before.before.before.before.before false) refl
+          (ap (walk_of m n) (sym on) ∙ advances c.before.before.before.before.before) c.pair.ensures c.better-best.ensures,
+      c.next-s.ensures.1,
+      c.next-t.ensures.1,
     )

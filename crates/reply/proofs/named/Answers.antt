@@ -18,13 +18,11 @@ three c = search rules
 pub preceded-requires : goal.preceded-requires
 preceded-requires c =
     let r = c.of_distance.result in
-    let start = c.before in
-    let d = start.args.distance in
-    let f = start.args.floor in
+    let d = c.args.distance in
+    let f = c.args.floor in
     let all = counted r.number r.count r.carried r.values (three c) (values_of d ++ (pos f ∷ [])) c.of_distance.ensures in
     omega (arith, all, distance-room d f)
 
 pub returns : goal.returns
 returns c =
-    let start = c.before.before in
-    c.preceded.ensures (values_of start.args.distance ++ (pos start.args.floor ∷ [])) c.before.of_distance.ensures
+    c.preceded.ensures (values_of c.args.distance ++ (pos c.args.floor ∷ [])) c.of_distance.ensures

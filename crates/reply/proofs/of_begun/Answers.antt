@@ -11,11 +11,11 @@ use Rattle.reply.proofs.of_begun.Goals as goal
 
 pub returns-in-At : goal.returns-in-At
 returns-in-At c =
-    let at = c.before.before.before.answer-1.given in
+    let at = c.answer-1.given in
     let walk = at.0.0 in
     c.answered4.ensures
-    ∙ ap (λ (z : ℤ). crossed (answered (pos walk.first ∷ pos walk.second ∷ z ∷ pos at.0.1.0 ∷ []))) c.before.flag.ensures
+    ∙ ap (λ (z : ℤ). crossed (answered (pos walk.first ∷ pos walk.second ∷ z ∷ pos at.0.1.0 ∷ []))) c.flag.ensures
     ∙ told of_begun at.1
 
 pub returns-in-No : goal.returns-in-No
-returns-in-No c = c.of_refusal.ensures ∙ told of_begun c.before.before.in-No.is
+returns-in-No c = c.of-refusal.ensures ∙ told of_begun c.before.before.answer2.given.1

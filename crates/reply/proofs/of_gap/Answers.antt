@@ -16,7 +16,7 @@ use Rattle.reply.proofs.of_gap.Goals.{After-named}
 -- the second name, the distance and the floor
 abbrev named-numbers : After-named → List ℤ
 named-numbers c =
-    let parts = c.before.before.answer-in-Apart-1.given.0.1 in
+    let parts = c.before.before.answer2.given.0.1 in
     pos parts.0 ∷ values_of parts.1.0 ++ (pos parts.1.1.0 ∷ [])
 
 -- an array of three
@@ -27,15 +27,15 @@ pub preceded-requires : goal.preceded-requires
 preceded-requires c =
     let r = c.named.result in
     let all = counted r.number r.count r.carried r.values (three c) (named-numbers c) c.named.ensures in
-    let parts = c.before.before.answer-in-Apart-1.given.0.1.1 in
+    let parts = c.answer-in-Apart-1.given.0.1.1 in
     omega (arith, all, distance-room parts.0 parts.1.0)
 
 pub returns-in-Meets : goal.returns-in-Meets
-returns-in-Meets c = c.answered4.ensures ∙ told of_gap c.before.before.in-Meets.is
+returns-in-Meets c = c.answered4.ensures ∙ told of_gap c.before.before.answer.given.1
 
 pub returns-in-Apart : goal.returns-in-Apart
 returns-in-Apart c = c.preceded.ensures (named-numbers c.before) c.before.named.ensures
-    ∙ told of_gap c.before.before.before.in-Apart.is
+    ∙ told of_gap c.before.before.before.answer2.given.1
 
 pub returns-in-No : goal.returns-in-No
-returns-in-No c = c.of_refusal.ensures ∙ told of_gap c.before.before.in-No.is
+returns-in-No c = c.of-refusal.ensures ∙ told of_gap c.before.before.answer3.given.1

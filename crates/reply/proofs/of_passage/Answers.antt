@@ -13,22 +13,21 @@ use Rattle.reply.proofs.of_passage.Goals as goal
 
 pub returns-in-Free : goal.returns-in-Free
 returns-in-Free c =
-    let found = c.before.before.before.before.before in
-    let at = found.before.answer-in-Free-1.given in
-    let seen = found.known_told-in-Free-1.given in
-    let u = kept-bits w32 at.0.0 seen.0.1 c.before.before.before.before.extended.ensures in
-    let v = kept-bits w32 at.0.1.0 seen.1.0.1 c.before.before.before.extended-in-Free.ensures in
-    let low = kept-bits w64 at.0.1.1.0 seen.1.1.0.1 c.before.before.bits.ensures in
-    let high = kept-bits w64 at.0.1.1.1.0 seen.1.1.1.0.1 c.before.bits-in-Free.ensures in
+    let at = c.answer-in-Free-1.given in
+    let seen = c.known_told-in-Free-1.given in
+    let u = kept-bits w32 at.0.0 seen.0.1 c.extended.ensures in
+    let v = kept-bits w32 at.0.1.0 seen.1.0.1 c.extended-in-Free.ensures in
+    let low = kept-bits w64 at.0.1.1.0 seen.1.1.0.1 c.bits.ensures in
+    let high = kept-bits w64 at.0.1.1.1.0 seen.1.1.1.0.1 c.bits-in-Free.ensures in
     c.answered7.ensures
-    ∙ ap₂ (λ (m n : ℕ). crossed (answered (pos 1 ∷ pos m ∷ pos n ∷ pos c.before.before.bits.result ∷ pos c.before.bits-in-Free.result
+    ∙ ap₂ (λ (m n : ℕ). crossed (answered (pos 1 ∷ pos m ∷ pos n ∷ pos c.bits.result ∷ pos c.bits-in-Free.result
     ∷ pos at.0.1.1.1.1.0 ∷ pos at.0.1.1.1.1.1.0 ∷ []))) u v
     ∙ ap₂ (λ (m n : ℕ). crossed (answered (pos 1 ∷ pos (bits at.0.0) ∷ pos (bits at.0.1.0) ∷ pos m ∷ pos n
     ∷ pos at.0.1.1.1.1.0 ∷ pos at.0.1.1.1.1.1.0 ∷ []))) low high
     ∙ told of_passage at.1
 
 pub returns-in-Blocked : goal.returns-in-Blocked
-returns-in-Blocked c = c.answered2.ensures ∙ told of_passage c.before.before.in-Blocked.is
+returns-in-Blocked c = c.answered2.ensures ∙ told of_passage c.before.before.answer.given.1
 
 pub returns-in-No : goal.returns-in-No
-returns-in-No c = c.of_refusal.ensures ∙ told of_passage c.before.before.in-No.is
+returns-in-No c = c.of-refusal.ensures ∙ told of_passage c.before.before.answer3.given.1

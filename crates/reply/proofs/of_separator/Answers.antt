@@ -13,15 +13,14 @@ use Rattle.reply.proofs.of_separator.Goals as goal
 
 pub returns-in-Direction : goal.returns-in-Direction
 returns-in-Direction c =
-    let found = c.before.before.before in
-    let at = found.before.answer-1.given in
-    let u = kept-bits w32 at.0.0 found.known_told-1.given.0.1 c.before.before.extended.ensures in
-    let v = kept-bits w32 at.0.1.0 found.known_told-1.given.1.0.1 c.before.extended-in-Direction.ensures in
+    let at = c.answer-1.given in
+    let u = kept-bits w32 at.0.0 c.known_told-1.given.0.1 c.extended.ensures in
+    let v = kept-bits w32 at.0.1.0 c.known_told-1.given.1.0.1 c.extended-in-Direction.ensures in
     c.answered4.ensures ∙ ap₂ (λ (m n : ℕ). crossed (answered (pos 1 ∷ pos m ∷ pos n ∷ pos at.0.1.1.0 ∷ []))) u v
     ∙ told of_separator at.1
 
 pub returns-in-Nothing : goal.returns-in-Nothing
-returns-in-Nothing c = c.answered2.ensures ∙ told of_separator c.before.before.in-Nothing.is
+returns-in-Nothing c = c.answered2.ensures ∙ told of_separator c.before.before.answer2.given.1
 
 pub returns-in-No : goal.returns-in-No
-returns-in-No c = c.of_refusal.ensures ∙ told of_separator c.before.before.in-No.is
+returns-in-No c = c.of-refusal.ensures ∙ told of_separator c.before.before.answer3.given.1

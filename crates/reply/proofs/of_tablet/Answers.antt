@@ -13,11 +13,10 @@ use Rattle.reply.proofs.of_tablet.Goals as goal
 
 pub returns-in-Corner : goal.returns-in-Corner
 returns-in-Corner c =
-    let found = c.before.before.before in
-    let at = found.before.answer-1.given in
-    let x = kept-bits w32 at.0.1.0 found.known_told-1.given.1.0.1 c.before.before.extended.ensures in
-    let y = kept-bits w32 at.0.1.1.0 found.known_told-1.given.1.1.0.1 c.before.extended-in-Corner.ensures in
+    let at = c.answer-1.given in
+    let x = kept-bits w32 at.0.1.0 c.known_told-1.given.1.0.1 c.extended.ensures in
+    let y = kept-bits w32 at.0.1.1.0 c.known_told-1.given.1.1.0.1 c.extended-in-Corner.ensures in
     c.answered2.ensures ∙ ap₂ (λ (m n : ℕ). crossed (answered (pos m ∷ pos n ∷ []))) x y ∙ told (λ x. (of_tablet x).reply) at.1
 
 pub returns-in-No : goal.returns-in-No
-returns-in-No c = c.of_unread.ensures ∙ told (λ x. (of_tablet x).reply) c.before.before.in-No.is
+returns-in-No c = c.of-unread.ensures ∙ told (λ x. (of_tablet x).reply) c.before.before.answer2.given.1

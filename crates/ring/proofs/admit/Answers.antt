@@ -16,21 +16,21 @@ use Rattle.ring.proofs.admit.Goals as goal
 use Rattle.ring.proofs.admit.Goals.{After-exceeds_points, Else-bad_count, Else-exceeds_points}
 
 -- ---- the rows that do not apply, each where it is known
-row-1 : (c : Else-bad_count) → bad_count c.before.before.args.list.now ≡ false
-row-1 c = sym c.before.bad_count.ensures ∙ c.if-bad_count.false
+row-1 : (c : Else-bad_count) → bad_count c.args.list.now ≡ false
+row-1 c = sym c.bad_count.ensures ∙ c.if-bad_count.false
 
 -- the code's test is row 2
 told-2 : (c : After-exceeds_points)
-    → c.exceeds_points.result ≡ too_many_points (open_ring (points c.before.before.before.before.args.list.now))
+    → c.exceeds_points.result ≡ too_many_points (open_ring (points c.args.list.now))
 unfolding too_many_points
-told-2 c = c.exceeds_points.ensures ∙ ap (ltb max_points) c.before.open_count.ensures
+told-2 c = c.exceeds_points.ensures ∙ ap (ltb max_points) c.open_count.ensures
 
-row-2 : (c : Else-exceeds_points) → too_many_points (open_ring (points c.before.before.before.before.before.args.list.now)) ≡ false
+row-2 : (c : Else-exceeds_points) → too_many_points (open_ring (points c.args.list.now)) ≡ false
 row-2 c = sym (told-2 c.before) ∙ c.if-exceeds_points.false
 
 -- ---- the needs
 pub returns-then-bad_count : goal.returns-then-bad_count
-returns-then-bad_count c = turns-away (refuses (here (sym c.before.bad_count.ensures ∙ c.if-bad_count.true)))
+returns-then-bad_count c = turns-away (refuses (here (sym c.bad_count.ensures ∙ c.if-bad_count.true)))
 
 pub open_count-requires : goal.open_count-requires
 open_count-requires c = (counted _ (row-1 c)).0
@@ -40,14 +40,12 @@ returns-then-exceeds_points c = turns-away (refuses (later (row-1 c.before.befor
 
 pub returns-then-some_outside : goal.returns-then-some_outside
 returns-then-some_outside c =
-    let at-2 = c.before.before in
-    turns-away (refuses (later (row-1 at-2.before.before.before) (later (row-2 at-2)
-    (here (sym c.before.some_outside.ensures ∙ c.if-some_outside.true)))))
+    turns-away (refuses (later (row-1 c.before.before.before.before.before) (later (row-2 c.before.before)
+    (here (sym c.some_outside.ensures ∙ c.if-some_outside.true)))))
 
 pub returns : goal.returns
 returns c =
-    let at-2 = c.before.before in
     passes (accepted→ring _ (
-      row-1 at-2.before.before.before,
-      (row-2 at-2, (sym c.before.some_outside.ensures ∙ c.if-some_outside.false, tt)),
+      row-1 c.before.before.before.before.before,
+      (row-2 c.before.before, (sym c.some_outside.ensures ∙ c.if-some_outside.false, tt)),
     ))

@@ -11,17 +11,15 @@ use Rattle.ring.specs.theory.Steps.{closed_at, opened-count}
 use Rattle.ring.proofs.open_count.Goals as goal
 
 pub overflow_sub-n : goal.overflow_sub-n
-overflow_sub-n c = omega (arith, c.count-n.ensures, c.before.requires)
+overflow_sub-n c = omega (arith, c.count-n.ensures, c.requires)
 
 pub less_closing-requires : goal.less_closing-requires
 less_closing-requires c =
-    let start = c.before in
-    (start.requires, omega (arith, c.count-n.ensures, start.requires))
+    (c.requires, omega (arith, c.count-n.ensures, c.requires))
 
 pub returns : goal.returns
 returns c =
-    let at_count = c.before in
-    let ps = points at_count.before.args.list.now in
+    let ps = points c.args.list.now in
     c.less_closing.ensures
-    ∙ ap (λ (n : ℕ). cond (ltb 1 n && same_point (corner ps 0) (corner ps (n - 1))) (n - 1) n) at_count.count-n.ensures
+    ∙ ap (λ (n : ℕ). cond (ltb 1 n && same_point (corner ps 0) (corner ps (n - 1))) (n - 1) n) c.count-n.ensures
     ∙ ap (λ (t : Bool). cond t (length ps - 1) (length ps)) (sym (closed_at (λ p. p) origin ps)) ∙ sym (opened-count (λ p. p) ps)

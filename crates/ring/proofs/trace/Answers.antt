@@ -17,51 +17,46 @@ use Rattle.ring.proofs.trace.Goals.{After-distinct-m, Start}
 -- the positions that were found
 module _ (c : After-distinct-m) where
   abbrev begin : Start
-  begin = c.before.before.before.before
+  begin = (goal.at.After-distinct-m c).Start
 
   abbrev ps : List Point
   ps = points begin.args.list.now
 
-  found : Held (ring_places ps) c.distinct-m.result c.distinct-m.new.1.1.1.0
+  found : Held (ring_places ps) c.distinct-m.result c.distinct-m.new.kept
   found =
-      subst (λ (xs : List ℕ). Held xs c.distinct-m.result c.distinct-m.new.1.1.1.0)
+      subst (λ (xs : List ℕ). Held xs c.distinct-m.result c.distinct-m.new.kept)
       (places-are ps begin.args.n begin.args.start begin.pre.2.all begin.pre.2.least) c.distinct-m.ensures
 
 pub distinct-m-requires : goal.distinct-m-requires
 distinct-m-requires c =
-    let start = c.before.before.before in
-    let ps = points start.args.list.now in
-    let all = start.requires.2.all in (
+    let ps = points c.args.list.now in
+    let all = c.requires.2.all in (
       omega (arith, all, opened-le (λ p. p) ps),
-      subst (λ (k : ℕ). k < start.args.n) (sym start.requires.2.least)
-          (least-below (corner ps) start.args.n (omega (arith, all, opened_some (λ p. p) ps start.requires.1))),
-      omega (arith, start.requires.3),
+      subst (λ (k : ℕ). k < c.args.n) (sym c.requires.2.least)
+          (least-below (corner ps) c.args.n (omega (arith, all, opened_some (λ p. p) ps c.requires.1))),
+      omega (arith, c.requires.3),
     )
 
 pub slice_bounds-corners-end-2 : goal.slice_bounds-corners-end-2
 slice_bounds-corners-end-2 c =
-    let at = c.before.before.before in
-    (found at).counted ∙ ap length (sym (found at).front)
+    (found (goal.at.slice_bounds-corners-end-2 c).After-distinct-arg-1).counted ∙ ap length (sym (found (goal.at.slice_bounds-corners-end-2 c).After-distinct-arg-1).front)
 
 pub corners-requires : goal.corners-requires
 corners-requires c =
-    let at = c.before.before.before.before in
-    let start = begin at in
+    let start = begin (goal.at.corners-requires c).After-distinct-arg-1 in
     let ps = points start.args.list.now in
-    let front = sym (found at).front in (
+    let front = sym (found (goal.at.corners-requires c).After-distinct-arg-1).front in (
       subst (Placed start.args.list.now) front
           (record { near = start.pre.0; below = λ j h. under_at (length ps) (ring_places ps) (places-under ps start.pre.1) j h }),
       subst (λ (xs : List ℕ). 0 < length xs) front (places-some ps start.pre.1),
-      subst (λ (xs : List ℕ). length xs ≤ length start.args.bent-1.now) front
+      subst (λ (xs : List ℕ). length xs ≤ length start.args.bent.now) front
           (omega (arith, places-few ps start.pre.1, start.pre.2.all, start.pre.4)),
     )
 
 pub returns : goal.returns
 returns c =
-    let at-corners = c.before.before in
-    let at = at-corners.before.before.before.before.before in
-    let ps = points (begin at).args.list.now in
+    let ps = points (begin (goal.at.returns c).After-distinct-arg-1).args.list.now in
     let f = corner ps in
-    subst (λ (xs : List ℕ). Held xs at-corners.corners.result at-corners.corners.new.1.1.0) (corners-are ps)
-    (subst (λ (xs : List ℕ). Held (bends f (sensed f xs)) at-corners.corners.result at-corners.corners.new.1.1.0)
-    (found at).front at-corners.corners.ensures)
+    subst (λ (xs : List ℕ). Held xs c.corners.result c.corners.new.bent) (corners-are ps)
+    (subst (λ (xs : List ℕ). Held (bends f (sensed f xs)) c.corners.result c.corners.new.bent)
+    (found (goal.at.returns c).After-distinct-arg-1).front c.corners.ensures)

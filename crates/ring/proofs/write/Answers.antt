@@ -22,27 +22,23 @@ two-each c =
     let f = corner (points c.args.list.now) in
     numbers-length (map f c.args.places.now) ∙ ap (λ (n : ℕ). 2 * n) (length-map c.args.places.now f)
 
-length-kept : (c : At-loop-k) → length c.loop-k.out-1 ≡ length c.before.before.args.out-1.now
+length-kept : (c : At-loop-k) → length c.loop-k.out ≡ length c.args.out.now
 length-kept c =
-    let start = c.before.before in
-    filled-length c.loop-k.invariant.0 (omega (arith, two-each start, c.loop-k.invariant.1)) (omega (arith, start.requires.1, c.loop-k.invariant.1))
+    filled-length c.loop-k.invariant.0 (omega (arith, two-each (goal.at.At-loop-k c).Start, c.loop-k.invariant.1)) (omega (arith, c.requires.1, c.loop-k.invariant.1))
 
 pub offset_bounds-places-k : goal.offset_bounds-places-k
 offset_bounds-places-k c = omega arith
 
 pub bounds-places-k : goal.bounds-places-k
-bounds-places-k c = c.before.before.loop-k-test.true
+bounds-places-k c = c.loop-k-test.true
 
 pub corner_at-requires : goal.corner_at-requires
 corner_at-requires c =
-    let start = c.before.before.before.before.before in
-    start.requires.0.below _ c.before.before.loop-k-test.true
+    c.requires.0.below _ c.loop-k-test.true
 
 pub put-requires : goal.put-requires
 put-requires c =
-    let in-loop = c.before.before.before in
-    let at-loop = in-loop.before in
-    omega (arith, in-loop.loop-k-test.true, at-loop.before.before.requires.1, length-kept at-loop)
+    omega (arith, c.loop-k-test.true, c.requires.1, length-kept (goal.at.put-requires c).At-loop-k)
 
 pub overflow_add-k : goal.overflow_add-k
 overflow_add-k c = omega arith
@@ -52,25 +48,20 @@ loop-k-smaller c = omega arith
 
 pub loop-k-preserved : goal.loop-k-preserved
 loop-k-preserved c =
-    let at-corner = c.before.before in
-    let in-loop = at-corner.before.before.before in
-    let at-loop = in-loop.before in
-    let start = at-loop.before.before in
-    let k = at-loop.loop-k.k in
-    let f = corner (points start.args.list.now) in
-    let ps = map f start.args.places.now in
-    let at = at-corner.corner_at.ensures ∙ sym (map_at f start.args.places.now k in-loop.loop-k-test.true) in (
-      subst (λ (out : List ℤ). Filled start.args.out-1.now (numbers ps) (2 * (k + 1)) out) (sym c.before.put.ensures)
-          (filled-corner ps k at-loop.loop-k.invariant.0 (omega (arith, in-loop.loop-k-test.true, length-map start.args.places.now f))
-          (omega (arith, two-each start, start.requires.1)) (ap (λ (p : Point). p.x) at) (ap (λ (p : Point). p.y) at)),
-      omega (arith, in-loop.loop-k-test.true),
+    let k = c.loop-k.k in
+    let f = corner (points c.args.list.now) in
+    let ps = map f c.args.places.now in
+    let at = c.corner_at.ensures ∙ sym (map_at f c.args.places.now k c.loop-k-test.true) in (
+      subst (λ (out : List ℤ). Filled c.args.out.now (numbers ps) (2 * (k + 1)) out) (sym c.put.ensures)
+          (filled-corner ps k c.loop-k.invariant.0 (omega (arith, c.loop-k-test.true, length-map c.args.places.now f))
+          (omega (arith, two-each (goal.at.loop-k-preserved c).Start, c.requires.1)) (ap (λ (p : Point). p.x) at) (ap (λ (p : Point). p.y) at)),
+      omega (arith, c.loop-k-test.true),
     )
 
 pub shape_of-out : goal.shape_of-out
-shape_of-out c = length-kept c.before
+shape_of-out c = length-kept (goal.at.shape_of-out c).At-loop-k
 
 pub returns : goal.returns
 returns c =
-    let at-loop = c.before in
-    filled-done at-loop.loop-k.invariant.0
-    (omega (arith, c.loop-k-test.false, at-loop.loop-k.invariant.1, two-each at-loop.before.before))
+    filled-done c.loop-k.invariant.0
+    (omega (arith, c.loop-k-test.false, c.loop-k.invariant.1, two-each (goal.at.returns c).Start))

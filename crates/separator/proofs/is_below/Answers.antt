@@ -23,34 +23,31 @@ reach-greatest-requires c =
     (c.requires.0.shape.some, c.requires.0.in_range, small-wide (good-small (at c.args.d) c.requires.2))
 
 pub opposite-requires : goal.opposite-requires
-opposite-requires c = good-small _ c.before.requires.2
+opposite-requires c = good-small _ c.requires.2
 
 pub reach-least-requires : goal.reach-least-requires
 reach-least-requires c =
-    let start = c.before.before in
-    let good = opposite-good (at start.args.d) start.requires.2 in
-    let v = start.requires.1 in
+    let good = opposite-good (at c.args.d) c.requires.2 in
+    let v = c.requires.1 in
     (v.shape.some, v.in_range, subst (Small (2 ^ 22)) (sym c.opposite.ensures) (small-wide (good-small _ good)))
 
 -- the two values, and that they are small
-greatest : (c : After-reach-greatest) → let start = c.before in
-    let S = support (at start.args.d) (points start.args.a.now) in
+greatest : (c : After-reach-greatest) →
+    let S = support (at c.args.d) (points c.args.a.now) in
     (c.reach-greatest.result ≡ S) × Within 4_000_000_000_000 S
 greatest c =
-    let start = c.before in
-    let near = direction-near _ start.requires.2 in
-    let v = start.requires.0 in
-    (c.reach-greatest.ensures, support-size start.args.a.now v.in_range near.0 near.1 v.shape.some)
+    let near = direction-near _ c.requires.2 in
+    let v = c.requires.0 in
+    (c.reach-greatest.ensures, support-size c.args.a.now v.in_range near.0 near.1 v.shape.some)
 
-least : (c : After-reach-least) → let start = c.before.before.before in
-    let S = support (opposite (at start.args.d)) (points start.args.b.now) in
+least : (c : After-reach-least) →
+    let S = support (opposite (at c.args.d)) (points c.args.b.now) in
     (c.reach-least.result ≡ S) × Within 4_000_000_000_000 S
 least c =
-    let start = c.before.before.before in
-    let near = direction-near _ (opposite-good (at start.args.d) start.requires.2) in
-    let v = start.requires.1 in (
-      c.reach-least.ensures ∙ ap (λ (d : Point). support d (points start.args.b.now)) c.before.opposite.ensures,
-      support-size start.args.b.now v.in_range near.0 near.1 v.shape.some,
+    let near = direction-near _ (opposite-good (at c.args.d) c.requires.2) in
+    let v = c.requires.1 in (
+      c.reach-least.ensures ∙ ap (λ (d : Point). support d (points c.args.b.now)) c.opposite.ensures,
+      support-size c.args.b.now v.in_range near.0 near.1 v.shape.some,
     )
 
 pub overflow_sub-least : goal.overflow_sub-least
@@ -59,9 +56,9 @@ overflow_sub-least c =
     let p = known e h in
     machine-fits (search machine depth 40) tt
 
-least-is : (c : After-reach-least) → let start = c.before.before.before in
+least-is : (c : After-reach-least) →
     to_z w64 (of_z w64 (pos 0 -ℤ to_z w64 (of_z w64 c.reach-least.result)))
-    ≡ neg_ℤ (support (opposite (at start.args.d)) (points start.args.b.now))
+    ≡ neg_ℤ (support (opposite (at c.args.d)) (points c.args.b.now))
 least-is c =
     let (e, h) = least c in
     let p = known e h in
@@ -69,8 +66,7 @@ least-is c =
 
 pub returns : goal.returns
 returns c =
-    let start = c.before.before.before in
     let (e, h) = greatest c.before.before in
     ap₂ lt_z (machine-is (machine-read w64 _ (known e h)) tt) (least-is c)
-    ∙ below-support (at start.args.d) (points start.args.a.now) (points start.args.b.now) start.requires.0.shape.some
-    start.requires.1.shape.some
+    ∙ below-support (at c.args.d) (points c.args.a.now) (points c.args.b.now) c.requires.0.shape.some
+    c.requires.1.shape.some

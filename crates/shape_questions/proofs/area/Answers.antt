@@ -15,12 +15,12 @@ abbrev shape : Start → Floored
 shape c = on c.args.list.now c.args.floor
 
 -- past the judging the list is a shape
-valid : (c : In_default) → Valid c.before.before.before.args.list.now
-valid c = c.before.before.admit.ensures.valid c.in_default.is
+valid : (c : In_default) → Valid c.args.list.now
+valid c = c.admit.ensures.valid c.in_default.is
 
 pub returns-in-No : goal.returns-in-No
-returns-in-No c = (shapes-refused (ask_area (shape c.before.before.before.before))
-    (c.before.before.before.admit.ensures.no _ c.before.in-No.is)).0
+returns-in-No c = (shapes-refused (ask_area (shape (goal.at.returns-in-No c).Start))
+    (c.admit.ensures.no _ c.in-No.is)).0
 
 pub twice_area-requires : goal.twice_area-requires
 twice_area-requires c = valid c
@@ -28,4 +28,4 @@ twice_area-requires c = valid c
 pub returns : goal.returns
 returns c =
     let a = shape c.before.before.before.before in
-    all-answered (ask_area a) (valid c.before) tt (ap (λ z. z ∷ pos a.floor ∷ []) (sym c.twice_area.ensures))
+    all-answered (ask_area a) (valid (goal.at.returns c).In_default) tt (ap (λ z. z ∷ pos a.floor ∷ []) (sym c.twice_area.ensures))

@@ -36,12 +36,12 @@ abbrev asked : Start → Question
 asked c = ask_furthest (on c.args.list.now c.args.floor) (towards c)
 
 -- past the judging the list is a shape
-valid : (c : In_default) → Valid c.before.before.before.args.list.now
-valid c = c.before.before.admit.ensures.valid c.in_default.is
+valid : (c : In_default) → Valid c.args.list.now
+valid c = c.admit.ensures.valid c.in_default.is
 
 -- the direction, read back from its bits
 direction-is : (c : Start) → point (to_z w32 (of_z w32 c.args.u)) (to_z w32 (of_z w32 c.args.v)) ≡ towards c
-direction-is c = ap₂ point (to_z-of_z c.ranges.u) (to_z-of_z c.ranges.v)
+direction-is c = ap₂ point (to_z-of_z {w = w32} c.ranges.u) (to_z-of_z {w = w32} c.ranges.v)
 
 -- what judging it says
 judged-direction : (c : After-admit_direction) → let d = towards c.before.before.before.before in
@@ -51,23 +51,22 @@ judged-direction c =
     (direction-is c.before.before.before.before) c.admit_direction.ensures
 
 -- past it, neither row applies
-passed : (c : In_default-admit_direction) → NoneApply (direction_rows (towards c.before.before.before.before.before.before))
-passed c = (judged-direction c.before.before).valid c.in_default-admit_direction.is
+passed : (c : In_default-admit_direction) → NoneApply (direction_rows (towards (goal.at.In_default-admit_direction c).Start))
+passed c = (judged-direction (goal.at.In_default-admit_direction c).After-admit_direction).valid c.in_default-admit_direction.is
 
 pub returns-in-No : goal.returns-in-No
-returns-in-No c = (shapes-refused (asked c.before.before.before.before)
-    (c.before.before.before.admit.ensures.no _ c.before.in-No.is)).0
+returns-in-No c = (shapes-refused (asked (goal.at.returns-in-No c).Start)
+    (c.admit.ensures.no _ c.in-No.is)).0
 
 pub returns-in-No-admit_direction : goal.returns-in-No-admit_direction
 returns-in-No-admit_direction c =
-    let at-judged = c.before.before.before in
-    (rest-refused (asked at-judged.before.before.before.before) (valid at-judged.before)
-    ((judged-direction at-judged).no _ c.before.in-No-admit_direction.is)).0
+    (rest-refused (asked (goal.at.returns-in-No-admit_direction c).Start) (valid (goal.at.returns-in-No-admit_direction c).In_default)
+    ((judged-direction (goal.at.returns-in-No-admit_direction c).After-admit_direction).no _ c.in-No-admit_direction.is)).0
 
 pub face_towards-face-requires : goal.face_towards-face-requires
 face_towards-face-requires c =
-    let direction = sym (direction-is c.before.before.before.before.before.before) in
-    let v = valid c.before.before.before in
+    let direction = sym (direction-is (goal.at.face_towards-face-requires c).Start) in
+    let v = valid (goal.at.face_towards-face-requires c).In_default in
     let good = (passed c).0 in
     let near = direction-near _ good in
     let small : Small 2097152 _ = record { small-x = within-widen part_small near.0; small-y = within-widen part_small near.1 } in
@@ -79,16 +78,14 @@ told e f g = rw (e, f, g) refl
 
 pub returns : goal.returns
 returns c =
-    let at-passed = c.before.before in
-    let start = at-passed.before.before.before.before.before.before in
-    let ps = points start.args.list.now in
-    let face = c.before.face_towards-face.ensures in
-    let first = face.0 ∙ ap (λ (d : Point). face_first d ps) (direction-is start) in
-    let last = face.1.0 ∙ ap (λ (d : Point). face_last d ps) (direction-is start) in
-    let good = passed at-passed in
-    let v = valid at-passed.before.before.before in
+    let ps = points c.args.list.now in
+    let face = c.face_towards-face.ensures in
+    let first = face.0 ∙ ap (λ (d : Point). face_first d ps) (direction-is c.before.before.before.before.before.before.before.before) in
+    let last = face.1.0 ∙ ap (λ (d : Point). face_last d ps) (direction-is c.before.before.before.before.before.before.before.before) in
+    let good = passed (goal.at.returns c).In_default-admit_direction in
+    let v = valid (goal.at.returns c).In_default in
     let near = direction-near _ good.0 in
-    let small = known (face.1.1 ∙ ap (λ (d : Point). support d ps) (direction-is start))
+    let small = known (face.1.1 ∙ ap (λ (d : Point). support d ps) (direction-is c.before.before.before.before.before.before.before.before))
     (support-size _ v.in_range near.0 near.1 v.shape.some) in
     let value = machine-is (machine-read w64 _ small) tt in
-    all-answered (asked start) v good (told first last value)
+    all-answered (asked c.before.before.before.before.before.before.before.before) v good (told first last value)

@@ -16,14 +16,13 @@ abbrev asked : Start → Question
 asked c = ask_judge (on c.args.list.now c.args.floor)
 
 -- past the judging the list is a shape
-valid : (c : In_default) → Valid c.before.before.before.args.list.now
-valid c = c.before.before.admit.ensures.valid c.in_default.is
+valid : (c : In_default) → Valid c.args.list.now
+valid c = c.admit.ensures.valid c.in_default.is
 
 pub returns-in-No : goal.returns-in-No
-returns-in-No c = (shapes-refused (asked c.before.before.before.before)
-    (c.before.before.before.admit.ensures.no _ c.before.in-No.is)).0
+returns-in-No c = (shapes-refused (asked (goal.at.returns-in-No c).Start)
+    (c.admit.ensures.no _ c.in-No.is)).0
 
 pub returns : goal.returns
 returns c =
-    let start = c.before.before.before.before in
-    all-answered (asked start) (valid c.before) tt (ap (λ (n : ℕ). pos n ∷ pos start.args.floor ∷ []) c.count.ensures)
+    all-answered (asked c.before.before.before.before) (valid (goal.at.returns c).In_default) tt (ap (λ (n : ℕ). pos n ∷ pos c.args.floor ∷ []) c.count.ensures)

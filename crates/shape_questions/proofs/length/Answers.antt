@@ -13,12 +13,12 @@ abbrev shape : Start → Floored
 shape c = on c.args.list.now c.args.floor
 
 -- past the judging the list is a shape
-valid : (c : In_default) → Valid c.before.before.before.args.list.now
-valid c = c.before.before.admit.ensures.valid c.in_default.is
+valid : (c : In_default) → Valid c.args.list.now
+valid c = c.admit.ensures.valid c.in_default.is
 
 pub returns-in-No : goal.returns-in-No
-returns-in-No c = (shapes-refused (ask_length (shape c.before.before.before.before))
-    (c.before.before.before.admit.ensures.no _ c.before.in-No.is)).0
+returns-in-No c = (shapes-refused (ask_length (shape (goal.at.returns-in-No c).Start))
+    (c.admit.ensures.no _ c.in-No.is)).0
 
 pub furthest_pair-found-requires : goal.furthest_pair-found-requires
 furthest_pair-found-requires c = valid c
@@ -26,4 +26,4 @@ furthest_pair-found-requires c = valid c
 pub returns : goal.returns
 returns c =
     let a = shape c.before.before.before.before in
-    all-answered (ask_length a) (valid c.before) tt (length-values a c.furthest_pair-found.ensures)
+    all-answered (ask_length a) (valid (goal.at.returns c).In_default) tt (length-values a c.furthest_pair-found.ensures)

@@ -12,17 +12,16 @@ abbrev swept : Start → Floored
 swept c = on c.args.list.now c.args.floor
 
 -- past the judging the list holds points
-valid : (c : In_default) → ValidPoints c.before.before.before.args.list.now
-valid c = c.before.before.admit_points.ensures.valid c.in_default.is
+valid : (c : In_default) → ValidPoints c.args.list.now
+valid c = c.admit_points.ensures.valid c.in_default.is
 
 pub returns-in-No : goal.returns-in-No
 returns-in-No c =
-    let start = c.before.before.before.before in
-    shapes-refused (ask_sweep (swept start) start.args.out-1.now)
-    (c.before.before.before.admit_points.ensures.no _ c.before.in-No.is)
+    shapes-refused (ask_sweep (swept (goal.at.returns-in-No c).Start) c.args.out.now)
+    (c.admit_points.ensures.no _ c.in-No.is)
 
 pub sweep-requires : goal.sweep-requires
-sweep-requires c = valid c.before
+sweep-requires c = valid (goal.at.sweep-requires c).In_default
 
 pub returns : goal.returns
-returns c = c.before.sweep.ensures
+returns c = c.sweep.ensures

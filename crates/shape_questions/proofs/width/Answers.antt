@@ -21,29 +21,28 @@ abbrev shape : Start → Floored
 shape c = on c.args.list.now c.args.floor
 
 -- past the judging the list is a shape
-valid : (c : In_default) → Valid c.before.before.before.args.list.now
-valid c = c.before.before.admit.ensures.valid c.in_default.is
+valid : (c : In_default) → Valid c.args.list.now
+valid c = c.admit.ensures.valid c.in_default.is
 
 -- past the count there are three corners
-three : (c : Else-count-lt3) → 3 ≤ length (points c.before.before.before.before.before.args.list.now)
-three c = omega (arith, c.if-count-lt3.false, c.before.count.ensures)
+three : (c : Else-count-lt3) → 3 ≤ length (points c.args.list.now)
+three c = omega (arith, c.if-count-lt3.false, c.count.ensures)
 
 pub returns-in-No : goal.returns-in-No
-returns-in-No c = (shapes-refused (ask_width (shape c.before.before.before.before))
-    (c.before.before.before.admit.ensures.no _ c.before.in-No.is)).0
+returns-in-No c = (shapes-refused (ask_width (shape (goal.at.returns-in-No c).Start))
+    (c.admit.ensures.no _ c.in-No.is)).0
 
 pub returns-then-count-lt3 : goal.returns-then-count-lt3
 returns-then-count-lt3 c =
     let a = shape c.before.before.before.before.before in
-    let flat = lt-ltb (length (corners a)) 3 (omega (arith, c.if-count-lt3.true, c.before.count.ensures)) in
-    (rest-refused (ask_width a) (valid c.before.before) (refuses {rows = (ask_width a).rest} (here flat))).0
+    let flat = lt-ltb (length (corners a)) 3 (omega (arith, c.if-count-lt3.true, c.count.ensures)) in
+    (rest-refused (ask_width a) (valid (goal.at.returns-then-count-lt3 c).In_default) (refuses {rows = (ask_width a).rest} (here flat))).0
 
 pub narrowest_edge-found-requires : goal.narrowest_edge-found-requires
-narrowest_edge-found-requires c = (valid c.before.before, three c)
+narrowest_edge-found-requires c = (valid (goal.at.narrowest_edge-found-requires c).In_default, three c)
 
 pub returns : goal.returns
 returns c =
-    let at-else = c.before in
-    let a = shape at-else.before.before.before.before.before in
-    all-answered (ask_width a) (valid at-else.before.before) (le-ltb (length (corners a)) 3 (three at-else), tt)
+    let a = shape c.before.before.before.before.before.before in
+    all-answered (ask_width a) (valid (goal.at.returns c).In_default) (le-ltb (length (corners a)) 3 (three c.before), tt)
     (width-values a c.narrowest_edge-found.ensures)

@@ -8,9 +8,7 @@ use Rattle.storing.proofs.add.Goals as goal
 
 pub returns : goal.returns
 returns c =
-    let at_clear = c.before.before.before.before.before.before in
-    let start = at_clear.before.before.before in
-    let args = start.args in
+    let args = c.args in
     let r = recorded args.name args.floor args.list.now in
-    ran-stores args.end r start.requires.0 (omega (arith, recorded-length args.name args.floor args.list.now))
-    at_clear.clear-left.ensures c.before.before.write.ensures.0 c.before.before.write.ensures.1
+    ran-stores args.end r c.requires.0 (omega (arith, recorded-length args.name args.floor args.list.now))
+    c.clear-left.ensures c.write.ensures.0 c.write.ensures.1

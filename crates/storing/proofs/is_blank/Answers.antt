@@ -19,32 +19,30 @@ most-next b from p m n h own le i l k = go (ℕ_discrete i p)
     go (no f) = omega (arith, h i l (omega (arith, k, f)), le)
 
 pub loop-p-init : goal.loop-p-init
-loop-p-init c = absurd (omega (arith, l, m))
+loop-p-init c i l m = absurd (omega (arith, l, m))
 
 pub bounds-log-p : goal.bounds-log-p
-bounds-log-p c = c.before.loop-p-test.true
+bounds-log-p c = c.loop-p-test.true
 
 pub bounds-log-p-then-most-log : goal.bounds-log-p-then-most-log
-bounds-log-p-then-most-log c = c.before.before.before.loop-p-test.true
+bounds-log-p-then-most-log c = c.loop-p-test.true
 
 pub overflow_add-p : goal.overflow_add-p
-overflow_add-p c = omega (arith, c.before.before.loop-p-test.true)
+overflow_add-p c = omega (arith, c.loop-p-test.true)
 
 pub loop-p-smaller : goal.loop-p-smaller
-loop-p-smaller c = omega (arith, c.before.before.loop-p-test.true)
+loop-p-smaller c = omega (arith, c.loop-p-test.true)
 
 pub loop-p-preserved : goal.loop-p-preserved
 loop-p-preserved c =
-    let at-loop = c.before.before.before in
-    let log = at-loop.before.args.log.now in
-    let both : (get_or log at-loop.loop-p.p 0 ≤ c.if-most-log.most) × (at-loop.loop-p.most ≤ c.if-most-log.most) =
+    let log = c.args.log.now in
+    let both : (get_or log c.loop-p.p 0 ≤ c.if-most-log.most) × (c.loop-p.most ≤ c.if-most-log.most) =
     elim c.if-most-log.branch [
       | inl q ↦ (omega (arith, q.2), omega (arith, q.0.taken, q.2))
       | inr q ↦ (omega (arith, q.0.left, q.1), omega (arith, q.1))
     ] in
-    most-next log _ at-loop.loop-p.p _ _ at-loop.loop-p.invariant both.0 both.1
+    most-next log _ c.loop-p.p _ _ c.loop-p.invariant both.0 both.1
 
 pub returns : goal.returns
-returns c =
-    let at-loop = c.before in
-    omega (arith, at-loop.loop-p.invariant i l (omega (arith, m, c.loop-p-test.false)), eqb-true at-loop.loop-p.most 0 c.lifetimes)
+returns c e i l m =
+    omega (arith, c.loop-p.invariant i l (omega (arith, m, c.loop-p-test.false)), eqb-true c.loop-p.most 0 e)

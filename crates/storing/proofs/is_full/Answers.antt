@@ -10,8 +10,8 @@ use Rattle.journal.specs.theory.Read.{recorded-length}
 use Rattle.storing.proofs.is_full.Goals as goal
 
 pub returns : goal.returns
-returns c =
+returns c n f =
     let args = c.args in
-    let count : 2 + 7 + 4 * length args.list.now ≡ length (recorded c.lifetimes f args.list.now) =
-    omega (arith, recorded-length c.lifetimes f args.list.now) in
+    let count : 2 + 7 + 4 * length args.list.now ≡ length (recorded n f args.list.now) =
+    omega (arith, recorded-length n f args.list.now) in
     ap (ltb (length args.log.now - args.end)) count

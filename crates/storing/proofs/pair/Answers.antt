@@ -5,4 +5,4 @@ use Rattle.storing.proofs.pair.Goals as goal
 
 pub returns : goal.returns
 returns c =
-    ran-pair _ _ c.before.before.before.before.before.before.byte-left.ensures c.before.before.byte.ensures
+    ran-pair _ _ c.byte-left.ensures c.byte.ensures

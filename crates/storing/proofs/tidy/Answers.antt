@@ -7,4 +7,4 @@ pub returns-then-log-p-eq0 : goal.returns-then-log-p-eq0
 returns-then-log-p-eq0 c = ran-kept _ _ _ _ c.if-log-p-eq0.true
 
 pub returns : goal.returns
-returns c = ran-cleared _ _ c.before.before.before.before.if-log-p-eq0.false c.before.before.byte.ensures
+returns c = ran-cleared _ _ c.if-log-p-eq0.false c.byte.ensures

@@ -9,7 +9,5 @@ use Rattle.storing.proofs.word.Goals as goal
 
 pub returns : goal.returns
 returns c =
-    let at_low = c.before.before.before.before.before.before in
-    let at_bits = at_low.before.before in
-    let bits = at_bits.bits-n.ensures ∙ ap (of_z w32) (to_z-of_z at_bits.before.before.ranges.z) in
-    ran-word _ _ bits at_low.pair-left.ensures c.before.before.pair.ensures
+    let bits = c.bits-n.ensures ∙ ap (of_z w32) (to_z-of_z {w = w32} c.ranges.z) in
+    ran-word _ _ bits c.pair-left.ensures c.pair.ensures

@@ -16,20 +16,18 @@ use Rattle.sums.proofs.sum.Goals.{Start}
 
 -- the next corners, as many as the output may hold, are the whole sum
 whole : (c : Start) → let args = c.args in
-    next_corners args.a.now args.b.now begun (length args.out-1.now)
+    next_corners args.a.now args.b.now begun (length args.out.now)
     ≡ shape_of (sums (points args.a.now) (points args.b.now))
-whole c = let pre = c.requires in next-all _ _ pre.0 pre.1 (length c.args.out-1.now) (omega (arith, pre.2))
+whole c = let pre = c.requires in next-all _ _ pre.0 pre.1 (length c.args.out.now) (omega (arith, pre.2))
 
 pub walk_on-requires : goal.walk_on-requires
 walk_on-requires c =
-    let start = c.before in
-    let pre = start.requires in
-    let some = sum-some start.args.a.now start.args.b.now pre.0 pre.1 in
-    (at-begin _ _ pre.0 pre.1, omega (arith, some, pre.2), omega (arith, pre.2, ap length (whole start)))
+    let pre = c.requires in
+    let some = sum-some c.args.a.now c.args.b.now pre.0 pre.1 in
+    (at-begin _ _ pre.0 pre.1, omega (arith, some, pre.2), omega (arith, pre.2, ap length (whole c.before)))
 
 pub returns : goal.returns
 returns c =
-    let start = c.before.before.before in
-    let went = c.before.walk_on.ensures in
-    let all = whole start in
-    (went.0.counted ∙ ap length all, went.1 ∙ ap (λ (ps : List Point). overwritten (numbers ps) start.args.out-1.now) all)
+    let went = c.walk_on.ensures in
+    let all = whole c.before.before.before in
+    (went.0.counted ∙ ap length all, went.1 ∙ ap (λ (ps : List Point). overwritten (numbers ps) c.args.out.now) all)

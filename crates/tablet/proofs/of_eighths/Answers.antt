@@ -6,14 +6,13 @@ use Rattle.tablet.specs.theory.Reads.{small-not-whole, scaled-same}
 use Rattle.tablet.proofs.of_eighths.Goals as goal
 
 pub returns-then-is_small : goal.returns-then-is_small
-returns-then-is_small c = small-not-whole c.before.before.args.v (sym c.before.is_small.ensures ∙ c.if-is_small.true)
+returns-then-is_small c = small-not-whole c.args.v (sym c.is_small.ensures ∙ c.if-is_small.true)
 
 pub of_millimetres-requires : goal.of_millimetres-requires
-of_millimetres-requires c = mul-fits binary64 c.before.before.args.v _
+of_millimetres-requires c = mul-fits binary64 c.args.v _
 
 pub returns : goal.returns
 unfolding of_bits
 returns c =
-    let start = c.before.before.before in
     c.of_millimetres.ensures
-    ∙ scaled-same start.args.v start.requires (sym c.before.before.is_small.ensures ∙ c.before.if-is_small.false)
+    ∙ scaled-same c.args.v c.requires (sym c.is_small.ensures ∙ c.if-is_small.false)

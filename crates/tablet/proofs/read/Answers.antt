@@ -10,7 +10,7 @@ pub of_eighths-requires : goal.of_eighths-requires
 of_eighths-requires c = subst T (sym c.known_told-in-Eighths-1.given.0.1) tt
 
 pub returns-in-Millimetres : goal.returns-in-Millimetres
-returns-in-Millimetres c = c.of_millimetres.ensures ∙ ap read_as (sym c.before.before.in-Millimetres.is)
+returns-in-Millimetres c = c.of_millimetres.ensures ∙ ap read_as (sym c.in-Millimetres.is)
 
 pub returns-in-Eighths : goal.returns-in-Eighths
-returns-in-Eighths c = c.of_eighths.ensures ∙ ap read_as (sym c.before.before.in-Eighths.is)
+returns-in-Eighths c = c.of_eighths.ensures ∙ ap read_as (sym c.in-Eighths.is)

@@ -15,17 +15,14 @@ use Rattle.tablet_questions.proofs.tablet.Goals as goal
 
 pub returns-in-No : goal.returns-in-No
 returns-in-No c =
-    let start = c.before.before.before.before in
-    refused-x start.args.x start.args.y _
-    (subst (Coordinated 1 start.args.x) c.before.in-No.is c.before.before.before.read_part.ensures)
+    refused-x c.args.x c.args.y _
+    (subst (Coordinated 1 c.args.x) c.in-No.is c.read_part.ensures)
 
 pub returns-in-No-read_part : goal.returns-in-No-read_part
 returns-in-No-read_part c =
-    let at_y = c.before.before.before in
-    let at_x = at_y.before.before.before.before in
-    let args = at_x.before.args in
-    refused-y args.x args.y _ _ (subst (Coordinated 1 args.x) at_y.before.before.in-Whole.is at_x.read_part.ensures)
-    (subst (Coordinated 2 args.y) c.before.in-No-read_part.is at_y.read_part-in-Whole.ensures)
+    let args = c.args in
+    refused-y args.x args.y _ _ (subst (Coordinated 1 args.x) c.in-Whole.is c.read_part.ensures)
+    (subst (Coordinated 2 args.y) c.in-No-read_part.is c.read_part-in-Whole.ensures)
 
 -- a whole number is read back from its bits, and held by the double that goes back
 both : (m n p q : ℤ) (d e : Float) → p ≡ m → q ≡ n → d ≡ holding p → e ≡ holding q
@@ -38,13 +35,9 @@ both m n p q d e h k i j =
 pub returns-in-Whole-read_part : goal.returns-in-Whole-read_part
 unfolding holding
 returns-in-Whole-read_part c =
-    let at_n = c.before.before in
-    let at_y = at_n.before.before.before in
-    let at-m = at_y.before in
-    let at_x = at-m.before.before.before in
-    let args = at_x.before.args in
-    both at-m.before.in-Whole.m at_n.before.in-Whole-read_part.n _ _ c.before.double.result c.double-in-Whole-read_part.result
-    (result-is w32 at-m.known_told-in-Whole-1.given.0.1 refl) (result-is w32 at_n.known_told-in-Whole-read_part-2-1.given.0.1 refl)
-    c.before.double.ensures c.double-in-Whole-read_part.ensures
-    ∙ sent-corner args.x args.y _ _ (subst (Coordinated 1 args.x) at-m.before.in-Whole.is at_x.read_part.ensures)
-    (subst (Coordinated 2 args.y) at_n.before.in-Whole-read_part.is at_y.read_part-in-Whole.ensures)
+    let args = c.args in
+    both c.in-Whole.m c.in-Whole-read_part.n _ _ c.double.result c.double-in-Whole-read_part.result
+    (result-is w32 c.known_told-in-Whole-1.given.0.1 refl) (result-is w32 c.known_told-in-Whole-read_part-2-1.given.0.1 refl)
+    c.double.ensures c.double-in-Whole-read_part.ensures
+    ∙ sent-corner args.x args.y _ _ (subst (Coordinated 1 args.x) c.in-Whole.is c.read_part.ensures)
+    (subst (Coordinated 2 args.y) c.in-Whole-read_part.is c.read_part-in-Whole.ensures)

@@ -20,17 +20,16 @@ pub loop-to-init : goal.loop-to-init
 loop-to-init c = let pre = c.requires in search-start _ _ pre.0 pre.1 pre.2
 
 -- the corner of the second shape
-below : (c : At-loop-to) → c.loop-to.to < length (points c.before.args.b.now)
-below c = let pre = c.before.requires in search-below _ _ pre.0 pre.1 pre.2 c.loop-to.invariant
+below : (c : At-loop-to) → c.loop-to.to < length (points c.args.b.now)
+below c = let pre = c.requires in search-below _ _ pre.0 pre.1 pre.2 c.loop-to.invariant
 
 pub corner_at-requires : goal.corner_at-requires
 corner_at-requires c = below c
 
 pub settle-from-requires : goal.settle-from-requires
 settle-from-requires c =
-    let start = c.before.before in
-    let pre = start.requires in
-    ready-start start.args.s start.args.t pre.0 pre.1 pre.2 c.before.loop-to.invariant.start (below c.before)
+    let pre = c.requires in
+    ready-start c.args.s c.args.t pre.0 pre.1 pre.2 c.loop-to.invariant.start (below c.before)
     c.corner_at.ensures
 
 pub corner_at-requires-in-loop-to : goal.corner_at-requires-in-loop-to
@@ -38,37 +37,28 @@ corner_at-requires-in-loop-to c = c.settle-from.ensures.within
 
 pub better-requires : goal.better-requires
 better-requires c =
-    let at-settle = c.before in
-    let at-loop = at-settle.before.before in
-    let pre = at-loop.before.requires in
-    ready-end _ at-loop.before.args.t pre.0 pre.1 pre.2 at-loop.loop-to.invariant.start (below at-loop)
-    at-settle.before.corner_at.ensures at-settle.settle-from.ensures
+    let pre = c.requires in
+    ready-end _ c.args.t pre.0 pre.1 pre.2 c.loop-to.invariant.start (below c.before.before.before)
+    c.corner_at.ensures c.settle-from.ensures
     c.corner_at-in-loop-to.ensures
 
 pub returns-then-better-to : goal.returns-then-better-to
 returns-then-better-to c =
-    let at-end = c.before.before in
-    let at-settle = at-end.before in
-    let at-loop = at-settle.before.before in
-    let pre = at-loop.before.requires in
-    both_rest _ _ pre.0 pre.1 pre.2 at-loop.loop-to.invariant.start (below at-loop)
-    at-settle.before.corner_at.ensures at-settle.settle-from.ensures
-    at-end.corner_at-in-loop-to.ensures (c.before.better.ensures.rests c.if-better-to.true)
+    let pre = c.requires in
+    both_rest _ _ pre.0 pre.1 pre.2 c.loop-to.invariant.start (below c.before.before.before.before.before)
+    c.corner_at.ensures c.settle-from.ensures
+    c.corner_at-in-loop-to.ensures (c.better.ensures.rests c.if-better-to.true)
 
 pub overflow_add-to : goal.overflow_add-to
 overflow_add-to c =
-    let at-loop = c.before.before.before.before.before in
-    omega (arith, below at-loop, points-length at-loop.before.args.b.now)
+    omega (arith, below c.before.before.before.before.before, points-length c.args.b.now)
 
 pub loop-to-smaller : goal.loop-to-smaller
 loop-to-smaller c = omega (arith, below c.before.before.before.before.before)
 
 pub loop-to-preserved : goal.loop-to-preserved
 loop-to-preserved c =
-    let at-end = c.before.before in
-    let at-settle = at-end.before in
-    let at-loop = at-settle.before.before in
-    let pre = at-loop.before.requires in
-    search-more _ _ pre.0 pre.1 pre.2 at-loop.loop-to.invariant.start (below at-loop)
-    at-settle.before.corner_at.ensures at-settle.settle-from.ensures
-    at-end.corner_at-in-loop-to.ensures at-loop.loop-to.invariant c.before.better.ensures c.if-better-to.false
+    let pre = c.requires in
+    search-more _ _ pre.0 pre.1 pre.2 c.loop-to.invariant.start (below c.before.before.before.before.before)
+    c.corner_at.ensures c.settle-from.ensures
+    c.corner_at-in-loop-to.ensures c.loop-to.invariant c.better.ensures c.if-better-to.false

@@ -15,14 +15,12 @@ pub loop-turns-init : goal.loop-turns-init
 loop-turns-init c = let pre = c.requires in (pre.3, pre.4)
 
 pub corner_at-requires : goal.corner_at-requires
-corner_at-requires c = c.before.loop-turns.invariant.1
+corner_at-requires c = c.loop-turns.invariant.1
 
 pub settle-from-requires : goal.settle-from-requires
 settle-from-requires c =
-    let at-loop = c.before.before in
-    let start = at-loop.before in
-    let pre = start.requires in
-    ready-start start.args.s start.args.t pre.0 pre.1 pre.2 at-loop.loop-turns.invariant.0 at-loop.loop-turns.invariant.1
+    let pre = c.requires in
+    ready-start c.args.s c.args.t pre.0 pre.1 pre.2 c.loop-turns.invariant.0 c.loop-turns.invariant.1
     c.corner_at.ensures
 
 pub corner_at-requires-in-loop-turns : goal.corner_at-requires-in-loop-turns
@@ -30,33 +28,26 @@ corner_at-requires-in-loop-turns c = c.settle-from.ensures.within
 
 pub settle-end-requires : goal.settle-end-requires
 settle-end-requires c =
-    let at-settle = c.before in
-    let at-loop = at-settle.before.before.before in
-    let start = at-loop.before in
-    let pre = start.requires in
-    ready-end _ start.args.t pre.0 pre.1 pre.2 at-loop.loop-turns.invariant.0 at-loop.loop-turns.invariant.1
-    at-settle.before.corner_at.ensures at-settle.settle-from.ensures c.corner_at-in-loop-turns.ensures
+    let pre = c.requires in
+    ready-end _ c.args.t pre.0 pre.1 pre.2 c.loop-turns.invariant.0 c.loop-turns.invariant.1
+    c.corner_at.ensures c.settle-from.ensures c.corner_at-in-loop-turns.ensures
 
 pub returns-then-end-to : goal.returns-then-end-to
 returns-then-end-to c =
-    let at-end = c.before in
-    let at-corner = at-end.before in
-    let at-settle = at-corner.before in
-    let at-loop = at-settle.before.before.before in
-    let pre = at-loop.before.requires in
-    let rest = subst (λ (k : ℕ). Rests (not at-loop.before.args.t) (points at-loop.before.args.b.now) k
-    (at at-corner.corner_at-in-loop-turns.result)) c.if-end-to.true at-end.settle-end.ensures in
-    both_rest _ _ pre.0 pre.1 pre.2 at-loop.loop-turns.invariant.0 at-loop.loop-turns.invariant.1
-    at-settle.before.corner_at.ensures at-settle.settle-from.ensures at-corner.corner_at-in-loop-turns.ensures rest
+    let pre = c.requires in
+    let rest = subst (λ (k : ℕ). Rests (not c.args.t) (points c.args.b.now) k
+    (at c.corner_at-in-loop-turns.result)) c.if-end-to.true c.settle-end.ensures in
+    both_rest _ _ pre.0 pre.1 pre.2 c.loop-turns.invariant.0 c.loop-turns.invariant.1
+    c.corner_at.ensures c.settle-from.ensures c.corner_at-in-loop-turns.ensures rest
 
 pub loop-turns-smaller : goal.loop-turns-smaller
-loop-turns-smaller c = omega (arith, c.before.before.before.before.before.loop-turns-test.true)
+loop-turns-smaller c = omega (arith, c.loop-turns-test.true)
 
 pub loop-turns-preserved : goal.loop-turns-preserved
-loop-turns-preserved c = (c.before.before.before.settle-from.ensures.within, c.before.settle-end.ensures.within)
+loop-turns-preserved c = (c.settle-from.ensures.within, c.settle-end.ensures.within)
 
 pub searched-requires : goal.searched-requires
-searched-requires c = let pre = c.before.before.requires in (pre.0, pre.1, pre.2)
+searched-requires c = let pre = c.requires in (pre.0, pre.1, pre.2)
 
 pub returns : goal.returns
 returns c = c.searched.ensures

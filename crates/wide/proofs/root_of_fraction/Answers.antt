@@ -5,17 +5,15 @@ use Rattle.wide.specs.theory.Bisection.{Between, between_start, between-down, be
 use Rattle.wide.proofs.root_of_fraction.Goals as goal
 
 pub loop-low-init : goal.loop-low-init
-loop-low-init c = between_start c.before.requires.positive
+loop-low-init c = between_start c.requires.positive
 
 pub loop-low-preserved-then-fraction_less : goal.loop-low-preserved-then-fraction_less
 loop-low-preserved-then-fraction_less c =
-    let at-loop = c.before.before.before.before.before in
-    between-down _ at-loop.loop-low.invariant (omega arith) (sym c.before.before.fraction_less.ensures ∙ c.before.if-fraction_less.true)
+    between-down _ c.loop-low.invariant (omega arith) (sym c.fraction_less.ensures ∙ c.if-fraction_less.true)
 
 pub loop-low-preserved : goal.loop-low-preserved
 loop-low-preserved c =
-    let at-loop = c.before.before.before.before.before in
-    between-up _ at-loop.loop-low.invariant (omega arith) (sym c.before.before.fraction_less.ensures ∙ c.before.if-fraction_less.false)
+    between-up _ c.loop-low.invariant (omega arith) (sym c.fraction_less.ensures ∙ c.if-fraction_less.false)
 
 pub returns : goal.returns
-returns c = between-end c.before.loop-low.invariant c.loop-low-test.false
+returns c = between-end c.loop-low.invariant c.loop-low-test.false

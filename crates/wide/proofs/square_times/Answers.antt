@@ -5,7 +5,5 @@ use Rattle.wide.proofs.square_times.Goals as goal
 
 pub returns : goal.returns
 returns c =
-    let second = c.before.before in
-    let first = second.before.before.before.before in
-    let args = first.before.before.before.before.args in
-    second.scale-2.ensures ∙ ap (λ z. z * args.q) (first.scale.ensures ∙ ap (λ z. z * args.t) (value-word args.t))
+    let args = c.args in
+    c.scale-2.ensures ∙ ap (λ z. z * args.q) (c.scale.ensures ∙ ap (λ z. z * args.t) (value-word args.t))

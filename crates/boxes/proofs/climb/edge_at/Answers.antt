@@ -13,20 +13,20 @@ pub round-end-requires : goal.round-end-requires
 round-end-requires c = (omega (arith, c.requires.1), c.requires.0.shape.some)
 
 pub corner_at-requires : goal.corner_at-requires
-corner_at-requires c = c.before.requires.1
+corner_at-requires c = c.requires.1
 
 pub corner_at-requires-2 : goal.corner_at-requires-2
-corner_at-requires-2 c = c.before.round-end.ensures.upper_bound
+corner_at-requires-2 c = c.round-end.ensures.upper_bound
 
 pub step-requires : goal.step-requires
 step-requires c =
-    let pre = c.before.before.before.requires in (
-      small-corner _ pre.0.in_range _ pre.1 c.before.corner_at.ensures,
-      small-corner _ pre.0.in_range _ c.before.before.round-end.ensures.upper_bound c.corner_at-2.ensures,
+    let pre = c.requires in (
+      small-corner _ pre.0.in_range _ pre.1 c.corner_at.ensures,
+      small-corner _ pre.0.in_range _ c.round-end.ensures.upper_bound c.corner_at-2.ensures,
     )
 
 pub returns : goal.returns
 returns c =
-    let ps = points c.before.before.before.before.args.list.now in
+    let ps = points c.args.list.now in
     c.step.ensures ∙ ap₂ (λ (b a : Point). b ⊖ a)
-    (c.before.corner_at-2.ensures ∙ ap (corner ps) c.before.before.before.round-end.ensures.value) c.before.before.corner_at.ensures
+    (c.corner_at-2.ensures ∙ ap (corner ps) c.round-end.ensures.value) c.corner_at.ensures

@@ -21,37 +21,35 @@ pub loop-d-init : goal.loop-d-init
 loop-d-init c = c.requires.climbs
 
 pub rises-requires : goal.rises-requires
-rises-requires c = let pre = c.before.requires in (pre.valid, c.loop-d.invariant.within, pre.small)
+rises-requires c = let pre = c.requires in (pre.valid, c.loop-d.invariant.within, pre.small)
 
 pub overflow_add-i : goal.overflow_add-i
 overflow_add-i c =
-    let at-loop = c.before.before in omega (arith, at-loop.loop-d.invariant.within, at-loop.before.requires.valid.few, corners-small)
+    omega (arith, c.loop-d.invariant.within, c.requires.valid.few, corners-small)
 
 pub round-i-requires : goal.round-i-requires
 round-i-requires c =
-    let at-loop = c.before.before in (omega (arith, at-loop.loop-d.invariant.within), at-loop.before.requires.valid.shape.some)
+    (omega (arith, c.loop-d.invariant.within), c.requires.valid.shape.some)
 
 -- the next corner is further
-further : (c : In-loop-d) → let at-loop = c.before.before in
-    let d = at at-loop.before.args.d in
-    let ps = points at-loop.before.args.list.now in
-    value d (corner ps at-loop.loop-d.i) <ℤ value d (corner ps (next (length ps) at-loop.loop-d.i))
-further c = rises-up _ _ _ (sym c.before.rises.ensures ∙ c.loop-d-test.true)
+further : (c : In-loop-d) →
+    let d = at c.args.d in
+    let ps = points c.args.list.now in
+    value d (corner ps c.loop-d.i) <ℤ value d (corner ps (next (length ps) c.loop-d.i))
+further c = rises-up _ _ _ (sym c.rises.ensures ∙ c.loop-d-test.true)
 
 pub loop-d-smaller : goal.loop-d-smaller
 loop-d-smaller c =
-    let at-loop = c.before.before.before in
-    let some = at-loop.before.requires.valid.shape.some in
-    let i-in = at-loop.loop-d.invariant.within in
+    let some = c.requires.valid.shape.some in
+    let i-in = c.loop-d.invariant.within in
     rw c.round-i.ensures.value (still-less _ _ _ i-in (furthest-greatest _ _ some).within
     (rising-not-found _ _ some _ _ (next-below _ _ i-in) (further c.before)))
 
 pub loop-d-preserved : goal.loop-d-preserved
 loop-d-preserved c =
-    let at-loop = c.before.before.before in
-    let pre = at-loop.before.requires in
+    let pre = c.requires in
     subst (Climbs _ _) (sym c.round-i.ensures.value)
-    (climbed _ _ pre.valid.shape pre.three _ at-loop.loop-d.invariant.within (weaken (further c.before)))
+    (climbed _ _ pre.valid.shape pre.three _ c.loop-d.invariant.within (weaken (further c.before)))
 
 pub returns : goal.returns
-returns c = c.before.before.loop-d.invariant.reached (rises-not _ _ _ (sym c.before.rises.ensures ∙ c.loop-d-test.false))
+returns c = c.loop-d.invariant.reached (rises-not _ _ _ (sym c.rises.ensures ∙ c.loop-d-test.false))

@@ -15,9 +15,9 @@ edge_at-requires c = (c.requires.0, c.requires.1)
 
 pub dot-requires : goal.dot-requires
 dot-requires c =
-    let pre = c.before.requires in
+    let pre = c.requires in
     (pre.2, small-wide (small-edge _ pre.0.in_range _ _ pre.1 (next-below _ _ pre.1) c.edge_at.ensures))
 
 pub returns : goal.returns
 returns c = ap (lt_z (pos 0))
-    (result-is w64 c.dot.type-inv (c.dot.ensures ∙ ap (value (at c.before.before.args.d)) c.before.edge_at.ensures))
+    (result-is w64 c.dot.type_inv (c.dot.ensures ∙ ap (value (at c.args.d)) c.edge_at.ensures))

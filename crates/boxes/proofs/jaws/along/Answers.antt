@@ -20,46 +20,44 @@ pub corner_at-near-requires : goal.corner_at-near-requires
 corner_at-near-requires c = c.requires.holds.near-furthest.within
 
 pub corner_at-far-requires : goal.corner_at-far-requires
-corner_at-far-requires c = c.before.requires.holds.far-furthest.within
+corner_at-far-requires c = c.requires.holds.far-furthest.within
 
 pub edge_at-requires : goal.edge_at-requires
-edge_at-requires c = let pre = c.before.before.requires in (pre.valid, pre.edge_in)
+edge_at-requires c = let pre = c.requires in (pre.valid, pre.edge_in)
 
 -- ---- the two corners are small
-near-small : (c : After-edge_at) → Small (2 ^ 21) (at c.before.before.corner_at-near.result)
-near-small c = let pre = c.before.before.before.requires in
-    small-corner _ pre.valid.in_range _ pre.holds.near-furthest.within c.before.before.corner_at-near.ensures
+near-small : (c : After-edge_at) → Small (2 ^ 21) (at c.corner_at-near.result)
+near-small c = let pre = c.requires in
+    small-corner _ pre.valid.in_range _ pre.holds.near-furthest.within c.corner_at-near.ensures
 
-far-small : (c : After-edge_at) → Small (2 ^ 21) (at c.before.corner_at-far.result)
-far-small c = let pre = c.before.before.before.requires in
-    small-corner _ pre.valid.in_range _ pre.holds.far-furthest.within c.before.corner_at-far.ensures
+far-small : (c : After-edge_at) → Small (2 ^ 21) (at c.corner_at-far.result)
+far-small c = let pre = c.requires in
+    small-corner _ pre.valid.in_range _ pre.holds.far-furthest.within c.corner_at-far.ensures
 
 pub step-requires : goal.step-requires
 step-requires c = (near-small c, far-small c)
 
 pub dot-requires : goal.dot-requires
 dot-requires c =
-    let at_edge = c.before in
-    let pre = at_edge.before.before.before.requires in (
-      small-wide (small-edge _ pre.valid.in_range _ _ pre.edge_in (next-below _ _ pre.edge_in) at_edge.edge_at.ensures),
-      small-step (near-small at_edge) (far-small at_edge) c.step.ensures,
+    let pre = c.requires in (
+      small-wide (small-edge _ pre.valid.in_range _ _ pre.edge_in (next-below _ _ pre.edge_in) c.edge_at.ensures),
+      small-step (near-small c.before) (far-small c.before) c.step.ensures,
     )
 
-along-is : (c : After-dot) → let args = c.before.before.before.before.before.args in
+along-is : (c : After-dot) → let args = c.args in
     along (points args.list.now) args.edge ≡ to_z w64 (of_z w64 c.dot.result)
 unfolding along
 along-is c =
-    let at_edge = c.before.before in
-    let pre = at_edge.before.before.before.requires in
+    let pre = c.requires in
     held-along pre.holds.far-furthest pre.holds.near-furthest
-    ∙ sym (ap₂ value at_edge.edge_at.ensures
-    (c.before.step.ensures ∙ ap₂ (λ (p q : Point). p ⊖ q)
-    at_edge.before.corner_at-far.ensures at_edge.before.before.corner_at-near.ensures))
-    ∙ sym (result-is w64 c.dot.type-inv c.dot.ensures)
+    ∙ sym (ap₂ value c.edge_at.ensures
+    (c.step.ensures ∙ ap₂ (λ (p q : Point). p ⊖ q)
+    c.corner_at-far.ensures c.corner_at-near.ensures))
+    ∙ sym (result-is w64 c.dot.type_inv c.dot.ensures)
 
 pub magnitude-requires : goal.magnitude-requires
 unfolding along
-magnitude-requires c = rw (← along-is c) (spread-nonneg _ _ c.before.before.before.before.before.requires.valid.shape.some)
+magnitude-requires c = rw (← along-is c) (spread-nonneg _ _ c.requires.valid.shape.some)
 
 pub returns : goal.returns
-returns c = (along-is c.before ∙ c.magnitude.ensures, below_half c.before.dot.result c.before.dot.type-inv c.magnitude.ensures)
+returns c = (along-is c.before ∙ c.magnitude.ensures, below_half c.dot.result c.dot.type_inv c.magnitude.ensures)

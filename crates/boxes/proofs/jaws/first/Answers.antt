@@ -13,43 +13,38 @@ edge_at-along-requires c = (c.requires.0, c.requires.0.shape.some)
 
 pub furthest_from-far-requires : goal.furthest_from-far-requires
 furthest_from-far-requires c =
-    let (v, three) = c.before.requires in
+    let (v, three) = c.requires in
     aimed-along v v.shape.some c.edge_at-along.ensures three (first-climbs v.shape three).1
 
 pub quarter-requires : goal.quarter-requires
-quarter-requires c = let v = c.before.before.requires.0 in small-along v v.shape.some c.before.edge_at-along.ensures
+quarter-requires c = let v = c.requires.0 in small-along v v.shape.some c.edge_at-along.ensures
 
 pub furthest_from-high-requires : goal.furthest_from-high-requires
 furthest_from-high-requires c =
-    let (v, three) = c.before.before.before.requires in
-    aimed-quarter v v.shape.some c.before.before.edge_at-along.ensures three c.quarter.ensures (first-climbs v.shape three).0
+    let (v, three) = c.requires in
+    aimed-quarter v v.shape.some c.edge_at-along.ensures three c.quarter.ensures (first-climbs v.shape three).0
 
-high : (c : After-furthest_from-high) → let args = c.before.before.before.before.args in let ps = points args.list.now in
+high : (c : After-furthest_from-high) → let args = c.args in let ps = points args.list.now in
     Furthest (quarter (edge_of ps 0)) ps c.furthest_from-high.result
 high c =
-    let at_edge = c.before.before.before in
-    let v = at_edge.before.requires.0 in
-    held-quarter v v.shape.some at_edge.edge_at-along.ensures c.before.quarter.ensures c.furthest_from-high.ensures
+    let v = c.requires.0 in
+    held-quarter v v.shape.some c.edge_at-along.ensures c.quarter.ensures c.furthest_from-high.ensures
 
 pub opposite-requires : goal.opposite-requires
 opposite-requires c =
-    let at_edge = c.before.before.before in
-    let v = at_edge.before.requires.0 in small-along v v.shape.some at_edge.edge_at-along.ensures
+    let v = c.requires.0 in small-along v v.shape.some c.edge_at-along.ensures
 
 pub furthest_from-near-requires : goal.furthest_from-near-requires
 furthest_from-near-requires c =
-    let at_edge = c.before.before.before.before in
-    let (v, three) = at_edge.before.requires in
-    aimed-back v v.shape.some at_edge.edge_at-along.ensures three c.opposite.ensures
+    let (v, three) = c.requires in
+    aimed-back v v.shape.some c.edge_at-along.ensures three c.opposite.ensures
     (turned-back v.shape three v.shape.some (high c.before))
 
 pub returns : goal.returns
 returns c =
-    let at_high = c.before.before in
-    let at_edge = at_high.before.before.before in
-    let v = at_edge.before.requires.0 in
+    let v = c.requires.0 in
     record {
-      high-furthest = high at_high;
-      far-furthest = held-along v v.shape.some at_edge.edge_at-along.ensures at_high.before.before.furthest_from-far.ensures;
-      near-furthest = held_back v v.shape.some at_edge.edge_at-along.ensures c.before.opposite.ensures c.furthest_from-near.ensures;
+      high-furthest = high c.before.before;
+      far-furthest = held-along v v.shape.some c.edge_at-along.ensures c.furthest_from-far.ensures;
+      near-furthest = held_back v v.shape.some c.edge_at-along.ensures c.opposite.ensures c.furthest_from-near.ensures;
     }

@@ -24,27 +24,27 @@ round-end-requires c = (omega (arith, c.requires.edge_in), c.requires.valid.shap
 
 pub turn_at-requires : goal.turn_at-requires
 turn_at-requires c =
-    let pre = c.before.requires in
+    let pre = c.requires in
     (pre.edge_in, c.round-end.ensures.upper_bound, pre.holds.high-furthest.within, pre.valid.in_range)
 
-told : (c : After-turn_at) → let args = c.before.before.args in let ps = points args.list.now in
+told : (c : After-turn_at) → let args = c.args in let ps = points args.list.now in
     to_z w64 (of_z w64 c.turn_at.result) ≡
-    turn (corner ps args.edge) (corner ps c.before.round-end.result) (corner ps args.at.high)
-told c = result-is w64 c.turn_at.type-inv c.turn_at.ensures
+    turn (corner ps args.edge) (corner ps c.round-end.result) (corner ps args.at.high)
+told c = result-is w64 c.turn_at.type_inv c.turn_at.ensures
 
-turn_is : (c : After-turn_at) → let args = c.before.before.args in
+turn_is : (c : After-turn_at) → let args = c.args in
     to_z w64 (of_z w64 c.turn_at.result) ≡ edge_turn (points args.list.now) args.edge args.at.high
 unfolding edge_turn
 turn_is c =
-    let args = c.before.before.args in
+    let args = c.args in
     let ps = points args.list.now in
-    told c ∙ ap (λ b. turn (corner ps args.edge) (corner ps b) (corner ps args.at.high)) c.before.round-end.ensures.value
+    told c ∙ ap (λ b. turn (corner ps args.edge) (corner ps b) (corner ps args.at.high)) c.round-end.ensures.value
 
-not_right : (c : After-turn_at) → let args = c.before.before.args in
+not_right : (c : After-turn_at) → let args = c.args in
     pos 0 ≤ℤ edge_turn (points args.list.now) args.edge args.at.high
 unfolding edge_turn
 not_right c =
-    let pre = c.before.before.requires in
+    let pre = c.requires in
     edge-turn _ pre.valid.shape _ _ pre.edge_in pre.holds.high-furthest.within
 
 pub magnitude-requires : goal.magnitude-requires
@@ -52,8 +52,8 @@ magnitude-requires c = rw (turn_is c) (not_right c)
 
 pub returns : goal.returns
 returns c =
-    let start = c.before.before.before in (
-      sym (furthest-height _ _ start.requires.valid.shape.some _ start.requires.holds.high-furthest.has) ∙ sym (turn_is c.before)
+    (
+      sym (furthest-height _ _ c.requires.valid.shape.some _ c.requires.holds.high-furthest.has) ∙ sym (turn_is c.before)
           ∙ c.magnitude.ensures,
-      below_half c.before.turn_at.result c.before.turn_at.type-inv c.magnitude.ensures,
+      below_half c.turn_at.result c.turn_at.type_inv c.magnitude.ensures,
     )

@@ -18,17 +18,17 @@ edge_at-along-requires c = c.requires
 
 pub dot-requires : goal.dot-requires
 dot-requires c =
-    let pre = c.before.requires in
+    let pre = c.requires in
     let small = small-wide (small-edge _ pre.0.in_range _ _ pre.1 (next-below _ _ pre.1) c.edge_at-along.ensures) in
     (small, small)
 
-dot-is : (c : After-dot) → let args = c.before.before.args in
+dot-is : (c : After-dot) → let args = c.args in
     edge_squared (points args.list.now) args.edge ≡ to_z w64 (of_z w64 c.dot.result)
-dot-is c = edge_squared-value _ _ ∙ sym (ap (λ (e : Point). value e e) c.before.edge_at-along.ensures)
-    ∙ sym (result-is w64 c.dot.type-inv c.dot.ensures)
+dot-is c = edge_squared-value _ _ ∙ sym (ap (λ (e : Point). value e e) c.edge_at-along.ensures)
+    ∙ sym (result-is w64 c.dot.type_inv c.dot.ensures)
 
 pub magnitude-requires : goal.magnitude-requires
-magnitude-requires c = rw (result-is w64 c.dot.type-inv c.dot.ensures) (value-nonneg _)
+magnitude-requires c = rw (result-is w64 c.dot.type_inv c.dot.ensures) (value-nonneg _)
 
 pub returns : goal.returns
 returns c = dot-is c.before ∙ c.magnitude.ensures

@@ -4,7 +4,7 @@ use borrow.Author.Rules.{rules}
 use Rattle.bytewise.proofs.decoding.are_small.Goals as goal
 
 pub returns-then-is_small : goal.returns-then-is_small
-returns-then-is_small c = rw (sym c.before.before.is_small.ensures ∙ c.before.if-is_small.true) c.is_small-then-is_small.ensures
+returns-then-is_small c = rw (sym c.is_small.ensures ∙ c.if-is_small.true) c.is_small-then-is_small.ensures
 
 pub returns-else-is_small : goal.returns-else-is_small
-returns-else-is_small c = rw (sym c.before.is_small.ensures ∙ c.if-is_small.false) c.if-is_small.false
+returns-else-is_small c = rw (sym c.is_small.ensures ∙ c.if-is_small.false) c.if-is_small.false

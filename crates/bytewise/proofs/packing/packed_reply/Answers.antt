@@ -42,5 +42,5 @@ pub overflow_add-result-3 : goal.overflow_add-result-3
 overflow_add-result-3 c = let b = bounds c.before.before.before.before.before in record { fits = omega (arith, b.0, b.1, b.2, b.3) }
 
 pub returns : goal.returns
-returns c = let r = c.before.before.before.before.before.args.t1 in
+returns c = let r = c.args.t1 in
     packed-parts r.number r.count r.values r.carried (three c.before.before.before.before.before)

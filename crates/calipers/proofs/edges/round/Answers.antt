@@ -11,10 +11,8 @@ pub count-requires : goal.count-requires
 count-requires c = tt
 
 pub returns-then-i-count : goal.returns-then-i-count
-returns-then-i-count c = let start = c.before.before in
-    (ap (λ (b : Bool). cond b 0 start.args.i) (sym (eq-eqb _ _ (c.if-i-count.true ∙ c.before.count.ensures))), start.requires.1)
+returns-then-i-count c = record { value = ap (λ (b : Bool). cond b 0 c.args.i) (sym (eq-eqb _ _ (c.if-i-count.true ∙ c.count.ensures))); upper_bound = c.requires.1 }
 
 pub returns-else-i-count : goal.returns-else-i-count
-returns-else-i-count c = let start = c.before.before in
-    let other : start.args.i ≡ length (points start.args.list.now) → ⊥ = λ e. c.if-i-count.false (e ∙ sym c.before.count.ensures) in
-    (ap (λ (b : Bool). cond b 0 start.args.i) (sym (ne_eqb _ _ other)), omega (arith, other, start.requires.0))
+returns-else-i-count c = let other : c.args.i ≡ length (points c.args.list.now) → ⊥ = λ e. c.if-i-count.false (e ∙ sym c.count.ensures) in
+    record { value = ap (λ (b : Bool). cond b 0 c.args.i) (sym (ne_eqb _ _ other)); upper_bound = omega (arith, other, c.requires.0) }

@@ -9,8 +9,8 @@ pub count-n-requires : goal.count-n-requires
 count-n-requires c = tt
 
 pub returns-then-n-lt2 : goal.returns-then-n-lt2
-returns-then-n-lt2 c = sym (edges_few (points c.before.before.args.list.now) (omega (arith, c.before.count-n.ensures)))
+returns-then-n-lt2 c = sym (edges_few (points c.args.list.now) (omega (arith, c.count-n.ensures)))
 
 pub returns-else-n-lt2 : goal.returns-else-n-lt2
-returns-else-n-lt2 c = c.before.count-n.ensures ∙ sym
-    (edges_some (points c.before.before.args.list.now) (omega (arith, c.before.count-n.ensures)))
+returns-else-n-lt2 c = c.count-n.ensures ∙ sym
+    (edges_some (points c.args.list.now) (omega (arith, c.count-n.ensures)))

@@ -16,25 +16,18 @@ count-n-requires c = tt
 
 pub overflow_add-k : goal.overflow_add-k
 overflow_add-k c =
-    let start = c.before in
-    omega (arith, start.requires.0, start.requires.1, points-length start.args.list.now)
+    omega (arith, c.requires.0, c.requires.1, points-length c.args.list.now)
 
 pub returns-then-k-n : goal.returns-then-k-n
-returns-then-k-n c =
-    let at_count = c.before in
-    let start = at_count.before in
-    let n = length (points start.args.list.now) in
-    let k = start.args.top + start.args.i in
-    let h : k < n = omega (arith, at_count.count-n.ensures, c.if-k-n.true) in
-    (ap (λ (b : Bool). cond b k (k - n)) (sym (lt-ltb k n h)), h)
+returns-then-k-n c = let n = length (points c.args.list.now) in
+    let k = c.args.top + c.args.i in
+    let h : k < n = omega (arith, c.count-n.ensures, c.if-k-n.true) in
+    record { value = ap (λ (b : Bool). cond b k (k - n)) (sym (lt-ltb k n h)); upper_bound = h }
 
 pub returns-else-k-n : goal.returns-else-k-n
-returns-else-k-n c =
-    let at_count = c.before in
-    let start = at_count.before in
-    let n = length (points start.args.list.now) in
-    let k = start.args.top + start.args.i in
-    let count = at_count.count-n.ensures in
+returns-else-k-n c = let n = length (points c.args.list.now) in
+    let k = c.args.top + c.args.i in
+    let count = c.count-n.ensures in
     let h : n ≤ k = omega (arith, count, c.if-k-n.false) in
     let is = ap (λ (m : ℕ). k - m) count ∙ ap (λ (b : Bool). cond b k (k - n)) (sym (le-ltb k n h)) in
-    (is, omega (arith, count, start.requires.0, start.requires.1, h))
+    record { value = is; upper_bound = omega (arith, count, c.requires.0, c.requires.1, h) }

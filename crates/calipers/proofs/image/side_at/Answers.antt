@@ -26,25 +26,21 @@ sides-requires c = tt
 
 pub standing-requires : goal.standing-requires
 standing-requires c =
-    let at-corner = c.before in
-    let start = at-corner.before in
-    image-small _ start.requires.0 _ (within start) at-corner.corner_at-corner.ensures
+    image-small _ c.requires.0 _ (within c.before.before) c.corner_at-corner.ensures
 
 pub onto-requires : goal.onto-requires
 onto-requires c =
-    let at-corner = c.before.before in
-    let start = at-corner.before in
-    let l = start.args.list.now in
+    let l = c.args.list.now in
     let made = c.standing.ensures in (
-      start.requires.0,
-      start.requires.1,
+      c.requires.0,
+      c.requires.1,
       record {
-        at_in = omega (arith, made.0, start.requires.2);
-        end_is = made.1 ∙ c.before.sides.ensures ∙ sym (image-edges l start.requires.0);
-        corner-is = made.2 ∙ at-corner.corner_at-corner.ensures ∙ ap (corner_round (points (image l))) (sym made.0);
+        at_in = omega (arith, made.0, c.requires.2);
+        end_is = made.1 ∙ c.sides.ensures ∙ sym (image-edges l c.requires.0);
+        corner-is = made.2 ∙ c.corner_at-corner.ensures ∙ ap (corner_round (points (image l))) (sym made.0);
         no_edge = made.3;
       },
     )
 
 pub returns : goal.returns
-returns c = (c.onto.ensures.0 ∙ c.before.standing.ensures.0, c.onto.ensures.1)
+returns c = (c.onto.ensures.0 ∙ c.standing.ensures.0, c.onto.ensures.1)

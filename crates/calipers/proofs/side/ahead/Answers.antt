@@ -17,58 +17,52 @@ use Rattle.calipers.proofs.side.ahead.Goals as goal
 use Rattle.calipers.proofs.side.ahead.Goals.{After-arrived, After-struct_known-1, Else-waits}
 
 -- three edges are left
-left : (c : Else-waits) → c.before.args.s.at + 2 < length (edges (points c.before.args.list.now))
-left c = omega (arith, c.before.requires.3, c.before.requires.0.end_is)
+left : (c : Else-waits) → c.args.s.at + 2 < length (edges (points c.args.list.now))
+left c = omega (arith, c.requires.3, c.requires.0.end_is)
 
 pub arrived-requires : goal.arrived-requires
 arrived-requires c =
-    let start = c.before in
-    let l = start.args.list.now in
-    let pre = start.requires in (
+    let l = c.args.list.now in
+    let pre = c.requires in (
       omega (arith, left c, edges-at-most (points l), points-length l),
       corner-fits pre.1 pre.2 pre.0,
       edge-adds pre.1 pre.2 pre.0,
     )
 
 -- at the end of its edge
-stands : (c : After-arrived) → Stands c.before.before.args.list.now c.arrived.result
+stands : (c : After-arrived) → Stands c.args.list.now c.arrived.result
 stands c =
-    let start = c.before.before in
     let made = c.arrived.ensures in record {
       at_in = omega (arith, made.0, left c.before);
-      end_is = made.1 ∙ start.requires.0.end_is;
-      corner-is = made.2 ∙ along-edge start.requires.0 (omega (arith, left c.before))
-          ∙ ap (corner_round (points start.args.list.now)) (sym made.0);
+      end_is = made.1 ∙ c.requires.0.end_is;
+      corner-is = made.2 ∙ along-edge c.requires.0 (omega (arith, left c.before))
+          ∙ ap (corner_round (points c.args.list.now)) (sym made.0);
       no_edge = made.3;
     }
 
 -- the corner to read
-there : (c : After-struct_known-1) → let start = c.before.before.before in
-    start.args.s.at + 2 < length (points start.args.list.now)
-there c = let start = c.before.before.before in omega (arith, left c.before.before, edges-at-most (points start.args.list.now))
+there : (c : After-struct_known-1) →
+    c.args.s.at + 2 < length (points c.args.list.now)
+there c = omega (arith, left c.before.before, edges-at-most (points c.args.list.now))
 
 pub corner_at-requires : goal.corner_at-requires
 corner_at-requires c = there c
 
 pub facing-requires : goal.facing-requires
 facing-requires c =
-    let at-known = c.before in
-    let pre = at-known.before.before.before.requires in
-    (stands-fits pre.1 pre.2 (stands at-known.before), small-corner _ pre.1 _ (there at-known) c.corner_at.ensures)
+    let pre = c.requires in
+    (stands-fits pre.1 pre.2 (stands c.before.before), small-corner _ pre.1 _ (there c.before) c.corner_at.ensures)
 
 pub returns : goal.returns
 returns c =
-    let at-corner = c.before in
-    let at-arrived = at-corner.before.before in
-    let start = at-arrived.before.before in
-    let s = start.args.s in
-    let m = at-arrived.arrived.result in
-    let on = at-arrived.arrived.ensures.0 in
-    let at_left = left at-arrived.before in
-    let ps = points start.args.list.now in
+    let s = c.args.s in
+    let m = c.arrived.result in
+    let on = c.arrived.ensures.0 in
+    let at_left = left c.before.before.before.before in
+    let ps = points c.args.list.now in
     let next : s.at + 2 ≡ m.at + 1 = omega (arith, on) in (
-      rw at-arrived.before.if-waits.false (c.facing.ensures.0 ∙ on ∙ sym (onward-inner ps s.at (omega (arith, at_left)))),
-      carried-to (at at-corner.corner_at.result) (stands at-arrived) c.facing.ensures
-          (ap (λ q. q ⊖ corner_round ps m.at) (at-corner.corner_at.ensures ∙ ap (corner ps) next)
-          ∙ edge-inner ps _ _ (stands at-arrived).end_is (omega (arith, on, at_left, (stands at-arrived).end_is))),
+      rw c.if-waits.false (c.facing.ensures.0 ∙ on ∙ sym (onward-inner ps s.at (omega (arith, at_left)))),
+      carried-to (at c.corner_at.result) (stands c.before.before.before) c.facing.ensures
+          (ap (λ q. q ⊖ corner_round ps m.at) (c.corner_at.ensures ∙ ap (corner ps) next)
+          ∙ edge-inner ps _ _ (stands c.before.before.before).end_is (omega (arith, on, at_left, (stands c.before.before.before).end_is))),
     )

@@ -11,30 +11,27 @@ use Rattle.calipers.proofs.side.closing.Goals as goal
 
 pub returns-then-s : goal.returns-then-s
 returns-then-s c =
-    let start = c.before.before in
-    let stands = start.requires.0 in (
+    let stands = c.requires.0 in (
       refl,
       record {
         at_in = stands.at_in;
         end_is = stands.end_is;
         corner-is = stands.corner-is;
-        edge-is = stands.no_edge ∙ sym (edge_none (points start.args.list.now) _ _ stands.end_is c.if-s.true);
+        edge-is = stands.no_edge ∙ sym (edge_none (points c.args.list.now) _ _ stands.end_is c.if-s.true);
       },
     )
 
 pub facing-requires : goal.facing-requires
 facing-requires c =
-    let pre = c.before.before.before.requires in
+    let pre = c.requires in
     (stands-fits pre.1 pre.2 pre.0, small-corner _ pre.1 0 pre.2 c.corner_at.ensures)
 
 pub returns : goal.returns
 returns c =
-    let at-else = c.before.before in
-    let start = at-else.before.before in
-    let stands = start.requires.0 in
-    let ps = points start.args.list.now in (
+    let stands = c.requires.0 in
+    let ps = points c.args.list.now in (
       c.facing.ensures.0,
-      carried-to (at c.before.corner_at.result) stands c.facing.ensures
-          (ap (λ q. q ⊖ corner_round ps start.args.s.at) c.before.corner_at.ensures
-          ∙ edge-last ps _ _ stands.end_is (omega (arith, at-else.if-s.false, stands.at_in, stands.end_is, start.requires.3))),
+      carried-to (at c.corner_at.result) stands c.facing.ensures
+          (ap (λ q. q ⊖ corner_round ps c.args.s.at) c.corner_at.ensures
+          ∙ edge-last ps _ _ stands.end_is (omega (arith, c.if-s.false, stands.at_in, stands.end_is, c.requires.3))),
     )

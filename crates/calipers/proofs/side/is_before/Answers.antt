@@ -24,14 +24,10 @@ before-apart e f h = rw h (go (up f) (lt_z (pos 0) (cross e f)))
 
 pub returns-then-is_up : goal.returns-then-is_up
 returns-then-is_up c =
-    let second = c.before.before in
-    let first = second.before in
     c.is_up-then-is_up.ensures ∙ before-apart _ _
-    (sym first.is_up.ensures ∙ different _ _ c.before.if-is_up.true ∙ ap not second.is_up-2.ensures)
+    (sym c.is_up.ensures ∙ different _ _ c.if-is_up.true ∙ ap not c.is_up-2.ensures)
 
 pub returns : goal.returns
 returns c =
-    let second = c.before.before in
-    let first = second.before in
-    ap (lt_z (pos 0)) (result-is w64 c.order.type-inv c.order.ensures)
-    ∙ sym (before-alike _ _ (sym first.is_up.ensures ∙ equal _ _ c.before.if-is_up.false ∙ second.is_up-2.ensures))
+    ap (lt_z (pos 0)) (result-is w64 c.order.type_inv c.order.ensures)
+    ∙ sym (before-alike _ _ (sym c.is_up.ensures ∙ equal _ _ c.if-is_up.false ∙ c.is_up-2.ensures))

@@ -18,40 +18,37 @@ few : (c : Start) → c.args.s.at ≤ length (points c.args.list.now)
 few c = omega (arith, c.requires.0.at_in, edges-at-most (points c.args.list.now))
 
 pub overflow_add-s : goal.overflow_add-s
-overflow_add-s c = let start = c.before in omega (arith, few start, points-length start.args.list.now)
+overflow_add-s c = omega (arith, few c.before, points-length c.args.list.now)
 
 pub overflow_add-s-then-s : goal.overflow_add-s-then-s
-overflow_add-s-then-s c = let start = c.before.before.before.before in omega (arith, few start, points-length start.args.list.now)
+overflow_add-s-then-s c = omega (arith, few c.before.before.before.before, points-length c.args.list.now)
 
 -- the next corner is there
-ends : (c : After-struct_known-then-s-1) → let start = c.before.before.before.before in
-    start.args.s.at + 1 < length (points start.args.list.now)
+ends : (c : After-struct_known-then-s-1) →
+    c.args.s.at + 1 < length (points c.args.list.now)
 ends c =
-    let start = c.before.before.before.before in
-    omega (arith, c.before.if-s.true, start.requires.0.end_is, edges-at-most (points start.args.list.now))
+    omega (arith, c.if-s.true, c.requires.0.end_is, edges-at-most (points c.args.list.now))
 
 pub corner_at-requires : goal.corner_at-requires
 corner_at-requires c = ends c
 
 pub facing-requires : goal.facing-requires
 facing-requires c =
-    let pre = c.before.before.before.before.before.requires in
+    let pre = c.requires in
     (stands-fits pre.1 pre.2 pre.0, small-corner _ pre.1 _ (ends c.before) c.corner_at.ensures)
 
 pub returns-then-s : goal.returns-then-s
 returns-then-s c =
-    let at-corner = c.before in
-    let start = at-corner.before.before.before.before.before in
-    let stands = start.requires.0 in
-    let ps = points start.args.list.now in (
+    let stands = c.requires.0 in
+    let ps = points c.args.list.now in (
       c.facing.ensures.0,
-      carried-to (at at-corner.corner_at.result) stands c.facing.ensures
-          (ap (λ q. q ⊖ corner_round ps start.args.s.at) at-corner.corner_at.ensures
-          ∙ edge-inner ps _ _ stands.end_is at-corner.before.before.if-s.true),
+      carried-to (at c.corner_at.result) stands c.facing.ensures
+          (ap (λ q. q ⊖ corner_round ps c.args.s.at) c.corner_at.ensures
+          ∙ edge-inner ps _ _ stands.end_is c.if-s.true),
     )
 
 pub closing-requires : goal.closing-requires
-closing-requires c = let pre = c.before.before.before.requires in (pre.0, pre.1, pre.2, c.if-s.false)
+closing-requires c = let pre = c.requires in (pre.0, pre.1, pre.2, c.if-s.false)
 
 pub returns : goal.returns
 returns c = c.closing.ensures

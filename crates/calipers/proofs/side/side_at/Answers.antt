@@ -13,25 +13,22 @@ round-requires c = (omega (arith, c.requires.0, edges-at-most (points c.args.lis
 
 pub standing-requires : goal.standing-requires
 standing-requires c =
-    let at-corner = c.before in
-    small-corner _ at-corner.before.before.requires.1 _ at-corner.before.round.ensures.upper_bound at-corner.corner_at-corner.ensures
+    small-corner _ c.requires.1 _ c.round.ensures.upper_bound c.corner_at-corner.ensures
 
 pub onto-requires : goal.onto-requires
 onto-requires c =
-    let at-corner = c.before.before in
-    let start = at-corner.before.before in
-    let ps = points start.args.list.now in
+    let ps = points c.args.list.now in
     let made = c.standing.ensures in (
       record {
-        at_in = omega (arith, made.0, start.requires.0);
-        end_is = made.1 ∙ c.before.sides.ensures;
-        corner-is = made.2 ∙ at-corner.corner_at-corner.ensures ∙ ap (corner ps) at-corner.before.round.ensures.value
+        at_in = omega (arith, made.0, c.requires.0);
+        end_is = made.1 ∙ c.sides.ensures;
+        corner-is = made.2 ∙ c.corner_at-corner.ensures ∙ ap (corner ps) c.round.ensures.value
             ∙ ap (corner_round ps) (sym made.0);
         no_edge = made.3;
       },
-      start.requires.1,
-      start.requires.2,
+      c.requires.1,
+      c.requires.2,
     )
 
 pub returns : goal.returns
-returns c = (c.onto.ensures.0 ∙ c.before.standing.ensures.0, c.onto.ensures.1)
+returns c = (c.onto.ensures.0 ∙ c.standing.ensures.0, c.onto.ensures.1)

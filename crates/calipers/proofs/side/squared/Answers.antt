@@ -7,14 +7,14 @@ use Rattle.calipers.proofs.side.squared.Goals as goal
 use Rattle.calipers.proofs.side.squared.Goals.{After-above-dy}
 
 -- the two differences, as terms of the machine
-abbrev across : (c : After-above-dy) → Machine c.before.beyond-dx.result
+abbrev across : (c : After-above-dy) → Machine c.beyond-dx.result
 across c =
-    let pre = c.before.before.requires in
-    known c.before.beyond-dx.ensures (within-add pre.0.small-x (within-neg pre.1.small-x))
+    let pre = c.requires in
+    known c.beyond-dx.ensures (within-add pre.0.small-x (within-neg pre.1.small-x))
 
 abbrev upright : (c : After-above-dy) → Machine c.above-dy.result
 upright c =
-    let pre = c.before.before.requires in
+    let pre = c.requires in
     known c.above-dy.ensures (within-add pre.0.small-y (within-neg pre.1.small-y))
 
 pub overflow_mul-result : goal.overflow_mul-result

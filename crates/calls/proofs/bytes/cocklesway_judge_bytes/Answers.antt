@@ -8,7 +8,7 @@ use borrow.Author.Rules.{rules}
 use Rattle.calls.proofs.bytes.cocklesway_judge_bytes.Goals as goal
 
 pub judge-requires : goal.judge-requires
-judge-requires c = small-enough _ (leb-true _ small_bytes (sym c.before.before.is_small.ensures ∙ c.before.if-is_small.true))
+judge-requires c = small-enough _ (leb-true _ small_bytes (sym c.is_small.ensures ∙ c.if-is_small.true))
 
 pub judge-requires-2 : goal.judge-requires-2
 unfolding max_corners

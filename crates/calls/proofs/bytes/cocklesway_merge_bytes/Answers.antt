@@ -3,4 +3,4 @@ use borrow.Author.Rules.{rules}
 use Rattle.calls.proofs.bytes.cocklesway_merge_bytes.Goals as goal
 
 pub returns : goal.returns
-returns c = c.before.before.combine.ensures
+returns c = c.combine.ensures

@@ -7,7 +7,7 @@ use Rattle.calls.proofs.bytes.cocklesway_relation_bytes.Goals as goal
 
 pub relation-requires : goal.relation-requires
 relation-requires c =
-    let small = both_small _ _ (sym c.before.before.before.are_small.ensures ∙ c.before.before.if-are_small.true) in
+    let small = both_small _ _ (sym c.are_small.ensures ∙ c.if-are_small.true) in
     (small-enough _ small.0, small-enough _ small.1)
 
 pub relation-requires-2 : goal.relation-requires-2

@@ -5,4 +5,4 @@ use borrow.Author.Rules.{rules}
 use Rattle.calls.proofs.bytes.combine.Goals as goal
 
 pub combine_small-requires : goal.combine_small-requires
-combine_small-requires c = both_small _ _ (sym c.before.before.are_small.ensures ∙ c.before.if-are_small.true)
+combine_small-requires c = both_small _ _ (sym c.are_small.ensures ∙ c.if-are_small.true)

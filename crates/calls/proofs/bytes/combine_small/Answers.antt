@@ -5,5 +5,5 @@ use Rattle.calls.proofs.bytes.combine_small.Goals as goal
 
 pub combine-requires : goal.combine-requires
 combine-requires c =
-    let small = c.before.before.before.before.before.before.before.requires in
+    let small = c.requires in
     (small-enough _ small.0, small-enough _ small.1, λ n few k. k)

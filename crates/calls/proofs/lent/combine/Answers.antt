@@ -19,41 +19,35 @@ use Rattle.calls.proofs.lent.combine.Goals as goal
 use Rattle.calls.proofs.lent.combine.Goals.{After-read-m, After-read-n}
 
 -- as many numbers were read as are passed on
-first_read : (c : After-read-m) → c.read-m.result ≡ length (take c.read-m.result c.read-m.new.1.0)
-first_read c = sym (length-take-le _ c.read-m.new.1.0 c.read-m.ensures.0)
+first_read : (c : After-read-m) → c.read-m.result ≡ length (take c.read-m.result c.read-m.new.numbers)
+first_read c = sym (length-take-le _ c.read-m.new.numbers c.read-m.ensures.0)
 
-second-read : (c : After-read-n) → c.read-n.result ≡ length (take c.read-n.result c.read-n.new.1.0)
-second-read c = sym (length-take-le _ c.read-n.new.1.0 c.read-n.ensures.0)
+second-read : (c : After-read-n) → c.read-n.result ≡ length (take c.read-n.result c.read-n.new.numbers)
+second-read c = sym (length-take-le _ c.read-n.new.numbers c.read-n.ensures.0)
 
 pub slice_bounds-combine-end-2 : goal.slice_bounds-combine-end-2
-slice_bounds-combine-end-2 c = first_read c.before.before.before.before.before
+slice_bounds-combine-end-2 c = first_read (goal.at.slice_bounds-combine-end-2 c).After-read-arg-1
 
 pub slice_bounds-combine-end-4 : goal.slice_bounds-combine-end-4
-slice_bounds-combine-end-4 c = second-read c.before.before.before
+slice_bounds-combine-end-4 c = second-read (goal.at.slice_bounds-combine-end-4 c).After-first-1
 
 pub combine-requires : goal.combine-requires
 combine-requires c =
-    let at_second = c.before.before.before.before.before in
-    let at_first = at_second.before.before.before in
-    let start = at_first.before.before.before.before.before in
-    combined-holds start.args.merged _ _
-    (omega (arith, first_read at_first, at_first.read-m.ensures.0, at_first.read-m.auto.1.0))
-    (omega (arith, second-read at_second, at_second.read-n.ensures.0, at_second.read-n.auto.1.0))
-    start.requires.2
+    combined-holds c.args.merged _ _
+    (omega (arith, first_read (goal.at.combine-requires c).After-slice_known-1, c.read-m.ensures.0, c.read-m.auto.1.0))
+    (omega (arith, second-read (goal.at.combine-requires c).After-first-1, c.read-n.ensures.0, c.read-n.auto.1.0))
+    c.requires.2
 
 pub returns : goal.returns
 unfolding low_floor
 returns c =
-    let at-combine = c.before.before.before in
-    let at_second = at-combine.before.before.before.before.before.before in
-    let at_first = at_second.before.before.before in
-    let args = at_first.before.before.before.before.before.args in
+    let args = c.args in
     let f = args.f in
     let g = args.g in
-    let out = words_in args.out-1.now in
+    let out = words_in args.out.now in
     let asks : List ℤ → List ℤ → Question = λ (l m : List ℤ). asked (combined args.merged) (on l f) (on m g) out in
-    let u = at_first.read-m.ensures.1 in
-    let v = at_second.read-n.ensures.1 in (
-      at-combine.combine.ensures.0 ∙ ap packed (pair-reply f g asks (λ l m. refl) u v),
-      at-combine.combine.ensures.1 ∙ pair-bytes f g asks (λ l m. refl) u v args.out-1.now,
+    let u = c.read-m.ensures.1 in
+    let v = c.read-n.ensures.1 in (
+      c.combine.ensures.0 ∙ ap packed (pair-reply f g asks (λ l m. refl) u v),
+      c.combine.ensures.1 ∙ pair-bytes f g asks (λ l m. refl) u v args.out.now,
     )

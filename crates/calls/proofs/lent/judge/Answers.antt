@@ -13,7 +13,7 @@ use borrow.Author.Rules.{rules}
 use Rattle.calls.proofs.lent.judge.Goals as goal
 
 pub slice_bounds-cocklesway_judge-end-2 : goal.slice_bounds-cocklesway_judge-end-2
-slice_bounds-cocklesway_judge-end-2 c = sym (length-take-le _ c.before.before.read-n.new.1.0 c.before.before.read-n.ensures.0)
+slice_bounds-cocklesway_judge-end-2 c = sym (length-take-le _ c.read-n.new.1.0 c.read-n.ensures.0)
 
 pub packed_reply-requires : goal.packed_reply-requires
 packed_reply-requires c = narrow _ c.cocklesway_judge.ensures (judged-fits _)
@@ -21,7 +21,6 @@ packed_reply-requires c = narrow _ c.cocklesway_judge.ensures (judged-fits _)
 pub returns : goal.returns
 unfolding low_floor
 returns c =
-    let at_read = c.before.before.before.before in
-    let floor = at_read.before.before.before.args.floor in
-    one-packed floor (λ (l : List ℤ). low_floor (ask_judge (on l floor))) (λ l. refl) at_read.read-n.ensures.1
-    c.before.cocklesway_judge.ensures c.packed_reply.ensures
+    let floor = c.args.floor in
+    one-packed floor (λ (l : List ℤ). low_floor (ask_judge (on l floor))) (λ l. refl) c.read-n.ensures.1
+    c.cocklesway_judge.ensures c.packed_reply.ensures

@@ -10,16 +10,16 @@ use Rattle.calls.proofs.logs.cocklesway_log_add.Goals as goal
 use Rattle.calls.proofs.logs.cocklesway_log_add.Goals.{Else-exceeds_floor}
 
 -- past the test the floor is within its limit
-low : (c : Else-exceeds_floor) → ltb max_floor c.before.before.before.args.f ≡ false
-low c = sym c.before.exceeds_floor.ensures ∙ c.if-exceeds_floor.false
+low : (c : Else-exceeds_floor) → ltb max_floor c.args.f ≡ false
+low c = sym c.exceeds_floor.ensures ∙ c.if-exceeds_floor.false
 
 pub returns : goal.returns
 returns c =
-    added-within _ _ _ _ _ (low c.before.before.before.before.before) c.of_addition.ensures
-    c.before.before.before.log_add.ensures
+    added-within _ _ _ _ _ (low (goal.at.returns c).Else-exceeds_floor) c.of_addition.ensures
+    c.log_add.ensures
 
 pub returns-then-exceeds_floor : goal.returns-then-exceeds_floor
-returns-then-exceeds_floor c = added-above _ _ _ _ _ (sym c.before.before.exceeds_floor.ensures ∙ c.before.if-exceeds_floor.true) c.barred.ensures
+returns-then-exceeds_floor c = added-above _ _ _ _ _ (sym c.before.before.exceeds-floor.ensures ∙ c.before.if1.true) c.barred.ensures
 
 pub overflow_cast-f : goal.overflow_cast-f
 overflow_cast-f c = low_fits _ (low c.before)

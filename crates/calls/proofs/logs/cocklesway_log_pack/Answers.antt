@@ -6,5 +6,5 @@ use Rattle.calls.proofs.logs.cocklesway_log_pack.Goals as goal
 
 pub returns : goal.returns
 returns c =
-    let asked = c.before.before.before.log_pack.ensures in
+    let asked = c.log_pack.ensures in
     (c.of_addition.ensures ∙ ap crossed asked.0, asked.1)

@@ -6,5 +6,5 @@ use Rattle.calls.proofs.logs.cocklesway_log_read.Goals as goal
 
 pub returns : goal.returns
 returns c =
-    let asked = c.before.before.log_read.ensures in
+    let asked = c.log_read.ensures in
     (c.of_answer.ensures ∙ ap crossed asked.0, asked.1)

@@ -1,4 +1,5 @@
 -- `cocklesway_contact` meets its contract: 13 for a floor above its limit, else the reply of `contact`, crossed.
+use mir.Syntax.{w32}
 use mathlib.Core.Path.{◌≡◌, refl, sym, ◌∙◌, ap₂}
 use mathlib.Core.Bool.{false}
 use lib.Dec.{ltb}
@@ -15,21 +16,20 @@ use Rattle.calls.proofs.pairs.cocklesway_contact.Goals as goal
 use Rattle.calls.proofs.pairs.cocklesway_contact.Goals.{Else-exceeds}
 
 -- past the test both floors are within their limit
-low : (c : Else-exceeds) → (ltb max_floor c.before.before.args.f ≡ false) × (ltb max_floor c.before.before.args.g ≡ false)
-low c = both-low _ _ (sym c.before.exceeds.ensures ∙ c.if-exceeds.false)
+low : (c : Else-exceeds) → (ltb max_floor c.args.f ≡ false) × (ltb max_floor c.args.g ≡ false)
+low c = both-low _ _ (sym c.exceeds.ensures ∙ c.if-exceeds.false)
 
 pub returns : goal.returns
 returns c =
-    let start = c.before.before.before.before in
-    let from = ap₂ point (to_z-of_z start.ranges.x) (to_z-of_z start.ranges.y) in
-    let to = ap₂ point (to_z-of_z start.ranges.u) (to_z-of_z start.ranges.v) in
-    let obstacle = on start.args.obstacle.now start.args.f in
-    let cart = on start.args.cart.now start.args.g in
+    let from = ap₂ point (to_z-of_z {w = w32} c.ranges.x) (to_z-of_z {w = w32} c.ranges.y) in
+    let to = ap₂ point (to_z-of_z {w = w32} c.ranges.u) (to_z-of_z {w = w32} c.ranges.v) in
+    let obstacle = on c.args.obstacle.now c.args.f in
+    let cart = on c.args.cart.now c.args.g in
     within-told _ (low c.before.before).0 c.of_contact.ensures
-    (c.before.contact.ensures ∙ ap₂ (λ (t u : Point). reply (ask_contact obstacle cart t u)) from to)
+    (c.contact.ensures ∙ ap₂ (λ (t u : Point). reply (ask_contact obstacle cart t u)) from to)
 
 pub returns-then-exceeds : goal.returns-then-exceeds
-returns-then-exceeds c = (above-pair _ refl (sym c.before.before.exceeds.ensures ∙ c.before.if-exceeds.true) c.barred_pair.ensures).0
+returns-then-exceeds c = (above-pair _ refl (sym c.before.before.exceeds.ensures ∙ c.before.if1.true) c.barred-pair.ensures).0
 
 pub overflow_cast-f : goal.overflow_cast-f
 overflow_cast-f c = low_fits _ (low c).0

@@ -1,4 +1,5 @@
 -- `cocklesway_offer` meets its contract: 13 for a floor above its limit, else the reply of `offer`, crossed.
+use mir.Syntax.{w32}
 use mathlib.Core.Path.{◌≡◌, refl, sym, ◌∙◌, ap, ap₂}
 use mathlib.Core.Bool.{false}
 use lib.Dec.{ltb}
@@ -14,20 +15,19 @@ use Rattle.calls.proofs.pairs.cocklesway_offer.Goals as goal
 use Rattle.calls.proofs.pairs.cocklesway_offer.Goals.{Else-exceeds}
 
 -- past the test both floors are within their limit
-low : (c : Else-exceeds) → (ltb max_floor c.before.before.args.f ≡ false) × (ltb max_floor c.before.before.args.g ≡ false)
-low c = both-low _ _ (sym c.before.exceeds.ensures ∙ c.if-exceeds.false)
+low : (c : Else-exceeds) → (ltb max_floor c.args.f ≡ false) × (ltb max_floor c.args.g ≡ false)
+low c = both-low _ _ (sym c.exceeds.ensures ∙ c.if-exceeds.false)
 
 pub returns : goal.returns
 returns c =
-    let start = c.before.before.before.before in
-    let direction = ap₂ point (to_z-of_z start.ranges.u) (to_z-of_z start.ranges.v) in
-    let one = on start.args.a.now start.args.f in
-    let other = on start.args.b.now start.args.g in
+    let direction = ap₂ point (to_z-of_z {w = w32} c.ranges.u) (to_z-of_z {w = w32} c.ranges.v) in
+    let one = on c.args.a.now c.args.f in
+    let other = on c.args.b.now c.args.g in
     within-told _ (low c.before.before).0 c.of_offer.ensures
-    (c.before.offer.ensures ∙ ap (λ (d : Point). reply (ask_offer one other d)) direction)
+    (c.offer.ensures ∙ ap (λ (d : Point). reply (ask_offer one other d)) direction)
 
 pub returns-then-exceeds : goal.returns-then-exceeds
-returns-then-exceeds c = (above-pair _ refl (sym c.before.before.exceeds.ensures ∙ c.before.if-exceeds.true) c.barred_pair.ensures).0
+returns-then-exceeds c = (above-pair _ refl (sym c.before.before.exceeds.ensures ∙ c.before.if1.true) c.barred-pair.ensures).0
 
 pub overflow_cast-f : goal.overflow_cast-f
 overflow_cast-f c = low_fits _ (low c).0

@@ -11,17 +11,17 @@ use Rattle.calls.proofs.passages.cocklesway_passage.Goals as goal
 use Rattle.calls.proofs.passages.cocklesway_passage.Goals.{Else-exceeds_three}
 
 -- past the test all floors are within their limit
-low : (c : Else-exceeds_three) → let args = c.before.before.args in
+low : (c : Else-exceeds_three) → let args = c.args in
     (ltb max_floor args.f ≡ false) × (ltb max_floor args.g ≡ false) × (ltb max_floor args.h ≡ false)
-low c = all-low _ _ _ (sym c.before.exceeds_three.ensures ∙ c.if-exceeds_three.false)
+low c = all-low _ _ _ (sym c.exceeds_three.ensures ∙ c.if-exceeds_three.false)
 
 pub returns-then-exceeds_three : goal.returns-then-exceeds_three
 returns-then-exceeds_three c = c.barred_three.ensures
-    ∙ ap crossed (passage-above _ _ _ (sym c.before.before.exceeds_three.ensures ∙ c.before.if-exceeds_three.true))
+    ∙ ap crossed (passage-above _ _ _ (sym c.exceeds_three.ensures ∙ c.if-exceeds_three.true))
 
 pub returns : goal.returns
 returns c = c.of_passage.ensures
-    ∙ ap crossed (c.before.passage.ensures ∙ passage-within _ _ _ (low c.before.before).0)
+    ∙ ap crossed (c.passage.ensures ∙ passage-within _ _ _ (low c.before.before).0)
 
 pub overflow_cast-f : goal.overflow_cast-f
 overflow_cast-f c = low_fits _ (low c).0

@@ -8,6 +8,6 @@ use Rattle.calls.proofs.readings.cocklesway_tablet.Goals as goal
 
 pub returns : goal.returns
 returns c =
-    c.of_tablet.ensures ∙ ap (λ (s : Sent). crossed s.reply) c.before.tablet.ensures
-    ∙ ap₂ (λ (x y : Reading). crossed (tablet_reply x y)) c.before.before.before.reading.ensures
-    c.before.before.reading-2.ensures
+    c.of_tablet.ensures ∙ ap (λ (s : Sent). crossed s.reply) c.tablet.ensures
+    ∙ ap₂ (λ (x y : Reading). crossed (tablet_reply x y)) c.reading.ensures
+    c.reading-2.ensures

@@ -1,4 +1,5 @@
 -- `cocklesway_furthest` meets its contract: 13 for a floor above its limit, else the reply of `furthest`, crossed.
+use mir.Syntax.{w32}
 use mathlib.Core.Path.{◌≡◌, sym, ◌∙◌, ap, ap₂}
 use mathlib.Core.Bool.{false}
 use lib.Dec.{ltb}
@@ -14,18 +15,17 @@ use Rattle.calls.proofs.shapes.cocklesway_furthest.Goals as goal
 use Rattle.calls.proofs.shapes.cocklesway_furthest.Goals.{Else-exceeds_floor}
 
 -- past the test the floor is within its limit
-low : (c : Else-exceeds_floor) → ltb max_floor c.before.before.args.floor ≡ false
-low c = sym c.before.exceeds_floor.ensures ∙ c.if-exceeds_floor.false
+low : (c : Else-exceeds_floor) → ltb max_floor c.args.floor ≡ false
+low c = sym c.exceeds_floor.ensures ∙ c.if-exceeds_floor.false
 
 pub returns : goal.returns
 returns c =
-    let start = c.before.before.before.before in
-    let direction = ap₂ point (to_z-of_z start.ranges.u) (to_z-of_z start.ranges.v) in
-    let asked = ap (λ (d : Point). reply (ask_furthest (on start.args.list.now start.args.floor) d)) direction in
-    within-told _ (low c.before.before) c.of_furthest.ensures (c.before.furthest.ensures ∙ asked)
+    let direction = ap₂ point (to_z-of_z {w = w32} c.ranges.u) (to_z-of_z {w = w32} c.ranges.v) in
+    let asked = ap (λ (d : Point). reply (ask_furthest (on c.args.list.now c.args.floor) d)) direction in
+    within-told _ (low c.before.before) c.of_furthest.ensures (c.furthest.ensures ∙ asked)
 
 pub returns-then-exceeds_floor : goal.returns-then-exceeds_floor
-returns-then-exceeds_floor c = (above _ (sym c.before.before.exceeds_floor.ensures ∙ c.before.if-exceeds_floor.true) c.barred.ensures).0
+returns-then-exceeds_floor c = (above _ (sym c.before.before.exceeds-floor.ensures ∙ c.before.if1.true) c.barred.ensures).0
 
 pub overflow_cast-floor : goal.overflow_cast-floor
 overflow_cast-floor c = low_fits _ (low c)

@@ -11,20 +11,20 @@ use Rattle.calls.proofs.shapes.cocklesway_ring.Goals as goal
 use Rattle.calls.proofs.shapes.cocklesway_ring.Goals.{Else-exceeds_floor}
 
 -- past the test the floor is within its limit
-low : (c : Else-exceeds_floor) → ltb max_floor c.before.before.args.floor ≡ false
-low c = sym c.before.exceeds_floor.ensures ∙ c.if-exceeds_floor.false
+low : (c : Else-exceeds_floor) → ltb max_floor c.args.floor ≡ false
+low c = sym c.exceeds_floor.ensures ∙ c.if-exceeds_floor.false
 
 pub returns-then-exceeds_floor : goal.returns-then-exceeds_floor
 returns-then-exceeds_floor c =
-    let args = c.before.before.before.args in
-    ring-above (on args.list.now args.floor) args.out-1.now
-    (sym c.before.before.exceeds_floor.ensures ∙ c.before.if-exceeds_floor.true) c.barred_ring.ensures
+    let args = c.args in
+    ring-above (on args.list.now args.floor) args.out.now
+    (sym c.exceeds_floor.ensures ∙ c.if-exceeds_floor.true) c.barred_ring.ensures
 
 pub returns : goal.returns
 returns c =
-    let args = c.before.before.before.before.before.before.args in
-    ring-within (on args.list.now args.floor) args.out-1.now (low c.before.before.before.before) c.of_answer.ensures
-    c.before.before.ring.ensures
+    let args = c.args in
+    ring-within (on args.list.now args.floor) args.out.now (low c.before.before.before.before) c.of_answer.ensures
+    c.ring.ensures
 
 pub overflow_cast-floor : goal.overflow_cast-floor
 overflow_cast-floor c = low_fits _ (low c)

@@ -10,14 +10,14 @@ use Rattle.calls.proofs.shapes.cocklesway_sweep.Goals as goal
 use Rattle.calls.proofs.shapes.cocklesway_sweep.Goals.{Else-exceeds_floor}
 
 -- past the test the floor is within its limit
-low : (c : Else-exceeds_floor) → ltb max_floor c.before.before.args.floor ≡ false
-low c = sym c.before.exceeds_floor.ensures ∙ c.if-exceeds_floor.false
+low : (c : Else-exceeds_floor) → ltb max_floor c.args.floor ≡ false
+low c = sym c.exceeds_floor.ensures ∙ c.if-exceeds_floor.false
 
 pub returns-then-exceeds_floor : goal.returns-then-exceeds_floor
-returns-then-exceeds_floor c = above _ (sym c.before.before.exceeds_floor.ensures ∙ c.before.if-exceeds_floor.true) c.barred_points.ensures
+returns-then-exceeds_floor c = above _ (sym c.before.before.exceeds-floor.ensures ∙ c.before.if1.true) c.barred-points.ensures
 
 pub overflow_cast-floor : goal.overflow_cast-floor
 overflow_cast-floor c = low_fits _ (low c)
 
 pub returns : goal.returns
-returns c = within-written _ (low c.before.before.before.before) c.of_answer.ensures c.before.before.sweep.ensures
+returns c = within-written _ (low c.before.before.before.before) c.of-answer.ensures c.before.before.sweep.ensures

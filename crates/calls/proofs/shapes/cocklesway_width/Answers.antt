@@ -10,11 +10,11 @@ use Rattle.calls.proofs.shapes.cocklesway_width.Goals as goal
 use Rattle.calls.proofs.shapes.cocklesway_width.Goals.{Else-exceeds_floor}
 
 -- past the test the floor is within its limit
-low : (c : Else-exceeds_floor) → ltb max_floor c.before.before.args.floor ≡ false
-low c = sym c.before.exceeds_floor.ensures ∙ c.if-exceeds_floor.false
+low : (c : Else-exceeds_floor) → ltb max_floor c.args.floor ≡ false
+low c = sym c.exceeds_floor.ensures ∙ c.if-exceeds_floor.false
 
 pub returns-then-exceeds_floor : goal.returns-then-exceeds_floor
-returns-then-exceeds_floor c = (above _ (sym c.before.before.exceeds_floor.ensures ∙ c.before.if-exceeds_floor.true) c.barred.ensures).0
+returns-then-exceeds_floor c = (above _ (sym c.before.before.exceeds-floor.ensures ∙ c.before.if1.true) c.barred.ensures).0
 
 pub overflow_cast-floor : goal.overflow_cast-floor
 overflow_cast-floor c = low_fits _ (low c)

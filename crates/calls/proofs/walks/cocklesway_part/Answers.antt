@@ -10,11 +10,11 @@ use Rattle.calls.proofs.walks.cocklesway_part.Goals as goal
 use Rattle.calls.proofs.walks.cocklesway_part.Goals.{Else-exceeds}
 
 -- past the test both floors are within their limit
-low : (c : Else-exceeds) → (ltb max_floor c.before.before.args.f ≡ false) × (ltb max_floor c.before.before.args.g ≡ false)
-low c = both-low _ _ (sym c.before.exceeds.ensures ∙ c.if-exceeds.false)
+low : (c : Else-exceeds) → (ltb max_floor c.args.f ≡ false) × (ltb max_floor c.args.g ≡ false)
+low c = both-low _ _ (sym c.exceeds.ensures ∙ c.if-exceeds.false)
 
 pub returns-then-exceeds : goal.returns-then-exceeds
-returns-then-exceeds c = above-pair _ refl (sym c.before.before.exceeds.ensures ∙ c.before.if-exceeds.true) c.barred_pair.ensures
+returns-then-exceeds c = above-pair _ refl (sym c.before.before.exceeds.ensures ∙ c.before.if1.true) c.barred-pair.ensures
 
 pub overflow_cast-f : goal.overflow_cast-f
 overflow_cast-f c = low_fits _ (low c).0

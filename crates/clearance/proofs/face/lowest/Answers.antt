@@ -13,36 +13,33 @@ use Rattle.clearance.proofs.face.lowest.Goals.{After-face_towards-face}
 
 pub face_towards-face-requires : goal.face_towards-face-requires
 face_towards-face-requires c =
-    let start = c.before in
-    let small = start.requires.1 in (
-      start.requires.0.in_range,
-      start.requires.0.shape,
+    let small = c.requires.1 in (
+      c.requires.0.in_range,
+      c.requires.0.shape,
       subst (Small 4194304) (sym c.against.ensures)
           (record { small-x = within-neg small.small-x; small-y = within-neg small.small-y }),
-      subst NonZero (sym c.against.ensures) (opposite-non-zero start.requires.2),
+      subst NonZero (sym c.against.ensures) (opposite-non-zero c.requires.2),
     )
 
 -- the two ends, in the opposite direction
-first-is : (c : After-face_towards-face) → let args = c.before.before.args in
+first-is : (c : After-face_towards-face) → let args = c.args in
     c.face_towards-face.result.first ≡ face_first (opposite (at args.n)) (points args.list.now)
 first-is c =
-    let ps = points c.before.before.args.list.now in
-    c.face_towards-face.ensures.first_value ∙ ap (λ (d : Point). face_first d ps) c.before.against.ensures
+    let ps = points c.args.list.now in
+    c.face_towards-face.ensures.first_value ∙ ap (λ (d : Point). face_first d ps) c.against.ensures
 
-last-is : (c : After-face_towards-face) → let args = c.before.before.args in
+last-is : (c : After-face_towards-face) → let args = c.args in
     c.face_towards-face.result.last ≡ face_last (opposite (at args.n)) (points args.list.now)
 last-is c =
-    let ps = points c.before.before.args.list.now in
-    c.face_towards-face.ensures.last_value.0 ∙ ap (λ (d : Point). face_last d ps) c.before.against.ensures
+    let ps = points c.args.list.now in
+    c.face_towards-face.ensures.last_value.0 ∙ ap (λ (d : Point). face_last d ps) c.against.ensures
 
 pub returns-then-face : goal.returns-then-face
 returns-then-face c =
-    let found = c.before.before in
-    let pre = found.before.before.requires in
-    face-turned pre.0.shape pre.2 (first-is found) (last-is found) c.if-face.true
+    let pre = c.requires in
+    face-turned pre.0.shape pre.2 (first-is c.before.before) (last-is c.before.before) c.if-face.true
 
 pub returns : goal.returns
 returns c =
-    let found = c.before.before in
-    let pre = found.before.before.requires in
-    face-lowest pre.0.shape pre.2 (first-is found) (last-is found) c.if-face.false
+    let pre = c.requires in
+    face-lowest pre.0.shape pre.2 (first-is c.before.before) (last-is c.before.before) c.if-face.false

@@ -24,44 +24,44 @@ pub count-count-requires : goal.count-count-requires
 count-count-requires c = tt
 
 pub previous-back-requires : goal.previous-back-requires
-previous-back-requires c = omega (arith, c.count-count.ensures, c.before.requires.3)
+previous-back-requires c = omega (arith, c.count-count.ensures, c.requires.3)
 
 pub next-on-requires : goal.next-on-requires
-next-on-requires c = omega (arith, c.before.count-count.ensures, c.before.before.requires.3)
+next-on-requires c = omega (arith, c.count-count.ensures, c.requires.3)
 
 -- the positions of the neighbours
-back_in : (c : After-previous-back) → c.previous-back.result < length (points c.before.before.args.list.now)
-back_in c = omega (arith, c.before.count-count.ensures, c.previous-back.ensures.0)
+back_in : (c : After-previous-back) → c.previous-back.result < length (points c.args.list.now)
+back_in c = omega (arith, c.count-count.ensures, c.previous-back.ensures.0)
 
-from_back : (c : After-previous-back) → let args = c.before.before.args in
+from_back : (c : After-previous-back) → let args = c.args in
     next (length (points args.list.now)) c.previous-back.result ≡ args.i
-from_back c = ap (λ m. next m c.previous-back.result) (sym c.before.count-count.ensures) ∙ c.previous-back.ensures.1
+from_back c = ap (λ m. next m c.previous-back.result) (sym c.count-count.ensures) ∙ c.previous-back.ensures.1
 
-to-on : (c : After-next-on) → let args = c.before.before.before.args in
+to-on : (c : After-next-on) → let args = c.args in
     next (length (points args.list.now)) args.i ≡ c.next-on.result
-to-on c = ap (λ m. next m c.before.before.before.args.i) (sym c.before.before.count-count.ensures) ∙ sym c.next-on.ensures.value
+to-on c = ap (λ m. next m c.args.i) (sym c.count-count.ensures) ∙ sym c.next-on.ensures.value
 
-on_in : (c : After-next-on) → c.next-on.result < length (points c.before.before.before.args.list.now)
-on_in c = omega (arith, c.before.before.count-count.ensures, c.next-on.ensures.upper_bound)
+on_in : (c : After-next-on) → c.next-on.result < length (points c.args.list.now)
+on_in c = omega (arith, c.count-count.ensures, c.next-on.ensures.upper_bound)
 
 pub value_at-own-requires : goal.value_at-own-requires
-value_at-own-requires c = let pre = c.before.before.before.requires in (pre.3, pre.0.in_range, pre.1)
+value_at-own-requires c = let pre = c.requires in (pre.3, pre.0.in_range, pre.1)
 
 pub value_at-one-requires : goal.value_at-one-requires
-value_at-one-requires c = let pre = c.before.before.before.before.requires in (back_in c.before.before, pre.0.in_range, pre.1)
+value_at-one-requires c = let pre = c.requires in (back_in c.before.before, pre.0.in_range, pre.1)
 
 pub value_at-other-requires : goal.value_at-other-requires
 value_at-other-requires c =
-    let pre = c.before.before.before.before.before.requires in (on_in c.before.before, pre.0.in_range, pre.1)
+    let pre = c.requires in (on_in c.before.before, pre.0.in_range, pre.1)
 
 pub lowest-requires : goal.lowest-requires
-lowest-requires c = let pre = c.before.before.before.before.before.before.before.requires in (pre.0, pre.1, pre.2)
+lowest-requires c = let pre = c.requires in (pre.0, pre.1, pre.2)
 
 pub returns-then-one-own : goal.returns-then-one-own
 returns-then-one-own c = c.lowest.ensures
 
 pub lowest-requires-then-other-own : goal.lowest-requires-then-other-own
-lowest-requires-then-other-own c = let pre = c.before.before.before.before.before.before.before.before.requires in (pre.0, pre.1, pre.2)
+lowest-requires-then-other-own c = let pre = c.requires in (pre.0, pre.1, pre.2)
 
 pub returns-then-other-own : goal.returns-then-other-own
 returns-then-other-own c = c.lowest-then-other-own.ensures
@@ -77,68 +77,55 @@ more : {x y u v : ℤ} → u ≡ x → v ≡ y → le_z u v ≡ false → y <ℤ
 more p q e = le_z-false (sym (ap₂ le_z p q) ∙ e)
 
 -- the values of the corner and of its neighbours
-own : (c : After-value_at-own) → let args = c.before.before.before.before.args in
+own : (c : After-value_at-own) → let args = c.args in
     to_z w64 (of_z w64 c.value_at-own.result) ≡ value (at args.n) (corner (points args.list.now) args.i)
-own c = result-is w64 c.value_at-own.type-inv c.value_at-own.ensures
+own c = result-is w64 c.value_at-own.type_inv c.value_at-own.ensures
 
-one : (c : After-value_at-one) → let at-previous = c.before.before.before in
-    let args = at-previous.before.before.args in
-    to_z w64 (of_z w64 c.value_at-one.result) ≡ value (at args.n) (corner (points args.list.now) at-previous.previous-back.result)
-one c = result-is w64 c.value_at-one.type-inv c.value_at-one.ensures
+one : (c : After-value_at-one) →
+    let args = c.args in
+    to_z w64 (of_z w64 c.value_at-one.result) ≡ value (at args.n) (corner (points args.list.now) c.previous-back.result)
+one c = result-is w64 c.value_at-one.type_inv c.value_at-one.ensures
 
-other : (c : After-value_at-other) → let at_next = c.before.before.before in
-    let args = at_next.before.before.before.args in
-    to_z w64 (of_z w64 c.value_at-other.result) ≡ value (at args.n) (corner (points args.list.now) at_next.next-on.result)
-other c = result-is w64 c.value_at-other.type-inv c.value_at-other.ensures
+other : (c : After-value_at-other) →
+    let args = c.args in
+    to_z w64 (of_z w64 c.value_at-other.result) ≡ value (at args.n) (corner (points args.list.now) c.next-on.result)
+other c = result-is w64 c.value_at-other.type_inv c.value_at-other.ensures
 
 -- the corner is lowest
-own-lowest : (c : Else-other-own) → let args = c.before.before.before.before.before.before.before.before.args in
+own-lowest : (c : Else-other-own) → let args = c.args in
     Lowest (at args.n) (points args.list.now) args.i
 own-lowest c =
-    let values = c.before.before in
-    let at_next = values.before.before.before in
-    let at-previous = at_next.before in
-    between-lowest at-previous.before.before.requires.0.shape _ _ _ (back_in at-previous) (from_back at-previous) (to-on at_next)
-    (not-less (one values.before) (own values.before.before) c.before.if-one-own.false)
-    (not-less (other values) (own values.before.before) c.if-other-own.false)
+    between-lowest c.requires.0.shape _ _ _ (back_in c.before.before.before.before.before.before) (from_back c.before.before.before.before.before.before) (to-on c.before.before.before.before.before)
+    (not-less (one c.before.before.before) (own c.before.before.before.before) c.if-one-own.false)
+    (not-less (other c.before.before) (own c.before.before.before.before) c.if-other-own.false)
 
 pub ordered-requires : goal.ordered-requires
 ordered-requires c = tt
 
 pub returns-then-other-own-2 : goal.returns-then-other-own-2
 returns-then-other-own-2 c =
-    let known = c.before.before in
-    let values = known.before.before in
-    let at_next = values.before.before.before in
-    let pre = at_next.before.before.before.requires in
-    subst (IsFace _ _) (sym c.ordered.ensures) (edge-face pre.0.shape pre.2 _ _ (to-on at_next) (own-lowest known)
-    (level-lowest (own-lowest known) _ (on_in at_next) (no_more (other values) (own values.before.before) c.before.if-other-own-2.true)))
+    let pre = c.requires in
+    subst (IsFace _ _) (sym c.ordered.ensures) (edge-face pre.0.shape pre.2 _ _ (to-on c.before.before.before.before.before.before.before) (own-lowest c.before.before)
+    (level-lowest (own-lowest c.before.before) _ (on_in c.before.before.before.before.before.before.before) (no_more (other c.before.before.before.before) (own c.before.before.before.before.before.before) c.if-other-own-2.true)))
 
 pub ordered-requires-then-one-own-2 : goal.ordered-requires-then-one-own-2
 ordered-requires-then-one-own-2 c = tt
 
 pub returns-then-one-own-2 : goal.returns-then-one-own-2
 returns-then-one-own-2 c =
-    let known = c.before.before.before in
-    let values = known.before.before in
-    let at-previous = values.before.before.before.before in
-    let pre = at-previous.before.before.requires in
-    subst (IsFace _ _) (sym c.ordered-then-one-own-2.ensures) (edge-face pre.0.shape pre.2 _ _ (from_back at-previous)
-    (level-lowest (own-lowest known) _ (back_in at-previous)
-    (no_more (one values.before) (own values.before.before) c.before.if-one-own-2.true))
-    (own-lowest known))
+    let pre = c.requires in
+    subst (IsFace _ _) (sym c.ordered-then-one-own-2.ensures) (edge-face pre.0.shape pre.2 _ _ (from_back c.before.before.before.before.before.before.before.before.before)
+    (level-lowest (own-lowest c.before.before.before) _ (back_in c.before.before.before.before.before.before.before.before.before)
+    (no_more (one c.before.before.before.before.before.before) (own c.before.before.before.before.before.before.before) c.if-one-own-2.true))
+    (own-lowest c.before.before.before))
 
 pub ordered-requires-2 : goal.ordered-requires-2
 ordered-requires-2 c = tt
 
 pub returns : goal.returns
 returns c =
-    let known = c.before.before.before in
-    let values = known.before.before in
-    let at_next = values.before.before.before in
-    let at-previous = at_next.before in
-    let pre = at-previous.before.before.requires in
-    subst (IsFace _ _) (sym c.ordered-2.ensures) (corner-face pre.0.shape pre.2 _ _ _ (back_in at-previous)
-    (from_back at-previous) (to-on at_next) (own-lowest known)
-    (more (one values.before) (own values.before.before) c.before.if-one-own-2.false)
-    (more (other values) (own values.before.before) c.before.before.if-other-own-2.false))
+    let pre = c.requires in
+    subst (IsFace _ _) (sym c.ordered-2.ensures) (corner-face pre.0.shape pre.2 _ _ _ (back_in c.before.before.before.before.before.before.before.before.before)
+    (from_back c.before.before.before.before.before.before.before.before.before) (to-on c.before.before.before.before.before.before.before.before) (own-lowest c.before.before.before)
+    (more (one c.before.before.before.before.before.before) (own c.before.before.before.before.before.before.before) c.if-one-own-2.false)
+    (more (other c.before.before.before.before.before) (own c.before.before.before.before.before.before.before) c.if-other-own-2.false))

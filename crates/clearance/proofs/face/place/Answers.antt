@@ -7,17 +7,15 @@ pub count-n-requires : goal.count-n-requires
 count-n-requires c = tt
 
 pub returns-then-n-i : goal.returns-then-n-i
-returns-then-n-i c = c.before.before.requires
+returns-then-n-i c = c.requires
 
 pub overflow_add-k : goal.overflow_add-k
 overflow_add-k c =
-    let counted = c.before in
-    omega (arith, counted.count-n.ensures, counted.before.requires, c.if-n-i.false, points-length counted.before.args.list.now)
+    omega (arith, c.count-n.ensures, c.requires, c.if-n-i.false, points-length c.args.list.now)
 
 pub returns-then-k-n : goal.returns-then-k-n
-returns-then-k-n c = omega (arith, c.before.before.count-n.ensures, c.if-k-n.true)
+returns-then-k-n c = omega (arith, c.count-n.ensures, c.if-k-n.true)
 
 pub returns-else-k-n : goal.returns-else-k-n
 returns-else-k-n c =
-    let counted = c.before.before in
-    omega (arith, counted.count-n.ensures, counted.before.requires, c.before.if-n-i.false, c.if-k-n.false)
+    omega (arith, c.count-n.ensures, c.requires, c.if-n-i.false, c.if-k-n.false)

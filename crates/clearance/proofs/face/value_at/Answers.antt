@@ -10,8 +10,8 @@ use Rattle.clearance.proofs.face.value_at.Goals as goal
 
 pub dot-requires : goal.dot-requires
 dot-requires c =
-    let pre = c.before.requires in
+    let pre = c.requires in
     (pre.2, small-wide (small-corner _ pre.1 _ pre.0 c.corner_at.ensures))
 
 pub returns : goal.returns
-returns c = result-is w64 c.dot.type-inv (c.dot.ensures ∙ ap (value (at c.before.before.args.n)) c.before.corner_at.ensures)
+returns c = result-is w64 c.dot.type_inv (c.dot.ensures ∙ ap (value (at c.args.n)) c.corner_at.ensures)

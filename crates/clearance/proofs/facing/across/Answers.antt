@@ -14,7 +14,7 @@ overflow_sub-result-2 c = machine-fits (search (machine, bounded) depth 40) tt
 
 pub returns : goal.returns
 returns c =
-    let args = c.before.before.before.before.before.before.before.before.args in
+    let args = c.args in
     ap₂ point
     (machine-is (search (machine, bounded) depth 40) tt ∙ ring (args.w.y ∷ args.d.y ∷ []) (search reify depth 40) tt)
     (machine-is (search (machine, bounded) depth 40) tt)

@@ -17,7 +17,7 @@ pub look-near-requires : goal.look-near-requires
 look-near-requires c = c.requires
 
 pub returns-then-near : goal.returns-then-near
-returns-then-near c = let near = c.before.look-near.ensures in (near.0, near.1.found-is c.if-near.true)
+returns-then-near c = let near = c.look-near.ensures in (near.0, near.1.found-is c.if-near.true)
 
 -- the differences have a corner
 below : (c : Start) → 0 < length (vector_sum (points c.args.a.now) (points (image c.args.b.now)))
@@ -25,9 +25,8 @@ below c = on_below _ _ (image-begun _ _ c.requires.0 c.requires.1) 0 zero-le ref
 
 pub look-requires : goal.look-requires
 look-requires c =
-    let start = c.before.before in
-    let pre = start.requires in
-    (pre.0, pre.1, pre.2, record { count = 0; below = below start; moved = refl }, pre.4)
+    let pre = c.requires in
+    (pre.0, pre.1, pre.2, record { count = 0; below = below c.before.before; moved = refl }, pre.4)
 
 pub returns : goal.returns
 returns c = (c.look.ensures.0, go c.look.result.found refl)

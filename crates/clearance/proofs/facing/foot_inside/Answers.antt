@@ -11,18 +11,18 @@ use Rattle.clearance.proofs.Tests.{and-taken, and_left}
 use Rattle.clearance.proofs.facing.foot_inside.Goals as goal
 use Rattle.clearance.proofs.facing.foot_inside.Goals.{After-dot-other}
 
-one-is : (c : After-dot-other) → let args = c.before.before.before.args in
-    lt_z (to_z w64 (of_z w64 c.before.before.dot-along.result)) (to_z w64 (of_z w64 c.before.dot-own.result))
+one-is : (c : After-dot-other) → let args = c.args in
+    lt_z (to_z w64 (of_z w64 c.dot-along.result)) (to_z w64 (of_z w64 c.dot-own.result))
     ≡ lt_z (value (at args.w) (at args.d)) (value (at args.w) (at args.w))
 one-is c =
-    ap₂ lt_z (result-is w64 c.before.before.dot-along.type-inv c.before.before.dot-along.ensures)
-    (result-is w64 c.before.dot-own.type-inv c.before.dot-own.ensures)
+    ap₂ lt_z (result-is w64 c.dot-along.type_inv c.dot-along.ensures)
+    (result-is w64 c.dot-own.type_inv c.dot-own.ensures)
 
-other-is : (c : After-dot-other) → let args = c.before.before.before.args in
-    lt_z (to_z w64 (of_z w64 c.before.before.dot-along.result)) (to_z w64 (of_z w64 c.dot-other.result))
+other-is : (c : After-dot-other) → let args = c.args in
+    lt_z (to_z w64 (of_z w64 c.dot-along.result)) (to_z w64 (of_z w64 c.dot-other.result))
     ≡ lt_z (value (at args.w) (at args.d)) (value (at args.d) (at args.d))
 other-is c =
-    ap₂ lt_z (result-is w64 c.before.before.dot-along.type-inv c.before.before.dot-along.ensures) (result-is w64 c.dot-other.type-inv c.dot-other.ensures)
+    ap₂ lt_z (result-is w64 c.dot-along.type_inv c.dot-along.ensures) (result-is w64 c.dot-other.type_inv c.dot-other.ensures)
 
 pub returns-then-along-own : goal.returns-then-along-own
 returns-then-along-own c = and-taken _ (one-is c.before) c.if-along-own.true (other-is c.before)

@@ -41,50 +41,45 @@ pub side_at-s-requires : goal.side_at-s-requires
 side_at-s-requires c = ((placed c).standing.left_in, c.requires.0.in_range, c.requires.0.shape.some)
 
 pub side_at-t-requires : goal.side_at-t-requires
-side_at-t-requires c = let pre = c.before.requires in (pre.1, pre.2, (placed c.before).standing.right-in)
+side_at-t-requires c = let pre = c.requires in (pre.1, pre.2, (placed c.before).standing.right-in)
 
 pub overflow_add-all : goal.overflow_add-all
 overflow_add-all c =
-    let second = c.before.before in
-    let start = second.before.before in
     omega (
       arith,
-      image-sides second.before.side_at-s.ensures.1 second.side_at-t.ensures.1,
-      image-few _ _ start.requires.0 start.requires.1,
+      image-sides c.side_at-s.ensures.1 c.side_at-t.ensures.1,
+      image-few _ _ c.requires.0 c.requires.1,
     )
 
-begins : (c : After-struct_known-2-1) → let second = c.before.before in
-    let args = second.before.before.args in
-    walk_of second.before.side_at-s.result second.side_at-t.result false ≡ record { i = args.i; j = args.j; over = false }
-begins c = let second = c.before.before in
-    sides-walk (record { i = _; j = _; over = false }) second.before.side_at-s.result second.side_at-t.result
-    second.before.side_at-s.ensures.0 second.side_at-t.ensures.0
+begins : (c : After-struct_known-2-1) →
+    let args = c.args in
+    walk_of c.side_at-s.result c.side_at-t.result false ≡ record { i = args.i; j = args.j; over = false }
+begins c =
+    sides-walk (record { i = _; j = _; over = false }) c.side_at-s.result c.side_at-t.result
+    c.side_at-s.ensures.0 c.side_at-t.ensures.0
 
-standing : (c : After-struct_known-2-1) → let second = c.before.before in
-    let args = second.before.before.args in
-    At args.a.now (image args.b.now) (walk_of second.before.side_at-s.result second.side_at-t.result false)
+standing : (c : After-struct_known-2-1) →
+    let args = c.args in
+    At args.a.now (image args.b.now) (walk_of c.side_at-s.result c.side_at-t.result false)
 standing c = subst (At _ _) (sym (begins c)) (placed c.before.before.before.before)
 
-first-here : (c : After-here-first) → let args = c.before.before.before.before.before.args in
+first-here : (c : After-here-first) → let args = c.args in
     at c.here-first.result
     ≡ here (points args.a.now) (points (image args.b.now)) (record { i = args.i; j = args.j; over = false })
 first-here c =
-    let at-known = c.before in
-    let second = at-known.before.before in
-    c.here-first.ensures ∙ sides-here (standing at-known) second.before.side_at-s.ensures.1 second.side_at-t.ensures.1
-    ∙ ap (here _ _) (begins at-known)
+    c.here-first.ensures ∙ sides-here (standing c.before) c.side_at-s.ensures.1 c.side_at-t.ensures.1
+    ∙ ap (here _ _) (begins c.before)
 
 pub here-first-requires : goal.here-first-requires
 here-first-requires c =
-    let second = c.before.before in
-    corners-fit (standing c) second.before.side_at-s.ensures.1 second.side_at-t.ensures.1
+    corners-fit (standing c) c.side_at-s.ensures.1 c.side_at-t.ensures.1
 
 pub loop-first-init : goal.loop-first-init
 loop-first-init c =
-    let second = c.before.before.before in (
-      λ k below moved. looking-start (starts second.before.before) below (begins c.before ∙ moved),
-      second.before.side_at-s.ensures.1,
-      second.side_at-t.ensures.1,
+    (
+      λ k below moved. looking-start (starts c.before.before.before.before.before) below (begins c.before ∙ moved),
+      c.side_at-s.ensures.1,
+      c.side_at-t.ensures.1,
       record { small-x = record { size = zero-le }; small-y = record { size = zero-le } },
     )
 
@@ -100,98 +95,90 @@ pub order-c-requires : goal.order-c-requires
 order-c-requires c = let inv = c.loop-first.invariant in edges_fit (looking-at (looking c)) inv.1 inv.2
 
 pub next-m-requires : goal.next-m-requires
-next-m-requires c = let inv = c.before.loop-first.invariant in first_next (looking-at (looking c.before)) inv.1 inv.2
+next-m-requires c = let inv = c.loop-first.invariant in first_next (looking-at (looking c.before)) inv.1 inv.2
 
 pub next-n-requires : goal.next-n-requires
 next-n-requires c =
-    let at-loop = c.before.before in
-    let pre = (start at-loop).requires in
-    (pre.1, pre.2, at-loop.loop-first.invariant.2)
+    let pre = (start c.before.before).requires in
+    (pre.1, pre.2, c.loop-first.invariant.2)
 
 pub here-here-requires : goal.here-here-requires
 here-here-requires c =
-    let at-loop = c.before.before.before in
-    corners-fit (looking-at (looking at-loop)) at-loop.loop-first.invariant.1 at-loop.loop-first.invariant.2
+    corners-fit (looking-at (looking c.before.before.before)) c.loop-first.invariant.1 c.loop-first.invariant.2
 
 -- the walk after the step
-steps : (c : After-next-n) (end : Bool) → let at-loop = c.before.before.before in
-    let args = (start at-loop).args in
-    At args.a.now (image args.b.now) (walk_of c.before.next-m.result c.next-n.result end)
+steps : (c : After-next-n) (end : Bool) →
+    let args = (start c.before.before.before).args in
+    At args.a.now (image args.b.now) (walk_of c.next-m.result c.next-n.result end)
 steps c end =
-    let at-order = c.before.before in
-    let inv = at-order.before.loop-first.invariant in
-    sides-at (looking-at (looking at-order.before)) inv.1 inv.2 (result-is w64 at-order.order-c.type-inv at-order.order-c.ensures)
-    c.before.next-m.result c.next-n.result c.before.next-m.ensures.0 c.next-n.ensures.0
+    let inv = c.loop-first.invariant in
+    sides-at (looking-at (looking c.before.before.before)) inv.1 inv.2 (result-is w64 c.order-c.type_inv c.order-c.ensures)
+    c.next-m.result c.next-n.result c.next-m.ensures.0 c.next-n.ensures.0
 
-advances : (c : After-next-n) → let at-loop = c.before.before.before in
-    let args = (start at-loop).args in
-    let m = c.before.next-m.result in
+advances : (c : After-next-n) →
+    let args = (start c.before.before.before).args in
+    let m = c.next-m.result in
     let n = c.next-n.result in
     walk_of m n (finished (points args.a.now) m.at (points (image args.b.now)) n.at)
-    ≡ advanced (points args.a.now) (points (image args.b.now)) (walk_of at-loop.loop-first.s at-loop.loop-first.t false)
+    ≡ advanced (points args.a.now) (points (image args.b.now)) (walk_of c.loop-first.s c.loop-first.t false)
 advances c =
-    let at-order = c.before.before in
-    let inv = at-order.before.loop-first.invariant in
-    sides-advanced (looking-at (looking at-order.before)) inv.1 inv.2
-    (result-is w64 at-order.order-c.type-inv at-order.order-c.ensures)
-    c.before.next-m.result c.next-n.result c.before.next-m.ensures.0 c.next-n.ensures.0 refl
+    let inv = c.loop-first.invariant in
+    sides-advanced (looking-at (looking c.before.before.before)) inv.1 inv.2
+    (result-is w64 c.order-c.type_inv c.order-c.ensures)
+    c.next-m.result c.next-n.result c.next-m.ensures.0 c.next-n.ensures.0 refl
 
-first_step : (c : After-next-n) → let at-loop = c.before.before.before in
-    let args = (start at-loop).args in
-    c.before.next-m.result.at
-    ≡ Places.passed (edges (points args.a.now)) at-loop.loop-first.s.at (edges (points (image args.b.now))) at-loop.loop-first.t.at
+first_step : (c : After-next-n) →
+    let args = (start c.before.before.before).args in
+    c.next-m.result.at
+    ≡ Places.passed (edges (points args.a.now)) c.loop-first.s.at (edges (points (image args.b.now))) c.loop-first.t.at
 unfolding advanced passed
 first_step c = ap (λ (w : Walk). w.i) (advances c)
 
-second-step : (c : After-next-n) → let at-loop = c.before.before.before in
-    let args = (start at-loop).args in
+second-step : (c : After-next-n) →
+    let args = (start c.before.before.before).args in
     c.next-n.result.at
-    ≡ Places.passed (edges (points (image args.b.now))) at-loop.loop-first.t.at (edges (points args.a.now)) at-loop.loop-first.s.at
+    ≡ Places.passed (edges (points (image args.b.now))) c.loop-first.t.at (edges (points args.a.now)) c.loop-first.s.at
 unfolding advanced passed
 second-step c = ap (λ (w : Walk). w.j) (advances c)
 
 pub here-there-requires : goal.here-there-requires
 here-there-requires c =
-    let at_next = c.before in corners-fit (steps at_next false) at_next.before.next-m.ensures.1 at_next.next-n.ensures.1
+    corners-fit (steps c.before false) c.next-m.ensures.1 c.next-n.ensures.1
 
 -- where it is before and after the step
-leaves : (c : After-here-there) → let at-loop = c.before.before.before.before.before in
-    let args = (start at-loop).args in
-    at c.before.here-here.result
-    ≡ here (points args.a.now) (points (image args.b.now)) (walk_of at-loop.loop-first.s at-loop.loop-first.t false)
+leaves : (c : After-here-there) →
+    let args = (start c.before.before.before.before.before).args in
+    at c.here-here.result
+    ≡ here (points args.a.now) (points (image args.b.now)) (walk_of c.loop-first.s c.loop-first.t false)
 leaves c =
-    let at-loop = c.before.before.before.before.before in
-    c.before.here-here.ensures ∙ sides-here (looking-at (looking at-loop)) at-loop.loop-first.invariant.1 at-loop.loop-first.invariant.2
+    c.here-here.ensures ∙ sides-here (looking-at (looking c.before.before.before.before.before)) c.loop-first.invariant.1 c.loop-first.invariant.2
 
-arrives : (c : After-here-there) (end : Bool) → let at_next = c.before.before in
-    let args = (start at_next.before.before.before).args in
+arrives : (c : After-here-there) (end : Bool) →
+    let args = (start c.before.before.before.before.before).args in
     at c.here-there.result
-    ≡ here (points args.a.now) (points (image args.b.now)) (walk_of at_next.before.next-m.result at_next.next-n.result end)
-arrives c end = let at_next = c.before.before in
-    c.here-there.ensures ∙ sides-here (steps at_next end) at_next.before.next-m.ensures.1 at_next.next-n.ensures.1
+    ≡ here (points args.a.now) (points (image args.b.now)) (walk_of c.next-m.result c.next-n.result end)
+arrives c end =
+    c.here-there.ensures ∙ sides-here (steps c.before.before end) c.next-m.ensures.1 c.next-n.ensures.1
 
-near : (c : After-here-there) → Small 2097152 (at c.before.here-here.result) × Small 2097152 (at c.here-there.result)
+near : (c : After-here-there) → Small 2097152 (at c.here-here.result) × Small 2097152 (at c.here-there.result)
 near c =
-    let at-loop = c.before.before.before.before.before in
-    (here-near (looking-at (looking at-loop)) (leaves c), here-near (steps c.before.before false) (arrives c false))
+    (here-near (looking-at (looking c.before.before.before.before.before)) (leaves c), here-near (steps c.before.before false) (arrives c false))
 
 pub rests-requires : goal.rests-requires
 rests-requires c = let both = near c in
-    (c.before.before.before.before.before.loop-first.invariant.3, small-wide both.0, small-wide both.1)
+    (c.loop-first.invariant.3, small-wide both.0, small-wide both.1)
 
 pub seen-requires : goal.seen-requires
 seen-requires c = tt
 
 pub returns-then-rests : goal.returns-then-rests
 returns-then-rests c =
-    let at_here = c.before.before.before in
-    let at-loop = at_here.before.before.before.before.before in
     let is = c.seen.ensures in (
-      subst (Small 4194304) (sym is.1) (small-wide (near at_here).0),
+      subst (Small 4194304) (sym is.1) (small-wide (near c.before.before.before).0),
       record {
         found-is = λ h. subst (Stopped _) (sym is.1)
-            (looking-corner (looking at-loop) refl (advances at_here.before.before) (leaves at_here) (arrives at_here _)
-            (start at-loop).requires.4 (sym c.before.before.rests.ensures ∙ c.before.if-rests.true));
+            (looking-corner (looking c.before.before.before.before.before.before.before.before) refl (advances c.before.before.before.before.before) (leaves c.before.before.before) (arrives c.before.before.before _)
+            (start c.before.before.before.before.before.before.before.before).requires.4 (sym c.rests.ensures ∙ c.if-rests.true));
         none_is = λ h. absurd (true≢false (sym is.0 ∙ h));
       },
     )
@@ -207,41 +194,36 @@ seen-requires-then-crosses c = tt
 
 pub returns-then-crosses : goal.returns-then-crosses
 returns-then-crosses c =
-    let at-across = c.before in
-    let at-cross = at-across.before.before in
-    let at_here = at-cross.before.before.before in
-    let at-loop = at_here.before.before.before.before.before in
-    let both = near at_here in
-    let is = c.seen-then-crosses.ensures.1 ∙ at-across.across.ensures in (
+    let both = near c.before.before.before.before.before.before in
+    let is = c.seen-then-crosses.ensures.1 ∙ c.across.ensures in (
       subst (Small 4194304) (sym is) (record {
         small-x = within-neg (within-add both.1.small-y (within-neg both.0.small-y));
         small-y = within-add both.1.small-x (within-neg both.0.small-x);
       }),
       record {
         found-is = λ h. subst (Stopped _) (sym is)
-            (looking-edge (looking at-loop) refl (advances at_here.before.before) (leaves at_here) (arrives at_here _)
-            (sym at-cross.crosses.ensures ∙ at-across.before.if-crosses.true));
+            (looking-edge (looking c.before.before.before.before.before.before.before.before.before.before.before) refl (advances c.before.before.before.before.before.before.before.before) (leaves c.before.before.before.before.before.before) (arrives c.before.before.before.before.before.before _)
+            (sym c.crosses.ensures ∙ c.if-crosses.true));
         none_is = λ h. absurd (true≢false (sym c.seen-then-crosses.ensures.0 ∙ h));
       },
     )
 
 pub overflow_add-m : goal.overflow_add-m
 overflow_add-m c =
-    let at_next = c.before.before.before.before.before.before.before.before in
-    let begin = start at_next.before.before.before in
-    let first = at_next.before.next-m.ensures.1.at_in in
-    let second = at_next.next-n.ensures.1.at_in in
+    let begin = start c.before.before.before.before.before.before.before.before.before.before.before in
+    let first = c.next-m.ensures.1.at_in in
+    let second = c.next-n.ensures.1.at_in in
     omega (arith, image-few _ _ begin.pre.0 begin.pre.1)
 
 -- neither place at hand passes
-fails : (c : After-struct_known-in-loop-first-2-1) → let at_here = c.before.before.before.before.before.before in
-    let back = at at_here.before.before.before.before.before.loop-first.back in
-    (rests back (at at_here.before.here-here.result) (at at_here.here-there.result) ≡ false)
-    × (crosses (at at_here.before.here-here.result) (at at_here.here-there.result) ≡ false)
+fails : (c : After-struct_known-in-loop-first-2-1) →
+    let back = at c.loop-first.back in
+    (rests back (at c.here-here.result) (at c.here-there.result) ≡ false)
+    × (crosses (at c.here-here.result) (at c.here-there.result) ≡ false)
 fails c =
-    let at-cross = c.before.before.before in (
-      sym at-cross.before.before.rests.ensures ∙ at-cross.before.if-rests.false,
-      sym at-cross.crosses.ensures ∙ c.before.before.if-crosses.false,
+    (
+      sym c.rests.ensures ∙ c.if-rests.false,
+      sym c.crosses.ensures ∙ c.if-crosses.false,
     )
 
 pub seen-requires-then-m-n : goal.seen-requires-then-m-n
@@ -249,58 +231,47 @@ seen-requires-then-m-n c = tt
 
 pub returns-then-m-n : goal.returns-then-m-n
 returns-then-m-n c =
-    let known = c.before.before in
-    let at_here = known.before.before.before.before.before.before in
-    let at_next = at_here.before.before in
-    let at-loop = at_next.before.before.before in
-    let at_first = at-loop.before in
     let is = c.seen-then-m-n.ensures in
-    let over = all-passed _ _ _ _ at_next.before.next-m.ensures.1.at_in at_next.next-n.ensures.1.at_in
-    (c.before.if-m-n.true ∙ image-sides at_first.before.before.before.before.side_at-s.ensures.1
-    at_first.before.before.before.side_at-t.ensures.1) in (
-      subst (Small 4194304) (sym is.1) (small-wide (here-near (placed (start at-loop)) (first-here at_first))),
+    let over = all-passed _ _ _ _ c.next-m.ensures.1.at_in c.next-n.ensures.1.at_in
+    (c.if-m-n.true ∙ image-sides c.side_at-s.ensures.1
+    c.side_at-t.ensures.1) in (
+      subst (Small 4194304) (sym is.1) (small-wide (here-near (placed (start c.before.before.before.before.before.before.before.before.before.before.before.before.before)) (first-here c.before.before.before.before.before.before.before.before.before.before.before.before.before.before))),
       record {
         found-is = λ h. absurd (false≢true (sym is.0 ∙ h));
         none_is = λ h k below moved. subst (Nowhere _ k) (sym is.1)
-            (looking-end (at-loop.loop-first.invariant.0 k below moved) refl (advances at_next) (leaves at_here) (arrives at_here _) (fails known).0
-            (fails known).1 over
-            (first-here at_first ∙ ap (here _ _) moved ∙ corner-here _ _ (starts (start at-loop)) k below));
+            (looking-end (c.loop-first.invariant.0 k below moved) refl (advances c.before.before.before.before.before.before.before.before.before.before) (leaves c.before.before.before.before.before.before.before.before) (arrives c.before.before.before.before.before.before.before.before _) (fails c.before.before).0
+            (fails c.before.before).1 over
+            (first-here c.before.before.before.before.before.before.before.before.before.before.before.before.before.before ∙ ap (here _ _) moved ∙ corner-here _ _ (starts (start c.before.before.before.before.before.before.before.before.before.before.before.before.before)) k below));
       },
     )
 
 pub loop-first-smaller : goal.loop-first-smaller
 loop-first-smaller c =
-    let at_next = c.before.before.before.before.before.before.before.before.before in
-    let at-loop = at_next.before.before.before in
-    let inv = at-loop.loop-first.invariant in
-    let args = (start at-loop).args in
+    let inv = c.loop-first.invariant in
+    let args = (start c.before.before.before.before.before.before.before.before.before.before.before.before).args in
     let E = edges (points args.a.now) in
     let F = edges (points (image args.b.now)) in
-    edges-less E F _ _ (first_step at_next) (second-step at_next) (λ h k. c.if-m-n.false (omega (
+    edges-less E F _ _ (first_step c.before.before.before.before.before.before.before.before.before) (second-step c.before.before.before.before.before.before.before.before.before) (λ h k. c.if-m-n.false (omega (
       arith,
-      image-sides at-loop.before.before.before.before.before.side_at-s.ensures.1
-          at-loop.before.before.before.before.side_at-t.ensures.1,
-      first_step at_next ∙ passed-ended E _ F _ h,
-      second-step at_next ∙ passed-ended F _ E _ k,
+      image-sides c.side_at-s.ensures.1
+          c.side_at-t.ensures.1,
+      first_step c.before.before.before.before.before.before.before.before.before ∙ passed-ended E _ F _ h,
+      second-step c.before.before.before.before.before.before.before.before.before ∙ passed-ended F _ E _ k,
       inv.1.at_in,
       inv.2.at_in,
     )))
 
 pub loop-first-preserved : goal.loop-first-preserved
 loop-first-preserved c =
-    let known = c.before in
-    let at_here = known.before.before.before.before.before.before in
-    let at_next = at_here.before.before in
-    let at-loop = at_next.before.before.before in
-    let args = (start at-loop).args in
-    let on = some_left _ _ at_next.before.next-m.result.at at_next.next-n.result.at
-    (λ e. c.if-m-n.false (e ∙ sym (image-sides at-loop.before.before.before.before.before.side_at-s.ensures.1
-    at-loop.before.before.before.before.side_at-t.ensures.1))) in (
+    let args = (start c.before.before.before.before.before.before.before.before.before.before.before.before).args in
+    let on = some_left _ _ c.next-m.result.at c.next-n.result.at
+    (λ e. c.if-m-n.false (e ∙ sym (image-sides c.side_at-s.ensures.1
+    c.side_at-t.ensures.1))) in (
       λ k below moved. subst (λ (o : Bool). Looking args.a.now (image args.b.now) k
-          (walk_of at_next.before.next-m.result at_next.next-n.result o) (at at_here.before.here-here.result)) on
-          (looking-more (at-loop.loop-first.invariant.0 k below moved) refl (advances at_next) (leaves at_here) (arrives at_here _)
-          (fails known).0 (fails known).1),
-      at_next.before.next-m.ensures.1,
-      at_next.next-n.ensures.1,
-      small-wide (near at_here).0,
+          (walk_of c.next-m.result c.next-n.result o) (at c.here-here.result)) on
+          (looking-more (c.loop-first.invariant.0 k below moved) refl (advances c.before.before.before.before.before.before.before.before.before) (leaves c.before.before.before.before.before.before.before) (arrives c.before.before.before.before.before.before.before _)
+          (fails c.before).0 (fails c.before).1),
+      c.next-m.ensures.1,
+      c.next-n.ensures.1,
+      small-wide (near c.before.before.before.before.before.before.before).0,
     )

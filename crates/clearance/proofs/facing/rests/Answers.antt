@@ -12,18 +12,18 @@ use Rattle.clearance.proofs.Tests.{and-taken, and_left}
 use Rattle.clearance.proofs.facing.rests.Goals as goal
 use Rattle.clearance.proofs.facing.rests.Goals.{After-dot-other}
 
-one-is : (c : After-dot-other) → let args = c.before.before.before.args in
-    le_z (to_z w64 (of_z w64 c.before.before.dot-own.result)) (to_z w64 (of_z w64 c.before.dot-one.result))
+one-is : (c : After-dot-other) → let args = c.args in
+    le_z (to_z w64 (of_z w64 c.dot-own.result)) (to_z w64 (of_z w64 c.dot-one.result))
     ≡ le_z (value (at args.w) (at args.w)) (value (at args.w) (at args.p))
 one-is c =
-    ap₂ le_z (result-is w64 c.before.before.dot-own.type-inv c.before.before.dot-own.ensures)
-    (result-is w64 c.before.dot-one.type-inv c.before.dot-one.ensures)
+    ap₂ le_z (result-is w64 c.dot-own.type_inv c.dot-own.ensures)
+    (result-is w64 c.dot-one.type_inv c.dot-one.ensures)
 
-other-is : (c : After-dot-other) → let args = c.before.before.before.args in
-    le_z (to_z w64 (of_z w64 c.before.before.dot-own.result)) (to_z w64 (of_z w64 c.dot-other.result))
+other-is : (c : After-dot-other) → let args = c.args in
+    le_z (to_z w64 (of_z w64 c.dot-own.result)) (to_z w64 (of_z w64 c.dot-other.result))
     ≡ le_z (value (at args.w) (at args.w)) (value (at args.w) (at args.d))
 other-is c =
-    ap₂ le_z (result-is w64 c.before.before.dot-own.type-inv c.before.before.dot-own.ensures) (result-is w64 c.dot-other.type-inv c.dot-other.ensures)
+    ap₂ le_z (result-is w64 c.dot-own.type_inv c.dot-own.ensures) (result-is w64 c.dot-other.type_inv c.dot-other.ensures)
 
 pub returns-then-own-one : goal.returns-then-own-one
 unfolding rests

@@ -19,34 +19,33 @@ use Rattle.clearance.proofs.measured.between.Goals.{After-magnitude-squared, Aft
 
 pub squared-requires : goal.squared-requires
 squared-requires c =
-    let pre = c.before.before.requires in
-    (small-corner _ pre.2 _ pre.0 c.before.corner_at.ensures, small-corner _ pre.3 _ pre.1 c.corner_at-2.ensures)
+    let pre = c.requires in
+    (small-corner _ pre.2 _ pre.0 c.corner_at.ensures, small-corner _ pre.3 _ pre.1 c.corner_at-2.ensures)
 
-squared-is : (c : After-squared) → let args = c.before.before.before.args in
+squared-is : (c : After-squared) → let args = c.args in
     to_z w64 (of_z w64 c.squared.result) ≡ squared (corner (points args.a.now) args.i) (corner (points args.b.now) args.j)
 squared-is c =
-    result-is w64 c.squared.type-inv
-    (c.squared.ensures ∙ ap₂ squared c.before.before.corner_at.ensures c.before.corner_at-2.ensures)
+    result-is w64 c.squared.type_inv
+    (c.squared.ensures ∙ ap₂ squared c.corner_at.ensures c.corner_at-2.ensures)
 
 pub magnitude-squared-requires : goal.magnitude-squared-requires
 magnitude-squared-requires c = rw (squared-is c) (squared-nonneg _ _)
 
-size_is : (c : After-magnitude-squared) → let args = c.before.before.before.before.args in
+size_is : (c : After-magnitude-squared) → let args = c.args in
     squared (corner (points args.a.now) args.i) (corner (points args.b.now) args.j) ≡ pos c.magnitude-squared.result
 size_is c = sym (squared-is c.before) ∙ c.magnitude-squared.ensures
 
 positive : (c : After-magnitude-squared) → 0 < c.magnitude-squared.result
-positive c = ltb-true 0 c.magnitude-squared.result (lt-lt_z (rw (size_is c) at c.before.before.before.before.requires.4))
+positive c = ltb-true 0 c.magnitude-squared.result (lt-lt_z (rw (size_is c) at c.requires.4))
 
 pub root_of_fraction-requires : goal.root_of_fraction-requires
 root_of_fraction-requires c = record { positive = positive c }
 
 pub returns : goal.returns
 returns c =
-    let at_size = c.before in
-    let d = at_size.magnitude-squared.result in
-    let root = sym (root-square-over d (positive at_size)) ∙ rounded-unique (d * d) d (positive at_size) c.root_of_fraction.result
+    let d = c.magnitude-squared.result in
+    let root = sym (root-square-over d (positive c.before)) ∙ rounded-unique (d * d) d (positive c.before) c.root_of_fraction.result
     c.root_of_fraction.ensures.reached c.root_of_fraction.ensures.next-above in
-    let args = at_size.before.before.before.before.args in
-    ap₂ (λ (z w : ℤ). pos 1 ∷ pos args.i ∷ pos args.j ∷ z ∷ w ∷ []) (sym (size_is at_size))
-    (ap pos (sym root) ∙ ap (λ (z : ℤ). pos (root_below (nat_abs z) 1)) (sym (size_is at_size)))
+    let args = c.args in
+    ap₂ (λ (z w : ℤ). pos 1 ∷ pos args.i ∷ pos args.j ∷ z ∷ w ∷ []) (sym (size_is c.before))
+    (ap pos (sym root) ∙ ap (λ (z : ℤ). pos (root_below (nat_abs z) 1)) (sym (size_is c.before)))

@@ -17,41 +17,38 @@ told {t} {q} {r} h = ap₂ (λ (x y : ℤ). x ∷ y ∷ pos r.rounded ∷ []) (a
 
 pub between-requires : goal.between-requires
 between-requires c =
-    let start = c.before.before.before in
-    let m = subst (λ (p : Pair). Measurable (points start.args.a.now) (points start.args.b.now) (candidate_of p))
-    c.before.in-Corners.is start.requires.2 in
-    (m.0, m.1, start.requires.0, start.requires.1, m.2)
+    let m = subst (λ (p : Pair). Measurable (points c.args.a.now) (points c.args.b.now) (candidate_of p))
+    c.in-Corners.is c.requires.2 in
+    (m.0, m.1, c.requires.0, c.requires.1, m.2)
 
 pub across-found-requires : goal.across-found-requires
 across-found-requires c =
-    let start = c.before.before.before in
-    let m = subst (λ (p : Pair). Measurable (points start.args.a.now) (points start.args.b.now) (candidate_of p))
-    c.before.in-OnSecond.is start.requires.2 in
-    (m.0, m.1, start.requires.0, start.requires.1, m.2)
+    let m = subst (λ (p : Pair). Measurable (points c.args.a.now) (points c.args.b.now) (candidate_of p))
+    c.in-OnSecond.is c.requires.2 in
+    (m.0, m.1, c.requires.0, c.requires.1, m.2)
 
 pub across-found-requires-in-OnFirst : goal.across-found-requires-in-OnFirst
 across-found-requires-in-OnFirst c =
-    let start = c.before.before.before in
-    let m = subst (λ (p : Pair). Measurable (points start.args.a.now) (points start.args.b.now) (candidate_of p))
-    c.before.in-OnFirst.is start.requires.2 in
-    (m.0, m.1, start.requires.1, start.requires.0, m.2)
+    let m = subst (λ (p : Pair). Measurable (points c.args.a.now) (points c.args.b.now) (candidate_of p))
+    c.in-OnFirst.is c.requires.2 in
+    (m.0, m.1, c.requires.1, c.requires.0, m.2)
 
 pub returns-in-Corners : goal.returns-in-Corners
 returns-in-Corners c =
-    let args = c.before.before.before.before.args in
+    let args = c.args in
     c.between.ensures
-    ∙ ap (λ (p : Pair). numbers_of (points args.a.now) (points args.b.now) (candidate_of p)) (sym c.before.before.in-Corners.is)
+    ∙ ap (λ (p : Pair). numbers_of (points args.a.now) (points args.b.now) (candidate_of p)) (sym c.in-Corners.is)
 
 pub returns-in-OnSecond : goal.returns-in-OnSecond
 returns-in-OnSecond c =
-    let given = c.before.before.pair-in-OnSecond-1.given in
-    let args = c.before.before.before.before.args in
+    let given = c.pair-in-OnSecond-1.given in
+    let args = c.args in
     ap (λ (vs : List ℤ). pos 2 ∷ pos given.0.0 ∷ pos given.0.1.0 ∷ vs) (told c.across-found.ensures)
     ∙ ap (λ (p : Pair). numbers_of (points args.a.now) (points args.b.now) (candidate_of p)) (sym given.1)
 
 pub returns-in-OnFirst : goal.returns-in-OnFirst
 returns-in-OnFirst c =
-    let given = c.before.before.pair-in-OnFirst-1.given in
-    let args = c.before.before.before.before.args in
+    let given = c.pair-in-OnFirst-1.given in
+    let args = c.args in
     ap (λ (vs : List ℤ). pos 3 ∷ pos given.0.0 ∷ pos given.0.1.0 ∷ vs) (told c.across-found-in-OnFirst.ensures)
     ∙ ap (λ (p : Pair). numbers_of (points args.a.now) (points args.b.now) (candidate_of p)) (sym given.1)

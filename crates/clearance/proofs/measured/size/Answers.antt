@@ -25,22 +25,22 @@ pub overflow_sub-z : goal.overflow_sub-z
 overflow_sub-z c = machine-fits (search (machine, bounded) depth 40) tt
 
 -- the opposite, as the machine reads it back
-turned : (c : Then-z-lt0) → let z = c.before.args.z in
+turned : (c : Then-z-lt0) → let z = c.args.z in
     to_z w64 (of_z w64 (pos 0 -ℤ to_z w64 (of_z w64 z))) ≡ pos 0 -ℤ z
 turned c = machine-is (search (machine, bounded) depth 40) tt
 
 pub magnitude-requires : goal.magnitude-requires
 magnitude-requires c =
-    let z = c.before.args.z in
-    let h : z <ℤ pos 0 = lt_z-true (rw (to_z-of_z c.before.ranges.z) at c.if-z-lt0.true) in
+    let z = c.args.z in
+    let h : z <ℤ pos 0 = lt_z-true (rw (to_z-of_z {w = w64} c.ranges.z) at c.if-z-lt0.true) in
     let k : pos 0 ≤ℤ (pos 0 -ℤ z) = lia (z ∷ []) h (search linear depth 40) (omega arith) in
     rw (turned c) k
 
 pub returns-then-z-lt0 : goal.returns-then-z-lt0
-returns-then-z-lt0 c = sym (ap nat_abs (sym (turned c.before) ∙ c.magnitude.ensures)) ∙ turned-size c.before.before.args.z
+returns-then-z-lt0 c = sym (ap nat_abs (sym (turned c.before) ∙ c.magnitude.ensures)) ∙ turned-size c.args.z
 
 pub magnitude-requires-2 : goal.magnitude-requires-2
 magnitude-requires-2 c = lt_z-false c.if-z-lt0.false
 
 pub returns : goal.returns
-returns c = sym (ap nat_abs (sym (to_z-of_z c.before.before.ranges.z) ∙ c.magnitude-2.ensures))
+returns c = sym (ap nat_abs (sym (to_z-of_z {w = w64} c.ranges.z) ∙ c.magnitude-2.ensures))

@@ -17,24 +17,21 @@ use Rattle.clearance.proofs.reach.along.Goals.{After-cross-beside}
 
 pub step-requires : goal.step-requires
 step-requires c =
-    let pre = c.before.before.requires in
-    (small-corner _ pre.3 _ pre.1 c.before.corner_at.ensures, small-corner _ pre.2 _ pre.0 c.corner_at-2.ensures)
+    let pre = c.requires in
+    (small-corner _ pre.3 _ pre.1 c.corner_at.ensures, small-corner _ pre.2 _ pre.0 c.corner_at-2.ensures)
 
 pub cross-beside-requires : goal.cross-beside-requires
 cross-beside-requires c =
-    let at-corner = c.before in
-    let both = step-requires at-corner c.lifetimes in
-    (at-corner.before.before.requires.4, small-step both.0 both.1 c.step.ensures)
+    let both = step-requires c.before in
+    (c.requires.4, small-step both.0 both.1 c.step.ensures)
 
-beside-is : (c : After-cross-beside) → let start = c.before.before.before.before in
+beside-is : (c : After-cross-beside) →
     to_z w64 (of_z w64 c.cross-beside.result)
-    ≡ cross (at start.args.n)
-    (corner (points start.args.a.now) start.args.i ⊖ corner (points start.args.b.now) start.args.j)
+    ≡ cross (at c.args.n)
+    (corner (points c.args.a.now) c.args.i ⊖ corner (points c.args.b.now) c.args.j)
 beside-is c =
-    let at-step = c.before in
-    let start = at-step.before.before.before in
-    result-is w64 c.cross-beside.type-inv (c.cross-beside.ensures ∙ ap (cross (at start.args.n))
-    (at-step.step.ensures ∙ ap₂ ◌⊖◌ at-step.before.corner_at-2.ensures at-step.before.before.corner_at.ensures))
+    result-is w64 c.cross-beside.type_inv (c.cross-beside.ensures ∙ ap (cross (at c.args.n))
+    (c.step.ensures ∙ ap₂ ◌⊖◌ c.corner_at-2.ensures c.corner_at.ensures))
 
 pub returns-then-beside-ge0 : goal.returns-then-beside-ge0
 unfolding is_along

@@ -17,20 +17,19 @@ use Rattle.clearance.proofs.reach.falls.Goals.{After-dot-way}
 
 pub dot-way-requires : goal.dot-way-requires
 dot-way-requires c =
-    let pre = c.before.before.requires in
-    (small-step pre.0 pre.1 c.before.step.ensures, small-step pre.0 pre.2 c.step-2.ensures)
+    let pre = c.requires in
+    (small-step pre.0 pre.1 c.step.ensures, small-step pre.0 pre.2 c.step-2.ensures)
 
-way-is : (c : After-dot-way) → let args = c.before.before.before.args in
+way-is : (c : After-dot-way) → let args = c.args in
     to_z w64 (of_z w64 c.dot-way.result) ≡ value (at args.q ⊖ at args.p) (at args.c ⊖ at args.p)
 way-is c =
-    result-is w64 c.dot-way.type-inv (c.dot-way.ensures ∙ ap₂ value c.before.before.step.ensures c.before.step-2.ensures)
+    result-is w64 c.dot-way.type_inv (c.dot-way.ensures ∙ ap₂ value c.step.ensures c.step-2.ensures)
 
 pub returns-then-way-gt0 : goal.returns-then-way-gt0
 unfolding falls
 returns-then-way-gt0 c =
-    let at-dot = c.before.before in
-    and-taken _ (ap (lt_z (pos 0)) (way-is at-dot)) c.if-way-gt0.true
-    (ap₂ lt_z (way-is at-dot) (result-is w64 c.before.squared-squared.type-inv c.before.squared-squared.ensures))
+    and-taken _ (ap (lt_z (pos 0)) (way-is c.before.before)) c.if-way-gt0.true
+    (ap₂ lt_z (way-is c.before.before) (result-is w64 c.squared-squared.type_inv c.squared-squared.ensures))
 
 pub returns-else-way-gt0 : goal.returns-else-way-gt0
 unfolding falls

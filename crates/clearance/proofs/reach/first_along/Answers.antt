@@ -7,10 +7,6 @@ use Rattle.clearance.proofs.reach.first_along.Goals as goal
 
 pub returns : goal.returns
 returns c =
-    let fourth = c.before in
-    let third = fourth.before in
-    let second = third.before in
-    let first = second.before in
-    let args = first.before.args in
-    c.picked.ensures ∙ four (picked_of args.f args.g) first.along-first.ensures second.along-second.ensures third.along-third.ensures
-    fourth.along-fourth.ensures
+    let args = c.args in
+    c.picked.ensures ∙ four (picked_of args.f args.g) c.along-first.ensures c.along-second.ensures c.along-third.ensures
+    c.along-fourth.ensures

@@ -7,10 +7,6 @@ use Rattle.clearance.proofs.reach.first_foot.Goals as goal
 
 pub returns : goal.returns
 returns c =
-    let fourth = c.before in
-    let third = fourth.before in
-    let second = third.before in
-    let first = second.before in
-    let args = first.before.args in
-    c.picked.ensures ∙ four (picked_of args.f args.g) first.foot-first.ensures second.foot-second.ensures third.foot-third.ensures
-    fourth.foot-fourth.ensures
+    let args = c.args in
+    c.picked.ensures ∙ four (picked_of args.f args.g) c.foot-first.ensures c.foot-second.ensures c.foot-third.ensures
+    c.foot-fourth.ensures

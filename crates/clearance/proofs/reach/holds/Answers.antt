@@ -8,4 +8,4 @@ pub returns-then-i-g : goal.returns-then-i-g
 returns-then-i-g c = or-taken _ refl (eq-eqb _ _ c.if-i-g.true)
 
 pub returns-else-i-g : goal.returns-else-i-g
-returns-else-i-g c = or_left _ refl (ne_eqb _ _ c.before.if-i-g.false) refl
+returns-else-i-g c = or_left _ refl (ne_eqb _ _ c.if-i-g.false) refl

@@ -6,10 +6,10 @@ pub returns-then-first : goal.returns-then-first
 returns-then-first c = rw c.if-first.true
 
 pub returns-then-second : goal.returns-then-second
-returns-then-second c = rw (c.before.if-first.false, c.if-second.true)
+returns-then-second c = rw (c.if-first.false, c.if-second.true)
 
 pub returns-then-third : goal.returns-then-third
-returns-then-third c = rw (c.before.before.if-first.false, c.before.if-second.false, c.if-third.true)
+returns-then-third c = rw (c.if-first.false, c.if-second.false, c.if-third.true)
 
 pub returns-then-fourth : goal.returns-then-fourth
-returns-then-fourth c = rw (c.before.before.before.if-first.false, c.before.before.if-second.false, c.before.if-third.false, c.if-fourth.true)
+returns-then-fourth c = rw (c.if-first.false, c.if-second.false, c.if-third.false, c.if-fourth.true)

@@ -1,4 +1,5 @@
 -- `far_part` meets its contract: the opposite of a small part fits 32 bits.
+use mir.Syntax.{w32}
 use mathlib.Core.Path.{◌≡◌, sym, ◌∙◌, ap}
 use mathlib.Core.Bool.{Bool, cond}
 use mir.Facts.{to_z-of_z}
@@ -17,12 +18,12 @@ overflow_sub-result c = machine-fits (search (machine, bounded) depth 40) tt
 
 pub returns-then-d-lt0 : goal.returns-then-d-lt0
 returns-then-d-lt0 c =
-    let args = c.before.args in
+    let args = c.args in
     machine-is (search (machine, bounded) depth 40) tt ∙ +ℤ_idl _
-    ∙ by_sign args.d args.high args.low (sym (ap (λ (z : ℤ). lt_z z (pos 0)) (to_z-of_z c.before.ranges.d)) ∙ c.if-d-lt0.true)
+    ∙ by_sign args.d args.high args.low (sym (ap (λ (z : ℤ). lt_z z (pos 0)) (to_z-of_z {w = w32} c.ranges.d)) ∙ c.if-d-lt0.true)
 
 pub returns-else-d-lt0 : goal.returns-else-d-lt0
 returns-else-d-lt0 c =
-    let args = c.before.args in
-    to_z-of_z c.before.ranges.high
-    ∙ by_sign args.d args.high args.low (sym (ap (λ (z : ℤ). lt_z z (pos 0)) (to_z-of_z c.before.ranges.d)) ∙ c.if-d-lt0.false)
+    let args = c.args in
+    to_z-of_z {w = w32} c.ranges.high
+    ∙ by_sign args.d args.high args.low (sym (ap (λ (z : ℤ). lt_z z (pos 0)) (to_z-of_z {w = w32} c.ranges.d)) ∙ c.if-d-lt0.false)

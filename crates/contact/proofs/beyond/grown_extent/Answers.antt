@@ -10,10 +10,10 @@ use Rattle.contact.proofs.beyond.grown_extent.Goals.{After-extent_of-e, After-ex
 
 -- the parts of both boxes are small
 obstacle-small : (c : After-extent_of-e) → let e = c.extent_of-e.result in Small (2 ^ 21) (at e.high) × Small (2 ^ 21) (at e.low)
-obstacle-small c = let pre = c.before.requires in extends-small _ pre.0.in_range pre.0.shape.some c.extent_of-e.ensures
+obstacle-small c = let pre = c.requires in extends-small _ pre.0.in_range pre.0.shape.some c.extent_of-e.ensures
 
 cart-small : (c : After-extent_of-f) → let e = c.extent_of-f.result in Small (2 ^ 21) (at e.high) × Small (2 ^ 21) (at e.low)
-cart-small c = let pre = c.before.before.requires in extends-small _ pre.1.in_range pre.1.shape.some c.extent_of-f.ensures
+cart-small c = let pre = c.requires in extends-small _ pre.1.in_range pre.1.shape.some c.extent_of-f.ensures
 
 pub opposite-requires : goal.opposite-requires
 opposite-requires c = (cart-small c).1
@@ -26,26 +26,19 @@ opposite-requires-2 c = (cart-small c.before.before).0
 
 pub step-requires-2 : goal.step-requires-2
 step-requires-2 c =
-    let at-cart = c.before.before.before in
-    (opposite-small c.opposite-2.ensures (cart-small at-cart).0, (obstacle-small at-cart.before).1)
+    (opposite-small c.opposite-2.ensures (cart-small c.before.before.before).0, (obstacle-small c.before.before.before.before).1)
 
 pub returns : goal.returns
-returns c =
-    let at_first = c.before.before in
-    let at-cart = at_first.before.before in
-    let pre = at-cart.before.before.requires in
-    let e = at-cart.before.extent_of-e.result in
-    let f = at-cart.extent_of-f.result in
-    let low = at_first.before.opposite.ensures in
-    let high = c.before.opposite-2.ensures in (
-      grown-extends _ _ pre.0.shape.some pre.1.shape.some at-cart.before.extent_of-e.ensures at-cart.extent_of-f.ensures
-          (step-opposite (at f.low) (at e.high) low at_first.step.ensures)
-          (step-opposite (at f.high) (at e.low) high c.step-2.ensures),
-      (
-        small-step (opposite-small low (cart-small at-cart).1) (obstacle-small at-cart.before).0 at_first.step.ensures,
-        small-step (opposite-small high (cart-small at-cart).0) (obstacle-small at-cart.before).1 c.step-2.ensures,
-      ),
-    )
+returns c = let pre = c.requires in
+    let e = c.extent_of-e.result in
+    let f = c.extent_of-f.result in
+    let low = c.opposite.ensures in
+    let high = c.opposite-2.ensures in record { extends = grown-extends _ _ pre.0.shape.some pre.1.shape.some c.extent_of-e.ensures c.extent_of-f.ensures
+          (step-opposite (at f.low) (at e.high) low c.step.ensures)
+          (step-opposite (at f.high) (at e.low) high c.step-2.ensures); small = (
+        small-step (opposite-small low (cart-small c.before.before.before.before).1) (obstacle-small c.before.before.before.before.before).0 c.step.ensures,
+        small-step (opposite-small high (cart-small c.before.before.before.before).0) (obstacle-small c.before.before.before.before.before).1 c.step-2.ensures,
+      ) }
 
 pub extent_of-e-requires : goal.extent_of-e-requires
 extent_of-e-requires c = c.requires.0

@@ -10,20 +10,19 @@ use Rattle.contact.proofs.beyond.is_beside.Goals as goal
 
 pub returns-then-is_past : goal.returns-then-is_past
 returns-then-is_past c =
-    let args = c.before.before.args in
+    let args = c.args in
     ap (λ (b : Bool). b || is_past (at args.e.high) (at args.e.low) (opposite (at args.d)) (at args.t) (at args.u))
-    (sym c.if-is_past.true ∙ c.before.is_past.ensures)
+    (sym c.if-is_past.true ∙ c.is_past.ensures)
 
 pub is_past-requires-2 : goal.is_past-requires-2
 is_past-requires-2 c =
-    let pre = c.before.before.before.requires in
+    let pre = c.requires in
     (pre.0, pre.1, opposite-small c.opposite.ensures pre.2, pre.3)
 
 pub returns : goal.returns
 returns c =
-    let at-else = c.before.before in
-    let args = at-else.before.before.args in
+    let args = c.args in
     c.is_past-2.ensures
-    ∙ ap (λ (d : Point). is_past (at args.e.high) (at args.e.low) d (at args.t) (at args.u)) c.before.opposite.ensures
+    ∙ ap (λ (d : Point). is_past (at args.e.high) (at args.e.low) d (at args.t) (at args.u)) c.opposite.ensures
     ∙ ap (λ (b : Bool). b || is_past (at args.e.high) (at args.e.low) (opposite (at args.d)) (at args.t) (at args.u))
-    (sym at-else.if-is_past.false ∙ at-else.before.is_past.ensures)
+    (sym c.if-is_past.false ∙ c.is_past.ensures)

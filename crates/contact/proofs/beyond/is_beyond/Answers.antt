@@ -21,19 +21,18 @@ use Rattle.contact.proofs.beyond.is_beyond.Goals as goal
 use Rattle.contact.proofs.beyond.is_beyond.Goals.{After-grown_extent-span, After-step-along, Else-is_beside-2, Start}
 
 -- a direction that shows it
-shows : (c : After-grown_extent-span) (d : Point) → let args = c.before.args in
+shows : (c : After-grown_extent-span) (d : Point) → let args = c.args in
     is_beside (at c.grown_extent-span.result.high) (at c.grown_extent-span.result.low) d (at args.t) (at args.u) ≡ true
     → apart (at args.t ∷ at args.u ∷ []) (grown (points args.obstacle.now) (points args.cart.now)) ≡ true
 shows c d k =
-    let start = c.before in
-    let s = grown-shape _ _ start.requires.0.shape.some start.requires.1.shape.some in
+    let s = grown-shape _ _ c.requires.0.shape.some c.requires.1.shape.some in
     beside-apart _ s.some c.grown_extent-span.ensures.extends _ _ s d k
 
 pub returns-then-is_beside : goal.returns-then-is_beside
-returns-then-is_beside c = λ r. shows c.before.before _ (sym c.before.is_beside.ensures ∙ c.if-is_beside.true)
+returns-then-is_beside c = λ r. shows c.before.before _ (sym c.is_beside.ensures ∙ c.if-is_beside.true)
 
 pub returns-then-is_beside-2 : goal.returns-then-is_beside-2
-returns-then-is_beside-2 c = λ r. shows c.before.before.before.before _ (sym c.before.is_beside-2.ensures ∙ c.if-is_beside-2.true)
+returns-then-is_beside-2 c = λ r. shows c.before.before.before.before _ (sym c.is_beside-2.ensures ∙ c.if-is_beside-2.true)
 
 abbrev start_of : Else-is_beside-2 → Start
 start_of c = c.before.before.before.before.before
@@ -52,17 +51,15 @@ read_back : {z : ℤ} → Within (2 ^ 21) z → Within (2 ^ 21) (to_z w32 (of_z 
 read_back h = subst (λ (x : ℤ). Within (2 ^ 21) x) (sym (machine-is (search (machine, bounded) depth 40) tt ∙ +ℤ_idl _)) (within-neg h)
 
 pub overflow_sub-along : goal.overflow_sub-along
-overflow_sub-along c = let h = (along c.before.before).small-y in machine-fits (search (machine, bounded) depth 40) tt
+overflow_sub-along c = let h = (along (goal.at.overflow_sub-along c).After-step-along).small-y in machine-fits (search (machine, bounded) depth 40) tt
 
 pub is_beside-requires-3 : goal.is_beside-requires-3
 is_beside-requires-3 c =
-    let at-step = c.before.before.before in
-    let at-extent = at-step.before.before.before.before.before in
-    let small = at-extent.grown_extent-span.ensures.small in (
+    let small = c.grown_extent-span.ensures.small in (
       small.0,
       small.1,
-      record { small-x = read_back (along at-step).small-y; small-y = read (along at-step).small-x },
-      at-extent.before.requires.2,
+      record { small-x = read_back (along c.before.before.before).small-y; small-y = read (along c.before.before.before).small-x },
+      c.requires.2,
     )
 
 pub returns : goal.returns

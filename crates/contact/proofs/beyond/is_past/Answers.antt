@@ -16,30 +16,29 @@ use Rattle.contact.proofs.beyond.is_past.Goals as goal
 use Rattle.contact.proofs.beyond.is_past.Goals.{After-dot, After-dot-far}
 
 pub dot-far-requires : goal.dot-far-requires
-dot-far-requires c = let pre = c.before.requires in
-    (small-wide pre.2, subst (Small (2 ^ 22)) (sym c.far_corner.ensures) (corner-small (at c.before.args.d) pre.0 pre.1))
+dot-far-requires c = let pre = c.requires in
+    (small-wide pre.2, subst (Small (2 ^ 22)) (sym c.far_corner.ensures) (corner-small (at c.args.d) pre.0 pre.1))
 
 pub dot-requires : goal.dot-requires
-dot-requires c = let pre = c.before.before.requires in (small-wide pre.2, small-wide (small-place pre.3.from-near))
+dot-requires c = let pre = c.requires in (small-wide pre.2, small-wide (small-place pre.3.from-near))
 
 pub dot-requires-then-far-dot : goal.dot-requires-then-far-dot
-dot-requires-then-far-dot c = let pre = c.before.before.before.before.requires in (small-wide pre.2, small-wide (small-place pre.3.to-near))
+dot-requires-then-far-dot c = let pre = c.requires in (small-wide pre.2, small-wide (small-place pre.3.to-near))
 
-reach-is : (c : After-dot-far) → let args = c.before.before.args in
+reach-is : (c : After-dot-far) → let args = c.args in
     to_z w64 (of_z w64 c.dot-far.result) ≡ value (at args.d) (box_corner (at args.e.high) (at args.e.low) (at args.d))
-reach-is c = result-is w64 c.dot-far.type-inv (c.dot-far.ensures ∙ ap (value (at c.before.before.args.d)) c.before.far_corner.ensures)
+reach-is c = result-is w64 c.dot-far.type_inv (c.dot-far.ensures ∙ ap (value (at c.args.d)) c.far_corner.ensures)
 
 -- how far the box reaches, and where the first place is
-far-is : (c : After-dot) → let args = c.before.before.before.args in
-    lt_z (to_z w64 (of_z w64 c.before.dot-far.result)) (to_z w64 (of_z w64 c.dot.result))
+far-is : (c : After-dot) → let args = c.args in
+    lt_z (to_z w64 (of_z w64 c.dot-far.result)) (to_z w64 (of_z w64 c.dot.result))
     ≡ lt_z (value (at args.d) (box_corner (at args.e.high) (at args.e.low) (at args.d))) (value (at args.d) (at args.t))
-far-is c = ap₂ lt_z (reach-is c.before) (result-is w64 c.dot.type-inv c.dot.ensures)
+far-is c = ap₂ lt_z (reach-is c.before) (result-is w64 c.dot.type_inv c.dot.ensures)
 
 pub returns-then-far-dot : goal.returns-then-far-dot
 returns-then-far-dot c =
-    let at-if = c.before in
-    ap₂ lt_z (reach-is at-if.before.before) (result-is w64 c.dot-then-far-dot.type-inv c.dot-then-far-dot.ensures)
-    ∙ by_first _ (sym (far-is at-if.before) ∙ at-if.if-far-dot.true)
+    ap₂ lt_z (reach-is c.before.before.before) (result-is w64 c.dot-then-far-dot.type_inv c.dot-then-far-dot.ensures)
+    ∙ by_first _ (sym (far-is c.before.before) ∙ c.if-far-dot.true)
 
 pub returns : goal.returns
 returns c = by_first _ (sym (far-is c.before) ∙ c.if-far-dot.false)

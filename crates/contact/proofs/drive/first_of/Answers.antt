@@ -25,49 +25,45 @@ pub exceed-requires : goal.exceed-requires
 exceed-requires c = (whole_words _ _ c.arrivals-way.ensures.on-way).0
 
 -- the way is apart as the test says
-apart-is : (c : After-exceed) → let args = c.before.before.args in
+apart-is : (c : After-exceed) → let args = c.args in
     apart (at args.t ∷ at args.u ∷ []) (points args.list.now) ≡ c.exceed.result
-apart-is c = c.before.arrivals-way.ensures.apart-is ∙ sym c.exceed.ensures
+apart-is c = c.arrivals-way.ensures.apart-is ∙ sym c.exceed.ensures
 
 pub returns-then-exceed : goal.returns-then-exceed
 returns-then-exceed c = never-told _ _ _ (apart-is c.before ∙ c.if-exceed.true)
 
 pub lowest-c-requires : goal.lowest-c-requires
-lowest-c-requires c = (whole_words _ _ c.before.before.arrivals-way.ensures.on-way).1
+lowest-c-requires c = (whole_words _ _ c.arrivals-way.ensures.on-way).1
 
 pub squared-requires : goal.squared-requires
 squared-requires c =
-    let places = c.before.before.before.before.requires.1 in
+    let places = c.requires.1 in
     (small-place places.from-near, small-place places.to-near)
 
 pub magnitude-length-requires : goal.magnitude-length-requires
-magnitude-length-requires c = rw (result-is w64 c.squared.type-inv c.squared.ensures) (squared-nonneg _ _)
+magnitude-length-requires c = rw (result-is w64 c.squared.type_inv c.squared.ensures) (squared-nonneg _ _)
 
 -- the contact, and the squared length of the way
-told : (c : After-lowest-c) → let args = c.before.before.before.before.args in
+told : (c : After-lowest-c) → let args = c.args in
     fraction c.lowest-c.result ≡ contact (at args.t) (at args.u) (points args.list.now)
 told c =
-    let at-else = c.before in
-    c.lowest-c.ensures ∙ at-else.before.before.arrivals-way.ensures.first-is (apart-is at-else.before ∙ at-else.if-exceed.false)
+    c.lowest-c.ensures ∙ c.arrivals-way.ensures.first-is (apart-is c.before.before ∙ c.if-exceed.false)
 
-length-is : (c : After-magnitude-length) → let args = c.before.before.before.before.before.before.args in
+length-is : (c : After-magnitude-length) → let args = c.args in
     pos c.magnitude-length.result ≡ squared (at args.t) (at args.u)
-length-is c = sym c.magnitude-length.ensures ∙ result-is w64 c.before.squared.type-inv c.before.squared.ensures
+length-is c = sym c.magnitude-length.ensures ∙ result-is w64 c.squared.type_inv c.squared.ensures
 
 pub millimetres-requires : goal.millimetres-requires
 millimetres-requires c =
-    let at-lowest = c.before.before in
-    let args = at-lowest.before.before.before.before.args in
-    let w = whole_words _ _ (subst OnWay (sym (told at-lowest)) (first-on-way (at args.t) (at args.u) (points args.list.now))) in
+    let args = c.args in
+    let w = whole_words _ _ (subst OnWay (sym (told c.before.before)) (first-on-way (at args.t) (at args.u) (points args.list.now))) in
     let near = subst (λ (z : ℤ). Within 8_000_000_000_000 z) (sym (length-is c))
-    (length-bounded at-lowest.before.before.before.before.requires.1) in
+    (length-bounded c.requires.1) in
     (w.0, w.1, omega (arith, near.size))
 
 pub returns : goal.returns
 returns c =
-    let at_length = c.before in
-    let at-lowest = at_length.before.before in
-    let f = at-lowest.lowest-c.result in
+    let f = c.lowest-c.result in
     ap (λ (w : ℕ). pos 1 ∷ pos f.numerator ∷ pos f.denominator ∷ pos w ∷ []) c.millimetres.ensures
-    ∙ at_told _ _ _ (apart-is at-lowest.before.before ∙ at-lowest.before.if-exceed.false)
-    f.numerator f.denominator at_length.magnitude-length.result (told at-lowest) (length-is at_length)
+    ∙ at_told _ _ _ (apart-is c.before.before.before.before.before ∙ c.if-exceed.false)
+    f.numerator f.denominator c.magnitude-length.result (told c.before.before.before) (length-is c.before)

@@ -14,12 +14,12 @@ pub nonzero_rem-rest : goal.nonzero_rem-rest
 nonzero_rem-rest c = omega arith
 
 pub loop-y-smaller : goal.loop-y-smaller
-loop-y-smaller c = mod-lt c.before.loop-y.x (nonzero_rem-rest c)
+loop-y-smaller c = mod-lt c.loop-y.x (nonzero_rem-rest c)
 
 pub loop-y-preserved : goal.loop-y-preserved
-loop-y-preserved c = gcd-step c.before.loop-y.x c.before.loop-y.y ∙ c.before.loop-y.invariant
+loop-y-preserved c = gcd-step c.loop-y.x c.loop-y.y ∙ c.loop-y.invariant
 
 pub returns : goal.returns
 returns c =
-    let none : c.before.loop-y.y ≡ 0 = omega arith in
-    sym (gcd-zero c.before.loop-y.x) ∙ ap (gcd c.before.loop-y.x) (sym none) ∙ c.before.loop-y.invariant
+    let none : c.loop-y.y ≡ 0 = omega arith in
+    sym (gcd-zero c.loop-y.x) ∙ ap (gcd c.loop-y.x) (sym none) ∙ c.loop-y.invariant

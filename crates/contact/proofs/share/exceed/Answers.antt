@@ -5,4 +5,4 @@ use Rattle.contact.specs.theory.Words.{exceed-words}
 use Rattle.contact.proofs.share.exceed.Goals as goal
 
 pub returns : goal.returns
-returns c = c.is_less.ensures ∙ exceed-words _ _ _ _ c.before.before.requires
+returns c = c.is_less.ensures ∙ exceed-words _ _ _ _ c.requires

@@ -8,8 +8,6 @@ use Rattle.contact.proofs.share.is_less.Goals as goal
 
 pub returns : goal.returns
 returns c =
-    let second = c.before.before.before.before in
-    let first = second.before.before.before.before in
-    let args = first.before.before.before.args in
-    c.is_less.ensures ∙ ap₂ ltb (first.scale.ensures ∙ ap (λ z. z * args.b) (value-word args.a))
-    (second.scale-2.ensures ∙ ap (λ z. z * args.d) (value-word args.c))
+    let args = c.args in
+    c.is_less.ensures ∙ ap₂ ltb (c.scale.ensures ∙ ap (λ z. z * args.b) (value-word args.a))
+    (c.scale-2.ensures ∙ ap (λ z. z * args.d) (value-word args.c))

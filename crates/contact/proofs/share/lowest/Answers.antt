@@ -13,8 +13,8 @@ use Rattle.contact.proofs.share.lowest.Goals.{After-divisor-g}
 
 positive : (c : After-divisor-g) → 0 < c.divisor-g.result
 positive c =
-    let f = c.before.args.f in
-    omega (arith, c.divisor-g.ensures, gcd-positive f.numerator f.denominator (inr c.before.requires))
+    let f = c.args.f in
+    omega (arith, c.divisor-g.ensures, gcd-positive f.numerator f.denominator (inr c.requires))
 
 pub nonzero_div-result : goal.nonzero_div-result
 nonzero_div-result c = positive c.before
@@ -24,6 +24,6 @@ nonzero_div-result-2 c = positive c.before.before
 
 pub returns : goal.returns
 returns c =
-    let f = c.before.before.before.args.f in
-    ap (λ (g : ℕ). over (pos (f.numerator / g)) (pos (f.denominator / g))) c.before.before.divisor-g.ensures
+    let f = c.args.f in
+    ap (λ (g : ℕ). over (pos (f.numerator / g)) (pos (f.denominator / g))) c.divisor-g.ensures
     ∙ lowest-words f.numerator f.denominator

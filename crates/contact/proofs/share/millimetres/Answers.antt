@@ -17,7 +17,7 @@ pub loop-low-init : goal.loop-low-init
 loop-low-init c = let p = c.requires in spanned-start _ _ _ p.0 p.1 p.2
 
 pub overflow_mul-middle : goal.overflow_mul-middle
-overflow_mul-middle c = square-fits _ (omega (arith, c.before.loop-low.invariant.below))
+overflow_mul-middle c = square-fits _ (omega (arith, c.loop-low.invariant.below))
 
 pub overflow_sub-high : goal.overflow_sub-high
 overflow_sub-high c = omega arith
@@ -27,18 +27,16 @@ loop-low-smaller-then-fraction_less c = omega arith
 
 pub loop-low-preserved-then-fraction_less : goal.loop-low-preserved-then-fraction_less
 loop-low-preserved-then-fraction_less c =
-    let at-loop = c.before.before.before in
-    spanned-down _ at-loop.loop-low.invariant (omega arith) (omega arith) (sym c.before.fraction_less.ensures ∙ c.if-fraction_less.true)
+    spanned-down _ c.loop-low.invariant (omega arith) (omega arith) (sym c.fraction_less.ensures ∙ c.if-fraction_less.true)
 
 pub loop-low-smaller : goal.loop-low-smaller
 loop-low-smaller c = omega arith
 
 pub loop-low-preserved : goal.loop-low-preserved
 loop-low-preserved c =
-    let at-loop = c.before.before.before in
-    spanned-up _ at-loop.loop-low.invariant (omega arith) (sym c.before.fraction_less.ensures ∙ c.if-fraction_less.false)
+    spanned-up _ c.loop-low.invariant (omega arith) (sym c.fraction_less.ensures ∙ c.if-fraction_less.false)
 
 pub returns : goal.returns
 returns c =
-    let p = c.before.before.requires in
-    spanned-end (mul-pos p.1 p.1) c.before.loop-low.invariant c.loop-low-test.false
+    let p = c.requires in
+    spanned-end (mul-pos p.1 p.1) c.loop-low.invariant c.loop-low-test.false

@@ -23,92 +23,78 @@ turned : {t u : Point} → Places t u → Places u t
 turned p = record { from-near = p.to-near; to-near = p.from-near }
 
 pub start-back-requires : goal.start-back-requires
-start-back-requires c = let pre = c.before.before.requires in (pre.0, turned pre.1)
+start-back-requires c = let pre = c.requires in (pre.0, turned pre.1)
 
 pub loop-i-init : goal.loop-i-init
 loop-i-init c = (
   omega arith,
-  c.before.before.count-n.ensures,
-  record { there-is = c.before.start-there.ensures; back_is = c.start-back.ensures },
+  c.count-n.ensures,
+  record { there-is = c.start-there.ensures; back_is = c.start-back.ensures },
 
 )
 
 pub edge_past-a-requires : goal.edge_past-a-requires
 edge_past-a-requires c =
-    let start = c.before.before.before.before.before in
-    (start.requires.0, omega (arith, c.before.loop-i.invariant.1), start.requires.1.from-near)
+    (c.requires.0, omega (arith, c.loop-i.invariant.1), c.requires.1.from-near)
 
 pub edge_past-b-requires : goal.edge_past-b-requires
 edge_past-b-requires c =
-    let at-loop = c.before.before in
-    let start = at-loop.before.before.before.before in
-    (start.requires.0, omega (arith, at-loop.loop-i.invariant.1), start.requires.1.to-near)
+    (c.requires.0, omega (arith, c.loop-i.invariant.1), c.requires.1.to-near)
 
 bounded : {z : ℤ} → mag z < 2 ^ 63 → Within 8_000_000_000_000 z → Within 8_000_000_000_000 (to_z w64 (of_z w64 z))
 bounded ok h = subst (λ (z : ℤ). Within 8_000_000_000_000 z) (sym (result-is w64 ok refl)) h
 
 -- how far both ends are past the edge
-from_is : (c : After-edge_past-a) → let at-loop = c.before.before in
-    let args = at-loop.before.before.before.before.args in
+from_is : (c : After-edge_past-a) →
+    let args = c.args in
     to_z w64 (of_z w64 c.edge_past-a.result)
-    ≡ past (points args.list.now) (edge_normal (points args.list.now) at-loop.loop-i.i) (at args.t)
-from_is c = result-is w64 c.edge_past-a.type-inv c.edge_past-a.ensures.0
+    ≡ past (points args.list.now) (edge_normal (points args.list.now) c.loop-i.i) (at args.t)
+from_is c = result-is w64 c.edge_past-a.type_inv c.edge_past-a.ensures.0
 
-to_is : (c : After-edge_past-b) → let at-loop = c.before.before.before in
-    let args = at-loop.before.before.before.before.args in
+to_is : (c : After-edge_past-b) →
+    let args = c.args in
     to_z w64 (of_z w64 c.edge_past-b.result)
-    ≡ past (points args.list.now) (edge_normal (points args.list.now) at-loop.loop-i.i) (at args.u)
-to_is c = result-is w64 c.edge_past-b.type-inv c.edge_past-b.ensures.0
+    ≡ past (points args.list.now) (edge_normal (points args.list.now) c.loop-i.i) (at args.u)
+to_is c = result-is w64 c.edge_past-b.type_inv c.edge_past-b.ensures.0
 
 -- both ends are past one wall
 pub returns-then-are_past : goal.returns-then-are_past
 returns-then-are_past c =
-    let at-past = c.before.before in
-    let at-loop = at-past.before.before.before in
-    let start = at-loop.before.before.before.before in
-    let G = points start.args.list.now in
-    out-met (at start.args.t) (at start.args.u) G start.requires.0.shape (edge_normal G at-loop.loop-i.i)
-    (from_is at-past.before) (to_is at-past) (sym c.before.are_past.ensures ∙ c.if-are_past.true)
+    let G = points c.args.list.now in
+    out-met (at c.args.t) (at c.args.u) G c.requires.0.shape (edge_normal G c.loop-i.i)
+    (from_is c.before.before.before) (to_is c.before.before) (sym c.are_past.ensures ∙ c.if-are_past.true)
 
 pub entering-requires : goal.entering-requires
 entering-requires c =
-    let to = c.before.before in
-    let from = to.before in
-    (bounded from.edge_past-a.type-inv from.edge_past-a.ensures.1, bounded to.edge_past-b.type-inv to.edge_past-b.ensures.1)
+    (bounded c.edge_past-a.type_inv c.edge_past-a.ensures.1, bounded c.edge_past-b.type_inv c.edge_past-b.ensures.1)
 
 pub entering-requires-in-loop-i : goal.entering-requires-in-loop-i
 entering-requires-in-loop-i c =
-    let to = c.before.before.before.before in
-    let from = to.before in
-    (bounded to.edge_past-b.type-inv to.edge_past-b.ensures.1, bounded from.edge_past-a.type-inv from.edge_past-a.ensures.1)
+    (bounded c.edge_past-b.type_inv c.edge_past-b.ensures.1, bounded c.edge_past-a.type_inv c.edge_past-a.ensures.1)
 
 pub loop-i-smaller : goal.loop-i-smaller
 loop-i-smaller c = omega arith
 
 pub loop-i-preserved : goal.loop-i-preserved
 loop-i-preserved c =
-    let at-later = c.before.before in
-    let at-past = at-later.before.before.before.before in
-    let at-loop = at-past.before.before.before in
-    let inv = at-loop.loop-i.invariant in
-    let args = at-loop.before.before.before.before.args in
+    let inv = c.loop-i.invariant in
+    let args = c.args in
     let G = points args.list.now in (
       omega arith,
       inv.1,
       record {
-        there-is = at-later.later-there.ensures ∙ ap₂ later inv.2.there-is (at-later.before.entering.ensures
-            ∙ ap₂ entering (from_is at-past.before) (to_is at-past)) ∙ wall-more (at args.t) (at args.u) G at-loop.loop-i.i;
-        back_is = c.later-back.ensures ∙ ap₂ later inv.2.back_is (c.before.entering-in-loop-i.ensures
-            ∙ ap₂ entering (to_is at-past) (from_is at-past.before)) ∙ wall-more (at args.u) (at args.t) G at-loop.loop-i.i;
+        there-is = c.later-there.ensures ∙ ap₂ later inv.2.there-is (c.entering.ensures
+            ∙ ap₂ entering (from_is c.before.before.before.before.before.before.before) (to_is c.before.before.before.before.before.before)) ∙ wall-more (at args.t) (at args.u) G c.loop-i.i;
+        back_is = c.later-back.ensures ∙ ap₂ later inv.2.back_is (c.entering-in-loop-i.ensures
+            ∙ ap₂ entering (to_is c.before.before.before.before.before.before) (from_is c.before.before.before.before.before.before.before)) ∙ wall-more (at args.u) (at args.t) G c.loop-i.i;
       },
     )
 
 pub returns : goal.returns
 returns c =
-    let inv = c.before.loop-i.invariant in
-    let start = c.before.before.before.before.before in
-    let G = points start.args.list.now in
-    let all : c.before.loop-i.i ≡ length G = omega (arith, inv.0, inv.1) in
-    let found : BothWays = record { there = c.before.loop-i.there; back = c.before.loop-i.back } in
-    all-met (at start.args.t) (at start.args.u) G start.requires.0.shape
-    (subst (λ (i : ℕ). Arrived (at start.args.t) (at start.args.u) G i found) all inv.2)
+    let inv = c.loop-i.invariant in
+    let G = points c.args.list.now in
+    let all : c.loop-i.i ≡ length G = omega (arith, inv.0, inv.1) in
+    let found : BothWays = record { there = c.loop-i.there; back = c.loop-i.back } in
+    all-met (at c.args.t) (at c.args.u) G c.requires.0.shape
+    (subst (λ (i : ℕ). Arrived (at c.args.t) (at c.args.u) G i found) all inv.2)

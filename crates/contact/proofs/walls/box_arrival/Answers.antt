@@ -8,9 +8,8 @@ use Rattle.contact.proofs.walls.box_arrival.Goals as goal
 
 pub returns : goal.returns
 returns c =
-    let entries = c.before.before.before.before in
-    let first = entries.before.before.before.side_entry-right.ensures in
-    let second = entries.before.before.side_entry-left.ensures in
-    c.later-4.ensures ∙ ap₂ later (c.before.later-3.ensures ∙ ap₂ later (c.before.before.later-2.ensures
-    ∙ ap₂ later (c.before.before.before.later.ensures ∙ ap (later (over (pos 0) (pos 1))) first) second)
-    entries.before.side_entry-up.ensures) entries.side_entry-down.ensures
+    let first = c.side_entry-right.ensures in
+    let second = c.side_entry-left.ensures in
+    c.later-4.ensures ∙ ap₂ later (c.later-3.ensures ∙ ap₂ later (c.later-2.ensures
+    ∙ ap₂ later (c.later.ensures ∙ ap (later (over (pos 0) (pos 1))) first) second)
+    c.side_entry-up.ensures) c.side_entry-down.ensures

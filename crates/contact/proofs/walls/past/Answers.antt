@@ -10,9 +10,9 @@ use Rattle.contact.proofs.walls.past.Goals as goal
 
 pub cross-requires : goal.cross-requires
 cross-requires c =
-    let pre = c.before.before.requires in
-    (small-step pre.0 pre.2 c.before.step.ensures, small-step pre.0 pre.1 c.step-2.ensures)
+    let pre = c.requires in
+    (small-step pre.0 pre.2 c.step.ensures, small-step pre.0 pre.1 c.step-2.ensures)
 
 pub returns : goal.returns
-returns c = result-is w64 c.cross.type-inv
-    (c.cross.ensures ∙ ap₂ cross c.before.before.step.ensures c.before.step-2.ensures ∙ past-cross _ _ _)
+returns c = result-is w64 c.cross.type_inv
+    (c.cross.ensures ∙ ap₂ cross c.step.ensures c.step-2.ensures ∙ past-cross _ _ _)

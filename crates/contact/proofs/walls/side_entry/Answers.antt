@@ -14,52 +14,47 @@ use Rattle.contact.proofs.walls.side_entry.Goals as goal
 use Rattle.contact.proofs.walls.side_entry.Goals.{After-dot, After-dot-2}
 
 pub dot-requires : goal.dot-requires
-dot-requires c = let pre = c.before.requires in (small-side pre.1, small-wide (small-place pre.2.from-near))
+dot-requires c = let pre = c.requires in (small-side pre.1, small-wide (small-place pre.2.from-near))
 
 pub overflow_sub-dot : goal.overflow_sub-dot
 overflow_sub-dot c =
-    let start = c.before.before in
-    let p = known c.dot.ensures (side-value start.requires.1 start.requires.2.from-near) in
-    let q = known c.before.reach-far.ensures (side-support start.requires.1 _ start.requires.0.in_range start.requires.0.shape.some) in
+    let p = known c.dot.ensures (side-value c.requires.1 c.requires.2.from-near) in
+    let q = known c.reach-far.ensures (side-support c.requires.1 _ c.requires.0.in_range c.requires.0.shape.some) in
     machine-fits (search machine depth 40) tt
 
 pub dot-requires-2 : goal.dot-requires-2
-dot-requires-2 c = let pre = c.before.before.requires in (small-side pre.1, small-wide (small-place pre.2.to-near))
+dot-requires-2 c = let pre = c.requires in (small-side pre.1, small-wide (small-place pre.2.to-near))
 
 pub overflow_sub-dot-2 : goal.overflow_sub-dot-2
 overflow_sub-dot-2 c =
-    let start = c.before.before.before in
-    let p = known c.dot-2.ensures (side-value start.requires.1 start.requires.2.to-near) in
-    let q = known c.before.before.reach-far.ensures
-    (side-support start.requires.1 _ start.requires.0.in_range start.requires.0.shape.some) in
+    let p = known c.dot-2.ensures (side-value c.requires.1 c.requires.2.to-near) in
+    let q = known c.reach-far.ensures
+    (side-support c.requires.1 _ c.requires.0.in_range c.requires.0.shape.some) in
     machine-fits (search machine depth 40) tt
 
 -- how far both places are past it
-from_past : (c : After-dot) → let args = c.before.before.args in
-    to_z w64 (of_z w64 (to_z w64 (of_z w64 c.dot.result) -ℤ to_z w64 (of_z w64 c.before.reach-far.result)))
+from_past : (c : After-dot) → let args = c.args in
+    to_z w64 (of_z w64 (to_z w64 (of_z w64 c.dot.result) -ℤ to_z w64 (of_z w64 c.reach-far.result)))
     ≡ past (points args.list.now) (at args.d) (at args.t)
 unfolding past
 from_past c =
-    let start = c.before.before in
-    let p = known c.dot.ensures (side-value start.requires.1 start.requires.2.from-near) in
-    let q = known c.before.reach-far.ensures (side-support start.requires.1 _ start.requires.0.in_range start.requires.0.shape.some) in
+    let p = known c.dot.ensures (side-value c.requires.1 c.requires.2.from-near) in
+    let q = known c.reach-far.ensures (side-support c.requires.1 _ c.requires.0.in_range c.requires.0.shape.some) in
     machine-is (search machine depth 40) tt
 
-to-past : (c : After-dot-2) → let args = c.before.before.before.args in
-    to_z w64 (of_z w64 (to_z w64 (of_z w64 c.dot-2.result) -ℤ to_z w64 (of_z w64 c.before.before.reach-far.result)))
+to-past : (c : After-dot-2) → let args = c.args in
+    to_z w64 (of_z w64 (to_z w64 (of_z w64 c.dot-2.result) -ℤ to_z w64 (of_z w64 c.reach-far.result)))
     ≡ past (points args.list.now) (at args.d) (at args.u)
 unfolding past
 to-past c =
-    let start = c.before.before.before in
-    let p = known c.dot-2.ensures (side-value start.requires.1 start.requires.2.to-near) in
-    let q = known c.before.before.reach-far.ensures
-    (side-support start.requires.1 _ start.requires.0.in_range start.requires.0.shape.some) in
+    let p = known c.dot-2.ensures (side-value c.requires.1 c.requires.2.to-near) in
+    let q = known c.reach-far.ensures
+    (side-support c.requires.1 _ c.requires.0.in_range c.requires.0.shape.some) in
     machine-is (search machine depth 40) tt
 
 pub entering-requires : goal.entering-requires
 entering-requires c =
-    let start = c.before.before.before in
-    let p = start.requires in (
+    let p = c.requires in (
       rw (from_past c.before) (side-past p.1 _ p.0.in_range p.0.shape.some p.2.from-near),
       rw (to-past c) (side-past p.1 _ p.0.in_range p.0.shape.some p.2.to-near),
     )

@@ -9,14 +9,11 @@ use Rattle.contact.proofs.walls.start.Goals as goal
 
 pub returns-then-count-ge3 : goal.returns-then-count-ge3
 returns-then-count-ge3 c =
-    let start = c.before.before in
-    wall-none (at start.args.t) (at start.args.u) (points start.args.list.now)
-    (omega (arith, c.before.count.ensures))
+    wall-none (at c.args.t) (at c.args.u) (points c.args.list.now)
+    (omega (arith, c.count.ensures))
 
 pub returns : goal.returns
 returns c =
-    let at-else = c.before in
-    let start = at-else.before.before in
     c.box_arrival.ensures
-    ∙ wall-box (at start.args.t) (at start.args.u) (points start.args.list.now)
-    (omega (arith, at-else.before.count.ensures))
+    ∙ wall-box (at c.args.t) (at c.args.u) (points c.args.list.now)
+    (omega (arith, c.count.ensures))

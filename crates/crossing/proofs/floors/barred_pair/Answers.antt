@@ -10,28 +10,24 @@ use Rattle.crossing.proofs.floors.barred_pair.Goals as goal
 use Rattle.crossing.proofs.floors.barred_pair.Goals.{In_default, In_default-admit}
 
 -- past its judging each list is a shape
-first : (c : In_default) → Valid c.before.before.before.args.a.now
-first c = c.before.before.admit.ensures.valid c.in_default.is
+first : (c : In_default) → Valid c.args.a.now
+first c = c.admit.ensures.valid c.in_default.is
 
-second : (c : In_default-admit) → Valid c.before.before.before.before.before.before.args.b.now
-second c = c.before.before.admit-2.ensures.valid c.in_default-admit.is
+second : (c : In_default-admit) → Valid c.args.b.now
+second c = c.admit-2.ensures.valid c.in_default-admit.is
 
 pub returns-in-No : goal.returns-in-No
 returns-in-No c =
-    let judged = c.before.before.before.before.admit.ensures in
-    let start = c.before.before.before.before.before in
+    let judged = c.admit.ensures in
     c.of_refusal.ensures
-    ∙ ap crossed (barred-refused (refuses-append (shape_rows 2 start.args.b.now) (judged.no _ c.before.before.in-No.is)))
+    ∙ ap crossed (barred-refused (refuses-append (shape_rows 2 c.args.b.now) (judged.no _ c.in-No.is)))
 
 pub returns-in-No-admit : goal.returns-in-No-admit
 returns-in-No-admit c =
-    let at_second = c.before.before.before.before in
-    let start = at_second.before.before.before.before in
     c.of_refusal-in-No-admit.ensures
-    ∙ ap crossed (barred-refused (refuses-join (shape_rows 1 start.args.a.now) (valid→accepted _ 1 (first at_second.before))
-    (at_second.admit-2.ensures.no _ c.before.before.in-No-admit.is)))
+    ∙ ap crossed (barred-refused (refuses-join (shape_rows 1 c.args.a.now) (valid→accepted _ 1 (first (goal.at.returns-in-No-admit c).In_default))
+    (c.admit-2.ensures.no _ c.in-No-admit.is)))
 
 pub returns : goal.returns
 returns c =
-    let at_told = c.before in
-    c.of_refusal-2.ensures ∙ ap crossed (barred-shapes _ _ (first at_told.before.before.before) (second at_told))
+    c.of_refusal-2.ensures ∙ ap crossed (barred-shapes _ _ (first (goal.at.returns c).In_default) (second (goal.at.returns c).In_default-admit))

@@ -8,10 +8,10 @@ use Rattle.crossing.proofs.floors.barred_ring.Goals as goal
 
 pub returns-in-No : goal.returns-in-No
 returns-in-No c =
-    let judged = c.before.before.before.before.admit.ensures in
-    c.of_refusal.ensures ∙ ap crossed (barred-refused (judged.no _ c.before.before.in-No.is))
+    let judged = c.admit.ensures in
+    c.of_refusal.ensures ∙ ap crossed (barred-refused (judged.no _ c.in-No.is))
 
 pub returns : goal.returns
 returns c =
-    let judged = c.before.before.before.admit.ensures in
-    c.of_refusal-2.ensures ∙ ap crossed (ring-barred _ (judged.valid c.before.in_default.is))
+    let judged = c.admit.ensures in
+    c.of_refusal-2.ensures ∙ ap crossed (ring-barred _ (judged.valid c.in_default.is))

@@ -10,6 +10,5 @@ use Rattle.excess.proofs.alone.spacing.Goals as goal
 
 pub returns : goal.returns
 returns c =
-    let start = c.before.before.before in
-    subst (λ (ps : List Point). Spaced ps (points start.args.shape.now) c.between.result)
-    (reads-back (at start.args.p) start.requires.0) c.between.ensures
+    subst (λ (ps : List Point). Spaced ps (points c.args.shape.now) c.between.result)
+    (reads-back (at c.args.p) c.requires.0) c.between.ensures

@@ -12,24 +12,19 @@ use Rattle.excess.proofs.outermost.distance_of.Goals.{After-spacing}
 
 pub spacing-requires : goal.spacing-requires
 spacing-requires c =
-    let pre = c.before.requires in (corner-valid _ pre.0 _ pre.2 c.corner_at.ensures, pre.1)
+    let pre = c.requires in (corner-valid _ pre.0 _ pre.2 c.corner_at.ensures, pre.1)
 
 -- what is known of the corner's spacing, where it is told
 known : (c : After-spacing) {s : Spacing} → c.spacing.result ≡ s
-    → Spaced (at c.before.corner_at.result ∷ []) (points c.before.before.args.old.now) s
-known c e = subst (Spaced (at c.before.corner_at.result ∷ []) (points c.before.before.args.old.now)) e c.spacing.ensures
+    → Spaced (at c.corner_at.result ∷ []) (points c.args.old.now) s
+known c e = subst (Spaced (at c.corner_at.result ∷ []) (points c.args.old.now)) e c.spacing.ensures
 
 pub returns-in-Meets : goal.returns-in-Meets
 returns-in-Meets c =
-    let at-spacing = c.before.before in
-    let at-corner = at-spacing.before in
-    none-far _ _ at-corner.before.requires.1.shape _ at-corner.corner_at.ensures (known at-spacing c.in-Meets.is)
+    none-far _ _ c.requires.1.shape _ c.corner_at.ensures (known (goal.at.returns-in-Meets c).After-spacing c.in-Meets.is)
 
 pub returns-in-Apart : goal.returns-in-Apart
 returns-in-Apart c =
-    let at-found = c.before.before in
-    let at-spacing = at-found.before.before in
-    let at-corner = at-spacing.before in
-    let apart = known at-spacing at-found.in-Apart.is in
-    found-far _ _ at-corner.before.requires.1.shape _ at-corner.corner_at.ensures apart.0
-    at-found.in-Apart.found apart.1 c.measured.ensures
+    let apart = known c.before.before.before.before c.in-Apart.is in
+    found-far _ _ c.requires.1.shape _ c.corner_at.ensures apart.0
+    c.in-Apart.found apart.1 c.measured.ensures

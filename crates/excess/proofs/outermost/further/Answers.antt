@@ -6,10 +6,10 @@ use Rattle.excess.proofs.outermost.further.Goals as goal
 
 pub returns-then-fraction_less : goal.returns-then-fraction_less
 returns-then-fraction_less c =
-    let args = c.before.before.args in
-    ap (λ (t : Bool). cond t args.found args.best) (sym c.if-fraction_less.true ∙ c.before.fraction_less.ensures)
+    let args = c.args in
+    ap (λ (t : Bool). cond t args.found args.best) (sym c.if-fraction_less.true ∙ c.fraction_less.ensures)
 
 pub returns : goal.returns
 returns c =
-    let args = c.before.before.args in
-    ap (λ (t : Bool). cond t args.found args.best) (sym c.if-fraction_less.false ∙ c.before.fraction_less.ensures)
+    let args = c.args in
+    ap (λ (t : Bool). cond t args.found args.best) (sym c.if-fraction_less.false ∙ c.fraction_less.ensures)

@@ -6,10 +6,10 @@ use Rattle.excess.specs.Answer.{far_of}
 use Rattle.excess.proofs.outermost.measured.Goals as goal
 
 pub returns-in-Corners : goal.returns-in-Corners
-returns-in-Corners c = ap (λ (d : Distance). far_of c.before.before.before.args.i d) (sym c.before.in-Corners.is)
+returns-in-Corners c = ap (λ (d : Distance). far_of c.args.i d) (sym c.in-Corners.is)
 
 pub returns-in-OnSecond : goal.returns-in-OnSecond
-returns-in-OnSecond c = ap (λ (d : Distance). far_of c.before.before.before.args.i d) (sym c.before.in-OnSecond.is)
+returns-in-OnSecond c = ap (λ (d : Distance). far_of c.args.i d) (sym c.in-OnSecond.is)
 
 pub returns-in-OnFirst : goal.returns-in-OnFirst
-returns-in-OnFirst c = ap (λ (d : Distance). far_of c.before.before.before.args.i d) (sym c.before.in-OnFirst.is)
+returns-in-OnFirst c = ap (λ (d : Distance). far_of c.args.i d) (sym c.in-OnFirst.is)

@@ -12,42 +12,37 @@ use Rattle.excess.proofs.outermost.outermost.Goals as goal
 use Rattle.excess.proofs.outermost.outermost.Goals.{After-further-best}
 
 pub distance_of-best-requires : goal.distance_of-best-requires
-distance_of-best-requires c = let pre = c.before.requires in (pre.0, pre.1, pre.0.shape.some)
+distance_of-best-requires c = let pre = c.requires in (pre.0, pre.1, pre.0.shape.some)
 
 pub loop-i-init : goal.loop-i-init
 loop-i-init c =
-    let at_count = c.before in
-    (omega (arith, at_count.count-n.ensures, at_count.before.requires.0.shape.some), searched-start c.distance_of-best.ensures)
+    (omega (arith, c.count-n.ensures, c.requires.0.shape.some), searched-start c.distance_of-best.ensures)
 
 pub distance_of-requires : goal.distance_of-requires
 distance_of-requires c =
-    let at_count = c.before.before.before in
-    let pre = at_count.before.requires in (pre.0, pre.1, omega (arith, at_count.count-n.ensures, c.loop-i-test.true))
+    let pre = c.requires in (pre.0, pre.1, omega (arith, c.count-n.ensures, c.loop-i-test.true))
 
-few : (c : After-further-best) → c.before.before.before.before.before.count-n.result ≤ max_corners
-few c = let at_count = c.before.before.before.before.before in omega (arith, at_count.count-n.ensures, at_count.before.requires.0.few)
+few : (c : After-further-best) → c.count-n.result ≤ max_corners
+few c = omega (arith, c.count-n.ensures, c.requires.0.few)
 
 pub overflow_add-i : goal.overflow_add-i
-overflow_add-i c = omega (arith, c.before.before.loop-i-test.true, few c, corners-small)
+overflow_add-i c = omega (arith, c.loop-i-test.true, few c, corners-small)
 
 pub loop-i-smaller : goal.loop-i-smaller
-loop-i-smaller c = omega (arith, c.before.before.loop-i-test.true)
+loop-i-smaller c = omega (arith, c.loop-i-test.true)
 
 pub loop-i-preserved : goal.loop-i-preserved
 loop-i-preserved c =
-    let at-loop = c.before.before.before in
-    let start = at-loop.before.before.before in (
-      omega (arith, c.before.before.loop-i-test.true),
-      subst (λ (k : ℕ). Searched (points start.args.new.now) (points start.args.old.now) k c.further-best.result)
-          (sym (add-one at-loop.loop-i.i))
-          (searched-next start.requires.1.shape at-loop.loop-i.invariant.1 c.before.distance_of.ensures c.further-best.ensures),
+    (
+      omega (arith, c.loop-i-test.true),
+      subst (λ (k : ℕ). Searched (points c.args.new.now) (points c.args.old.now) k c.further-best.result)
+          (sym (add-one c.loop-i.i))
+          (searched-next c.requires.1.shape c.loop-i.invariant.1 c.distance_of.ensures c.further-best.ensures),
     )
 
 pub returns : goal.returns
 returns c =
-    let at_count = c.before.before.before in
-    let start = at_count.before in
-    let all : c.before.loop-i.i ≡ length (points start.args.new.now) =
-    omega (arith, c.before.loop-i.invariant.0, c.loop-i-test.false, at_count.count-n.ensures) in
-    searched-done (subst (λ (k : ℕ). Searched (points start.args.new.now) (points start.args.old.now) k c.before.loop-i.best)
-    all c.before.loop-i.invariant.1)
+    let all : c.loop-i.i ≡ length (points c.args.new.now) =
+    omega (arith, c.loop-i.invariant.0, c.loop-i-test.false, c.count-n.ensures) in
+    searched-done (subst (λ (k : ℕ). Searched (points c.args.new.now) (points c.args.old.now) k c.loop-i.best)
+    all c.loop-i.invariant.1)

@@ -7,19 +7,16 @@ use Rattle.excess.proofs.rounding.above.Goals as goal
 
 pub overflow_add-result : goal.overflow_add-result
 overflow_add-result c =
-    let start = c.before.before in
     omega (
       arith,
-      above-le _ _ start.requires.0 start.requires.1 (sym c.before.fraction_less.ensures ∙ c.if-fraction_less.true),
-      start.ranges.turn,
+      above-le _ _ c.requires.0 c.requires.1 (sym c.fraction_less.ensures ∙ c.if-fraction_less.true),
+      c.ranges.turn,
     )
 
 pub returns-then-fraction_less : goal.returns-then-fraction_less
 returns-then-fraction_less c =
-    let start = c.before.before in
-    above-next _ _ start.requires.0 start.requires.1 (sym c.before.fraction_less.ensures ∙ c.if-fraction_less.true)
+    above-next _ _ c.requires.0 c.requires.1 (sym c.fraction_less.ensures ∙ c.if-fraction_less.true)
 
 pub returns : goal.returns
 returns c =
-    let start = c.before.before in
-    above-exact _ _ start.requires.0 start.requires.1 (sym c.before.fraction_less.ensures ∙ c.if-fraction_less.false)
+    above-exact _ _ c.requires.0 c.requires.1 (sym c.fraction_less.ensures ∙ c.if-fraction_less.false)

@@ -9,24 +9,24 @@ use Rattle.excess.specs.Answer.{RoundedDown, up_numbers}
 use Rattle.excess.proofs.rounding.rounded.Goals as goal
 
 pub above-requires : goal.above-requires
-above-requires c = subst RoundedDown c.before.in-Corners.is c.before.before.before.requires
+above-requires c = subst RoundedDown c.in-Corners.is c.requires
 
 pub above-requires-in-OnSecond : goal.above-requires-in-OnSecond
-above-requires-in-OnSecond c = subst RoundedDown c.before.in-OnSecond.is c.before.before.before.requires
+above-requires-in-OnSecond c = subst RoundedDown c.in-OnSecond.is c.requires
 
 pub returns-in-Corners : goal.returns-in-Corners
 returns-in-Corners c =
-    let given = c.before.before.found-1.given in
-    let corner = c.before.before.before.before.args.corner in
+    let given = c.found-1.given in
+    let corner = c.args.corner in
     ap (λ (u : ℕ). pos 1 ∷ pos corner ∷ pos given.0.1.0 ∷ pos given.0.1.1.0 ∷ pos u ∷ []) c.above.ensures
     ∙ ap (λ (d : Distance). up_numbers corner d) (sym given.1)
 
 pub returns-in-OnSecond : goal.returns-in-OnSecond
 returns-in-OnSecond c =
-    let given = c.before.before.found-in-OnSecond-1.given in
-    let corner = c.before.before.before.before.args.corner in
+    let given = c.found-in-OnSecond-1.given in
+    let corner = c.args.corner in
     ap (λ (u : ℕ). pos 2 ∷ pos corner ∷ pos given.0.1.0 ∷ pos given.0.1.1.0 ∷ pos given.0.1.1.1.0 ∷ pos u ∷ [])
     c.above-in-OnSecond.ensures ∙ ap (λ (d : Distance). up_numbers corner d) (sym given.1)
 
 pub returns-in-OnFirst : goal.returns-in-OnFirst
-returns-in-OnFirst c = absurd (subst RoundedDown c.in-OnFirst.is c.before.before.requires)
+returns-in-OnFirst c = absurd (subst RoundedDown c.in-OnFirst.is c.requires)

@@ -6,4 +6,4 @@ use borrow.Author.Rules.{rules}
 use Rattle.gaps.proofs.floor.add.Goals as goal
 
 pub returns-then-one : goal.returns-then-one
-returns-then-one c = let n = c.before.args.n in ap (λ (x : Bool). cond x (n + 1) n) (sym c.if-one.true)
+returns-then-one c = let n = c.args.n in ap (λ (x : Bool). cond x (n + 1) n) (sym c.if-one.true)

@@ -13,59 +13,50 @@ use Rattle.gaps.proofs.floor.count.Goals.{After-pair_at, In-loop-n}
 
 -- a whole record is here
 here : (c : In-loop-n)
-    → whole (drop c.before.before.loop-n.p c.before.before.before.before.args.log.now) ≡ true
-here c = sym c.before.whole_at.ensures ∙ c.loop-n-test.true
+    → whole (drop c.loop-n.p c.args.log.now) ≡ true
+here c = sym c.whole_at.ensures ∙ c.loop-n-test.true
 
 -- the next place is past it, and still inside
-step : (c : After-pair_at) → let at-loop = c.before.before.before.before.before in
-    let log = at-loop.before.before.args.log.now in
-    (c.pair_at.result ≡ size (drop at-loop.loop-n.p log)) × (at-loop.loop-n.p + (2 + c.pair_at.result) ≤ length log)
+step : (c : After-pair_at) →
+    let log = c.args.log.now in
+    (c.pair_at.result ≡ size (drop c.loop-n.p log)) × (c.loop-n.p + (2 + c.pair_at.result) ≤ length log)
 step c =
-    let at-then = c.before.before.before in
-    let at-loop = at-then.before.before in
-    let log = at-loop.before.before.args.log.now in
-    let same = c.pair_at.ensures.0 ∙ sym (size-at log at-loop.loop-n.p) in
-    (same, omega (arith, same, next-inside log at-loop.loop-n.p (here at-then)))
+    let log = c.args.log.now in
+    let same = c.pair_at.ensures.0 ∙ sym (size-at log c.loop-n.p) in
+    (same, omega (arith, same, next-inside log c.loop-n.p (here (goal.at.After-pair_at c).In-loop-n)))
 
 pub loop-n-init : goal.loop-n-init
-loop-n-init c = counting-start _ _ c.before.requires
+loop-n-init c = counting-start _ _ c.requires
 
 pub whole_at-requires : goal.whole_at-requires
 whole_at-requires c = c.loop-n.invariant.inside
 
 pub is_on-requires : goal.is_on-requires
-is_on-requires c = record { here = here c; good = c.before.before.loop-n.invariant.good }
+is_on-requires c = record { here = here c; good = c.loop-n.invariant.good }
 
 pub add-n-requires : goal.add-n-requires
 add-n-requires c =
-    let at-then = c.before in
-    let at-loop = at-then.before.before in
-    omega (arith, at-loop.loop-n.invariant.few, next-inside _ at-loop.loop-n.p (here at-then))
+    omega (arith, c.loop-n.invariant.few, next-inside _ c.loop-n.p (here (goal.at.add-n-requires c).In-loop-n))
 
 pub pair_at-requires : goal.pair_at-requires
 pair_at-requires c =
-    let at-then = c.before.before in
-    omega (arith, next-inside _ at-then.before.before.loop-n.p (here at-then))
+    omega (arith, next-inside _ c.loop-n.p (here (goal.at.pair_at-requires c).In-loop-n))
 
 pub loop-n-preserved : goal.loop-n-preserved
 loop-n-preserved c =
-    let at-add = c.before in
-    let at_on = at-add.before in
-    let at-then = at_on.before in
-    let at-loop = at-then.before.before in
-    let args = at-loop.before.before.args in
-    let n = at-loop.loop-n.n in
-    let p = at-loop.loop-n.p in
-    let sum = at-add.add-n.ensures ∙ ap (λ (t : Bool). cond t (n + 1) n) at_on.is_on.ensures in
+    let args = c.args in
+    let n = c.loop-n.n in
+    let p = c.loop-n.p in
+    let sum = c.add-n.ensures ∙ ap (λ (t : Bool). cond t (n + 1) n) c.is_on.ensures in
     subst (λ (m : ℕ). Counting args.log.now args.floor m (p + (2 + c.pair_at.result))) (sym sum)
     (subst (λ (k : ℕ). Counting args.log.now args.floor (cond (is_on args.floor args.log.now p) (n + 1) n) (p + (2 + k)))
-    (sym (step c).0) (counting-next at-loop.loop-n.invariant (here at-then)))
+    (sym (step c).0) (counting-next c.loop-n.invariant (here (goal.at.loop-n-preserved c).In-loop-n)))
 
 pub returns : goal.returns
-returns c = counting-end c.before.before.loop-n.invariant (sym c.before.whole_at.ensures ∙ c.loop-n-test.false)
+returns c = counting-end c.loop-n.invariant (sym c.whole_at.ensures ∙ c.loop-n-test.false)
 
 pub overflow_add-p : goal.overflow_add-p
-overflow_add-p c = omega (arith, c.pair_at.ensures.1)
+overflow_add-p c = omega (arith, c.pair-at.ensures.1)
 
 pub overflow_add-p-in-loop-n : goal.overflow_add-p-in-loop-n
 overflow_add-p-in-loop-n c = omega (arith, (step c).1)

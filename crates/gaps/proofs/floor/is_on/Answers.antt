@@ -5,7 +5,7 @@ use Rattle.gaps.specs.theory.Read.{on-elsewhere, on-here}
 use Rattle.gaps.proofs.floor.is_on.Goals as goal
 
 pub returns-then-head_at-floor : goal.returns-then-head_at-floor
-returns-then-head_at-floor c = on-elsewhere c.before.before.head_at.ensures _ c.if-head_at-floor.true
+returns-then-head_at-floor c = on-elsewhere c.head_at.ensures _ c.if-head_at-floor.true
 
 pub returns : goal.returns
-returns c = c.is_current.ensures ∙ on-here c.before.before.before.head_at.ensures _ c.before.if-head_at-floor.false
+returns c = c.is_current.ensures ∙ on-here c.head_at.ensures _ c.if-head_at-floor.false

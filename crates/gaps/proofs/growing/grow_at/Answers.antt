@@ -23,66 +23,57 @@ use Rattle.gaps.proofs.growing.grow_at.Goals as goal
 use Rattle.gaps.proofs.growing.grow_at.Goals.{After-read_at-n, After-write}
 
 -- the numbers that were read are in the buffer
-fits : (c : After-read_at-n) → c.read_at-n.result ≤ length c.read_at-n.new.1.1.0
+fits : (c : After-read_at-n) → c.read_at-n.result ≤ length c.read_at-n.new.shape
 fits c =
-    let start = c.before.before.before in
     let read = c.read_at-n.ensures in
-    omega (arith, read.1, read.2, valid-fits _ (here-valid start.requires.0))
+    omega (arith, read.1, read.2, valid-fits _ (here-valid c.requires.0))
 
 pub slice_bounds-write-end : goal.slice_bounds-write-end
-slice_bounds-write-end c = fits c.before
+slice_bounds-write-end c = fits (goal.at.slice_bounds-write-end c).After-read_at-n
 
 pub slice_bounds-write-end-2 : goal.slice_bounds-write-end-2
-slice_bounds-write-end-2 c = let at_read = c.before.before in
-    sym (length-take-le _ at_read.read_at-n.new.1.1.0 (fits at_read))
+slice_bounds-write-end-2 c =
+    sym (length-take-le _ c.read_at-n.new.1.1.0 (fits (goal.at.slice_bounds-write-end-2 c).After-read_at-arg-1))
 
 pub top-requires : goal.top-requires
-top-requires c = c.before.before.before.before.before.requires.1.shape-1.some
+top-requires c = c.requires.1.shape.some
 
 -- the grown shape has room
 room : (c : After-write-arg2) → let start = c.before.before.before.before.before.before.before in
     2 * length (grown_of (points start.args.cart.now) (record_at start.args.log.now start.args.p))
-    ≤ length start.args.out-1.now
+    ≤ length start.args.out.now
 room c =
     let start = c.before.before.before.before.before.before.before in
     let pre = start.requires in
-    let few = grown_of-few (points start.args.cart.now) _ (here-valid pre.0) pre.1.shape-1.some pre.4 in
+    let few = grown_of-few (points start.args.cart.now) _ (here-valid pre.0) pre.1.shape.some pre.4 in
     omega (arith, few, pre.3)
 
 pub write-requires : goal.write-requires
 unfolding grown grown_of
 write-requires c =
-    let at_read = c.before.before.before.before in
-    let start = at_read.before.before.before in
-    let pre = start.requires in
-    let read = sym at_read.read_at-n.ensures.0 in (
+    let pre = c.requires in
+    let read = sym c.read_at-n.ensures.0 in (
       subst Valid read (here-valid pre.0),
       pre.1,
-      c.before.top.ensures,
-      subst (λ (l : List ℤ). 2 * length (shape_of (differences (points l) (points start.args.cart.now)))
-          ≤ length start.args.out-1.now) read (room c),
+      c.top.ensures,
+      subst (λ (l : List ℤ). 2 * length (shape_of (differences (points l) (points c.args.cart.now)))
+          ≤ length c.args.out.now) read (room c),
     )
 
 -- the output is as long as it was
-wrote-length : (c : After-write) → let start = c.before.before.before.before.before.before.before.before in
-    length c.write.new.1.1.1.0 ≡ length start.args.out-1.now
+wrote-length : (c : After-write) →
+    length c.write.new.out ≡ length c.args.out.now
 wrote-length c =
-    let at_read = c.before.before.before.before.before in
-    let start = at_read.before.before.before in
-    let l = take at_read.read_at-n.result at_read.read_at-n.new.1.1.0 in
-    let grown_list = shape_of (differences (points l) (points start.args.cart.now)) in
-    written-length grown_list start.args.out-1.now c.write.new.1.1.1.0 c.write.ensures.1
-    (write-requires c.before c.write.lifetimes).3
+    let l = take c.read_at-n.result c.read_at-n.new.1.1.0 in
+    let grown_list = shape_of (differences (points l) (points c.args.cart.now)) in
+    written-length grown_list c.args.out.now c.write.new.out c.write.ensures.1
+    (write-requires (goal.at.After-write c).After-write-arg-1 c.write.lifetimes).3
 
 pub returns : goal.returns
 unfolding grown grown_of
 returns c =
-    let at-write = c.before in
-    let at-args = at-write.before in
-    let at_read = at-args.before.before.before.before in
-    let start = at_read.before.before.before in
-    let wrote = at-write.write.ensures in
-    let read = at_read.read_at-n.ensures in
-    let front = subst (λ (l : List ℤ). Front (shape_of (differences (points l) (points start.args.cart.now))) at-write.write.result
-    at-write.write.new.1.1.1.0) read.0 (overwritten-front _ _ _ _ wrote.0 wrote.1) in
-    (front, read.1, wrote-length at-write ∙ start.requires.3)
+    let wrote = c.write.ensures in
+    let read = c.read_at-n.ensures in
+    let front = subst (λ (l : List ℤ). Front (shape_of (differences (points l) (points c.args.cart.now))) c.write.result
+    c.write.new.out) read.0 (overwritten-front _ _ _ _ wrote.0 wrote.1) in
+    (front, read.1, wrote-length (goal.at.returns c).After-write ∙ c.requires.3)

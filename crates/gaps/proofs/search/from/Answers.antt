@@ -24,57 +24,49 @@ pairs-are : (c : Start) {t : Bool} → let args = c.args in is_on args.floor arg
 pairs-are c e = let args = c.args in
     ap (λ (t : Bool). cond t (later_pairs args.floor args.log.now args.p (next_at args.log.now args.p)) []) (sym e)
 
-is-on : (c : Else-not-is_on) → let args = c.before.before.before.args in is_on args.floor args.log.now args.p ≡ true
-is-on c = sym c.before.is_on.ensures ∙ not-false _ c.if-not-is_on.false
+is-on : (c : Else-not-is_on) → let args = c.args in is_on args.floor args.log.now args.p ≡ true
+is-on c = sym c.is_on.ensures ∙ c.if-not-is_on.false
 
 pub returns-then-not-is_on : goal.returns-then-not-is_on
 returns-then-not-is_on c =
-    let start = c.before.before.before in
-    let args = start.args in
-    let off = sym c.before.is_on.ensures ∙ not-true _ c.if-not-is_on.true in (
-      subst (λ (ps : List Pair). Passed (points args.cart.now) args.log.now ps args.best args.best) (pairs-are start off)
-          (passed_none _ _ _ start.requires.6),
-      start.requires.3,
-      start.requires.4,
-      start.requires.5,
+    let args = c.args in
+    let off = sym c.is_on.ensures ∙ c.if-not-is_on.true in (
+      subst (λ (ps : List Pair). Passed (points args.cart.now) args.log.now ps args.best args.best) (pairs-are (goal.at.returns-then-not-is_on c).Start off)
+          (passed_none _ _ _ c.requires.6),
+      c.requires.3,
+      c.requires.4,
+      c.requires.5,
     )
 
 pub grow_at-n-requires : goal.grow_at-n-requires
 grow_at-n-requires c =
-    let at-else = c.before.before in
-    let pre = at-else.before.before.before.requires in
-    (pre.1, pre.2, pre.3, pre.4, walk-fits _ pre.0 pre.1.here (is-on at-else))
+    let pre = c.requires in
+    (pre.1, pre.2, pre.3, pre.4, walk-fits _ pre.0 pre.1.here (is-on (goal.at.grow_at-n-requires c).Else-not-is_on))
 
 pub slice_bounds-later-end-2 : goal.slice_bounds-later-end-2
-slice_bounds-later-end-2 c = sym (front_length c.before.before.before.grow_at-n.ensures.0)
+slice_bounds-later-end-2 c = sym (front_length c.grow_at-n.ensures.0)
 
 pub later-requires : goal.later-requires
 later-requires c =
-    let at-grown = c.before.before.before.before.before in
-    let at-else = at-grown.before.before.before in
-    let pre = at-else.before.before.before.requires in
-    let front = at-grown.grow_at-n.ensures.0 in (
+    let pre = c.requires in
+    let front = c.grow_at-n.ensures.0 in (
       pre.0,
       pre.1,
       pre.2,
-      at-grown.grow_at-n.ensures.1,
+      c.grow_at-n.ensures.1,
       pre.5,
       pre.6,
       subst Valid (sym front.front)
-          (grown_of-valid _ _ (here-valid pre.1) pre.2.shape-1.some (walk-fits _ pre.0 pre.1.here (is-on at-else))),
+          (grown_of-valid _ _ (here-valid pre.1) pre.2.shape.some (walk-fits _ pre.0 pre.1.here (is-on (goal.at.later-requires c).After-is_on))),
       front-points front,
     )
 
 pub returns : goal.returns
 returns c =
-    let at-later = c.before.before in
-    let at-grown = at-later.before.before.before.before.before.before in
-    let at-else = at-grown.before.before.before in
-    let start = at-else.before.before.before in
-    let args = start.args in (
-      subst (λ (ps : List Pair). Passed (points args.cart.now) args.log.now ps args.best at-later.later.result)
-          (pairs-are start (is-on at-else)) at-later.later.ensures.0,
-      at-later.later.ensures.1,
-      at-grown.grow_at-n.ensures.2,
-      at-later.later.ensures.2,
+    let args = c.args in (
+      subst (λ (ps : List Pair). Passed (points args.cart.now) args.log.now ps args.best c.later.result)
+          (pairs-are (goal.at.returns c).Start (is-on (goal.at.returns c).After-is_on)) c.later.ensures.0,
+      c.later.ensures.1,
+      c.grow_at-n.ensures.2,
+      c.later.ensures.2,
     )

@@ -18,46 +18,43 @@ use Rattle.gaps.proofs.search.is_passed.Goals.{After-read_at-n, Start}
 
 pub returns-then-head_at-floor : goal.returns-then-head_at-floor
 returns-then-head_at-floor c =
-    let at_head = c.before.before in
-    let elsewhere = on-elsewhere at_head.head_at.ensures _ c.if-head_at-floor.true in
-    ((λ k on A G a s x. absurd (true≢false (sym (elsewhere ∙ on)))), at_head.before.before.requires.2)
+    let elsewhere = on-elsewhere c.head_at.ensures _ c.if-head_at-floor.true in
+    ((λ k on A G a s x. absurd (true≢false (sym (elsewhere ∙ on)))), c.requires.2)
 
 pub returns-in_default : goal.returns-in_default
-returns-in_default c = ((λ k. absurd (true≢false (sym k))), c.before.before.before.before.before.before.requires.2)
+returns-in_default c = ((λ k. absurd (true≢false (sym k))), c.requires.2)
 
 abbrev start : After-read_at-n → Start
 start c = c.before.before.before.before.before.before.before.before.before
 
 -- the numbers that were read are in the buffer
-fits : (c : After-read_at-n) → c.read_at-n.result ≤ length c.read_at-n.new.1.1.0
+fits : (c : After-read_at-n) → c.read_at-n.result ≤ length c.read_at-n.new.shape
 fits c =
     let read = c.read_at-n.ensures in
     omega (arith, read.1, read.2, valid-fits _ (here-valid (start c).requires.0))
 
 pub slice_bounds-is_far-end : goal.slice_bounds-is_far-end
-slice_bounds-is_far-end c = fits c.before
+slice_bounds-is_far-end c = fits (goal.at.slice_bounds-is_far-end c).After-read_at-n
 
 pub slice_bounds-is_far-end-2 : goal.slice_bounds-is_far-end-2
-slice_bounds-is_far-end-2 c = let at_read = c.before.before in
-    sym (length-take-le _ at_read.read_at-n.new.1.1.0 (fits at_read))
+slice_bounds-is_far-end-2 c =
+    sym (length-take-le _ c.read_at-n.new.1.1.0 (fits (goal.at.slice_bounds-is_far-end-2 c).After-read_at-arg-1))
 
 pub is_far-requires : goal.is_far-requires
 is_far-requires c =
-    let at_read = c.before.before in
-    let pre = (start at_read).requires in (
+    let pre = (start (goal.at.is_far-requires c).After-read_at-arg-1).requires in (
       pre.3,
-      subst Valid (sym at_read.read_at-n.ensures.0) (here-valid pre.0),
-      subst KeptSized at_read.before.before.before.in-Pair.is pre.1,
+      subst Valid (sym c.read_at-n.ensures.0) (here-valid pre.0),
+      subst KeptSized c.in-Pair.is pre.1,
     )
 
 pub returns : goal.returns
 returns c =
-    let at_read = c.before.before.before in
-    let args = (start at_read).args in
+    let args = (start (goal.at.returns c).After-read_at-arg-1).args in
     let r = record_at args.log.now args.q in
-    let valid = here-valid (start at_read).requires.0 in (
-      (λ k on A G a s x. ap (is_nearer (distance G (grown_of A r))) at_read.before.before.before.in-Pair.is
+    let valid = here-valid (start (goal.at.returns c).After-read_at-arg-1).requires.0 in (
+      (λ k on A G a s x. ap (is_nearer (distance G (grown_of A r))) c.in-Pair.is
           ∙ ap not (c.is_far.ensures k G (grown_of A r) s (grown_of-shape A r valid a)
-          (grown_of-spans A r valid a x at_read.read_at-n.ensures.0))),
-      at_read.read_at-n.ensures.1,
+          (grown_of-spans A r valid a x c.read_at-n.ensures.0))),
+      c.read_at-n.ensures.1,
     )

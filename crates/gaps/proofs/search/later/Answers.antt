@@ -17,41 +17,37 @@ use Rattle.gaps.proofs.search.later.Goals as goal
 use Rattle.gaps.proofs.search.later.Goals.{After-pair_at, After-pair_at-in-loop-reach, In-loop-reach}
 
 -- the place after the first record
-begin : (c : After-pair_at) → let args = c.before.before.before.args in
+begin : (c : After-pair_at) → let args = c.args in
     (c.pair_at.result ≡ size (drop args.p args.log.now)) × (args.p + (2 + c.pair_at.result) ≤ length args.log.now)
 begin c =
-    let start = c.before.before.before in
-    let log = start.args.log.now in
-    let same = c.pair_at.ensures.0 ∙ sym (size-at log start.args.p) in
-    (same, omega (arith, same, next-inside log start.args.p start.requires.1.here))
+    let log = c.args.log.now in
+    let same = c.pair_at.ensures.0 ∙ sym (size-at log c.args.p) in
+    (same, omega (arith, same, next-inside log c.args.p c.requires.1.here))
 
 -- a whole record is here
 here : (c : In-loop-reach)
-    → whole (drop c.before.before.loop-reach.q c.before.before.before.before.before.before.args.log.now) ≡ true
-here c = sym c.before.whole_at.ensures ∙ c.loop-reach-test.true
+    → whole (drop c.loop-reach.q c.args.log.now) ≡ true
+here c = sym c.whole_at.ensures ∙ c.loop-reach-test.true
 
 -- the next place is past it, and still inside
-step : (c : After-pair_at-in-loop-reach) → let at-loop = c.before.before.before.before.before.before.before.before in
-    let log = at-loop.before.before.before.before.args.log.now in
-    (c.pair_at-in-loop-reach.result ≡ size (drop at-loop.loop-reach.q log)) × (at-loop.loop-reach.q + (2 + c.pair_at-in-loop-reach.result) ≤ length log)
+step : (c : After-pair_at-in-loop-reach) →
+    let log = c.args.log.now in
+    (c.pair_at-in-loop-reach.result ≡ size (drop c.loop-reach.q log)) × (c.loop-reach.q + (2 + c.pair_at-in-loop-reach.result) ≤ length log)
 step c =
-    let at-then = c.before.before.before.before.before.before in
-    let at-loop = at-then.before.before in
-    let log = at-loop.before.before.before.before.args.log.now in
-    let same = c.pair_at-in-loop-reach.ensures.0 ∙ sym (size-at log at-loop.loop-reach.q) in
-    (same, omega (arith, same, next-inside log at-loop.loop-reach.q (here at-then)))
+    let log = c.args.log.now in
+    let same = c.pair_at-in-loop-reach.ensures.0 ∙ sym (size-at log c.loop-reach.q) in
+    (same, omega (arith, same, next-inside log c.loop-reach.q (here (goal.at.After-pair_at-in-loop-reach c).In-loop-reach)))
 
 pub reach-reach-requires : goal.reach-reach-requires
-reach-reach-requires c = let pre = c.before.requires in (pre.6, pre.2)
+reach-reach-requires c = let pre = c.requires in (pre.6, pre.2)
 
 pub pair_at-requires : goal.pair_at-requires
-pair_at-requires c = let start = c.before.before in omega (arith, next-inside _ start.args.p start.requires.1.here)
+pair_at-requires c = omega (arith, next-inside _ c.args.p c.requires.1.here)
 
 pub loop-reach-init : goal.loop-reach-init
 loop-reach-init c =
-    let start = c.before.before.before in
-    let args = start.args in
-    let pre = start.requires in
+    let args = c.args in
+    let pre = c.requires in
     let A = points args.cart.now in
     let b = args.log.now in
     let same = ap (λ (k : ℕ). args.p + (2 + k)) (sym (begin c).0) in (
@@ -67,14 +63,12 @@ whole_at-requires c = c.loop-reach.invariant.0.inside
 
 pub tried-kept-requires : goal.tried-kept-requires
 tried-kept-requires c =
-    let at-then = c.before.before in
-    let at-loop = at-then.before.before in
-    let inv = at-loop.loop-reach.invariant in
-    let reached = at-loop.before.before.reach-reach.ensures in
-    let pre = at-loop.before.before.before.before.requires in (
+    let inv = c.loop-reach.invariant in
+    let reached = c.reach-reach.ensures in
+    let pre = c.requires in (
       inv.0,
       pre.1,
-      walk-sound _ inv.0 (here at-then),
+      walk-sound _ inv.0 (here (goal.at.tried-kept-requires c).In-loop-reach),
       pre.2,
       inv.2,
       inv.3,
@@ -87,41 +81,36 @@ tried-kept-requires c =
 
 pub pair_at-requires-in-loop-reach : goal.pair_at-requires-in-loop-reach
 pair_at-requires-in-loop-reach c =
-    let at-then = c.before.before.before.before.before in
-    omega (arith, next-inside _ at-then.before.before.loop-reach.q (here at-then))
+    omega (arith, next-inside _ c.loop-reach.q (here (goal.at.pair_at-requires-in-loop-reach c).In-loop-reach))
 
 pub loop-reach-preserved : goal.loop-reach-preserved
 loop-reach-preserved c =
-    let at_tried = c.before.before.before in
-    let at-then = at_tried.before.before.before in
-    let at-loop = at-then.before.before in
-    let args = at-loop.before.before.before.before.args in
+    let args = c.args in
     let A = points args.cart.now in
     let b = args.log.now in
-    let q = at-loop.loop-reach.q in
-    let inv = at-loop.loop-reach.invariant in
+    let q = c.loop-reach.q in
+    let inv = c.loop-reach.invariant in
     let ps = later_pairs args.floor b args.p in
     let same = ap (λ (k : ℕ). q + (2 + k)) (sym (step c).0) in (
-      subst (λ (r : ℕ). Walk A b args.floor r) same (walk-next A inv.0 (here at-then)),
-      subst (λ (r : ℕ). Along A b ps (next_at b args.p) args.best at_tried.tried-kept.result r) same
-          (along-next A b ps inv.1 at_tried.tried-kept.ensures.0 (later-step args.floor b q (here at-then) args.p)),
-      at_tried.tried-kept.ensures.1,
-      at_tried.tried-kept.ensures.2,
+      subst (λ (r : ℕ). Walk A b args.floor r) same (walk-next A inv.0 (here (goal.at.loop-reach-preserved c).In-loop-reach)),
+      subst (λ (r : ℕ). Along A b ps (next_at b args.p) args.best c.tried-kept.result r) same
+          (along-next A b ps inv.1 c.tried-kept.ensures.0 (later-step args.floor b q (here (goal.at.loop-reach-preserved c).In-loop-reach) args.p)),
+      c.tried-kept.ensures.1,
+      c.tried-kept.ensures.2,
     )
 
 pub shape_of-shape : goal.shape_of-shape
-shape_of-shape c = let at-loop = c.before.before in at-loop.loop-reach.invariant.2 ∙ sym at-loop.before.before.before.before.requires.3
+shape_of-shape c = c.loop-reach.invariant.2 ∙ sym c.requires.3
 
 pub shape_of-below : goal.shape_of-below
-shape_of-below c = let at-loop = c.before.before in at-loop.loop-reach.invariant.3 ∙ sym at-loop.before.before.before.before.requires.4
+shape_of-below c = c.loop-reach.invariant.3 ∙ sym c.requires.4
 
 pub returns : goal.returns
 returns c =
-    let at-loop = c.before.before in
-    let args = at-loop.before.before.before.before.args in
-    let inv = at-loop.loop-reach.invariant in
+    let args = c.args in
+    let inv = c.loop-reach.invariant in
     let b = args.log.now in
-    let none = from_end args.floor b at-loop.loop-reach.q (sym c.before.whole_at.ensures ∙ c.loop-reach-test.false) in (
+    let none = from_end args.floor b c.loop-reach.q (sym c.whole_at.ensures ∙ c.loop-reach-test.false) in (
       along-end (points args.cart.now) b (later_pairs args.floor b args.p) inv.1
           (ap (map (λ s. (record_at b args.p, s))) none),
       inv.2,
@@ -129,13 +118,13 @@ returns c =
     )
 
 pub overflow_add-q : goal.overflow_add-q
-overflow_add-q c = omega (arith, c.pair_at.ensures.1)
+overflow_add-q c = omega (arith, c.pair-at.ensures.1)
 
 pub overflow_add-q-2 : goal.overflow_add-q-2
 overflow_add-q-2 c = omega (arith, (begin c).1)
 
 pub overflow_add-q-in-loop-reach : goal.overflow_add-q-in-loop-reach
-overflow_add-q-in-loop-reach c = omega (arith, c.pair_at-in-loop-reach.ensures.1)
+overflow_add-q-in-loop-reach c = omega (arith, c.pair-at2.ensures.1)
 
 pub overflow_add-q-in-loop-reach-2 : goal.overflow_add-q-in-loop-reach-2
 overflow_add-q-in-loop-reach-2 c = omega (arith, (step c).1)

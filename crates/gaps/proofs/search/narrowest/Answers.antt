@@ -20,26 +20,23 @@ use Rattle.gaps.proofs.search.narrowest.Invariants.{pairs}
 
 -- a whole record is here
 here : (c : In-loop-shape)
-    → whole (drop c.before.before.loop-shape.p c.before.before.before.before.args.log.now) ≡ true
-here c = sym c.before.whole_at.ensures ∙ c.loop-shape-test.true
+    → whole (drop c.loop-shape.p c.args.log.now) ≡ true
+here c = sym c.whole_at.ensures ∙ c.loop-shape-test.true
 
 -- the next place is past it, and still inside
 step : (c : After-pair_at)
-    → let at-loop = c.before.before.before.before.before.before.before.before.before.before in
-    let log = at-loop.before.before.args.log.now in
-    (c.pair_at.result ≡ size (drop at-loop.loop-shape.p log)) × (at-loop.loop-shape.p + (2 + c.pair_at.result) ≤ length log)
+    →
+    let log = c.args.log.now in
+    (c.pair_at.result ≡ size (drop c.loop-shape.p log)) × (c.loop-shape.p + (2 + c.pair_at.result) ≤ length log)
 step c =
-    let at-then = c.before.before.before.before.before.before.before.before in
-    let at-loop = at-then.before.before in
-    let log = at-loop.before.before.args.log.now in
-    let same = c.pair_at.ensures.0 ∙ sym (size-at log at-loop.loop-shape.p) in
-    (same, omega (arith, same, next-inside log at-loop.loop-shape.p (here at-then)))
+    let log = c.args.log.now in
+    let same = c.pair_at.ensures.0 ∙ sym (size-at log c.loop-shape.p) in
+    (same, omega (arith, same, next-inside log c.loop-shape.p (here (goal.at.After-pair_at c).In-loop-shape)))
 
 pub loop-shape-init : goal.loop-shape-init
 loop-shape-init c =
-    let start = c.before in
-    let args = start.args in
-    let pre = start.requires in (
+    let args = c.args in
+    let pre = c.requires in (
       pre.0,
       along-start (points args.cart.now) args.log.now (pairs args.floor args.log.now) 0 Best.Nothing tt,
       pre.2,
@@ -52,55 +49,48 @@ whole_at-requires c = c.loop-shape.invariant.0.inside
 
 pub from-best-requires : goal.from-best-requires
 from-best-requires c =
-    let at-then = c.before.before.before in
-    let at-loop = at-then.before.before in
-    let inv = at-loop.loop-shape.invariant in
-    (inv.0, walk-sound _ inv.0 (here at-then), at-loop.before.before.requires.1, inv.2, inv.3, inv.4, inv.1.told)
+    let inv = c.loop-shape.invariant in
+    (inv.0, walk-sound _ inv.0 (here (goal.at.from-best-requires c).In-loop-shape), c.requires.1, inv.2, inv.3, inv.4, inv.1.told)
 
 pub pair_at-requires : goal.pair_at-requires
 pair_at-requires c =
-    let at-then = c.before.before.before.before.before.before.before in
-    omega (arith, next-inside _ at-then.before.before.loop-shape.p (here at-then))
+    omega (arith, next-inside _ c.loop-shape.p (here (goal.at.pair_at-requires c).In-loop-shape))
 
 pub loop-shape-preserved : goal.loop-shape-preserved
 loop-shape-preserved c =
-    let at_from = c.before.before.before.before in
-    let at-then = at_from.before.before.before.before in
-    let at-loop = at-then.before.before in
-    let args = at-loop.before.before.args in
+    let args = c.args in
     let A = points args.cart.now in
     let b = args.log.now in
-    let p = at-loop.loop-shape.p in
-    let inv = at-loop.loop-shape.invariant in
+    let p = c.loop-shape.p in
+    let inv = c.loop-shape.invariant in
     let ps = pairs args.floor b in
     let same = ap (λ (k : ℕ). p + (2 + k)) (sym (step c).0) in (
-      subst (λ (r : ℕ). Walk A b args.floor r) same (walk-next A inv.0 (here at-then)),
-      subst (λ (r : ℕ). Along A b ps 0 Best.Nothing at_from.from-best.result r) same
-          (along-next A b ps inv.1 at_from.from-best.ensures.0 (pairs-step args.floor b p (here at-then))),
-      at_from.from-best.ensures.1,
-      at_from.from-best.ensures.2,
-      at_from.from-best.ensures.3,
+      subst (λ (r : ℕ). Walk A b args.floor r) same (walk-next A inv.0 (here (goal.at.loop-shape-preserved c).In-loop-shape)),
+      subst (λ (r : ℕ). Along A b ps 0 Best.Nothing c.from-best.result r) same
+          (along-next A b ps inv.1 c.from-best.ensures.0 (pairs-step args.floor b p (here (goal.at.loop-shape-preserved c).In-loop-shape))),
+      c.from-best.ensures.1,
+      c.from-best.ensures.2,
+      c.from-best.ensures.3,
     )
 
 pub shape_of-shape : goal.shape_of-shape
-shape_of-shape c = let at-loop = c.before.before in at-loop.loop-shape.invariant.2 ∙ sym at-loop.before.before.requires.2
+shape_of-shape c = c.loop-shape.invariant.2 ∙ sym c.requires.2
 
 pub shape_of-above : goal.shape_of-above
-shape_of-above c = let at-loop = c.before.before in at-loop.loop-shape.invariant.3 ∙ sym at-loop.before.before.requires.3
+shape_of-above c = c.loop-shape.invariant.3 ∙ sym c.requires.3
 
 pub shape_of-below : goal.shape_of-below
-shape_of-below c = let at-loop = c.before.before in at-loop.loop-shape.invariant.4 ∙ sym at-loop.before.before.requires.4
+shape_of-below c = c.loop-shape.invariant.4 ∙ sym c.requires.4
 
 pub returns : goal.returns
 returns c =
-    let at-loop = c.before.before in
-    let args = at-loop.before.before.args in
+    let args = c.args in
     let b = args.log.now in
-    let none = from_end args.floor b at-loop.loop-shape.p (sym c.before.whole_at.ensures ∙ c.loop-shape-test.false) in
-    along-end (points args.cart.now) b (pairs args.floor b) at-loop.loop-shape.invariant.1 (ap pairs_of none)
+    let none = from_end args.floor b c.loop-shape.p (sym c.whole_at.ensures ∙ c.loop-shape-test.false) in
+    along-end (points args.cart.now) b (pairs args.floor b) c.loop-shape.invariant.1 (ap pairs_of none)
 
 pub overflow_add-p : goal.overflow_add-p
-overflow_add-p c = omega (arith, c.pair_at.ensures.1)
+overflow_add-p c = omega (arith, c.pair-at.ensures.1)
 
 pub overflow_add-p-in-loop-shape : goal.overflow_add-p-in-loop-shape
 overflow_add-p-in-loop-shape c = omega (arith, (step c).1)

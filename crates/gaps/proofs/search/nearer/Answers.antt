@@ -13,12 +13,11 @@ use Rattle.gaps.proofs.search.nearer.Goals as goal
 use Rattle.gaps.proofs.search.nearer.Goals.{After-is_less}
 
 pub returns-in_default : goal.returns-in_default
-returns-in_default c = let args = c.before.before.args in sym (ap (nearer args.p args.q args.spacing) c.in_default.is)
+returns-in_default c = let args = c.args in sym (ap (nearer args.p args.q args.spacing) c.in_default.is)
 
 pub is_less-requires : goal.is_less-requires
 is_less-requires c =
-    let start = c.before.before.before in
-    (start.requires.0, subst KeptSized c.before.in-Pair.is start.requires.1)
+    (c.requires.0, subst KeptSized c.in-Pair.is c.requires.1)
 
 -- by what the test says, which asks for the contrary
 compared : (p q i j : ℕ) (w v : Spacing) (x : Bool) → x ≡ not (no_more (fraction_of v) (fraction_of w))
@@ -29,13 +28,13 @@ compared p q i j w v x e = ap (λ (t : Bool). cond t (Best.Pair p q w) (Best.Pai
     turned true = refl
     turned false = refl
 
-tested : (c : After-is_less) {x : Bool} → c.is_less.result ≡ x → let args = c.before.before.before.before.args in
-    let old = c.before.before.best-1.given.0 in
+tested : (c : After-is_less) {x : Bool} → c.is_less.result ≡ x → let args = c.args in
+    let old = c.best-1.given.0 in
     cond x (Best.Pair args.p args.q args.spacing) (Best.Pair old.0 old.1.0 old.1.1.0)
-    ≡ nearer args.p args.q args.spacing args.best-1
+    ≡ nearer args.p args.q args.spacing args.best
 tested c {x} e =
-    let args = c.before.before.before.before.args in
-    let old = c.before.before.best-1.given in
+    let args = c.args in
+    let old = c.best-1.given in
     compared args.p args.q old.0.0 old.0.1.0 args.spacing old.0.1.1.0 x (sym e ∙ c.is_less.ensures)
     ∙ sym (ap (nearer args.p args.q args.spacing) old.1)
 

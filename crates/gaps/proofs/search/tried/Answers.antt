@@ -28,22 +28,19 @@ left c far =
     let args = c.args in
     let pre = c.requires in
     passed-left (points args.cart.now) args.log.now args.floor args.p args.q args.best pre.6
-    (pair-gap (points args.cart.now) args.log.now args.p args.q pre.3.shape-1.some pre.1 pre.2) far
+    (pair-gap (points args.cart.now) args.log.now args.p args.q pre.3.shape.some pre.1 pre.2) far
 
 pub is_passed-requires : goal.is_passed-requires
 is_passed-requires c =
-    let start = c.before.before in
-    (start.requires.2, told-sized _ _ start.args.best start.requires.6, start.requires.4, start.requires.10)
+    (c.requires.2, told-sized _ _ c.args.best c.requires.6, c.requires.4, c.requires.10)
 
 pub returns-then-is_passed : goal.returns-then-is_passed
 returns-then-is_passed c =
-    let at-passed = c.before.before in
-    let start = at-passed.before.before.before in
-    let args = start.args in
-    let pre = start.requires in (
-      left start (left_out (points args.cart.now) args.log.now args.p args.q pre.3.shape-1.some pre.1 pre.2
-          args.floor args.best pre.8 pre.9 (at-passed.is_passed.ensures.0 c.if-is_passed.true)),
-      at-passed.is_passed.ensures.1,
+    let args = c.args in
+    let pre = c.requires in (
+      left (goal.at.returns-then-is_passed c).Start (left_out (points args.cart.now) args.log.now args.p args.q pre.3.shape.some pre.1 pre.2
+          args.floor args.best pre.8 pre.9 (c.is_passed.ensures.0 c.if-is_passed.true)),
+      c.is_passed.ensures.1,
       pre.5,
     )
 
@@ -55,63 +52,56 @@ start_of c = (passed-at c).before.before.before
 
 pub returns-then-not-is_on : goal.returns-then-not-is_on
 returns-then-not-is_on c =
-    let off = sym c.before.is_on.ensures ∙ not-true _ c.if-not-is_on.true in (
-      left (start_of c.before) (λ on. absurd (true≢false (sym on ∙ off))),
-      (passed-at c.before).is_passed.ensures.1,
-      (start_of c.before).requires.5,
+    let off = sym c.is_on.ensures ∙ c.if-not-is_on.true in (
+      left (start_of (goal.at.returns-then-not-is_on c).After-is_on) (λ on. absurd (true≢false (sym on ∙ off))),
+      (passed-at (goal.at.returns-then-not-is_on c).After-is_on).is-passed.ensures.1,
+      (start_of (goal.at.returns-then-not-is_on c).After-is_on).requires.5,
     )
 
-is-on : (c : Else-not-is_on) → let args = (start_of c.before).args in is_on args.floor args.log.now args.q ≡ true
-is-on c = sym c.before.is_on.ensures ∙ not-false _ c.if-not-is_on.false
+is-on : (c : Else-not-is_on) → let args = (start_of (goal.at.Else-not-is_on c).After-is_on).args in is_on args.floor args.log.now args.q ≡ true
+is-on c = sym c.is_on.ensures ∙ c.if-not-is_on.false
 
 pub grow_at-m-requires : goal.grow_at-m-requires
 grow_at-m-requires c =
-    let at-else = c.before.before in
-    let pre = (start_of at-else.before).requires in
-    let passed = (passed-at at-else.before).is_passed.ensures in
-    (pre.2, pre.3, passed.1, pre.5, walk-fits _ pre.0 pre.2.here (is-on at-else))
+    let pre = (start_of (goal.at.grow_at-m-requires c).After-is_on).requires in
+    let passed = (passed-at (goal.at.grow_at-m-requires c).After-is_on).is-passed.ensures in
+    (pre.2, pre.3, passed.1, pre.5, walk-fits _ pre.0 pre.2.here (is-on (goal.at.grow_at-m-requires c).Else-not-is_on))
 
 pub slice_bounds-between-end-2 : goal.slice_bounds-between-end-2
-slice_bounds-between-end-2 c = sym (front_length c.before.before.before.grow_at-m.ensures.0)
+slice_bounds-between-end-2 c = sym (front_length c.grow_at-m.ensures.0)
 
 pub between-requires : goal.between-requires
 between-requires c =
-    let at-grown = c.before.before.before in
-    let at-else = at-grown.before.before.before in
-    let pre = (start_of at-else.before).requires in (
+    let pre = (start_of (goal.at.between-requires c).Else-is_passed).requires in (
       pre.7,
-      subst Valid (sym at-grown.grow_at-m.ensures.0.front)
-          (grown_of-valid _ _ (here-valid pre.2) pre.3.shape-1.some (walk-fits _ pre.0 pre.2.here (is-on at-else))),
+      subst Valid (sym c.grow_at-m.ensures.0.front)
+          (grown_of-valid _ _ (here-valid pre.2) pre.3.shape.some (walk-fits _ pre.0 pre.2.here (is-on (goal.at.between-requires c).After-is_on))),
     )
 
 -- how far apart the two are
-found : (c : After-between) → let args = (start_of c.before.before.before.before.before.before.before.before).args in
+found : (c : After-between) → let args = (start_of (goal.at.After-between c).Else-is_passed).args in
     Found (points args.cart.now) args.log.now args.p args.q c.between.result
 found c =
-    let at-grown = c.before.before.before.before in
-    let pre = (start_of at-grown.before.before.before.before).requires in
-    found_of _ _ _ _ pre.3.shape-1.some pre.1 pre.2 c.between.result
-    (c.between.ensures ∙ ap₂ clearance_numbers pre.8 (front-points at-grown.grow_at-m.ensures.0))
+    let pre = (start_of (goal.at.After-between c).Else-is_passed).requires in
+    found_of _ _ _ _ pre.3.shape.some pre.1 pre.2 c.between.result
+    (c.between.ensures ∙ ap₂ clearance_numbers pre.8 (front-points c.grow_at-m.ensures.0))
 
 pub nearer-requires : goal.nearer-requires
 nearer-requires c =
-    let start = start_of c.before.before.before.before.before.before.before.before in
+    let start = start_of (goal.at.nearer-requires c).Else-is_passed in
     ((found c).sized, told-sized _ _ start.args.best start.pre.6)
 
 pub returns : goal.returns
 returns c =
-    let at-between = c.before in
-    let at-grown = at-between.before.before.before.before in
-    let at-else = at-grown.before.before.before in
-    let start = start_of at-else.before in
+    let start = start_of (goal.at.returns c).Else-is_passed in
     let args = start.args in
     let A = points args.cart.now in
-    let pairs = ap (λ (t : Bool). cond t (pair_at args.log.now args.p args.q ∷ []) []) (sym (is-on at-else)) in
-    let passed = passed-tried A args.log.now args.p args.q at-between.between.result args.best start.pre.6
-    (found at-between) in (
+    let pairs = ap (λ (t : Bool). cond t (pair_at args.log.now args.p args.q ∷ []) []) (sym (is-on (goal.at.returns c).After-is_on)) in
+    let passed = passed-tried A args.log.now args.p args.q c.between.result args.best start.pre.6
+    (found (goal.at.returns c).After-between) in (
       subst (λ (r : Best). Passed A args.log.now (tried_at args.floor args.log.now args.p args.q) args.best r)
           (sym c.nearer.ensures) (subst (λ (ps : List Pair). Passed A args.log.now ps args.best
-          (nearer args.p args.q at-between.between.result args.best)) pairs passed),
-      at-grown.grow_at-m.ensures.1,
-      at-grown.grow_at-m.ensures.2,
+          (nearer args.p args.q c.between.result args.best)) pairs passed),
+      c.grow_at-m.ensures.1,
+      c.grow_at-m.ensures.2,
     )

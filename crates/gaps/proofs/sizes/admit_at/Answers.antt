@@ -40,72 +40,57 @@ none-count vs true n = n
 none-count vs false n = tt
 
 -- the numbers that were read are in the buffer
-fits : (c : After-read_at-n) → c.read_at-n.result ≤ length c.read_at-n.new.1.1.0
+fits : (c : After-read_at-n) → c.read_at-n.result ≤ length c.read_at-n.new.shape
 fits c =
-    let start = c.before.before.before.before.before.before in
     let read = c.read_at-n.ensures in
-    omega (arith, read.1, read.2, valid-fits _ (here-valid start.requires.0))
+    omega (arith, read.1, read.2, valid-fits _ (here-valid c.requires.0))
 
 -- what was judged is the record
-judged : (c : After-admit_grown) → let start = c.before.before.before.before.before.before.before.before.before in
-    Judged (NoneApply (rows start)) (rows start) c.admit_grown.result
+judged : (c : After-admit_grown) →
+    Judged (NoneApply (rows (goal.at.After-admit_grown c).Start)) (rows (goal.at.After-admit_grown c).Start) c.admit_grown.result
 unfolding grown_of
 judged c =
-    let at_read = c.before.before.before in
-    let start = at_read.before.before.before.before.before.before in
-    judged-by (ap (λ (l : List ℤ). size_rows (grown (points l) (points start.args.cart.now))) at_read.read_at-n.ensures.0)
+    judged-by (ap (λ (l : List ℤ). size_rows (grown (points l) (points c.args.cart.now))) c.read_at-n.ensures.0)
     c.admit_grown.ensures
 
 -- whether it is the latest of its name is whether it is on the floor
 on-as : (c : After-is_current) {t : Bool} → c.is_current.result ≡ t
-    → let start = c.before.before.before.before.before.before.before.before.before.before.before.before.before in
-    is_on start.args.floor start.args.log.now start.args.p ≡ t
+    →
+    is_on c.args.floor c.args.log.now c.args.p ≡ t
 on-as c e =
-    let at-else = c.before.before.before.before.before.before.before.before.before in
-    sym (on-here at-else.before.before.head_at.ensures _ at-else.if-head_at-floor.false) ∙ sym c.is_current.ensures ∙ e
+    sym (on-here c.head_at.ensures _ c.if-head_at-floor.false) ∙ sym c.is_current.ensures ∙ e
 
 pub returns-then-head_at-floor : goal.returns-then-head_at-floor
 returns-then-head_at-floor c =
-    let at_head = c.before.before in
-    let start = at_head.before.before in
-    (judged-by (rows_are start (sym (on-elsewhere at_head.head_at.ensures _ c.if-head_at-floor.true))) (passes tt), start.requires.2)
+    (judged-by (rows_are (goal.at.returns-then-head_at-floor c).Start (sym (on-elsewhere c.head_at.ensures _ c.if-head_at-floor.true))) (passes tt), c.requires.2)
 
 pub slice_bounds-admit_grown-end : goal.slice_bounds-admit_grown-end
-slice_bounds-admit_grown-end c = fits c.before
+slice_bounds-admit_grown-end c = fits (goal.at.slice_bounds-admit_grown-end c).After-read_at-n
 
 pub slice_bounds-admit_grown-end-2 : goal.slice_bounds-admit_grown-end-2
-slice_bounds-admit_grown-end-2 c = let at_read = c.before.before in
-    sym (length-take-le _ at_read.read_at-n.new.1.1.0 (fits at_read))
+slice_bounds-admit_grown-end-2 c =
+    sym (length-take-le _ c.read_at-n.new.1.1.0 (fits (goal.at.slice_bounds-admit_grown-end-2 c).After-read_at-arg-1))
 
 pub admit_grown-requires : goal.admit_grown-requires
 admit_grown-requires c =
-    let at_read = c.before.before in
-    let pre = at_read.before.before.before.before.before.before.requires in
-    (subst Valid (sym at_read.read_at-n.ensures.0) (here-valid pre.0), pre.1)
+    let pre = c.requires in
+    (subst Valid (sym c.read_at-n.ensures.0) (here-valid pre.0), pre.1)
 
 pub returns-in_default : goal.returns-in_default
 returns-in_default c =
-    let at-judged = c.before.before in
-    let at_read = at-judged.before.before.before in
-    let start = at_read.before.before.before.before.before.before in
-    let args = start.args in (
-      passes (none-count (rows start) (is_on args.floor args.log.now args.p) ((judged at-judged).valid c.in_default.is)),
-      at_read.read_at-n.ensures.1,
+    let args = c.args in (
+      passes (none-count (rows (goal.at.returns-in_default c).Start) (is_on args.floor args.log.now args.p) ((judged (goal.at.returns-in_default c).After-admit_grown).valid c.in_default.is)),
+      c.read_at-n.ensures.1,
     )
 
 pub returns-then-not-is_current : goal.returns-then-not-is_current
 returns-then-not-is_current c =
-    let at_read = c.before.before.before.before.before.before.before.before in
-    let start = at_read.before.before.before.before.before.before in
-    (judged-by (rows_are start (on-as c.before (not-true _ c.if-not-is_current.true))) (passes tt), at_read.read_at-n.ensures.1)
+    (judged-by (rows_are (goal.at.returns-then-not-is_current c).Start (on-as (goal.at.returns-then-not-is_current c).After-is_current (c.if-not-is_current.true))) (passes tt), c.read_at-n.ensures.1)
 
 pub returns : goal.returns
 returns c =
-    let at-refusal = c.before.before.before in
-    let at-judged = at-refusal.before.before in
-    let at_read = at-judged.before.before.before in
-    let start = at_read.before.before.before.before.before.before in (
-      judged-by (rows_are start (on-as c.before (not-false _ c.if-not-is_current.false)))
-          (turns-away ((judged at-judged).no _ at-refusal.in-No.is)),
-      at_read.read_at-n.ensures.1,
+    (
+      judged-by (rows_are (goal.at.returns c).Start (on-as (goal.at.returns c).After-is_current (c.if-not-is_current.false)))
+          (turns-away ((judged (goal.at.returns c).After-admit_grown).no _ c.in-No.is)),
+      c.read_at-n.ensures.1,
     )

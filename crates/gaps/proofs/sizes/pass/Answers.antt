@@ -16,67 +16,55 @@ use Rattle.gaps.proofs.sizes.pass.Goals.{After-pair_at, In-loop-shape}
 
 -- a whole record is here
 here : (c : In-loop-shape)
-    → whole (drop c.before.before.loop-shape.p c.before.before.before.before.args.log.now) ≡ true
-here c = sym c.before.whole_at.ensures ∙ c.loop-shape-test.true
+    → whole (drop c.loop-shape.p c.args.log.now) ≡ true
+here c = sym c.whole_at.ensures ∙ c.loop-shape-test.true
 
 -- the next place is past it, and still inside
 step : (c : After-pair_at)
-    → let at-loop = c.before.before.before.before.before.before.before.before in
-    let log = at-loop.before.before.args.log.now in
-    (c.pair_at.result ≡ size (drop at-loop.loop-shape.p log)) × (at-loop.loop-shape.p + (2 + c.pair_at.result) ≤ length log)
+    →
+    let log = c.args.log.now in
+    (c.pair_at.result ≡ size (drop c.loop-shape.p log)) × (c.loop-shape.p + (2 + c.pair_at.result) ≤ length log)
 step c =
-    let at-then = c.before.before.before.before.before.before in
-    let at-loop = at-then.before.before in
-    let log = at-loop.before.before.args.log.now in
-    let same = c.pair_at.ensures.0 ∙ sym (size-at log at-loop.loop-shape.p) in
-    (same, omega (arith, same, next-inside log at-loop.loop-shape.p (here at-then)))
+    let log = c.args.log.now in
+    let same = c.pair_at.ensures.0 ∙ sym (size-at log c.loop-shape.p) in
+    (same, omega (arith, same, next-inside log c.loop-shape.p (here (goal.at.After-pair_at c).In-loop-shape)))
 
 pub loop-shape-init : goal.loop-shape-init
-loop-shape-init c = let pre = c.before.requires in (judging-start _ _ _ pre.0, pre.2)
+loop-shape-init c = let pre = c.requires in (judging-start _ _ _ pre.0, pre.2)
 
 pub whole_at-requires : goal.whole_at-requires
 whole_at-requires c = c.loop-shape.invariant.0.inside
 
 pub admit_at-requires : goal.admit_at-requires
 admit_at-requires c =
-    let at-then = c.before in
-    let at-loop = at-then.before.before in
-    (judging-sound at-loop.loop-shape.invariant.0 (here at-then), at-loop.before.before.requires.1, at-loop.loop-shape.invariant.1)
+    (judging-sound c.loop-shape.invariant.0 (here (goal.at.admit_at-requires c).In-loop-shape), c.requires.1, c.loop-shape.invariant.1)
 
 pub returns-in-No : goal.returns-in-No
 returns-in-No c =
-    let at-admit = c.before.before.before.before in
-    let at-then = at-admit.before.before in
-    turns-away (judging-refused at-then.before.before.loop-shape.invariant.0 (here at-then)
-    (at-admit.admit_at.ensures.0.no _ c.before.in-No.is))
+    turns-away (judging-refused c.loop-shape.invariant.0 (here (goal.at.returns-in-No c).In-loop-shape)
+    (c.admit_at.ensures.0.no _ c.in-No.is))
 
 pub pair_at-requires : goal.pair_at-requires
 pair_at-requires c =
-    let at-then = c.before.before.before.before.before in
-    omega (arith, next-inside _ at-then.before.before.loop-shape.p (here at-then))
+    omega (arith, next-inside _ c.loop-shape.p (here (goal.at.pair_at-requires c).In-loop-shape))
 
 pub loop-shape-preserved : goal.loop-shape-preserved
 loop-shape-preserved c =
-    let at_told = c.before in
-    let at-admit = at_told.before.before.before in
-    let at-then = at-admit.before.before in
-    let at-loop = at-then.before.before in
-    let args = at-loop.before.before.args in (
-      subst (λ (k : ℕ). Judging (points args.cart.now) args.log.now args.floor (at-loop.loop-shape.p + (2 + k))) (sym (step c).0)
-          (judging-next at-loop.loop-shape.invariant.0 (here at-then) (at-admit.admit_at.ensures.0.valid at_told.in_default.is)),
-      at-admit.admit_at.ensures.1,
+    let args = c.args in (
+      subst (λ (k : ℕ). Judging (points args.cart.now) args.log.now args.floor (c.loop-shape.p + (2 + k))) (sym (step c).0)
+          (judging-next c.loop-shape.invariant.0 (here (goal.at.loop-shape-preserved c).In-loop-shape) (c.admit_at.ensures.0.valid c.in_default.is)),
+      c.admit_at.ensures.1,
     )
 
 pub shape_of-shape : goal.shape_of-shape
-shape_of-shape c = let at-loop = c.before.before in at-loop.loop-shape.invariant.1 ∙ sym at-loop.before.before.requires.2
+shape_of-shape c = c.loop-shape.invariant.1 ∙ sym c.requires.2
 
 pub returns : goal.returns
 returns c =
-    let at-loop = c.before.before in
-    passes (judging-end at-loop.loop-shape.invariant.0 (sym c.before.whole_at.ensures ∙ c.loop-shape-test.false))
+    passes (judging-end c.loop-shape.invariant.0 (sym c.whole_at.ensures ∙ c.loop-shape-test.false))
 
 pub overflow_add-p : goal.overflow_add-p
-overflow_add-p c = omega (arith, c.pair_at.ensures.1)
+overflow_add-p c = omega (arith, c.pair-at.ensures.1)
 
 pub overflow_add-p-in-loop-shape : goal.overflow_add-p-in-loop-shape
 overflow_add-p-in-loop-shape c = omega (arith, (step c).1)

@@ -15,72 +15,58 @@ loop-i-init c = reading-start c.requires.3 c.requires.2
 
 pub rest-requires : goal.rest-requires
 rest-requires c =
-    let at-loop = c.before.before.before.before.before in
-    let args = at-loop.before.args in
-    let pre = at-loop.before.requires in
-    let s = first_rest pre.0.way pre.1.way at-loop.loop-i.invariant c.before.if-other-j.true in (
+    let args = c.args in
+    let pre = c.requires in
+    let s = first_rest pre.0.way pre.1.way c.loop-i.invariant c.if-other-j.true in (
       pre.0.line,
-      omega (arith, s.room, run_length (closed (points args.a.now)) at-loop.loop-i.i (args.row.end - at-loop.loop-i.i)),
+      omega (arith, s.room, run_length (closed (points args.a.now)) c.loop-i.i (args.row.end - c.loop-i.i)),
       s.small,
     )
 
 pub returns-then-other-j : goal.returns-then-other-j
 returns-then-other-j c =
-    let spent = c.before.before.before in
-    let at-loop = spent.before.before.before.before in
-    let pre = at-loop.before.requires in
-    scanning-rest (first_rest pre.0.way pre.1.way at-loop.loop-i.invariant spent.if-other-j.true) c.before.rest.ensures
+    let pre = c.requires in
+    scanning-rest (first_rest pre.0.way pre.1.way c.loop-i.invariant c.if-other-j.true) c.rest.ensures
 
 pub shape_of-buf-then-other-j : goal.shape_of-buf-then-other-j
 shape_of-buf-then-other-j c = (returns-then-other-j c).same
 
 pub push_next-next-requires : goal.push_next-next-requires
 push_next-next-requires c =
-    let in-loop = c.before in
-    let more = in-loop.before.before.loop-i-test.true in
-    let at-loop = in-loop.before.before.before.before in
-    let pre = at-loop.before.requires in (
+    let more = c.loop-i-test.true in
+    let pre = c.requires in (
       line-to pre.0.line (omega (arith, more)),
-      line-to pre.1.line (omega (arith, in-loop.if-other-j.false)),
-      reading-room pre.0.way pre.1.way at-loop.loop-i.invariant more in-loop.if-other-j.false,
-      at-loop.loop-i.invariant.scanning.small,
+      line-to pre.1.line (omega (arith, c.if-other-j.false)),
+      reading-room pre.0.way pre.1.way c.loop-i.invariant more c.if-other-j.false,
+      c.loop-i.invariant.scanning.small,
     )
 
 pub loop-i-smaller : goal.loop-i-smaller
 loop-i-smaller c =
-    let at_push = c.before in
-    let in-loop = at_push.before.before in
-    let at-loop = in-loop.before.before.before.before in
-    let pre = at-loop.before.requires in
-    reading-less pre.0.way pre.1.way at-loop.loop-i.invariant in-loop.before.before.loop-i-test.true in-loop.if-other-j.false
-    at_push.push_next-next.ensures
+    let pre = c.requires in
+    reading-less pre.0.way pre.1.way c.loop-i.invariant c.loop-i-test.true c.if-other-j.false
+    c.push_next-next.ensures
 
 pub loop-i-preserved : goal.loop-i-preserved
 loop-i-preserved c =
-    let at_push = c.before in
-    let in-loop = at_push.before.before in
-    let at-loop = in-loop.before.before.before.before in
-    let pre = at-loop.before.requires in
-    reading-more pre.0.way pre.1.way at-loop.loop-i.invariant in-loop.before.before.loop-i-test.true in-loop.if-other-j.false
-    at_push.push_next-next.ensures
+    let pre = c.requires in
+    reading-more pre.0.way pre.1.way c.loop-i.invariant c.loop-i-test.true c.if-other-j.false
+    c.push_next-next.ensures
 
 pub rest-requires-2 : goal.rest-requires-2
 rest-requires-2 c =
-    let at-loop = c.before.before.before in
-    let args = at-loop.before.args in
-    let pre = at-loop.before.requires in
-    let s = second-rest pre.0.way pre.1.way at-loop.loop-i.invariant c.before.loop-i-test.false in (
+    let args = c.args in
+    let pre = c.requires in
+    let s = second-rest pre.0.way pre.1.way c.loop-i.invariant c.loop-i-test.false in (
       pre.1.line,
-      omega (arith, s.room, run_length (closed (points args.b.now)) at-loop.loop-i.j (args.other.end - at-loop.loop-i.j)),
+      omega (arith, s.room, run_length (closed (points args.b.now)) c.loop-i.j (args.other.end - c.loop-i.j)),
       s.small,
     )
 
 pub returns : goal.returns
 returns c =
-    let spent = c.before.before.before in
-    let at-loop = spent.before.before in
-    let pre = at-loop.before.requires in
-    scanning-rest (second-rest pre.0.way pre.1.way at-loop.loop-i.invariant spent.loop-i-test.false) c.before.rest-2.ensures
+    let pre = c.requires in
+    scanning-rest (second-rest pre.0.way pre.1.way c.loop-i.invariant c.loop-i-test.false) c.rest-2.ensures
 
 pub shape_of-buf : goal.shape_of-buf
 shape_of-buf c = (returns c).same

@@ -15,53 +15,45 @@ use Rattle.hull.proofs.chains.chain.Goals as goal
 use Rattle.hull.proofs.chains.chain.Goals.{After-put}
 
 pub put-requires : goal.put-requires
-put-requires c = omega (arith, c.before.requires.2, points-length c.before.args.buf-1.now)
+put-requires c = omega (arith, c.requires.2, points-length c.args.buf.now)
 
 -- the first point is in the buffer
-began : (c : After-put) → let start = c.before.before in
-    Scanned start.args.buf-1.now 0 (at start.args.from ∷ []) c.put.new.0 1
+began : (c : After-put) →
+    Scanned c.args.buf.now 0 (at c.args.from ∷ []) c.put.new.out 1
 began c =
-    let start = c.before.before in
-    let some : 0 < length (points start.args.buf-1.now) = omega (arith, start.requires.2) in
-    first-scanned some start.requires.3 c.put.ensures
+    let some : 0 < length (points c.args.buf.now) = omega (arith, c.requires.2) in
+    first-scanned some c.requires.3 c.put.ensures
 
 pub both-kept-requires : goal.both-kept-requires
 both-kept-requires c =
-    let at-put = c.before.before in
-    let start = at-put.before.before in
-    let first = began at-put in (
-      start.requires.0,
-      start.requires.1,
-      omega (arith, start.requires.2, first.same, points-length start.args.buf-1.now, points-length at-put.put.new.0),
+    let first = began c.before.before in (
+      c.requires.0,
+      c.requires.1,
+      omega (arith, c.requires.2, first.same, points-length c.args.buf.now, points-length c.put.new.out),
       first.small,
     )
 
 pub settle-requires : goal.settle-requires
 settle-requires c =
-    let at_both = c.before.before in
-    let at-put = at_both.before.before.before in
-    let start = at-put.before.before in
-    let args = start.args in
-    let first = began at-put in
+    let args = c.args in
+    let first = began c.before.before.before.before.before in
     let P = closed (points args.a.now) in
     let Q = closed (points args.b.now) in
-    let rows = at_both.both-kept.ensures in (
+    let rows = c.both-kept.ensures in (
       omega (
         arith,
-        start.requires.2,
+        c.requires.2,
         rows.few,
         rows.same,
         first.same,
         left-few args.up P args.row.first args.row.end Q args.other.first args.other.end,
-        points-length args.buf-1.now,
-        points-length at_both.both-kept.new.1.1.1.1.1.0,
+        points-length args.buf.now,
+        points-length c.both-kept.new.1.1.1.1.1.0,
       ),
       rows.small,
-      start.requires.4,
+      c.requires.4,
     )
 
 pub returns : goal.returns
 returns c =
-    let at_both = c.before.before.before in
-    let at-put = at_both.before.before.before in
-    chained (began at-put) at_both.both-kept.ensures c.settle.ensures
+    chained (began c.before.before.before.before.before.before) c.both-kept.ensures c.settle.ensures

@@ -16,67 +16,57 @@ use Rattle.hull.proofs.chains.push_next.Goals as goal
 use Rattle.hull.proofs.chains.push_next.Goals.{After-order-c}
 
 -- the order, as the code has it
-told : (c : After-order-c) → let args = c.before.before.before.args in
+told : (c : After-order-c) → let args = c.args in
     to_z w32 (of_z w32 c.order-c.result)
     ≡ order args.up (corner (closed (points args.a.now)) args.i) (corner (closed (points args.b.now)) args.j)
 told c =
-    result-is w32 c.order-c.type-inv (c.order-c.ensures
-    ∙ ap₂ (order c.before.before.before.args.up) c.before.before.closed_at-p.ensures c.before.closed_at-q.ensures)
+    result-is w32 c.order-c.type_inv (c.order-c.ensures
+    ∙ ap₂ (order c.args.up) c.closed_at-p.ensures c.closed_at-q.ensures)
 
 pub closed_at-p-requires : goal.closed_at-p-requires
 closed_at-p-requires c = (omega (arith, c.requires.0.within), c.requires.0.some)
 
 pub closed_at-q-requires : goal.closed_at-q-requires
-closed_at-q-requires c = let pre = c.before.requires in (omega (arith, pre.1.within), pre.1.some)
+closed_at-q-requires c = let pre = c.requires in (omega (arith, pre.1.within), pre.1.some)
 
 pub order-c-requires : goal.order-c-requires
 order-c-requires c = tt
 
 pub push-kept-requires : goal.push-kept-requires
 push-kept-requires c =
-    let at_first = c.before.before.before.before in
-    let start = at_first.before in
-    let line = start.requires.0 in (
-      start.requires.2,
-      start.requires.3,
-      subst (Small (2 ^ 21)) (sym at_first.closed_at-p.ensures)
-          (closed-small start.args.a.now line.near line.some start.args.i (omega (arith, line.within))),
+    let line = c.requires.0 in (
+      c.requires.2,
+      c.requires.3,
+      subst (Small (2 ^ 21)) (sym c.closed_at-p.ensures)
+          (closed-small c.args.a.now line.near line.some c.args.i (omega (arith, line.within))),
     )
 
 pub overflow_add-result : goal.overflow_add-result
 overflow_add-result c =
-    let start = c.before.before.before.before.before.before.before in
-    omega (arith, start.requires.0.within, points-length start.args.a.now)
+    omega (arith, c.requires.0.within, points-length c.args.a.now)
 
 pub after-requires : goal.after-requires
 after-requires c =
-    let start = c.before.before.before.before.before.before.before in
-    omega (arith, start.requires.1.within, points-length start.args.b.now)
+    omega (arith, c.requires.1.within, points-length c.args.b.now)
 
 pub returns-then-c-le0 : goal.returns-then-c-le0
 returns-then-c-le0 c =
-    let at_push = c.before.before in
-    let tested = at_push.before.before in
-    stepped-first (told tested.before) at_push.push-kept.ensures tested.if-c-le0.true tested.before.before.before.closed_at-p.ensures
+    stepped-first (told c.before.before.before.before.before) c.push-kept.ensures c.if-c-le0.true c.closed_at-p.ensures
     c.after.ensures
 
 pub push-kept-requires-2 : goal.push-kept-requires-2
 push-kept-requires-2 c =
-    let at_second = c.before.before.before in
-    let start = at_second.before.before in
-    let line = start.requires.1 in (
-      start.requires.2,
-      start.requires.3,
-      subst (Small (2 ^ 21)) (sym at_second.closed_at-q.ensures)
-          (closed-small start.args.b.now line.near line.some start.args.j (omega (arith, line.within))),
+    let line = c.requires.1 in (
+      c.requires.2,
+      c.requires.3,
+      subst (Small (2 ^ 21)) (sym c.closed_at-q.ensures)
+          (closed-small c.args.b.now line.near line.some c.args.j (omega (arith, line.within))),
     )
 
 pub overflow_add-result-2 : goal.overflow_add-result-2
 overflow_add-result-2 c =
-    let start = c.before.before.before.before.before.before.before in
-    omega (arith, start.requires.1.within, points-length start.args.b.now)
+    omega (arith, c.requires.1.within, points-length c.args.b.now)
 
 pub returns : goal.returns
 returns c =
-    let tested = c.before.before.before in
-    stepped-second (told tested.before) c.before.push-kept-2.ensures tested.if-c-le0.false tested.before.before.closed_at-q.ensures
+    stepped-second (told c.before.before.before.before) c.push-kept-2.ensures c.if-c-le0.false c.closed_at-q.ensures

@@ -15,15 +15,14 @@ use Rattle.hull.proofs.chains.rest.Goals as goal
 use Rattle.hull.proofs.chains.rest.Goals.{After-closed_at}
 
 -- the corner at i is the next
-next : (c : After-closed_at) → let at-loop = c.before.before.before in
-    let args = at-loop.before.args in
+next : (c : After-closed_at) →
+    let args = c.args in
     let ps = closed (points args.list.now) in
-    run ps at-loop.loop-i.i (args.end - at-loop.loop-i.i) ≡ at c.closed_at.result ∷ run ps (at-loop.loop-i.i + 1)
-    (args.end - (at-loop.loop-i.i + 1))
+    run ps c.loop-i.i (args.end - c.loop-i.i) ≡ at c.closed_at.result ∷ run ps (c.loop-i.i + 1)
+    (args.end - (c.loop-i.i + 1))
 next c =
-    let at-loop = c.before.before.before in
-    let ps = closed (points at-loop.before.args.list.now) in
-    rw (c.closed_at.ensures, add-one at-loop.loop-i.i) (run_more ps c.before.before.loop-i-test.true)
+    let ps = closed (points c.args.list.now) in
+    rw (c.closed_at.ensures, add-one c.loop-i.i) (run_more ps c.loop-i-test.true)
 
 pub loop-i-init : goal.loop-i-init
 loop-i-init c =
@@ -33,18 +32,16 @@ loop-i-init c =
 
 pub closed_at-requires : goal.closed_at-requires
 closed_at-requires c =
-    let line = c.before.before.before.requires.0 in
-    (omega (arith, line.within, c.before.loop-i-test.true), line.some)
+    let line = c.requires.0 in
+    (omega (arith, line.within, c.loop-i-test.true), line.some)
 
 pub push-kept-requires : goal.push-kept-requires
 push-kept-requires c =
-    let at-loop = c.before.before.before in
-    let start = at-loop.before in
-    let line = start.requires.0 in (
-      scanning-room at-loop.loop-i.invariant (next c),
-      at-loop.loop-i.invariant.small,
-      subst (Small (2 ^ 21)) (sym c.closed_at.ensures) (closed-small start.args.list.now line.near line.some
-          at-loop.loop-i.i (omega (arith, line.within, c.before.before.loop-i-test.true))),
+    let line = c.requires.0 in (
+      scanning-room c.loop-i.invariant (next c),
+      c.loop-i.invariant.small,
+      subst (Small (2 ^ 21)) (sym c.closed_at.ensures) (closed-small c.args.list.now line.near line.some
+          c.loop-i.i (omega (arith, line.within, c.loop-i-test.true))),
     )
 
 pub overflow_add-i : goal.overflow_add-i
@@ -55,15 +52,13 @@ loop-i-smaller c = omega arith
 
 pub loop-i-preserved : goal.loop-i-preserved
 loop-i-preserved c =
-    let at-closed = c.before.before in
-    scanning-one at-closed.before.before.before.loop-i.invariant (next at-closed) c.before.push-kept.ensures
+    scanning-one c.loop-i.invariant (next c.before.before) c.push-kept.ensures
 
 pub shape_of-buf : goal.shape_of-buf
-shape_of-buf c = c.before.loop-i.invariant.same
+shape_of-buf c = c.loop-i.invariant.same
 
 pub returns : goal.returns
 returns c =
-    let at-loop = c.before in
-    let args = at-loop.before.args in
-    let none : args.end - at-loop.loop-i.i ≡ 0 = omega arith in
-    scanning-end at-loop.loop-i.invariant (ap (run (closed (points args.list.now)) at-loop.loop-i.i) none)
+    let args = c.args in
+    let none : args.end - c.loop-i.i ≡ 0 = omega arith in
+    scanning-end c.loop-i.invariant (ap (run (closed (points args.list.now)) c.loop-i.i) none)

@@ -8,21 +8,19 @@ use Rattle.plane.specs.Point.{points, corner}
 use Rattle.hull.proofs.outline.route_at.Goals as goal
 
 pub corner_at-requires : goal.corner_at-requires
-corner_at-requires c = omega (arith, c.before.requires.0, c.before.requires.1)
+corner_at-requires c = omega (arith, c.requires.0, c.requires.1)
 
 pub returns-then-up : goal.returns-then-up
 returns-then-up c =
-    let start = c.before.before in
-    let args = start.args in
+    let args = c.args in
     c.corner_at.ensures ∙ ap (λ (b : Bool). corner (points args.list.now) (cond b args.i (args.n - (args.i + 1))))
-    (sym c.before.if-up.true)
+    (sym c.if-up.true)
 
 pub corner_at-requires-2 : goal.corner_at-requires-2
-corner_at-requires-2 c = omega (arith, c.before.requires.0, c.before.requires.1)
+corner_at-requires-2 c = omega (arith, c.requires.0, c.requires.1)
 
 pub returns : goal.returns
 returns c =
-    let start = c.before.before in
-    let args = start.args in
+    let args = c.args in
     c.corner_at-2.ensures ∙ ap (λ (b : Bool). corner (points args.list.now) (cond b args.i (args.n - (args.i + 1))))
-    (sym c.before.if-up.false)
+    (sym c.if-up.false)

@@ -6,16 +6,14 @@ use Rattle.hull.proofs.rows.ascent.Goals as goal
 
 pub returns-then-precedes : goal.returns-then-precedes
 unfolding order
-returns-then-precedes c = rw (sym c.before.precedes.ensures ∙ c.if-precedes.true)
+returns-then-precedes c = rw (sym c.precedes.ensures ∙ c.if-precedes.true)
 
 pub returns-then-precedes-2 : goal.returns-then-precedes-2
 unfolding order
 returns-then-precedes-2 c =
-    let first = c.before.before in
-    rw (sym first.before.precedes.ensures ∙ first.if-precedes.false, sym c.before.precedes-2.ensures ∙ c.if-precedes-2.true)
+    rw (sym c.precedes.ensures ∙ c.if-precedes.false, sym c.precedes-2.ensures ∙ c.if-precedes-2.true)
 
 pub returns : goal.returns
 unfolding order
 returns c =
-    let first = c.before.before in
-    rw (sym first.before.precedes.ensures ∙ first.if-precedes.false, sym c.before.precedes-2.ensures ∙ c.if-precedes-2.false)
+    rw (sym c.precedes.ensures ∙ c.if-precedes.false, sym c.precedes-2.ensures ∙ c.if-precedes-2.false)

@@ -10,13 +10,11 @@ use Rattle.hull.proofs.rows.closed_at.Goals as goal
 
 pub returns-then-i-count : goal.returns-then-i-count
 returns-then-i-count c =
-    let start = c.before.before.before in
     c.corner_at.ensures
-    ∙ sym (closed-within (points start.args.list.now) start.args.i (omega (arith, c.before.before.count.ensures)))
+    ∙ sym (closed-within (points c.args.list.now) c.args.i (omega (arith, c.count.ensures)))
 
 pub returns-else-i-count : goal.returns-else-i-count
 returns-else-i-count c =
-    let start = c.before.before.before in
-    let ps = points start.args.list.now in
-    let last : start.args.i ≡ length ps = omega (arith, c.before.before.count.ensures, start.requires.0) in
+    let ps = points c.args.list.now in
+    let last : c.args.i ≡ length ps = omega (arith, c.count.ensures, c.requires.0) in
     c.corner_at-else-i-count.ensures ∙ sym (ap (corner (closed ps)) last ∙ closed-last ps)

@@ -15,26 +15,21 @@ use Rattle.hull.proofs.rows.foremost.Goals as goal
 use Rattle.hull.proofs.rows.foremost.Goals.{After-order}
 
 -- what the test makes of the two corners
-told : (c : After-order) → let q = c.before in
-    let p = q.before in
-    let args = p.before.args in
-    cond (le_z (to_z w32 (of_z w32 c.order.result)) (pos 0)) (at p.corner_at-p.result) (at q.corner_at-q.result)
+told : (c : After-order) →
+    let args = c.args in
+    cond (le_z (to_z w32 (of_z w32 c.order.result)) (pos 0)) (at c.corner_at-p.result) (at c.corner_at-q.result)
     ≡ foremost args.up (corner (points args.a.now) args.i) (corner (points args.b.now) args.j)
 told c =
-    let q = c.before in
-    let p = q.before in
-    let up = p.before.args.up in
-    ap (λ (z : ℤ). cond (le_z z (pos 0)) (at p.corner_at-p.result) (at q.corner_at-q.result))
-    (result-is w32 c.order.type-inv c.order.ensures)
-    ∙ order-foremost up (at p.corner_at-p.result) (at q.corner_at-q.result)
-    ∙ ap₂ (foremost up) p.corner_at-p.ensures q.corner_at-q.ensures
+    let up = c.args.up in
+    ap (λ (z : ℤ). cond (le_z z (pos 0)) (at c.corner_at-p.result) (at c.corner_at-q.result))
+    (result-is w32 c.order.type_inv c.order.ensures)
+    ∙ order-foremost up (at c.corner_at-p.result) (at c.corner_at-q.result)
+    ∙ ap₂ (foremost up) c.corner_at-p.ensures c.corner_at-q.ensures
 
 pub returns-then-order-le0 : goal.returns-then-order-le0
 returns-then-order-le0 c =
-    let q = c.before.before in
-    sym (ap (λ (t : Bool). cond t (at q.before.corner_at-p.result) (at q.corner_at-q.result)) c.if-order-le0.true) ∙ told c.before
+    sym (ap (λ (t : Bool). cond t (at c.corner_at-p.result) (at c.corner_at-q.result)) c.if-order-le0.true) ∙ told c.before
 
 pub returns : goal.returns
 returns c =
-    let q = c.before.before in
-    sym (ap (λ (t : Bool). cond t (at q.before.corner_at-p.result) (at q.corner_at-q.result)) c.if-order-le0.false) ∙ told c.before
+    sym (ap (λ (t : Bool). cond t (at c.corner_at-p.result) (at c.corner_at-q.result)) c.if-order-le0.false) ∙ told c.before

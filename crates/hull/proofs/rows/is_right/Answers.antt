@@ -13,17 +13,15 @@ use Rattle.hull.proofs.rows.is_right.Goals as goal
 
 pub turn-requires : goal.turn-requires
 turn-requires c =
-    let start = c.before in
-    let pre = start.requires in (
+    let pre = c.requires in (
       pre.3,
       pre.4,
       subst (Small (2 ^ 21)) (sym c.closed_at.ensures)
-          (closed-small start.args.list.now pre.2 pre.1 start.args.i pre.0),
+          (closed-small c.args.list.now pre.2 pre.1 c.args.i pre.0),
     )
 
 pub returns : goal.returns
 unfolding is_right
 returns c =
-    let start = c.before.before in
-    ap (λ (z : ℤ). lt_z z (pos 0)) (result-is w64 c.turn.type-inv c.turn.ensures)
-    ∙ ap (is_right (at start.args.from) (at start.args.to)) c.before.closed_at.ensures
+    ap (λ (z : ℤ). lt_z z (pos 0)) (result-is w64 c.turn.type_inv c.turn.ensures)
+    ∙ ap (is_right (at c.args.from) (at c.args.to)) c.closed_at.ensures

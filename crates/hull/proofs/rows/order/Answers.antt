@@ -7,8 +7,8 @@ use Rattle.hull.proofs.rows.order.Goals as goal
 
 pub returns-then-up : goal.returns-then-up
 unfolding order
-returns-then-up c = rw c.before.if-up.true (result-is w32 c.ascent.type-inv c.ascent.ensures)
+returns-then-up c = rw c.if-up.true (result-is w32 c.ascent.type_inv c.ascent.ensures)
 
 pub returns-else-up : goal.returns-else-up
 unfolding order
-returns-else-up c = rw c.before.if-up.false (result-is w32 c.ascent-else-up.type-inv c.ascent-else-up.ensures)
+returns-else-up c = rw c.if-up.false (result-is w32 c.ascent-else-up.type_inv c.ascent-else-up.ensures)

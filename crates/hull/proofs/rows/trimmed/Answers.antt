@@ -23,23 +23,22 @@ pub is_right-requires : goal.is_right-requires
 is_right-requires c = (omega (arith, c.requires.0, c.requires.1), c.requires.2.some, c.requires.2.near, c.requires.3, c.requires.4)
 
 pub after-requires : goal.after-requires
-after-requires c = let start = c.before in omega (arith, start.requires.0, start.requires.1, points-length start.args.list.now)
+after-requires c = omega (arith, c.requires.0, c.requires.1, points-length c.args.list.now)
 
 pub is_right-requires-2 : goal.is_right-requires-2
 is_right-requires-2 c =
-    let pre = c.before.before.requires in
+    let pre = c.requires in
     (pre.1, pre.2.some, pre.2.near, pre.3, pre.4)
 
 pub after-requires-2 : goal.after-requires-2
-after-requires-2 c = let start = c.before.before.before in omega (arith, start.requires.1, points-length start.args.list.now)
+after-requires-2 c = omega (arith, c.requires.1, points-length c.args.list.now)
 
 pub returns : goal.returns
 returns c =
-    let args = c.before.before.before.before.args in
-    let at_first = c.before.before in
+    let args = c.args in
     let right : ℕ → Bool = λ i. is_right (at args.from) (at args.to) (corner (closed (points args.list.now)) i) in (
-      at_first.after.ensures ∙ ap (λ (b : Bool). cond (not b) (args.low + 1) args.low) at_first.before.is_right.ensures
+      c.after.ensures ∙ ap (λ (b : Bool). cond (not b) (args.low + 1) args.low) c.is_right.ensures
           ∙ passed-unless (right args.low) args.low,
-      c.after-2.ensures ∙ ap (λ (b : Bool). cond b (args.high + 1) args.high) c.before.is_right-2.ensures
+      c.after-2.ensures ∙ ap (λ (b : Bool). cond b (args.high + 1) args.high) c.is_right-2.ensures
           ∙ passed-if (right args.high) args.high,
     )

@@ -15,19 +15,17 @@ loop-kept-init c = record { few = omega arith; pushed = refl }
 
 pub turn_on-requires : goal.turn_on-requires
 turn_on-requires c =
-    let start = c.before.before in
-    let few = c.before.loop-kept.invariant.few in (
+    let few = c.loop-kept.invariant.few in (
       c.loop-kept-test.true,
-      omega (arith, start.requires.0),
-      record { small = λ i h. start.requires.1.small i (omega arith) },
-      start.requires.2,
+      omega (arith, c.requires.0),
+      record { small = λ i h. c.requires.1.small i (omega arith) },
+      c.requires.2,
     )
 
 pub returns-then-turn_on-gt0 : goal.returns-then-turn_on-gt0
 returns-then-turn_on-gt0 c =
-    let at-loop = c.before.before.before in
-    settle-keep at-loop.loop-kept.invariant c.before.before.loop-kept-test.true
-    (sym (ap (λ (t : ℤ). lt_z (pos 0) t) (result-is w64 c.before.turn_on.type-inv c.before.turn_on.ensures)) ∙ c.if-turn_on-gt0.true)
+    settle-keep c.loop-kept.invariant c.loop-kept-test.true
+    (sym (ap (λ (t : ℤ). lt_z (pos 0) t) (result-is w64 c.turn_on.type_inv c.turn_on.ensures)) ∙ c.if-turn_on-gt0.true)
 
 pub overflow_sub-kept : goal.overflow_sub-kept
 overflow_sub-kept c = omega arith
@@ -37,9 +35,8 @@ loop-kept-smaller c = omega arith
 
 pub loop-kept-preserved : goal.loop-kept-preserved
 loop-kept-preserved c =
-    let at-loop = c.before.before.before in
-    settle-drop at-loop.loop-kept.invariant c.before.before.loop-kept-test.true
-    (sym (ap (λ (t : ℤ). lt_z (pos 0) t) (result-is w64 c.before.turn_on.type-inv c.before.turn_on.ensures)) ∙ c.if-turn_on-gt0.false)
+    settle-drop c.loop-kept.invariant c.loop-kept-test.true
+    (sym (ap (λ (t : ℤ). lt_z (pos 0) t) (result-is w64 c.turn_on.type_inv c.turn_on.ensures)) ∙ c.if-turn_on-gt0.false)
 
 pub returns : goal.returns
-returns c = settle-short c.before.loop-kept.invariant c.loop-kept-test.false
+returns c = settle-short c.loop-kept.invariant c.loop-kept-test.false

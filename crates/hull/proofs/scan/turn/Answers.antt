@@ -9,10 +9,9 @@ use Rattle.hull.proofs.scan.turn.Goals as goal
 
 pub cross-requires : goal.cross-requires
 cross-requires c =
-    let start = c.before.before in
-    (small-step start.requires.0 start.requires.1 c.before.step.ensures, small-step start.requires.0 start.requires.2 c.step-2.ensures)
+    (small-step c.requires.0 c.requires.1 c.step.ensures, small-step c.requires.0 c.requires.2 c.step-2.ensures)
 
 pub returns : goal.returns
 returns c =
-    result-is w64 c.cross.type-inv (c.cross.ensures ∙ ap₂ cross c.before.before.step.ensures c.before.step-2.ensures
+    result-is w64 c.cross.type_inv (c.cross.ensures ∙ ap₂ cross c.step.ensures c.step-2.ensures
     ∙ sym (turn-cross _ _ _))

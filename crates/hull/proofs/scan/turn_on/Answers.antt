@@ -12,14 +12,14 @@ use Rattle.hull.proofs.scan.turn_on.Goals as goal
 
 pub turn-requires : goal.turn-requires
 turn-requires c =
-    let pre = c.before.before.requires in (
-      subst (Small (2 ^ 21)) (sym c.before.corner_at.ensures) (pre.2.small _ (omega (arith, pre.0))),
+    let pre = c.requires in (
+      subst (Small (2 ^ 21)) (sym c.corner_at.ensures) (pre.2.small _ (omega (arith, pre.0))),
       subst (Small (2 ^ 21)) (sym c.corner_at-2.ensures) (pre.2.small _ (omega (arith, pre.0))),
       pre.3,
     )
 
 pub returns : goal.returns
 returns c =
-    result-is w64 c.turn.type-inv (c.turn.ensures
-    ∙ ap₂ (λ (a b : Point). turn a b (at c.before.before.before.args.p)) c.before.before.corner_at.ensures
-    c.before.corner_at-2.ensures)
+    result-is w64 c.turn.type_inv (c.turn.ensures
+    ∙ ap₂ (λ (a b : Point). turn a b (at c.args.p)) c.corner_at.ensures
+    c.corner_at-2.ensures)

@@ -20,50 +20,44 @@ use Rattle.journal.proofs.corners.is_shape_at.Goals as goal
 use Rattle.journal.proofs.corners.is_shape_at.Goals.{After-buffer-1, Else-exceeds_corners}
 
 -- the numbers fit the buffer
-fits : (c : Else-exceeds_corners) → let start = c.before.before.before in start.args.n ≤ length start.args.buffer-1.now
+fits : (c : Else-exceeds_corners) → c.args.n ≤ length c.args.buffer.now
 fits c =
-    let start = c.before.before.before in
-    let few = ltb-false max_corners (start.args.n / 2) (sym c.before.exceeds_corners.ensures ∙ c.if-exceeds_corners.false) in
-    start.requires.2 start.args.n (omega (arith, start.requires.0)) (omega (arith, few, start.requires.1))
+    let few = ltb-false max_corners (c.args.n / 2) (sym c.exceeds_corners.ensures ∙ c.if-exceeds_corners.false) in
+    c.requires.2 c.args.n (omega (arith, c.requires.0)) (omega (arith, few, c.requires.1))
 
 pub returns-then-exceeds_corners : goal.returns-then-exceeds_corners
 unfolding too_many
 returns-then-exceeds_corners c =
-    let start = c.before.before.before in
-    let args = start.args in
+    let args = c.args in
     let l = words_at args.n args.log.now args.p in
     let count : length (points l) ≡ args.n / 2 =
     points-length l ∙ ap (λ (k : ℕ). k / 2) (words_at-length args.log.now args.n args.p) in
-    (many-refused l (ap (ltb max_corners) count ∙ sym c.before.exceeds_corners.ensures ∙ c.if-exceeds_corners.true), refl)
+    (many-refused l (ap (ltb max_corners) count ∙ sym c.exceeds_corners.ensures ∙ c.if-exceeds_corners.true), refl)
 
 pub decode-requires : goal.decode-requires
-decode-requires c = (c.before.before.before.before.requires.0, fits c.before)
+decode-requires c = (c.requires.0, fits (goal.at.decode-requires c).Else-exceeds_corners)
 
 -- the buffer is as long as it was
-kept : (c : After-buffer-1) → let start = c.before.before.before.before.before.before in
-    length c.before.decode.new.1.1.1.0 ≡ length start.args.buffer-1.now
+kept : (c : After-buffer-1) →
+    length c.decode.new.out ≡ length c.args.buffer.now
 kept c =
-    let start = c.before.before.before.before.before.before in
-    let args = start.args in
-    front_length (words_at args.n args.log.now args.p) args.buffer-1.now _ c.before.decode.ensures
-    (omega (arith, words_at-length args.log.now args.n args.p, fits c.before.before.before))
+    let args = c.args in
+    front_length (words_at args.n args.log.now args.p) args.buffer.now _ c.decode.ensures
+    (omega (arith, words_at-length args.log.now args.n args.p, fits (goal.at.After-buffer-1 c).Else-exceeds_corners))
 
 pub slice_bounds-passes-end : goal.slice_bounds-passes-end
-slice_bounds-passes-end c = omega (arith, kept c, fits c.before.before.before)
+slice_bounds-passes-end c = omega (arith, kept c, fits (goal.at.slice_bounds-passes-end c).Else-exceeds_corners)
 
 pub slice_bounds-passes-end-2 : goal.slice_bounds-passes-end-2
 slice_bounds-passes-end-2 c =
-    let at-decode = c.before.before in
-    sym (length-take-le _ at-decode.decode.new.1.1.1.0 (omega (arith, kept c.before, fits at-decode.before.before)))
+    sym (length-take-le _ c.decode.new.1.1.1.0 (omega (arith, kept (goal.at.slice_bounds-passes-end-2 c).After-decode, fits (goal.at.slice_bounds-passes-end-2 c).After-exceeds_corners)))
 
 pub returns : goal.returns
 returns c =
-    let at-buffer = c.before.before in
-    let start = at-buffer.before.before.before.before.before.before in
-    let args = start.args in
+    let args = c.args in
     let l = words_at args.n args.log.now args.p in
     let count = words_at-length args.log.now args.n args.p in (
       passed-answers _ _ c.passes.ensures
-          ∙ ap (λ m. is_answer (judged m)) (front-is l args.buffer-1.now _ at-buffer.before.decode.ensures args.n count),
-      kept at-buffer,
+          ∙ ap (λ m. is_answer (judged m)) (front-is l args.buffer.now _ c.decode.ensures args.n count),
+      kept (goal.at.returns c).After-decode,
     )

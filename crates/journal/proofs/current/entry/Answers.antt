@@ -5,9 +5,8 @@ use Rattle.journal.specs.theory.Marks.{marked_empty}
 use Rattle.journal.proofs.current.entry.Goals as goal
 
 pub slice_bounds-mark-end : goal.mark-requires
-slice_bounds-mark-end c =
-    let at-then = c.before in
-    (at-then.before.before.before.requires, at-then.before.serves.ensures at-then.if-serves.true, refl)
+slice_bounds-mark-end c κs =
+    (c.requires, c.serves.ensures c.if-serves.true, refl)
 
 pub nth-requires-2 : goal.nth-requires-2
-nth-requires-2 c = (c.before.before.before.before.requires, marked_empty _ _)
+nth-requires-2 c = (c.requires, marked_empty _ _)

@@ -12,32 +12,27 @@ use Rattle.journal.specs.theory.Stepping.{legible-least, name-here, sound-next}
 use Rattle.journal.proofs.current.is_current.Goals as goal
 use Rattle.journal.proofs.current.is_current.Goals.{After-pair_at}
 
-name-read : (c : After-pair_at) → let args = c.before.before.before.args in
+name-read : (c : After-pair_at) → let args = c.args in
     c.pair_at.result ≡ name (record_at args.log.now args.p)
-name-read c = c.pair_at.ensures.0 ∙ sym (name-at _ _) ∙ sym (name-here c.before.before.before.requires)
+name-read c = c.pair_at.ensures.0 ∙ sym (name-at _ _) ∙ sym (name-here c.requires)
 
 pub next_at-requires : goal.next_at-requires
-next_at-requires c = c.before.requires.here
+next_at-requires c = c.requires.here
 
 pub overflow_add-p : goal.overflow_add-p
 overflow_add-p c =
-    let start = c.before.before in
-    omega (arith, next-inside _ start.args.p start.requires.here, legible-least start.requires)
+    omega (arith, next-inside _ c.args.p c.requires.here, legible-least c.requires)
 
 pub pair_at-requires : goal.pair_at-requires
 pair_at-requires c =
-    let start = c.before.before in
-    omega (arith, next-inside _ start.args.p start.requires.here, legible-least start.requires)
+    omega (arith, next-inside _ c.args.p c.requires.here, legible-least c.requires)
 
 pub is_held-requires : goal.is_held-requires
 is_held-requires c =
-    let at_next = c.before in
-    subst (Reached _) (sym at_next.next_at.ensures) (sound-next at_next.before.before.requires)
+    subst (Reached _) (sym c.next_at.ensures) (sound-next c.requires)
 
 pub returns : goal.returns
 returns c =
-    let at_name = c.before in
-    let at_next = at_name.before in
     ap not (c.is_held_lem.ensures
-    ∙ ap₂ (λ (q n : ℕ). held n (records (drop q at_next.before.before.args.log.now))) at_next.next_at.ensures
-    (name-read at_name))
+    ∙ ap₂ (λ (q n : ℕ). held n (records (drop q c.args.log.now))) c.next_at.ensures
+    (name-read (goal.at.returns c).After-pair_at))

@@ -13,50 +13,45 @@ use Rattle.journal.proofs.current.is_held.Goals.{After-pair_at, In-loop-from}
 
 -- a whole record is here, and long enough to have a name
 here : (c : In-loop-from)
-    → whole (drop c.before.before.loop-from.p c.before.before.before.before.args.log.now) ≡ true
-here c = sym c.before.whole_at.ensures ∙ c.loop-from-test.true
+    → whole (drop c.loop-from.p c.args.log.now) ≡ true
+here c = sym c.whole_at.ensures ∙ c.loop-from-test.true
 
 least : (c : In-loop-from)
-    → 5 ≤ size (drop c.before.before.loop-from.p c.before.before.before.before.args.log.now)
-least c = legible-least (reached-sound c.before.before.loop-from.invariant.reached (here c))
+    → 5 ≤ size (drop c.loop-from.p c.args.log.now)
+least c = legible-least (reached-sound c.loop-from.invariant.reached (here c))
 
-name-read : (c : After-pair_at) → let at-loop = c.before.before.before in
-    format_name (drop at-loop.loop-from.p at-loop.before.before.args.log.now) ≡ c.pair_at.result
+name-read : (c : After-pair_at) →
+    format_name (drop c.loop-from.p c.args.log.now) ≡ c.pair_at.result
 name-read c = name-at _ _ ∙ sym c.pair_at.ensures.0
 
 pub loop-from-init : goal.loop-from-init
-loop-from-init c = ahead-start _ _ _ c.before.requires
+loop-from-init c = ahead-start _ _ _ c.requires
 
 pub whole_at-requires : goal.whole_at-requires
 whole_at-requires c = c.loop-from.invariant.reached.inside
 
 pub overflow_add-p : goal.overflow_add-p
-overflow_add-p c = omega (arith, next-inside _ c.before.before.loop-from.p (here c), least c)
+overflow_add-p c = omega (arith, next-inside _ c.loop-from.p (here c), least c)
 
 pub pair_at-requires : goal.pair_at-requires
-pair_at-requires c = omega (arith, next-inside _ c.before.before.loop-from.p (here c), least c)
+pair_at-requires c = omega (arith, next-inside _ c.loop-from.p (here c), least c)
 
 pub returns-then-pair_at-name : goal.returns-then-pair_at-name
 returns-then-pair_at-name c =
-    let at-then = c.before.before in
-    ahead-found at-then.before.before.loop-from.invariant (here at-then) (name-read c.before ∙ c.if-pair_at-name.true)
+    ahead-found c.loop-from.invariant (here (goal.at.returns-then-pair_at-name c).In-loop-from) (name-read (goal.at.returns-then-pair_at-name c).After-pair_at ∙ c.if-pair_at-name.true)
 
 pub next_at-p-requires : goal.next_at-p-requires
-next_at-p-requires c = here c.before.before
+next_at-p-requires c = here (goal.at.next_at-p-requires c).In-loop-from
 
 pub loop-from-smaller : goal.loop-from-smaller
 loop-from-smaller c =
-    let at-then = c.before.before.before in
-    omega (arith, c.next_at-p.ensures, next-inside _ at-then.before.before.loop-from.p (here at-then))
+    omega (arith, c.next_at-p.ensures, next-inside _ c.loop-from.p (here (goal.at.loop-from-smaller c).In-loop-from))
 
 pub loop-from-preserved : goal.loop-from-preserved
 loop-from-preserved c =
-    let at_name = c.before.before in
-    let at-then = at_name.before in
-    let at-loop = at-then.before.before in
-    let args = at-loop.before.before.args in
+    let args = c.args in
     subst (Ahead args.name args.log.now args.from) (sym c.next_at-p.ensures)
-    (ahead-next at-loop.loop-from.invariant (here at-then) (λ e. c.before.if-pair_at-name.false (sym (name-read at_name) ∙ e)))
+    (ahead-next c.loop-from.invariant (here (goal.at.loop-from-preserved c).In-loop-from) (λ e. c.if-pair_at-name.false (sym (name-read (goal.at.loop-from-preserved c).After-pair_at) ∙ e)))
 
 pub returns : goal.returns
-returns c = ahead-end c.before.before.loop-from.invariant (sym c.before.whole_at.ensures ∙ c.loop-from-test.false)
+returns c = ahead-end c.loop-from.invariant (sym c.whole_at.ensures ∙ c.loop-from-test.false)

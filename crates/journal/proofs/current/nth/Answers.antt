@@ -18,68 +18,58 @@ use Rattle.journal.proofs.current.nth.Goals.{In-loop-k, Joined-is_latest}
 
 -- a whole record is here
 here : (c : In-loop-k)
-    → whole (drop c.before.before.loop-k.p c.before.before.before.before.before.args.log.now) ≡ true
-here c = sym c.before.whole_at.ensures ∙ c.loop-k-test.true
+    → whole (drop c.loop-k.p c.args.log.now) ≡ true
+here c = sym c.whole_at.ensures ∙ c.loop-k-test.true
 
 -- what is left to count after it
-counted : (c : Joined-is_latest) → let at-loop = c.before.before.before.before in
-    let args = at-loop.before.before.before.args in
-    Nth args.k args.log.now (next_at args.log.now at-loop.loop-k.p) c.if-is_latest.left
+counted : (c : Joined-is_latest) →
+    let args = c.args in
+    Nth args.k args.log.now (next_at args.log.now c.loop-k.p) c.if-is_latest.left
 counted c =
-    let at-then = c.before.before in
-    let at-loop = at-then.before.before in
-    let args = at-loop.before.before.before.args in
-    let inv = at-loop.loop-k.invariant.0 in
-    let test = sym c.before.is_latest.ensures in
-    let Next : ℕ → Type 0 = λ (n : ℕ). Nth args.k args.log.now (next_at args.log.now at-loop.loop-k.p) n in
+    let args = c.args in
+    let inv = c.loop-k.invariant.0 in
+    let test = sym c.is_latest.ensures in
+    let Next : ℕ → Type 0 = λ (n : ℕ). Nth args.k args.log.now (next_at args.log.now c.loop-k.p) n in
     elim c.if-is_latest.branch [
-      | inl q ↦ subst Next (sym q.2) (nth-counted inv (here at-then) (test ∙ q.0.taken) q.1.left)
-      | inr q ↦ subst Next (sym q.1) (nth-passed inv (here at-then) (test ∙ q.0.left))
+      | inl q ↦ subst Next (sym q.2) (nth-counted inv (here (goal.at.Joined-is_latest c).In-loop-k) (test ∙ q.0.taken) q.1.left)
+      | inr q ↦ subst Next (sym q.1) (nth-passed inv (here (goal.at.Joined-is_latest c).In-loop-k) (test ∙ q.0.left))
     ]
 
 pub loop-k-init : goal.loop-k-init
-loop-k-init c = (nth-start _ _ c.before.before.requires.0, c.before.before.requires.1)
+loop-k-init c = (nth-start _ _ c.requires.0, c.requires.1)
 
 pub whole_at-requires : goal.whole_at-requires
 whole_at-requires c = c.loop-k.invariant.0.reached.inside
 
 pub is_latest-requires : goal.is_latest-requires
 is_latest-requires c =
-    let inv = c.before.before.loop-k.invariant in
+    let inv = c.loop-k.invariant in
     (reached-sound inv.0.reached (here c), inv.1)
 
 pub head_at-requires : goal.head_at-requires
 head_at-requires c =
-    let at-then = c.before.before.before in
-    reached-sound at-then.before.before.loop-k.invariant.0.reached (here at-then)
+    reached-sound c.loop-k.invariant.0.reached (here (goal.at.head_at-requires c).In-loop-k)
 
 pub returns-then-left-eq0 : goal.returns-then-left-eq0
 returns-then-left-eq0 c =
-    let at_zero = c.before in
-    let at_test = at_zero.before.before in
-    let at-then = at_test.before in
-    nth-found at-then.before.before.loop-k.invariant.0 (here at-then) (sym at_test.is_latest.ensures ∙ at_zero.before.if-is_latest.true)
-    at_zero.if-left-eq0.true c.head_at.ensures
+    nth-found c.loop-k.invariant.0 (here (goal.at.returns-then-left-eq0 c).In-loop-k) (sym c.is_latest.ensures ∙ c.if-is_latest.true)
+    c.if-left-eq0.true c.head_at.ensures
 
 pub overflow_sub-left : goal.overflow_sub-left
 overflow_sub-left c = omega (arith, c.if-left-eq0.false)
 
 pub next_at-p-requires : goal.next_at-p-requires
-next_at-p-requires c = here c.before.before
+next_at-p-requires c = here (goal.at.next_at-p-requires c).In-loop-k
 
 pub loop-k-smaller : goal.loop-k-smaller
 loop-k-smaller c =
-    let at-then = c.before.before.before in
-    omega (arith, c.next_at-p.ensures, next-inside _ at-then.before.before.loop-k.p (here at-then))
+    omega (arith, c.next_at-p.ensures, next-inside _ c.loop-k.p (here (goal.at.loop-k-smaller c).In-loop-k))
 
 pub loop-k-preserved : goal.loop-k-preserved
 loop-k-preserved c =
-    let at_join = c.before in
-    let at-then = at_join.before.before in
-    let at-loop = at-then.before.before in
-    let args = at-loop.before.before.before.args in
-    subst (λ (q : ℕ). Nth args.k args.log.now q at_join.if-is_latest.false × Marked args.log.now args.table.now q)
-    (sym c.next_at-p.ensures) (counted at_join, marked_next at-loop.loop-k.invariant.1 (here at-then))
+    let args = c.args in
+    subst (λ (q : ℕ). Nth args.k args.log.now q c.if-is_latest.false × Marked args.log.now args.table.now q)
+    (sym c.next_at-p.ensures) (counted (goal.at.loop-k-preserved c).Joined-is_latest, marked_next c.loop-k.invariant.1 (here (goal.at.loop-k-preserved c).In-loop-k))
 
 pub returns : goal.returns
-returns c = nth_end c.before.before.loop-k.invariant.0 (sym c.before.whole_at.ensures ∙ c.loop-k-test.false)
+returns c = nth_end c.loop-k.invariant.0 (sym c.whole_at.ensures ∙ c.loop-k-test.false)

@@ -16,39 +16,33 @@ use Rattle.journal.proofs.latest.latest.Goals.{In-loop-found}
 
 -- a whole record is here
 here : (c : In-loop-found)
-    → whole (drop c.before.before.loop-found.p c.before.before.before.before.args.log.now) ≡ true
-here c = sym c.before.whole_at.ensures ∙ c.loop-found-test.true
+    → whole (drop c.loop-found.p c.args.log.now) ≡ true
+here c = sym c.whole_at.ensures ∙ c.loop-found-test.true
 
 pub loop-found-init : goal.loop-found-init
-loop-found-init c = so-far-start _ _ c.before.requires
+loop-found-init c = so-far-start _ _ c.requires
 
 pub whole_at-requires : goal.whole_at-requires
 whole_at-requires c = c.loop-found.invariant.reached.inside
 
 pub head_at-requires : goal.head_at-requires
-head_at-requires c = reached-sound c.before.before.loop-found.invariant.reached (here c)
+head_at-requires c = reached-sound c.loop-found.invariant.reached (here c)
 
 pub next_at-p-requires : goal.next_at-p-requires
-next_at-p-requires c = here c.before.before
+next_at-p-requires c = here (goal.at.next_at-p-requires c).In-loop-found
 
 pub loop-found-smaller : goal.loop-found-smaller
 loop-found-smaller c =
-    let at-then = c.before.before.before in
-    omega (arith, c.next_at-p.ensures, next-inside _ at-then.before.before.loop-found.p (here at-then))
+    omega (arith, c.next_at-p.ensures, next-inside _ c.loop-found.p (here (goal.at.loop-found-smaller c).In-loop-found))
 
 pub loop-found-preserved : goal.loop-found-preserved
 loop-found-preserved c =
-    let at_new = c.before in
-    let at_head = at_new.before in
-    let at-then = at_head.before in
-    let at-loop = at-then.before.before in
-    let args = at-loop.before.before.args in
-    subst (λ (r : Found). SoFar args.name args.log.now c.next_at-p.result r) (sym at_new.newer-found.ensures)
-    (subst (λ (q : ℕ). SoFar args.name args.log.now q (newer args.name at_head.head_at.result at-loop.loop-found.found))
+    let args = c.args in
+    subst (λ (r : Found). SoFar args.name args.log.now c.next_at-p.result r) (sym c.newer-found.ensures)
+    (subst (λ (q : ℕ). SoFar args.name args.log.now q (newer args.name c.head_at.result c.loop-found.found))
     (sym c.next_at-p.ensures)
-    (so-far-next at-loop.loop-found.invariant (here at-then) at_head.head_at.ensures))
+    (so-far-next c.loop-found.invariant (here (goal.at.loop-found-preserved c).In-loop-found) c.head_at.ensures))
 
 pub returns : goal.returns
 returns c =
-    let at-loop = c.before.before in
-    so-far-end _ _ _ _ at-loop.loop-found.invariant (sym c.before.whole_at.ensures ∙ c.loop-found-test.false)
+    so-far-end _ _ _ _ c.loop-found.invariant (sym c.whole_at.ensures ∙ c.loop-found-test.false)

@@ -7,12 +7,12 @@ use Rattle.journal.proofs.latest.newer.Goals as goal
 
 pub returns-then-head-name : goal.returns-then-head-name
 returns-then-head-name c =
-    let args = c.before.before.args in
+    let args = c.args in
     let h = args.head in
     sym (ap (λ (x : Bool). cond x (Found.At h.place h.count h.floor) args.found) (ne_eqb _ args.name c.if-head-name.true))
 
 pub returns : goal.returns
 returns c =
-    let args = c.before.before.args in
+    let args = c.args in
     let h = args.head in
     sym (ap (λ (x : Bool). cond x (Found.At h.place h.count h.floor) args.found) (eq-eqb _ args.name c.if-head-name.false))

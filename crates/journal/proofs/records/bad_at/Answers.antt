@@ -14,114 +14,96 @@ use Rattle.journal.proofs.records.bad_at.Goals as goal
 use Rattle.journal.proofs.records.bad_at.Goals.{After-fixed_bytes-fixed, After-pair_at-kind, After-pair_at-size, After-shared_slice_known-1, Else-is_other, Else-size-fixed, Else-size-lt-PLAIN_BYTES}
 
 -- the record is inside the log
-inside : (c : After-shared_slice_known-1) → let args = c.before.args in
+inside : (c : After-shared_slice_known-1) → let args = c.args in
     args.p + (2 + size (drop args.p args.log.now)) ≤ length args.log.now
-inside c = next-inside _ c.before.args.p c.before.requires.0
+inside c = next-inside _ c.args.p c.requires.0
 
 -- its length was read
-size-read : (c : After-pair_at-size) → let args = c.before.before.args in
+size-read : (c : After-pair_at-size) → let args = c.args in
     size (drop args.p args.log.now) ≡ c.pair_at-size.result
 size-read c = size-at _ _ ∙ sym c.pair_at-size.ensures.0
 
 -- past the first test it has a kind
-least : (c : Else-size-lt-PLAIN_BYTES) → let args = c.before.before.before.args in 5 ≤ size (drop args.p args.log.now)
-least c = omega (arith, c.if-size-lt-PLAIN_BYTES.false, size-read c.before)
+least : (c : Else-size-lt-PLAIN_BYTES) → let args = c.args in 5 ≤ size (drop args.p args.log.now)
+least c = omega (arith, c.if-size-lt-PLAIN_BYTES.false, size-read (goal.at.Else-size-lt-PLAIN_BYTES c).After-pair_at-size)
 
-kind-read : (c : After-pair_at-kind) → let args = c.before.before.before.before.args in
+kind-read : (c : After-pair_at-kind) → let args = c.args in
     kind (drop args.p args.log.now) ≡ c.pair_at-kind.result
 kind-read c = kind_at _ _ ∙ sym c.pair_at-kind.ensures.0
 
 -- past the second, one that a record may have
-known : (c : Else-is_other) → let args = c.before.before.before.before.before.before.args in
+known : (c : Else-is_other) → let args = c.args in
     other_kind (kind (drop args.p args.log.now)) ≡ false
-known c = ap other_kind (kind-read c.before.before) ∙ sym c.before.is_other.ensures ∙ c.if-is_other.false
+known c = ap other_kind (kind-read (goal.at.Else-is_other c).After-pair_at-kind) ∙ sym c.is_other.ensures ∙ c.if-is_other.false
 
-fixed-read : (c : After-fixed_bytes-fixed) → let args = c.before.before.before.before.before.before.before.args in
+fixed-read : (c : After-fixed_bytes-fixed) → let args = c.args in
     fixed_bytes (kind (drop args.p args.log.now)) ≡ c.fixed_bytes-fixed.result
-fixed-read c = ap fixed_bytes (kind-read c.before.before.before) ∙ sym c.fixed_bytes-fixed.ensures
+fixed-read c = ap fixed_bytes (kind-read (goal.at.After-fixed_bytes-fixed c).After-pair_at-kind) ∙ sym c.fixed_bytes-fixed.ensures
 
 -- past the third, a length for what its kind says
-long : (c : Else-size-fixed) → let args = c.before.before.before.before.before.before.before.before.args in
+long : (c : Else-size-fixed) → let args = c.args in
     let t = drop args.p args.log.now in fixed_bytes (kind t) ≤ size t
 long c =
-    let at-fixed = c.before in
-    omega (arith, c.if-size-fixed.false, fixed-read at-fixed, size-read at-fixed.before.before.before.before.before)
+    omega (arith, c.if-size-fixed.false, fixed-read (goal.at.Else-size-fixed c).After-fixed_bytes-fixed, size-read (goal.at.Else-size-fixed c).After-pair_at-size)
 
 -- what is left of its length
-rest : (c : After-fixed_bytes-fixed) → let at_size = c.before.before.before.before.before in
-    let t = drop at_size.before.before.args.p at_size.before.before.args.log.now in
-    size t - fixed_bytes (kind t) ≡ at_size.pair_at-size.result - c.fixed_bytes-fixed.result
-rest c = ap₂ (λ (n k : ℕ). n - k) (size-read c.before.before.before.before.before) (fixed-read c)
+rest : (c : After-fixed_bytes-fixed) →
+    let t = drop c.args.p c.args.log.now in
+    size t - fixed_bytes (kind t) ≡ c.pair_at-size.result - c.fixed_bytes-fixed.result
+rest c = ap₂ (λ (n k : ℕ). n - k) (size-read (goal.at.After-fixed_bytes-fixed c).After-pair_at-size) (fixed-read c)
 
 pub pair_at-size-requires : goal.pair_at-size-requires
-pair_at-size-requires c = omega (arith, inside c, (whole→facts _ c.before.requires.0).some)
+pair_at-size-requires c = omega (arith, inside c, (whole→facts _ c.requires.0).some)
 
 pub returns-then-size-lt-PLAIN_BYTES : goal.returns-then-size-lt-PLAIN_BYTES
 returns-then-size-lt-PLAIN_BYTES c =
-    let start = c.before.before.before in
-    (sym (bad-short _ (omega (arith, c.if-size-lt-PLAIN_BYTES.true, size-read c.before))), refl)
+    (sym (bad-short _ (omega (arith, c.if-size-lt-PLAIN_BYTES.true, size-read (goal.at.returns-then-size-lt-PLAIN_BYTES c).After-pair_at-size))), refl)
 
 pub overflow_add-p : goal.overflow_add-p
-overflow_add-p c = omega (arith, inside c.before.before)
+overflow_add-p c = omega (arith, inside (goal.at.overflow_add-p c).After-shared_slice_known-1)
 
 pub pair_at-kind-requires : goal.pair_at-kind-requires
-pair_at-kind-requires c = omega (arith, inside c.before.before, least c)
+pair_at-kind-requires c = omega (arith, inside (goal.at.pair_at-kind-requires c).After-shared_slice_known-1, least c)
 
 pub returns-then-is_other : goal.returns-then-is_other
 returns-then-is_other c =
-    let at-kind = c.before.before in
-    let start = at-kind.before.before.before.before in
-    let other = ap other_kind (kind-read at-kind) ∙ sym c.before.is_other.ensures ∙ c.if-is_other.true in
-    (sym (bad_kind _ (least at-kind.before) other), refl)
+    let other = ap other_kind (kind-read (goal.at.returns-then-is_other c).After-pair_at-kind) ∙ sym c.is_other.ensures ∙ c.if-is_other.true in
+    (sym (bad_kind _ (least (goal.at.returns-then-is_other c).Else-size-lt-PLAIN_BYTES) other), refl)
 
 pub returns-then-size-fixed : goal.returns-then-size-fixed
 returns-then-size-fixed c =
-    let at-fixed = c.before in
-    let at_1 = at-fixed.before.before.before.before in
-    let same = size-read at_1.before in
-    (sym (bad-small _ (least at_1) (omega (arith, c.if-size-fixed.true, fixed-read at-fixed))), refl)
+    let same = size-read (goal.at.returns-then-size-fixed c).After-pair_at-size in
+    (sym (bad-small _ (least (goal.at.returns-then-size-fixed c).Else-size-lt-PLAIN_BYTES) (omega (arith, c.if-size-fixed.true, fixed-read (goal.at.returns-then-size-fixed c).After-fixed_bytes-fixed))), refl)
 
 pub returns-then-size-fixed-ne0 : goal.returns-then-size-fixed-ne0
 returns-then-size-fixed-ne0 c =
-    let at-3 = c.before in
-    let at_1 = at-3.before.before.before.before.before in
-    let left = ap (λ (n : ℕ). n % 8) (sym (rest at-3.before)) in
-    (sym (bad-length _ (least at_1) (long at-3) (λ e. c.if-size-fixed-ne0.true (left ∙ e))), refl)
+    let left = ap (λ (n : ℕ). n % 8) (sym (rest (goal.at.returns-then-size-fixed-ne0 c).After-fixed_bytes-fixed)) in
+    (sym (bad-length _ (least (goal.at.returns-then-size-fixed-ne0 c).Else-size-lt-PLAIN_BYTES) (long (goal.at.returns-then-size-fixed-ne0 c).Else-size-fixed) (λ e. c.if-size-fixed-ne0.true (left ∙ e))), refl)
 
 pub overflow_add-p-2 : goal.overflow_add-p-2
-overflow_add-p-2 c = let at_1 = c.before.before.before.before.before.before in omega (arith, inside at_1.before.before, least at_1)
+overflow_add-p-2 c = omega (arith, inside (goal.at.overflow_add-p-2 c).After-shared_slice_known-1, least (goal.at.overflow_add-p-2 c).Else-size-lt-PLAIN_BYTES)
 
 pub overflow_add-p-3 : goal.overflow_add-p-3
 overflow_add-p-3 c =
-    let at-3 = c.before in
-    let at_1 = at-3.before.before.before.before.before in
-    omega (arith, inside at_1.before.before, long at-3, fixed-read at-3.before)
+    omega (arith, inside (goal.at.overflow_add-p-3 c).After-shared_slice_known-1, long (goal.at.overflow_add-p-3 c).Else-size-fixed, fixed-read (goal.at.overflow_add-p-3 c).After-fixed_bytes-fixed)
 
 pub is_shape_at-requires : goal.is_shape_at-requires
 is_shape_at-requires c =
-    let at-4 = c.before in
-    let at-3 = at-4.before in
-    let at_1 = at-3.before.before.before.before.before in
-    let fits = inside at_1.before.before in
-    let same = size-read at_1.before in
-    let fixed = fixed-read at-3.before in
-    let big = long at-3 in
-    (omega arith, eighth _ at-4.if-size-fixed-ne0.false, at_1.before.before.before.requires.1)
+    let fits = inside (goal.at.is_shape_at-requires c).After-shared_slice_known-1 in
+    let same = size-read (goal.at.is_shape_at-requires c).After-pair_at-size in
+    let fixed = fixed-read (goal.at.is_shape_at-requires c).After-fixed_bytes-fixed in
+    let big = long (goal.at.is_shape_at-requires c).Else-size-fixed in
+    (omega arith, eighth _ c.if-size-fixed-ne0.false, c.requires.1)
 
 pub returns : goal.returns
 returns c =
-    let at-shape = c.before in
-    let at-4 = at-shape.before.before in
-    let at-3 = at-4.before in
-    let at-fixed = at-3.before in
-    let at_1 = at-fixed.before.before.before.before in
-    let args = at_1.before.before.before.args in
+    let args = c.args in
     let t = drop args.p args.log.now in
-    let even = ap (λ (n : ℕ). n % 8) (rest at-fixed) ∙ at-4.if-size-fixed-ne0.false in
-    let place : args.p + (1 + fixed_bytes (kind t)) ≡ args.p + 1 + at-fixed.fixed_bytes-fixed.result = omega (arith, fixed-read at-fixed) in (
-      ap not at-shape.is_shape_at.ensures.0
-          ∙ sym (bad-shape t (least at_1) (long at-3) even (known at-fixed.before)
+    let even = ap (λ (n : ℕ). n % 8) (rest (goal.at.returns c).After-fixed_bytes-fixed) ∙ c.if-size-fixed-ne0.false in
+    let place : args.p + (1 + fixed_bytes (kind t)) ≡ args.p + 1 + c.fixed_bytes-fixed.result = omega (arith, fixed-read (goal.at.returns c).After-fixed_bytes-fixed) in (
+      ap not c.is_shape_at.ensures.0
+          ∙ sym (bad-shape t (least (goal.at.returns c).Else-size-lt-PLAIN_BYTES) (long (goal.at.returns c).Else-size-fixed) even (known (goal.at.returns c).Else-is_other)
           ∙ ap (λ l. not (is_answer (judged l))) (words_at-drop args.log.now _ args.p _
-          ∙ ap₂ (λ (n q : ℕ). words_at (n / 4) args.log.now q) (rest at-fixed) place)),
-      at-shape.is_shape_at.ensures.1,
+          ∙ ap₂ (λ (n q : ℕ). words_at (n / 4) args.log.now q) (rest (goal.at.returns c).After-fixed_bytes-fixed) place)),
+      c.is_shape_at.ensures.1,
     )

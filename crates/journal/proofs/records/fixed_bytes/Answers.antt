@@ -11,8 +11,8 @@ chosen t = cond t 7 5
 
 pub returns-then-kind-eq-FLOORED : goal.returns-then-kind-eq-FLOORED
 unfolding fixed_bytes
-returns-then-kind-eq-FLOORED c = sym (ap chosen (eq-eqb c.before.args.kind 2 c.if-kind-eq-FLOORED.true))
+returns-then-kind-eq-FLOORED c = sym (ap chosen (eq-eqb c.args.kind 2 c.if-kind-eq-FLOORED.true))
 
 pub returns : goal.returns
 unfolding fixed_bytes
-returns c = sym (ap chosen (ne_eqb c.before.args.kind 2 c.if-kind-eq-FLOORED.false))
+returns c = sym (ap chosen (ne_eqb c.args.kind 2 c.if-kind-eq-FLOORED.false))

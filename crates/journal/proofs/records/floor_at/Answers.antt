@@ -13,23 +13,20 @@ use Rattle.journal.proofs.records.floor_at.Goals as goal
 pub returns-then-fixed-lt-FLOORED_BYTES : goal.returns-then-fixed-lt-FLOORED_BYTES
 unfolding floor
 returns-then-fixed-lt-FLOORED_BYTES c =
-    let start = c.before.before in
-    let t = drop start.args.p start.args.log.now in
-    sym (ap (λ (x : Bool). cond x (pair_at t 6) 0) (plain-if (kind t) (omega (arith, start.requires.1, c.if-fixed-lt-FLOORED_BYTES.true))))
+    let t = drop c.args.p c.args.log.now in
+    sym (ap (λ (x : Bool). cond x (pair_at t 6) 0) (plain-if (kind t) (omega (arith, c.requires.1, c.if-fixed-lt-FLOORED_BYTES.true))))
 
 pub overflow_add-p : goal.overflow_add-p
-overflow_add-p c = omega (arith, c.before.before.requires.0.inside)
+overflow_add-p c = omega (arith, c.requires.0.inside)
 
 pub pair_at-requires : goal.pair_at-requires
 pair_at-requires c =
-    let start = c.before.before in
-    let legible = start.requires.0 in
-    omega (arith, legible.inside, legible.long, start.requires.1, c.if-fixed-lt-FLOORED_BYTES.false)
+    let legible = c.requires.0 in
+    omega (arith, legible.inside, legible.long, c.requires.1, c.if-fixed-lt-FLOORED_BYTES.false)
 
 pub returns : goal.returns
 unfolding floor
 returns c =
-    let start = c.before.before.before in
-    let t = drop start.args.p start.args.log.now in
-    c.pair_at.ensures.0 ∙ sym (pair_at-drop start.args.log.now start.args.p 6)
-    ∙ sym (ap (λ (x : Bool). cond x (pair_at t 6) 0) (floored-if (kind t) (omega (arith, start.requires.1, c.before.if-fixed-lt-FLOORED_BYTES.false))))
+    let t = drop c.args.p c.args.log.now in
+    c.pair_at.ensures.0 ∙ sym (pair_at-drop c.args.log.now c.args.p 6)
+    ∙ sym (ap (λ (x : Bool). cond x (pair_at t 6) 0) (floored-if (kind t) (omega (arith, c.requires.1, c.if-fixed-lt-FLOORED_BYTES.false))))

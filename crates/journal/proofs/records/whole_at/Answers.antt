@@ -12,33 +12,29 @@ use Rattle.journal.proofs.records.whole_at.Goals as goal
 use Rattle.journal.proofs.records.whole_at.Goals.{After-pair_at-size}
 
 -- the length that was read is that of the record
-size-read : (c : After-pair_at-size) → let args = c.before.before.before.args in
+size-read : (c : After-pair_at-size) → let args = c.args in
     size (drop args.p args.log.now) ≡ c.pair_at-size.result
 size-read c = size-at _ _ ∙ sym c.pair_at-size.ensures.0
 
 pub returns-then-room-lt2 : goal.returns-then-room-lt2
 returns-then-room-lt2 c =
-    let args = c.before.before.args in
+    let args = c.args in
     no_record _ (λ w. omega (arith, c.if-room-lt2.true, w.two, length-drop args.p args.log.now))
 
 pub returns-then-size-eq0 : goal.returns-then-size-eq0
-returns-then-size-eq0 c = no_record _ (λ w. omega (arith, c.if-size-eq0.true, w.some, size-read c.before))
+returns-then-size-eq0 c = no_record _ (λ w. omega (arith, c.if-size-eq0.true, w.some, size-read (goal.at.returns-then-size-eq0 c).After-pair_at-size))
 
 pub returns-then-room-size : goal.returns-then-room-size
 returns-then-room-size c =
-    let at_read = c.before.before in
-    let args = at_read.before.before.before.args in
-    no_record _ (λ w. omega (arith, c.if-room-size.true, w.fits, size-read at_read, length-drop args.p args.log.now))
+    let args = c.args in
+    no_record _ (λ w. omega (arith, c.if-room-size.true, w.fits, size-read (goal.at.returns-then-room-size c).After-pair_at-size, length-drop args.p args.log.now))
 
 pub returns : goal.returns
 returns c =
-    let at-3 = c.before in
-    let at-2 = at-3.before in
-    let at_read = at-2.before in
-    let args = at_read.before.before.before.args in
+    let args = c.args in
     let t = drop args.p args.log.now in
-    let same = size-read at_read in
+    let same = size-read (goal.at.returns c).After-pair_at-size in
     let count = length-drop args.p args.log.now in
-    let place : args.p + 1 + at_read.pair_at-size.result ≡ args.p + (1 + size t) = omega arith in
+    let place : args.p + 1 + c.pair_at-size.result ≡ args.p + (1 + size t) = omega arith in
     ap (λ (x : ℕ). eqb x 90) (ap (λ (i : ℕ). get_or args.log.now i 0) place ∙ sym (get_or-drop args.p args.log.now (1 + size t) 0))
-    ∙ ends-whole t (omega (arith, at_read.before.if-room-lt2.false)) (omega (arith, at-2.if-size-eq0.false)) (omega (arith, at-3.if-room-size.false))
+    ∙ ends-whole t (omega (arith, c.if-room-lt2.false)) (omega (arith, c.if-size-eq0.false)) (omega (arith, c.if-room-size.false))

@@ -5,8 +5,8 @@ use Rattle.plane.specs.Limits.{max_corners}
 use Rattle.journal.proofs.survey.survey.Goals as goal
 
 pub pass-requires : goal.pass-requires
-pass-requires c = omega (arith, l, c.before.if-log-le-SHORT.true)
+pass-requires c n l m = omega (arith, l, c.if-log-le-SHORT.true)
 
 pub pass-requires-2 : goal.pass-requires-2
 unfolding max_corners
-pass-requires-2 c = omega (arith, m)
+pass-requires-2 c n l m = omega (arith, m)

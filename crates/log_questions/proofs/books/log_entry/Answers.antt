@@ -12,37 +12,33 @@ use Rattle.log_questions.proofs.books.log_entry.Goals as goal
 use Rattle.log_questions.proofs.books.log_entry.Goals.{In-At-2, In_default}
 
 -- past the survey no record is bad
-sound : (c : In_default) → damaged (records c.before.before.before.before.args.log.now) ≡ false
-sound c = (surveyed-ends _ c.in_default.field-0 (sym c.before.before.survey.ensures ∙ c.in_default.is)).0
+sound : (c : In_default) → damaged (records c.args.log.now) ≡ false
+sound c = (surveyed-ends _ c.in_default.field-0 (sym c.survey.ensures ∙ c.in_default.is)).0
 
 -- past the search the head is that of the current record
-found : (c : In-At-2) → let start = c.before.before.before.before.before.before.before in
-    EntryAt start.args.log.now start.args.k c.in-At.head
-found c = subst (Entered _ _) c.in-At.is c.before.before.entry.ensures
+found : (c : In-At-2) →
+    EntryAt c.args.log.now c.args.k c.in-At.head
+found c = subst (Entered _ _) c.in-At.is c.entry.ensures
 
 pub returns-in-Bad : goal.returns-in-Bad
-returns-in-Bad c = entry-damaged _ _ _ _ (sym c.before.before.before.survey.ensures ∙ c.before.in-Bad.is)
+returns-in-Bad c = entry-damaged _ _ _ _ (sym c.survey.ensures ∙ c.in-Bad.is)
 
 pub entry-requires : goal.entry-requires
 entry-requires c = sound c
 
 pub returns-in_default-entry : goal.returns-in_default-entry
 returns-in_default-entry c =
-    entry-few _ _ _ (sound c.before.before.before)
-    (subst (Entered _ _) c.in_default-entry.is c.before.before.entry.ensures)
+    entry-few _ _ _ (sound (goal.at.returns-in_default-entry c).In_default)
+    (subst (Entered _ _) c.in_default-entry.is c.entry.ensures)
 
 pub returns-then-out-head : goal.returns-then-out-head
 returns-then-out-head c =
-    let at-found = c.before.before.before in
-    entry-room _ _ _ (sound at-found.before.before.before) _ (found at-found) c.if-out-head.true
+    entry-room _ _ _ (sound (goal.at.returns-then-out-head c).In_default) _ (found (goal.at.returns-then-out-head c).In-At-2) c.if-out-head.true
 
 pub decode-requires : goal.decode-requires
-decode-requires c = ((found c.before.before.before.before).stated.inside, omega (arith, c.before.if-out-head.false))
+decode-requires c = ((found (goal.at.decode-requires c).In-At-2).stated.inside, omega (arith, c.if-out-head.false))
 
 pub returns : goal.returns
 returns c =
-    let at-decode = c.before.before in
-    let at_room = at-decode.before.before in
-    let at-found = at_room.before.before.before in
-    entry_found _ _ _ (sound at-found.before.before.before) _ (found at-found) (omega (arith, at_room.if-out-head.false))
-    at-decode.decode.ensures
+    entry_found _ _ _ (sound (goal.at.returns c).In_default) _ (found (goal.at.returns c).In-At-2) (omega (arith, c.if-out-head.false))
+    c.decode.ensures

@@ -13,34 +13,30 @@ use Rattle.log_questions.proofs.books.log_nearest.Goals.{In_default, In_default-
 
 pub returns-in-No : goal.returns-in-No
 returns-in-No c =
-    nearest-refused _ _ _ _ (c.before.before.before.admit.ensures.no _ c.before.in-No.is)
+    nearest-refused _ _ _ _ (c.admit.ensures.no _ c.in-No.is)
 
 -- past the judging the list is a shape
-valid : (c : In_default) → Valid c.before.before.before.before.args.list.now
-valid c = c.before.before.admit.ensures.valid c.in_default.is
+valid : (c : In_default) → Valid c.args.list.now
+valid c = c.admit.ensures.valid c.in_default.is
 
 pub returns-in-Bad : goal.returns-in-Bad
 returns-in-Bad c =
-    let at_told = c.before.before.before.before in
-    nearest-damaged _ _ _ _ (valid at_told) _ (sym c.before.before.before.survey.ensures ∙ c.before.in-Bad.is)
+    nearest-damaged _ _ _ _ (valid (goal.at.returns-in-Bad c).In_default) _ (sym c.survey.ensures ∙ c.in-Bad.is)
 
 -- past the survey no record is bad
-sound : (c : In_default-survey) → damaged (records c.before.before.before.before.before.before.before.args.log.now) ≡ false
-sound c = (surveyed-ends _ c.in_default-survey.field-0 (sym c.before.before.survey.ensures ∙ c.in_default-survey.is)).0
+sound : (c : In_default-survey) → damaged (records c.args.log.now) ≡ false
+sound c = (surveyed-ends _ c.in_default-survey.field-0 (sym c.survey.ensures ∙ c.in_default-survey.is)).0
 
 pub nearest-requires : goal.nearest-requires
-nearest-requires c = (sound c, valid c.before.before.before)
+nearest-requires c = (sound c, valid (goal.at.nearest-requires c).In_default)
 
 pub returns-in_default-nearest : goal.returns-in_default-nearest
 returns-in_default-nearest c =
-    let at-sound = c.before.before.before in
-    nearest-nobody _ _ _ _ (valid at-sound.before.before.before) (sound at-sound)
-    (ap near_numbers (sym c.in_default-nearest.is) ∙ c.before.before.nearest.ensures)
+    nearest-nobody _ _ _ _ (valid (goal.at.returns-in_default-nearest c).In_default) (sound (goal.at.returns-in_default-nearest c).In_default-survey)
+    (ap near_numbers (sym c.in_default-nearest.is) ∙ c.nearest.ensures)
 
 pub returns : goal.returns
 returns c =
-    let at-near = c.before.before.before.before in
-    let at-sound = at-near.before in
     c.named.ensures
-    ∙ nearest-somebody _ _ _ _ (valid at-sound.before.before.before) (sound at-sound) _ _
-    (ap near_numbers (sym c.before.before.in-Of.is) ∙ at-near.nearest.ensures)
+    ∙ nearest-somebody _ _ _ _ (valid (goal.at.returns c).In_default) (sound (goal.at.returns c).In_default-survey) _ _
+    (ap near_numbers (sym c.in-Of.is) ∙ c.nearest.ensures)

@@ -7,10 +7,8 @@ use Rattle.log_questions.proofs.books.log_pack.Goals as goal
 
 pub pack_sound-requires : goal.pack_sound-requires
 pack_sound-requires c =
-    let at-end = c.before in
-    (surveyed-ends _ at-end.in-Ends.field-0 (sym at-end.before.before.survey.ensures ∙ at-end.in-Ends.is)).0
+    (surveyed-ends _ c.in-Ends.field-0 (sym c.survey.ensures ∙ c.in-Ends.is)).0
 
 pub returns-in-Bad : goal.returns-in-Bad
 returns-in-Bad c =
-    let at_place = c.before in
-    pack-damaged _ _ _ _ _ (sym at_place.before.before.survey.ensures ∙ at_place.in-Bad.is)
+    pack-damaged _ _ _ _ _ (sym c.survey.ensures ∙ c.in-Bad.is)

@@ -10,12 +10,12 @@ use Rattle.log_questions.proofs.books.paired.Goals as goal
 
 pub returns-in-Meets : goal.returns-in-Meets
 returns-in-Meets c =
-    let args = c.before.before.args in
+    let args = c.args in
     ap (λ (w : Spacing). answered (pos args.name ∷ pos args.other ∷ spacing_numbers w ++ (pos args.floor ∷ [])))
     (sym c.in-Meets.is)
 
 pub returns-in-Apart : goal.returns-in-Apart
 returns-in-Apart c =
-    let args = c.before.before.before.args in
+    let args = c.args in
     ap (λ (w : Spacing). answered (pos args.name ∷ pos args.other ∷ spacing_numbers w ++ (pos args.floor ∷ [])))
-    (sym c.before.in-Apart.is)
+    (sym c.in-Apart.is)

@@ -9,13 +9,13 @@ use Rattle.integer.specs.Machine.{result-is}
 use Rattle.measure.proofs.half.goes_right.Goals as goal
 
 pub returns-then-s-top : goal.returns-then-s-top
-returns-then-s-top c = let args = c.before.before.args in rw (eq-eqb args.s.at args.top c.if-s-top.true)
+returns-then-s-top c = let args = c.args in rw (eq-eqb args.s.at args.top c.if-s-top.true)
 
 pub returns-then-t-end : goal.returns-then-t-end
-returns-then-t-end c = let args = c.before.before.before.before.args in
-    rw (ne_eqb args.s.at args.top c.before.before.if-s-top.false, eq-eqb args.t.at args.end c.if-t-end.true)
+returns-then-t-end c = let args = c.args in
+    rw (ne_eqb args.s.at args.top c.if-s-top.false, eq-eqb args.t.at args.end c.if-t-end.true)
 
 pub returns : goal.returns
-returns c = let args = c.before.before.before.before.before.args in
-    rw (ne_eqb args.s.at args.top c.before.before.before.if-s-top.false, ne_eqb args.t.at args.end c.before.if-t-end.false)
-    (ap (λ (z : ℤ). lt_z z (pos 0)) (result-is w64 c.order.type-inv c.order.ensures))
+returns c = let args = c.args in
+    rw (ne_eqb args.s.at args.top c.if-s-top.false, ne_eqb args.t.at args.end c.if-t-end.false)
+    (ap (λ (z : ℤ). lt_z z (pos 0)) (result-is w64 c.order.type_inv c.order.ensures))

@@ -9,7 +9,7 @@ use Rattle.measure.proofs.magnitude.magnitude.Goals.{Start}
 
 -- the number, read back from its bits
 back : (c : Start) → to_z w64 (of_z w64 c.args.z) ≡ c.args.z
-back c = to_z-of_z c.ranges.z
+back c = to_z-of_z {w = w64} c.ranges.z
 
 pub overflow_cast-result : goal.overflow_cast-result
 overflow_cast-result c = rw (back c) (yes_non_neg c.requires, Fits-nat_abs tt c.ranges.z)

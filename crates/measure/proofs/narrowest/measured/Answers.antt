@@ -15,23 +15,23 @@ use Rattle.measure.proofs.narrowest.measured.Goals as goal
 use Rattle.measure.proofs.narrowest.measured.Goals.{After-span, After-turn}
 
 -- ---- the turn and the squared length, each where it is known
-turn_is : (c : After-turn) → let args = c.before.args in
+turn_is : (c : After-turn) → let args = c.args in
     to_z w64 (of_z w64 c.turn.result) ≡ cross (next_of args.s) (corner_of args.t ⊖ corner_of args.s)
-turn_is c = result-is w64 c.turn.type-inv c.turn.ensures
+turn_is c = result-is w64 c.turn.type_inv c.turn.ensures
 
-squared-is : (c : After-span) → let args = c.before.before.before.args in
+squared-is : (c : After-span) → let args = c.args in
     to_z w64 (of_z w64 c.span.result) ≡ value (next_of args.s) (next_of args.s)
-squared-is c = result-is w64 c.span.type-inv c.span.ensures
+squared-is c = result-is w64 c.span.type_inv c.span.ensures
 
 -- ---- the needs
 pub turn-requires : goal.turn-requires
 turn-requires c = let pre = c.requires in (pre.corner-fits, pre.other_fits, pre.edge-fits)
 
 pub magnitude-turn-requires : goal.magnitude-turn-requires
-magnitude-turn-requires c = rw (turn_is c) c.before.requires.not_right
+magnitude-turn-requires c = rw (turn_is c) c.requires.not_right
 
 pub span-requires : goal.span-requires
-span-requires c = c.before.before.requires.edge-fits
+span-requires c = c.requires.edge-fits
 
 pub magnitude-squared-requires : goal.magnitude-squared-requires
 magnitude-squared-requires c = rw (squared-is c) (value-nonneg _)
@@ -39,8 +39,7 @@ magnitude-squared-requires c = rw (squared-is c) (value-nonneg _)
 pub returns : goal.returns
 unfolding measured_at
 returns c =
-    let at_turn = c.before.before in
-    let args = at_turn.before.before.args in
+    let args = c.args in
     ap₂ (λ (t q : ℕ). record { edge = args.s.at; corner = args.t.at; turn = t; squared = q })
-    (ap nat_abs (sym at_turn.magnitude-turn.ensures ∙ turn_is at_turn.before))
+    (ap nat_abs (sym c.magnitude-turn.ensures ∙ turn_is c.before.before.before))
     (ap nat_abs (sym c.magnitude-squared.ensures ∙ squared-is c.before))

@@ -19,23 +19,21 @@ narrower-better a b e = let less = ltb-true (a.turn * a.turn * b.squared) (b.tur
 }
 
 pub returns-then-fraction_less : goal.returns-then-fraction_less
-returns-then-fraction_less c = stays refl (narrower-better _ _ (sym c.before.fraction_less.ensures ∙ c.if-fraction_less.true))
+returns-then-fraction_less c = stays refl (narrower-better _ _ (sym c.fraction_less.ensures ∙ c.if-fraction_less.true))
 
 pub returns-then-fraction_less-2 : goal.returns-then-fraction_less-2
-returns-then-fraction_less-2 c = gives-way refl (narrower-better _ _ (sym c.before.fraction_less-2.ensures ∙ c.if-fraction_less-2.true))
+returns-then-fraction_less-2 c = gives-way refl (narrower-better _ _ (sym c.fraction_less-2.ensures ∙ c.if-fraction_less-2.true))
 
 pub returns-then-found-best : goal.returns-then-found-best
 returns-then-found-best c =
-    let at-else = c.before.before.before.before.before in
     gives-way refl (record {
-      no-narrower = sym at-else.before.fraction_less.ensures ∙ at-else.if-fraction_less.false;
+      no-narrower = sym c.fraction_less.ensures ∙ c.if-fraction_less.false;
       no-earlier = λ f. omega (arith, c.if-found-best.true);
     })
 
 pub returns-else-found-best : goal.returns-else-found-best
 returns-else-found-best c =
-    let at_last = c.before.before.before in
     stays refl (record {
-      no-narrower = sym at_last.before.fraction_less-2.ensures ∙ at_last.if-fraction_less-2.false;
+      no-narrower = sym c.fraction_less-2.ensures ∙ c.if-fraction_less-2.false;
       no-earlier = λ f. omega (arith, c.if-found-best.false);
     })

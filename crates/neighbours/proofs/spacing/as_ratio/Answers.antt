@@ -10,9 +10,9 @@ pub returns-in_default : goal.returns-in_default
 returns-in_default c = meets-ratio c.in_default.is
 
 pub apart_ratio-requires : goal.apart_ratio-requires
-apart_ratio-requires c = subst Sized c.before.in-Apart.is c.before.before.before.requires
+apart_ratio-requires c = subst Sized c.in-Apart.is c.requires
 
 pub returns : goal.returns
 returns c =
-    subst (λ (w : Spacing). HasRatio (fraction_of w) c.apart_ratio.result) (sym c.before.before.in-Apart.is)
+    subst (λ (w : Spacing). HasRatio (fraction_of w) c.apart_ratio.result) (sym c.in-Apart.is)
     c.apart_ratio.ensures

@@ -9,14 +9,11 @@ use Rattle.neighbours.proofs.spacing.is_far.Goals as goal
 
 pub are_far-requires : goal.are_far-requires
 are_far-requires c =
-    let pre = c.before.before.requires in
+    let pre = c.requires in
     (pre.0, extends-bounded _ pre.1 c.extent_of.ensures)
 
 pub returns : goal.returns
-returns c =
-    let at-extent = c.before in
-    let at-ratio = at-extent.before in
-    let start = at-ratio.before in
-    let w = start.args.w in
-    ratio-no_more (fraction_of w) (distance A B) at-ratio.as_ratio-ratio.result (sized-whole w start.requires.2) (distance-whole A B s t)
-    at-ratio.as_ratio-ratio.ensures (c.are_far.ensures c.lifetimes A B s t (spans _ at-extent.extent_of.ensures))
+returns c k A B s t spans =
+    let w = c.args.w in
+    ratio-no_more (fraction_of w) (distance A B) c.as_ratio-ratio.result (sized-whole w c.requires.2) (distance-whole A B s t)
+    c.as_ratio-ratio.ensures (c.are_far.ensures k A B s t (spans _ c.extent_of.ensures))

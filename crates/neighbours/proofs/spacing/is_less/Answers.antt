@@ -7,9 +7,7 @@ use Rattle.neighbours.proofs.spacing.is_less.Goals as goal
 
 pub returns : goal.returns
 returns c =
-    let at_other = c.before in
-    let at_one = at_other.before in
-    let args = at_one.before.args in
-    let pre = at_one.before.requires in
+    let args = c.args in
+    let pre = c.requires in
     c.fraction_less.ensures ∙ ratio-less (fraction_of args.v) (fraction_of args.w) _ _ (sized-whole args.v pre.0)
-    (sized-whole args.w pre.1) at_one.as_ratio-one.ensures at_other.as_ratio-other.ensures
+    (sized-whole args.w pre.1) c.as_ratio-one.ensures c.as_ratio-other.ensures

@@ -10,19 +10,18 @@ use Rattle.packing.proofs.copying.copy.Goals as goal
 use Rattle.packing.proofs.copying.copy.Goals.{At-loop-i}
 
 -- no more stores are needed than there were bytes
-few : (c : At-loop-i) → let start = c.before.before.before in
-    c.loop-i.count ≤ start.args.need + c.loop-i.i
+few : (c : At-loop-i) →
+    c.loop-i.count ≤ c.args.need + c.loop-i.i
 few c =
-    let start = c.before.before.before in
-    let s = drop start.args.p start.args.old.now in
+    let s = drop c.args.p c.args.old.now in
     omega (
       arith,
       copied-few c.loop-i.invariant.1,
       length-take-le c.loop-i.i s
-          (omega (arith, c.loop-i.invariant.0, start.requires.0, length-drop start.args.p start.args.old.now)),
+          (omega (arith, c.loop-i.invariant.0, c.requires.0, length-drop c.args.p c.args.old.now)),
     )
 
-room : (c : At-loop-i) → length c.loop-i.new-1 ≡ length c.before.before.before.args.new-1.now
+room : (c : At-loop-i) → length c.loop-i.new ≡ length c.args.new.now
 room c = copied-length c.loop-i.invariant.1
 
 pub loop-i-init : goal.loop-i-init
@@ -30,60 +29,48 @@ loop-i-init c = (omega arith, copied_none _ _ _ _)
 
 pub overflow_add-q : goal.overflow_add-q
 overflow_add-q c =
-    let at-loop = c.before.before in
-    omega (arith, c.before.loop-i-test.true, at-loop.before.before.before.requires.1)
+    omega (arith, c.loop-i-test.true, c.requires.1)
 
 pub overflow_add-p : goal.overflow_add-p
 overflow_add-p c =
-    let at-loop = c.before.before in
-    omega (arith, c.before.loop-i-test.true, at-loop.before.before.before.requires.0)
+    omega (arith, c.loop-i-test.true, c.requires.0)
 
 pub bounds-old-p : goal.bounds-old-p
 bounds-old-p c =
-    let in-loop = c.before.before in
-    omega (arith, in-loop.loop-i-test.true, in-loop.before.before.before.before.requires.0)
+    omega (arith, c.loop-i-test.true, c.requires.0)
 
 pub mend-count-requires : goal.mend-count-requires
 mend-count-requires c =
-    let in-loop = c.before.before in
-    let at-loop = in-loop.before in
-    let start = at-loop.before.before.before in (
-      omega (arith, in-loop.loop-i-test.true, start.requires.1, room at-loop),
-      omega (arith, few at-loop, start.requires.2),
+    (
+      omega (arith, c.loop-i-test.true, c.requires.1, room (goal.at.mend-count-requires c).At-loop-i),
+      omega (arith, few (goal.at.mend-count-requires c).At-loop-i, c.requires.2),
     )
 
 pub overflow_add-i : goal.overflow_add-i
 overflow_add-i c =
-    let in-loop = c.before.before.before.before.before in
-    omega (arith, in-loop.loop-i-test.true)
+    omega (arith, c.loop-i-test.true)
 
 pub loop-i-smaller : goal.loop-i-smaller
 loop-i-smaller c =
-    let in-loop = c.before.before.before.before.before in
-    omega (arith, in-loop.loop-i-test.true)
+    omega (arith, c.loop-i-test.true)
 
 pub loop-i-preserved : goal.loop-i-preserved
 loop-i-preserved c =
-    let at-mend = c.before.before in
-    let in-loop = at-mend.before.before.before in
-    let at-loop = in-loop.before in
-    let start = at-loop.before.before.before in
-    let more = in-loop.loop-i-test.true in
-    let old = start.args.old.now in (
+    let more = c.loop-i-test.true in
+    let old = c.args.old.now in (
       omega (arith, more),
-      copied_more (drop start.args.p old) at-loop.loop-i.i at-loop.loop-i.invariant.1
-          (omega (arith, more, start.requires.0, length-drop start.args.p old)) (omega (arith, more, start.requires.1))
-          (sym (get_or-drop start.args.p old at-loop.loop-i.i 0)) at-mend.mend-count.ensures,
+      copied_more (drop c.args.p old) c.loop-i.i c.loop-i.invariant.1
+          (omega (arith, more, c.requires.0, length-drop c.args.p old)) (omega (arith, more, c.requires.1))
+          (sym (get_or-drop c.args.p old c.loop-i.i 0)) c.mend-count.ensures,
     )
 
 pub shape_of-new : goal.shape_of-new
-shape_of-new c = room c.before
+shape_of-new c = room (goal.at.shape_of-new c).At-loop-i
 
 pub returns : goal.returns
 returns c =
-    let at-loop = c.before in
-    let args = at-loop.before.before.before.args in
+    let args = c.args in
     let s = drop args.p args.old.now in
-    let end : at-loop.loop-i.i ≡ args.n = omega (arith, c.loop-i-test.false, at-loop.loop-i.invariant.0) in
-    subst (λ (i : ℕ). Copied args.allowed args.need args.new-1.now args.q (take i s) at-loop.loop-i.count at-loop.loop-i.new-1)
-    end at-loop.loop-i.invariant.1
+    let end : c.loop-i.i ≡ args.n = omega (arith, c.loop-i-test.false, c.loop-i.invariant.0) in
+    subst (λ (i : ℕ). Copied args.allowed args.need args.new.now args.q (take i s) c.loop-i.count c.loop-i.new)
+    end c.loop-i.invariant.1

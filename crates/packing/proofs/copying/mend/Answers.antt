@@ -11,25 +11,22 @@ use Rattle.packing.proofs.copying.mend.Goals.{Joined-need-allowed}
 
 pub returns-then-new-at : goal.returns-then-new-at
 returns-then-new-at c =
-    let start = c.before.before in
-    copied-same start.args.allowed start.args.need start.args.new.now start.args.at start.args.x start.requires.0
+    copied-same c.args.allowed c.args.need c.args.new.now c.args.at c.args.x c.requires.0
     c.if-new-at.true
 
 -- both ways of the last test
-both : (c : Joined-need-allowed) → let args = c.before.before.before.args in
+both : (c : Joined-need-allowed) → let args = c.args in
     Copied args.allowed args.need args.new.now args.at (args.x ∷ []) (args.need + 1) c.if-need-allowed.new
 both c =
-    let at-else = c.before in
-    let start = at-else.before.before in
-    let args = start.args in
+    let args = c.args in
     let b = args.new.now in
     elim c.if-need-allowed.branch [
       | inl q ↦
           subst (λ (d : List ℕ). Copied args.allowed args.need b args.at (args.x ∷ []) (args.need + 1) d) (sym q.1)
-          (copied-made args.allowed args.need b args.at args.x start.requires.0 at-else.if-new-at.false q.0.taken)
+          (copied-made args.allowed args.need b args.at args.x c.requires.0 c.if-new-at.false q.0.taken)
       | inr q ↦
           subst (λ (d : List ℕ). Copied args.allowed args.need b args.at (args.x ∷ []) (args.need + 1) d) (sym q.1)
-          (copied-past args.allowed args.need b args.at args.x start.requires.0 at-else.if-new-at.false q.0.left)
+          (copied-past args.allowed args.need b args.at args.x c.requires.0 c.if-new-at.false q.0.left)
     ]
 
 pub shape_of-new : goal.shape_of-new

@@ -14,10 +14,10 @@ same : {x y : Beyond} (floor : ℕ) → x ≡ y → answered (values_of y ++ (po
 same floor e = ap (λ (d : Beyond). answered (values_of d ++ (pos floor ∷ []))) (sym e)
 
 pub returns-in-Inside : goal.returns-in-Inside
-returns-in-Inside c = same c.before.before.args.floor c.in-Inside.is
+returns-in-Inside c = same c.args.floor c.in-Inside.is
 
 pub returns-in-Corners : goal.returns-in-Corners
-returns-in-Corners c = same c.before.before.before.args.floor c.before.in-Corners.is
+returns-in-Corners c = same c.args.floor c.in-Corners.is
 
 pub returns-in-Edge : goal.returns-in-Edge
-returns-in-Edge c = same c.before.before.before.args.floor c.before.in-Edge.is
+returns-in-Edge c = same c.args.floor c.in-Edge.is

@@ -8,9 +8,8 @@ use Rattle.pair_questions.proofs.merging.merge_large.Goals as goal
 pub merge_in-requires : goal.merge_in-requires
 unfolding max_corners
 merge_in-requires c =
-    let start = c.before.before in
-    let u = start.requires.0 in
-    let v = start.requires.1 in
-    let one = points-length start.args.a.now in
-    let other = points-length start.args.b.now in
+    let u = c.requires.0 in
+    let v = c.requires.1 in
+    let one = points-length c.args.a.now in
+    let other = points-length c.args.b.now in
     (u, v, omega (arith, u.few, v.few, u.paired, v.paired, one, other))

@@ -16,24 +16,21 @@ abbrev other : Start → Floored
 other c = on c.args.b.now c.args.g
 
 -- past the judging they are shapes on one floor
-shapes : (c : In_default) → let start = c.before.before.before in Same (one start) (other start)
-shapes c = c.before.before.admit_pair.ensures.valid c.in_default.is
+shapes : (c : In_default) → Same (one (goal.at.In_default c).Start) (other (goal.at.In_default c).Start)
+shapes c = c.admit_pair.ensures.valid c.in_default.is
 
 pub returns-in-No : goal.returns-in-No
 returns-in-No c =
-    let start = c.before.before.before.before in
-    search-refused (one start) (other start) (c.before.before.before.admit_pair.ensures.no _ c.before.in-No.is)
+    search-refused (one (goal.at.returns-in-No c).Start) (other (goal.at.returns-in-No c).Start) (c.admit_pair.ensures.no _ c.in-No.is)
 
 pub find-requires : goal.find-requires
 find-requires c = let both = shapes c in (both.first-valid, both.second-valid)
 
 pub returns : goal.returns
 returns c =
-    let at-find = c.before in
-    let start = at-find.before.before.before.before in
-    let found = at-find.find.result in
+    let found = c.find.result in
     record {
       found = found;
-      reply-is = c.told.ensures ∙ all-answered (ask_separator (one start) (other start) found) (shapes at-find.before) tt refl;
-      found-is = λ none. at-find.find.ensures;
+      reply-is = c.told.ensures ∙ all-answered (ask_separator (one c.before.before.before.before.before) (other c.before.before.before.before.before) found) (shapes (goal.at.returns c).In_default) tt refl;
+      found-is = λ none. c.find.ensures;
     }

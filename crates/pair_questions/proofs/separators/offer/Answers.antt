@@ -32,12 +32,12 @@ abbrev asked : Start → Question
 asked c = ask_offer (one c) (other c) (offered c)
 
 -- past the judging they are shapes on one floor
-shapes : (c : In_default) → let start = c.before.before.before in Same (one start) (other start)
-shapes c = c.before.before.admit_pair.ensures.valid c.in_default.is
+shapes : (c : In_default) → Same (one (goal.at.In_default c).Start) (other (goal.at.In_default c).Start)
+shapes c = c.admit_pair.ensures.valid c.in_default.is
 
 -- the direction, read back from its bits
 direction-is : (c : Start) → point (to_z w32 (of_z w32 c.args.u)) (to_z w32 (of_z w32 c.args.v)) ≡ offered c
-direction-is c = ap₂ point (to_z-of_z c.ranges.u) (to_z-of_z c.ranges.v)
+direction-is c = ap₂ point (to_z-of_z {w = w32} c.ranges.u) (to_z-of_z {w = w32} c.ranges.v)
 
 -- what judging it says
 judged-direction : (c : After-admit_direction) → let d = offered c.before.before.before.before in
@@ -47,30 +47,26 @@ judged-direction c =
     (direction-is c.before.before.before.before) c.admit_direction.ensures
 
 -- past it, neither row applies
-passed : (c : In_default-admit_direction) → NoneApply (direction_rows (offered c.before.before.before.before.before.before))
-passed c = (judged-direction c.before.before).valid c.in_default-admit_direction.is
+passed : (c : In_default-admit_direction) → NoneApply (direction_rows (offered (goal.at.In_default-admit_direction c).Start))
+passed c = (judged-direction (goal.at.In_default-admit_direction c).After-admit_direction).valid c.in_default-admit_direction.is
 
 pub returns-in-No : goal.returns-in-No
-returns-in-No c = (shapes-refused (asked c.before.before.before.before)
-    (c.before.before.before.admit_pair.ensures.no _ c.before.in-No.is)).0
+returns-in-No c = (shapes-refused (asked (goal.at.returns-in-No c).Start)
+    (c.admit_pair.ensures.no _ c.in-No.is)).0
 
 pub returns-in-No-admit_direction : goal.returns-in-No-admit_direction
 returns-in-No-admit_direction c =
-    let at-judged = c.before.before.before in
-    (rest-refused (asked at-judged.before.before.before.before) (shapes at-judged.before)
-    ((judged-direction at-judged).no _ c.before.in-No-admit_direction.is)).0
+    (rest-refused (asked (goal.at.returns-in-No-admit_direction c).Start) (shapes (goal.at.returns-in-No-admit_direction c).In_default)
+    ((judged-direction (goal.at.returns-in-No-admit_direction c).After-admit_direction).no _ c.in-No-admit_direction.is)).0
 
 pub is_below-requires : goal.is_below-requires
 is_below-requires c =
-    let both = shapes c.before.before.before in
-    let direction = sym (direction-is c.before.before.before.before.before.before) in
+    let both = shapes (goal.at.is_below-requires c).In_default in
+    let direction = sym (direction-is (goal.at.is_below-requires c).Start) in
     (both.first-valid, both.second-valid, subst (λ (d : Point). bad_direction d ≡ false) direction (passed c).0)
 
 pub returns : goal.returns
 returns c =
-    let at-passed = c.before in
-    let at-shapes = at-passed.before.before.before in
-    let start = at-shapes.before.before.before in
-    all-answered (asked start) (shapes at-shapes) (passed at-passed)
-    (ap (λ (t : Bool). cond t (pos 1) (pos 0) ∷ pos start.args.f ∷ []) (c.is_below.ensures
-    ∙ ap (λ (d : Point). below d (points start.args.a.now) (points start.args.b.now)) (direction-is start)))
+    all-answered (asked c.before.before.before.before.before.before.before) (shapes (goal.at.returns c).In_default) (passed (goal.at.returns c).In_default-admit_direction)
+    (ap (λ (t : Bool). cond t (pos 1) (pos 0) ∷ pos c.args.f ∷ []) (c.is_below.ensures
+    ∙ ap (λ (d : Point). below d (points c.args.a.now) (points c.args.b.now)) (direction-is c.before.before.before.before.before.before.before)))

@@ -12,11 +12,11 @@ use Rattle.pair_questions.proofs.separators.told.Goals as goal
 
 pub returns-in-Direction : goal.returns-in-Direction
 returns-in-Direction c =
-    ap₂ (λ (u v : ℤ). answered (pos 1 ∷ u ∷ v ∷ pos c.before.before.before.args.floor ∷ []))
+    ap₂ (λ (u v : ℤ). answered (pos 1 ∷ u ∷ v ∷ pos c.args.floor ∷ []))
     (result-is w32 c.known_told-1.given.0.1 refl) (result-is w32 c.known_told-1.given.1.0.1 refl)
-    ∙ ap (λ (x : Separator). answered (separator_numbers x ++ (pos c.before.before.before.args.floor ∷ [])))
-    (sym c.before.in-Direction.is)
+    ∙ ap (λ (x : Separator). answered (separator_numbers x ++ (pos c.args.floor ∷ [])))
+    (sym c.in-Direction.is)
 
 pub returns-in-Nothing : goal.returns-in-Nothing
 returns-in-Nothing c =
-    ap (λ (x : Separator). answered (separator_numbers x ++ (pos c.before.before.args.floor ∷ []))) (sym c.in-Nothing.is)
+    ap (λ (x : Separator). answered (separator_numbers x ++ (pos c.args.floor ∷ []))) (sym c.in-Nothing.is)

@@ -19,25 +19,23 @@ abbrev asked : Start → Question
 asked c = ask_begin (one c) (other c)
 
 -- past the judging they are shapes on one floor
-shapes : (c : In_default) → let start = c.before.before.before in Same (one start) (other start)
-shapes c = c.before.before.admit_pair.ensures.valid c.in_default.is
+shapes : (c : In_default) → Same (one (goal.at.In_default c).Start) (other (goal.at.In_default c).Start)
+shapes c = c.admit_pair.ensures.valid c.in_default.is
 
 pub returns-in-No : goal.returns-in-No
 returns-in-No c =
-    (shapes-refused (asked c.before.before.before.before)
-    (c.before.before.before.admit_pair.ensures.no _ c.before.in-No.is)).0
+    (shapes-refused (asked (goal.at.returns-in-No c).Start)
+    (c.admit_pair.ensures.no _ c.in-No.is)).0
 
 pub survey-requires : goal.survey-requires
 survey-requires c = let both = shapes c in (both.first-valid, both.second-valid)
 
 pub returns-in-No-survey : goal.returns-in-No-survey
 returns-in-No-survey c =
-    let at-survey = c.before.before.before in
-    (rest-refused (asked at-survey.before.before.before.before) (shapes at-survey.before)
-    (at-survey.survey.ensures.no _ c.before.in-No-survey.is)).0
+    (rest-refused (asked (goal.at.returns-in-No-survey c).Start) (shapes (goal.at.returns-in-No-survey c).In_default)
+    (c.survey.ensures.no _ c.in-No-survey.is)).0
 
 pub returns : goal.returns
 returns c =
-    let at-survey = c.before.before in
-    all-answered (asked at-survey.before.before.before.before) (shapes at-survey.before)
-    (at-survey.survey.ensures.valid c.in_default-survey.is) refl
+    all-answered (asked (goal.at.returns c).Start) (shapes (goal.at.returns c).In_default)
+    (c.survey.ensures.valid c.in_default-survey.is) refl

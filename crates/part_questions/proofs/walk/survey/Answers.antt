@@ -6,6 +6,6 @@ use Rattle.part_questions.proofs.walk.survey.Goals as goal
 
 pub returns : goal.returns
 returns c =
-    let args = c.before.before.before.args in
-    judged-by (sized_rows_lem (whole_sum args.a.now args.b.now) c.before.is_far.ensures c.before.before.reckon-n.ensures)
+    let args = c.args in
+    judged-by (sized_rows_lem (whole_sum args.a.now args.b.now) c.is_far.ensures c.reckon-n.ensures)
     c.sized.ensures

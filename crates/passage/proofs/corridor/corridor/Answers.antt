@@ -17,20 +17,20 @@ use Rattle.passage.proofs.corridor.corridor.Goals.{In-Apart}
 apart-numbers : (A B : List Point) {t : Bool} → apart A B ≡ t → cond t (widest_numbers A B) (pos 0 ∷ []) ≡ corridor_numbers A B
 apart-numbers A B e = ap (λ (t : Bool). cond t (widest_numbers A B) (pos 0 ∷ [])) (sym e)
 
-ready : (c : In-Apart) → let args = c.before.before.before.args in
+ready : (c : In-Apart) → let args = c.args in
     apart (points args.a.now) (points args.b.now) ≡ true
-ready c = related-apart _ _ (ap number_of (sym c.in-Apart.is) ∙ c.before.before.relation.ensures)
+ready c = related-apart _ _ (ap number_of (sym c.in-Apart.is) ∙ c.relation.ensures)
 
 pub widest-requires : goal.widest-requires
-widest-requires c = let pre = c.before.before.before.requires in (pre.0, pre.1, ready c)
+widest-requires c = let pre = c.requires in (pre.0, pre.1, ready c)
 
 pub returns-in-Apart : goal.returns-in-Apart
-returns-in-Apart c = c.widest.ensures ∙ apart-numbers _ _ (ready c.before)
+returns-in-Apart c = c.widest.ensures ∙ apart-numbers _ _ (ready (goal.at.returns-in-Apart c).In-Apart)
 
 pub returns-in-Touching : goal.returns-in-Touching
 returns-in-Touching c = apart-numbers _ _ (related-not-apart _ _ (omega arith)
-    (ap number_of (sym c.in-Touching.is) ∙ c.before.before.relation.ensures))
+    (ap number_of (sym c.in-Touching.is) ∙ c.relation.ensures))
 
 pub returns-in-Overlapping : goal.returns-in-Overlapping
 returns-in-Overlapping c = apart-numbers _ _ (related-not-apart _ _ (omega arith)
-    (ap number_of (sym c.in-Overlapping.is) ∙ c.before.before.relation.ensures))
+    (ap number_of (sym c.in-Overlapping.is) ∙ c.relation.ensures))

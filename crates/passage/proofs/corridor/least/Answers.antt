@@ -20,21 +20,19 @@ opposite-requires c = good-small _ c.requires.1
 
 pub reach-requires : goal.reach-requires
 reach-requires c =
-    let start = c.before in
-    let v = start.requires.0 in
-    let good = opposite-good (at start.args.d) start.requires.1 in
+    let v = c.requires.0 in
+    let good = opposite-good (at c.args.d) c.requires.1 in
     (v.shape.some, v.in_range, subst (Small (2 ^ 22)) (sym c.opposite.ensures) (small-wide (good-small _ good)))
 
 -- the value, and that it is small
-greatest : (c : After-reach) → let start = c.before.before in
-    let S = support (opposite (at start.args.d)) (points start.args.list.now) in
+greatest : (c : After-reach) →
+    let S = support (opposite (at c.args.d)) (points c.args.list.now) in
     (c.reach.result ≡ S) × Within 4_000_000_000_000 S
 greatest c =
-    let start = c.before.before in
-    let near = direction-near _ (opposite-good (at start.args.d) start.requires.1) in
-    let v = start.requires.0 in (
-      c.reach.ensures ∙ ap (λ (d : Point). support d (points start.args.list.now)) c.before.opposite.ensures,
-      support-size start.args.list.now v.in_range near.0 near.1 v.shape.some,
+    let near = direction-near _ (opposite-good (at c.args.d) c.requires.1) in
+    let v = c.requires.0 in (
+      c.reach.ensures ∙ ap (λ (d : Point). support d (points c.args.list.now)) c.opposite.ensures,
+      support-size c.args.list.now v.in_range near.0 near.1 v.shape.some,
     )
 
 pub overflow_sub-result : goal.overflow_sub-result

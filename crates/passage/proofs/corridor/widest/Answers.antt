@@ -39,57 +39,51 @@ other c = points c.args.b.now
 
 pub primitive-n-requires : goal.primitive-n-requires
 primitive-n-requires c =
-    let start = c.before in
-    let pre = start.requires in (
+    let pre = c.requires in (
       c.towards.ensures.0,
-      facing-some (one start) (other start) pre.0.shape pre.1.shape pre.2 _ c.towards.ensures.1,
+      facing-some (one c.before) (other c.before) pre.0.shape pre.1.shape pre.2 _ c.towards.ensures.1,
     )
 
 -- the direction, and that 11 lets it pass
-name : (c : After-primitive-n) → let start = c.before.before in at c.primitive-n.result ≡ widest_of (one start) (other start)
+name : (c : After-primitive-n) → at c.primitive-n.result ≡ widest_of (one c.before.before) (other c.before.before)
 name c =
-    let start = c.before.before in
-    let pre = start.requires in
+    let pre = c.requires in
     c.primitive-n.ensures
-    ∙ facing-name (one start) (other start) pre.0.shape pre.1.shape pre.2 _ c.before.towards.ensures.1
+    ∙ facing-name (one c.before.before) (other c.before.before) pre.0.shape pre.1.shape pre.2 _ c.towards.ensures.1
 
 in-range : (l : List ℤ) → Valid l → InRange (numbers (points l))
 in-range l v = subst InRange (sym (numbers-points l v.paired)) v.in_range
 
 good : (c : After-primitive-n) → bad_direction (at c.primitive-n.result) ≡ false
 good c =
-    let start = c.before.before in
-    let pre = start.requires in
-    ap bad_direction (name c) ∙ widest-good (one start) (other start) pre.0.shape pre.1.shape pre.2
+    let pre = c.requires in
+    ap bad_direction (name c) ∙ widest-good (one c.before.before) (other c.before.before) pre.0.shape pre.1.shape pre.2
     (in-range _ pre.0) (in-range _ pre.1)
 
 pub reach-low-requires : goal.reach-low-requires
-reach-low-requires c = let v = c.before.before.requires.1 in (v.shape.some, v.in_range, small-wide (good-small _ (good c)))
+reach-low-requires c = let v = c.requires.1 in (v.shape.some, v.in_range, small-wide (good-small _ (good c)))
 
 pub least-high-requires : goal.least-high-requires
-least-high-requires c = (c.before.before.before.requires.0, good c.before)
+least-high-requires c = (c.requires.0, good c.before)
 
 -- the two values, and that they are small
-low : (c : After-reach-low) → let start = c.before.before.before in
-    let S = support (widest_of (one start) (other start)) (other start) in (c.reach-low.result ≡ S) × Within 4_000_000_000_000 S
+low : (c : After-reach-low) →
+    let S = support (widest_of (one c.before.before.before) (other c.before.before.before)) (other c.before.before.before) in (c.reach-low.result ≡ S) × Within 4_000_000_000_000 S
 low c =
-    let start = c.before.before.before in
-    let v = start.requires.1 in
+    let v = c.requires.1 in
     let near = direction-near _ (subst (λ (d : Point). bad_direction d ≡ false) (name c.before) (good c.before)) in (
-      c.reach-low.ensures ∙ ap (λ (d : Point). support d (other start)) (name c.before),
-      support-size start.args.b.now v.in_range near.0 near.1 v.shape.some,
+      c.reach-low.ensures ∙ ap (λ (d : Point). support d (other c.before.before.before)) (name c.before),
+      support-size c.args.b.now v.in_range near.0 near.1 v.shape.some,
     )
 
-high : (c : After-least-high) → let start = c.before.before.before.before in
-    let S = least (widest_of (one start) (other start)) (one start) in (c.least-high.result ≡ S) × Within 4_000_000_000_000 S
+high : (c : After-least-high) →
+    let S = least (widest_of (one c.before.before.before.before) (other c.before.before.before.before)) (one c.before.before.before.before) in (c.least-high.result ≡ S) × Within 4_000_000_000_000 S
 unfolding least
 high c =
-    let at_name = c.before.before in
-    let start = at_name.before.before in
-    let v = start.requires.0 in
-    let near = direction-near _ (opposite-good _ (subst (λ (d : Point). bad_direction d ≡ false) (name at_name) (good at_name))) in (
-      c.least-high.ensures ∙ ap (λ (d : Point). least d (one start)) (name at_name),
-      within-neg (support-size start.args.a.now v.in_range near.0 near.1 v.shape.some),
+    let v = c.requires.0 in
+    let near = direction-near _ (opposite-good _ (subst (λ (d : Point). bad_direction d ≡ false) (name c.before.before) (good c.before.before))) in (
+      c.least-high.ensures ∙ ap (λ (d : Point). least d (one c.before.before.before.before)) (name c.before.before),
+      within-neg (support-size c.args.a.now v.in_range near.0 near.1 v.shape.some),
     )
 
 pub overflow_sub-high : goal.overflow_sub-high
@@ -100,9 +94,9 @@ overflow_sub-high c =
     let q = known f k in
     machine-fits (search machine depth 40) tt
 
-gap_is : (c : After-least-high) → let start = c.before.before.before.before in
-    to_z w64 (of_z w64 (to_z w64 (of_z w64 c.least-high.result) -ℤ to_z w64 (of_z w64 c.before.reach-low.result)))
-    ≡ gap_in (widest_of (one start) (other start)) (one start) (other start)
+gap_is : (c : After-least-high) →
+    to_z w64 (of_z w64 (to_z w64 (of_z w64 c.least-high.result) -ℤ to_z w64 (of_z w64 c.reach-low.result)))
+    ≡ gap_in (widest_of (one c.before.before.before.before) (other c.before.before.before.before)) (one c.before.before.before.before) (other c.before.before.before.before)
 unfolding gap_in
 gap_is c =
     let (e, h) = high c in
@@ -113,24 +107,19 @@ gap_is c =
 
 pub width-requires : goal.width-requires
 width-requires c =
-    let start = c.before.before.before.before in
-    let pre = start.requires in (
-      rw (gap_is c) (weaken (widest-positive (one start) (other start) pre.0.shape pre.1.shape pre.2)),
+    let pre = c.requires in (
+      rw (gap_is c) (weaken (widest-positive (one c.before.before.before.before) (other c.before.before.before.before) pre.0.shape pre.1.shape pre.2)),
       good c.before.before,
     )
 
 pub returns : goal.returns
 returns c =
-    let at_width = c.before in
-    let at_high = at_width.before in
-    let at_low = at_high.before in
-    let at_name = at_low.before in
-    let direction = ap (λ (p : Point). point (to_z w32 (of_z w32 p.x)) (to_z w32 (of_z w32 p.y))) (name at_name)
-    ∙ point-read (small-wide (good-small _ (subst (λ (d : Point). bad_direction d ≡ false) (name at_name) (good at_name)))) in
-    let (e, h) = low at_low in
-    let (f, k) = high at_high in
-    let width = at_width.width.ensures
-    ∙ ap₂ (λ (z : ℤ) (d : Point). root_below (nat_abs z * nat_abs z) (nat_abs (value d d))) (gap_is at_high) (name at_name) in
+    let direction = ap (λ (p : Point). point (to_z w32 (of_z w32 p.x)) (to_z w32 (of_z w32 p.y))) (name c.before.before.before.before)
+    ∙ point-read (small-wide (good-small _ (subst (λ (d : Point). bad_direction d ≡ false) (name c.before.before.before.before) (good c.before.before.before.before)))) in
+    let (e, h) = low c.before.before.before in
+    let (f, k) = high c.before.before in
+    let width = c.width.ensures
+    ∙ ap₂ (λ (z : ℤ) (d : Point). root_below (nat_abs z * nat_abs z) (nat_abs (value d d))) (gap_is c.before.before) (name c.before.before.before.before) in
     ap₂ (λ (p : Point) (vs : List ℤ). pos 1 ∷ p.x ∷ p.y ∷ vs) direction
     (ap₂ (λ (z : ℤ) (vs : List ℤ). z ∷ vs) (machine-is (machine-read w64 _ (known e h)) tt)
     (ap₂ (λ (z : ℤ) (w : ℕ). z ∷ pos w ∷ []) (machine-is (machine-read w64 _ (known f k)) tt) width))

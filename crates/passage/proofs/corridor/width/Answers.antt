@@ -20,30 +20,28 @@ use Rattle.passage.proofs.corridor.width.Goals as goal
 use Rattle.passage.proofs.corridor.width.Goals.{After-magnitude-2}
 
 pub dot-requires : goal.dot-requires
-dot-requires c = let small = small-wide (good-small _ c.before.requires.1) in (small, small)
+dot-requires c = let small = small-wide (good-small _ c.requires.1) in (small, small)
 
 pub magnitude-requires-2 : goal.magnitude-requires-2
-magnitude-requires-2 c = rw (result-is w64 c.dot.type-inv c.dot.ensures) (value-nonneg _)
+magnitude-requires-2 c = rw (result-is w64 c.dot.type_inv c.dot.ensures) (value-nonneg _)
 
 -- the direction's squared length, which is above 0
-length-is : (c : After-magnitude-2) → let d = at c.before.before.before.args.d in value d d ≡ pos c.magnitude-2.result
-length-is c = sym (result-is w64 c.before.dot.type-inv c.before.dot.ensures) ∙ c.magnitude-2.ensures
+length-is : (c : After-magnitude-2) → let d = at c.args.d in value d d ≡ pos c.magnitude-2.result
+length-is c = sym (result-is w64 c.dot.type_inv c.dot.ensures) ∙ c.magnitude-2.ensures
 
 positive : (c : After-magnitude-2) → 0 < c.magnitude-2.result
-positive c = let start = c.before.before.before in
-    ltb-true 0 c.magnitude-2.result (lt-lt_z (rw (length-is c) at (square-positive _ (direction-some _ start.requires.1))))
+positive c =
+    ltb-true 0 c.magnitude-2.result (lt-lt_z (rw (length-is c) at (square-positive _ (direction-some _ c.requires.1))))
 
 pub root_of_fraction-requires : goal.root_of_fraction-requires
 root_of_fraction-requires c = record { positive = positive c }
 
 pub returns : goal.returns
 returns c =
-    let at_length = c.before in
-    let at_room = at_length.before.before in
-    let t = at_room.magnitude.result in
-    let q = at_length.magnitude-2.result in
-    let root = rounded-unique (t * t) q (positive at_length) c.root_of_fraction.result
+    let t = c.magnitude.result in
+    let q = c.magnitude-2.result in
+    let root = rounded-unique (t * t) q (positive c.before) c.root_of_fraction.result
     c.root_of_fraction.ensures.reached c.root_of_fraction.ensures.next-above in
-    sym root ∙ ap₂ (λ (t q : ℕ). root_below (t * t) q) (ap nat_abs (sym at_room.magnitude.ensures
-    ∙ to_z-of_z at_room.before.ranges.room))
-    (ap nat_abs (sym (length-is at_length)))
+    sym root ∙ ap₂ (λ (t q : ℕ). root_below (t * t) q) (ap nat_abs (sym c.magnitude.ensures
+    ∙ to_z-of_z {w = w64} c.ranges.room))
+    (ap nat_abs (sym (length-is c.before)))

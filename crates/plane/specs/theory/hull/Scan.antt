@@ -110,7 +110,7 @@ push-all {half} {s} {p} {seen} (a ∷ (b ∷ kept)) c = go (push-all (b ∷ kept
 scan-all : {half : Bool} {s p : Point} {seen kept : List Point} (ps : List Point) → Pushed half s seen p kept → Runs half (p ∷ ps)
     → Pushed half s (reverse_aux ps seen) (last_of p ps) (scan kept ps)
 scan-all [] c r = c
-scan-all (q ∷ ps) (pushed kept c t) r = scan-all ps (push-all (_ ∷ kept) (scan-keep c t r.0)) r.1
+scan-all {p = p} (q ∷ ps) (pushed kept c t) r = scan-all {p = q} ps (push-all (_ ∷ kept) (scan-keep c t r.0)) r.1
 
 -- the order in which the points were seen does not matter
 pub kept-reverse : {half : Bool} {s t : Point} {kept : List Point} (seen : List Point) → Kept half s t (reverse seen) kept

@@ -5,4 +5,4 @@ use Rattle.plane.specs.Shape.{precedes}
 use Rattle.polygon.proofs.corners.precedes_at.Goals as goal
 
 pub returns : goal.returns
-returns c = c.precedes.ensures ∙ ap₂ precedes c.before.before.corner_at.ensures c.before.corner_at-2.ensures
+returns c = c.precedes.ensures ∙ ap₂ precedes c.corner_at.ensures c.corner_at-2.ensures

@@ -10,26 +10,23 @@ use Rattle.polygon.proofs.corners.turn_at.Goals as goal
 
 pub step-edge-requires : goal.step-edge-requires
 step-edge-requires c =
-    let pre = c.before.before.requires in
-    (small-corner _ pre.3 _ pre.0 c.before.corner_at-from.ensures, small-corner _ pre.3 _ pre.1 c.corner_at.ensures)
+    let pre = c.requires in
+    (small-corner _ pre.3 _ pre.0 c.corner_at-from.ensures, small-corner _ pre.3 _ pre.1 c.corner_at.ensures)
 
 pub step-other-requires : goal.step-other-requires
 step-other-requires c =
-    let first = c.before.before.before in
-    let pre = first.before.requires in
-    (small-corner _ pre.3 _ pre.0 first.corner_at-from.ensures, small-corner _ pre.3 _ pre.2 c.corner_at-2.ensures)
+    let pre = c.requires in
+    (small-corner _ pre.3 _ pre.0 c.corner_at-from.ensures, small-corner _ pre.3 _ pre.2 c.corner_at-2.ensures)
 
 pub cross-requires : goal.cross-requires
 cross-requires c =
-    let s = step-edge-requires c.before.before.before c.lifetimes in
-    let t = step-other-requires c.before c.lifetimes in
-    (small-step s.0 s.1 c.before.before.step-edge.ensures, small-step t.0 t.1 c.step-other.ensures)
+    let s = step-edge-requires c.before.before.before in
+    let t = step-other-requires c.before in
+    (small-step s.0 s.1 c.step-edge.ensures, small-step t.0 t.1 c.step-other.ensures)
 
 pub returns : goal.returns
 returns c =
-    let at_c = c.before.before in
-    let at_b = at_c.before.before in
-    let from = at_b.before.corner_at-from.ensures in
-    result-is w64 c.cross.type-inv (c.cross.ensures
-    ∙ ap₂ cross (at_c.before.step-edge.ensures ∙ ap₂ ◌⊖◌ at_b.corner_at.ensures from)
-    (c.before.step-other.ensures ∙ ap₂ ◌⊖◌ at_c.corner_at-2.ensures from) ∙ sym (turn-cross _ _ _))
+    let from = c.corner_at-from.ensures in
+    result-is w64 c.cross.type_inv (c.cross.ensures
+    ∙ ap₂ cross (c.step-edge.ensures ∙ ap₂ ◌⊖◌ c.corner_at.ensures from)
+    (c.step-other.ensures ∙ ap₂ ◌⊖◌ c.corner_at-2.ensures from) ∙ sym (turn-cross _ _ _))

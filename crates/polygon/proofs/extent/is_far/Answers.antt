@@ -5,4 +5,4 @@ use borrow.Author.Rules.{rules}
 use Rattle.polygon.proofs.extent.is_far.Goals as goal
 
 pub returns : goal.returns
-returns c = c.either.ensures ∙ ap₂ ◌||◌ c.before.before.leaves-above.ensures c.before.leaves-below.ensures
+returns c = c.either.ensures ∙ ap₂ ◌||◌ c.leaves-above.ensures c.leaves-below.ensures

@@ -23,8 +23,6 @@ overflow_add-y c = machine-fits (search (machine, bounded) depth 40) tt
 
 pub returns : goal.returns
 returns c =
-    let second = c.before in
-    let first = second.before in
-    let pre = first.before.before.before.before.before.before.before.before.before.requires in
-    c.either.ensures ∙ ap₂ ◌||◌ (first.outside.ensures ∙ ap outside (sum_is pre.0.small-x pre.1.small-x))
-    (second.outside-2.ensures ∙ ap outside (sum_is pre.0.small-y pre.1.small-y))
+    let pre = c.requires in
+    c.either.ensures ∙ ap₂ ◌||◌ (c.outside.ensures ∙ ap outside (sum_is pre.0.small-x pre.1.small-x))
+    (c.outside-2.ensures ∙ ap outside (sum_is pre.0.small-y pre.1.small-y))

@@ -14,11 +14,10 @@ use Rattle.polygon.proofs.extent.upper.Goals as goal
 
 -- a small number, read back from its bits
 read : {z : ℤ} → Within (2 ^ 21) z → to_z w32 (of_z w32 z) ≡ z
-read h = to_z-of_z (within-fits tt h)
+read h = to_z-of_z {w = w32} (within-fits tt h)
 
 pub returns : goal.returns
 returns c =
-    let first = c.before.before.before in
-    let pre = first.before.before.before.requires in
-    ap₂ point (result-is w32 first.greater.type-inv (first.greater.ensures ∙ ap₂ greater (read pre.0.small-x) (read pre.1.small-x)))
-    (result-is w32 c.greater-2.type-inv (c.greater-2.ensures ∙ ap₂ greater (read pre.0.small-y) (read pre.1.small-y)))
+    let pre = c.requires in
+    ap₂ point (result-is w32 c.greater.type_inv (c.greater.ensures ∙ ap₂ greater (read pre.0.small-x) (read pre.1.small-x)))
+    (result-is w32 c.greater-2.type_inv (c.greater-2.ensures ∙ ap₂ greater (read pre.0.small-y) (read pre.1.small-y)))

@@ -1,4 +1,5 @@
 -- `beyond` meets its contract.
+use mir.Syntax.{w32}
 use mathlib.Core.Path.{sym, ◌∙◌, ap, ap₂}
 use mathlib.Core.Bool.{Bool, ◌||◌}
 use lib.Signed.{lt_z}
@@ -7,13 +8,11 @@ use Rattle.polygon.proofs.limits.beyond.Goals as goal
 
 pub returns-then-z-low : goal.returns-then-z-low
 returns-then-z-low c =
-    let start = c.before in
-    sym (ap (λ (b : Bool). b || lt_z start.args.high start.args.z)
-    (sym (ap₂ lt_z (to_z-of_z start.ranges.z) (to_z-of_z start.ranges.low)) ∙ c.if-z-low.true))
+    sym (ap (λ (b : Bool). b || lt_z c.args.high c.args.z)
+    (sym (ap₂ lt_z (to_z-of_z {w = w32} c.ranges.z) (to_z-of_z {w = w32} c.ranges.low)) ∙ c.if-z-low.true))
 
 pub returns : goal.returns
 returns c =
-    let start = c.before in
-    ap₂ lt_z (to_z-of_z start.ranges.high) (to_z-of_z start.ranges.z)
-    ∙ sym (ap (λ (b : Bool). b || lt_z start.args.high start.args.z)
-    (sym (ap₂ lt_z (to_z-of_z start.ranges.z) (to_z-of_z start.ranges.low)) ∙ c.if-z-low.false))
+    ap₂ lt_z (to_z-of_z {w = w32} c.ranges.high) (to_z-of_z {w = w32} c.ranges.z)
+    ∙ sym (ap (λ (b : Bool). b || lt_z c.args.high c.args.z)
+    (sym (ap₂ lt_z (to_z-of_z {w = w32} c.ranges.z) (to_z-of_z {w = w32} c.ranges.low)) ∙ c.if-z-low.false))

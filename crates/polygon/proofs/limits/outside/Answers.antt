@@ -1,4 +1,5 @@
 -- `outside` meets its contract. The limit is opened here alone.
+use mir.Syntax.{w32}
 use mathlib.Core.Path.{◌∙◌, ap}
 use mathlib.Core.Bool.{◌||◌}
 use lib.IntN.{ℤ, pos, neg_ℤ}
@@ -17,5 +18,5 @@ pub returns : goal.returns
 unfolding outside max_coordinate
 returns c =
     c.beyond.ensures
-    ∙ ap (λ (z : ℤ). lt_z z (neg_ℤ (pos max_coordinate)) || lt_z (pos max_coordinate) z) (to_z-of_z c.before.ranges.z)
-    ∙ beyond-size max_coordinate c.before.args.z
+    ∙ ap (λ (z : ℤ). lt_z z (neg_ℤ (pos max_coordinate)) || lt_z (pos max_coordinate) z) (to_z-of_z {w = w32} c.ranges.z)
+    ∙ beyond-size max_coordinate c.args.z

@@ -1,4 +1,5 @@
 -- `outside_part` meets its contract. The limit is opened here alone.
+use mir.Syntax.{w32}
 use mathlib.Core.Path.{◌∙◌, ap}
 use mathlib.Core.Bool.{◌||◌}
 use lib.IntN.{ℤ, pos, neg_ℤ}
@@ -16,5 +17,5 @@ pub returns : goal.returns
 unfolding max_part
 returns c =
     c.beyond.ensures
-    ∙ ap (λ (z : ℤ). lt_z z (neg_ℤ (pos max_part)) || lt_z (pos max_part) z) (to_z-of_z c.before.ranges.z)
-    ∙ beyond-size max_part c.before.args.z
+    ∙ ap (λ (z : ℤ). lt_z z (neg_ℤ (pos max_part)) || lt_z (pos max_part) z) (to_z-of_z {w = w32} c.ranges.z)
+    ∙ beyond-size max_part c.args.z

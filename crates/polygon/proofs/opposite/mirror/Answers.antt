@@ -12,15 +12,13 @@ pub top-requires : goal.top-requires
 top-requires c = c.requires.0.shape.some
 
 pub write_from-requires : goal.write_from-requires
-write_from-requires c = (c.before.top.ensures.within, c.before.before.requires.0.in_range, c.before.before.requires.1)
+write_from-requires c = (c.top.ensures.within, c.requires.0.in_range, c.requires.1)
 
 pub returns : goal.returns
 returns c =
-    let at_top = c.before.before.before in
-    let start = at_top.before in
-    c.before.write_from.ensures
-    ∙ ap (λ (ps : List Point). overwritten (numbers ps) start.args.out-1.now)
-    (sym (mirror-known _ start.requires.0.shape _ (record {
-      within = at_top.top.ensures.within;
-      last = peak-last _ start.requires.0.shape _ at_top.top.ensures;
+    c.write_from.ensures
+    ∙ ap (λ (ps : List Point). overwritten (numbers ps) c.args.out.now)
+    (sym (mirror-known _ c.requires.0.shape _ (record {
+      within = c.top.ensures.within;
+      last = peak-last _ c.requires.0.shape _ c.top.ensures;
     })))

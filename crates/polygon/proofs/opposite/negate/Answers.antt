@@ -22,22 +22,21 @@ enough c =
     omega (arith, length-map (drop c.args.from list) neg_ℤ, length-drop c.args.from list, c.requires.0)
 
 -- the output is as long as it was
-room : (c : At-loop-i) → length c.loop-i.out-1 ≡ length c.before.args.out-1.now
+room : (c : At-loop-i) → length c.loop-i.out ≡ length c.args.out.now
 room c =
-    let args = c.before.args in
+    let args = c.args in
     ap length c.loop-i.invariant.1
-    ∙ length-paste args.out-1.now args.to (map neg_ℤ (drop args.from args.list.now)) c.loop-i.i
-    (omega (arith, c.loop-i.invariant.0, c.before.requires.1)) (omega (arith, c.loop-i.invariant.0, enough c.before))
+    ∙ length-paste args.out.now args.to (map neg_ℤ (drop args.from args.list.now)) c.loop-i.i
+    (omega (arith, c.loop-i.invariant.0, c.requires.1)) (omega (arith, c.loop-i.invariant.0, enough c.before))
 
 -- the next number is in range
-near : (c : After-out-1) → let start = c.before.before.before in
-    Within (2 ^ 20) (get_or start.args.list.now (start.args.from + c.before.before.loop-i.i) (pos 0))
+near : (c : After-out-1) →
+    Within (2 ^ 20) (get_or c.args.list.now (c.args.from + c.loop-i.i) (pos 0))
 near c =
-    let start = c.before.before.before in
-    within-widen coordinate-small (start.requires.2.near (start.args.from + c.before.before.loop-i.i) (omega (arith, start.requires.0)))
+    within-widen coordinate-small (c.requires.2.near (c.args.from + c.loop-i.i) (omega (arith, c.requires.0)))
 
 pub loop-i-init : goal.loop-i-init
-loop-i-init c = (omega arith, paste-zero c.args.out-1.now c.args.to (map neg_ℤ (drop c.args.from c.args.list.now)))
+loop-i-init c = (omega arith, paste-zero c.args.out.now c.args.to (map neg_ℤ (drop c.args.from c.args.list.now)))
 
 pub overflow_add-out : goal.overflow_add-out
 overflow_add-out c = omega arith
@@ -67,29 +66,27 @@ pub loop-i-smaller : goal.loop-i-smaller
 loop-i-smaller c = omega arith
 
 -- the number that is written
-written : (c : After-out-1) → let start = c.before.before.before in
-    let i = c.before.before.loop-i.i in
-    to_z w32 (of_z w32 (pos 0 -ℤ to_z w32 (of_z w32 (get_or start.args.list.now (start.args.from + i) (pos 0)))))
-    ≡ get_or (map neg_ℤ (drop start.args.from start.args.list.now)) i (pos 0)
+written : (c : After-out-1) →
+    let i = c.loop-i.i in
+    to_z w32 (of_z w32 (pos 0 -ℤ to_z w32 (of_z w32 (get_or c.args.list.now (c.args.from + i) (pos 0)))))
+    ≡ get_or (map neg_ℤ (drop c.args.from c.args.list.now)) i (pos 0)
 written c =
-    let start = c.before.before.before in
-    let list = start.args.list.now in
-    let i = c.before.before.loop-i.i in
+    let list = c.args.list.now in
+    let i = c.loop-i.i in
     let known = near c in
     machine-is (search (machine, bounded) depth 40) tt ∙ +ℤ_idl _
-    ∙ ap neg_ℤ (sym (get_or-drop start.args.from list i (pos 0))) ∙ sym (get_or-map neg_ℤ (drop start.args.from list) i (pos 0))
+    ∙ ap neg_ℤ (sym (get_or-drop c.args.from list i (pos 0))) ∙ sym (get_or-map neg_ℤ (drop c.args.from list) i (pos 0))
 
 pub loop-i-preserved : goal.loop-i-preserved
 loop-i-preserved c =
-    let at-loop = c.before.before in
-    let args = at-loop.before.args in
-    let i = at-loop.loop-i.i in
+    let args = c.args in
+    let i = c.loop-i.i in
     let list = map neg_ℤ (drop args.from args.list.now) in (
       omega arith,
-      ap₂ (λ (l : List ℤ) (x : ℤ). set l (args.to + i) x) at-loop.loop-i.invariant.1 (written c)
-          ∙ paste-suc args.out-1.now args.to list i (pos 0) (omega (arith, at-loop.before.requires.1))
-          (omega (arith, enough at-loop.before))
-          ∙ ap (paste args.out-1.now args.to list) (sym (add-one i)),
+      ap₂ (λ (l : List ℤ) (x : ℤ). set l (args.to + i) x) c.loop-i.invariant.1 (written c)
+          ∙ paste-suc args.out.now args.to list i (pos 0) (omega (arith, c.requires.1))
+          (omega (arith, enough c.before.before.before))
+          ∙ ap (paste args.out.now args.to list) (sym (add-one i)),
     )
 
 pub shape_of-out : goal.shape_of-out
@@ -97,7 +94,6 @@ shape_of-out c = room c.before
 
 pub returns : goal.returns
 returns c =
-    let at-loop = c.before in
-    let args = at-loop.before.args in
-    let all : at-loop.loop-i.i ≡ args.n = omega arith in
-    at-loop.loop-i.invariant.1 ∙ ap (paste args.out-1.now args.to (map neg_ℤ (drop args.from args.list.now))) all
+    let args = c.args in
+    let all : c.loop-i.i ≡ args.n = omega arith in
+    c.loop-i.invariant.1 ∙ ap (paste args.out.now args.to (map neg_ℤ (drop args.from args.list.now))) all

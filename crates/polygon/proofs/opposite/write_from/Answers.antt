@@ -34,52 +34,45 @@ module _ (list : List ℤ) (start : ℕ) (h : start ≤ length (points list)) wh
 
 pub negate-requires : goal.negate-requires
 negate-requires c =
-    let start = c.before.before in
-    let n = c.before.count.ensures in
-    let list = start.args.list.now in (
-      omega (arith, n, points-length list, start.requires.0),
-      omega (arith, n, start.requires.0, start.requires.2),
-      start.requires.1,
+    let n = c.count.ensures in
+    let list = c.args.list.now in (
+      omega (arith, n, points-length list, c.requires.0),
+      omega (arith, n, c.requires.0, c.requires.2),
+      c.requires.1,
     )
 
 -- the output after the first of them, with the count of corners in place of what `count` answered
-first : (c : After-negate) → let start = c.before.before.before in
-    c.negate.new.1.1.1.0 ≡ paste start.args.out-1.now 0 (map neg_ℤ (drop (2 * start.args.start) start.args.list.now))
-    (2 * (length (points start.args.list.now) - start.args.start))
+first : (c : After-negate) →
+    c.negate.new.out ≡ paste c.args.out.now 0 (map neg_ℤ (drop (2 * c.args.start) c.args.list.now))
+    (2 * (length (points c.args.list.now) - c.args.start))
 first c =
-    let start = c.before.before.before in
-    c.negate.ensures ∙ ap (λ (n : ℕ). paste start.args.out-1.now 0 (map neg_ℤ (drop (2 * start.args.start) start.args.list.now))
-    (2 * (n - start.args.start))) c.before.before.count.ensures
+    c.negate.ensures ∙ ap (λ (n : ℕ). paste c.args.out.now 0 (map neg_ℤ (drop (2 * c.args.start) c.args.list.now))
+    (2 * (n - c.args.start))) c.count.ensures
 
 -- it is as long as it was
-first-length : (c : After-negate) → length c.negate.new.1.1.1.0 ≡ length c.before.before.before.args.out-1.now
+first-length : (c : After-negate) → length c.negate.new.out ≡ length c.args.out.now
 first-length c =
-    let start = c.before.before.before in
-    let list = start.args.list.now in
-    ap length (first c) ∙ length-paste start.args.out-1.now 0 (map neg_ℤ (drop (2 * start.args.start) list))
-    (2 * (length (points list) - start.args.start)) (omega (arith, start.requires.0, start.requires.2))
-    (rest-enough list start.args.start (omega (arith, start.requires.0)))
+    let list = c.args.list.now in
+    ap length (first c) ∙ length-paste c.args.out.now 0 (map neg_ℤ (drop (2 * c.args.start) list))
+    (2 * (length (points list) - c.args.start)) (omega (arith, c.requires.0, c.requires.2))
+    (rest-enough list c.args.start (omega (arith, c.requires.0)))
 
 pub negate-requires-2 : goal.negate-requires-2
 negate-requires-2 c =
-    let at-negate = c.before.before in
-    let start = at-negate.before.before.before in
-    let n = at-negate.before.before.count.ensures in
-    let list = start.args.list.now in (
-      omega (arith, points-length list, start.requires.0),
-      omega (arith, n, start.requires.0, start.requires.2, first-length at-negate),
-      start.requires.1,
+    let n = c.count.ensures in
+    let list = c.args.list.now in (
+      omega (arith, points-length list, c.requires.0),
+      omega (arith, n, c.requires.0, c.requires.2, first-length c.before.before),
+      c.requires.1,
     )
 
 pub returns : goal.returns
 returns c =
-    let at-negate = c.before.before.before.before in
-    let start = at-negate.before.before.before in
-    let list = start.args.list.now in
-    let below : start.args.start ≤ length (points list) = omega (arith, start.requires.0) in
-    pasted-twice start.args.out-1.now (map neg_ℤ (drop (2 * start.args.start) list)) (map neg_ℤ list)
-    (2 * (length (points list) - start.args.start)) (2 * start.args.start)
-    (rest-enough list start.args.start below) (front-enough list start.args.start below) _ _ (first at-negate)
-    (c.before.negate-2.ensures ∙ ap (λ (n : ℕ). paste at-negate.negate.new.1.1.1.0 (2 * (n - start.args.start))
-    (map neg_ℤ list) (2 * start.args.start)) at-negate.before.before.count.ensures)
-    ∙ ap (λ (l : List ℤ). overwritten l start.args.out-1.now) (joined list start.args.start below)
+    let list = c.args.list.now in
+    let below : c.args.start ≤ length (points list) = omega (arith, c.requires.0) in
+    pasted-twice c.args.out.now (map neg_ℤ (drop (2 * c.args.start) list)) (map neg_ℤ list)
+    (2 * (length (points list) - c.args.start)) (2 * c.args.start)
+    (rest-enough list c.args.start below) (front-enough list c.args.start below) _ _ (first c.before.before.before.before)
+    (c.negate-2.ensures ∙ ap (λ (n : ℕ). paste c.negate.new.out (2 * (n - c.args.start))
+    (map neg_ℤ list) (2 * c.args.start)) c.count.ensures)
+    ∙ ap (λ (l : List ℤ). overwritten l c.args.out.now) (joined list c.args.start below)

@@ -15,7 +15,7 @@ pub count-n-requires : goal.count-n-requires
 count-n-requires c = tt
 
 pub loop-top-init : goal.loop-top-init
-loop-top-init c = (omega (arith, c.count-n.ensures, c.before.requires), λ k h. absurd (omega arith))
+loop-top-init c = (omega (arith, c.count-n.ensures, c.requires), λ k h. absurd (omega arith))
 
 pub overflow_add-top : goal.overflow_add-top
 overflow_add-top c = omega (arith, c.loop-top.invariant.0)
@@ -25,26 +25,24 @@ overflow_add-top-in-loop-top c = omega arith
 
 pub precedes_at-requires : goal.precedes_at-requires
 precedes_at-requires c =
-    let count = c.before.before.count-n.ensures in
-    (omega (arith, count, c.before.loop-top.invariant.0), omega (arith, count, c.loop-top-test.true))
+    let count = c.count-n.ensures in
+    (omega (arith, count, c.loop-top.invariant.0), omega (arith, count, c.loop-top-test.true))
 
 -- the next corner, by the code's position
-told : (c : After-precedes_at) → let at-loop = c.before.before in
-    let ps = points at-loop.before.before.args.list.now in
-    precedes (corner ps at-loop.loop-top.top) (corner ps (suc at-loop.loop-top.top)) ≡ c.precedes_at.result
+told : (c : After-precedes_at) →
+    let ps = points c.args.list.now in
+    precedes (corner ps c.loop-top.top) (corner ps (suc c.loop-top.top)) ≡ c.precedes_at.result
 told c =
-    let at-loop = c.before.before in
-    let ps = points at-loop.before.before.args.list.now in
-    subst (λ (k : ℕ). precedes (corner ps at-loop.loop-top.top) (corner ps k) ≡ c.precedes_at.result) (add-one at-loop.loop-top.top)
+    let ps = points c.args.list.now in
+    subst (λ (k : ℕ). precedes (corner ps c.loop-top.top) (corner ps k) ≡ c.precedes_at.result) (add-one c.loop-top.top)
     (sym c.precedes_at.ensures)
 
 pub returns-then-not-precedes_at : goal.returns-then-not-precedes_at
 returns-then-not-precedes_at c =
-    let at-loop = c.before.before.before in
     record {
-      within = omega (arith, at-loop.before.count-n.ensures, at-loop.loop-top.invariant.0);
-      rises = at-loop.loop-top.invariant.1;
-      falls = λ h. told c.before ∙ not-true _ c.if-not-precedes_at.true;
+      within = omega (arith, c.count-n.ensures, c.loop-top.invariant.0);
+      rises = c.loop-top.invariant.1;
+      falls = λ h. told c.before ∙ c.if-not-precedes_at.true;
     }
 
 pub overflow_add-top-in-loop-top-2 : goal.overflow_add-top-in-loop-top-2
@@ -55,18 +53,16 @@ loop-top-smaller c = omega arith
 
 pub loop-top-preserved : goal.loop-top-preserved
 loop-top-preserved c =
-    let at-loop = c.before.before.before in
-    let ps = points at-loop.before.before.args.list.now in
-    let rise = told c.before ∙ not-false _ c.if-not-precedes_at.false in (
-      c.before.before.loop-top-test.true,
-      below_more (λ (k : ℕ). precedes (corner ps k) (corner ps (suc k)) ≡ true) at-loop.loop-top.top at-loop.loop-top.invariant.1 rise,
+    let ps = points c.args.list.now in
+    let rise = told c.before ∙ c.if-not-precedes_at.false in (
+      c.loop-top-test.true,
+      below_more (λ (k : ℕ). precedes (corner ps k) (corner ps (suc k)) ≡ true) c.loop-top.top c.loop-top.invariant.1 rise,
     )
 
 pub returns : goal.returns
 returns c =
-    let at-loop = c.before in
     record {
-      within = omega (arith, at-loop.before.count-n.ensures, at-loop.loop-top.invariant.0);
-      rises = at-loop.loop-top.invariant.1;
-      falls = λ h. absurd (omega (arith, at-loop.before.count-n.ensures));
+      within = omega (arith, c.count-n.ensures, c.loop-top.invariant.0);
+      rises = c.loop-top.invariant.1;
+      falls = λ h. absurd (omega (arith, c.count-n.ensures));
     }

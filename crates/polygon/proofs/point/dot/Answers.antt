@@ -17,17 +17,17 @@ pub overflow_sub-d : goal.overflow_sub-d
 overflow_sub-d c = machine-fits (search (machine, bounded) depth 40) tt
 
 -- the left of d, as it is passed on
-left_is : (c : After-struct_told-2-1) → let d = c.before.before.before.args.d in
+left_is : (c : After-struct_told-2-1) → let d = c.args.d in
     point (to_z w32 (of_z w32 (pos 0 -ℤ to_z w32 (of_z w32 d.y)))) (to_z w32 (of_z w32 d.x)) ≡ quarter (at d)
 left_is c = ap₂ point (machine-is (search (machine, bounded) depth 40) tt ∙ +ℤ_idl _) (machine-is (search (machine, bounded) depth 40) tt)
 
 pub cross-requires : goal.cross-requires
 cross-requires c =
-    let pre = c.before.before.before.requires in
+    let pre = c.requires in
     (pre.1, subst (Small _) (sym (left_is c)) (record { small-x = within-neg pre.0.small-y; small-y = pre.0.small-x }))
 
 pub returns : goal.returns
 returns c =
-    let args = c.before.before.before.before.args in
-    result-is w64 c.cross.type-inv (c.cross.ensures
+    let args = c.args in
+    result-is w64 c.cross.type_inv (c.cross.ensures
     ∙ ap (cross (at args.p)) (left_is c.before) ∙ sym (value-cross (at args.d) (at args.p)))

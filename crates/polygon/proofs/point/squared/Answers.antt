@@ -12,8 +12,8 @@ pub step-d-requires : goal.step-d-requires
 step-d-requires c = (c.requires.1, c.requires.0)
 
 pub dot-requires : goal.dot-requires
-dot-requires c = let small = small-step c.before.requires.1 c.before.requires.0 c.step-d.ensures in (small, small)
+dot-requires c = let small = small-step c.requires.1 c.requires.0 c.step-d.ensures in (small, small)
 
 pub returns : goal.returns
 unfolding value measure_squared
-returns c = result-is w64 c.dot.type-inv (c.dot.ensures ∙ ap (λ (e : Point). value e e) c.before.step-d.ensures)
+returns c = result-is w64 c.dot.type_inv (c.dot.ensures ∙ ap (λ (e : Point). value e e) c.step-d.ensures)

@@ -17,17 +17,16 @@ pub loop-c-init : goal.loop-c-init
 loop-c-init c = sought-start _ _
 
 pub precedes_at-requires : goal.precedes_at-requires
-precedes_at-requires c = omega (arith, c.before.before.count-n.ensures)
+precedes_at-requires c = omega (arith, c.count-n.ensures)
 
 -- the loop's test, said of the corners
-below : (c : In-loop-c) → c.before.loop-c.c < length (points c.before.before.before.args.list.now)
-below c = omega (arith, c.before.before.count-n.ensures)
+below : (c : In-loop-c) → c.loop-c.c < length (points c.args.list.now)
+below c = omega (arith, c.count-n.ensures)
 
 pub returns-then-precedes_at : goal.returns-then-precedes_at
 unfolding bad_start
 returns-then-precedes_at c =
-    let at-loop = c.before.before.before in
-    sym (sought-yes _ _ at-loop.loop-c.c (below c.before.before) (sym c.before.precedes_at.ensures ∙ c.if-precedes_at.true))
+    sym (sought-yes _ _ c.loop-c.c (below c.before.before) (sym c.precedes_at.ensures ∙ c.if-precedes_at.true))
 
 pub overflow_add-c : goal.overflow_add-c
 overflow_add-c c = omega arith
@@ -37,10 +36,9 @@ loop-c-smaller c = omega arith
 
 pub loop-c-preserved : goal.loop-c-preserved
 loop-c-preserved c =
-    let at-loop = c.before.before.before in
-    sought-more _ _ at-loop.loop-c.c at-loop.loop-c.invariant (below c.before.before)
-    (sym c.before.precedes_at.ensures ∙ c.if-precedes_at.false)
+    sought-more _ _ c.loop-c.c c.loop-c.invariant (below c.before.before)
+    (sym c.precedes_at.ensures ∙ c.if-precedes_at.false)
 
 pub returns : goal.returns
 unfolding bad_start
-returns c = sym (sought-no _ _ c.before.loop-c.c c.before.loop-c.invariant (omega (arith, c.before.before.count-n.ensures)))
+returns c = sym (sought-no _ _ c.loop-c.c c.loop-c.invariant (omega (arith, c.count-n.ensures)))

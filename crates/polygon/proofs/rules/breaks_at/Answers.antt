@@ -18,15 +18,15 @@ pub count-requires : goal.count-requires
 count-requires c = tt
 
 pub next-end-requires : goal.next-end-requires
-next-end-requires c = rw c.count.ensures c.before.requires.0
+next-end-requires c = rw c.count.ensures c.requires.0
 
 -- the edge's end, said of the corners
 end_is : (c : After-next-end)
-    → c.next-end.result ≡ next (length (points c.before.before.args.list.now)) c.before.before.args.edge
-end_is c = c.next-end.ensures.value ∙ ap (λ (n : ℕ). next n c.before.before.args.edge) c.before.count.ensures
+    → c.next-end.result ≡ next (length (points c.args.list.now)) c.args.edge
+end_is c = c.next-end.ensures.value ∙ ap (λ (n : ℕ). next n c.args.edge) c.count.ensures
 
-end_below : (c : After-next-end) → c.next-end.result < length (points c.before.before.args.list.now)
-end_below c = subst (λ (n : ℕ). c.next-end.result < n) c.before.count.ensures c.next-end.ensures.upper_bound
+end_below : (c : After-next-end) → c.next-end.result < length (points c.args.list.now)
+end_below c = subst (λ (n : ℕ). c.next-end.result < n) c.count.ensures c.next-end.ensures.upper_bound
 
 pub returns-then-corner-edge : goal.returns-then-corner-edge
 returns-then-corner-edge c = sym (breaks-own _ _ _ c.if-corner-edge.true)
@@ -36,14 +36,11 @@ returns-then-corner-end c = sym (breaks-end _ _ _ (c.if-corner-end.true ∙ end_
 
 pub turn_at-requires : goal.turn_at-requires
 turn_at-requires c =
-    let start = c.before.before.before.before in
-    (start.requires.0, end_below c.before.before, start.requires.1, start.requires.2)
+    (c.requires.0, end_below c.before.before, c.requires.1, c.requires.2)
 
 pub returns : goal.returns
 returns c =
-    let start = c.before.before.before.before.before in
-    let at-end = c.before.before.before in
-    let ps = points start.args.list.now in
-    let turned = ap (λ (e : ℕ). turn (corner ps start.args.edge) (corner ps e) (corner ps start.args.corner)) (end_is at-end) in
-    ap (λ (t : ℤ). not (lt_z (pos 0) t)) (result-is w64 c.turn_at.type-inv (c.turn_at.ensures ∙ turned))
-    ∙ sym (breaks-other _ _ _ c.before.before.if-corner-edge.false (λ e. c.before.if-corner-end.false (e ∙ sym (end_is at-end))))
+    let ps = points c.args.list.now in
+    let turned = ap (λ (e : ℕ). turn (corner ps c.args.edge) (corner ps e) (corner ps c.args.corner)) (end_is c.before.before.before) in
+    ap (λ (t : ℤ). not (lt_z (pos 0) t)) (result-is w64 c.turn_at.type_inv (c.turn_at.ensures ∙ turned))
+    ∙ sym (breaks-other _ _ _ c.if-corner-edge.false (λ e. c.if-corner-end.false (e ∙ sym (end_is c.before.before.before))))

@@ -21,19 +21,19 @@ pub edges-init : goal.edges-init
 edges-init c = (refl, sought-start _ _)
 
 pub loop-corner-init : goal.loop-corner-init
-loop-corner-init c = (c.before.edges.invariant.0, sought-start _ _)
+loop-corner-init c = (c.edges.invariant.0, sought-start _ _)
 
 -- the loops' tests, said of the corners
 edge-below : (c : In-edges)
-    → c.before.edges.edge < length (points c.before.before.before.args.list.now)
-edge-below c = omega (arith, c.before.before.count-n.ensures)
+    → c.edges.edge < length (points c.args.list.now)
+edge-below c = omega (arith, c.count-n.ensures)
 
 corner-below : (c : In-loop-corner)
-    → c.before.loop-corner.corner < length (points c.before.before.before.before.before.args.list.now)
-corner-below c = omega (arith, c.before.before.before.before.count-n.ensures)
+    → c.loop-corner.corner < length (points c.args.list.now)
+corner-below c = omega (arith, c.count-n.ensures)
 
 pub breaks_at-requires : goal.breaks_at-requires
-breaks_at-requires c = (edge-below c.before.before, corner-below c, c.before.before.before.before.before.requires)
+breaks_at-requires c = (edge-below c.before.before, corner-below c, c.requires)
 
 pub overflow_step-corner : goal.overflow_step-corner
 overflow_step-corner c = omega arith
@@ -43,10 +43,10 @@ loop-corner-smaller c = omega arith
 
 pub loop-corner-preserved : goal.loop-corner-preserved
 loop-corner-preserved c =
-    let at-loop = c.before.before.before in (
-      at-loop.loop-corner.invariant.0,
-      sought-more _ _ at-loop.loop-corner.corner at-loop.loop-corner.invariant.1 (corner-below c.before.before)
-          (sym c.before.breaks_at.ensures ∙ c.if-breaks_at.false),
+    (
+      c.loop-corner.invariant.0,
+      sought-more _ _ c.loop-corner.corner c.loop-corner.invariant.1 (corner-below c.before.before)
+          (sym c.breaks_at.ensures ∙ c.if-breaks_at.false),
     )
 
 pub overflow_step-edge : goal.overflow_step-edge
@@ -57,31 +57,27 @@ edges-smaller c = omega arith
 
 pub edges-preserved : goal.edges-preserved
 edges-preserved c =
-    let at-loop = c.before in
-    let at-edges = c.before.before.before in (
-      at-loop.loop-corner.invariant.0,
-      sought-more _ _ at-edges.edges.edge at-edges.edges.invariant.1 (edge-below c.before.before)
-          (sought-no _ _ at-loop.loop-corner.corner at-loop.loop-corner.invariant.1 (omega (arith, at-edges.before.count-n.ensures))),
+    (
+      c.loop-corner.invariant.0,
+      sought-more _ _ c.edges.edge c.edges.invariant.1 (edge-below c.before.before)
+          (sought-no _ _ c.loop-corner.corner c.loop-corner.invariant.1 (omega (arith, c.count-n.ensures))),
     )
 
 pub returns-after-edges : goal.returns-after-edges
 unfolding left_broken
 returns-after-edges c =
-    let at-edges = c.before in
-    at-edges.edges.invariant.0
-    ∙ left-break-nowhere (points at-edges.before.before.args.list.now)
-    (sought-no _ _ at-edges.edges.edge at-edges.edges.invariant.1 (omega (arith, at-edges.before.count-n.ensures)))
+    c.edges.invariant.0
+    ∙ left-break-nowhere (points c.args.list.now)
+    (sought-no _ _ c.edges.edge c.edges.invariant.1 (omega (arith, c.count-n.ensures)))
 
 pub returns-then-breaks_at : goal.returns-then-breaks_at
 unfolding left_broken breaking_edge
 returns-then-breaks_at c =
-    let at-loop = c.before.before.before in
-    let at-edges = at-loop.before.before in
-    let here = sym c.before.breaks_at.ensures ∙ c.if-breaks_at.true in
+    let here = sym c.breaks_at.ensures ∙ c.if-breaks_at.true in
     let corner-in = corner-below c.before.before in
-    let edge_in = edge-below at-loop.before in
-    let at_edge = sought-yes _ _ at-loop.loop-corner.corner corner-in here in
-    left-break-at (points at-edges.before.before.args.list.now) at-edges.edges.edge at-loop.loop-corner.corner
-    (sought-yes _ _ at-edges.edges.edge edge_in at_edge)
-    (sought-found _ _ at-edges.edges.edge at-edges.edges.invariant.1 edge_in at_edge)
-    (sought-found _ _ at-loop.loop-corner.corner at-loop.loop-corner.invariant.1 corner-in here)
+    let edge_in = edge-below c.before.before.before.before in
+    let at_edge = sought-yes _ _ c.loop-corner.corner corner-in here in
+    left-break-at (points c.args.list.now) c.edges.edge c.loop-corner.corner
+    (sought-yes _ _ c.edges.edge edge_in at_edge)
+    (sought-found _ _ c.edges.edge c.edges.invariant.1 edge_in at_edge)
+    (sought-found _ _ c.loop-corner.corner c.loop-corner.invariant.1 corner-in here)

@@ -14,4 +14,4 @@ exceeds_corners-requires c = tt
 
 pub returns : goal.returns
 unfolding too_many
-returns c = c.exceeds_corners.ensures ∙ ap (λ (n : ℕ). ltb max_corners n) c.before.count.ensures
+returns c = c.exceeds_corners.ensures ∙ ap (λ (n : ℕ). ltb max_corners n) c.count.ensures

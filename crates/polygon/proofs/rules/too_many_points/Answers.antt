@@ -14,4 +14,4 @@ exceeds_points-requires c = tt
 
 pub returns : goal.returns
 unfolding too_many_points
-returns c = c.exceeds_points.ensures ∙ ap (λ (n : ℕ). ltb max_points n) c.before.count.ensures
+returns c = c.exceeds_points.ensures ∙ ap (λ (n : ℕ). ltb max_points n) c.count.ensures

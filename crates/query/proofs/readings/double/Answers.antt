@@ -6,4 +6,4 @@ use borrow.Author.Rules.{rules}
 use Rattle.query.proofs.readings.double.Goals as goal
 
 pub float_from_bits-result : goal.float_from_bits-result
-float_from_bits-result c = subst (λ (b : Bool). T (not b)) (sym (sym c.before.is_nan.ensures ∙ c.if-is_nan.false)) tt
+float_from_bits-result c = subst (λ (b : Bool). T (not b)) (sym (sym c.is_nan.ensures ∙ c.if-is_nan.false)) tt

@@ -12,14 +12,13 @@ pub loop-i-init : goal.loop-i-init
 loop-i-init c = sought-start _ _
 
 pub turns_in-requires : goal.turns_in-requires
-turns_in-requires c = (c.before.before.before.requires, c.loop-i-test.true)
+turns_in-requires c = (c.requires, c.loop-i-test.true)
 
 pub returns-then-turns_in : goal.returns-then-turns_in
 unfolding first_inward
 returns-then-turns_in c =
-    let at-loop = c.before.before.before in
-    sym (sought-found _ _ at-loop.loop-i.i at-loop.loop-i.invariant c.before.before.loop-i-test.true
-    (sym c.before.turns_in.ensures ∙ c.if-turns_in.true))
+    sym (sought-found _ _ c.loop-i.i c.loop-i.invariant c.loop-i-test.true
+    (sym c.turns_in.ensures ∙ c.if-turns_in.true))
 
 pub overflow_add-i : goal.overflow_add-i
 overflow_add-i c = omega arith
@@ -29,10 +28,9 @@ loop-i-smaller c = omega arith
 
 pub loop-i-preserved : goal.loop-i-preserved
 loop-i-preserved c =
-    let at-loop = c.before.before.before in
-    sought-more _ _ at-loop.loop-i.i at-loop.loop-i.invariant c.before.before.loop-i-test.true
-    (sym c.before.turns_in.ensures ∙ c.if-turns_in.false)
+    sought-more _ _ c.loop-i.i c.loop-i.invariant c.loop-i-test.true
+    (sym c.turns_in.ensures ∙ c.if-turns_in.false)
 
 pub returns : goal.returns
 unfolding first_inward
-returns c = sym (sought-none _ _ c.before.loop-i.i c.before.loop-i.invariant (omega (arith, c.loop-i-test.false)))
+returns c = sym (sought-none _ _ c.loop-i.i c.loop-i.invariant (omega (arith, c.loop-i-test.false)))

@@ -43,46 +43,43 @@ module _ (c : After-gather-count) where
             (walked-under n (next n s) (n - 1) (next-below n s begin.pre.1))),
       )
 
-  last-is : get_or c.gather-count.new.1.1.1.0 (c.gather-count.result - 1) 0 ≡ get_or all (length all - 1) 0
+  last-is : get_or c.gather-count.new.kept (c.gather-count.result - 1) 0 ≡ get_or all (length all - 1) 0
   last-is = held-last c.gather-count.ensures (omega arith)
 
 pub overflow_sub-count : goal.overflow_sub-count
-overflow_sub-count c = omega (arith, c.before.before.gather-count.ensures.counted)
+overflow_sub-count c = omega (arith, c.gather-count.ensures.counted)
 
 pub offset_bounds-kept-count : goal.offset_bounds-kept-count
 offset_bounds-kept-count c =
-    let at = c.before.before in
-    omega (arith, at.gather-count.ensures.counted, at.gather-count.ensures.fits, at.gather-count.auto.1.1.1.0, (begin at).well-formed.1.1.1.0)
+    omega (arith, c.gather-count.ensures.counted, c.gather-count.ensures.fits, c.gather-count.auto.1.1.1.0, (begin (goal.at.offset_bounds-kept-count c).After-gather-count).well_formed.1.1.1.0)
 
 pub bounds-kept-count : goal.bounds-kept-count
 bounds-kept-count c =
-    let held = c.before.before.before.gather-count.ensures in
+    let held = c.gather-count.ensures in
     omega (arith, held.counted, held.fits)
 
 pub less_closing-requires : goal.less_closing-requires
 less_closing-requires c =
-    let at = c.before.before.before in
-    let start = begin at in
+    let start = begin (goal.at.less_closing-requires c).After-gather-count in
     let b = length (points start.args.list.now) in (
       omega (arith, start.pre.0, start.pre.1),
-      subst (λ (i : ℕ). i < b) (sym (last-is at)) (under_at b (all at) (under at) (length (all at) - 1) (omega arith)),
+      subst (λ (i : ℕ). i < b) (sym (last-is (goal.at.less_closing-requires c).After-gather-count)) (under_at b (all (goal.at.less_closing-requires c).After-gather-count) (under (goal.at.less_closing-requires c).After-gather-count) (length (all (goal.at.less_closing-requires c).After-gather-count) - 1) (omega arith)),
     )
 
 pub returns : goal.returns
 returns c =
-    let at = c.before.before.before.before in
-    let start = begin at in
+    let start = begin (goal.at.returns c).After-gather-count in
     let n = start.args.n in
     let s = start.args.start in
     let ps = points start.args.list.now in
-    let xs = all at in
-    let k = at.gather-count.result in
-    let l = at.gather-count.new.1.1.1.0 in
-    let counted = at.gather-count.ensures.counted in
+    let xs = all (goal.at.returns c).After-gather-count in
+    let k = c.gather-count.result in
+    let l = c.gather-count.new.kept in
+    let counted = c.gather-count.ensures.counted in
     let test =
-    ap₂ (λ (m i : ℕ). ltb 1 m && same_point (corner ps s) (corner ps i)) counted (last-is at) ∙ sym (closed_at (f at) 0 xs) in
+    ap₂ (λ (m i : ℕ). ltb 1 m && same_point (corner ps s) (corner ps i)) counted (last-is (goal.at.returns c).After-gather-count) ∙ sym (closed_at (f (goal.at.returns c).After-gather-count) 0 xs) in
     let count = c.less_closing.ensures ∙ ap (λ (t : Bool). cond t (k - 1) k) test in
-    subst (λ (r : ℕ). Held (distinct (f at) (walked n s n)) r l) (sym count)
-    (subst (λ (w : List ℕ). Held (distinct (f at) w) (cond (closed (f at) xs) (k - 1) k) l)
+    subst (λ (r : ℕ). Held (distinct (f (goal.at.returns c).After-gather-count) (walked n s n)) r l) (sym count)
+    (subst (λ (w : List ℕ). Held (distinct (f (goal.at.returns c).After-gather-count) w) (cond (closed (f (goal.at.returns c).After-gather-count) xs) (k - 1) k) l)
     (sym (walked_whole n s (omega (arith, start.pre.1))))
-    (held-less (closed (f at) xs) at.gather-count.ensures))
+    (held-less (closed (f (goal.at.returns c).After-gather-count) xs) c.gather-count.ensures))

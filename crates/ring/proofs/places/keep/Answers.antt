@@ -14,10 +14,9 @@ use Rattle.ring.proofs.places.keep.Goals as goal
 
 pub returns-then-wanted : goal.returns-then-wanted
 returns-then-wanted c =
-    let start = c.before in
-    let args = start.args in (
+    let args = c.args in (
       ap (λ (k : ℕ). take k (set args.kept.now args.count args.place)) (add-one args.count)
-          ∙ take-suc-set args.kept.now args.count args.place start.requires
+          ∙ take-suc-set args.kept.now args.count args.place c.requires
           ∙ ap (λ (t : Bool). take args.count args.kept.now ++ optional t args.place) (sym c.if-wanted.true),
       le_refl (args.count + 1),
       length-set args.kept.now args.count args.place,
@@ -25,8 +24,7 @@ returns-then-wanted c =
 
 pub returns : goal.returns
 returns c =
-    let start = c.before in
-    let args = start.args in (
+    let args = c.args in (
       take-set-le args.count args.kept.now args.count args.place (le_refl args.count)
           ∙ sym (append-nil (take args.count args.kept.now))
           ∙ ap (λ (t : Bool). take args.count args.kept.now ++ optional t args.place) (sym c.if-wanted.false),

@@ -15,10 +15,8 @@ loop-i-init c = (refl, zero-le)
 
 pub lower-best-requires : goal.lower-best-requires
 lower-best-requires c =
-    let at-loop = c.before in
-    let start = at-loop.before in
-    let g = corner (points start.args.list.now) in
-    (omega (arith, start.requires), omega (arith, start.requires, at-loop.loop-i.invariant.0, least-at-most g at-loop.loop-i.i))
+    let g = corner (points c.args.list.now) in
+    (omega (arith, c.requires), omega (arith, c.requires, c.loop-i.invariant.0, least-at-most g c.loop-i.i))
 
 pub overflow_add-i : goal.overflow_add-i
 overflow_add-i c = omega arith
@@ -28,15 +26,13 @@ loop-i-smaller c = omega arith
 
 pub loop-i-preserved : goal.loop-i-preserved
 loop-i-preserved c =
-    let at-loop = c.before.before in
-    let g = corner (points at-loop.before.args.list.now) in
-    let i = at-loop.loop-i.i in (
-      c.lower-best.ensures ∙ ap (λ (b : ℕ). cond (precedes (g i) (g b)) i b) at-loop.loop-i.invariant.0 ∙ sym (ap (least_place g) (add-one i)),
+    let g = corner (points c.args.list.now) in
+    let i = c.loop-i.i in (
+      c.lower-best.ensures ∙ ap (λ (b : ℕ). cond (precedes (g i) (g b)) i b) c.loop-i.invariant.0 ∙ sym (ap (least_place g) (add-one i)),
       omega arith,
     )
 
 pub returns : goal.returns
 returns c =
-    let at-loop = c.before in
-    let whole : at-loop.loop-i.i ≡ at-loop.before.args.n = omega (arith, at-loop.loop-i.invariant.1) in
-    at-loop.loop-i.invariant.0 ∙ ap (least_place (corner (points at-loop.before.args.list.now))) whole
+    let whole : c.loop-i.i ≡ c.args.n = omega (arith, c.loop-i.invariant.1) in
+    c.loop-i.invariant.0 ∙ ap (least_place (corner (points c.args.list.now))) whole

@@ -10,19 +10,19 @@ use Rattle.ring.proofs.places.less_closing.Goals as goal
 
 pub returns-then-n-lt2 : goal.returns-then-n-lt2
 returns-then-n-lt2 c =
-    let args = c.before.args in
+    let args = c.args in
     let ps = points args.list.now in
     sym (ap (λ (t : Bool). cond (t && same_point (corner ps args.first) (corner ps args.last)) (args.n - 1) args.n)
     (le-ltb 1 args.n (omega (arith, c.if-n-lt2.true))))
 
 pub returns-then-same_at : goal.returns-then-same_at
 returns-then-same_at c =
-    let args = c.before.before.before.args in
-    sym (ap₂ (λ (s t : Bool). cond (s && t) (args.n - 1) args.n) (lt-ltb 1 args.n (omega (arith, c.before.before.if-n-lt2.false)))
-    (sym c.before.same_at.ensures ∙ c.if-same_at.true))
+    let args = c.args in
+    sym (ap₂ (λ (s t : Bool). cond (s && t) (args.n - 1) args.n) (lt-ltb 1 args.n (omega (arith, c.if-n-lt2.false)))
+    (sym c.same_at.ensures ∙ c.if-same_at.true))
 
 pub returns : goal.returns
 returns c =
-    let args = c.before.before.before.args in
-    sym (ap₂ (λ (s t : Bool). cond (s && t) (args.n - 1) args.n) (lt-ltb 1 args.n (omega (arith, c.before.before.if-n-lt2.false)))
-    (sym c.before.same_at.ensures ∙ c.if-same_at.false))
+    let args = c.args in
+    sym (ap₂ (λ (s t : Bool). cond (s && t) (args.n - 1) args.n) (lt-ltb 1 args.n (omega (arith, c.if-n-lt2.false)))
+    (sym c.same_at.ensures ∙ c.if-same_at.false))

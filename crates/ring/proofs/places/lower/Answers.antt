@@ -6,10 +6,10 @@ use Rattle.ring.proofs.places.lower.Goals as goal
 
 pub returns-then-precedes_at : goal.returns-then-precedes_at
 returns-then-precedes_at c =
-    let args = c.before.before.args in
-    sym (ap (λ (t : Bool). cond t args.i args.best) (sym c.before.precedes_at.ensures ∙ c.if-precedes_at.true))
+    let args = c.args in
+    sym (ap (λ (t : Bool). cond t args.i args.best) (sym c.precedes_at.ensures ∙ c.if-precedes_at.true))
 
 pub returns : goal.returns
 returns c =
-    let args = c.before.before.args in
-    sym (ap (λ (t : Bool). cond t args.i args.best) (sym c.before.precedes_at.ensures ∙ c.if-precedes_at.false))
+    let args = c.args in
+    sym (ap (λ (t : Bool). cond t args.i args.best) (sym c.precedes_at.ensures ∙ c.if-precedes_at.false))

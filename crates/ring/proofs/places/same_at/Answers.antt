@@ -9,16 +9,15 @@ use Rattle.ring.proofs.places.same_at.Goals as goal
 
 pub returns-then-precedes_at : goal.returns-then-precedes_at
 returns-then-precedes_at c =
-    let args = c.before.before.args in
+    let args = c.args in
     let ps = points args.list.now in
     sym (same_point-neither (corner ps args.i) (corner ps args.j)
     ∙ ap (λ (t : Bool). not t && not (precedes (corner ps args.j) (corner ps args.i)))
-    (sym c.before.precedes_at.ensures ∙ c.if-precedes_at.true))
+    (sym c.precedes_at.ensures ∙ c.if-precedes_at.true))
 
 pub returns : goal.returns
 returns c =
-    let first = c.before.before in
-    let args = first.before.args in
+    let args = c.args in
     let ps = points args.list.now in
     sym (same_point-neither (corner ps args.i) (corner ps args.j)
-    ∙ ap₂ (λ (s t : Bool). not s && not t) (sym first.precedes_at.ensures ∙ c.before.if-precedes_at.false) (sym c.precedes_at-2.ensures))
+    ∙ ap₂ (λ (s t : Bool). not s && not t) (sym c.precedes_at.ensures ∙ c.if-precedes_at.false) (sym c.precedes_at-2.ensures))

@@ -35,39 +35,31 @@ module _ (c : Start) where
 pub loop-k-init : goal.loop-k-init
 loop-k-init c = (filled-start _ _, zero-le)
 
-length-kept : (c : At-loop-k) → length c.loop-k.shape-1 ≡ length c.before.args.shape-1.now
+length-kept : (c : At-loop-k) → length c.loop-k.shape ≡ length c.args.shape.now
 length-kept c =
-    let start = c.before in
-    filled-length c.loop-k.invariant.0 (omega (arith, two-each start, c.loop-k.invariant.1)) (omega (arith, start.requires.2, c.loop-k.invariant.1))
+    filled-length c.loop-k.invariant.0 (omega (arith, two-each c.before, c.loop-k.invariant.1)) (omega (arith, c.requires.2, c.loop-k.invariant.1))
 
 pub place_at-requires : goal.place_at-requires
-place_at-requires c = let start = c.before.before.before in (start.requires.1, c.before.loop-k-test.true)
+place_at-requires c = (c.requires.1, c.loop-k-test.true)
 
 pub corner_at-requires : goal.corner_at-requires
-corner_at-requires c = omega (arith, c.before.before.before.before.requires.0, c.place_at.ensures.1)
+corner_at-requires c = omega (arith, c.requires.0, c.place_at.ensures.1)
 
 pub put-requires : goal.put-requires
 put-requires c =
-    let in-loop = c.before.before.before in
-    let at-loop = in-loop.before in
-    omega (arith, in-loop.loop-k-test.true, at-loop.before.requires.2, length-kept at-loop)
+    omega (arith, c.loop-k-test.true, c.requires.2, length-kept c.before.before.before.before)
 
 pub loop-k-preserved : goal.loop-k-preserved
 loop-k-preserved c =
-    let at-corner = c.before.before in
-    let at_place = at-corner.before in
-    let in-loop = at_place.before.before in
-    let at-loop = in-loop.before in
-    let start = at-loop.before in
-    let k = at-loop.loop-k.k in
-    let ps = map (f start) (places start) in
-    let at = at-corner.corner_at.ensures ∙ ap (f start) at_place.place_at.ensures.0
-    ∙ sym (map_at (f start) (places start) k (omega (arith, in-loop.loop-k-test.true, counted start))) in (
-      subst (λ (out : List ℤ). Filled start.args.shape-1.now (numbers ps) (2 * (k + 1)) out) (sym c.before.put.ensures)
-          (filled-corner ps k at-loop.loop-k.invariant.0
-          (omega (arith, in-loop.loop-k-test.true, counted start, length-map (places start) (f start)))
-          (omega (arith, two-each start, start.requires.2)) (ap (λ (p : Point). p.x) at) (ap (λ (p : Point). p.y) at)),
-      omega (arith, in-loop.loop-k-test.true),
+    let k = c.loop-k.k in
+    let ps = map (f c.before.before.before.before.before.before.before) (places c.before.before.before.before.before.before.before) in
+    let at = c.corner_at.ensures ∙ ap (f c.before.before.before.before.before.before.before) c.place_at.ensures.0
+    ∙ sym (map_at (f c.before.before.before.before.before.before.before) (places c.before.before.before.before.before.before.before) k (omega (arith, c.loop-k-test.true, counted c.before.before.before.before.before.before.before))) in (
+      subst (λ (out : List ℤ). Filled c.args.shape.now (numbers ps) (2 * (k + 1)) out) (sym c.put.ensures)
+          (filled-corner ps k c.loop-k.invariant.0
+          (omega (arith, c.loop-k-test.true, counted c.before.before.before.before.before.before.before, length-map (places c.before.before.before.before.before.before.before) (f c.before.before.before.before.before.before.before)))
+          (omega (arith, two-each c.before.before.before.before.before.before.before, c.requires.2)) (ap (λ (p : Point). p.x) at) (ap (λ (p : Point). p.y) at)),
+      omega (arith, c.loop-k-test.true),
     )
 
 pub shape_of-shape : goal.shape_of-shape
@@ -75,8 +67,7 @@ shape_of-shape c = length-kept c.before
 
 pub returns : goal.returns
 returns c =
-    let at-loop = c.before in
-    filled-done at-loop.loop-k.invariant.0 (omega (arith, c.loop-k-test.false, at-loop.loop-k.invariant.1, two-each at-loop.before))
+    filled-done c.loop-k.invariant.0 (omega (arith, c.loop-k-test.false, c.loop-k.invariant.1, two-each c.before.before))
 
 pub overflow_add-k : goal.overflow_add-k
 overflow_add-k c = omega arith

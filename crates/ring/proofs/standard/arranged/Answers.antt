@@ -32,36 +32,29 @@ next-requires c = begins c.before
 
 pub turn_at-turn-requires : goal.turn_at-turn-requires
 turn_at-turn-requires c =
-    let start = c.before.before in
-    let few = opened-le (λ p. p) (points start.args.list.now) in
-    let n = start.requires.1.all in (
-      omega (arith, few, n, c.before.previous-before.ensures.upper_bound),
-      omega (arith, few, n, begins start),
+    let few = opened-le (λ p. p) (points c.args.list.now) in
+    let n = c.requires.1.all in (
+      omega (arith, few, n, c.previous-before.ensures.upper_bound),
+      omega (arith, few, n, begins c.before.before),
       omega (arith, few, n, c.next.ensures.upper_bound),
-      start.requires.0.in_range,
+      c.requires.0.in_range,
     )
 
 pub returns-then-turn-eq0 : goal.returns-then-turn-eq0
-returns-then-turn-eq0 c = absurd (false≢true c.lifetimes)
+returns-then-turn-eq0 c e = absurd (false≢true e)
 
 pub arrange-requires : goal.arrange-requires
 arrange-requires c =
-    let start = c.before.before.before.before.before in
-    (omega (arith, start.requires.1.all, opened-le (λ p. p) (points start.args.list.now)), begins start, start.requires.2)
+    (omega (arith, c.requires.1.all, opened-le (λ p. p) (points c.args.list.now)), begins c.before.before.before.before.before, c.requires.2)
 
 pub slice_bounds-passes-end-2 : goal.slice_bounds-passes-end-2
 slice_bounds-passes-end-2 c =
-    let at-arrange = c.before.before in
-    let start = at-arrange.before.before.before.before.before.before in
-    sym (length-take-le _ at-arrange.arrange.new.1.1.1.1.0
-    (omega (arith, start.requires.2, at-arrange.arrange.auto.1.1.1.1.0)))
+    sym (length-take-le _ c.arrange.new.1.1.1.1.0
+    (omega (arith, c.requires.2, c.arrange.auto.1.1.1.1.0)))
 
 pub returns : goal.returns
-returns c =
-    let at-arrange = c.before.before.before in
-    let at_turn = at-arrange.before.before.before in
-    let start = at_turn.before.before.before in
-    let args = start.args in
-    let back = lt_z (to_z w64 (of_z w64 at_turn.turn_at-turn.result)) (pos 0) in
-    arranged-front (points args.list.now) args.n args.start back start.requires.1.all start.requires.1.least
-    args.shape-1.now at-arrange.arrange.new.1.1.1.1.0 at-arrange.arrange.ensures (c.passes.ensures.0 c.lifetimes).shape-1
+returns c e =
+    let args = c.args in
+    let back = lt_z (to_z w64 (of_z w64 c.turn_at-turn.result)) (pos 0) in
+    arranged-front (points args.list.now) args.n args.start back c.requires.1.all c.requires.1.least
+    args.shape.now c.arrange.new.1.1.1.1.0 c.arrange.ensures (c.passes.ensures.0 e).shape

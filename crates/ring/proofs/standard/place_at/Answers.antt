@@ -13,10 +13,10 @@ use Rattle.ring.proofs.standard.place_at.Goals as goal
 use Rattle.ring.proofs.standard.place_at.Goals.{Start}
 
 pub turned_by-requires : goal.turned_by-requires
-turned_by-requires c = (c.before.requires.0, omega arith)
+turned_by-requires c = (c.requires.0, omega arith)
 
 pub turned_by-requires-2 : goal.turned_by-requires-2
-turned_by-requires-2 c = let l = c.before.requires.1 in (c.before.requires.0, omega arith)
+turned_by-requires-2 c = let l = c.requires.1 in (c.requires.0, omega arith)
 
 -- that many places onwards, as the sense says
 onwards : (c : Start) {b : Bool} → c.args.back ≡ b → let args = c.args in
@@ -28,7 +28,7 @@ onwards c e =
     ∙ sym (sense-walked args.n args.start c.requires.0 args.back args.k c.requires.1)
 
 pub returns-then-back : goal.returns-then-back
-returns-then-back c = (c.turned_by.ensures.0 ∙ onwards c.before.before c.before.if-back.true, c.turned_by.ensures.1)
+returns-then-back c = (c.turned_by.ensures.0 ∙ onwards c.before.before c.if-back.true, c.turned_by.ensures.1)
 
 pub returns : goal.returns
-returns c = (c.turned_by-2.ensures.0 ∙ onwards c.before.before c.before.if-back.false, c.turned_by-2.ensures.1)
+returns c = (c.turned_by-2.ensures.0 ∙ onwards c.before.before c.if-back.false, c.turned_by-2.ensures.1)

@@ -19,7 +19,7 @@ place-a-requires c = c.previous.ensures.upper_bound
 -- the three places, said of the list
 module _ (c : After-place) where
   abbrev begin : Start
-  begin = c.before.before.before.before.before.before
+  begin = (goal.at.After-place c).Start
 
   abbrev sense : ℕ → ℕ
   sense j = get_or (in_sense begin.args.back begin.args.kept.now) j 0
@@ -27,11 +27,11 @@ module _ (c : After-place) where
   abbrev all : ℕ
   all = length begin.args.kept.now
 
-  is-before : c.before.before.before.place-a.result ≡ sense (previous all begin.args.j)
-  is-before = c.before.before.before.place-a.ensures ∙ ap sense c.before.before.before.before.previous.ensures.value
+  is-before : c.place-a.result ≡ sense (previous all begin.args.j)
+  is-before = c.place-a.ensures ∙ ap sense c.previous.ensures.value
 
-  is-after : c.before.place-c.result ≡ sense (next all begin.args.j)
-  is-after = c.before.place-c.ensures ∙ ap sense c.before.before.next.ensures.value
+  is-after : c.place-c.result ≡ sense (next all begin.args.j)
+  is-after = c.place-c.ensures ∙ ap sense c.next.ensures.value
 
   sound : (j : ℕ) → j < all → sense j < length (points begin.args.list.now)
   sound j h = sense-below _ begin.args.back begin.args.kept.now begin.pre.0.below j h
@@ -50,10 +50,9 @@ straight_at-requires c =
 
 pub returns : goal.returns
 returns c =
-    let at-3 = c.before in
-    let start = begin at-3 in
+    let start = begin (goal.at.returns c).After-place in
     let ps = points start.args.list.now in
     ap not (c.straight_at.ensures
-    ∙ ap₂ (λ (a d : ℕ). straight (corner ps a) (corner ps at-3.place.result) (corner ps d)) (is-before at-3) (is-after at-3)
-    ∙ ap (λ (b : ℕ). straight (corner ps (sense at-3 (previous (all at-3) start.args.j))) (corner ps b)
-    (corner ps (sense at-3 (next (all at-3) start.args.j)))) at-3.place.ensures)
+    ∙ ap₂ (λ (a d : ℕ). straight (corner ps a) (corner ps c.place.result) (corner ps d)) (is-before (goal.at.returns c).After-place) (is-after (goal.at.returns c).After-place)
+    ∙ ap (λ (b : ℕ). straight (corner ps (sense (goal.at.returns c).After-place (previous (all (goal.at.returns c).After-place) start.args.j))) (corner ps b)
+    (corner ps (sense (goal.at.returns c).After-place (next (all (goal.at.returns c).After-place) start.args.j)))) c.place.ensures)

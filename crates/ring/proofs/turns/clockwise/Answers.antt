@@ -15,16 +15,14 @@ use Rattle.ring.proofs.turns.clockwise.Goals as goal
 
 pub turn_at-requires : goal.turn_at-requires
 turn_at-requires c =
-    let start = c.before.before.before.before.before in
-    let placed = start.requires.0 in
-    let some = start.requires.1 in
-    (placed.below _ (omega (arith, some)), placed.below 0 some, placed.below _ c.before.next.ensures.upper_bound, placed.near)
+    let placed = c.requires.0 in
+    let some = c.requires.1 in
+    (placed.below _ (omega (arith, some)), placed.below 0 some, placed.below _ c.next.ensures.upper_bound, placed.near)
 
 pub returns : goal.returns
 returns c =
-    let start = c.before.before.before.before.before.before in
-    let ps = points start.args.list.now in
-    let kept = start.args.kept.now in
-    ap (λ (t : ℤ). lt_z t (pos 0)) (result-is w64 c.turn_at.type-inv (c.turn_at.ensures
+    let ps = points c.args.list.now in
+    let kept = c.args.kept.now in
+    ap (λ (t : ℤ). lt_z t (pos 0)) (result-is w64 c.turn_at.type_inv (c.turn_at.ensures
     ∙ ap (λ (i : ℕ). turn (corner ps (get_or kept (length kept - 1) 0)) (corner ps (get_or kept 0 0)) (corner ps (get_or kept i 0)))
-    c.before.before.next.ensures.value)) ∙ sym (clockwise-at (corner ps) kept start.requires.1)
+    c.next.ensures.value)) ∙ sym (clockwise-at (corner ps) kept c.requires.1)

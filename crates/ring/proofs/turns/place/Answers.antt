@@ -12,19 +12,18 @@ use Rattle.ring.proofs.turns.place.Goals as goal
 
 pub returns-then-not-back : goal.returns-then-not-back
 returns-then-not-back c =
-    let args = c.before.before.args in
-    sym (ap (λ (b : Bool). get_or (in_sense b args.kept.now) args.j 0) (not-true args.back c.before.if-not-back.true))
+    let args = c.args in
+    sym (ap (λ (b : Bool). get_or (in_sense b args.kept.now) args.j 0) (c.if-not-back.true))
 
 pub returns-then-j-eq0 : goal.returns-then-j-eq0
 returns-then-j-eq0 c =
-    let args = c.before.before.before.args in
-    sym (ap (λ (i : ℕ). get_or (in_sense args.back args.kept.now) i 0) c.before.if-j-eq0.true ∙ sense-first args.back
+    let args = c.args in
+    sym (ap (λ (i : ℕ). get_or (in_sense args.back args.kept.now) i 0) c.if-j-eq0.true ∙ sense-first args.back
     args.kept.now)
 
 pub returns : goal.returns
 returns c =
-    let start = c.before.before.before in
-    let args = start.args in
-    let later : 0 < args.j = omega (arith, c.before.if-j-eq0.false) in
-    sym (ap (λ (b : Bool). get_or (in_sense b args.kept.now) args.j 0) (not-false args.back c.before.before.if-not-back.false)
-    ∙ sense-back args.kept.now args.j later start.requires)
+    let args = c.args in
+    let later : 0 < args.j = omega (arith, c.if-j-eq0.false) in
+    sym (ap (λ (b : Bool). get_or (in_sense b args.kept.now) args.j 0) (c.if-not-back.false)
+    ∙ sense-back args.kept.now args.j later c.requires)

@@ -17,24 +17,22 @@ pub side_at-requires : goal.side_at-requires
 side_at-requires c = (omega arith, c.requires.0.in_range, c.requires.0.shape.some)
 
 pub side_at-requires-2 : goal.side_at-requires-2
-side_at-requires-2 c = let pre = c.before.requires in (pre.1, pre.2, omega arith)
+side_at-requires-2 c = let pre = c.requires in (pre.1, pre.2, omega arith)
 
 starts : (c : Start) → At c.args.a.now (image c.args.b.now) begun
 starts c = image-begun _ _ c.requires.0 c.requires.1
 
-begins : (c : After-side_at-2) → walk_of c.before.side_at.result c.side_at-2.result false ≡ begun
-begins c = sides-walk begun c.before.side_at.result c.side_at-2.result c.before.side_at.ensures.0 c.side_at-2.ensures.0
+begins : (c : After-side_at-2) → walk_of c.side_at.result c.side_at-2.result false ≡ begun
+begins c = sides-walk begun c.side_at.result c.side_at-2.result c.side_at.ensures.0 c.side_at-2.ensures.0
 
-stands : (c : After-side_at-2) → let start = c.before.before in
-    At start.args.a.now (image start.args.b.now) (walk_of c.before.side_at.result c.side_at-2.result false)
+stands : (c : After-side_at-2) →
+    At c.args.a.now (image c.args.b.now) (walk_of c.side_at.result c.side_at-2.result false)
 stands c = subst (At _ _) (sym (begins c)) (starts c.before.before)
 
 pub here-requires : goal.here-requires
-here-requires c = corners-fit (stands c) c.before.side_at.ensures.1 c.side_at-2.ensures.1
+here-requires c = corners-fit (stands c) c.side_at.ensures.1 c.side_at-2.ensures.1
 
 pub returns : goal.returns
-returns c =
-    let at-sides = c.before in
-    let start = starts at-sides.before.before in
-    let is = c.here.ensures ∙ sides-here (stands at-sides) at-sides.before.side_at.ensures.1 at-sides.side_at-2.ensures.1 in
-    (is ∙ ap (here _ _) (begins at-sides) ∙ corner-here _ _ start 0 (on_below _ _ start 0 zero-le refl), here-near (stands at-sides) is)
+returns c = let start = starts c.before.before.before in
+    let is = c.here.ensures ∙ sides-here (stands c.before) c.side_at.ensures.1 c.side_at-2.ensures.1 in
+    record { result_value = is ∙ ap (here _ _) (begins c.before) ∙ corner-here _ _ start 0 (on_below _ _ start 0 zero-le refl); small = here-near (stands c.before) is }

@@ -26,10 +26,10 @@ told c e = e ∙ image-related _ _ c.requires.0 c.requires.1
 
 -- ---- what is known where a test fails or passes
 inner : (c : Else-sides) → some (right_of (D c.before)) (length (D c.before)) ≡ false
-inner c = sym c.before.requires.3.outside-is ∙ c.if-sides.false
+inner c = sym c.requires.3.outside-is ∙ c.if-sides.false
 
-count : (c : Else-sides) → c.before.args.sides.count ≡ length (D c.before)
-count c = c.before.requires.3.count-is c.if-sides.false
+count : (c : Else-sides) → c.args.sides.count ≡ length (D c.before)
+count c = c.requires.3.count-is c.if-sides.false
 
 few : (c : Then-sides-lt3) → ltb (length (D c.before.before.before)) 3 ≡ true
 few c = ap (λ (n : ℕ). ltb n 3) (sym (count c.before.before)) ∙ lt-ltb _ 3 c.if-sides-lt3.true
@@ -40,41 +40,35 @@ many c = ap (λ (n : ℕ). ltb n 3) (sym (count c.before.before)) ∙ le-ltb _ 3
 -- ---- the needs
 pub returns-then-sides : goal.returns-then-sides
 unfolding origin_in
-returns-then-sides c = told c.before (rw (sym c.before.requires.3.outside-is ∙ c.if-sides.true) refl)
+returns-then-sides c = told c.before (rw (sym c.requires.3.outside-is ∙ c.if-sides.true) refl)
 
 pub is_on-requires : goal.is_on-requires
-is_on-requires c = let pre = c.before.before.before.requires in (pre.0, pre.1, pre.2)
+is_on-requires c = let pre = c.requires in (pre.0, pre.1, pre.2)
 
 pub returns-then-is_on : goal.returns-then-is_on
 unfolding origin_in
 returns-then-is_on c =
-    let at-few = c.before.before in
-    let at-else = at-few.before.before in
-    told at-else.before (rw (inner at-else, few at-few, sym c.before.is_on.ensures ∙ c.if-is_on.true) refl)
+    told c.before.before.before.before.before (rw (inner c.before.before.before.before, few c.before.before, sym c.is_on.ensures ∙ c.if-is_on.true) refl)
 
 pub returns-then-sides-lt3 : goal.returns-then-sides-lt3
 unfolding origin_in
 returns-then-sides-lt3 c =
-    let at-few = c.before.before in
-    let at-else = at-few.before.before in
-    told at-else.before (rw (inner at-else, few at-few, sym c.before.is_on.ensures ∙ c.if-is_on.false) refl)
+    told c.before.before.before.before.before (rw (inner c.before.before.before.before, few c.before.before, sym c.is_on.ensures ∙ c.if-is_on.false) refl)
 
 pub returns-then-sides-2 : goal.returns-then-sides-2
 unfolding origin_in
 returns-then-sides-2 c =
-    let at-else = c.before.before.before in
-    told at-else.before (rw (
-      inner at-else,
+    told c.before.before.before.before (rw (
+      inner c.before.before.before,
       many c.before,
-      sym (at-else.before.requires.3.rim-is at-else.if-sides.false) ∙ c.if-sides-2.true,
+      sym (c.requires.3.rim-is c.if-sides.false) ∙ c.if-sides-2.true,
     ) refl)
 
 pub returns : goal.returns
 unfolding origin_in
 returns c =
-    let at-else = c.before.before.before in
-    told at-else.before (rw (
-      inner at-else,
+    told c.before.before.before.before (rw (
+      inner c.before.before.before,
       many c.before,
-      sym (at-else.before.requires.3.rim-is at-else.if-sides.false) ∙ c.if-sides-2.false,
+      sym (c.requires.3.rim-is c.if-sides.false) ∙ c.if-sides-2.false,
     ) refl)

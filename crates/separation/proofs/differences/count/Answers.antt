@@ -26,82 +26,67 @@ pub side_at-s-requires : goal.side_at-s-requires
 side_at-s-requires c = (omega arith, c.requires.0.in_range, c.requires.0.shape.some)
 
 pub side_at-t-requires : goal.side_at-t-requires
-side_at-t-requires c = let pre = c.before.requires in (pre.1, pre.2, omega arith)
+side_at-t-requires c = let pre = c.requires in (pre.1, pre.2, omega arith)
 
 pub overflow_add-all : goal.overflow_add-all
 overflow_add-all c =
-    let second = c.before.before in
-    let start = second.before.before in
     omega (
       arith,
-      image-sides second.before.side_at-s.ensures.1 second.side_at-t.ensures.1,
-      image-few _ _ start.requires.0 start.requires.1,
+      image-sides c.side_at-s.ensures.1 c.side_at-t.ensures.1,
+      image-few _ _ c.requires.0 c.requires.1,
     )
 
 pub loop-s-init : goal.loop-s-init
 loop-s-init c =
-    let at_second = c.before.before in
-    let first = at_second.before.side_at-s.ensures in
-    let second = at_second.side_at-t.ensures in
-    let start = at_second.before.before in
-    walked_start 0 0 (image-begun _ _ start.requires.0 start.requires.1) (omega arith) _ _ first.0 second.0 first.1 second.1
+    let first = c.side_at-s.ensures in
+    let second = c.side_at-t.ensures in
+    walked_start 0 0 (image-begun _ _ c.requires.0 c.requires.1) (omega arith) _ _ first.0 second.0 first.1 second.1
 
 -- not all corners are passed
-below : (c : At-loop-s) → let args = c.before.before.before.before.before.args in
+below : (c : At-loop-s) → let args = c.args in
     c.loop-s.count < length (points args.a.now) + length (points args.b.now)
 below c =
-    let start = c.before.before.before.before.before in
-    let a = start.args.a.now in
-    let b = start.args.b.now in
-    let few = next-few a (image b) begun (most a b) (image-begun a b start.requires.0 start.requires.1) in
-    omega (arith, walked-below c.loop-s.invariant, few, image-count b start.requires.1)
+    let a = c.args.a.now in
+    let b = c.args.b.now in
+    let few = next-few a (image b) begun (most a b) (image-begun a b c.requires.0 c.requires.1) in
+    omega (arith, walked-below c.loop-s.invariant, few, image-count b c.requires.1)
 
 pub overflow_add-count : goal.overflow_add-count
 overflow_add-count c =
-    let start = c.before.before.before.before.before in
-    omega (arith, below c, points-length start.args.a.now, points-length start.args.b.now)
+    omega (arith, below c, points-length c.args.a.now, points-length c.args.b.now)
 
 pub order-c-requires : goal.order-c-requires
 order-c-requires c = let w = c.loop-s.invariant in edges_fit (walked_at w) w.first-side w.second-side
 
 pub next-s-requires : goal.next-s-requires
-next-s-requires c = let w = c.before.loop-s.invariant in first_next (walked_at w) w.first-side w.second-side
+next-s-requires c = let w = c.loop-s.invariant in first_next (walked_at w) w.first-side w.second-side
 
 pub next-t-requires : goal.next-t-requires
 next-t-requires c =
-    let at-loop = c.before.before in
-    let pre = at-loop.before.before.before.before.before.requires in
-    (pre.1, pre.2, at-loop.loop-s.invariant.second-side)
+    let pre = c.requires in
+    (pre.1, pre.2, c.loop-s.invariant.second-side)
 
 pub overflow_add-s : goal.overflow_add-s
 overflow_add-s c =
-    let at_next = c.before.before in
-    let start = at_next.before.before.before.before.before.before.before.before in
-    let first = at_next.before.next-s.ensures.1.at_in in
-    let second = at_next.next-t.ensures.1.at_in in
-    omega (arith, image-few _ _ start.requires.0 start.requires.1)
+    let first = c.next-s.ensures.1.at_in in
+    let second = c.next-t.ensures.1.at_in in
+    omega (arith, image-few _ _ c.requires.0 c.requires.1)
 
 pub returns-then-s-t : goal.returns-then-s-t
 returns-then-s-t c =
-    let at_next = c.before.before.before in
-    let at-loop = at_next.before.before.before in
-    let start = at-loop.before.before.before.before.before in
-    (walked-over at-loop.loop-s.invariant (result-is w64 at_next.before.before.order-c.type-inv at_next.before.before.order-c.ensures) _ _
-    at_next.before.next-s.ensures.0 at_next.next-t.ensures.0 at_next.before.next-s.ensures.1 at_next.next-t.ensures.1
-    (c.if-s-t.true ∙ image-sides at-loop.before.before.before.before.side_at-s.ensures.1
-    at-loop.before.before.before.side_at-t.ensures.1)).counted
-    ∙ ap length (image-all _ _ start.requires.0 start.requires.1 (most start.args.a.now start.args.b.now) (omega arith))
+    (walked-over c.loop-s.invariant (result-is w64 c.order-c.type_inv c.order-c.ensures) _ _
+    c.next-s.ensures.0 c.next-t.ensures.0 c.next-s.ensures.1 c.next-t.ensures.1
+    (c.if-s-t.true ∙ image-sides c.side_at-s.ensures.1
+    c.side_at-t.ensures.1)).counted
+    ∙ ap length (image-all _ _ c.requires.0 c.requires.1 (most c.args.a.now c.args.b.now) (omega arith))
 
 pub loop-s-smaller : goal.loop-s-smaller
 loop-s-smaller c =
-    let at-loop = c.before.before.before.before.before.before in
-    omega (arith, walked-below at-loop.loop-s.invariant)
+    omega (arith, walked-below c.loop-s.invariant)
 
 pub loop-s-preserved : goal.loop-s-preserved
 loop-s-preserved c =
-    let at_next = c.before.before.before in
-    let at-loop = at_next.before.before.before in
-    walked_more at-loop.loop-s.invariant (result-is w64 at_next.before.before.order-c.type-inv at_next.before.before.order-c.ensures) _ _
-    at_next.before.next-s.ensures.0 at_next.next-t.ensures.0 at_next.before.next-s.ensures.1 at_next.next-t.ensures.1
-    (λ e. c.if-s-t.false (e ∙ sym (image-sides at-loop.before.before.before.before.side_at-s.ensures.1
-    at-loop.before.before.before.side_at-t.ensures.1))) (λ e. omega (arith, below at-loop))
+    walked_more c.loop-s.invariant (result-is w64 c.order-c.type_inv c.order-c.ensures) _ _
+    c.next-s.ensures.0 c.next-t.ensures.0 c.next-s.ensures.1 c.next-t.ensures.1
+    (λ e. c.if-s-t.false (e ∙ sym (image-sides c.side_at-s.ensures.1
+    c.side_at-t.ensures.1))) (λ e. omega (arith, below c.before.before.before.before.before.before))

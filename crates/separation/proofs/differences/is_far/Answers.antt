@@ -9,20 +9,17 @@ use Rattle.separation.proofs.differences.is_far.Goals as goal
 
 pub is_far-requires : goal.is_far-requires
 is_far-requires c =
-    let at_second = c.before.before.before in
-    let pre = at_second.before.requires in
+    let pre = c.requires in
     let first = extends-small _ pre.0.in_range pre.0.shape.some c.extent_of.ensures in
-    let second = extends-small _ pre.1.in_range pre.1.shape.some at_second.extent_of-e.ensures in
+    let second = extends-small _ pre.1.in_range pre.1.shape.some c.extent_of-e.ensures in
     (first.0, first.1, second.1, second.0)
 
 pub returns : goal.returns
 returns c =
-    let at_second = c.before.before.before.before in
-    let start = at_second.before in
-    let A = points start.args.a.now in
-    let B = points start.args.b.now in
-    c.is_far.ensures ∙ far-sum A (mirrored B) start.requires.0.shape.some (mirrored-some B start.requires.1.shape.some)
-    c.before.extent_of.ensures (image-extends B at_second.extent_of-e.ensures)
+    let A = points c.args.a.now in
+    let B = points c.args.b.now in
+    c.is_far.ensures ∙ far-sum A (mirrored B) c.requires.0.shape.some (mirrored-some B c.requires.1.shape.some)
+    c.extent_of.ensures (image-extends B c.extent_of-e.ensures)
 
 pub extent_of-e-requires : goal.extent_of-e-requires
 extent_of-e-requires c = c.requires.1

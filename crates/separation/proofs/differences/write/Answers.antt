@@ -30,55 +30,50 @@ pub side_at-first-requires : goal.side_at-first-requires
 side_at-first-requires c = (omega arith, c.requires.0.in_range, c.requires.0.shape.some)
 
 pub side_at-second-requires : goal.side_at-second-requires
-side_at-second-requires c = let pre = c.before.requires in (pre.1, pre.2, omega arith)
+side_at-second-requires c = let pre = c.requires in (pre.1, pre.2, omega arith)
 
 pub overflow_add-all : goal.overflow_add-all
 overflow_add-all c =
-    let second = c.before.before in
-    let start = second.before.before in
     omega (
       arith,
-      image-sides second.before.side_at-first.ensures.1 second.side_at-second.ensures.1,
-      image-few _ _ start.requires.0 start.requires.1,
+      image-sides c.side_at-first.ensures.1 c.side_at-second.ensures.1,
+      image-few _ _ c.requires.0 c.requires.1,
     )
 
 -- there is room for all corners
 room : (c : Start) → let args = c.args in
-    2 * length (next_corners args.a.now (image args.b.now) begun (enough args.a.now args.b.now)) ≤ length args.out-1.now
+    2 * length (next_corners args.a.now (image args.b.now) begun (enough args.a.now args.b.now)) ≤ length args.out.now
 room c =
     let all-next = image-all _ _ c.requires.0 c.requires.1 (enough c.args.a.now c.args.b.now) (omega arith) in
     omega (arith, ap length all-next, c.requires.3)
 
 pub stride-far-requires : goal.stride-far-requires
 stride-far-requires c =
-    let at_second = c.before.before.before in
-    let first = at_second.before.side_at-first.ensures in
-    let second = at_second.side_at-second.ensures in
-    let start = at_second.before.before in
-    let pre = start.requires in (
+    let first = c.side_at-first.ensures in
+    let second = c.side_at-second.ensures in
+    let pre = c.requires in (
       pre.0,
       pre.1,
       pre.2,
       walked_start 0 0 (image-begun _ _ pre.0 pre.1) (omega arith) _ _ first.0 second.0 first.1 second.1,
-      room start,
+      room c.before.before.before.before.before,
     )
 
 -- what is written after the stride
-strode : (c : After-stride-far) → let args = c.before.before.before.before.before.before.args in
-    Progress args.a.now (image args.b.now) args.out-1.now begun (enough args.a.now args.b.now) c.stride-far.result.count
-    c.stride-far.result.first c.stride-far.result.second c.stride-far.new.1.1.1.1.1.0
+strode : (c : After-stride-far) → let args = c.args in
+    Progress args.a.now (image args.b.now) args.out.now begun (enough args.a.now args.b.now) c.stride-far.result.count
+    c.stride-far.result.first c.stride-far.result.second c.stride-far.new.out
 strode c =
-    let start = c.before.before.before.before.before.before in
-    part-progress c.stride-far.ensures.0 (room start) c.stride-far.ensures.1
+    part-progress c.stride-far.ensures.0 (room c.before.before.before.before.before.before) c.stride-far.ensures.1
 
 pub loop-s-init : goal.loop-s-init
 loop-s-init c = λ old p. p
 
 -- what is written in the loop
-written : (c : At-loop-s) → let at-stride = c.before.before.before.before in
-    let args = at-stride.before.before.before.before.before.before.args in
-    Progress args.a.now (image args.b.now) args.out-1.now begun (enough args.a.now args.b.now) c.loop-s.count
-    c.loop-s.s-1 c.loop-s.t-1 c.loop-s.out-1
+written : (c : At-loop-s) →
+    let args = c.args in
+    Progress args.a.now (image args.b.now) args.out.now begun (enough args.a.now args.b.now) c.loop-s.count
+    c.loop-s.s c.loop-s.t c.loop-s.out
 written c = c.loop-s.invariant _ (strode c.before.before.before.before)
 
 pub here-requires : goal.here-requires
@@ -88,21 +83,18 @@ pub put-requires : goal.put-requires
 put-requires c = progress-room (written c.before.before)
 
 -- not all corners are passed
-below : (c : At-loop-s) → let at-stride = c.before.before.before.before in
-    let args = at-stride.before.before.before.before.before.before.args in
+below : (c : At-loop-s) →
+    let args = c.args in
     c.loop-s.count < length (points args.a.now) + length (points args.b.now)
 below c =
-    let start = c.before.before.before.before.before.before.before.before.before.before in
-    let a = start.args.a.now in
-    let b = start.args.b.now in
-    let few = next-few a (image b) begun (enough a b) (image-begun a b start.requires.0 start.requires.1) in
-    omega (arith, walked-below (written c).walked, few, image-count b start.requires.1)
+    let a = c.args.a.now in
+    let b = c.args.b.now in
+    let few = next-few a (image b) begun (enough a b) (image-begun a b c.requires.0 c.requires.1) in
+    omega (arith, walked-below (written c).walked, few, image-count b c.requires.1)
 
 pub overflow_add-count : goal.overflow_add-count
 overflow_add-count c =
-    let at-loop = c.before.before.before.before in
-    let start = at-loop.before.before.before.before.before.before.before.before.before.before in
-    omega (arith, below at-loop, points-length start.args.a.now, points-length start.args.b.now)
+    omega (arith, below c.before.before.before.before, points-length c.args.a.now, points-length c.args.b.now)
 
 pub order-c-requires : goal.order-c-requires
 order-c-requires c =
@@ -114,57 +106,44 @@ next-s-requires c =
 
 pub next-t-requires : goal.next-t-requires
 next-t-requires c =
-    let at-loop = c.before.before.before.before.before.before in
-    let pre = at-loop.before.before.before.before.before.before.before.before.before.before.requires in
-    (pre.1, pre.2, (written at-loop).walked.second-side)
+    let pre = c.requires in
+    (pre.1, pre.2, (written c.before.before.before.before.before.before).walked.second-side)
 
 pub overflow_add-s : goal.overflow_add-s
 overflow_add-s c =
-    let at_next = c.before.before in
-    let at-loop = at_next.before.before.before.before.before.before.before in
-    let start = at-loop.before.before.before.before.before.before.before.before.before.before in
-    let first = at_next.before.next-s.ensures.1.at_in in
-    let second = at_next.next-t.ensures.1.at_in in
-    omega (arith, image-few _ _ start.requires.0 start.requires.1)
+    let first = c.next-s.ensures.1.at_in in
+    let second = c.next-t.ensures.1.at_in in
+    omega (arith, image-few _ _ c.requires.0 c.requires.1)
 
 pub shape_of-out-then-s-t : goal.shape_of-out-then-s-t
 shape_of-out-then-s-t c =
-    let at-put = c.before.before.before.before.before.before.before in
-    progress-kept (written at-put.before.before.before) at-put.before.here.ensures at-put.put.ensures
+    progress-kept (written c.before.before.before.before.before.before.before.before.before.before) c.here.ensures c.put.ensures
 
 pub returns-then-s-t : goal.returns-then-s-t
 returns-then-s-t c =
-    let at_next = c.before.before.before in
-    let at-put = at_next.before.before.before.before in
-    let at-loop = at-put.before.before.before in
-    let start = at-loop.before.before.before.before.before.before.before.before.before.before in
-    let m = at_next.before.next-s.result in
-    let n = at_next.next-t.result in
-    let end = walked-over (written at-loop).walked
-    (result-is w64 at_next.before.before.order-c.type-inv at_next.before.before.order-c.ensures) m n
-    at_next.before.next-s.ensures.0 at_next.next-t.ensures.0 at_next.before.next-s.ensures.1 at_next.next-t.ensures.1
-    (c.if-s-t.true ∙ image-sides at-loop.before.before.before.before.before.before.before.before.before.side_at-first.ensures.1
-    at-loop.before.before.before.before.before.before.before.before.side_at-second.ensures.1) in
-    let went = progress-done (written at-loop) at-put.before.here.ensures at-put.put.ensures end
-    (record { count = at-loop.loop-s.count + 1; first = m.at; second = n.at; over = true }) refl refl in
-    let all-next = image-all _ _ start.requires.0 start.requires.1 (enough start.args.a.now start.args.b.now) (omega arith) in
-    (went.0.counted ∙ ap length all-next, went.1 ∙ ap (λ (ps : List Point). overwritten (numbers ps) start.args.out-1.now) all-next)
+    let m = c.next-s.result in
+    let n = c.next-t.result in
+    let end = walked-over (written c.before.before.before.before.before.before.before.before.before.before).walked
+    (result-is w64 c.order-c.type_inv c.order-c.ensures) m n
+    c.next-s.ensures.0 c.next-t.ensures.0 c.next-s.ensures.1 c.next-t.ensures.1
+    (c.if-s-t.true ∙ image-sides c.side_at-first.ensures.1
+    c.side_at-second.ensures.1) in
+    let went = progress-done (written c.before.before.before.before.before.before.before.before.before.before) c.here.ensures c.put.ensures end
+    (record { count = c.loop-s.count + 1; first = m.at; second = n.at; over = true }) refl refl in
+    let all-next = image-all _ _ c.requires.0 c.requires.1 (enough c.args.a.now c.args.b.now) (omega arith) in
+    (went.0.counted ∙ ap length all-next, went.1 ∙ ap (λ (ps : List Point). overwritten (numbers ps) c.args.out.now) all-next)
 
 pub loop-s-smaller : goal.loop-s-smaller
 loop-s-smaller c =
-    let at-loop = c.before.before.before.before.before.before.before.before.before.before in
-    omega (arith, walked-below (written at-loop).walked)
+    omega (arith, walked-below (written c.before.before.before.before.before.before.before.before.before.before).walked)
 
 pub loop-s-preserved : goal.loop-s-preserved
 loop-s-preserved c = λ old p.
-    let at_next = c.before.before.before in
-    let at-put = at_next.before.before.before.before in
-    let at-loop = at-put.before.before.before in
-    let inv = at-loop.loop-s.invariant old p in
-    progress-more inv at-put.before.here.ensures at-put.put.ensures
-    (walked_more inv.walked (result-is w64 at_next.before.before.order-c.type-inv at_next.before.before.order-c.ensures) _ _
-    at_next.before.next-s.ensures.0 at_next.next-t.ensures.0 at_next.before.next-s.ensures.1 at_next.next-t.ensures.1
+    let inv = c.loop-s.invariant old p in
+    progress-more inv c.here.ensures c.put.ensures
+    (walked_more inv.walked (result-is w64 c.order-c.type_inv c.order-c.ensures) _ _
+    c.next-s.ensures.0 c.next-t.ensures.0 c.next-s.ensures.1 c.next-t.ensures.1
     (λ e. c.if-s-t.false (e ∙ sym (
-    image-sides at-loop.before.before.before.before.before.before.before.before.before.side_at-first.ensures.1
-    at-loop.before.before.before.before.before.before.before.before.side_at-second.ensures.1)))
-    (λ e. omega (arith, below at-loop)))
+    image-sides c.side_at-first.ensures.1
+    c.side_at-second.ensures.1)))
+    (λ e. omega (arith, below c.before.before.before.before.before.before.before.before.before.before)))

@@ -15,7 +15,7 @@ pub normal-requires : goal.normal-requires
 normal-requires c = search (rules, small-plus)
 
 -- which edge it is, by the test
-picked : (c : After-struct_known-2-1) {t : Bool} → let args = c.before.before.args in
+picked : (c : After-struct_known-2-1) {t : Bool} → let args = c.args in
     ltb args.s.at args.m.at ≡ t → cond t (outward (corner_of args.s) (corner_of args.m))
     (outward (corner_of args.t) (corner_of args.n))
     ≡ cond (ltb args.s.at args.m.at) (outward (corner_of args.s) (corner_of args.m))
@@ -24,19 +24,17 @@ picked c e = rw e refl
 
 pub returns-then-s-m : goal.returns-then-s-m
 returns-then-s-m c =
-    let at_test = c.before.before.before.before in
-    let args = at_test.before.before.args in
-    c.normal.ensures ∙ ap₂ outward c.before.before.here.ensures c.before.here-then-s-m.ensures
+    let args = c.args in
+    c.normal.ensures ∙ ap₂ outward c.here.ensures c.here-then-s-m.ensures
     ∙ normal-right (corner_of args.s) (corner_of args.m) (corner_of args.t)
-    ∙ picked at_test (lt-ltb args.s.at args.m.at c.before.before.before.if-s-m.true)
+    ∙ picked c.before.before.before.before (lt-ltb args.s.at args.m.at c.if-s-m.true)
 
 pub normal-requires-2 : goal.normal-requires-2
 normal-requires-2 c = search (rules, small-plus)
 
 pub returns : goal.returns
 returns c =
-    let at_test = c.before.before.before.before in
-    let args = at_test.before.before.args in
-    c.normal-2.ensures ∙ ap₂ outward c.before.before.here-2.ensures c.before.here-3.ensures
+    let args = c.args in
+    c.normal-2.ensures ∙ ap₂ outward c.here-2.ensures c.here-3.ensures
     ∙ normal-left (corner_of args.t) (corner_of args.n) (corner_of args.s)
-    ∙ picked at_test (le-ltb args.s.at args.m.at c.before.before.before.if-s-m.false)
+    ∙ picked c.before.before.before.before (le-ltb args.s.at args.m.at c.if-s-m.false)

@@ -17,53 +17,46 @@ use Rattle.separation.proofs.stride.alone.Goals as goal
 use Rattle.separation.proofs.stride.alone.Goals.{At-loop-n, Start}
 
 pub returns-then-s : goal.returns-then-s
-returns-then-s c = c.before.before.requires.3
+returns-then-s c = c.requires.3
 
 pub loop-n-init : goal.loop-n-init
-loop-n-init c = c.before.before.requires.3
+loop-n-init c = c.requires.3
 
 abbrev start : At-loop-n → Start
 start c = c.before.before.before
 
 pub overflow_add-n : goal.overflow_add-n
 overflow_add-n c =
-    let at-loop = c.before in
-    let begin = start at-loop in
-    omega (arith, at-loop.loop-n.invariant.second-side.at_in, image-few _ _ begin.pre.0 begin.pre.1, begin.good.0, begin.good.1.0)
+    let begin = start c.before in
+    omega (arith, c.loop-n.invariant.second-side.at_in, image-few _ _ begin.pre.0 begin.pre.1, begin.good.0, begin.good.1.0)
 
 pub here-requires : goal.here-requires
-here-requires c = let p = c.before.before.before.loop-n.invariant in corners-fit (strode-at p) p.first-side p.second-side
+here-requires c = let p = c.loop-n.invariant in corners-fit (strode-at p) p.first-side p.second-side
 
 pub moment-requires : goal.moment-requires
 moment-requires c =
-    let p = c.before.before.before.before.loop-n.invariant in
+    let p = c.loop-n.invariant in
     let near = here-near (strode-at p) (c.here.ensures ∙ sides-here (strode-at p) p.first-side p.second-side) in
     (small-wide near, (edges_fit (strode-at p) p.first-side p.second-side).1)
 
 pub returns-then-moment-le0 : goal.returns-then-moment-le0
-returns-then-moment-le0 c = c.before.before.before.before.before.before.loop-n.invariant
+returns-then-moment-le0 c = c.loop-n.invariant
 
 pub ahead-n-requires : goal.ahead-n-requires
 ahead-n-requires c =
-    let taken = c.before.before.before in
-    let at-loop = taken.before.before.before in
-    let pre = (start at-loop).requires in
-    (pre.1, pre.2, at-loop.loop-n.invariant.second-side, taken.loop-n-test.true)
+    let pre = (start c.before.before.before.before.before.before).requires in
+    (pre.1, pre.2, c.loop-n.invariant.second-side, c.loop-n-test.true)
 
 pub loop-n-smaller : goal.loop-n-smaller
 loop-n-smaller c =
-    let taken = c.before.before.before.before in
-    let p = taken.before.before.before.loop-n.invariant in
-    omega (arith, goes_on p.second-side taken.loop-n-test.true c.ahead-n.ensures.0, taken.loop-n-test.true, p.second-side.end_is)
+    let p = c.loop-n.invariant in
+    omega (arith, goes_on p.second-side c.loop-n-test.true c.ahead-n.ensures.0, c.loop-n-test.true, p.second-side.end_is)
 
 pub loop-n-preserved : goal.loop-n-preserved
 loop-n-preserved c =
-    let at-moment = c.before.before in
-    let taken = at-moment.before.before in
-    let at-loop = taken.before.before.before in
-    strode-alone at-loop.loop-n.invariant at-loop.before.if-s.false taken.loop-n-test.true at-moment.before.here.ensures
-    c.before.if-moment-le0.false (result-is w64 at-moment.moment.type-inv at-moment.moment.ensures) _ c.ahead-n.ensures.0
+    strode-alone c.loop-n.invariant c.if-s.false c.loop-n-test.true c.here.ensures
+    c.if-moment-le0.false (result-is w64 c.moment.type_inv c.moment.ensures) _ c.ahead-n.ensures.0
     c.ahead-n.ensures.1
 
 pub returns : goal.returns
-returns c = c.before.before.before.loop-n.invariant
+returns c = c.loop-n.invariant

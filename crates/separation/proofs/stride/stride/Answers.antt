@@ -28,16 +28,15 @@ pub side_at-s-requires : goal.side_at-s-requires
 side_at-s-requires c = (omega arith, c.requires.0.in_range, c.requires.0.shape.some)
 
 pub side_at-requires : goal.side_at-requires
-side_at-requires c = let pre = c.before.requires in (pre.1, pre.2, omega arith)
+side_at-requires c = let pre = c.requires in (pre.1, pre.2, omega arith)
 
 pub alone-t-requires : goal.alone-t-requires
 alone-t-requires c =
-    let first = c.before in
-    let pre = first.before.requires in (
+    let pre = c.requires in (
       pre.0,
       pre.1,
       pre.2,
-      strode-start (image-begun _ _ pre.0 pre.1) first.side_at-s.ensures.0 c.side_at.ensures.0 first.side_at-s.ensures.1
+      strode-start (image-begun _ _ pre.0 pre.1) c.side_at-s.ensures.0 c.side_at.ensures.0 c.side_at-s.ensures.1
           c.side_at.ensures.1,
     )
 
@@ -49,8 +48,8 @@ bound c p = omega (
   p.first-side.at_in,
   p.second-side.at_in,
   image-few _ _ c.requires.0 c.requires.1,
-  c.well-formed.0,
-  c.well-formed.1.0,
+  c.well_formed.0,
+  c.well_formed.1.0,
 
 )
 
@@ -58,11 +57,11 @@ pub are_inside-requires : goal.are_inside-requires
 are_inside-requires c = let fits = bound c.before.before.before c.alone-t.ensures in (omega (arith, fits), omega (arith, fits))
 
 pub returns-then-not-are_inside : goal.returns-then-not-are_inside
-returns-then-not-are_inside c = c.before.before.alone-t.ensures
+returns-then-not-are_inside c = c.alone-t.ensures
 
 pub loop-from-init : goal.loop-from-init
 loop-from-init c =
-    let three = c.before.are_inside.ensures (not-false _ c.if-not-are_inside.false) in (c.before.before.alone-t.ensures, three.0, three.1)
+    let three = c.are_inside.ensures (c.if-not-are_inside.false) in (c.alone-t.ensures, three.0, three.1)
 
 abbrev start : At-loop-from → Start
 start c = c.before.before.before.before.before.before
@@ -71,15 +70,15 @@ pub here-from-requires : goal.here-from-requires
 here-from-requires c = let p = c.loop-from.invariant.0 in corners-fit (strode-at p) p.first-side p.second-side
 
 pub order-c-requires : goal.order-c-requires
-order-c-requires c = let p = c.before.loop-from.invariant.0 in edges_fit (strode-at p) p.first-side p.second-side
+order-c-requires c = let p = c.loop-from.invariant.0 in edges_fit (strode-at p) p.first-side p.second-side
 
 -- the corner and the edges may be multiplied
-fit : (c : After-order-c) → let at-loop = c.before.before in
-    Small (2 ^ 22) (at c.before.here-from.result) × Small (2 ^ 22) (next_of at-loop.loop-from.s) × Small (2 ^ 22) (next_of at-loop.loop-from.t)
+fit : (c : After-order-c) →
+    Small (2 ^ 22) (at c.here-from.result) × Small (2 ^ 22) (next_of c.loop-from.s) × Small (2 ^ 22) (next_of c.loop-from.t)
 fit c =
-    let p = c.before.before.loop-from.invariant.0 in
+    let p = c.loop-from.invariant.0 in
     let both = edges_fit (strode-at p) p.first-side p.second-side in
-    let near = here-near (strode-at p) (c.before.here-from.ensures ∙ sides-here (strode-at p) p.first-side p.second-side) in
+    let near = here-near (strode-at p) (c.here-from.ensures ∙ sides-here (strode-at p) p.first-side p.second-side) in
     (small-wide near, both.0, both.1)
 
 -- what the sides ask for to go on
@@ -100,7 +99,7 @@ pub moment-requires : goal.moment-requires
 moment-requires c = let f = fit c.before in (f.0, f.1)
 
 pub returns-then-moment-le0 : goal.returns-then-moment-le0
-returns-then-moment-le0 c = c.before.before.before.before.before.loop-from.invariant.0
+returns-then-moment-le0 c = c.loop-from.invariant.0
 
 pub ahead-s-requires : goal.ahead-s-requires
 ahead-s-requires c = first-ahead c.before.before.before.before.before
@@ -109,7 +108,7 @@ pub moment-requires-then-c-lt0 : goal.moment-requires-then-c-lt0
 moment-requires-then-c-lt0 c = let f = fit c.before.before in (f.0, f.2)
 
 pub returns-then-moment-le0-2 : goal.returns-then-moment-le0-2
-returns-then-moment-le0-2 c = c.before.before.before.before.before.before.loop-from.invariant.0
+returns-then-moment-le0-2 c = c.loop-from.invariant.0
 
 pub ahead-t-requires : goal.ahead-t-requires
 ahead-t-requires c = second-ahead c.before.before.before.before.before.before
@@ -118,7 +117,7 @@ pub joint_moment-requires : goal.joint_moment-requires
 joint_moment-requires c = fit c.before.before
 
 pub returns-then-joint_moment-le0 : goal.returns-then-joint_moment-le0
-returns-then-joint_moment-le0 c = c.before.before.before.before.before.before.loop-from.invariant.0
+returns-then-joint_moment-le0 c = c.loop-from.invariant.0
 
 pub ahead-s-requires-else-c-lt0 : goal.ahead-s-requires-else-c-lt0
 ahead-s-requires-else-c-lt0 c = first-ahead c.before.before.before.before.before.before
@@ -128,25 +127,23 @@ ahead-t-requires-else-c-lt0 c = second-ahead c.before.before.before.before.befor
 
 pub overflow_add-joined : goal.overflow_add-joined
 overflow_add-joined c =
-    let at-loop = c.before.before.before.before.before.before.before.before in
-    let p = at-loop.loop-from.invariant.0 in
-    omega (arith, p.counted, bound (start at-loop) p, at-loop.loop-from.invariant.1, p.first-side.end_is)
+    let p = c.loop-from.invariant.0 in
+    omega (arith, p.counted, bound (start c.before.before.before.before.before.before.before.before) p, c.loop-from.invariant.1, p.first-side.end_is)
 
 -- one side went on, or both: the walk is further, and less is left
-further : (c : Joined-c-gt0) → let at-loop = c.before.before.before in
-    let args = (start at-loop).args in
+further : (c : Joined-c-gt0) →
+    let args = (start c.before.before.before).args in
     let E = edges (points args.a.now) in
     let F = edges (points (image args.b.now)) in
     Strode args.a.now (image args.b.now) c.if-c-gt0.s c.if-c-gt0.t c.if-c-gt0.joined
-    × (length E - c.if-c-gt0.s.at + (length F - c.if-c-gt0.t.at) < length E - at-loop.loop-from.s.at + (length F - at-loop.loop-from.t.at))
+    × (length E - c.if-c-gt0.s.at + (length F - c.if-c-gt0.t.at) < length E - c.loop-from.s.at + (length F - c.loop-from.t.at))
 further c =
-    let o = c.before in
-    let inv = o.before.before.loop-from.invariant in
+    let inv = c.loop-from.invariant in
     let p = inv.0 in
-    let product = result-is w64 o.order-c.type-inv o.order-c.ensures in
+    let product = result-is w64 c.order-c.type_inv c.order-c.ensures in
     elim c.if-c-gt0.branch [
       | inl q ↦ (
-        strode-same q.4 q.5 q.6 (strode-first p product o.before.here-from.ensures q.2.left inv.1 inv.2
+        strode-same q.4 q.5 q.6 (strode-first p product c.here-from.ensures q.2.left inv.1 inv.2
             q.0.taken (result-is w64 q.1.ok q.1.ensures) _ q.3.ensures.0 q.3.ensures.1),
         omega (
           arith,
@@ -159,7 +156,7 @@ further c =
       )
       | inr r ↦ elim r [
         | inl q ↦ (
-          strode-same q.5 q.6 q.7 (strode-second p product o.before.here-from.ensures q.3.left inv.1 inv.2
+          strode-same q.5 q.6 q.7 (strode-second p product c.here-from.ensures q.3.left inv.1 inv.2
               q.1.taken (result-is w64 q.2.ok q.2.ensures) _ q.4.ensures.0 q.4.ensures.1),
           omega (
             arith,
@@ -171,7 +168,7 @@ further c =
           ),
         )
         | inr q ↦ (
-          strode-same q.6 q.7 q.8 (strode-both p product o.before.here-from.ensures q.3.left inv.1 inv.2
+          strode-same q.6 q.7 q.8 (strode-both p product c.here-from.ensures q.3.left inv.1 inv.2
               q.0.left q.1.left (result-is w64 q.2.ok q.2.ensures) _ _ q.4.ensures.0 q.5.ensures.0
               q.4.ensures.1 q.5.ensures.1),
           omega (
@@ -201,4 +198,4 @@ loop-from-smaller c = (further c.before.before).1
 
 pub loop-from-preserved : goal.loop-from-preserved
 loop-from-preserved c =
-    let three = c.before.are_inside-in-loop-from.ensures (not-false _ c.if-not-are_inside-2.false) in ((further c.before.before).0, three.0, three.1)
+    let three = c.are_inside-in-loop-from.ensures (c.if-not-are_inside-2.false) in ((further c.before.before).0, three.0, three.1)

@@ -23,31 +23,31 @@ pub count-n-requires : goal.count-n-requires
 count-n-requires c = tt
 
 pub side_at-s-requires : goal.side_at-s-requires
-side_at-s-requires c = let v = c.before.requires.0 in (omega arith, v.in_range, v.shape.some)
+side_at-s-requires c = let v = c.requires.0 in (omega arith, v.in_range, v.shape.some)
 
 pub side_at-t-requires : goal.side_at-t-requires
-side_at-t-requires c = let v = c.before.before.requires.1 in (omega arith, v.in_range, v.shape.some)
+side_at-t-requires c = let v = c.requires.1 in (omega arith, v.in_range, v.shape.some)
 
 pub loop-t-init : goal.loop-t-init
 loop-t-init c =
-    let pre = c.before.before.before.requires in
-    let first = c.before.side_at-s.ensures in
+    let pre = c.requires in
+    let first = c.side_at-s.ensures in
     let second = c.side_at-t.ensures in
     beside-start pre.0 pre.1 pre.2 first.0 second.0 first.1 second.1
 
 -- there is an edge of b to pass
 there : (c : In-loop-t)
-    → c.before.before.loop-t.t.at < length (points c.before.before.before.before.before.before.args.b.now)
-there c = omega (arith, c.loop-t-test.true, c.before.before.before.before.before.count-n.ensures)
+    → c.loop-t.t.at < length (points c.args.b.now)
+there c = omega (arith, c.loop-t-test.true, c.count-n.ensures)
 
 pub order-c-requires : goal.order-c-requires
 order-c-requires c =
-    let inv = c.before.before.loop-t.invariant in
+    let inv = c.loop-t.invariant in
     edges_fit inv.place inv.first-side inv.second-side
 
 pub turn-requires : goal.turn-requires
 turn-requires c =
-    let inv = c.before.before.before.before.loop-t.invariant in
+    let inv = c.loop-t.invariant in
     let corners = corners-fit inv.place inv.first-side inv.second-side in
     (corners.1, corners.0, (edges_fit inv.place inv.first-side inv.second-side).1)
 
@@ -57,41 +57,34 @@ told ok e h = ap (λ (z : ℤ). lt_z z (pos 0)) (sym (result-is w64 ok e)) ∙ h
 
 pub returns-then-turn-lt0 : goal.returns-then-turn-lt0
 returns-then-turn-lt0 c =
-    let at_right = c.before in
-    let then = at_right.before.before.before in
-    sym (beside-right then.before.before.loop-t.invariant (there then) (told at_right.turn.type-inv at_right.turn.ensures c.if-turn-lt0.true))
+    sym (beside-right c.loop-t.invariant (there c.before.before.before.before) (told c.turn.type_inv c.turn.ensures c.if-turn-lt0.true))
 
 pub next-s-requires : goal.next-s-requires
 next-s-requires c =
-    let inv = c.before.before.before.before.loop-t.invariant in
+    let inv = c.loop-t.invariant in
     first_next inv.place inv.first-side inv.second-side
 
 pub next-t-requires : goal.next-t-requires
 next-t-requires c =
-    let inv = c.before.before.before.before.before.loop-t.invariant in
+    let inv = c.loop-t.invariant in
     second-next inv.place inv.first-side inv.second-side
 
 pub loop-t-smaller : goal.loop-t-smaller
 loop-t-smaller c =
-    let at-order = c.before.before.before in
-    let then = at-order.before in
-    beside-less then.before.before.loop-t.invariant (there then) c.before.next-s.result c.next-t.result
-    (result-is w64 at-order.order-c.type-inv at-order.order-c.ensures) c.before.next-s.ensures.0 c.next-t.ensures.0
+    beside-less c.loop-t.invariant (there c.before.before.before.before) c.next-s.result c.next-t.result
+    (result-is w64 c.order-c.type_inv c.order-c.ensures) c.next-s.ensures.0 c.next-t.ensures.0
 
 -- where the edge is passed, the corner at hand is not to its right
-asked : (c : Joined-c-le0) → let at-loop = c.before.before.before.before in
-    le_z (to_z w64 (of_z w64 c.before.order-c.result)) (pos 0) ≡ true → is_right at-loop.loop-t.s at-loop.loop-t.t ≡ false
+asked : (c : Joined-c-le0) →
+    le_z (to_z w64 (of_z w64 c.order-c.result)) (pos 0) ≡ true → is_right c.loop-t.s c.loop-t.t ≡ false
 asked c e = elim c.if-c-le0.branch [ inl q ↦ told q.1.ok q.1.ensures q.2.left | inr q ↦ true-not-false e q.left ]
 
 pub loop-t-preserved : goal.loop-t-preserved
 loop-t-preserved c =
-    let at-order = c.before.before.before in
-    let then = at-order.before in
-    beside-more then.before.before.loop-t.invariant (there then) c.before.next-s.result c.next-t.result
-    (result-is w64 at-order.order-c.type-inv at-order.order-c.ensures) c.before.next-s.ensures.0 c.next-t.ensures.0
-    c.before.next-s.ensures.1 c.next-t.ensures.1 (asked c.before.before)
+    beside-more c.loop-t.invariant (there c.before.before.before.before) c.next-s.result c.next-t.result
+    (result-is w64 c.order-c.type_inv c.order-c.ensures) c.next-s.ensures.0 c.next-t.ensures.0
+    c.next-s.ensures.1 c.next-t.ensures.1 (asked c.before.before)
 
 pub returns : goal.returns
 returns c =
-    let at-loop = c.before.before in
-    sym (beside-all at-loop.loop-t.invariant (omega (arith, c.loop-t-test.false, at-loop.before.before.before.count-n.ensures)))
+    sym (beside-all c.loop-t.invariant (omega (arith, c.loop-t-test.false, c.count-n.ensures)))

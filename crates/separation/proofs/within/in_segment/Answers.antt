@@ -22,50 +22,46 @@ pub loop-i-init : goal.loop-i-init
 loop-i-init c = (omega arith, λ k h. absurd (omega arith))
 
 -- there is a corner at i
-corner-there : (c : In-loop-i) → c.before.loop-i.i < length (points c.before.before.before.args.a.now)
-corner-there c = omega (arith, c.loop-i-test.true, c.before.before.count-n.ensures)
+corner-there : (c : In-loop-i) → c.loop-i.i < length (points c.args.a.now)
+corner-there c = omega (arith, c.loop-i-test.true, c.count-n.ensures)
 
 pub corner_at-requires : goal.corner_at-requires
 corner_at-requires c = corner-there c
 
 pub on_segment-requires : goal.on_segment-requires
 on_segment-requires c =
-    let start = c.before.before.before.before in
-    let near = start.requires.0.in_range in
-    (small-corner start.args.a.now near _ (corner-there c.before) c.corner_at.ensures, start.requires.1, start.requires.2)
+    let near = c.requires.0.in_range in
+    (small-corner c.args.a.now near _ (corner-there c.before) c.corner_at.ensures, c.requires.1, c.requires.2)
 
 -- what is asked of corner i
-asked : (c : After-on_segment) → let args = c.before.before.before.before.before.args in
+asked : (c : After-on_segment) → let args = c.args in
     c.on_segment.result
-    ≡ inside (corner (points args.a.now) c.before.before.before.loop-i.i ∷ []) (at args.p ∷ at args.q ∷ [])
+    ≡ inside (corner (points args.a.now) c.loop-i.i ∷ []) (at args.p ∷ at args.q ∷ [])
 asked c =
-    let args = c.before.before.before.before.before.args in
-    c.on_segment.ensures ∙ ap (λ (x : Point). inside (x ∷ []) (at args.p ∷ at args.q ∷ [])) c.before.corner_at.ensures
+    let args = c.args in
+    c.on_segment.ensures ∙ ap (λ (x : Point). inside (x ∷ []) (at args.p ∷ at args.q ∷ [])) c.corner_at.ensures
 
 pub returns-then-not-on_segment : goal.returns-then-not-on_segment
 returns-then-not-on_segment c =
-    let in-loop = c.before.before.before in
-    let args = in-loop.before.before.before.args in
-    sym (corner-outside (points args.a.now) (at args.p ∷ at args.q ∷ []) (omega arith) in-loop.before.loop-i.i
-    (corner-there in-loop) (sym (asked c.before) ∙ not-true _ c.if-not-on_segment.true))
+    let args = c.args in
+    sym (corner-outside (points args.a.now) (at args.p ∷ at args.q ∷ []) (omega arith) c.loop-i.i
+    (corner-there c.before.before.before) (sym (asked c.before) ∙ c.if-not-on_segment.true))
 
 pub overflow_add-i : goal.overflow_add-i
-overflow_add-i c = omega (arith, c.before.before.before.loop-i-test.true)
+overflow_add-i c = omega (arith, c.loop-i-test.true)
 
 pub loop-i-smaller : goal.loop-i-smaller
-loop-i-smaller c = omega (arith, c.before.before.before.loop-i-test.true)
+loop-i-smaller c = omega (arith, c.loop-i-test.true)
 
 pub loop-i-preserved : goal.loop-i-preserved
 loop-i-preserved c =
-    let in-loop = c.before.before.before in (
-      omega (arith, in-loop.loop-i-test.true),
-      below_more _ _ in-loop.before.loop-i.invariant.1 (sym (asked c.before) ∙ not-false _ c.if-not-on_segment.false),
+    (
+      omega (arith, c.loop-i-test.true),
+      below_more _ _ c.loop-i.invariant.1 (sym (asked c.before) ∙ c.if-not-on_segment.false),
     )
 
 pub returns : goal.returns
 returns c =
-    let at-loop = c.before in
-    let start = at-loop.before.before in
-    sym (corners-inside (points start.args.a.now) (at start.args.p ∷ at start.args.q ∷ []) (omega arith)
-    start.requires.0.shape.some
-    (λ k h. at-loop.loop-i.invariant.1 k (omega (arith, c.loop-i-test.false, at-loop.before.count-n.ensures))))
+    sym (corners-inside (points c.args.a.now) (at c.args.p ∷ at c.args.q ∷ []) (omega arith)
+    c.requires.0.shape.some
+    (λ k h. c.loop-i.invariant.1 k (omega (arith, c.loop-i-test.false, c.count-n.ensures))))

@@ -17,28 +17,24 @@ use Rattle.separation.proofs.within.on_segment.Goals.{After-cross}
 
 pub cross-requires : goal.cross-requires
 cross-requires c =
-    let start = c.before.before in
-    (small-step start.requires.0 start.requires.1 c.before.step-to_first.ensures, small-step start.requires.0 start.requires.2 c.step-to_last.ensures)
+    (small-step c.requires.0 c.requires.1 c.step-to_first.ensures, small-step c.requires.0 c.requires.2 c.step-to_last.ensures)
 
 -- the product of the steps to the ends
-crossed : (c : After-cross) → let start = c.before.before.before in
-    c.cross.result ≡ cross (at start.args.p ⊖ at start.args.x) (at start.args.q ⊖ at start.args.x)
-crossed c = c.cross.ensures ∙ ap₂ cross c.before.before.step-to_first.ensures c.before.step-to_last.ensures
+crossed : (c : After-cross) →
+    c.cross.result ≡ cross (at c.args.p ⊖ at c.args.x) (at c.args.q ⊖ at c.args.x)
+crossed c = c.cross.ensures ∙ ap₂ cross c.step-to_first.ensures c.step-to_last.ensures
 
 pub returns-then-cross-ne0 : goal.returns-then-cross-ne0
 returns-then-cross-ne0 c =
-    let start = c.before.before.before.before in
-    sym (segment-off (at start.args.p) (at start.args.q) (at start.args.x)
+    sym (segment-off (at c.args.p) (at c.args.q) (at c.args.x)
     (λ e. c.if-cross-ne0.true (ap (of_z w64) (crossed c.before ∙ e))))
 
 pub dot-requires : goal.dot-requires
-dot-requires c = cross-requires c.before.before c.lifetimes
+dot-requires c = cross-requires c.before.before
 
 pub returns : goal.returns
 returns c =
-    let at-cross = c.before.before in
-    let start = at-cross.before.before.before in
-    let steps = ap₂ value at-cross.before.before.step-to_first.ensures at-cross.before.step-to_last.ensures in
-    ap (λ (z : ℤ). le_z z (pos 0)) (result-is w64 c.dot.type-inv (c.dot.ensures ∙ steps))
-    ∙ segment-level (at start.args.p) (at start.args.q) (at start.args.x)
-    (sym (result-is w64 at-cross.cross.type-inv (crossed at-cross)) ∙ ap (to_z w64) c.before.if-cross-ne0.false)
+    let steps = ap₂ value c.step-to_first.ensures c.step-to_last.ensures in
+    ap (λ (z : ℤ). le_z z (pos 0)) (result-is w64 c.dot.type_inv (c.dot.ensures ∙ steps))
+    ∙ segment-level (at c.args.p) (at c.args.q) (at c.args.x)
+    (sym (result-is w64 c.cross.type_inv (crossed c.before.before)) ∙ ap (to_z w64) c.if-cross-ne0.false)

@@ -15,24 +15,21 @@ use Rattle.shape_questions.proofs.rings.ring.Goals as goal
 
 pub returns-in-No : goal.returns-in-No
 returns-in-No c =
-    let at-admit = c.before.before.before in
-    let args = at-admit.before.args in
+    let args = c.args in
     let qs = points args.list.now in
-    rest-refused (ask_ring (on args.list.now args.floor) args.out-1.now) tt
-    (refuses-append (inward_row qs ∷ room_row (ring_shape qs) args.out-1.now ∷ [])
-    (at-admit.admit.ensures.no _ c.before.in-No.is))
+    rest-refused (ask_ring (on args.list.now args.floor) args.out.now) tt
+    (refuses-append (inward_row qs ∷ room_row (ring_shape qs) args.out.now ∷ [])
+    (c.admit.ensures.no _ c.in-No.is))
 
 pub ring_in-requires : goal.ring_in-requires
 ring_in-requires c =
-    let at_told = c.before.before.before in
-    let l = at_told.before.before.before.args.list.now in (
-      at_told.before.before.admit.ensures.valid at_told.in_default.is,
-      omega (arith, c.before.before.if-list-le-FEW_NUMBERS.true, opened-le (λ p. p) (points l), points-length l),
+    let l = c.args.list.now in (
+      c.admit.ensures.valid c.in_default.is,
+      omega (arith, c.if-list-le-FEW_NUMBERS.true, opened-le (λ p. p) (points l), points-length l),
     )
 
 pub ring_in-requires-2 : goal.ring_in-requires-2
 unfolding max_points
 ring_in-requires-2 c =
-    let at_told = c.before.before.before in
-    let v = at_told.before.before.admit.ensures.valid at_told.in_default.is in
-    (v, omega (arith, v.few-1))
+    let v = c.admit.ensures.valid c.in_default.is in
+    (v, omega (arith, v.few))

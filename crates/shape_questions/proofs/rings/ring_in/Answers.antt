@@ -12,17 +12,16 @@ use Rattle.shape_questions.proofs.rings.ring_in.Goals as goal
 use Rattle.shape_questions.proofs.rings.ring_in.Goals.{Else-not-arranged}
 
 pub least-start-requires : goal.least-start-requires
-least-start-requires c = omega (arith, c.open_count-n.ensures, opened-le (λ p. p) (points c.before.args.list.now))
+least-start-requires c = omega (arith, c.open_count-n.ensures, opened-le (λ p. p) (points c.args.list.now))
 
 -- past the test the points are the corners
-passed : (c : Else-not-arranged) → c.before.before.arranged.result ≡ true
-passed c = not-false _ c.if-not-arranged.false
+passed : (c : Else-not-arranged) → c.arranged.result ≡ true
+passed c = c.if-not-arranged.false
 
 pub slice_bounds-shown-end-2 : goal.slice_bounds-shown-end-2
-slice_bounds-shown-end-2 c = sym (front_length (c.before.before.before.arranged.ensures (passed c.before)).0)
+slice_bounds-shown-end-2 c = sym (front_length (c.arranged.ensures (passed c.before)).0)
 
 pub shown-requires : goal.shown-requires
 shown-requires c =
-    let at = c.before.before.before.before in
-    let made = at.arranged.ensures (passed c.before.before) in
-    (at.before.before.before.before.requires.0, made.0.front, made.1)
+    let made = c.arranged.ensures (passed c.before.before) in
+    (c.requires.0, made.0.front, made.1)

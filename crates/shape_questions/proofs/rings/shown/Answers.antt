@@ -22,7 +22,7 @@ use Rattle.shape_questions.proofs.rings.shown.Goals.{Start}
 
 module _ (c : Start) where
   abbrev asked : Question
-  asked = ask_ring (on c.args.list.now c.args.floor) c.args.out-1.now
+  asked = ask_ring (on c.args.list.now c.args.floor) c.args.out.now
 
   abbrev ps : List Point
   ps = points c.args.list.now
@@ -36,23 +36,19 @@ module _ (c : Start) where
 
 pub returns-then-out-shape : goal.returns-then-out-shape
 returns-then-out-shape c =
-    let start = c.before in
-    let l = start.args.list.now in
-    let out = start.args.out-1.now in
-    rest-refused (asked start) tt (room-refuses l out start.requires.0 (quiet start)
-    (omega (arith, c.if-out-shape.true, ap length start.requires.1, counted-shape l out start.requires.0)))
+    let l = c.args.list.now in
+    let out = c.args.out.now in
+    rest-refused (asked c.before) tt (room-refuses l out c.requires.0 (quiet c.before)
+    (omega (arith, c.if-out-shape.true, ap length c.requires.1, counted-shape l out c.requires.0)))
 
 pub returns : goal.returns
 returns c =
-    let at_copy = c.before.before in
-    let at_room = at_copy.before.before in
-    let start = at_room.before in
-    let l = start.args.list.now in
-    let out = start.args.out-1.now in
-    let shape = start.args.shape.now in
-    let all = ap length start.requires.1 in
-    all-written (asked start) tt
-    (ring-passes l out start.requires.0 (quiet start) (omega (arith, at_room.if-out-shape.false, all, counted-shape l out start.requires.0)))
-    (ap (λ (n : ℕ). pos n ∷ pos start.args.floor ∷ []) (c.count.ensures ∙ ap length (read start)))
-    (copied shape (omega (arith, all, numbers-length (ring_shape (ps start)))) out at_copy.copy.ensures
-    ∙ ap (λ (qs : List Point). overwritten (numbers qs) out) (read start))
+    let l = c.args.list.now in
+    let out = c.args.out.now in
+    let shape = c.args.shape.now in
+    let all = ap length c.requires.1 in
+    all-written (asked c.before.before.before.before.before) tt
+    (ring-passes l out c.requires.0 (quiet c.before.before.before.before.before) (omega (arith, c.if-out-shape.false, all, counted-shape l out c.requires.0)))
+    (ap (λ (n : ℕ). pos n ∷ pos c.args.floor ∷ []) (c.count.ensures ∙ ap length (read c.before.before.before.before.before)))
+    (copied shape (omega (arith, all, numbers-length (ring_shape (ps c.before.before.before.before.before)))) out c.copy.ensures
+    ∙ ap (λ (qs : List Point). overwritten (numbers qs) out) (read c.before.before.before.before.before))

@@ -23,7 +23,7 @@ use Rattle.shape_questions.proofs.rings.told.Goals.{Else-at-n, Start}
 -- the question, and the positions
 module _ (c : Start) where
   abbrev asked : Question
-  asked = ask_ring (on c.args.list.now c.args.floor) c.args.out-1.now
+  asked = ask_ring (on c.args.list.now c.args.floor) c.args.out.now
 
   abbrev ps : List Point
   ps = points c.args.list.now
@@ -39,51 +39,42 @@ abbrev carried : List ℕ → ℕ → Reply
 carried xs i = refused 4 (1 ∷ get_or xs (previous (length xs) i) 0 ∷ get_or xs i 0 ∷ [])
 
 pub find-at-requires : goal.find-at-requires
-find-at-requires c = placed c.before
+find-at-requires c = placed (goal.at.find-at-requires c).Start
 
 pub returns-then-at-n : goal.returns-then-at-n
 returns-then-at-n c =
-    let at-previous = c.before.before in
-    let at-then = at-previous.before in
-    let at-find = at-then.before in
-    let start = at-find.before.before in
-    let qs = ps start in
-    let places = start.args.places.now in
-    let e = start.requires.1 in
-    let i = at-find.find-at.result in
+    let qs = ps (goal.at.returns-then-at-n c).Start in
+    let places = c.args.places.now in
+    let e = c.requires.1 in
+    let i = c.find-at.result in
     let inside = subst (λ (xs : List ℕ). first_inward qs xs < length xs) e
-    (subst (λ (k : ℕ). k < length places) at-find.find-at.ensures at-then.if-at-n.true) in
-    let same = ap (λ (xs : List ℕ). carried xs (first_inward qs xs)) (sym e) ∙ ap (carried places) (sym at-find.find-at.ensures)
-    ∙ ap (λ (k : ℕ). refused 4 (1 ∷ get_or places k 0 ∷ get_or places i 0 ∷ [])) (sym at-previous.previous.ensures.value) in
-    rest-refused (asked start) tt (subst (Refuses (ring_rows start.args.list.now start.args.out-1.now)) same
-    (inward-refuses start.args.list.now start.args.out-1.now start.requires.0 inside))
+    (subst (λ (k : ℕ). k < length places) c.find-at.ensures c.if-at-n.true) in
+    let same = ap (λ (xs : List ℕ). carried xs (first_inward qs xs)) (sym e) ∙ ap (carried places) (sym c.find-at.ensures)
+    ∙ ap (λ (k : ℕ). refused 4 (1 ∷ get_or places k 0 ∷ get_or places i 0 ∷ [])) (sym c.previous.ensures.value) in
+    rest-refused (asked (goal.at.returns-then-at-n c).Start) tt (subst (Refuses (ring_rows c.args.list.now c.args.out.now)) same
+    (inward-refuses c.args.list.now c.args.out.now c.requires.0 inside))
 
 -- past the first test no corner turns in
-quiet : (c : Else-at-n) → (inward_row (ps c.before.before.before)).applies ≡ false
+quiet : (c : Else-at-n) → (inward_row (ps (goal.at.Else-at-n c).Start)).applies ≡ false
 quiet c =
-    let start = c.before.before.before in
-    none-inward start.args.list.now start.args.out-1.now start.requires.0
-    (subst (λ (xs : List ℕ). length xs ≤ first_inward (ps start) xs) start.requires.1
-    (subst (λ (k : ℕ). length start.args.places.now ≤ k) c.before.find-at.ensures c.if-at-n.false))
+    none-inward c.args.list.now c.args.out.now c.requires.0
+    (subst (λ (xs : List ℕ). length xs ≤ first_inward (ps (goal.at.Else-at-n c).Start) xs) c.requires.1
+    (subst (λ (k : ℕ). length c.args.places.now ≤ k) c.find-at.ensures c.if-at-n.false))
 
 pub returns-then-out-n : goal.returns-then-out-n
 returns-then-out-n c =
-    let start = c.before.before.before.before in
-    rest-refused (asked start) tt (room-refuses start.args.list.now start.args.out-1.now start.requires.0 (quiet c.before)
-    (subst (λ (xs : List ℕ). length start.args.out-1.now < 2 * length xs) start.requires.1 c.if-out-n.true))
+    rest-refused (asked (goal.at.returns-then-out-n c).Start) tt (room-refuses c.args.list.now c.args.out.now c.requires.0 (quiet (goal.at.returns-then-out-n c).Else-at-n)
+    (subst (λ (xs : List ℕ). length c.args.out.now < 2 * length xs) c.requires.1 c.if-out-n.true))
 
 pub write-requires : goal.write-requires
-write-requires c = (placed c.before.before.before.before.before, c.before.if-out-n.false)
+write-requires c = (placed (goal.at.write-requires c).Start, c.if-out-n.false)
 
 pub returns : goal.returns
 returns c =
-    let at-write = c.before in
-    let at_room = at-write.before.before in
-    let start = at_room.before.before.before.before in
-    let f = corner (ps start) in
-    let e = start.requires.1 in
-    let room = subst (λ (xs : List ℕ). 2 * length xs ≤ length start.args.out-1.now) e at_room.if-out-n.false in
-    all-written (asked start) tt
-    (ring-passes start.args.list.now start.args.out-1.now start.requires.0 (quiet at_room.before) room)
-    (ap (λ (n : ℕ). pos n ∷ pos start.args.floor ∷ []) (ap length e ∙ sym (length-map (ring_corners (ps start)) f)))
-    (at-write.write.ensures ∙ ap (λ (xs : List ℕ). overwritten (numbers (map f xs)) start.args.out-1.now) e)
+    let f = corner (ps (goal.at.returns c).Start) in
+    let e = c.requires.1 in
+    let room = subst (λ (xs : List ℕ). 2 * length xs ≤ length c.args.out.now) e c.if-out-n.false in
+    all-written (asked (goal.at.returns c).Start) tt
+    (ring-passes c.args.list.now c.args.out.now c.requires.0 (quiet (goal.at.returns c).Else-at-n) room)
+    (ap (λ (n : ℕ). pos n ∷ pos c.args.floor ∷ []) (ap length e ∙ sym (length-map (ring_corners (ps (goal.at.returns c).Start)) f)))
+    (c.write.ensures ∙ ap (λ (xs : List ℕ). overwritten (numbers (map f xs)) c.args.out.now) e)

@@ -7,7 +7,7 @@ use Rattle.shape_questions.proofs.rings.traced.Goals as goal
 pub traced_in-requires-2 : goal.traced_in-requires-2
 unfolding max_points
 traced_in-requires-2 c =
-    let pre = c.before.before.before.before.requires in
-    let few = pre.0.few-1 in
+    let pre = c.requires in
+    let few = pre.0.few in
     let all = pre.1.all in
     (pre.0, pre.1, omega arith, omega arith)

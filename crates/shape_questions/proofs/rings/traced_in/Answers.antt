@@ -6,5 +6,5 @@ use Rattle.shape_questions.proofs.rings.traced_in.Goals as goal
 
 pub slice_bounds-told-end-2 : goal.slice_bounds-told-end-2
 slice_bounds-told-end-2 c =
-    let held = c.before.before.before.before.before.trace-m.ensures in
+    let held = c.trace-m.ensures in
     held.counted ∙ ap length (sym held.front)

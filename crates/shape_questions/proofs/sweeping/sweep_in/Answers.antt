@@ -10,20 +10,17 @@ use Rattle.shape_questions.proofs.sweeping.sweep_in.Goals as goal
 
 pub sweep-n-requires : goal.sweep-n-requires
 sweep-n-requires c =
-    let start = c.before in
-    let args = start.args in
-    (start.requires.0, omega (arith, start.requires.1, points-length args.list.now, points-length args.shape-1.now))
+    let args = c.args in
+    (c.requires.0, omega (arith, c.requires.1, points-length args.list.now, points-length args.shape.now))
 
 pub slice_bounds-deliver-end-2 : goal.slice_bounds-deliver-end-2
-slice_bounds-deliver-end-2 c = sym (front_length c.before.before.sweep-n.ensures)
+slice_bounds-deliver-end-2 c = sym (front_length c.sweep-n.ensures)
 
 pub deliver-requires : goal.deliver-requires
-deliver-requires c = record { paired = front-paired c.before.before.before.sweep-n.ensures }
+deliver-requires c = record { paired = front-paired c.sweep-n.ensures }
 
 pub returns : goal.returns
 returns c =
-    let made = c.before.before.before.before.before in
-    let start = made.before.before in
-    let args = start.args in
-    sweep-delivered (on args.list.now args.floor) made.sweep-n.ensures start.requires.0 args.out-1.now
-    c.before.deliver.ensures.0 c.before.deliver.ensures.1
+    let args = c.args in
+    sweep-delivered (on args.list.now args.floor) c.sweep-n.ensures c.requires.0 args.out.now
+    c.deliver.ensures.0 c.deliver.ensures.1

@@ -8,6 +8,5 @@ use Rattle.shape_questions.proofs.sweeping.sweep_large.Goals as goal
 pub sweep_in-requires : goal.sweep_in-requires
 unfolding max_points
 sweep_in-requires c =
-    let start = c.before.before in
-    let v = start.requires in
-    (v, omega (arith, v.few, v.paired, points-length start.args.list.now))
+    let v = c.requires in
+    (v, omega (arith, v.few, v.paired, points-length c.args.list.now))

@@ -10,51 +10,42 @@ use Rattle.sorting.proofs.interior.copy_outer.Goals as goal
 use Rattle.sorting.proofs.interior.copy_outer.Goals.{In-loop-i}
 
 pub loop-i-init : goal.loop-i-init
-loop-i-init c = sift-start c.before.args.inner (points c.before.args.list.now) c.before.requires
+loop-i-init c = sift-start c.args.inner (points c.args.list.now) c.requires
 
 pub corner_at-p-requires : goal.corner_at-p-requires
-corner_at-p-requires c = omega (arith, c.loop-i-test.true, c.before.before.count-n.ensures)
+corner_at-p-requires c = omega (arith, c.loop-i-test.true, c.count-n.ensures)
 
 -- the point at i is one of the list, and there is room for it
-more : (c : In-loop-i) → c.before.loop-i.i < length (points c.before.before.before.args.list.now)
-more c = omega (arith, c.loop-i-test.true, c.before.before.count-n.ensures)
+more : (c : In-loop-i) → c.loop-i.i < length (points c.args.list.now)
+more c = omega (arith, c.loop-i-test.true, c.count-n.ensures)
 
-room : (c : In-loop-i) → c.before.loop-i.k < length (points c.before.loop-i.buf-1)
-room c = sift-room _ _ c.before.loop-i.invariant (more c) c.before.before.before.requires
+room : (c : In-loop-i) → c.loop-i.k < length (points c.loop-i.buf)
+room c = sift-room _ _ c.loop-i.invariant (more c) c.requires
 
 pub put-requires : goal.put-requires
 put-requires c =
-    let in-loop = c.before.before in
-    omega (arith, room in-loop, points-length in-loop.before.loop-i.buf-1)
+    omega (arith, room c.before.before, points-length c.loop-i.buf)
 
 pub after-k-requires : goal.after-k-requires
 after-k-requires c =
-    let in-loop = c.before.before.before.before.before in
-    omega (arith, room in-loop, points-length in-loop.before.loop-i.buf-1)
+    omega (arith, room c.before.before.before.before.before, points-length c.loop-i.buf)
 
 pub overflow_add-i : goal.overflow_add-i
 overflow_add-i c =
-    let in-loop = c.before.before.before.before.before.before in
-    omega (arith, in-loop.loop-i-test.true)
+    omega (arith, c.loop-i-test.true)
 
 pub loop-i-smaller : goal.loop-i-smaller
 loop-i-smaller c =
-    let in-loop = c.before.before.before.before.before.before in
-    omega (arith, in-loop.loop-i-test.true)
+    omega (arith, c.loop-i-test.true)
 
 pub loop-i-preserved : goal.loop-i-preserved
 loop-i-preserved c =
-    let tested = c.before in
-    let written = tested.before.before in
-    let read = written.before.before in
-    let in-loop = read.before in
-    sift-one _ _ in-loop.before.loop-i.invariant (more in-loop) in-loop.before.before.before.requires tested.is_inside.result
-    read.corner_at-p.ensures tested.is_inside.ensures written.put.ensures c.after-k.ensures
+    sift-one _ _ c.loop-i.invariant (more c.before.before.before.before.before.before) c.requires c.is_inside.result
+    c.corner_at-p.ensures c.is_inside.ensures c.put.ensures c.after-k.ensures
 
 pub shape_of-buf : goal.shape_of-buf
-shape_of-buf c = c.before.loop-i.invariant.pouring.same
+shape_of-buf c = c.loop-i.invariant.pouring.same
 
 pub returns : goal.returns
 returns c =
-    let at-loop = c.before in
-    sift-end _ _ at-loop.loop-i.invariant (omega (arith, c.loop-i-test.false, at-loop.before.count-n.ensures))
+    sift-end _ _ c.loop-i.invariant (omega (arith, c.loop-i-test.false, c.count-n.ensures))

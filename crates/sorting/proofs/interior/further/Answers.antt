@@ -7,7 +7,6 @@ use Rattle.sorting.specs.theory.Interior.{chosen-below}
 use Rattle.sorting.proofs.interior.further.Goals as goal
 
 pub returns : goal.returns
-returns c =
-    let start = c.before.before.before.before.before in
-    let better = lt_z (to_z w32 (of_z w32 start.args.far.value)) (to_z w32 (of_z w32 start.args.value)) in
-    chosen-below better c.before.before.choose.ensures i far
+returns c n far i =
+    let better = lt_z (to_z w32 (of_z w32 c.args.far.value)) (to_z w32 (of_z w32 c.args.value)) in
+    chosen-below better c.choose.ensures i far

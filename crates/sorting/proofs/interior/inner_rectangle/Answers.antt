@@ -22,46 +22,39 @@ most {r} {x} f g h = le_trans (le_of_eq (sym (result-is w32 {x = x} g refl))) (l
 
 pub returns : goal.returns
 returns c =
-    let low = c.before.before.before in
-    let right = low.before.before.before in
-    let left = right.before.before.before in
-    let fourth = left.before.before.before in
-    let third = fourth.before in
-    let second = third.before in
-    let first = second.before in
-    let ps = points first.before.before.args.list.now in
-    let found = first.before.outermost-found.ensures in
+    let ps = points c.args.list.now in
+    let found = c.outermost-found.ensures in
     record {
       northeast = record {
-        at = at first.corner_at-a.result;
-        at_in = subst (λ p. p ∈ ps) (sym first.corner_at-a.ensures) (position-member ps _ found.0);
+        at = at c.corner_at-a.result;
+        at_in = subst (λ p. p ∈ ps) (sym c.corner_at-a.ensures) (position-member ps _ found.0);
         such = (
-          least right.lesser.type-inv right.before.before.struct_told-3-1.given.0.1 right.lesser.ensures.0,
-          least c.lesser-2.type-inv c.before.before.struct_told-7-1.given.1.0.1 c.lesser-2.ensures.0,
+          least c.lesser.type_inv c.struct_told-3-1.given.0.1 c.lesser.ensures.0,
+          least c.lesser-2.type_inv c.struct_told-7-1.given.1.0.1 c.lesser-2.ensures.0,
         );
       };
       northwest = record {
-        at = at second.corner_at-b.result;
-        at_in = subst (λ p. p ∈ ps) (sym second.corner_at-b.ensures) (position-member ps _ found.1);
+        at = at c.corner_at-b.result;
+        at_in = subst (λ p. p ∈ ps) (sym c.corner_at-b.ensures) (position-member ps _ found.1);
         such = (
-          most left.greater.type-inv left.before.before.struct_told-1.given.0.1 left.greater.ensures.0,
-          least c.lesser-2.type-inv c.before.struct_told-8-1.given.1.0.1 c.lesser-2.ensures.1,
+          most c.greater.type_inv c.struct_told-1.given.0.1 c.greater.ensures.0,
+          least c.lesser-2.type_inv c.struct_told-8-1.given.1.0.1 c.lesser-2.ensures.1,
         );
       };
       southwest = record {
-        at = at third.corner_at-c.result;
-        at_in = subst (λ p. p ∈ ps) (sym third.corner_at-c.ensures) (position-member ps _ found.2);
+        at = at c.corner_at-c.result;
+        at_in = subst (λ p. p ∈ ps) (sym c.corner_at-c.ensures) (position-member ps _ found.2);
         such = (
-          most left.greater.type-inv left.before.struct_told-2-1.given.0.1 left.greater.ensures.1,
-          most low.greater-2.type-inv low.before.before.struct_told-5-1.given.1.0.1 low.greater-2.ensures.0,
+          most c.greater.type_inv c.struct_told-2-1.given.0.1 c.greater.ensures.1,
+          most c.greater-2.type_inv c.struct_told-5-1.given.1.0.1 c.greater-2.ensures.0,
         );
       };
       southeast = record {
-        at = at fourth.corner_at-d.result;
-        at_in = subst (λ p. p ∈ ps) (sym fourth.corner_at-d.ensures) (position-member ps _ found.3);
+        at = at c.corner_at-d.result;
+        at_in = subst (λ p. p ∈ ps) (sym c.corner_at-d.ensures) (position-member ps _ found.3);
         such = (
-          least right.lesser.type-inv right.before.struct_told-4-1.given.0.1 right.lesser.ensures.1,
-          most low.greater-2.type-inv low.before.struct_told-6-1.given.1.0.1 low.greater-2.ensures.1,
+          least c.lesser.type_inv c.struct_told-4-1.given.0.1 c.lesser.ensures.1,
+          most c.greater-2.type_inv c.struct_told-6-1.given.1.0.1 c.greater-2.ensures.1,
         );
       };
     }

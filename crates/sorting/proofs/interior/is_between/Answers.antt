@@ -1,4 +1,5 @@
 -- `is_between` meets its contract.
+use mir.Syntax.{w32}
 use mathlib.Core.Path.{◌≡◌, sym, ◌∙◌, ap, ap₂}
 use mathlib.Core.Bool.{Bool, ◌&&◌}
 use lib.Signed.{lt_z}
@@ -7,16 +8,14 @@ use Rattle.sorting.proofs.interior.is_between.Goals as goal
 
 pub returns-then-low-z : goal.returns-then-low-z
 returns-then-low-z c =
-    let start = c.before in
-    let args = start.args in
-    ap₂ lt_z (to_z-of_z start.ranges.z) (to_z-of_z start.ranges.high)
+    let args = c.args in
+    ap₂ lt_z (to_z-of_z {w = w32} c.ranges.z) (to_z-of_z {w = w32} c.ranges.high)
     ∙ ap (λ (b : Bool). b && lt_z args.z args.high)
-    (sym c.if-low-z.true ∙ ap₂ lt_z (to_z-of_z start.ranges.low) (to_z-of_z start.ranges.z))
+    (sym c.if-low-z.true ∙ ap₂ lt_z (to_z-of_z {w = w32} c.ranges.low) (to_z-of_z {w = w32} c.ranges.z))
 
 pub returns-else-low-z : goal.returns-else-low-z
 returns-else-low-z c =
-    let start = c.before in
-    let args = start.args in
+    let args = c.args in
     c.if-low-z.false
     ∙ ap (λ (b : Bool). b && lt_z args.z args.high)
-    (sym c.if-low-z.false ∙ ap₂ lt_z (to_z-of_z start.ranges.low) (to_z-of_z start.ranges.z))
+    (sym c.if-low-z.false ∙ ap₂ lt_z (to_z-of_z {w = w32} c.ranges.low) (to_z-of_z {w = w32} c.ranges.z))

@@ -1,4 +1,5 @@
 -- `lesser` meets its contract.
+use mir.Syntax.{w32}
 use mathlib.Core.Path.{sym, ◌∙◌, ap₂}
 use lib.Signed.{lt_z}
 use mir.Facts.{to_z-of_z}
@@ -7,14 +8,12 @@ use Rattle.sorting.proofs.interior.lesser.Goals as goal
 
 pub returns-then-x-y : goal.returns-then-x-y
 returns-then-x-y c =
-    let start = c.before in
-    let below = lt_z-true (sym (ap₂ lt_z (to_z-of_z start.ranges.x) (to_z-of_z start.ranges.y)) ∙ c.if-x-y.true) in
-    let same = le_of_eq (to_z-of_z start.ranges.x) in
+    let below = lt_z-true (sym (ap₂ lt_z (to_z-of_z {w = w32} c.ranges.x) (to_z-of_z {w = w32} c.ranges.y)) ∙ c.if-x-y.true) in
+    let same = le_of_eq (to_z-of_z {w = w32} c.ranges.x) in
     (same, le_trans same (weaken below))
 
 pub returns-else-x-y : goal.returns-else-x-y
 returns-else-x-y c =
-    let start = c.before in
-    let below = lt_z-false (sym (ap₂ lt_z (to_z-of_z start.ranges.x) (to_z-of_z start.ranges.y)) ∙ c.if-x-y.false) in
-    let same = le_of_eq (to_z-of_z start.ranges.y) in
+    let below = lt_z-false (sym (ap₂ lt_z (to_z-of_z {w = w32} c.ranges.x) (to_z-of_z {w = w32} c.ranges.y)) ∙ c.if-x-y.false) in
+    let same = le_of_eq (to_z-of_z {w = w32} c.ranges.y) in
     (le_trans same below, same)

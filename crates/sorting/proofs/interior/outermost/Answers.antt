@@ -12,7 +12,7 @@ use Rattle.sorting.proofs.interior.outermost.Goals as goal
 use Rattle.sorting.proofs.interior.outermost.Goals.{After-corner_at-p, After-corner_at-q, After-count-n, In-loop-i, Start}
 
 pub corner_at-p-requires : goal.corner_at-p-requires
-corner_at-p-requires c = c.before.requires.0
+corner_at-p-requires c = c.requires.0
 
 -- a point of the list may be computed with
 small : (c : Start) (i : ℕ) → i < length (points c.args.list.now) → {p : Point}
@@ -20,7 +20,7 @@ small : (c : Start) (i : ℕ) → i < length (points c.args.list.now) → {p : P
 small c i h e = small-corner c.args.list.now c.requires.1 i h e
 
 first : (c : After-corner_at-p) → Small (2 ^ 21) (at c.corner_at-p.result)
-first c = small c.before.before 0 c.before.before.requires.0 c.corner_at-p.ensures
+first c = small c.before.before 0 c.requires.0 c.corner_at-p.ensures
 
 pub northeast-requires : goal.northeast-requires
 northeast-requires c = first c
@@ -36,14 +36,10 @@ northwest-requires-2 c = first c.before.before.before.before.before.before
 
 pub loop-i-init : goal.loop-i-init
 loop-i-init c =
-    let b = c.before.before in
-    let a = b.before.before in
-    let one = a.before.before in
-    let start = one.before.before.before in
-    let some : 0 < start.count-n.result = omega (arith, start.count-n.ensures, start.before.requires.0) in (
-      omega (arith, some, one.start-a.ensures),
-      omega (arith, some, a.start-b.ensures),
-      omega (arith, some, b.start-c.ensures),
+    let some : 0 < c.count-n.result = omega (arith, c.count-n.ensures, c.requires.0) in (
+      omega (arith, some, c.start-a.ensures),
+      omega (arith, some, c.start-b.ensures),
+      omega (arith, some, c.start-c.ensures),
       omega (arith, some, c.start-d.ensures),
     )
 
@@ -51,14 +47,14 @@ loop-i-init c =
 abbrev begin : (c : In-loop-i) → After-count-n
 begin c = c.before.before.before.before.before.before.before.before.before.before.before
 
-more : (c : In-loop-i) → c.before.loop-i.i < length (points (begin c).before.args.list.now)
-more c = omega (arith, c.loop-i-test.true, (begin c).count-n.ensures)
+more : (c : In-loop-i) → c.loop-i.i < length (points (begin c).before.args.list.now)
+more c = omega (arith, c.loop-i-test.true, (begin c).count.ensures)
 
 pub corner_at-q-requires : goal.corner_at-q-requires
 corner_at-q-requires c = more c
 
 read : (c : After-corner_at-q) → Small (2 ^ 21) (at c.corner_at-q.result)
-read c = small (begin c.before).before c.before.before.loop-i.i (more c.before) c.corner_at-q.ensures
+read c = small (begin c.before).before c.loop-i.i (more c.before) c.corner_at-q.ensures
 
 pub northeast-x-requires : goal.northeast-x-requires
 northeast-x-requires c = read c
@@ -68,27 +64,24 @@ northwest-y-requires c = read c.before
 
 pub overflow_add-i : goal.overflow_add-i
 overflow_add-i c =
-    let in-loop = c.before.before.before.before.before.before.before in
-    omega (arith, in-loop.loop-i-test.true, (begin in-loop).count-n.type-inv)
+    omega (arith, c.loop-i-test.true, (begin c.before.before.before.before.before.before.before).count.type_inv)
 
 pub loop-i-smaller : goal.loop-i-smaller
-loop-i-smaller c = let in-loop = c.before.before.before.before.before.before.before in omega (arith, in-loop.loop-i-test.true)
+loop-i-smaller c = omega (arith, c.loop-i-test.true)
 
 pub loop-i-preserved : goal.loop-i-preserved
 loop-i-preserved c =
-    let a = c.before.before.before in
-    let in-loop = a.before.before.before.before in
-    let n = (begin in-loop).count-n.result in
-    let inv = in-loop.before.loop-i.invariant in
-    let within = in-loop.loop-i-test.true in (
-      a.further-a.ensures n inv.0 within,
-      c.before.before.further-b.ensures n inv.1 within,
-      c.before.nearer-c.ensures n inv.2 within,
+    let n = (begin c.before.before.before.before.before.before.before).count.result in
+    let inv = c.loop-i.invariant in
+    let within = c.loop-i-test.true in (
+      c.further-a.ensures n inv.0 within,
+      c.further-b.ensures n inv.1 within,
+      c.nearer-c.ensures n inv.2 within,
       c.nearer-d.ensures n inv.3 within,
     )
 
 pub returns : goal.returns
 returns c =
-    let inv = c.before.loop-i.invariant in
-    let n = c.before.before.before.before.before.before.before.before.before.before.before.count-n.ensures in
+    let inv = c.loop-i.invariant in
+    let n = c.count-n.ensures in
     (omega (arith, n, inv.0), omega (arith, n, inv.1), omega (arith, n, inv.2), omega (arith, n, inv.3))

@@ -8,7 +8,7 @@ pub inner_rectangle-inner-requires : goal.inner_rectangle-inner-requires
 inner_rectangle-inner-requires c = (c.requires.0, c.requires.1)
 
 pub copy_outer-requires : goal.copy_outer-requires
-copy_outer-requires c = c.before.before.requires.2
+copy_outer-requires c = c.requires.2
 
 pub returns : goal.returns
-returns c = outer-reduced _ _ c.before.before.before.inner_rectangle-inner.ensures c.before.copy_outer.ensures
+returns c = outer-reduced _ _ c.inner_rectangle-inner.ensures c.copy_outer.ensures

@@ -3,4 +3,4 @@ use borrow.Author.Rules.{rules}
 use Rattle.sums.proofs.extent.extent_of.Goals as goal
 
 pub extent_of-requires : goal.extent_of-requires
-extent_of-requires c = let v = c.before.before.requires in (v.shape.some, v.in_range)
+extent_of-requires c = let v = c.requires in (v.shape.some, v.in_range)

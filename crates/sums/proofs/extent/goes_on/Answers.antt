@@ -16,27 +16,22 @@ use Rattle.sums.proofs.extent.goes_on.Goals as goal
 use Rattle.sums.proofs.extent.goes_on.Goals.{After-next-after}
 
 -- the next position is one of the list
-next-in : (c : After-next-after) → c.next-after.result < length (points c.before.before.args.list.now)
-next-in c = omega (arith, c.next-after.ensures.upper_bound, c.before.count.ensures)
+next-in : (c : After-next-after) → c.next-after.result < length (points c.args.list.now)
+next-in c = omega (arith, c.next-after.ensures.upper_bound, c.count.ensures)
 
 pub dot-requires : goal.dot-requires
 dot-requires c =
-    let start = c.before.before.before in
-    (start.requires.2, small-wide (small-corner _ start.requires.1 _ start.requires.0 c.corner_at.ensures))
+    (c.requires.2, small-wide (small-corner _ c.requires.1 _ c.requires.0 c.corner_at.ensures))
 
 pub dot-requires-2 : goal.dot-requires-2
 dot-requires-2 c =
-    let at_next = c.before.before.before in
-    let start = at_next.before.before in
-    (start.requires.2, small-wide (small-corner _ start.requires.1 _ (next-in at_next) c.corner_at-2.ensures))
+    (c.requires.2, small-wide (small-corner _ c.requires.1 _ (next-in c.before.before.before) c.corner_at-2.ensures))
 
 pub returns : goal.returns
 returns c =
-    let at_next = c.before.before.before.before in
-    let start = at_next.before.before in
-    let ps = points start.args.list.now in
-    let here = c.before.before.before.corner_at.ensures in
-    let there = c.before.corner_at-2.ensures
-    ∙ ap (corner ps) (at_next.next-after.ensures.value ∙ ap (λ (n : ℕ). next n start.args.i) at_next.before.count.ensures) in
-    ap₂ le_z (result-is w64 c.before.before.dot.type-inv (c.before.before.dot.ensures ∙ ap (value (at start.args.d)) here))
-    (result-is w64 c.dot-2.type-inv (c.dot-2.ensures ∙ ap (value (at start.args.d)) there))
+    let ps = points c.args.list.now in
+    let here = c.corner_at.ensures in
+    let there = c.corner_at-2.ensures
+    ∙ ap (corner ps) (c.next-after.ensures.value ∙ ap (λ (n : ℕ). next n c.args.i) c.count.ensures) in
+    ap₂ le_z (result-is w64 c.dot.type_inv (c.dot.ensures ∙ ap (value (at c.args.d)) here))
+    (result-is w64 c.dot-2.type_inv (c.dot-2.ensures ∙ ap (value (at c.args.d)) there))

@@ -41,30 +41,29 @@ pub overflow_sub-middle : goal.overflow_sub-middle
 overflow_sub-middle c = omega arith
 
 pub overflow_add-middle : goal.overflow_add-middle
-overflow_add-middle c = omega (arith, c.before.loop-low.invariant.within)
+overflow_add-middle c = omega (arith, c.loop-low.invariant.within)
 
 -- the middle is before the end
-inside : (c : In-loop-low) → let at-loop = c.before in
-    at-loop.loop-low.low + (at-loop.loop-low.high - at-loop.loop-low.low) / 2 < at-loop.loop-low.high
+inside : (c : In-loop-low) →
+    c.loop-low.low + (c.loop-low.high - c.loop-low.low) / 2 < c.loop-low.high
 inside c = omega (arith, c.loop-low-test.true)
 
 pub goes_on-requires : goal.goes_on-requires
 goes_on-requires c =
-    let pre = c.before.before.requires in
-    (omega (arith, inside c, c.before.loop-low.invariant.within, pre.1), pre.2, pre.3)
+    let pre = c.requires in
+    (omega (arith, inside c, c.loop-low.invariant.within, pre.1), pre.2, pre.3)
 
 pub overflow_add-low : goal.overflow_add-low
-overflow_add-low c = omega (arith, inside c.before.before, c.before.before.before.loop-low.invariant.within)
+overflow_add-low c = omega (arith, inside c.before.before, c.loop-low.invariant.within)
 
 pub loop-low-smaller-then-goes_on : goal.loop-low-smaller-then-goes_on
 loop-low-smaller-then-goes_on c = omega (arith, inside c.before.before)
 
 pub loop-low-preserved-then-goes_on : goal.loop-low-preserved-then-goes_on
 loop-low-preserved-then-goes_on c =
-    let at-loop = c.before.before.before in
-    let inv = at-loop.loop-low.invariant in
-    let args = at-loop.before.args in
-    let middle = at-loop.loop-low.low + (at-loop.loop-low.high - at-loop.loop-low.low) / 2 in
+    let inv = c.loop-low.invariant in
+    let args = c.args in
+    let middle = c.loop-low.low + (c.loop-low.high - c.loop-low.low) / 2 in
     record {
       after = omega (arith, inv.after);
       order = omega (arith, inside c.before.before);
@@ -72,7 +71,7 @@ loop-low-preserved-then-goes_on c =
       goes = λ k h e.
           let same : middle ≡ k = omega (arith, e) in
           subst (λ (i : ℕ). GoesOn (points args.list.now) (at args.d) i) same
-          (le_z-true (sym c.before.goes_on.ensures ∙ c.if-goes_on.true));
+          (le_z-true (sym c.goes_on.ensures ∙ c.if-goes_on.true));
       stops = inv.stops;
     }
 
@@ -81,21 +80,20 @@ loop-low-smaller c = omega (arith, inside c.before.before)
 
 pub loop-low-preserved : goal.loop-low-preserved
 loop-low-preserved c =
-    let at-loop = c.before.before.before in
-    let inv = at-loop.loop-low.invariant in
+    let inv = c.loop-low.invariant in
     record {
       after = inv.after;
       order = omega arith;
       within = omega (arith, inside c.before.before, inv.within);
       goes = inv.goes;
-      stops = λ h. le_z-false (sym c.before.goes_on.ensures ∙ c.if-goes_on.false);
+      stops = λ h. le_z-false (sym c.goes_on.ensures ∙ c.if-goes_on.false);
     }
 
 pub returns : goal.returns
 returns c =
-    let inv = c.before.loop-low.invariant in
-    let all : c.before.loop-low.high ≡ c.before.loop-low.low = omega (arith, inv.order, c.loop-low-test.false) in
-    let args = c.before.before.args in
+    let inv = c.loop-low.invariant in
+    let all : c.loop-low.high ≡ c.loop-low.low = omega (arith, inv.order, c.loop-low-test.false) in
+    let args = c.args in
     record {
       after = inv.after;
       within = omega (arith, inv.order, inv.within);

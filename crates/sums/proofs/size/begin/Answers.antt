@@ -7,9 +7,8 @@ use Rattle.sums.proofs.size.begin.Goals as goal
 
 pub returns : goal.returns
 returns c =
-    let start = c.before.before.before.before in
-    let a = start.args.a.now in
-    let b = start.args.b.now in
-    let place = start.requires.0 in
-    walked_start start.args.i start.args.j place start.requires.1 (side_of a start.args.i) (side_of b start.args.j) refl refl
-    (side_of-carried a start.args.i place.standing.left_in) (side_of-carried b start.args.j place.standing.right-in)
+    let a = c.args.a.now in
+    let b = c.args.b.now in
+    let place = c.requires.0 in
+    walked_start c.args.i c.args.j place c.requires.1 (side_of a c.args.i) (side_of b c.args.j) refl refl
+    (side_of-carried a c.args.i place.standing.left_in) (side_of-carried b c.args.j place.standing.right-in)

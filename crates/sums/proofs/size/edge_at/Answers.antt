@@ -8,14 +8,14 @@ use Rattle.polygon.specs.theory.Small.{small-corner}
 use Rattle.sums.proofs.size.edge_at.Goals as goal
 
 pub overflow_add-i : goal.overflow_add-i
-overflow_add-i c = let start = c.before in omega (arith, start.requires.0, points-length start.args.list.now, start.well-formed.0)
+overflow_add-i c = omega (arith, c.requires.0, points-length c.args.list.now, c.well_formed.0)
 
 pub step-requires : goal.step-requires
 step-requires c =
-    let pre = c.before.before.requires in (
-      small-corner _ pre.1 _ (omega (arith, pre.0)) c.before.corner_at.ensures,
+    let pre = c.requires in (
+      small-corner _ pre.1 _ (omega (arith, pre.0)) c.corner_at.ensures,
       small-corner _ pre.1 _ pre.0 c.corner_at-2.ensures,
     )
 
 pub returns : goal.returns
-returns c = c.step.ensures ∙ ap₂ (λ p q. q ⊖ p) c.before.before.corner_at.ensures c.before.corner_at-2.ensures
+returns c = c.step.ensures ∙ ap₂ (λ p q. q ⊖ p) c.corner_at.ensures c.corner_at-2.ensures

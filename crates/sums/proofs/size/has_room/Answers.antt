@@ -11,28 +11,26 @@ use Rattle.sums.proofs.size.has_room.Goals as goal
 
 pub returns-then-k-most : goal.returns-then-k-most
 returns-then-k-most c =
-    let args = c.before.args in
+    let args = c.args in
     let few = next-at-most args.a.now args.b.now (state args.i args.j false) args.k in
     ((λ e. omega (arith, few, c.if-k-most.true)), (λ e. absurd (true≢false e)))
 
 pub overflow_add-count : goal.overflow_add-count
 overflow_add-count c =
-    let start = c.before.before.before in
-    let a = start.args.a.now in
-    let b = start.args.b.now in
-    omega (arith, c.before.count.ensures, c.count-2.ensures, points-length a, points-length b, start.well-formed.0, start.well-formed.1.0)
+    let a = c.args.a.now in
+    let b = c.args.b.now in
+    omega (arith, c.count.ensures, c.count-2.ensures, points-length a, points-length b, c.well_formed.0, c.well_formed.1.0)
 
 pub returns-then-count-most : goal.returns-then-count-most
 returns-then-count-most c =
-    let start = c.before.before.before.before in
-    let args = start.args in
-    let few = next-few args.a.now args.b.now (state args.i args.j false) args.k start.requires.0 in
-    ((λ e. omega (arith, few, c.if-count-most.true, c.before.before.count.ensures, c.before.count-2.ensures)), (λ e. absurd (true≢false e)))
+    let args = c.args in
+    let few = next-few args.a.now args.b.now (state args.i args.j false) args.k c.requires.0 in
+    ((λ e. omega (arith, few, c.if-count-most.true, c.count.ensures, c.count-2.ensures)), (λ e. absurd (true≢false e)))
 
 pub returns : goal.returns
 returns c =
     let n = c.count_on.result in
-    let half = c.before.before.before.before.before.args.room / 2 in (
+    let half = c.args.room / 2 in (
       (λ e. omega (arith, leb-true n half e, c.count_on.ensures)),
       (λ e. omega (arith, leb-false n half e, c.count_on.ensures)),
     )

@@ -7,17 +7,17 @@ pub extent_of-requires : goal.extent_of-requires
 extent_of-requires c = c.requires.0
 
 pub extent_of-requires-2 : goal.extent_of-requires-2
-extent_of-requires-2 c = c.before.requires.1
+extent_of-requires-2 c = c.requires.1
 
 pub is_far-requires : goal.is_far-requires
 is_far-requires c =
-    let pre = c.before.before.requires in
-    let first = extends-small _ pre.0.in_range pre.0.shape.some c.before.extent_of.ensures in
+    let pre = c.requires in
+    let first = extends-small _ pre.0.in_range pre.0.shape.some c.extent_of.ensures in
     let second = extends-small _ pre.1.in_range pre.1.shape.some c.extent_of-2.ensures in
     (first.0, first.1, second.0, second.1)
 
 pub returns : goal.returns
 returns c =
-    let pre = c.before.before.before.requires in
+    let pre = c.requires in
     c.is_far.ensures
-    ∙ far-sum _ _ pre.0.shape.some pre.1.shape.some c.before.before.extent_of.ensures c.before.extent_of-2.ensures
+    ∙ far-sum _ _ pre.0.shape.some pre.1.shape.some c.extent_of.ensures c.extent_of-2.ensures

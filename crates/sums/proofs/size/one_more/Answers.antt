@@ -6,4 +6,4 @@ use borrow.Author.Rules.{rules}
 use Rattle.sums.proofs.size.one_more.Goals as goal
 
 pub returns-else-waits : goal.returns-else-waits
-returns-else-waits c = let i = c.before.args.i in sym (ap (λ (t : Bool). cond t i (i + 1)) c.if-waits.false)
+returns-else-waits c = let i = c.args.i in sym (ap (λ (t : Bool). cond t i (i + 1)) c.if-waits.false)

@@ -15,28 +15,26 @@ use Rattle.sums.proofs.size.reckon.Goals.{After-count-2}
 
 pub overflow_add-most : goal.overflow_add-most
 overflow_add-most c =
-    let start = c.before.before in
-    let a = start.args.a.now in
-    let b = start.args.b.now in
-    omega (arith, c.before.count.ensures, c.count-2.ensures, points-length a, points-length b, start.well-formed.0, start.well-formed.1.0)
+    let a = c.args.a.now in
+    let b = c.args.b.now in
+    omega (arith, c.count.ensures, c.count-2.ensures, points-length a, points-length b, c.well_formed.0, c.well_formed.1.0)
 
 -- the sum has no more corners than both shapes together
-few : (c : After-count-2) → let args = c.before.before.args in
-    length (shape_of (sums (points args.a.now) (points args.b.now))) ≤ c.before.count.result + c.count-2.result
-few c = let pre = c.before.before.requires in omega (arith, sum-few _ _ pre.0 pre.1, c.before.count.ensures, c.count-2.ensures)
+few : (c : After-count-2) → let args = c.args in
+    length (shape_of (sums (points args.a.now) (points args.b.now))) ≤ c.count.result + c.count-2.result
+few c = let pre = c.requires in omega (arith, sum-few _ _ pre.0 pre.1, c.count.ensures, c.count-2.ensures)
 
 pub returns-then-suffices : goal.returns-then-suffices
 returns-then-suffices c =
-    let fits = c.before.suffices.ensures c.if-suffices.true in
+    let fits = c.suffices.ensures c.if-suffices.true in
     enough (few c.before.before) fits.0 fits.1
 
 pub count_on-requires : goal.count_on-requires
 count_on-requires c =
-    let pre = c.before.before.before.before.requires in (at-begin _ _ pre.0 pre.1, omega arith)
+    let pre = c.requires in (at-begin _ _ pre.0 pre.1, omega arith)
 
 pub returns : goal.returns
 unfolding max_corners
 returns c =
-    let start = c.before.before.before.before.before in
-    reckoned-count start.args.a.now start.args.b.now start.requires.0 start.requires.1 (max_corners + 1) (omega arith)
+    reckoned-count c.args.a.now c.args.b.now c.requires.0 c.requires.1 (max_corners + 1) (omega arith)
     c.count_on.ensures

@@ -35,12 +35,11 @@ sides-n-requires c = tt
 
 pub loop-c-init : goal.loop-c-init
 loop-c-init c =
-    let start = c.before.before in
-    let a = start.args.a.now in
-    let b = start.args.b.now in
-    let place = start.requires.0 in
-    walked_start start.args.i start.args.j place start.requires.1 (side_of a start.args.i) (side_of b start.args.j) refl refl
-    (side_of-carried a start.args.i place.standing.left_in) (side_of-carried b start.args.j place.standing.right-in)
+    let a = c.args.a.now in
+    let b = c.args.b.now in
+    let place = c.requires.0 in
+    walked_start c.args.i c.args.j place c.requires.1 (side_of a c.args.i) (side_of b c.args.j) refl refl
+    (side_of-carried a c.args.i place.standing.left_in) (side_of-carried b c.args.j place.standing.right-in)
 
 -- no number is too large
 module _ (c : At-loop-c) where
@@ -75,30 +74,29 @@ pub inside-requires : goal.inside-requires
 inside-requires c = (first_small c, second-small c, count_small c)
 
 -- both shapes have three edges left, and more than one corner may be counted
-three : (c : In-loop-c) → let at-loop = c.before.before in
-    let args = at-loop.before.before.before.args in
-    (at-loop.loop-c.first + 2 < length (edges (points args.a.now)))
-    × (at-loop.loop-c.second + 2 < length (edges (points args.b.now)))
-    × (at-loop.loop-c.count + 1 < args.k)
+three : (c : In-loop-c) →
+    let args = c.args in
+    (c.loop-c.first + 2 < length (edges (points args.a.now)))
+    × (c.loop-c.second + 2 < length (edges (points args.b.now)))
+    × (c.loop-c.count + 1 < args.k)
 three c =
-    let at-loop = c.before.before in
-    let left = c.before.inside.ensures c.loop-c-test.true in
-    (omega (arith, left.0, at-loop.before.before.sides-m.ensures), omega (arith, left.1, at-loop.before.sides-n.ensures), left.2)
+    let left = c.inside.ensures c.loop-c-test.true in
+    (omega (arith, left.0, c.sides-m.ensures), omega (arith, left.1, c.sides-n.ensures), left.2)
 
 -- so both corners of either edge are there
-corners-there : (c : In-loop-c) → let at-loop = c.before.before in
-    let args = at-loop.before.before.before.args in
-    (at-loop.loop-c.first + 1 < length (points args.a.now)) × (at-loop.loop-c.second + 1 < length (points args.b.now))
+corners-there : (c : In-loop-c) →
+    let args = c.args in
+    (c.loop-c.first + 1 < length (points args.a.now)) × (c.loop-c.second + 1 < length (points args.b.now))
 corners-there c =
     let left = three c in
-    let args = c.before.before.before.before.before.args in
+    let args = c.args in
     (omega (arith, left.0, edges-at-most (points args.a.now)), omega (arith, left.1, edges-at-most (points args.b.now)))
 
 pub edge_at-requires : goal.edge_at-requires
-edge_at-requires c = ((corners-there c).0, c.before.before.before.before.before.requires.0.first-near)
+edge_at-requires c = ((corners-there c).0, c.requires.0.first-near)
 
 pub edge_at-requires-in-loop-c : goal.edge_at-requires-in-loop-c
-edge_at-requires-in-loop-c c = ((corners-there c.before).1, c.before.before.before.before.before.before.requires.0.second-near)
+edge_at-requires-in-loop-c c = ((corners-there c.before).1, c.requires.0.second-near)
 
 -- an edge is small enough for products, and it is the one of the walk
 module _ (l : List ℤ) (near : InRange l) (i : ℕ) (h : i + 1 < length (points l)) {e : Point}
@@ -125,11 +123,9 @@ module _ (l : List ℤ) (waits : Bool) (i r : ℕ) (e : r ≡ cond waits i (i + 
 
 pub cross-c-requires : goal.cross-c-requires
 cross-c-requires c =
-    let at-then = c.before.before in
-    let start = at-then.before.before.before.before.before in
-    let place = start.requires.0 in (
-      edge-small _ place.first-near _ (corners-there at-then).0 c.before.edge_at.ensures,
-      edge-small _ place.second-near _ (corners-there at-then).1 c.edge_at-in-loop-c.ensures,
+    let place = c.requires.0 in (
+      edge-small _ place.first-near _ (corners-there c.before.before).0 c.edge_at.ensures,
+      edge-small _ place.second-near _ (corners-there c.before.before).1 c.edge_at-in-loop-c.ensures,
     )
 
 pub overflow_add-count : goal.overflow_add-count
@@ -142,29 +138,25 @@ pub one_more-second-requires : goal.one_more-second-requires
 one_more-second-requires c = second-small c.before.before.before.before.before.before
 
 pub loop-c-smaller : goal.loop-c-smaller
-loop-c-smaller c = let at-loop = c.before.before.before.before.before.before.before in omega (arith, walked-below at-loop.loop-c.invariant)
+loop-c-smaller c = omega (arith, walked-below c.loop-c.invariant)
 
 pub loop-c-preserved : goal.loop-c-preserved
 loop-c-preserved c =
-    let at-cross = c.before.before in
-    let at-then = at-cross.before.before.before in
-    let at-loop = at-then.before.before in
-    let start = at-loop.before.before.before in
-    let a = start.args.a.now in
-    let b = start.args.b.now in
-    let left = three at-then in
-    let product = to_z w64 (of_z w64 at-cross.cross-c.result) in
-    let first = edge-there a start.requires.0.first-near _ (corners-there at-then).0
-    at-cross.before.before.edge_at.ensures left.0 in
-    let second = edge-there b start.requires.0.second-near _ (corners-there at-then).1
-    at-cross.before.edge_at-in-loop-c.ensures left.1 in
-    walked-inside at-loop.loop-c.invariant (result-is w64 at-cross.cross-c.type-inv (at-cross.cross-c.ensures ∙ ap₂ cross first second))
-    (side_of a c.before.one_more-first.result) (side_of b c.one_more-second.result)
-    (passed-at a (lt_z product (pos 0)) _ _ c.before.one_more-first.ensures left.0)
+    let a = c.args.a.now in
+    let b = c.args.b.now in
+    let left = three c.before.before.before.before.before in
+    let product = to_z w64 (of_z w64 c.cross-c.result) in
+    let first = edge-there a c.requires.0.first-near _ (corners-there c.before.before.before.before.before).0
+    c.edge_at.ensures left.0 in
+    let second = edge-there b c.requires.0.second-near _ (corners-there c.before.before.before.before.before).1
+    c.edge_at-in-loop-c.ensures left.1 in
+    walked-inside c.loop-c.invariant (result-is w64 c.cross-c.type_inv (c.cross-c.ensures ∙ ap₂ cross first second))
+    (side_of a c.one_more-first.result) (side_of b c.one_more-second.result)
+    (passed-at a (lt_z product (pos 0)) _ _ c.one_more-first.ensures left.0)
     (passed-at b (lt_z (pos 0) product) _ _ c.one_more-second.ensures left.1)
-    (passed-carried a (lt_z product (pos 0)) _ _ c.before.one_more-first.ensures left.0)
+    (passed-carried a (lt_z product (pos 0)) _ _ c.one_more-first.ensures left.0)
     (passed-carried b (lt_z (pos 0) product) _ _ c.one_more-second.ensures left.1)
     left.0 left.1 left.2
 
 pub returns : goal.returns
-returns c = c.before.before.loop-c.invariant
+returns c = c.loop-c.invariant

@@ -13,7 +13,7 @@ returns-then-exceeds_corners c = λ e. absurd (false≢true e)
 
 pub returns : goal.returns
 returns c = λ e. (
-  ltb-false max_corners _ (sym c.before.exceeds_corners.ensures ∙ c.if-exceeds_corners.false),
-  omega (arith, leb-true c.before.before.args.most (c.before.before.args.room / 2) e),
+  ltb-false max_corners _ (sym c.exceeds_corners.ensures ∙ c.if-exceeds_corners.false),
+  omega (arith, leb-true c.args.most (c.args.room / 2) e),
 
 )

@@ -6,7 +6,7 @@ pub returns-then-all-eq0 : goal.returns-then-all-eq0
 returns-then-all-eq0 c = rw (eq-eqb _ 0 c.if-all-eq0.true)
 
 pub returns-then-over : goal.returns-then-over
-returns-then-over c = rw (ne_eqb _ 0 c.before.if-all-eq0.false, c.if-over.true)
+returns-then-over c = rw (ne_eqb _ 0 c.if-all-eq0.false, c.if-over.true)
 
 pub returns : goal.returns
-returns c = rw (ne_eqb _ 0 c.before.if-all-eq0.false, c.if-over.false)
+returns c = rw (ne_eqb _ 0 c.if-all-eq0.false, c.if-over.false)

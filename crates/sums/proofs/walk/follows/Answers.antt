@@ -12,30 +12,28 @@ pub returns-then-i-eq0 : goal.returns-then-i-eq0
 returns-then-i-eq0 c = rw (eq-eqb _ 0 c.if-i-eq0.true)
 
 pub returns-then-j-sides : goal.returns-then-j-sides
-returns-then-j-sides c = rw (ne_eqb _ 0 c.before.before.if-i-eq0.false, eq-eqb _ _ (c.if-j-sides.true ∙ c.before.sides.ensures))
+returns-then-j-sides c = rw (ne_eqb _ 0 c.if-i-eq0.false, eq-eqb _ _ (c.if-j-sides.true ∙ c.sides.ensures))
 
 pub side_at-requires : goal.side_at-requires
 side_at-requires c =
-    let pre = c.before.before.before.requires in (omega (arith, pre.0), pre.2.in_range, pre.2.shape.some)
+    let pre = c.requires in (omega (arith, pre.0), pre.2.in_range, pre.2.shape.some)
 
 pub side_at-requires-2 : goal.side_at-requires-2
-side_at-requires-2 c = let pre = c.before.before.before.before.requires in (pre.1, pre.3.in_range, pre.3.shape.some)
+side_at-requires-2 c = let pre = c.requires in (pre.1, pre.3.in_range, pre.3.shape.some)
 
 pub is_before-requires : goal.is_before-requires
 is_before-requires c =
-    let pre = c.before.before.before.before.before.requires in (
-      edge-fits pre.2.in_range pre.2.shape.some c.before.side_at.ensures.1,
+    let pre = c.requires in (
+      edge-fits pre.2.in_range pre.2.shape.some c.side_at.ensures.1,
       edge-fits pre.3.in_range pre.3.shape.some c.side_at-2.ensures.1,
     )
 
 pub returns : goal.returns
 returns c =
-    let second = c.before.side_at-2.ensures in
-    let first = c.before.before.side_at.ensures in
-    let at_last = c.before.before.before in
-    let start = at_last.before.before.before in
+    let second = c.side_at-2.ensures in
+    let first = c.side_at.ensures in
     rw (
-      ne_eqb start.args.i 0 at_last.before.before.if-i-eq0.false,
-      ne_eqb start.args.j _ (λ e. at_last.if-j-sides.false (e ∙ sym at_last.before.sides.ensures)),
-    ) (c.is_before.ensures ∙ ap₂ before (first.1.edge-is ∙ ap (corner (edges (points start.args.a.now))) first.0)
-    (second.1.edge-is ∙ ap (corner (edges (points start.args.b.now))) second.0))
+      ne_eqb c.args.i 0 c.if-i-eq0.false,
+      ne_eqb c.args.j _ (λ e. c.if-j-sides.false (e ∙ sym c.sides.ensures)),
+    ) (c.is_before.ensures ∙ ap₂ before (first.1.edge-is ∙ ap (corner (edges (points c.args.a.now))) first.0)
+    (second.1.edge-is ∙ ap (corner (edges (points c.args.b.now))) second.0))

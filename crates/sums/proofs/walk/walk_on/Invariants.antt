@@ -22,9 +22,9 @@ use Rattle.sums.proofs.walk.walk_on.Given as goal
 -- all edges of both
 pub all : (c : After-struct_known-2-1 invariant-loop-s decreases-loop-s) → let second = c.before.before in
     let args = second.before.before.args in
-    second.before.side_at-first.result.end + second.side_at-second.result.end
+    second.before.side-at.result.end + second.side-at2.result.end
     ≡ length (edges (points args.a.now)) + length (edges (points args.b.now))
-all c = let second = c.before.before in all_edges second.before.side_at-first.ensures.1 second.side_at-second.ensures.1
+all c = let second = c.before.before in all_edges second.before.side-at.ensures.1 second.side-at2.ensures.1
 
 abbrev pub invariant-loop-s : goal.invariant-loop-s
 invariant-loop-s l =

@@ -9,8 +9,8 @@ float_from_bits-infinity c = tt
 
 pub returns-then-v-infinity : goal.returns-then-v-infinity
 unfolding of_bits neg
-returns-then-v-infinity c = finite-below c.before.args.v c.if-v-infinity.true
+returns-then-v-infinity c = finite-below c.args.v c.if-v-infinity.true
 
 pub returns : goal.returns
 unfolding of_bits
-returns c = finite-not c.before.args.v c.if-v-infinity.false
+returns c = finite-not c.args.v c.if-v-infinity.false

@@ -5,8 +5,8 @@ use Rattle.tablet.proofs.doubles.is_short.Goals as goal
 
 pub returns-then-v : goal.returns-then-v
 unfolding of_bits neg
-returns-then-v c = short-tested c.before.args.v c.before.requires c.if-v.true
+returns-then-v c = short-tested c.args.v c.requires c.if-v.true
 
 pub returns : goal.returns
 unfolding of_bits neg
-returns c = short-low c.before.args.v c.before.requires c.if-v.false
+returns c = short-low c.args.v c.requires c.if-v.false

@@ -5,12 +5,12 @@ use Rattle.tablet.proofs.doubles.is_small.Goals as goal
 
 pub returns-then-v-2 : goal.returns-then-v-2
 unfolding of_bits neg
-returns-then-v-2 c = small-tested c.before.before.args.v c.before.if-v.true c.if-v-2.true
+returns-then-v-2 c = small-tested c.args.v c.if-v.true c.if-v-2.true
 
 pub returns-else-v-2 : goal.returns-else-v-2
 unfolding of_bits neg
-returns-else-v-2 c = small-high c.before.before.args.v c.before.if-v.true c.if-v-2.false
+returns-else-v-2 c = small-high c.args.v c.if-v.true c.if-v-2.false
 
 pub returns-else-v : goal.returns-else-v
 unfolding of_bits neg
-returns-else-v c = small_low c.before.args.v c.if-v.false
+returns-else-v c = small_low c.args.v c.if-v.false

@@ -7,23 +7,20 @@ use Rattle.tablet.proofs.doubles.is_whole.Goals as goal
 
 pub truncating_f64_to_i64-requires : goal.truncating_f64_to_i64-requires
 unfolding of_bits neg
-truncating_f64_to_i64-requires c = cuttable c.before.before.args.v c.before.if-v.true c.if-v-2.true
+truncating_f64_to_i64-requires c = cuttable c.args.v c.if-v.true c.if-v-2.true
 
 pub returns-then-v-2 : goal.returns-then-v-2
 unfolding of_bits neg
 returns-then-v-2 c =
-    let tested = c.before.before in
-    let start = tested.before.before in
-    let cut = result-is w64 c.before.truncating_f64_to_i64.type-inv c.before.truncating_f64_to_i64.ensures in
-    ap (λ (x : Float). eq x start.args.v) (c.nearest_i64_to_f64.ensures ∙ ap (of_int binary64) cut)
-    ∙ whole-tested start.args.v start.requires.1 tested.before.if-v.true tested.if-v-2.true
+    let cut = result-is w64 c.truncating_f64_to_i64.type_inv c.truncating_f64_to_i64.ensures in
+    ap (λ (x : Float). eq x c.args.v) (c.nearest_i64_to_f64.ensures ∙ ap (of_int binary64) cut)
+    ∙ whole-tested c.args.v c.requires.1 c.if-v.true c.if-v-2.true
 
 pub returns-else-v-2 : goal.returns-else-v-2
 unfolding of_bits neg
 returns-else-v-2 c =
-    let start = c.before.before in
-    large-high start.args.v start.requires.0 start.requires.1 c.before.if-v.true c.if-v-2.false
+    large-high c.args.v c.requires.0 c.requires.1 c.if-v.true c.if-v-2.false
 
 pub returns-else-v : goal.returns-else-v
 unfolding of_bits neg
-returns-else-v c = large-low c.before.args.v c.before.requires.0 c.before.requires.1 c.if-v.false
+returns-else-v c = large-low c.args.v c.requires.0 c.requires.1 c.if-v.false

@@ -7,18 +7,18 @@ use Rattle.tablet.specs.theory.Tested.{castable, cast_is, zero_is}
 use Rattle.tablet.proofs.doubles.number.Goals as goal
 use Rattle.tablet.proofs.doubles.number.Goals.{After-row_known-1}
 
-taken : (c : After-row_known-1) → T (in_signed binary64 31 c.before.before.args.v)
+taken : (c : After-row_known-1) → T (in_signed binary64 31 c.args.v)
 unfolding of_bits
 taken c =
-    let pre = c.before.before.requires in
-    castable c.before.before.args.v pre.0 pre.1 pre.2 c.before.if-v.false
+    let pre = c.requires in
+    castable c.args.v pre.0 pre.1 pre.2 c.if-v.false
 
 pub returns-then-v : goal.returns-then-v
 unfolding of_bits
-returns-then-v c = zero_is c.before.args.v c.before.requires.0 c.if-v.true
+returns-then-v c = zero_is c.args.v c.requires.0 c.if-v.true
 
 pub float_to_int-result : goal.float_to_int-result
 float_to_int-result c = taken c
 
 pub returns : goal.returns
-returns c = result-is w32 (to_signed_in 31 c.before.before.args.v) (cast_is c.before.before.args.v (taken c))
+returns c = result-is w32 (to_signed_in 31 c.args.v) (cast_is c.args.v (taken c))

@@ -10,23 +10,20 @@ use Rattle.tablet_questions.proofs.coordinate.read_part.Goals as goal
 
 pub returns-in-Whole : goal.returns-in-Whole
 returns-in-Whole c =
-    sym c.before.before.before.read.ensures ∙ c.before.in-Whole.is
+    sym c.read.ensures ∙ c.in-Whole.is
     ∙ ap Whole (sym (result-is w32 c.known_told-1.given.0.1 refl))
 
 pub returns-in-NotFinite : goal.returns-in-NotFinite
 returns-in-NotFinite c =
-    let start = c.before.before.before in
-    let is = sym c.before.before.read.ensures ∙ c.in-NotFinite.is in
-    refuses (not-finite-row start.args.part start.args.reading is)
+    let is = sym c.read.ensures ∙ c.in-NotFinite.is in
+    refuses (not-finite-row c.args.part c.args.reading is)
 
 pub returns-in-NotWhole : goal.returns-in-NotWhole
 returns-in-NotWhole c =
-    let start = c.before.before.before in
-    let is = sym c.before.before.read.ensures ∙ c.in-NotWhole.is in
-    refuses (not-whole-row start.args.part start.args.reading is)
+    let is = sym c.read.ensures ∙ c.in-NotWhole.is in
+    refuses (not-whole-row c.args.part c.args.reading is)
 
 pub returns-in-Far : goal.returns-in-Far
 returns-in-Far c =
-    let start = c.before.before.before in
-    let is = sym c.before.before.read.ensures ∙ c.in-Far.is in
-    refuses (far-row start.args.part start.args.reading is)
+    let is = sym c.read.ensures ∙ c.in-Far.is in
+    refuses (far-row c.args.part c.args.reading is)

@@ -17,14 +17,14 @@ use Rattle.tangents.proofs.draws.draws.Goals.{After-cross-turn}
 
 pub cross-turn-requires : goal.cross-turn-requires
 cross-turn-requires c =
-    let pre = c.before.before.requires in
-    (small-step pre.0 pre.1 c.before.step-line.ensures, small-step pre.0 pre.2 c.step-other.ensures)
+    let pre = c.requires in
+    (small-step pre.0 pre.1 c.step-line.ensures, small-step pre.0 pre.2 c.step-other.ensures)
 
 -- the turn
-turn_is : (c : After-cross-turn) → let args = c.before.before.before.args in
+turn_is : (c : After-cross-turn) → let args = c.args in
     to_z w64 (of_z w64 c.cross-turn.result) ≡ turn (at args.p) (at args.q) (at args.x)
-turn_is c = result-is w64 c.cross-turn.type-inv
-    (c.cross-turn.ensures ∙ ap₂ cross c.before.before.step-line.ensures c.before.step-other.ensures ∙ sym (turn-cross _ _ _))
+turn_is c = result-is w64 c.cross-turn.type_inv
+    (c.cross-turn.ensures ∙ ap₂ cross c.step-line.ensures c.step-other.ensures ∙ sym (turn-cross _ _ _))
 
 pub returns-then-turn-lt0 : goal.returns-then-turn-lt0
 returns-then-turn-lt0 c =
@@ -35,15 +35,11 @@ returns-then-turn-gt0 c =
     sym (draws-left _ _ _ _ (lt_z-true (sym (ap (lt_z (pos 0)) (turn_is c.before.before)) ∙ c.if-turn-gt0.true)))
 
 pub dot-requires : goal.dot-requires
-dot-requires c = cross-turn-requires c.before.before.before c.lifetimes
+dot-requires c = cross-turn-requires c.before.before.before
 
 pub returns : goal.returns
 returns c =
-    let second = c.before in
-    let first = second.before in
-    let at-cross = first.before in
-    let steps = at-cross.before in
-    ap (lt_z (pos 0)) (result-is w64 c.dot.type-inv (c.dot.ensures ∙ ap₂ value steps.before.step-line.ensures steps.step-other.ensures))
+    ap (lt_z (pos 0)) (result-is w64 c.dot.type_inv (c.dot.ensures ∙ ap₂ value c.step-line.ensures c.step-other.ensures))
     ∙ sym (draws-along _ _ _ _ (le_antisym
-    (lt_z-false (sym (ap (lt_z (pos 0)) (turn_is at-cross)) ∙ second.if-turn-gt0.false))
-    (lt_z-false (sym (ap (λ (z : ℤ). lt_z z (pos 0)) (turn_is at-cross)) ∙ first.if-turn-lt0.false))))
+    (lt_z-false (sym (ap (lt_z (pos 0)) (turn_is c.before.before.before)) ∙ c.if-turn-gt0.false))
+    (lt_z-false (sym (ap (λ (z : ℤ). lt_z z (pos 0)) (turn_is c.before.before.before)) ∙ c.if-turn-lt0.false))))

@@ -9,12 +9,12 @@ use Rattle.tangents.proofs.rest.drawn.Goals as goal
 
 pub draws-requires : goal.draws-requires
 draws-requires c =
-    let pre = c.before.before.requires in
-    let start = small-corner _ pre.2 _ pre.0 c.before.corner_at.ensures in
+    let pre = c.requires in
+    let start = small-corner _ pre.2 _ pre.0 c.corner_at.ensures in
     (start, pre.3, small-corner _ pre.2 _ pre.1 c.corner_at-2.ensures)
 
 pub returns : goal.returns
 returns c =
-    let args = c.before.before.before.args in
+    let args = c.args in
     c.draws.ensures
-    ∙ ap₂ (λ (p x : Point). draws args.s p (at args.q) x) c.before.before.corner_at.ensures c.before.corner_at-2.ensures
+    ∙ ap₂ (λ (p x : Point). draws args.s p (at args.q) x) c.corner_at.ensures c.corner_at-2.ensures

@@ -6,16 +6,14 @@ pub slid-i-requires : goal.slid-i-requires
 slid-i-requires c = c.requires
 
 pub slid-requires : goal.slid-requires
-slid-requires c = c.before.before.requires
+slid-requires c = c.requires
 
 pub returns-then-i-from : goal.returns-then-i-from
 returns-then-i-from c =
-    let at-slid = c.before.before in
-    let ready = at-slid.before.requires in
-    slid-back _ _ ready.valid.shape _ ready.facing _ _ _ _ at-slid.slid-i.ensures c.before.if-i-from.true c.slid.ensures
+    let ready = c.requires in
+    slid-back _ _ ready.valid.shape _ ready.facing _ _ _ _ c.slid-i.ensures c.if-i-from.true c.slid.ensures
 
 pub returns : goal.returns
 returns c =
-    let at-slid = c.before in
-    let ready = at-slid.before.requires in
-    slid-rests _ _ ready.valid.shape _ ready.facing _ _ _ at-slid.slid-i.ensures (λ e. absurd (c.if-i-from.false e))
+    let ready = c.requires in
+    slid-rests _ _ ready.valid.shape _ ready.facing _ _ _ c.slid-i.ensures (λ e. absurd (c.if-i-from.false e))

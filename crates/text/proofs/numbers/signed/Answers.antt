@@ -28,23 +28,23 @@ below-fits : (n : ℕ) → 0 < n → n ≤ 2147483648 → SFits w32 (negsuc 0 -�
 below-fits n some least = rw (below-zero n some least) (minus-fits n least)
 
 pub overflow_sub-result-then-size-le-LEAST : goal.overflow_sub-result-then-size-le-LEAST
-overflow_sub-result-then-size-le-LEAST c = below-fits c.before.before.before.args.size (omega arith) c.if-size-le-LEAST.true
+overflow_sub-result-then-size-le-LEAST c = below-fits c.args.size (omega arith) c.if-size-le-LEAST.true
 
 pub returns-then-size-eq0 : goal.returns-then-size-eq0
-returns-then-size-eq0 c = rw (c.before.if-negative.true, c.if-size-eq0.true)
+returns-then-size-eq0 c = rw (c.if-negative.true, c.if-size-eq0.true)
 
 pub returns-then-size-le-LEAST : goal.returns-then-size-le-LEAST
 returns-then-size-le-LEAST c =
-    let size = c.before.before.before.args.size in
+    let size = c.args.size in
     let some : 0 < size = omega arith in
-    rw (c.before.before.if-negative.true, le-leb _ _ c.if-size-le-LEAST.true)
-    (ap Fits (to_z-of_z (below-fits size some c.if-size-le-LEAST.true) ∙ below-zero size some c.if-size-le-LEAST.true))
+    rw (c.if-negative.true, le-leb _ _ c.if-size-le-LEAST.true)
+    (ap Fits (to_z-of_z {w = w32} (below-fits size some c.if-size-le-LEAST.true) ∙ below-zero size some c.if-size-le-LEAST.true))
 
 pub returns-else-size-le-LEAST : goal.returns-else-size-le-LEAST
-returns-else-size-le-LEAST c = rw (c.before.before.if-negative.true, lt-leb _ _ c.if-size-le-LEAST.false)
+returns-else-size-le-LEAST c = rw (c.if-negative.true, lt-leb _ _ c.if-size-le-LEAST.false)
 
 pub returns-then-size-lt-LEAST : goal.returns-then-size-lt-LEAST
-returns-then-size-lt-LEAST c = rw (c.before.if-negative.false, lt-ltb _ _ c.if-size-lt-LEAST.true)
+returns-then-size-lt-LEAST c = rw (c.if-negative.false, lt-ltb _ _ c.if-size-lt-LEAST.true)
 
 pub returns-else-size-lt-LEAST : goal.returns-else-size-lt-LEAST
-returns-else-size-lt-LEAST c = rw (c.before.if-negative.false, le-ltb _ _ c.if-size-lt-LEAST.false)
+returns-else-size-lt-LEAST c = rw (c.if-negative.false, le-ltb _ _ c.if-size-lt-LEAST.false)

@@ -10,7 +10,7 @@ widened : {z : ℤ} → SFits w32 z → SFits w64 z
 widened f = record { sfits = omega (arith, f.sfits) }
 
 pub overflow_cast-result : goal.overflow_cast-result
-overflow_cast-result c = rw (to_z-of_z c.ranges.number) (widened c.ranges.number)
+overflow_cast-result c = rw (to_z-of_z {w = w32} c.ranges.number) (widened c.ranges.number)
 
 pub returns : goal.returns
-returns c = rw (to_z-of_z c.ranges.number) (to_z-of_z (widened c.ranges.number))
+returns c = rw (to_z-of_z {w = w32} c.ranges.number) (to_z-of_z {w = w32} (widened c.ranges.number))

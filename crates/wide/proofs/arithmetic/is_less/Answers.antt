@@ -9,14 +9,14 @@ loop-i-init c = (omega arith, above-none c.args.a.now c.args.b.now c.requires.sa
 
 pub returns-then-a-i : goal.returns-then-a-i
 returns-then-a-i c =
-    let at = c.before.before.before.before.before.before.loop-i in
+    let at = c.loop-i in
     word-decides _ _ at.i (omega arith) at.invariant.0 (omega arith) at.invariant.1
-    (λ k. (c.before.shared_slice_known-then-a-i-1.given k).fits) (λ k. (c.shared_slice_known-then-a-i-2-1.given k).fits) c.before.before.if-a-i.true
+    (λ k. (c.shared_slice_known-then-a-i-1.given k).fits) (λ k. (c.shared_slice_known-then-a-i-2-1.given k).fits) c.if-a-i.true
 
 pub loop-i-preserved : goal.loop-i-preserved
 loop-i-preserved c =
-    let at = c.before.before.before.before.loop-i in
+    let at = c.loop-i in
     (omega arith, word-agrees _ _ at.i (omega arith) at.invariant.0 (omega arith) at.invariant.1 c.if-a-i.false)
 
 pub returns : goal.returns
-returns c = none_below _ _ c.before.loop-i.i c.loop-i-test.false c.before.loop-i.invariant.1
+returns c = none_below _ _ c.loop-i.i c.loop-i-test.false c.loop-i.invariant.1

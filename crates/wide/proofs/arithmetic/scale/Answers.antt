@@ -5,15 +5,14 @@ use Rattle.wide.specs.theory.Carry.{Scaling, scaling-start, scaling-more, scalin
 use Rattle.wide.proofs.arithmetic.scale.Goals as goal
 
 pub loop-i-init : goal.loop-i-init
-loop-i-init c = scaling-start c.before.before.requires.room
+loop-i-init c = scaling-start c.requires.room
 
 pub loop-i-preserved : goal.loop-i-preserved
 loop-i-preserved c =
-    let turn = c.before.before.before.before in
-    scaling-more turn.before.loop-i.invariant turn.loop-i-test.true c.before.before.low_word.ensures c.high_word_lem.ensures
+    scaling-more c.loop-i.invariant c.loop-i-test.true c.low_word.ensures c.high_word_lem.ensures
 
 pub shape_of-out : goal.shape_of-out
-shape_of-out c = rw length-set (omega (arith, c.before.loop-i.invariant.long))
+shape_of-out c = rw length-set (omega (arith, c.loop-i.invariant.long))
 
 pub returns : goal.returns
-returns c = scaling-end c.before.loop-i.invariant c.loop-i-test.false
+returns c = scaling-end c.loop-i.invariant c.loop-i-test.false

@@ -21,27 +21,27 @@ kept : (z : ℤ) → lt_z z (pos 0) ≡ false → nat_abs z ≡ of_z w64 z
 kept (pos n) h = refl
 kept (negsuc n) h = absurd (true≢false h)
 
-below : (c : Then-z-lt0) → lt_z c.before.args.z (pos 0) ≡ true
-below c = ap (λ (z : ℤ). lt_z z (pos 0)) (sym (to_z-of_z c.before.ranges.z)) ∙ c.if-z-lt0.true
+below : (c : Then-z-lt0) → lt_z c.args.z (pos 0) ≡ true
+below c = ap (λ (z : ℤ). lt_z z (pos 0)) (sym (to_z-of_z {w = w64} c.ranges.z)) ∙ c.if-z-lt0.true
 
-above : (c : Else-z-lt0) → lt_z c.before.args.z (pos 0) ≡ false
-above c = ap (λ (z : ℤ). lt_z z (pos 0)) (sym (to_z-of_z c.before.ranges.z)) ∙ c.if-z-lt0.false
+above : (c : Else-z-lt0) → lt_z c.args.z (pos 0) ≡ false
+above c = ap (λ (z : ℤ). lt_z z (pos 0)) (sym (to_z-of_z {w = w64} c.ranges.z)) ∙ c.if-z-lt0.false
 
-less : (c : Then-z-lt0) → Below w64 c.before.args.z
-less c = below-zero c.before.args.z tt c.before.ranges.z (below c)
+less : (c : Then-z-lt0) → Below w64 c.args.z
+less c = below-zero c.args.z tt c.ranges.z (below c)
 
 pub overflow_sub-result : goal.overflow_sub-result
-overflow_sub-result c = (less c).ranges
+overflow_sub-result c = (less c).fits
 
 pub overflow_cast-result : goal.overflow_cast-result
 overflow_cast-result c = rw (less c).value (tt, (less c).value-fits)
 
 pub returns-then-z-lt0 : goal.returns-then-z-lt0
 returns-then-z-lt0 c =
-    ap (λ (z : ℤ). 18446744073709551615 - nat_abs z) (less c).value ∙ turned c.before.args.z c.before.ranges.z (below c)
+    ap (λ (z : ℤ). 18446744073709551615 - nat_abs z) (less c).value ∙ turned c.args.z c.ranges.z (below c)
 
 pub overflow_cast-result-2 : goal.overflow_cast-result-2
-overflow_cast-result-2 c = rw (to_z-of_z c.before.ranges.z) (from_zero c.before.args.z tt c.before.ranges.z (above c))
+overflow_cast-result-2 c = rw (to_z-of_z {w = w64} c.ranges.z) (from_zero c.args.z tt c.ranges.z (above c))
 
 pub returns : goal.returns
-returns c = ap nat_abs (to_z-of_z c.before.ranges.z) ∙ kept c.before.args.z (above c)
+returns c = ap nat_abs (to_z-of_z {w = w64} c.ranges.z) ∙ kept c.args.z (above c)

@@ -9,9 +9,9 @@ use borrow.Author.Rules.{rules}
 use Rattle.wire.proofs.numbers.extended.Goals as goal
 
 pub overflow_cast-z : goal.overflow_cast-z
-overflow_cast-z c = rw (to_z-of_z c.ranges.z) (sfits_widen tt c.ranges.z)
+overflow_cast-z c = rw (to_z-of_z {w = w64} c.ranges.z) (sfits_widen tt c.ranges.z)
 
 pub returns : goal.returns
 returns c =
-    let z = c.before.ranges.z in
-    c.bits.ensures ∙ ap bits (ap (λ (n : ℤ). to_z w64 (of_z w64 n)) (to_z-of_z z) ∙ to_z-of_z {w = w64} (sfits_widen tt z))
+    let z = c.ranges.z in
+    c.bits.ensures ∙ ap bits (ap (λ (n : ℤ). to_z w64 (of_z w64 n)) (to_z-of_z {w = w64} z) ∙ to_z-of_z {w = w64} (sfits_widen tt z))

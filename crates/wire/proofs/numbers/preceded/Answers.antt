@@ -12,6 +12,5 @@ three c = search rules
 
 pub returns : goal.returns
 returns c =
-    let start = c.before.before.before.before.before.before.before.before.before in
-    let r = start.args.t2 in
-    precede start.args.value r.number r.count r.carried r.values (three start)
+    let r = c.args.t2 in
+    precede c.args.value r.number r.count r.carried r.values (three c.before.before.before.before.before.before.before.before.before)

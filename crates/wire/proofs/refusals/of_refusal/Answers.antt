@@ -6,55 +6,55 @@ use borrow.Author.Rules.{rules}
 use Rattle.wire.proofs.refusals.of_refusal.Goals as goal
 
 pub returns-in-Count : goal.returns-in-Count
-returns-in-Count c = c.refused1.ensures ∙ told of_refusal c.before.before.in-Count.is
+returns-in-Count c = c.refused1.ensures ∙ told of_refusal c.before.before.refusal.given.1
 
 pub returns-in-Corners : goal.returns-in-Corners
-returns-in-Corners c = c.refused1-in-Corners.ensures ∙ told of_refusal c.before.before.in-Corners.is
+returns-in-Corners c = c.refused12.ensures ∙ told of_refusal c.before.before.refusal2.given.1
 
 pub returns-in-Range : goal.returns-in-Range
-returns-in-Range c = c.refused1-in-Range.ensures ∙ told of_refusal c.before.before.in-Range.is
+returns-in-Range c = c.refused13.ensures ∙ told of_refusal c.before.before.refusal3.given.1
 
 pub returns-in-Side : goal.returns-in-Side
-returns-in-Side c = c.refused3.ensures ∙ told of_refusal c.before.before.in-Side.is
+returns-in-Side c = c.refused3.ensures ∙ told of_refusal c.before.before.refusal4.given.1
 
 pub returns-in-Start : goal.returns-in-Start
-returns-in-Start c = c.refused1-in-Start.ensures ∙ told of_refusal c.before.before.in-Start.is
+returns-in-Start c = c.refused14.ensures ∙ told of_refusal c.before.before.refusal5.given.1
 
 pub returns-in-LargeAnswer : goal.returns-in-LargeAnswer
-returns-in-LargeAnswer c = c.refused0.ensures ∙ told of_refusal c.before.in-LargeAnswer.is
+returns-in-LargeAnswer c = c.refused0.ensures ∙ told of_refusal c.before.enum_told.given.1
 
 pub returns-in-FarAnswer : goal.returns-in-FarAnswer
-returns-in-FarAnswer c = c.refused0-in-FarAnswer.ensures ∙ told of_refusal c.before.in-FarAnswer.is
+returns-in-FarAnswer c = c.refused02.ensures ∙ told of_refusal c.before.enum-told2.given.1
 
 pub returns-in-Room : goal.returns-in-Room
-returns-in-Room c = c.refused0-in-Room.ensures ∙ told of_refusal c.before.in-Room.is
+returns-in-Room c = c.refused03.ensures ∙ told of_refusal c.before.enum-told3.given.1
 
 pub returns-in-NotApart : goal.returns-in-NotApart
-returns-in-NotApart c = c.refused0-in-NotApart.ensures ∙ told of_refusal c.before.in-NotApart.is
+returns-in-NotApart c = c.refused04.ensures ∙ told of_refusal c.before.enum-told4.given.1
 
 pub returns-in-Flat : goal.returns-in-Flat
-returns-in-Flat c = c.refused0-in-Flat.ensures ∙ told of_refusal c.before.in-Flat.is
+returns-in-Flat c = c.refused05.ensures ∙ told of_refusal c.before.enum-told5.given.1
 
 pub returns-in-Direction : goal.returns-in-Direction
-returns-in-Direction c = c.refused0-in-Direction.ensures ∙ told of_refusal c.before.in-Direction.is
+returns-in-Direction c = c.refused06.ensures ∙ told of_refusal c.before.enum-told6.given.1
 
 pub returns-in-NotPrimitive : goal.returns-in-NotPrimitive
-returns-in-NotPrimitive c = c.refused0-in-NotPrimitive.ensures ∙ told of_refusal c.before.in-NotPrimitive.is
+returns-in-NotPrimitive c = c.refused07.ensures ∙ told of_refusal c.before.enum-told7.given.1
 
 pub returns-in-Floors : goal.returns-in-Floors
-returns-in-Floors c = c.refused0-in-Floors.ensures ∙ told of_refusal c.before.in-Floors.is
+returns-in-Floors c = c.refused08.ensures ∙ told of_refusal c.before.enum-told8.given.1
 
 pub returns-in-NotAPlace : goal.returns-in-NotAPlace
-returns-in-NotAPlace c = c.refused0-in-NotAPlace.ensures ∙ told of_refusal c.before.in-NotAPlace.is
+returns-in-NotAPlace c = c.refused09.ensures ∙ told of_refusal c.before.enum-told9.given.1
 
 pub returns-in-Damaged : goal.returns-in-Damaged
-returns-in-Damaged c = c.refused1-in-Damaged.ensures ∙ told of_refusal c.before.before.in-Damaged.is
+returns-in-Damaged c = c.refused15.ensures ∙ told of_refusal c.before.before.refusal6.given.1
 
 pub returns-in-Full : goal.returns-in-Full
-returns-in-Full c = c.refused0-in-Full.ensures ∙ told of_refusal c.before.in-Full.is
+returns-in-Full c = c.refused010.ensures ∙ told of_refusal c.before.enum-told10.given.1
 
 pub returns-in-NoRecord : goal.returns-in-NoRecord
-returns-in-NoRecord c = c.refused0-in-NoRecord.ensures ∙ told of_refusal c.before.in-NoRecord.is
+returns-in-NoRecord c = c.refused011.ensures ∙ told of_refusal c.before.enum-told11.given.1
 
 pub returns-in-TooFew : goal.returns-in-TooFew
-returns-in-TooFew c = c.refused0-in-TooFew.ensures ∙ told of_refusal c.before.in-TooFew.is
+returns-in-TooFew c = c.refused012.ensures ∙ told of_refusal c.before.enum-told12.given.1

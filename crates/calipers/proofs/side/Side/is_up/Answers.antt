@@ -12,22 +12,19 @@ use Rattle.calipers.proofs.side.Side.is_up.Goals as goal
 use Rattle.calipers.proofs.side.Side.is_up.Goals.{After-struct_told-1}
 
 -- the parts as they are read
-readback : (c : After-struct_told-1) → let s = c.before.before.args.self in
+readback : (c : After-struct_told-1) → let s = c.args.self in
     point (to_z w64 (of_z w64 s.run)) (to_z w64 (of_z w64 s.rise)) ≡ next_of s
 readback c =
     let g = c.struct_told-1.given in
     ap₂ point (result-is w64 g.1.1.1.1.0.1 refl) (result-is w64 g.1.1.1.1.1.0.1 refl)
 
 pub returns-then-self-gt0 : goal.returns-then-self-gt0
-returns-then-self-gt0 c = sym (precedes-below origin _ (lt_z-true c.if-self-gt0.true)) ∙ ap up (readback c.before)
+returns-then-self-gt0 c = sym (precedes-below origin _ (lt_z-true c.if-self-gt0.true)) ∙ ap up (readback (goal.at.returns-then-self-gt0 c).After-struct_told-1)
 
 pub returns-then-self-lt0 : goal.returns-then-self-lt0
 returns-then-self-lt0 c =
-    let first = c.before.before.before in
-    sym (precedes-above origin _ (lt_z-true c.if-self-lt0.true)) ∙ ap up (readback first.before)
+    sym (precedes-above origin _ (lt_z-true c.if-self-lt0.true)) ∙ ap up (readback (goal.at.returns-then-self-lt0 c).After-struct_told-1)
 
 pub returns : goal.returns
 returns c =
-    let second = c.before.before in
-    let first = second.before.before.before in
-    sym (precedes-level origin _ (lt_z-false second.if-self-lt0.false) (lt_z-false first.if-self-gt0.false)) ∙ ap up (readback first.before)
+    sym (precedes-level origin _ (lt_z-false c.if-self-lt0.false) (lt_z-false c.if-self-gt0.false)) ∙ ap up (readback (goal.at.returns c).After-struct_told-1)
