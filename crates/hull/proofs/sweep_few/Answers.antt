@@ -30,15 +30,15 @@ insert_all-n-requires c =
 
 -- they are sorted
 sorted : (c : After-insert_all-n) →
-    let ps = points c.reduce-m.new.1.0 in
+    let ps = points c.reduce-m.new.buf in
     Holds c.insert_all-n.new.buf c.insert_all-n.result (ascending (take c.reduce-m.result ps))
 sorted c =
-    held-front (points c.reduce-m.new.1.0) c.reduce-m.ensures.within c.insert_all-n.ensures
+    held-front (points c.reduce-m.new.buf) c.reduce-m.ensures.within c.insert_all-n.ensures
 
 pub outline-requires : goal.outline-requires
 outline-requires c =
     let m = c.reduce-m.result in
-    let ps = points c.reduce-m.new.1.0 in
+    let ps = points c.reduce-m.new.buf in
     let r = c.reduce-m.ensures in
     let h = sorted c.before.before.before in (
       held-some (take m ps) h (omega (arith, r.some, length-take-le m ps r.within)),
@@ -52,7 +52,7 @@ outline-requires c =
         c.requires.1,
         c.reduce-m.auto.1.0,
         points-length c.args.buf.now,
-        points-length c.reduce-m.new.1.0,
+        points-length c.reduce-m.new.buf,
       ),
       part_small c.args.list.now c.requires.0.in_range h.within (λ p n. r.part p (held-part (take m ps) h p n)),
     )

@@ -41,21 +41,21 @@ unfolding max_points
 insert_all-n-requires c =
     let r = kept c.before.before.before.before in (
       r.within,
-      omega (arith, r.few, c.requires.0.few, c.presort.auto.1.1.0, points-length c.presort.new.1.1.0),
+      omega (arith, r.few, c.requires.0.few, c.presort.auto.1.1.0, points-length c.presort.new.spare),
       part_small c.args.list.now c.requires.0.in_range r.within r.part,
     )
 
 -- they are sorted
 sorted : (c : After-insert_all-n) →
     let m = c.reduce-m.result in
-    Holds c.insert_all-n.new.buf c.insert_all-n.result (ascending (take m (points c.presort.new.0)))
+    Holds c.insert_all-n.new.buf c.insert_all-n.result (ascending (take m (points c.presort.new.buf)))
 sorted c =
-    held-front (points c.presort.new.0) (kept c.before.before.before.before.before).within c.insert_all-n.ensures
+    held-front (points c.presort.new.buf) (kept c.before.before.before.before.before).within c.insert_all-n.ensures
 
 pub outline-requires : goal.outline-requires
 outline-requires c =
     let m = c.reduce-m.result in
-    let ps = points c.presort.new.0 in
+    let ps = points c.presort.new.buf in
     let r = kept c.before.before.before.before.before.before.before.before in
     let h = sorted c.before.before.before in (
       held-some (take m ps) h (omega (arith, r.some, length-take-le m ps r.within)),
@@ -70,7 +70,7 @@ outline-requires c =
         c.presort.auto.0,
         c.reduce-m.auto.1.0,
         points-length c.args.buf.now,
-        points-length c.presort.new.0,
+        points-length c.presort.new.buf,
       ),
       part_small c.args.list.now c.requires.0.in_range h.within (λ p n. r.part p (held-part (take m ps) h p n)),
     )

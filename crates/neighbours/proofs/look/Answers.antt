@@ -77,7 +77,7 @@ slice_bounds-shape-end c = omega (arith, decoded-length c, few c)
 
 pub slice_bounds-shape-end-2 : goal.slice_bounds-shape-end-2
 slice_bounds-shape-end-2 c =
-    sym (length-take-le _ c.decode.new.1.1.1.0 (omega (arith, decoded-length (goal.at.slice_bounds-shape-end-2 c).After-decode, few (goal.at.slice_bounds-shape-end-2 c).After-decode)))
+    sym (length-take-le _ c.decode.new.out (omega (arith, decoded-length (goal.at.slice_bounds-shape-end-2 c).After-decode, few (goal.at.slice_bounds-shape-end-2 c).After-decode)))
 
 pub is_passed-requires : goal.is_passed-requires
 is_passed-requires c =

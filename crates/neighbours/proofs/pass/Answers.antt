@@ -81,7 +81,7 @@ returns c =
     (sym c.whole_at.ensures ∙ c.loop-extent-test.false)
 
 pub overflow_add-p : goal.overflow_add-p
-overflow_add-p c = omega (arith, c.pair-at.ensures.1)
+overflow_add-p c = omega (arith, c.pair_at.ensures.1)
 
 pub overflow_add-p-in-loop-extent : goal.overflow_add-p-in-loop-extent
 overflow_add-p-in-loop-extent c = omega (arith, (step c).1)

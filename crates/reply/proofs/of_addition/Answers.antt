@@ -6,10 +6,10 @@ use borrow.Author.Rules.{rules}
 use Rattle.reply.proofs.of_addition.Goals as goal
 
 pub returns-in-Finished : goal.returns-in-Finished
-returns-in-Finished c = c.answered1.ensures ∙ told of_addition c.before.enum_told.given.1
+returns-in-Finished c = c.answered1.ensures ∙ told of_addition c.in-Finished.is
 
 pub returns-in-Cut : goal.returns-in-Cut
-returns-in-Cut c = c.answered12.ensures ∙ told of_addition c.before.enum-told2.given.1
+returns-in-Cut c = c.answered1-in-Cut.ensures ∙ told of_addition c.in-Cut.is
 
 pub returns-in-No : goal.returns-in-No
-returns-in-No c = c.of-refusal.ensures ∙ told of_addition c.before.before.answer.given.1
+returns-in-No c = c.of_refusal.ensures ∙ told of_addition c.in-No.is

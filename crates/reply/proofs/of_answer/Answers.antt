@@ -6,7 +6,7 @@ use borrow.Author.Rules.{rules}
 use Rattle.reply.proofs.of_answer.Goals as goal
 
 pub returns-in-Corners : goal.returns-in-Corners
-returns-in-Corners c = c.answered2.ensures ∙ told of_answer c.before.before.answer.given.1
+returns-in-Corners c = c.answered2.ensures ∙ told of_answer c.in-Corners.is
 
 pub returns-in-No : goal.returns-in-No
-returns-in-No c = c.of-refusal.ensures ∙ told of_answer c.before.before.answer2.given.1
+returns-in-No c = c.of_refusal.ensures ∙ told of_answer c.in-No.is

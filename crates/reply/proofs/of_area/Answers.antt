@@ -6,7 +6,7 @@ use borrow.Author.Rules.{rules}
 use Rattle.reply.proofs.of_area.Goals as goal
 
 pub returns-in-Twice : goal.returns-in-Twice
-returns-in-Twice c = c.answered2.ensures ∙ told of_area c.before.before.answer.given.1
+returns-in-Twice c = c.answered2.ensures ∙ told of_area c.in-Twice.is
 
 pub returns-in-No : goal.returns-in-No
-returns-in-No c = c.of-refusal.ensures ∙ told of_area c.before.before.answer2.given.1
+returns-in-No c = c.of_refusal.ensures ∙ told of_area c.in-No.is

@@ -18,4 +18,4 @@ returns-in-At c =
     ∙ told of_begun at.1
 
 pub returns-in-No : goal.returns-in-No
-returns-in-No c = c.of-refusal.ensures ∙ told of_begun c.before.before.answer2.given.1
+returns-in-No c = c.of_refusal.ensures ∙ told of_begun c.in-No.is

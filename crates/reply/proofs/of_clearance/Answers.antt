@@ -6,10 +6,10 @@ use borrow.Author.Rules.{rules}
 use Rattle.reply.proofs.of_clearance.Goals as goal
 
 pub returns-in-None : goal.returns-in-None
-returns-in-None c = c.answered2.ensures ∙ told of_clearance c.before.before.answer.given.1
+returns-in-None c = c.answered2.ensures ∙ told of_clearance c.in-None.is
 
 pub returns-in-Apart : goal.returns-in-Apart
-returns-in-Apart c = c.of-distance.ensures ∙ told of_clearance c.before.before.answer2.given.1
+returns-in-Apart c = c.of_distance.ensures ∙ told of_clearance c.in-Apart.is
 
 pub returns-in-No : goal.returns-in-No
-returns-in-No c = c.of-refusal.ensures ∙ told of_clearance c.before.before.answer3.given.1
+returns-in-No c = c.of_refusal.ensures ∙ told of_clearance c.in-No.is

@@ -14,12 +14,12 @@ abbrev numbers_of : ℕ → Distance → Reply
 numbers_of floor d = answered (values_of d ++ (pos floor ∷ []))
 
 pub returns-in-Corners : goal.returns-in-Corners
-returns-in-Corners c = c.answered6.ensures ∙ told (numbers_of c.before.before.before.before.args.floor) c.before.before.distance.given.1
+returns-in-Corners c = c.answered6.ensures ∙ told (numbers_of c.args.floor) c.in-Corners.is
 
 pub returns-in-OnSecond : goal.returns-in-OnSecond
 returns-in-OnSecond c = c.answered7.ensures
-    ∙ told (numbers_of c.before.before.before.before.args.floor) c.before.before.distance2.given.1
+    ∙ told (numbers_of c.args.floor) c.in-OnSecond.is
 
 pub returns-in-OnFirst : goal.returns-in-OnFirst
-returns-in-OnFirst c = c.answered72.ensures
-    ∙ told (numbers_of c.before.before.before.before.args.floor) c.before.before.distance3.given.1
+returns-in-OnFirst c = c.answered7-in-OnFirst.ensures
+    ∙ told (numbers_of c.args.floor) c.in-OnFirst.is

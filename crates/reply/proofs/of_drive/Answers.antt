@@ -6,10 +6,10 @@ use borrow.Author.Rules.{rules}
 use Rattle.reply.proofs.of_drive.Goals as goal
 
 pub returns-in-Never : goal.returns-in-Never
-returns-in-Never c = c.answered2.ensures ∙ told of_drive c.before.before.answer.given.1
+returns-in-Never c = c.answered2.ensures ∙ told of_drive c.in-Never.is
 
 pub returns-in-At : goal.returns-in-At
-returns-in-At c = c.answered6.ensures ∙ told of_drive c.before.before.answer2.given.1
+returns-in-At c = c.answered6.ensures ∙ told of_drive c.in-At.is
 
 pub returns-in-No : goal.returns-in-No
-returns-in-No c = c.of-refusal.ensures ∙ told of_drive c.before.before.answer3.given.1
+returns-in-No c = c.of_refusal.ensures ∙ told of_drive c.in-No.is

@@ -20,4 +20,4 @@ returns-in-At c =
     ∙ told of_furthest at.1
 
 pub returns-in-No : goal.returns-in-No
-returns-in-No c = c.of-refusal.ensures ∙ told of_furthest c.before.before.answer2.given.1
+returns-in-No c = c.of_refusal.ensures ∙ told of_furthest c.in-No.is

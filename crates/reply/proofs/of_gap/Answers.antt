@@ -31,11 +31,11 @@ preceded-requires c =
     omega (arith, all, distance-room parts.0 parts.1.0)
 
 pub returns-in-Meets : goal.returns-in-Meets
-returns-in-Meets c = c.answered4.ensures ∙ told of_gap c.before.before.answer.given.1
+returns-in-Meets c = c.answered4.ensures ∙ told of_gap c.in-Meets.is
 
 pub returns-in-Apart : goal.returns-in-Apart
-returns-in-Apart c = c.preceded.ensures (named-numbers c.before) c.before.named.ensures
-    ∙ told of_gap c.before.before.before.answer2.given.1
+returns-in-Apart c = c.preceded.ensures (named-numbers c.before) c.named.ensures
+    ∙ told of_gap c.in-Apart.is
 
 pub returns-in-No : goal.returns-in-No
-returns-in-No c = c.of-refusal.ensures ∙ told of_gap c.before.before.answer3.given.1
+returns-in-No c = c.of_refusal.ensures ∙ told of_gap c.in-No.is

@@ -6,7 +6,7 @@ use borrow.Author.Rules.{rules}
 use Rattle.reply.proofs.of_greatest.Goals as goal
 
 pub returns-in-At : goal.returns-in-At
-returns-in-At c = c.answered4.ensures ∙ told of_greatest c.before.before.answer.given.1
+returns-in-At c = c.answered4.ensures ∙ told of_greatest c.in-At.is
 
 pub returns-in-No : goal.returns-in-No
-returns-in-No c = c.of-refusal.ensures ∙ told of_greatest c.before.before.answer2.given.1
+returns-in-No c = c.of_refusal.ensures ∙ told of_greatest c.in-No.is

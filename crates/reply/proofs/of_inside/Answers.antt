@@ -16,4 +16,4 @@ returns-in-Is c =
     ∙ ap (λ (z : ℤ). crossed (answered (z ∷ pos at.0.1.0 ∷ []))) c.flag.ensures ∙ told of_inside at.1
 
 pub returns-in-No : goal.returns-in-No
-returns-in-No c = c.of-refusal.ensures ∙ told of_inside c.before.before.answer2.given.1
+returns-in-No c = c.of_refusal.ensures ∙ told of_inside c.in-No.is

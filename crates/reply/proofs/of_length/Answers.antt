@@ -6,7 +6,7 @@ use borrow.Author.Rules.{rules}
 use Rattle.reply.proofs.of_length.Goals as goal
 
 pub returns-in-Between : goal.returns-in-Between
-returns-in-Between c = c.answered4.ensures ∙ told of_length c.before.before.answer.given.1
+returns-in-Between c = c.answered4.ensures ∙ told of_length c.in-Between.is
 
 pub returns-in-No : goal.returns-in-No
-returns-in-No c = c.of-refusal.ensures ∙ told of_length c.before.before.answer2.given.1
+returns-in-No c = c.of_refusal.ensures ∙ told of_length c.in-No.is

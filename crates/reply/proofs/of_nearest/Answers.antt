@@ -6,10 +6,10 @@ use borrow.Author.Rules.{rules}
 use Rattle.reply.proofs.of_nearest.Goals as goal
 
 pub returns-in-Meets : goal.returns-in-Meets
-returns-in-Meets c = c.answered3.ensures ∙ told of_nearest c.before.before.answer.given.1
+returns-in-Meets c = c.answered3.ensures ∙ told of_nearest c.in-Meets.is
 
 pub returns-in-Apart : goal.returns-in-Apart
-returns-in-Apart c = c.named.ensures ∙ told of_nearest c.before.before.answer2.given.1
+returns-in-Apart c = c.named.ensures ∙ told of_nearest c.in-Apart.is
 
 pub returns-in-No : goal.returns-in-No
-returns-in-No c = c.of-refusal.ensures ∙ told of_nearest c.before.before.answer3.given.1
+returns-in-No c = c.of_refusal.ensures ∙ told of_nearest c.in-No.is

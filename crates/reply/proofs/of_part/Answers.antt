@@ -19,4 +19,4 @@ returns-in-Corners c =
     c.flag.ensures ∙ told of_part at.1
 
 pub returns-in-No : goal.returns-in-No
-returns-in-No c = c.of-refusal.ensures ∙ told of_part c.before.before.answer2.given.1
+returns-in-No c = c.of_refusal.ensures ∙ told of_part c.in-No.is

@@ -27,7 +27,7 @@ returns-in-Free c =
     ∙ told of_passage at.1
 
 pub returns-in-Blocked : goal.returns-in-Blocked
-returns-in-Blocked c = c.answered2.ensures ∙ told of_passage c.before.before.answer.given.1
+returns-in-Blocked c = c.answered2.ensures ∙ told of_passage c.in-Blocked.is
 
 pub returns-in-No : goal.returns-in-No
-returns-in-No c = c.of-refusal.ensures ∙ told of_passage c.before.before.answer3.given.1
+returns-in-No c = c.of_refusal.ensures ∙ told of_passage c.in-No.is

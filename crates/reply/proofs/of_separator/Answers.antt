@@ -20,7 +20,7 @@ returns-in-Direction c =
     ∙ told of_separator at.1
 
 pub returns-in-Nothing : goal.returns-in-Nothing
-returns-in-Nothing c = c.answered2.ensures ∙ told of_separator c.before.before.answer2.given.1
+returns-in-Nothing c = c.answered2.ensures ∙ told of_separator c.in-Nothing.is
 
 pub returns-in-No : goal.returns-in-No
-returns-in-No c = c.of-refusal.ensures ∙ told of_separator c.before.before.answer3.given.1
+returns-in-No c = c.of_refusal.ensures ∙ told of_separator c.in-No.is

@@ -19,4 +19,4 @@ returns-in-Corner c =
     c.answered2.ensures ∙ ap₂ (λ (m n : ℕ). crossed (answered (pos m ∷ pos n ∷ []))) x y ∙ told (λ x. (of_tablet x).reply) at.1
 
 pub returns-in-No : goal.returns-in-No
-returns-in-No c = c.of-unread.ensures ∙ told (λ x. (of_tablet x).reply) c.before.before.answer2.given.1
+returns-in-No c = c.of_unread.ensures ∙ told (λ x. (of_tablet x).reply) c.in-No.is

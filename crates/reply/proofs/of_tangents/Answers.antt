@@ -6,7 +6,7 @@ use borrow.Author.Rules.{rules}
 use Rattle.reply.proofs.of_tangents.Goals as goal
 
 pub returns-in-Lines : goal.returns-in-Lines
-returns-in-Lines c = c.answered9.ensures ∙ told of_tangents c.before.before.answer.given.1
+returns-in-Lines c = c.answered9.ensures ∙ told of_tangents c.in-Lines.is
 
 pub returns-in-No : goal.returns-in-No
-returns-in-No c = c.of-refusal.ensures ∙ told of_tangents c.before.before.answer2.given.1
+returns-in-No c = c.of_refusal.ensures ∙ told of_tangents c.in-No.is

@@ -6,7 +6,7 @@ use borrow.Author.Rules.{rules}
 use Rattle.reply.proofs.of_width.Goals as goal
 
 pub returns-in-Across : goal.returns-in-Across
-returns-in-Across c = c.answered6.ensures ∙ told of_width c.before.before.answer.given.1
+returns-in-Across c = c.answered6.ensures ∙ told of_width c.in-Across.is
 
 pub returns-in-No : goal.returns-in-No
-returns-in-No c = c.of-refusal.ensures ∙ told of_width c.before.before.answer2.given.1
+returns-in-No c = c.of_refusal.ensures ∙ told of_width c.in-No.is

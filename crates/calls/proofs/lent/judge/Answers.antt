@@ -13,7 +13,7 @@ use borrow.Author.Rules.{rules}
 use Rattle.calls.proofs.lent.judge.Goals as goal
 
 pub slice_bounds-cocklesway_judge-end-2 : goal.slice_bounds-cocklesway_judge-end-2
-slice_bounds-cocklesway_judge-end-2 c = sym (length-take-le _ c.read-n.new.1.0 c.read-n.ensures.0)
+slice_bounds-cocklesway_judge-end-2 c = sym (length-take-le _ c.read-n.new.numbers c.read-n.ensures.0)
 
 pub packed_reply-requires : goal.packed_reply-requires
 packed_reply-requires c = narrow _ c.cocklesway_judge.ensures (judged-fits _)

@@ -14,11 +14,11 @@ use Rattle.calls.proofs.lent.relation.Goals as goal
 
 pub slice_bounds-cocklesway_relation-end-2 : goal.slice_bounds-cocklesway_relation-end-2
 slice_bounds-cocklesway_relation-end-2 c =
-    sym (length-take-le _ c.read-m.new.1.0 c.read-m.ensures.0)
+    sym (length-take-le _ c.read-m.new.numbers c.read-m.ensures.0)
 
 pub slice_bounds-cocklesway_relation-end-4 : goal.slice_bounds-cocklesway_relation-end-4
 slice_bounds-cocklesway_relation-end-4 c =
-    sym (length-take-le _ c.read-n.new.1.0 c.read-n.ensures.0)
+    sym (length-take-le _ c.read-n.new.numbers c.read-n.ensures.0)
 
 pub packed_reply-requires : goal.packed_reply-requires
 packed_reply-requires c = narrow _ c.cocklesway_relation.ensures (relation-fits _ _)

@@ -19,7 +19,7 @@ returns c =
     c.log_add.ensures
 
 pub returns-then-exceeds_floor : goal.returns-then-exceeds_floor
-returns-then-exceeds_floor c = added-above _ _ _ _ _ (sym c.before.before.exceeds-floor.ensures ∙ c.before.if1.true) c.barred.ensures
+returns-then-exceeds_floor c = added-above _ _ _ _ _ (sym c.exceeds_floor.ensures ∙ c.if-exceeds_floor.true) c.barred.ensures
 
 pub overflow_cast-f : goal.overflow_cast-f
-overflow_cast-f c = low_fits _ (low c.before)
+overflow_cast-f c = low_fits _ (low (goal.at.overflow_cast-f c).Else-exceeds_floor)

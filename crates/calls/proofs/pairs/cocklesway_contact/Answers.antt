@@ -29,7 +29,7 @@ returns c =
     (c.contact.ensures ∙ ap₂ (λ (t u : Point). reply (ask_contact obstacle cart t u)) from to)
 
 pub returns-then-exceeds : goal.returns-then-exceeds
-returns-then-exceeds c = (above-pair _ refl (sym c.before.before.exceeds.ensures ∙ c.before.if1.true) c.barred-pair.ensures).0
+returns-then-exceeds c = (above-pair _ refl (sym c.exceeds.ensures ∙ c.if-exceeds.true) c.barred_pair.ensures).0
 
 pub overflow_cast-f : goal.overflow_cast-f
 overflow_cast-f c = low_fits _ (low c).0

@@ -14,7 +14,7 @@ low : (c : Else-exceeds) → (ltb max_floor c.args.f ≡ false) × (ltb max_floo
 low c = both-low _ _ (sym c.exceeds.ensures ∙ c.if-exceeds.false)
 
 pub returns-then-exceeds : goal.returns-then-exceeds
-returns-then-exceeds c = found-above _ _ (sym c.before.before.exceeds.ensures ∙ c.before.if1.true) c.barred-pair.ensures
+returns-then-exceeds c = found-above _ _ (sym c.exceeds.ensures ∙ c.if-exceeds.true) c.barred_pair.ensures
 
 pub overflow_cast-f : goal.overflow_cast-f
 overflow_cast-f c = low_fits _ (low c).0
@@ -23,4 +23,4 @@ pub overflow_cast-g : goal.overflow_cast-g
 overflow_cast-g c = low_fits _ (low c).1
 
 pub returns : goal.returns
-returns c = found_within _ _ (low c.before.before).0 c.of-separator.ensures c.before.find.ensures
+returns c = found_within _ _ (low c.before.before).0 c.of_separator.ensures c.find.ensures

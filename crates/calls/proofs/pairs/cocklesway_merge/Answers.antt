@@ -17,7 +17,7 @@ pub returns : goal.returns
 returns c = within-written _ (low c.before.before.before.before).0 c.of_answer.ensures c.merge.ensures
 
 pub returns-then-exceeds : goal.returns-then-exceeds
-returns-then-exceeds c = above-pair _ refl (sym c.before.before.exceeds.ensures ∙ c.before.if1.true) c.barred-pair.ensures
+returns-then-exceeds c = above-pair _ refl (sym c.exceeds.ensures ∙ c.if-exceeds.true) c.barred_pair.ensures
 
 pub overflow_cast-f : goal.overflow_cast-f
 overflow_cast-f c = low_fits _ (low c).0

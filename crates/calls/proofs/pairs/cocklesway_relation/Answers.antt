@@ -14,7 +14,7 @@ low : (c : Else-exceeds) → (ltb max_floor c.args.f ≡ false) × (ltb max_floo
 low c = both-low _ _ (sym c.exceeds.ensures ∙ c.if-exceeds.false)
 
 pub returns-then-exceeds : goal.returns-then-exceeds
-returns-then-exceeds c = (above-pair _ refl (sym c.before.before.exceeds.ensures ∙ c.before.if1.true) c.barred-pair.ensures).0
+returns-then-exceeds c = (above-pair _ refl (sym c.exceeds.ensures ∙ c.if-exceeds.true) c.barred_pair.ensures).0
 
 pub overflow_cast-f : goal.overflow_cast-f
 overflow_cast-f c = low_fits _ (low c).0
@@ -23,4 +23,4 @@ pub overflow_cast-g : goal.overflow_cast-g
 overflow_cast-g c = low_fits _ (low c).1
 
 pub returns : goal.returns
-returns c = within-told _ (low c.before.before).0 c.of-relation.ensures c.before.relation.ensures
+returns c = within-told _ (low c.before.before).0 c.of_relation.ensures c.relation.ensures

@@ -25,7 +25,7 @@ returns c =
     within-told _ (low c.before.before) c.of_furthest.ensures (c.furthest.ensures ∙ asked)
 
 pub returns-then-exceeds_floor : goal.returns-then-exceeds_floor
-returns-then-exceeds_floor c = (above _ (sym c.before.before.exceeds-floor.ensures ∙ c.before.if1.true) c.barred.ensures).0
+returns-then-exceeds_floor c = (above _ (sym c.exceeds_floor.ensures ∙ c.if-exceeds_floor.true) c.barred.ensures).0
 
 pub overflow_cast-floor : goal.overflow_cast-floor
 overflow_cast-floor c = low_fits _ (low c)

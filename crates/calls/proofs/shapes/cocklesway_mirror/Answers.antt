@@ -17,7 +17,7 @@ pub returns : goal.returns
 returns c = within-written _ (low c.before.before.before.before) c.of_answer.ensures c.mirror.ensures
 
 pub returns-then-exceeds_floor : goal.returns-then-exceeds_floor
-returns-then-exceeds_floor c = above _ (sym c.before.before.exceeds-floor.ensures ∙ c.before.if1.true) c.barred.ensures
+returns-then-exceeds_floor c = above _ (sym c.exceeds_floor.ensures ∙ c.if-exceeds_floor.true) c.barred.ensures
 
 pub overflow_cast-floor : goal.overflow_cast-floor
 overflow_cast-floor c = low_fits _ (low c)

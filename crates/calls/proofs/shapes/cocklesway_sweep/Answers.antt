@@ -14,10 +14,10 @@ low : (c : Else-exceeds_floor) → ltb max_floor c.args.floor ≡ false
 low c = sym c.exceeds_floor.ensures ∙ c.if-exceeds_floor.false
 
 pub returns-then-exceeds_floor : goal.returns-then-exceeds_floor
-returns-then-exceeds_floor c = above _ (sym c.before.before.exceeds-floor.ensures ∙ c.before.if1.true) c.barred-points.ensures
+returns-then-exceeds_floor c = above _ (sym c.exceeds_floor.ensures ∙ c.if-exceeds_floor.true) c.barred_points.ensures
 
 pub overflow_cast-floor : goal.overflow_cast-floor
 overflow_cast-floor c = low_fits _ (low c)
 
 pub returns : goal.returns
-returns c = within-written _ (low c.before.before.before.before) c.of-answer.ensures c.before.before.sweep.ensures
+returns c = within-written _ (low c.before.before.before.before) c.of_answer.ensures c.sweep.ensures

@@ -88,7 +88,7 @@ pub encode-requires : goal.encode-requires
 encode-requires c =
     let d = delivered (goal.at.encode-requires c).After-ask-arg-1 in
     let rest = drop c.room-n.result c.args.shape.now in
-    let new = c.ask-reply.new.1.1.1.1.1.0 in
+    let new = c.ask-reply.new.shape in
     (omega (arith, d.0, c.ask-reply.auto.1.1.1.1.1.0, length-append new rest), omega (arith, d.1))
 
 pub packed_reply-requires : goal.packed_reply-requires
@@ -98,7 +98,7 @@ packed_reply-requires c =
 pub returns : goal.returns
 returns c =
     let args = c.args in
-    let new = c.ask-reply.new.1.1.1.1.1.0 in
+    let new = c.ask-reply.new.shape in
     let rest = drop c.room-n.result args.shape.now in
     made-stored (shapes (goal.at.returns c).After-slice_known-1) (shape (goal.at.returns c).After-slice_known-1) (part (goal.at.returns c).After-slice_known-1) args.out.now (room (goal.at.returns c).After-slice_known-1) (fit (goal.at.returns c).After-slice_known-1) rest
     c.ask-reply.auto.1.1.1.1.1.0 c.ask-reply.ensures.1

@@ -44,4 +44,4 @@ pub extent_of-e-requires : goal.extent_of-e-requires
 extent_of-e-requires c = c.requires.0
 
 pub extent_of-f-requires : goal.extent_of-f-requires
-extent_of-f-requires c = c.before.requires.1
+extent_of-f-requires c = c.requires.1

@@ -56,7 +56,7 @@ pub returns : goal.returns
 returns c = counting-end c.loop-n.invariant (sym c.whole_at.ensures ∙ c.loop-n-test.false)
 
 pub overflow_add-p : goal.overflow_add-p
-overflow_add-p c = omega (arith, c.pair-at.ensures.1)
+overflow_add-p c = omega (arith, c.pair_at.ensures.1)
 
 pub overflow_add-p-in-loop-n : goal.overflow_add-p-in-loop-n
 overflow_add-p-in-loop-n c = omega (arith, (step c).1)

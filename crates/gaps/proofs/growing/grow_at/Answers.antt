@@ -33,7 +33,7 @@ slice_bounds-write-end c = fits (goal.at.slice_bounds-write-end c).After-read_at
 
 pub slice_bounds-write-end-2 : goal.slice_bounds-write-end-2
 slice_bounds-write-end-2 c =
-    sym (length-take-le _ c.read_at-n.new.1.1.0 (fits (goal.at.slice_bounds-write-end-2 c).After-read_at-arg-1))
+    sym (length-take-le _ c.read_at-n.new.shape (fits (goal.at.slice_bounds-write-end-2 c).After-read_at-arg-1))
 
 pub top-requires : goal.top-requires
 top-requires c = c.requires.1.shape.some
@@ -64,7 +64,7 @@ write-requires c =
 wrote-length : (c : After-write) →
     length c.write.new.out ≡ length c.args.out.now
 wrote-length c =
-    let l = take c.read_at-n.result c.read_at-n.new.1.1.0 in
+    let l = take c.read_at-n.result c.read_at-n.new.shape in
     let grown_list = shape_of (differences (points l) (points c.args.cart.now)) in
     written-length grown_list c.args.out.now c.write.new.out c.write.ensures.1
     (write-requires (goal.at.After-write c).After-write-arg-1 c.write.lifetimes).3

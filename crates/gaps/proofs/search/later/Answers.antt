@@ -118,13 +118,13 @@ returns c =
     )
 
 pub overflow_add-q : goal.overflow_add-q
-overflow_add-q c = omega (arith, c.pair-at.ensures.1)
+overflow_add-q c = omega (arith, c.pair_at.ensures.1)
 
 pub overflow_add-q-2 : goal.overflow_add-q-2
 overflow_add-q-2 c = omega (arith, (begin c).1)
 
 pub overflow_add-q-in-loop-reach : goal.overflow_add-q-in-loop-reach
-overflow_add-q-in-loop-reach c = omega (arith, c.pair-at2.ensures.1)
+overflow_add-q-in-loop-reach c = omega (arith, c.pair_at-in-loop-reach.ensures.1)
 
 pub overflow_add-q-in-loop-reach-2 : goal.overflow_add-q-in-loop-reach-2
 overflow_add-q-in-loop-reach-2 c = omega (arith, (step c).1)

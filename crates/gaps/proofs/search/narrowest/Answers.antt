@@ -90,7 +90,7 @@ returns c =
     along-end (points args.cart.now) b (pairs args.floor b) c.loop-shape.invariant.1 (ap pairs_of none)
 
 pub overflow_add-p : goal.overflow_add-p
-overflow_add-p c = omega (arith, c.pair-at.ensures.1)
+overflow_add-p c = omega (arith, c.pair_at.ensures.1)
 
 pub overflow_add-p-in-loop-shape : goal.overflow_add-p-in-loop-shape
 overflow_add-p-in-loop-shape c = omega (arith, (step c).1)

@@ -64,7 +64,7 @@ returns c =
     passes (judging-end c.loop-shape.invariant.0 (sym c.whole_at.ensures ∙ c.loop-shape-test.false))
 
 pub overflow_add-p : goal.overflow_add-p
-overflow_add-p c = omega (arith, c.pair-at.ensures.1)
+overflow_add-p c = omega (arith, c.pair_at.ensures.1)
 
 pub overflow_add-p-in-loop-shape : goal.overflow_add-p-in-loop-shape
 overflow_add-p-in-loop-shape c = omega (arith, (step c).1)

@@ -48,7 +48,7 @@ settle-requires c =
         first.same,
         left-few args.up P args.row.first args.row.end Q args.other.first args.other.end,
         points-length args.buf.now,
-        points-length c.both-kept.new.1.1.1.1.1.0,
+        points-length c.both-kept.new.buf,
       ),
       rows.small,
       c.requires.4,

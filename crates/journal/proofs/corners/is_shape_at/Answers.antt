@@ -50,7 +50,7 @@ slice_bounds-passes-end c = omega (arith, kept c, fits (goal.at.slice_bounds-pas
 
 pub slice_bounds-passes-end-2 : goal.slice_bounds-passes-end-2
 slice_bounds-passes-end-2 c =
-    sym (length-take-le _ c.decode.new.1.1.1.0 (omega (arith, kept (goal.at.slice_bounds-passes-end-2 c).After-decode, fits (goal.at.slice_bounds-passes-end-2 c).After-exceeds_corners)))
+    sym (length-take-le _ c.decode.new.out (omega (arith, kept (goal.at.slice_bounds-passes-end-2 c).After-decode, fits (goal.at.slice_bounds-passes-end-2 c).After-exceeds_corners)))
 
 pub returns : goal.returns
 returns c =

@@ -49,7 +49,7 @@ arrange-requires c =
 
 pub slice_bounds-passes-end-2 : goal.slice_bounds-passes-end-2
 slice_bounds-passes-end-2 c =
-    sym (length-take-le _ c.arrange.new.1.1.1.1.0
+    sym (length-take-le _ c.arrange.new.shape
     (omega (arith, c.requires.2, c.arrange.auto.1.1.1.1.0)))
 
 pub returns : goal.returns
@@ -57,4 +57,4 @@ returns c e =
     let args = c.args in
     let back = lt_z (to_z w64 (of_z w64 c.turn_at-turn.result)) (pos 0) in
     arranged-front (points args.list.now) args.n args.start back c.requires.1.all c.requires.1.least
-    args.shape.now c.arrange.new.1.1.1.1.0 c.arrange.ensures (c.passes.ensures.0 e).shape
+    args.shape.now c.arrange.new.shape c.arrange.ensures (c.passes.ensures.0 e).shape

@@ -25,4 +25,4 @@ pub extent_of-e-requires : goal.extent_of-e-requires
 extent_of-e-requires c = c.requires.1
 
 pub extent_of-requires : goal.extent_of-requires
-extent_of-requires c = c.before.before.before.requires.0
+extent_of-requires c = c.requires.0

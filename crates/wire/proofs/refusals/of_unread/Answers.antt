@@ -6,10 +6,10 @@ use borrow.Author.Rules.{rules}
 use Rattle.wire.proofs.refusals.of_unread.Goals as goal
 
 pub returns-in-NotFinite : goal.returns-in-NotFinite
-returns-in-NotFinite c = c.refused1.ensures ∙ told of_unread c.before.before.refusal.given.1
+returns-in-NotFinite c = c.refused1.ensures ∙ told of_unread c.in-NotFinite.is
 
 pub returns-in-NotWhole : goal.returns-in-NotWhole
-returns-in-NotWhole c = c.refused12.ensures ∙ told of_unread c.before.before.refusal2.given.1
+returns-in-NotWhole c = c.refused1-in-NotWhole.ensures ∙ told of_unread c.in-NotWhole.is
 
 pub returns-in-Far : goal.returns-in-Far
-returns-in-Far c = c.refused13.ensures ∙ told of_unread c.before.before.refusal3.given.1
+returns-in-Far c = c.refused1-in-Far.ensures ∙ told of_unread c.in-Far.is
