@@ -59,5 +59,5 @@ returns-in-No-admit_floors c =
 
 pub returns : goal.returns
 returns c =
-    then-last (one c.before.before.before.before.before.before.before.before.before.before.before.before.before) (two c.before.before.before.before.before.before.before.before.before.before.before.before.before) (three c.before.before.before.before.before.before.before.before.before.before.before.before.before) (first (goal.at.returns c).In_default) (second (goal.at.returns c).In_default-admit) (third (goal.at.returns c).In_default-admit-2) (level (goal.at.returns c).In_default-admit_floors)
+    then-last (one (goal.at.returns c).Start) (two (goal.at.returns c).Start) (three (goal.at.returns c).Start) (first (goal.at.returns c).In_default) (second (goal.at.returns c).In_default-admit) (third (goal.at.returns c).In_default-admit-2) (level (goal.at.returns c).In_default-admit_floors)
     c.admit_floors-2.ensures

@@ -54,10 +54,10 @@ returns-in-At c =
 
 pub returns-then-bad_start : goal.returns-then-bad_start
 returns-then-bad_start c =
-    turns-away (refuses (later (row-1 c.before.before.before.before.before.before.before.before.before) (later (row-2 c.before.before.before.before.before.before.before) (later (row-3 c.before.before.before.before.before) (later (row-4 (goal.at.returns-then-bad_start c).In_default)
+    turns-away (refuses (later (row-1 (goal.at.returns-then-bad_start c).Else-bad_count) (later (row-2 (goal.at.returns-then-bad_start c).Else-too_many) (later (row-3 (goal.at.returns-then-bad_start c).Else-some_outside) (later (row-4 (goal.at.returns-then-bad_start c).In_default)
     (here (sym c.bad_start.ensures ∙ c.if-bad_start.true)))))))
 
 pub returns : goal.returns
 returns c =
     passes (accepted→valid _ c.args.shape
-    (row-1 c.before.before.before.before.before.before.before.before.before, (row-2 c.before.before.before.before.before.before.before, (row-3 c.before.before.before.before.before, (row-4 (goal.at.returns c).In_default, (sym c.bad_start.ensures ∙ c.if-bad_start.false, tt))))))
+    (row-1 (goal.at.returns c).Else-bad_count, (row-2 (goal.at.returns c).Else-too_many, (row-3 (goal.at.returns c).Else-some_outside, (row-4 (goal.at.returns c).In_default, (sym c.bad_start.ensures ∙ c.if-bad_start.false, tt))))))

@@ -16,7 +16,7 @@ use Rattle.area.specs.Area.{twice_area}
 use Rattle.area.specs.theory.Partial.{partial, partial-start, partial-more, partial-all, partial-within, corners-within}
 use Rattle.area.specs.theory.Compared.{area-nonneg}
 use Rattle.area.proofs.twice_area.Goals as goal
-use Rattle.area.proofs.twice_area.Goals.{After-cross_at-sum-in-loop-i, After-loop-i, At-loop-i, Start}
+use Rattle.area.proofs.twice_area.Goals.{After-cross_at-sum-in-loop-i, After-loop-i}
 
 pub count-n-requires : goal.count-n-requires
 count-n-requires c = tt
@@ -57,25 +57,20 @@ module _ (s r v u : ℤ) (e : s ≡ v) (h : Within (2 ^ 60) v) (f : r ≡ u) (k 
   sum_is = let p = known e h in let q = known f k in machine-is (search machine depth 40) tt
 
 module _ (c : After-cross_at-sum-in-loop-i) where
-  abbrev start : Start
-  start = c.before.before.before.before.before
-
-  abbrev at-loop : At-loop-i
-  at-loop = c.before.before
 
   abbrev ps : List Point
-  ps = points start.args.list.now
+  ps = points c.args.list.now
 
-  inside : (at-loop.loop.i < length ps) × (at-loop.loop.i + 1 < length ps)
+  inside : (c.loop-i.i < length ps) × (c.loop-i.i + 1 < length ps)
   inside =
-      let n = c.before.before.before.before.count.ensures in
-      (omega (arith, n, c.before.loop-test.true), omega (arith, n, c.before.loop-test.true))
+      let n = c.count-n.ensures in
+      (omega (arith, n, c.loop-i-test.true), omega (arith, n, c.loop-i-test.true))
 
-  sum-within : Within (2 ^ 60) (partial ps at-loop.loop.i)
-  sum-within = partial-within _ start.pre at-loop.loop.i inside.0
+  sum-within : Within (2 ^ 60) (partial ps c.loop-i.i)
+  sum-within = partial-within _ c.requires c.loop-i.i inside.0
 
-  product-within : Within (2 ^ 43) (cross (corner ps at-loop.loop.i) (corner ps (at-loop.loop.i + 1)))
-  product-within = corners-within _ start.pre.in_range at-loop.loop.i (at-loop.loop.i + 1) inside.0 inside.1
+  product-within : Within (2 ^ 43) (cross (corner ps c.loop-i.i) (corner ps (c.loop-i.i + 1)))
+  product-within = corners-within _ c.requires.in_range c.loop-i.i (c.loop-i.i + 1) inside.0 inside.1
 
 pub overflow_add-sum : goal.overflow_add-sum
 overflow_add-sum c = sum_fits _ _ _ _ c.loop-i.invariant.0 (sum-within c) c.cross_at-sum-in-loop-i.ensures (product-within c)

@@ -16,7 +16,7 @@ use Rattle.area.specs.theory.Compared.{area-nonneg}
 use Rattle.area.proofs.twice_area.Given as goal
 
 abbrev pub invariant-loop-i : goal.invariant-loop-i
-invariant-loop-i l = (to_z w64 l.sum ≡ partial (points l.list) l.i) × (l.i < l.n)
+invariant-loop-i l = (l.sum ≡ partial (points l.list) l.i) × (l.i < l.n)
 
 abbrev pub decreases-loop-i : goal.decreases-loop-i
 decreases-loop-i l = l.n - l.i

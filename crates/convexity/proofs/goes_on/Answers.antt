@@ -21,8 +21,8 @@ half_is : (c : Start) → beq (le_z (pos 0) c.args.f.rise) c.args.up
 half_is c = ap (λ (z : ℤ). beq (le_z (pos 0) z) c.args.up) (sym (rise-is c))
 
 pub returns-then-f-up : goal.returns-then-f-up
-returns-then-f-up c = sym (other_half _ _ _ (half_is c.before.before.before ∙ not-true _ c.if-f-up.true))
+returns-then-f-up c = sym (other_half _ _ _ (half_is (goal.at.returns-then-f-up c).Start ∙ not-true _ c.if-f-up.true))
 
 pub returns : goal.returns
 returns c =
-    c.is_left.ensures ∙ sym (own-half _ _ _ (half_is c.before.before.before.before ∙ not-false _ c.if-f-up.false))
+    c.is_left.ensures ∙ sym (own-half _ _ _ (half_is (goal.at.returns c).Start ∙ not-false _ c.if-f-up.false))

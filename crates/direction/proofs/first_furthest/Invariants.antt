@@ -17,7 +17,7 @@ use Rattle.direction.proofs.first_furthest.Given as goal
 
 abbrev pub invariant-loop-i : goal.invariant-loop-i
 invariant-loop-i l =
-    Greatest (λ k. direction_value (at l.d) (corner (points l.list) k)) l.i l.position (to_z w64 l.value) × (l.i ≤ l.n)
+    Greatest (λ k. direction_value (at l.d) (corner (points l.list) k)) l.i l.position l.value × (l.i ≤ l.n)
 
 abbrev pub decreases-loop-i : goal.decreases-loop-i
 decreases-loop-i l = l.n - l.i

@@ -17,7 +17,7 @@ use Rattle.direction.proofs.reach.Given as goal
 
 abbrev pub invariant-loop-i : goal.invariant-loop-i
 invariant-loop-i l =
-    ((k : ℕ) × Greatest (λ j. direction_value (at l.d) (corner (points l.list) j)) l.i k (to_z w64 l.greatest)) × (l.i ≤ l.n)
+    ((k : ℕ) × Greatest (λ j. direction_value (at l.d) (corner (points l.list) j)) l.i k l.greatest) × (l.i ≤ l.n)
 
 abbrev pub decreases-loop-i : goal.decreases-loop-i
 decreases-loop-i l = l.n - l.i

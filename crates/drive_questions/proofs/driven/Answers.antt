@@ -86,4 +86,4 @@ first-requires c =
 pub returns : goal.returns
 returns c =
     c.met.ensures ∙ ap (λ (vs : List ℤ). answered (vs ++ (pos c.args.f ∷ []))) c.first.ensures
-    ∙ sym (contact-answers (one c.before.before.before.before.before.before.before.before.before.before.before.before.before.before) (other c.before.before.before.before.before.before.before.before.before.before.before.before.before.before) _ _ (shapes (goal.at.returns c).In_default) (from-near (goal.at.returns c).In_default-admit_place, (to-near (goal.at.returns c).In_default-admit_place-2, grown-fits (goal.at.returns c).In_default-admit_grown)))
+    ∙ sym (contact-answers (one (goal.at.returns c).Start) (other (goal.at.returns c).Start) _ _ (shapes (goal.at.returns c).In_default) (from-near (goal.at.returns c).In_default-admit_place, (to-near (goal.at.returns c).In_default-admit_place-2, grown-fits (goal.at.returns c).In_default-admit_grown)))

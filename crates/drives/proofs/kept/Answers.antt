@@ -31,7 +31,6 @@ returns-then-not-is_current c =
 pub returns : goal.returns
 returns c =
     let best = c.args.best in
-    let m = c.meeting-1.given in
-    ap (λ (n : ℕ). Soonest.At n m.0.0 m.0.1.0 m.0.1.1.0) (sym c.head_at.ensures.name-is)
-    ∙ kept_by _ _ _ _ _ best m.1 (sym c.is_sooner.ensures ∙ c.if-not-is_sooner.false)
+    ap (λ (n : ℕ). Soonest.At n c.in-At.numerator c.in-At.denominator c.in-At.safe) (sym c.head_at.ensures.name-is)
+    ∙ kept_by _ _ _ _ _ best c.in-At.is (sym c.is_sooner.ensures ∙ c.if-not-is_sooner.false)
     (sym c.is_current.ensures ∙ c.if-not-is_current.false)

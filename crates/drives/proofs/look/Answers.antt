@@ -38,7 +38,7 @@ slice_bounds-meet-end c = fits (goal.at.slice_bounds-meet-end c).After-read_at-n
 
 pub slice_bounds-meet-end-2 : goal.slice_bounds-meet-end-2
 slice_bounds-meet-end-2 c =
-    sym (length-take-le _ c.read_at-n.new.shape (fits (goal.at.slice_bounds-meet-end-2 c).After-read_at-arg-1))
+    sym (length-take-le _ c.read_at-n.new.shape (fits (goal.at.slice_bounds-meet-end-2 c).After-read_at-n))
 
 pub meet-requires : goal.meet-requires
 meet-requires c =

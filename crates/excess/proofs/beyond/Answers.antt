@@ -76,6 +76,6 @@ pub returns-in-Apart : goal.returns-in-Apart
 returns-in-Apart c =
     c.rounded.ensures ∙ ap (λ (k : ℕ). up_numbers k c.in-Apart.found) c.outermost-corner.ensures
     ∙ found_up (points c.args.new.now) _ c.requires.1.shape
-    (clear c.before.before.before.before.before) c.in-Apart.found
-    (known c.before.before.before.before c.in-Apart.is).1
+    (clear (goal.at.returns-in-Apart c).After-corner_at) c.in-Apart.found
+    (known (goal.at.returns-in-Apart c).After-spacing c.in-Apart.is).1
     ∙ told _ _ (sym c.inside.ensures ∙ c.if-inside.false)

@@ -7,18 +7,16 @@ use Rattle.plane.specs.Point.{Point, points, ◌⊕◌}
 use Rattle.polygon.specs.Point.{at, Small}
 use Rattle.polygon.specs.theory.Extents.{extends-small}
 use Rattle.extents.proofs.reach.Goals as goal
-use Rattle.extents.proofs.reach.Goals.{After-extent_of-f, Start}
+use Rattle.extents.proofs.reach.Goals.{After-extent_of-f}
 
 -- the points of both boxes may be added
 module _ (c : After-extent_of-f) where
-  abbrev start : Start
-  start = c.before.before
 
   first_small : Small (2 ^ 21) (at c.extent_of-e.result.high) × Small (2 ^ 21) (at c.extent_of-e.result.low)
-  first_small = extends-small _ start.pre.0.in_range start.pre.0.shape.some c.extent_of-e.ensures
+  first_small = extends-small _ c.requires.0.in_range c.requires.0.shape.some c.extent_of-e.ensures
 
   second-small : Small (2 ^ 21) (at c.extent_of-f.result.high) × Small (2 ^ 21) (at c.extent_of-f.result.low)
-  second-small = extends-small _ start.pre.1.in_range start.pre.1.shape.some c.extent_of-f.ensures
+  second-small = extends-small _ c.requires.1.in_range c.requires.1.shape.some c.extent_of-f.ensures
 
 sum-small : {p q r : Point} → r ≡ p ⊕ q → Small (2 ^ 21) p → Small (2 ^ 21) q → Small (2 ^ 22) r
 sum-small e h k = subst (Small (2 ^ 22)) (sym e)

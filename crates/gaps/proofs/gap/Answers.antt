@@ -28,8 +28,7 @@ returns-in_default c =
 
 -- the pair that was found
 found : (c : In-Pair-2) → let args = c.args in
-    let told = c.first-1.given.0 in
-    Found (points args.cart.now) args.log.now told.0 told.1.0 told.1.1.0
+    Found (points args.cart.now) args.log.now c.in-Pair.first c.in-Pair.second c.in-Pair.spacing
 found c =
     answer-found _ _ _ c.narrowest.result c.narrowest.ensures _ _ _ c.in-Pair.is
 

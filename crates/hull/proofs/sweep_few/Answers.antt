@@ -26,7 +26,7 @@ reduced-small c =
 pub insert_all-n-requires : goal.insert_all-n-requires
 insert_all-n-requires c =
     let r = c.reduce-m.ensures in
-    (r.within, omega (arith, r.few, c.requires.2, points-length c.args.list.now), reduced-small c.before.before.before)
+    (r.within, omega (arith, r.few, c.requires.2, points-length c.args.list.now), reduced-small c.before.before)
 
 -- they are sorted
 sorted : (c : After-insert_all-n) →
@@ -50,7 +50,7 @@ outline-requires c =
         length-take-le m ps r.within,
         r.few,
         c.requires.1,
-        c.reduce-m.auto.1.0,
+        c.reduce-m.auto.buf,
         points-length c.args.buf.now,
         points-length c.reduce-m.new.buf,
       ),

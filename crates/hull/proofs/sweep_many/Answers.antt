@@ -39,9 +39,9 @@ kept c = reduced-rearranged c.reduce-m.ensures c.presort.ensures
 pub insert_all-n-requires : goal.insert_all-n-requires
 unfolding max_points
 insert_all-n-requires c =
-    let r = kept c.before.before.before.before in (
+    let r = kept c.before.before.before in (
       r.within,
-      omega (arith, r.few, c.requires.0.few, c.presort.auto.1.1.0, points-length c.presort.new.spare),
+      omega (arith, r.few, c.requires.0.few, c.presort.auto.spare, points-length c.presort.new.spare),
       part_small c.args.list.now c.requires.0.in_range r.within r.part,
     )
 
@@ -50,13 +50,13 @@ sorted : (c : After-insert_all-n) →
     let m = c.reduce-m.result in
     Holds c.insert_all-n.new.buf c.insert_all-n.result (ascending (take m (points c.presort.new.buf)))
 sorted c =
-    held-front (points c.presort.new.buf) (kept c.before.before.before.before.before).within c.insert_all-n.ensures
+    held-front (points c.presort.new.buf) (kept c.before.before.before.before).within c.insert_all-n.ensures
 
 pub outline-requires : goal.outline-requires
 outline-requires c =
     let m = c.reduce-m.result in
     let ps = points c.presort.new.buf in
-    let r = kept c.before.before.before.before.before.before.before.before in
+    let r = kept c.before.before.before.before.before.before.before in
     let h = sorted c.before.before.before in (
       held-some (take m ps) h (omega (arith, r.some, length-take-le m ps r.within)),
       h.within,
@@ -67,8 +67,8 @@ outline-requires c =
         length-take-le m ps r.within,
         r.few,
         c.requires.1,
-        c.presort.auto.0,
-        c.reduce-m.auto.1.0,
+        c.presort.auto.buf,
+        c.reduce-m.auto.buf,
         points-length c.args.buf.now,
         points-length c.presort.new.buf,
       ),
@@ -79,4 +79,4 @@ pub returns : goal.returns
 unfolding shape_of
 returns c =
     subst (λ (ps : List Point). Front ps c.outline.result c.outline.new.buf)
-    (ap outline (sorted c.before.before.before.before.before).front ∙ (kept c.before.before.before.before.before.before.before.before.before.before).shape) c.outline.ensures
+    (ap outline (sorted c.before.before.before.before.before).front ∙ (kept c.before.before.before.before.before.before.before.before.before).shape) c.outline.ensures

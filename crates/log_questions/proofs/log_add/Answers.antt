@@ -17,9 +17,9 @@ returns-in-No c = add-refused _ _ _ _ _ (c.admit.ensures.no _ c.in-No.is)
 pub add_after-requires : goal.add_after-requires
 add_after-requires c =
     let told = surveyed-ends _ _ (sym c.survey.ensures ∙ c.in-Ends.is) in
-    (valid (goal.at.add_after-requires c).In_default-1, told.0, told.1)
+    (valid (goal.at.add_after-requires c).In_default, told.0, told.1)
 
 pub returns-in-Bad : goal.returns-in-Bad
 returns-in-Bad c =
-    add-damaged _ _ _ _ _ (valid (goal.at.returns-in-Bad c).In_default-1) _
+    add-damaged _ _ _ _ _ (valid (goal.at.returns-in-Bad c).In_default) _
     (sym c.survey.ensures ∙ c.in-Bad.is)

@@ -24,7 +24,7 @@ use Rattle.neighbours.specs.Search.{is_nearer, Onward}
 use Rattle.neighbours.specs.theory.Spacings.{spacing-sized}
 use Rattle.neighbours.specs.theory.Search.{here-numbers, count_fits, onward-other, onward-passed, onward-kept}
 use Rattle.neighbours.proofs.look.Goals as goal
-use Rattle.neighbours.proofs.look.Goals.{After-buffer-1, After-decode-arg-1, After-head_at-head, Start}
+use Rattle.neighbours.proofs.look.Goals.{After-buffer-1, After-decode-arg-1}
 
 pub returns-then-not-is_asked : goal.returns-then-not-is_asked
 returns-then-not-is_asked c =
@@ -46,31 +46,26 @@ decode-requires c =
 
 -- the buffer is as long as it was, and begins with the record's numbers
 module _ (c : After-buffer-1) where
-  abbrev at_head : After-head_at-head
-  at_head = (goal.at.After-buffer-1 c).After-head_at-head
-
-  abbrev start : Start
-  start = at_head.before.before
 
   abbrev numbers : List ℤ
-  numbers = words_at at_head.head_at.result.count start.args.log.now at_head.head_at.result.place
+  numbers = words_at c.head_at-head.result.count c.args.log.now c.head_at-head.result.place
 
-  few : at_head.head_at.result.count ≤ 2 * max_corners
-  few = count_fits start.pre.0 (stated-here (goal.at.After-buffer-1 c).After-decode-arg-1)
+  few : c.head_at-head.result.count ≤ 2 * max_corners
+  few = count_fits c.requires.0 (stated-here (goal.at.After-buffer-1 c).After-decode-arg-1)
 
-  numbers-length : length numbers ≡ at_head.head_at.result.count
-  numbers-length = words_at-length start.args.log.now at_head.head_at.result.count at_head.head_at.result.place
+  numbers-length : length numbers ≡ c.head_at-head.result.count
+  numbers-length = words_at-length c.args.log.now c.head_at-head.result.count c.head_at-head.result.place
 
   decoded-length : length c.decode.new.out ≡ 2 * max_corners
   decoded-length =
-      front_length numbers start.args.buffer.now _ c.decode.ensures (omega (arith, numbers-length, few, start.pre.3))
-      ∙ start.pre.3
+      front_length numbers c.args.buffer.now _ c.decode.ensures (omega (arith, numbers-length, few, c.requires.3))
+      ∙ c.requires.3
 
-  decoded : take at_head.head_at.result.count c.decode.new.out ≡ numbers
-  decoded = front-is numbers start.args.buffer.now _ c.decode.ensures at_head.head_at.result.count numbers-length
+  decoded : take c.head_at-head.result.count c.decode.new.out ≡ numbers
+  decoded = front-is numbers c.args.buffer.now _ c.decode.ensures c.head_at-head.result.count numbers-length
 
-  decoded-valid : Valid (take at_head.head_at.result.count c.decode.new.out)
-  decoded-valid = subst Valid (sym decoded) (here-numbers start.pre.0 (stated-here (goal.at.After-buffer-1 c).After-decode-arg-1))
+  decoded-valid : Valid (take c.head_at-head.result.count c.decode.new.out)
+  decoded-valid = subst Valid (sym decoded) (here-numbers c.requires.0 (stated-here (goal.at.After-buffer-1 c).After-decode-arg-1))
 
 pub slice_bounds-shape-end : goal.slice_bounds-shape-end
 slice_bounds-shape-end c = omega (arith, decoded-length c, few c)
@@ -94,8 +89,8 @@ returns-then-is_passed c =
     let args = (start (goal.at.returns-then-is_passed c).After-decode).args in
     let pre = (start (goal.at.returns-then-is_passed c).After-decode).requires in
     let far = c.is_passed.ensures c.if-is_passed.true (points args.list.now) pre.1.shape pre.4 in (
-      onward-passed pre.0 (stated-here (goal.at.returns-then-is_passed c).Else-not-is_asked) args.floor args.but (points args.list.now)
-          args.best pre.1.shape (asked (goal.at.returns-then-is_passed c).After-decode)
+      onward-passed pre.0 (stated-here (goal.at.returns-then-is_passed c).After-decode-arg-1) args.floor args.but (points args.list.now)
+          args.best pre.1.shape (asked (goal.at.returns-then-is_passed c).After-buffer-1)
           (subst (λ l. is_nearer (distance (points args.list.now) (points l)) args.best ≡ false) (decoded (goal.at.returns-then-is_passed c).After-decode) far),
       decoded-length (goal.at.returns-then-is_passed c).After-decode,
     )
@@ -118,7 +113,7 @@ returns c =
     let spaced = c.between.ensures ∙ ap (λ l. clearance_numbers (points args.list.now) (points l)) (decoded (goal.at.returns c).After-decode) in (
       subst (Onward (points args.list.now) args.floor args.but args.log.now args.p args.best)
           (sym c.kept.ensures)
-          (onward-kept pre.0 (stated-here (goal.at.returns c).Else-not-is_asked) args.floor args.but (points args.list.now)
-          args.best pre.1.shape (asked (goal.at.returns c).After-decode) c.between.result spaced),
+          (onward-kept pre.0 (stated-here (goal.at.returns c).After-decode-arg-1) args.floor args.but (points args.list.now)
+          args.best pre.1.shape (asked (goal.at.returns c).After-buffer-1) c.between.result spaced),
       decoded-length (goal.at.returns c).After-decode,
     )

@@ -74,5 +74,5 @@ write-requires c =
 
 pub returns : goal.returns
 returns c =
-    all-written (asked c.before.before.before.before.before.before.before.before.before.before.before.before) (shapes (goal.at.returns c).In_default) (passed (goal.at.returns c).In_default-fits)
+    all-written (asked (goal.at.returns c).Start) (shapes (goal.at.returns c).In_default) (passed (goal.at.returns c).In_default-fits)
     (ap (λ n. pos n ∷ pos c.args.f ∷ []) c.write.ensures.0) c.write.ensures.1

@@ -31,5 +31,5 @@ inside-requires c = let both = shapes c in (both.first-valid, both.second-valid)
 
 pub returns : goal.returns
 returns c =
-    all-answered (ask_inside (one c.before.before.before.before) (other c.before.before.before.before)) (shapes (goal.at.returns c).In_default) tt
+    all-answered (ask_inside (one (goal.at.returns c).Start) (other (goal.at.returns c).Start)) (shapes (goal.at.returns c).In_default) tt
     (ap (λ (t : Bool). cond t (pos 1) (pos 0) ∷ pos c.args.f ∷ []) c.inside.ensures)

@@ -80,4 +80,4 @@ between-requires c =
 pub returns : goal.returns
 returns c =
     c.passed.ensures ∙ ap (λ (vs : List ℤ). answered (vs ++ (pos c.args.f ∷ []))) c.between.ensures
-    ∙ sym (passage-answers (one c.before.before.before.before.before.before.before.before.before.before.before) (two c.before.before.before.before.before.before.before.before.before.before.before) (three c.before.before.before.before.before.before.before.before.before.before.before) (shapes (goal.at.returns c).In_default) (left (goal.at.returns c).In_default-admit_grown) (right (goal.at.returns c).In_default-admit_grown-2))
+    ∙ sym (passage-answers (one (goal.at.returns c).Start) (two (goal.at.returns c).Start) (three (goal.at.returns c).Start) (shapes (goal.at.returns c).In_default) (left (goal.at.returns c).In_default-admit_grown) (right (goal.at.returns c).In_default-admit_grown-2))

@@ -64,5 +64,5 @@ sum-requires c =
 
 pub returns : goal.returns
 returns c =
-    all-written (asked c.before.before.before.before.before.before.before.before.before.before.before) (shapes (goal.at.returns c).In_default) (passed (goal.at.returns c).In_default-fits)
+    all-written (asked (goal.at.returns c).Start) (shapes (goal.at.returns c).In_default) (passed (goal.at.returns c).In_default-fits)
     (ap (λ n. pos n ∷ pos c.args.f ∷ []) c.sum.ensures.0) c.sum.ensures.1

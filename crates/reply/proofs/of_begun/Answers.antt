@@ -11,11 +11,10 @@ use Rattle.reply.proofs.of_begun.Goals as goal
 
 pub returns-in-At : goal.returns-in-At
 returns-in-At c =
-    let at = c.answer-1.given in
-    let walk = at.0.0 in
+    let walk = c.in-At.walk in
     c.answered4.ensures
-    ∙ ap (λ (z : ℤ). crossed (answered (pos walk.first ∷ pos walk.second ∷ z ∷ pos at.0.1.0 ∷ []))) c.flag.ensures
-    ∙ told of_begun at.1
+    ∙ ap (λ (z : ℤ). crossed (answered (pos walk.first ∷ pos walk.second ∷ z ∷ pos c.in-At.floor ∷ []))) c.flag.ensures
+    ∙ told of_begun c.in-At.is
 
 pub returns-in-No : goal.returns-in-No
 returns-in-No c = c.of_refusal.ensures ∙ told of_begun c.in-No.is

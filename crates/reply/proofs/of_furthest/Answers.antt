@@ -13,11 +13,10 @@ use Rattle.reply.proofs.of_furthest.Goals as goal
 
 pub returns-in-At : goal.returns-in-At
 returns-in-At c =
-    let at = c.answer-1.given in
-    let value = kept-bits w64 at.0.1.1.0 c.known_told-1.given.1.1.0.1 c.bits.ensures in
+    let value = kept-bits w64 c.in-At.value c.known_told-1.given.1.1.0.1 c.bits.ensures in
     c.answered4.ensures
-    ∙ ap (λ (n : ℕ). crossed (answered (pos at.0.0 ∷ pos at.0.1.0 ∷ pos n ∷ pos at.0.1.1.1.0 ∷ []))) value
-    ∙ told of_furthest at.1
+    ∙ ap (λ (n : ℕ). crossed (answered (pos c.in-At.first ∷ pos c.in-At.last ∷ pos n ∷ pos c.answer-1.given.0.1.1.1.0 ∷ []))) value
+    ∙ told of_furthest c.in-At.is
 
 pub returns-in-No : goal.returns-in-No
 returns-in-No c = c.of_refusal.ensures ∙ told of_furthest c.in-No.is

@@ -27,8 +27,7 @@ pub preceded-requires : goal.preceded-requires
 preceded-requires c =
     let r = c.named.result in
     let all = counted r.number r.count r.carried r.values (three c) (named-numbers c) c.named.ensures in
-    let parts = c.answer-in-Apart-1.given.0.1.1 in
-    omega (arith, all, distance-room parts.0 parts.1.0)
+    omega (arith, all, distance-room c.in-Apart.distance c.answer-in-Apart-1.given.0.1.1.1.0)
 
 pub returns-in-Meets : goal.returns-in-Meets
 returns-in-Meets c = c.answered4.ensures ∙ told of_gap c.in-Meets.is

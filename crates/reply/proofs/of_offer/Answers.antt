@@ -11,9 +11,8 @@ use Rattle.reply.proofs.of_offer.Goals as goal
 
 pub returns-in-Is : goal.returns-in-Is
 returns-in-Is c =
-    let at = c.answer-1.given in
     c.answered2.ensures
-    ∙ ap (λ (z : ℤ). crossed (answered (z ∷ pos at.0.1.0 ∷ []))) c.flag.ensures ∙ told of_offer at.1
+    ∙ ap (λ (z : ℤ). crossed (answered (z ∷ pos c.in-Is.floor ∷ []))) c.flag.ensures ∙ told of_offer c.in-Is.is
 
 pub returns-in-No : goal.returns-in-No
 returns-in-No c = c.of_refusal.ensures ∙ told of_offer c.in-No.is

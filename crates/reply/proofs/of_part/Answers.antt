@@ -11,12 +11,11 @@ use Rattle.reply.proofs.of_part.Goals as goal
 
 pub returns-in-Corners : goal.returns-in-Corners
 returns-in-Corners c =
-    let at = c.answer-1.given in
-    let walk = at.0.1.0 in
-    let floor = at.0.1.1.0 in
+    let walk = c.in-Corners.walk in
+    let floor = c.in-Corners.floor in
     c.answered5.ensures
-    ∙ ap (λ (z : ℤ). crossed (answered (pos at.0.0 ∷ pos walk.first ∷ pos walk.second ∷ z ∷ pos floor ∷ [])))
-    c.flag.ensures ∙ told of_part at.1
+    ∙ ap (λ (z : ℤ). crossed (answered (pos c.in-Corners.count ∷ pos walk.first ∷ pos walk.second ∷ z ∷ pos floor ∷ [])))
+    c.flag.ensures ∙ told of_part c.in-Corners.is
 
 pub returns-in-No : goal.returns-in-No
 returns-in-No c = c.of_refusal.ensures ∙ told of_part c.in-No.is

@@ -13,11 +13,10 @@ use Rattle.reply.proofs.of_separator.Goals as goal
 
 pub returns-in-Direction : goal.returns-in-Direction
 returns-in-Direction c =
-    let at = c.answer-1.given in
-    let u = kept-bits w32 at.0.0 c.known_told-1.given.0.1 c.extended.ensures in
-    let v = kept-bits w32 at.0.1.0 c.known_told-1.given.1.0.1 c.extended-in-Direction.ensures in
-    c.answered4.ensures ∙ ap₂ (λ (m n : ℕ). crossed (answered (pos 1 ∷ pos m ∷ pos n ∷ pos at.0.1.1.0 ∷ []))) u v
-    ∙ told of_separator at.1
+    let u = kept-bits w32 c.in-Direction.u c.known_told-1.given.0.1 c.extended.ensures in
+    let v = kept-bits w32 c.in-Direction.v c.known_told-1.given.1.0.1 c.extended-in-Direction.ensures in
+    c.answered4.ensures ∙ ap₂ (λ (m n : ℕ). crossed (answered (pos 1 ∷ pos m ∷ pos n ∷ pos c.in-Direction.floor ∷ []))) u v
+    ∙ told of_separator c.in-Direction.is
 
 pub returns-in-Nothing : goal.returns-in-Nothing
 returns-in-Nothing c = c.answered2.ensures ∙ told of_separator c.in-Nothing.is

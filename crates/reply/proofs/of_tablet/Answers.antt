@@ -13,10 +13,9 @@ use Rattle.reply.proofs.of_tablet.Goals as goal
 
 pub returns-in-Corner : goal.returns-in-Corner
 returns-in-Corner c =
-    let at = c.answer-1.given in
-    let x = kept-bits w32 at.0.1.0 c.known_told-1.given.1.0.1 c.extended.ensures in
-    let y = kept-bits w32 at.0.1.1.0 c.known_told-1.given.1.1.0.1 c.extended-in-Corner.ensures in
-    c.answered2.ensures ∙ ap₂ (λ (m n : ℕ). crossed (answered (pos m ∷ pos n ∷ []))) x y ∙ told (λ x. (of_tablet x).reply) at.1
+    let x = kept-bits w32 c.in-Corner.x c.known_told-1.given.1.0.1 c.extended.ensures in
+    let y = kept-bits w32 c.in-Corner.y c.known_told-1.given.1.1.0.1 c.extended-in-Corner.ensures in
+    c.answered2.ensures ∙ ap₂ (λ (m n : ℕ). crossed (answered (pos m ∷ pos n ∷ []))) x y ∙ told (λ x. (of_tablet x).reply) c.in-Corner.is
 
 pub returns-in-No : goal.returns-in-No
 returns-in-No c = c.of_unread.ensures ∙ told (λ x. (of_tablet x).reply) c.in-No.is

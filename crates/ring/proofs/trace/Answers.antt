@@ -12,20 +12,18 @@ use Rattle.ring.specs.Places.{Placed, Held}
 use Rattle.ring.specs.theory.Steps.{opened-le, opened_some, least-below}
 use Rattle.ring.specs.theory.Under.{under_at, places-under, places-some, places-few, places-are, corners-are}
 use Rattle.ring.proofs.trace.Goals as goal
-use Rattle.ring.proofs.trace.Goals.{After-distinct-m, Start}
+use Rattle.ring.proofs.trace.Goals.{After-distinct-m}
 
 -- the positions that were found
 module _ (c : After-distinct-m) where
-  abbrev begin : Start
-  begin = (goal.at.After-distinct-m c).Start
 
   abbrev ps : List Point
-  ps = points begin.args.list.now
+  ps = points c.args.list.now
 
   found : Held (ring_places ps) c.distinct-m.result c.distinct-m.new.kept
   found =
       subst (λ (xs : List ℕ). Held xs c.distinct-m.result c.distinct-m.new.kept)
-      (places-are ps begin.args.n begin.args.start begin.pre.2.all begin.pre.2.least) c.distinct-m.ensures
+      (places-are ps c.args.n c.args.start c.requires.2.all c.requires.2.least) c.distinct-m.ensures
 
 pub distinct-m-requires : goal.distinct-m-requires
 distinct-m-requires c =

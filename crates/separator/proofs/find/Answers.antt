@@ -31,11 +31,11 @@ away c = c.pass-sides.ensures.passed.normal-is c.if-sides.true
 
 pub named-requires : goal.named-requires
 named-requires c =
-    away-good c.args.a.now c.args.b.now c.requires.0 c.requires.1 _ (away c)
+    away-good c.args.a.now c.args.b.now c.requires.0 c.requires.1 _ (away c.before)
 
 pub returns-then-sides : goal.returns-then-sides
 returns-then-sides c =
-    subst (Finds _ _) (sym c.named.ensures) (away-witness _ _ c.requires.0 c.requires.1 _ (away c.before))
+    subst (Finds _ _) (sym c.named.ensures) (away-witness _ _ c.requires.0 c.requires.1 _ (away c.before.before))
 
 -- ---- no edge has
 none : (c : Else-sides) →

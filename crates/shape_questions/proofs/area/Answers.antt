@@ -27,5 +27,5 @@ twice_area-requires c = valid c
 
 pub returns : goal.returns
 returns c =
-    let a = shape c.before.before.before.before in
+    let a = shape (goal.at.returns c).Start in
     all-answered (ask_area a) (valid (goal.at.returns c).In_default) tt (ap (λ z. z ∷ pos a.floor ∷ []) (sym c.twice_area.ensures))

@@ -44,11 +44,11 @@ direction-is : (c : Start) → point (to_z w32 (of_z w32 c.args.u)) (to_z w32 (o
 direction-is c = ap₂ point (to_z-of_z {w = w32} c.ranges.u) (to_z-of_z {w = w32} c.ranges.v)
 
 -- what judging it says
-judged-direction : (c : After-admit_direction) → let d = towards c.before.before.before.before in
+judged-direction : (c : After-admit_direction) → let d = towards (goal.at.After-admit_direction c).Start in
     Judged (NoneApply (direction_rows d)) (direction_rows d) c.admit_direction.result
 judged-direction c =
     subst (λ (d : Point). Judged (NoneApply (direction_rows d)) (direction_rows d) c.admit_direction.result)
-    (direction-is c.before.before.before.before) c.admit_direction.ensures
+    (direction-is (goal.at.After-admit_direction c).Start) c.admit_direction.ensures
 
 -- past it, neither row applies
 passed : (c : In_default-admit_direction) → NoneApply (direction_rows (towards (goal.at.In_default-admit_direction c).Start))
@@ -80,12 +80,12 @@ pub returns : goal.returns
 returns c =
     let ps = points c.args.list.now in
     let face = c.face_towards-face.ensures in
-    let first = face.0 ∙ ap (λ (d : Point). face_first d ps) (direction-is c.before.before.before.before.before.before.before.before) in
-    let last = face.1.0 ∙ ap (λ (d : Point). face_last d ps) (direction-is c.before.before.before.before.before.before.before.before) in
+    let first = face.0 ∙ ap (λ (d : Point). face_first d ps) (direction-is (goal.at.returns c).Start) in
+    let last = face.1.0 ∙ ap (λ (d : Point). face_last d ps) (direction-is (goal.at.returns c).Start) in
     let good = passed (goal.at.returns c).In_default-admit_direction in
     let v = valid (goal.at.returns c).In_default in
     let near = direction-near _ good.0 in
-    let small = known (face.1.1 ∙ ap (λ (d : Point). support d ps) (direction-is c.before.before.before.before.before.before.before.before))
+    let small = known (face.1.1 ∙ ap (λ (d : Point). support d ps) (direction-is (goal.at.returns c).Start))
     (support-size _ v.in_range near.0 near.1 v.shape.some) in
     let value = machine-is (machine-read w64 _ small) tt in
-    all-answered (asked c.before.before.before.before.before.before.before.before) v good (told first last value)
+    all-answered (asked (goal.at.returns c).Start) v good (told first last value)

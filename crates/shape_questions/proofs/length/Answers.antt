@@ -25,5 +25,5 @@ furthest_pair-found-requires c = valid c
 
 pub returns : goal.returns
 returns c =
-    let a = shape c.before.before.before.before in
+    let a = shape (goal.at.returns c).Start in
     all-answered (ask_length a) (valid (goal.at.returns c).In_default) tt (length-values a c.furthest_pair-found.ensures)

@@ -36,7 +36,7 @@ doubled c = omega (arith, points-length c.args.list.now, (valid c).paired)
 
 pub returns-then-out-list : goal.returns-then-out-list
 returns-then-out-list c =
-    rest-refused (asked c.before.before.before.before) (valid (goal.at.returns-then-out-list c).In_default)
+    rest-refused (asked (goal.at.returns-then-out-list c).Start) (valid (goal.at.returns-then-out-list c).In_default)
     (refuses (mirror-little c.args.list.now (valid (goal.at.returns-then-out-list c).In_default) c.args.out.now
     (omega (arith, c.if-out-list.true, doubled (goal.at.returns-then-out-list c).In_default))))
 
@@ -48,6 +48,6 @@ pub returns : goal.returns
 returns c =
     let v = valid (goal.at.returns c).In_default in
     let l = c.args.list.now in
-    all-written (asked c.before.before.before.before.before.before.before.before) v (mirror-enough l v c.args.out.now (omega (arith, c.if-out-list.false, doubled (goal.at.returns c).In_default)))
+    all-written (asked (goal.at.returns c).Start) v (mirror-enough l v c.args.out.now (omega (arith, c.if-out-list.false, doubled (goal.at.returns c).In_default)))
     (ap (λ (n : ℕ). pos n ∷ pos c.args.floor ∷ []) (c.count.ensures ∙ sym (mirror-count (points l) v.shape)))
     c.mirror.ensures

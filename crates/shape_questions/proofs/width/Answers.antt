@@ -34,7 +34,7 @@ returns-in-No c = (shapes-refused (ask_width (shape (goal.at.returns-in-No c).St
 
 pub returns-then-count-lt3 : goal.returns-then-count-lt3
 returns-then-count-lt3 c =
-    let a = shape c.before.before.before.before.before in
+    let a = shape (goal.at.returns-then-count-lt3 c).Start in
     let flat = lt-ltb (length (corners a)) 3 (omega (arith, c.if-count-lt3.true, c.count.ensures)) in
     (rest-refused (ask_width a) (valid (goal.at.returns-then-count-lt3 c).In_default) (refuses {rows = (ask_width a).rest} (here flat))).0
 
@@ -43,6 +43,6 @@ narrowest_edge-found-requires c = (valid (goal.at.narrowest_edge-found-requires 
 
 pub returns : goal.returns
 returns c =
-    let a = shape c.before.before.before.before.before.before in
+    let a = shape (goal.at.returns c).Start in
     all-answered (ask_width a) (valid (goal.at.returns c).In_default) (le-ltb (length (corners a)) 3 (three c.before), tt)
     (width-values a c.narrowest_edge-found.ensures)

@@ -21,38 +21,38 @@ room-2 c = ran-length c.byte-left-2.ensures ∙ ran-length c.byte-left.ensures
 room-4 : (c : After-pair-left-2) →
     length c.pair-left-2.new.log ≡ length c.args.log.now
 room-4 c =
-    ran-length c.pair-left-2.ensures ∙ ran-length c.pair-left.ensures ∙ room-2 c.before.before.before.before.before.before.before.before
+    ran-length c.pair-left-2.ensures ∙ ran-length c.pair-left.ensures ∙ room-2 (goal.at.After-pair-left-2 c).After-byte-left-2
 
 pub overflow_add-last-2 : goal.overflow_add-last-2
 overflow_add-last-2 c = omega (arith, inside (goal.at.overflow_add-last-2 c).Start)
 
 pub byte-left-requires : goal.byte-left-requires
-byte-left-requires c = omega (arith, inside c.before.before)
+byte-left-requires c = omega (arith, inside (goal.at.byte-left-requires c).Start)
 
 pub byte-left-requires-2 : goal.byte-left-requires-2
 byte-left-requires-2 c =
-    omega (arith, inside c.before.before.before.before.before.before, ran-length c.byte-left.ensures)
+    omega (arith, inside (goal.at.byte-left-requires-2 c).Start, ran-length c.byte-left.ensures)
 
 pub pair-left-requires : goal.pair-left-requires
 pair-left-requires c =
-    omega (arith, inside c.before.before.before.before.before.before.before.before.before.before, room-2 c.before.before.before)
+    omega (arith, inside (goal.at.pair-left-requires c).Start, room-2 (goal.at.pair-left-requires c).After-byte-left-2)
 
 pub pair-left-requires-2 : goal.pair-left-requires-2
 pair-left-requires-2 c =
-    omega (arith, inside c.before.before.before.before.before.before.before.before.before.before.before.before.before.before, room-2 c.before.before.before.before.before.before.before, ran-length c.pair-left.ensures)
+    omega (arith, inside (goal.at.pair-left-requires-2 c).Start, room-2 (goal.at.pair-left-requires-2 c).After-byte-left-2, ran-length c.pair-left.ensures)
 
 pub pair-left-requires-3 : goal.pair-left-requires-3
 pair-left-requires-3 c =
-    omega (arith, inside c.before.before.before.before.before.before.before.before.before.before.before.before.before.before.before.before.before.before, room-4 c.before.before.before)
+    omega (arith, inside (goal.at.pair-left-requires-3 c).Start, room-4 (goal.at.pair-left-requires-3 c).After-pair-left-2)
 
 pub words-left-requires : goal.words-left-requires
 words-left-requires c =
-    omega (arith, inside c.before.before.before.before.before.before.before.before.before.before.before.before.before.before.before.before.before.before.before.before.before.before, room-4 c.before.before.before.before.before.before.before, ran-length c.pair-left-3.ensures)
+    omega (arith, inside (goal.at.words-left-requires c).Start, room-4 (goal.at.words-left-requires c).After-pair-left-2, ran-length c.pair-left-3.ensures)
 
 pub byte-requires : goal.byte-requires
 byte-requires c =
-    let same = ran-length c.words-left.ensures ∙ ran-length c.pair-left-3.ensures ∙ room-4 c.before.before.before.before.before.before.before.before.before.before.before in
-    omega (arith, inside c.before.before.before.before.before.before.before.before.before.before.before.before.before.before.before.before.before.before.before.before.before.before.before.before.before.before)
+    let same = ran-length c.words-left.ensures ∙ ran-length c.pair-left-3.ensures ∙ room-4 (goal.at.byte-requires c).After-pair-left-2 in
+    omega (arith, inside (goal.at.byte-requires c).Start)
 
 pub returns : goal.returns
 returns c =

@@ -33,7 +33,7 @@ returns c =
     let n = c.cut-n.result in
     let l = words_at n bs 0 in
     let old = c.args.numbers.now in (
-      omega (arith, holds (goal.at.returns c).After-cut-n, c.decode.auto.1.1.1.0),
+      omega (arith, holds (goal.at.returns c).After-cut-n, c.decode.auto.out),
       subst (λ (s : List ℤ). Alike (list_of bs) s) (sym (front-is l old _ c.decode.ensures n (words_at-length bs n 0)))
           (cut-alike bs n c.if-bytes-ne0.false c.cut-n.ensures),
     )

@@ -31,12 +31,12 @@ overflow_mul-result-2 c = let dx = across (goal.at.overflow_mul-result-2 c).Afte
 pub overflow_sub-result : goal.overflow_sub-result
 overflow_sub-result c =
     let dx = across (goal.at.overflow_sub-result c).After-beyond in
-    let dy = upright c.before.before.before.before.before in
+    let dy = upright (goal.at.overflow_sub-result c).After-above in
     machine-fits (search (machine, bounded) depth 40) tt
 
 pub returns : goal.returns
 unfolding cross
 returns c =
     let dx = across (goal.at.returns c).After-beyond in
-    let dy = upright c.before.before.before.before.before in
+    let dy = upright (goal.at.returns c).After-above in
     machine-is (search (machine, bounded) depth 40) tt

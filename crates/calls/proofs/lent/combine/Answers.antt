@@ -26,16 +26,16 @@ second-read : (c : After-read-n) → c.read-n.result ≡ length (take c.read-n.r
 second-read c = sym (length-take-le _ c.read-n.new.numbers c.read-n.ensures.0)
 
 pub slice_bounds-combine-end-2 : goal.slice_bounds-combine-end-2
-slice_bounds-combine-end-2 c = first_read (goal.at.slice_bounds-combine-end-2 c).After-read-arg-1
+slice_bounds-combine-end-2 c = first_read (goal.at.slice_bounds-combine-end-2 c).After-read-m
 
 pub slice_bounds-combine-end-4 : goal.slice_bounds-combine-end-4
-slice_bounds-combine-end-4 c = second-read (goal.at.slice_bounds-combine-end-4 c).After-first-1
+slice_bounds-combine-end-4 c = second-read (goal.at.slice_bounds-combine-end-4 c).After-read-n
 
 pub combine-requires : goal.combine-requires
 combine-requires c =
     combined-holds c.args.merged _ _
-    (omega (arith, first_read (goal.at.combine-requires c).After-slice_known-1, c.read-m.ensures.0, c.read-m.auto.1.0))
-    (omega (arith, second-read (goal.at.combine-requires c).After-first-1, c.read-n.ensures.0, c.read-n.auto.1.0))
+    (omega (arith, first_read (goal.at.combine-requires c).After-read-m, c.read-m.ensures.0, c.read-m.auto.numbers))
+    (omega (arith, second-read (goal.at.combine-requires c).After-read-n, c.read-n.ensures.0, c.read-n.auto.numbers))
     c.requires.2
 
 pub returns : goal.returns

@@ -81,15 +81,15 @@ slice_bounds-ask-end-2 c = sym (lent (goal.at.slice_bounds-ask-end-2 c).After-ro
 
 pub overflow_mul-reply : goal.overflow_mul-reply
 overflow_mul-reply c =
-    let d = delivered (goal.at.overflow_mul-reply c).After-ask-arg-1 in
+    let d = delivered (goal.at.overflow_mul-reply c).After-ask-reply in
     record { fits = omega (arith, d.0, c.room-n.ensures.0) }
 
 pub encode-requires : goal.encode-requires
 encode-requires c =
-    let d = delivered (goal.at.encode-requires c).After-ask-arg-1 in
+    let d = delivered (goal.at.encode-requires c).After-ask-reply in
     let rest = drop c.room-n.result c.args.shape.now in
     let new = c.ask-reply.new.shape in
-    (omega (arith, d.0, c.ask-reply.auto.1.1.1.1.1.0, length-append new rest), omega (arith, d.1))
+    (omega (arith, d.0, c.ask-reply.auto.shape, length-append new rest), omega (arith, d.1))
 
 pub packed_reply-requires : goal.packed_reply-requires
 packed_reply-requires c =
@@ -100,8 +100,8 @@ returns c =
     let args = c.args in
     let new = c.ask-reply.new.shape in
     let rest = drop c.room-n.result args.shape.now in
-    made-stored (shapes (goal.at.returns c).After-slice_known-1) (shape (goal.at.returns c).After-slice_known-1) (part (goal.at.returns c).After-slice_known-1) args.out.now (room (goal.at.returns c).After-slice_known-1) (fit (goal.at.returns c).After-slice_known-1) rest
-    c.ask-reply.auto.1.1.1.1.1.0 c.ask-reply.ensures.1
+    made-stored (shapes (goal.at.returns c).After-slice_known-1) (shape (goal.at.returns c).After-slice_known-1) (part (goal.at.returns c).After-slice_known-1) args.out.now (room (goal.at.returns c).After-room-n) (fit (goal.at.returns c).After-room-n) rest
+    c.ask-reply.auto.shape c.ask-reply.ensures.1
     (c.packed_reply.ensures (reply (question (goal.at.returns c).After-slice_known-1)) c.ask-reply.ensures.0)
     (c.encode.ensures
-    ∙ ap (λ (n : ℕ). overwritten (words (take (2 * n) (new ++ rest))) args.out.now) (counted (goal.at.returns c).After-ask-arg-1))
+    ∙ ap (λ (n : ℕ). overwritten (words (take (2 * n) (new ++ rest))) args.out.now) (counted (goal.at.returns c).After-ask-reply))

@@ -29,7 +29,7 @@ use Rattle.clearance.proofs.facing.look.Given as goal
 abbrev pub invariant-loop-first : goal.invariant-loop-first
 invariant-loop-first l =
     ((k : ℕ) → k < length (vector_sum (points l.a) (points (image l.b)))
-    → record { l.i = l.i; l.j = l.j; over = false } ≡ stepped (points l.a) (points (image l.b)) k begun
+    → record { i = l.i; j = l.j; over = false } ≡ stepped (points l.a) (points (image l.b)) k begun
     → Looking l.a (image l.b) k (walk_of l.s l.t false) (at l.back))
     × Carried l.a l.s × Carried (image l.b) l.t × Small 4194304 (at l.back)
 

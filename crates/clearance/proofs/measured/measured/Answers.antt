@@ -41,14 +41,12 @@ returns-in-Corners c =
 
 pub returns-in-OnSecond : goal.returns-in-OnSecond
 returns-in-OnSecond c =
-    let given = c.pair-in-OnSecond-1.given in
     let args = c.args in
-    ap (λ (vs : List ℤ). pos 2 ∷ pos given.0.0 ∷ pos given.0.1.0 ∷ vs) (told c.across-found.ensures)
-    ∙ ap (λ (p : Pair). numbers_of (points args.a.now) (points args.b.now) (candidate_of p)) (sym given.1)
+    ap (λ (vs : List ℤ). pos 2 ∷ pos c.in-OnSecond.corner ∷ pos c.in-OnSecond.edge ∷ vs) (told c.across-found.ensures)
+    ∙ ap (λ (p : Pair). numbers_of (points args.a.now) (points args.b.now) (candidate_of p)) (sym c.in-OnSecond.is)
 
 pub returns-in-OnFirst : goal.returns-in-OnFirst
 returns-in-OnFirst c =
-    let given = c.pair-in-OnFirst-1.given in
     let args = c.args in
-    ap (λ (vs : List ℤ). pos 3 ∷ pos given.0.0 ∷ pos given.0.1.0 ∷ vs) (told c.across-found-in-OnFirst.ensures)
-    ∙ ap (λ (p : Pair). numbers_of (points args.a.now) (points args.b.now) (candidate_of p)) (sym given.1)
+    ap (λ (vs : List ℤ). pos 3 ∷ pos c.in-OnFirst.corner ∷ pos c.in-OnFirst.edge ∷ vs) (told c.across-found-in-OnFirst.ensures)
+    ∙ ap (λ (p : Pair). numbers_of (points args.a.now) (points args.b.now) (candidate_of p)) (sym c.in-OnFirst.is)

@@ -79,7 +79,7 @@ second-found c e =
     let g = c.near-g.result in
     let test = is_foot g (points args.a.now) (points args.b.now) in
     subst (Tried test c.near-f.result g) (sym c.first_foot.ensures ∙ e)
-    (tried-is test _ _ (first-face c.before.before.before.before).ordered (second-face c.before.before.before.before).ordered)
+    (tried-is test _ _ (first-face (goal.at.After-first_foot c).After-near-g).ordered (second-face (goal.at.After-first_foot c).After-near-g).ordered)
 
 pub returns-in-At-first_foot : goal.returns-in-At-first_foot
 returns-in-At-first_foot c =
@@ -99,7 +99,7 @@ first_found c e =
     let f = c.near-f.result in
     let test = is_foot f (points args.b.now) (points args.a.now) in
     subst (Tried test c.near-g.result f) (sym c.first_foot-2.ensures ∙ e)
-    (tried-is test _ _ (second-face c.before.before.before.before.before.before.before).ordered (first-face c.before.before.before.before.before.before.before).ordered)
+    (tried-is test _ _ (second-face (goal.at.After-first_foot-2 c).After-near-g).ordered (first-face (goal.at.After-first_foot-2 c).After-near-g).ordered)
 
 pub returns-in-At-first_foot-2 : goal.returns-in-At-first_foot-2
 returns-in-At-first_foot-2 c =

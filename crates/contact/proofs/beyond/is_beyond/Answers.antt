@@ -58,9 +58,9 @@ is_beside-requires-3 c =
     let small = c.grown_extent-span.ensures.small in (
       small.0,
       small.1,
-      record { small-x = read_back (along c.before.before.before).small-y; small-y = read (along c.before.before.before).small-x },
+      record { small-x = read_back (along (goal.at.is_beside-requires-3 c).After-step-along).small-y; small-y = read (along (goal.at.is_beside-requires-3 c).After-step-along).small-x },
       c.requires.2,
     )
 
 pub returns : goal.returns
-returns c = λ r. shows c.before.before.before.before.before.before.before.before.before _ (sym c.is_beside-3.ensures ∙ r)
+returns c = λ r. shows (goal.at.returns c).After-grown_extent-span _ (sym c.is_beside-3.ensures ∙ r)

@@ -47,7 +47,7 @@ magnitude-length-requires c = rw (result-is w64 c.squared.type_inv c.squared.ens
 told : (c : After-lowest-c) → let args = c.args in
     fraction c.lowest-c.result ≡ contact (at args.t) (at args.u) (points args.list.now)
 told c =
-    c.lowest-c.ensures ∙ c.arrivals-way.ensures.first-is (apart-is c.before.before ∙ c.if-exceed.false)
+    c.lowest-c.ensures ∙ c.arrivals-way.ensures.first-is (apart-is c.before.before.before ∙ c.if-exceed.false)
 
 length-is : (c : After-magnitude-length) → let args = c.args in
     pos c.magnitude-length.result ≡ squared (at args.t) (at args.u)
@@ -65,5 +65,5 @@ pub returns : goal.returns
 returns c =
     let f = c.lowest-c.result in
     ap (λ (w : ℕ). pos 1 ∷ pos f.numerator ∷ pos f.denominator ∷ pos w ∷ []) c.millimetres.ensures
-    ∙ at_told _ _ _ (apart-is c.before.before.before.before.before ∙ c.if-exceed.false)
+    ∙ at_told _ _ _ (apart-is c.before.before.before.before.before.before ∙ c.if-exceed.false)
     f.numerator f.denominator c.magnitude-length.result (told c.before.before.before) (length-is c.before)

@@ -19,7 +19,7 @@ use Rattle.contact.proofs.walls.arrivals.Given as goal
 
 abbrev pub invariant-loop-i : goal.invariant-loop-i
 invariant-loop-i l =
-    (l.i ≤ l.n) × (l.n ≡ length (points l.list)) × Arrived (at l.t) (at l.u) (points l.list) l.i (record { l.there = l.there; l.back = l.back })
+    (l.i ≤ l.n) × (l.n ≡ length (points l.list)) × Arrived (at l.t) (at l.u) (points l.list) l.i (record { there = l.there; back = l.back })
 
 abbrev pub decreases-loop-i : goal.decreases-loop-i
 decreases-loop-i l = l.n - l.i

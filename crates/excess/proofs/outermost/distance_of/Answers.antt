@@ -25,6 +25,6 @@ returns-in-Meets c =
 
 pub returns-in-Apart : goal.returns-in-Apart
 returns-in-Apart c =
-    let apart = known c.before.before.before.before c.in-Apart.is in
+    let apart = known (goal.at.returns-in-Apart c).After-spacing c.in-Apart.is in
     found-far _ _ c.requires.1.shape _ c.corner_at.ensures apart.0
     c.in-Apart.found apart.1 c.measured.ensures

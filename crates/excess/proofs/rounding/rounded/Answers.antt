@@ -16,17 +16,15 @@ above-requires-in-OnSecond c = subst RoundedDown c.in-OnSecond.is c.requires
 
 pub returns-in-Corners : goal.returns-in-Corners
 returns-in-Corners c =
-    let given = c.found-1.given in
     let corner = c.args.corner in
-    ap (λ (u : ℕ). pos 1 ∷ pos corner ∷ pos given.0.1.0 ∷ pos given.0.1.1.0 ∷ pos u ∷ []) c.above.ensures
-    ∙ ap (λ (d : Distance). up_numbers corner d) (sym given.1)
+    ap (λ (u : ℕ). pos 1 ∷ pos corner ∷ pos c.in-Corners.second ∷ pos c.in-Corners.squared ∷ pos u ∷ []) c.above.ensures
+    ∙ ap (λ (d : Distance). up_numbers corner d) (sym c.in-Corners.is)
 
 pub returns-in-OnSecond : goal.returns-in-OnSecond
 returns-in-OnSecond c =
-    let given = c.found-in-OnSecond-1.given in
     let corner = c.args.corner in
-    ap (λ (u : ℕ). pos 2 ∷ pos corner ∷ pos given.0.1.0 ∷ pos given.0.1.1.0 ∷ pos given.0.1.1.1.0 ∷ pos u ∷ [])
-    c.above-in-OnSecond.ensures ∙ ap (λ (d : Distance). up_numbers corner d) (sym given.1)
+    ap (λ (u : ℕ). pos 2 ∷ pos corner ∷ pos c.in-OnSecond.edge ∷ pos c.in-OnSecond.turn ∷ pos c.found-in-OnSecond-1.given.0.1.1.1.0 ∷ pos u ∷ [])
+    c.above-in-OnSecond.ensures ∙ ap (λ (d : Distance). up_numbers corner d) (sym c.in-OnSecond.is)
 
 pub returns-in-OnFirst : goal.returns-in-OnFirst
 returns-in-OnFirst c = absurd (subst RoundedDown c.in-OnFirst.is c.requires)

@@ -33,7 +33,7 @@ slice_bounds-write-end c = fits (goal.at.slice_bounds-write-end c).After-read_at
 
 pub slice_bounds-write-end-2 : goal.slice_bounds-write-end-2
 slice_bounds-write-end-2 c =
-    sym (length-take-le _ c.read_at-n.new.shape (fits (goal.at.slice_bounds-write-end-2 c).After-read_at-arg-1))
+    sym (length-take-le _ c.read_at-n.new.shape (fits (goal.at.slice_bounds-write-end-2 c).After-read_at-n))
 
 pub top-requires : goal.top-requires
 top-requires c = c.requires.1.shape.some

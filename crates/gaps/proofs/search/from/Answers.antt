@@ -57,7 +57,7 @@ later-requires c =
       pre.5,
       pre.6,
       subst Valid (sym front.front)
-          (grown_of-valid _ _ (here-valid pre.1) pre.2.shape.some (walk-fits _ pre.0 pre.1.here (is-on (goal.at.later-requires c).After-is_on))),
+          (grown_of-valid _ _ (here-valid pre.1) pre.2.shape.some (walk-fits _ pre.0 pre.1.here (is-on (goal.at.later-requires c).Else-not-is_on))),
       front-points front,
     )
 
@@ -65,7 +65,7 @@ pub returns : goal.returns
 returns c =
     let args = c.args in (
       subst (λ (ps : List Pair). Passed (points args.cart.now) args.log.now ps args.best c.later.result)
-          (pairs-are (goal.at.returns c).Start (is-on (goal.at.returns c).After-is_on)) c.later.ensures.0,
+          (pairs-are (goal.at.returns c).Start (is-on (goal.at.returns c).Else-not-is_on)) c.later.ensures.0,
       c.later.ensures.1,
       c.grow_at-n.ensures.2,
       c.later.ensures.2,

@@ -38,7 +38,7 @@ slice_bounds-is_far-end c = fits (goal.at.slice_bounds-is_far-end c).After-read_
 
 pub slice_bounds-is_far-end-2 : goal.slice_bounds-is_far-end-2
 slice_bounds-is_far-end-2 c =
-    sym (length-take-le _ c.read_at-n.new.shape (fits (goal.at.slice_bounds-is_far-end-2 c).After-read_at-arg-1))
+    sym (length-take-le _ c.read_at-n.new.shape (fits (goal.at.slice_bounds-is_far-end-2 c).After-read_at-n))
 
 pub is_far-requires : goal.is_far-requires
 is_far-requires c =

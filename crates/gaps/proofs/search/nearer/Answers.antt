@@ -29,14 +29,12 @@ compared p q i j w v x e = ap (λ (t : Bool). cond t (Best.Pair p q w) (Best.Pai
     turned false = refl
 
 tested : (c : After-is_less) {x : Bool} → c.is_less.result ≡ x → let args = c.args in
-    let old = c.best-1.given.0 in
-    cond x (Best.Pair args.p args.q args.spacing) (Best.Pair old.0 old.1.0 old.1.1.0)
+    cond x (Best.Pair args.p args.q args.spacing) (Best.Pair c.best-1.given.0 c.in-Pair.is.0 c.in-Pair.is.1.0)
     ≡ nearer args.p args.q args.spacing args.best
 tested c {x} e =
     let args = c.args in
-    let old = c.best-1.given in
-    compared args.p args.q old.0.0 old.0.1.0 args.spacing old.0.1.1.0 x (sym e ∙ c.is_less.ensures)
-    ∙ sym (ap (nearer args.p args.q args.spacing) old.1)
+    compared args.p args.q c.in-Pair.first c.in-Pair.second args.spacing c.in-Pair.old x (sym e ∙ c.is_less.ensures)
+    ∙ sym (ap (nearer args.p args.q args.spacing) c.in-Pair.is)
 
 pub returns-then-is_less : goal.returns-then-is_less
 returns-then-is_less c = tested c.before c.if-is_less.true

@@ -75,7 +75,7 @@ between-requires c =
     let pre = (start_of (goal.at.between-requires c).Else-is_passed).requires in (
       pre.7,
       subst Valid (sym c.grow_at-m.ensures.0.front)
-          (grown_of-valid _ _ (here-valid pre.2) pre.3.shape.some (walk-fits _ pre.0 pre.2.here (is-on (goal.at.between-requires c).After-is_on))),
+          (grown_of-valid _ _ (here-valid pre.2) pre.3.shape.some (walk-fits _ pre.0 pre.2.here (is-on (goal.at.between-requires c).Else-not-is_on))),
     )
 
 -- how far apart the two are
@@ -96,7 +96,7 @@ returns c =
     let start = start_of (goal.at.returns c).Else-is_passed in
     let args = start.args in
     let A = points args.cart.now in
-    let pairs = ap (λ (t : Bool). cond t (pair_at args.log.now args.p args.q ∷ []) []) (sym (is-on (goal.at.returns c).After-is_on)) in
+    let pairs = ap (λ (t : Bool). cond t (pair_at args.log.now args.p args.q ∷ []) []) (sym (is-on (goal.at.returns c).Else-not-is_on)) in
     let passed = passed-tried A args.log.now args.p args.q c.between.result args.best start.pre.6
     (found (goal.at.returns c).After-between) in (
       subst (λ (r : Best). Passed A args.log.now (tried_at args.floor args.log.now args.p args.q) args.best r)

@@ -69,7 +69,7 @@ slice_bounds-admit_grown-end c = fits (goal.at.slice_bounds-admit_grown-end c).A
 
 pub slice_bounds-admit_grown-end-2 : goal.slice_bounds-admit_grown-end-2
 slice_bounds-admit_grown-end-2 c =
-    sym (length-take-le _ c.read_at-n.new.shape (fits (goal.at.slice_bounds-admit_grown-end-2 c).After-read_at-arg-1))
+    sym (length-take-le _ c.read_at-n.new.shape (fits (goal.at.slice_bounds-admit_grown-end-2 c).After-read_at-n))
 
 pub admit_grown-requires : goal.admit_grown-requires
 admit_grown-requires c =

@@ -36,7 +36,7 @@ both-kept-requires c =
 pub settle-requires : goal.settle-requires
 settle-requires c =
     let args = c.args in
-    let first = began c.before.before.before.before.before in
+    let first = began c.before.before.before.before in
     let P = closed (points args.a.now) in
     let Q = closed (points args.b.now) in
     let rows = c.both-kept.ensures in (
@@ -56,4 +56,4 @@ settle-requires c =
 
 pub returns : goal.returns
 returns c =
-    chained (began c.before.before.before.before.before.before) c.both-kept.ensures c.settle.ensures
+    chained (began c.before.before.before.before.before) c.both-kept.ensures c.settle.ensures

@@ -50,7 +50,7 @@ slice_bounds-passes-end c = omega (arith, kept c, fits (goal.at.slice_bounds-pas
 
 pub slice_bounds-passes-end-2 : goal.slice_bounds-passes-end-2
 slice_bounds-passes-end-2 c =
-    sym (length-take-le _ c.decode.new.out (omega (arith, kept (goal.at.slice_bounds-passes-end-2 c).After-decode, fits (goal.at.slice_bounds-passes-end-2 c).After-exceeds_corners)))
+    sym (length-take-le _ c.decode.new.out (omega (arith, kept c, fits (goal.at.slice_bounds-passes-end-2 c).Else-exceeds_corners)))
 
 pub returns : goal.returns
 returns c =
@@ -59,5 +59,5 @@ returns c =
     let count = words_at-length args.log.now args.n args.p in (
       passed-answers _ _ c.passes.ensures
           ∙ ap (λ m. is_answer (judged m)) (front-is l args.buffer.now _ c.decode.ensures args.n count),
-      kept (goal.at.returns c).After-decode,
+      kept (goal.at.returns c).After-buffer-1,
     )

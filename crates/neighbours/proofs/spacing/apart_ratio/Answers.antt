@@ -5,15 +5,12 @@ use Rattle.neighbours.proofs.spacing.apart_ratio.Goals as goal
 
 pub returns-in-Corners : goal.returns-in-Corners
 returns-in-Corners c =
-    let found = c.distance-1.given in
-    corners-ratio _ c.requires _ _ _ _ found.1
+    corners-ratio _ c.requires _ _ _ _ c.in-Corners.is
 
 pub returns-in-OnSecond : goal.returns-in-OnSecond
 returns-in-OnSecond c =
-    let found = c.distance-in-OnSecond-1.given in
-    second-ratio _ c.requires _ _ _ _ _ found.1
+    second-ratio _ c.requires _ _ _ _ _ c.in-OnSecond.is
 
 pub returns-in-OnFirst : goal.returns-in-OnFirst
 returns-in-OnFirst c =
-    let found = c.distance-in-OnFirst-1.given in
-    first-ratio _ c.requires _ _ _ _ _ found.1
+    first-ratio _ c.requires _ _ _ _ _ c.in-OnFirst.is

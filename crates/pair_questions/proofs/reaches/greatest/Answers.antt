@@ -29,5 +29,5 @@ furthest_corners-found-requires c = let both = shapes c in (both.first-valid, bo
 pub returns : goal.returns
 returns c =
     let found = c.furthest_corners-found.ensures in
-    all-answered (ask_greatest (one c.before.before.before.before) (other c.before.before.before.before)) (shapes (goal.at.returns c).In_default) tt
+    all-answered (ask_greatest (one (goal.at.returns c).Start) (other (goal.at.returns c).Start)) (shapes (goal.at.returns c).In_default) tt
     (rw (found.squared-is, found.from_is, found.to_is) refl)

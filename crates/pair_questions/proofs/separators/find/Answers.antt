@@ -31,6 +31,6 @@ returns c =
     let found = c.find.result in
     record {
       found = found;
-      reply-is = c.told.ensures ∙ all-answered (ask_separator (one c.before.before.before.before.before) (other c.before.before.before.before.before) found) (shapes (goal.at.returns c).In_default) tt refl;
+      reply-is = c.told.ensures ∙ all-answered (ask_separator (one (goal.at.returns c).Start) (other (goal.at.returns c).Start) found) (shapes (goal.at.returns c).In_default) tt refl;
       found-is = λ none. c.find.ensures;
     }

@@ -40,11 +40,11 @@ direction-is : (c : Start) → point (to_z w32 (of_z w32 c.args.u)) (to_z w32 (o
 direction-is c = ap₂ point (to_z-of_z {w = w32} c.ranges.u) (to_z-of_z {w = w32} c.ranges.v)
 
 -- what judging it says
-judged-direction : (c : After-admit_direction) → let d = offered c.before.before.before.before in
+judged-direction : (c : After-admit_direction) → let d = offered (goal.at.After-admit_direction c).Start in
     Judged (NoneApply (direction_rows d)) (direction_rows d) c.admit_direction.result
 judged-direction c =
     subst (λ (d : Point). Judged (NoneApply (direction_rows d)) (direction_rows d) c.admit_direction.result)
-    (direction-is c.before.before.before.before) c.admit_direction.ensures
+    (direction-is (goal.at.After-admit_direction c).Start) c.admit_direction.ensures
 
 -- past it, neither row applies
 passed : (c : In_default-admit_direction) → NoneApply (direction_rows (offered (goal.at.In_default-admit_direction c).Start))
@@ -67,6 +67,6 @@ is_below-requires c =
 
 pub returns : goal.returns
 returns c =
-    all-answered (asked c.before.before.before.before.before.before.before) (shapes (goal.at.returns c).In_default) (passed (goal.at.returns c).In_default-admit_direction)
+    all-answered (asked (goal.at.returns c).Start) (shapes (goal.at.returns c).In_default) (passed (goal.at.returns c).In_default-admit_direction)
     (ap (λ (t : Bool). cond t (pos 1) (pos 0) ∷ pos c.args.f ∷ []) (c.is_below.ensures
-    ∙ ap (λ (d : Point). below d (points c.args.a.now) (points c.args.b.now)) (direction-is c.before.before.before.before.before.before.before)))
+    ∙ ap (λ (d : Point). below d (points c.args.a.now) (points c.args.b.now)) (direction-is (goal.at.returns c).Start)))

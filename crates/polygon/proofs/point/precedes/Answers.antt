@@ -18,10 +18,8 @@ readback p = point (to_z w32 (of_z w32 p.x)) (to_z w32 (of_z w32 p.y))
 same : (c : After-struct_told-2-1) → let args = c.args in
     precedes (readback (at args.a)) (readback (at args.b)) ≡ precedes (at args.a) (at args.b)
 same c =
-    let a = c.struct_told-1.given in
-    let b = c.struct_told-2-1.given in
-    ap₂ precedes (ap₂ point (result-is w32 a.0.1 refl) (result-is w32 a.1.0.1 refl))
-    (ap₂ point (result-is w32 b.0.1 refl) (result-is w32 b.1.0.1 refl))
+    ap₂ precedes (ap₂ point (result-is w32 c.struct_told-1.given.0.1 refl) (result-is w32 c.struct_told-1.given.1.0.1 refl))
+    (ap₂ point (result-is w32 c.struct_told-2-1.given.0.1 refl) (result-is w32 c.struct_told-2-1.given.1.0.1 refl))
 
 pub returns-then-a-b : goal.returns-then-a-b
 returns-then-a-b c = sym (precedes-below _ _ (lt_z-true c.if-a-b.true)) ∙ same (goal.at.returns-then-a-b c).After-struct_told-2-1

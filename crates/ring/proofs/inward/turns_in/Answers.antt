@@ -17,7 +17,7 @@ use Rattle.plane.specs.Shape.{next, precedes}
 use Rattle.ring.specs.Ring.{previous, corner_of}
 use Rattle.ring.specs.theory.Inward.{few-inside, turn_inside, first-inside, apart-inside, both-inside}
 use Rattle.ring.proofs.inward.turns_in.Goals as goal
-use Rattle.ring.proofs.inward.turns_in.Goals.{After-turn_at, Else-not-turn_at, Start}
+use Rattle.ring.proofs.inward.turns_in.Goals.{After-turn_at, Else-not-turn_at}
 
 pub returns-then-n-lt3 : goal.returns-then-n-lt3
 returns-then-n-lt3 c =
@@ -34,28 +34,26 @@ turn_at-requires c =
 
 -- past the first test there are three, and the turn is that of the corner
 module _ (c : After-turn_at) where
-  abbrev begin : Start
-  begin = (goal.at.After-turn_at c).Start
 
   abbrev all : ℕ
-  all = length begin.args.places.now
+  all = length c.args.places.now
 
   abbrev point : ℕ → Point
-  point = corner_of (points begin.args.list.now) begin.args.places.now
+  point = corner_of (points c.args.list.now) c.args.places.now
 
   three : 2 < all
   three = omega (arith, c.if-n-lt3.false)
 
-  before-is : c.previous.result ≡ previous all begin.args.i
+  before-is : c.previous.result ≡ previous all c.args.i
   before-is = c.previous.ensures.value
 
-  after_is : c.next.result ≡ next all begin.args.i
+  after_is : c.next.result ≡ next all c.args.i
   after_is = c.next.ensures.value
 
-  turned : to_z w64 (of_z w64 c.turn_at.result) ≡ turn (point (previous all begin.args.i)) (point begin.args.i)
-      (point (next all begin.args.i))
+  turned : to_z w64 (of_z w64 c.turn_at.result) ≡ turn (point (previous all c.args.i)) (point c.args.i)
+      (point (next all c.args.i))
   turned = result-is w64 c.turn_at.type_inv (c.turn_at.ensures
-      ∙ ap₂ (λ (a b : ℕ). turn (point a) (point begin.args.i) (point b)) before-is after_is)
+      ∙ ap₂ (λ (a b : ℕ). turn (point a) (point c.args.i) (point b)) before-is after_is)
 
 -- it turns left
 left_there : (c : Else-not-turn_at) →

@@ -17,30 +17,28 @@ use Rattle.ring.specs.theory.Buffers.{held-less, held-last}
 use Rattle.ring.specs.theory.Steps.{closed_at, walked_whole}
 use Rattle.ring.specs.theory.Under.{Under, under_at, under-weaken, walked-under, differing-under}
 use Rattle.ring.proofs.places.distinct.Goals as goal
-use Rattle.ring.proofs.places.distinct.Goals.{After-gather-count, Start}
+use Rattle.ring.proofs.places.distinct.Goals.{After-gather-count}
 
 -- what was gathered
 module _ (c : After-gather-count) where
-  abbrev begin : Start
-  begin = c.before.before.before
 
   abbrev f : ℕ → Point
-  f = corner (points begin.args.list.now)
+  f = corner (points c.args.list.now)
 
   abbrev all : List ℕ
   all =
-      let n = begin.args.n in
-      let s = begin.args.start in
+      let n = c.args.n in
+      let s = c.args.start in
       s ∷ differing f s (walked n (next n s) (n - 1))
 
-  under : Under (length (points begin.args.list.now)) all
+  under : Under (length (points c.args.list.now)) all
   under =
-      let n = begin.args.n in
-      let s = begin.args.start in
-      let b = length (points begin.args.list.now) in (
-        omega (arith, begin.pre.0, begin.pre.1),
-        differing-under f b s (walked n (next n s) (n - 1)) (under-weaken n b (walked n (next n s) (n - 1)) begin.pre.0
-            (walked-under n (next n s) (n - 1) (next-below n s begin.pre.1))),
+      let n = c.args.n in
+      let s = c.args.start in
+      let b = length (points c.args.list.now) in (
+        omega (arith, c.requires.0, c.requires.1),
+        differing-under f b s (walked n (next n s) (n - 1)) (under-weaken n b (walked n (next n s) (n - 1)) c.requires.0
+            (walked-under n (next n s) (n - 1) (next-below n s c.requires.1))),
       )
 
   last-is : get_or c.gather-count.new.kept (c.gather-count.result - 1) 0 ≡ get_or all (length all - 1) 0
@@ -51,7 +49,7 @@ overflow_sub-count c = omega (arith, c.gather-count.ensures.counted)
 
 pub offset_bounds-kept-count : goal.offset_bounds-kept-count
 offset_bounds-kept-count c =
-    omega (arith, c.gather-count.ensures.counted, c.gather-count.ensures.fits, c.gather-count.auto.1.1.1.0, (begin (goal.at.offset_bounds-kept-count c).After-gather-count).well_formed.1.1.1.0)
+    omega (arith, c.gather-count.ensures.counted, c.gather-count.ensures.fits, c.gather-count.auto.kept, (begin (goal.at.offset_bounds-kept-count c).After-gather-count).well_formed.1.1.1.0)
 
 pub bounds-kept-count : goal.bounds-kept-count
 bounds-kept-count c =

@@ -50,7 +50,7 @@ arrange-requires c =
 pub slice_bounds-passes-end-2 : goal.slice_bounds-passes-end-2
 slice_bounds-passes-end-2 c =
     sym (length-take-le _ c.arrange.new.shape
-    (omega (arith, c.requires.2, c.arrange.auto.1.1.1.1.0)))
+    (omega (arith, c.requires.2, c.arrange.auto.shape)))
 
 pub returns : goal.returns
 returns c e =

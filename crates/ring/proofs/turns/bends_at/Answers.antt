@@ -11,30 +11,28 @@ use Rattle.ring.specs.Round.{in_sense, straight}
 use Rattle.ring.specs.Ring.{previous}
 use Rattle.ring.specs.theory.Steps.{sense-below, previous-below}
 use Rattle.ring.proofs.turns.bends_at.Goals as goal
-use Rattle.ring.proofs.turns.bends_at.Goals.{After-place, Start}
+use Rattle.ring.proofs.turns.bends_at.Goals.{After-place}
 
 pub place-a-requires : goal.place-a-requires
 place-a-requires c = c.previous.ensures.upper_bound
 
 -- the three places, said of the list
 module _ (c : After-place) where
-  abbrev begin : Start
-  begin = (goal.at.After-place c).Start
 
   abbrev sense : ℕ → ℕ
-  sense j = get_or (in_sense begin.args.back begin.args.kept.now) j 0
+  sense j = get_or (in_sense c.args.back c.args.kept.now) j 0
 
   abbrev all : ℕ
-  all = length begin.args.kept.now
+  all = length c.args.kept.now
 
-  is-before : c.place-a.result ≡ sense (previous all begin.args.j)
+  is-before : c.place-a.result ≡ sense (previous all c.args.j)
   is-before = c.place-a.ensures ∙ ap sense c.previous.ensures.value
 
-  is-after : c.place-c.result ≡ sense (next all begin.args.j)
+  is-after : c.place-c.result ≡ sense (next all c.args.j)
   is-after = c.place-c.ensures ∙ ap sense c.next.ensures.value
 
-  sound : (j : ℕ) → j < all → sense j < length (points begin.args.list.now)
-  sound j h = sense-below _ begin.args.back begin.args.kept.now begin.pre.0.below j h
+  sound : (j : ℕ) → j < all → sense j < length (points c.args.list.now)
+  sound j h = sense-below _ c.args.back c.args.kept.now c.requires.0.below j h
 
 pub straight_at-requires : goal.straight_at-requires
 straight_at-requires c =

@@ -33,7 +33,7 @@ returns-in-No c = (shapes-refused (ask_box (shape (goal.at.returns-in-No c).Star
 
 pub returns-then-count-lt3 : goal.returns-then-count-lt3
 returns-then-count-lt3 c =
-    let a = shape c.before.before.before.before.before in
+    let a = shape (goal.at.returns-then-count-lt3 c).Start in
     let flat = lt-ltb (length (corners a)) 3 (omega (arith, c.if-count-lt3.true, c.count.ensures)) in
     (rest-refused (ask_box a) (valid (goal.at.returns-then-count-lt3 c).In_default) (refuses {rows = (ask_box a).rest} (here flat))).0
 
@@ -42,6 +42,6 @@ least_box-found-requires c = (valid (goal.at.least_box-found-requires c).In_defa
 
 pub returns : goal.returns
 returns c =
-    let a = shape c.before.before.before.before.before.before in
+    let a = shape (goal.at.returns c).Start in
     all-answered (ask_box a) (valid (goal.at.returns c).In_default) (le-ltb (length (corners a)) 3 (three c.before), tt)
     (box-values a c.least_box-found.ensures)

@@ -19,9 +19,9 @@ passed : (c : Else-not-arranged) → c.arranged.result ≡ true
 passed c = c.if-not-arranged.false
 
 pub slice_bounds-shown-end-2 : goal.slice_bounds-shown-end-2
-slice_bounds-shown-end-2 c = sym (front_length (c.arranged.ensures (passed c.before)).0)
+slice_bounds-shown-end-2 c = sym (front_length (c.arranged.ensures (passed c)).0)
 
 pub shown-requires : goal.shown-requires
 shown-requires c =
-    let made = c.arranged.ensures (passed c.before.before) in
+    let made = c.arranged.ensures (passed c.before) in
     (c.requires.0, made.0.front, made.1)

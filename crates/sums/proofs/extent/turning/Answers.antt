@@ -13,19 +13,7 @@ use Rattle.plane.specs.Direction.{value}
 use Rattle.polygon.specs.Point.{at}
 use Rattle.sums.proofs.extent.turning.Goals as goal
 use Rattle.sums.proofs.extent.turning.Goals.{In-loop-low}
-
-abbrev GoesOn : List Point → Point → ℕ → Type 0
-GoesOn ps d i = value d (corner ps i) ≤ℤ value d (corner ps (next (length ps) i))
-
-abbrev Stops : List Point → Point → ℕ → Type 0
-Stops ps d i = value d (corner ps (next (length ps) i)) <ℤ value d (corner ps i)
-
-record Halved (ps : List Point) (d : Point) (from to low high : ℕ) : Type 0 where
-  after : from ≤ low
-  order : low ≤ high
-  within : high ≤ to
-  goes : (k : ℕ) → from ≤ k → suc k ≡ low → GoesOn ps d k
-  stops : high < to → Stops ps d high
+use Rattle.sums.proofs.extent.turning.Invariants.{GoesOn, Stops, Halved}
 
 pub loop-low-init : goal.loop-low-init
 loop-low-init c = record {

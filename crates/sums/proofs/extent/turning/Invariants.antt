@@ -11,6 +11,19 @@ use Rattle.plane.specs.Direction.{value}
 use Rattle.polygon.specs.Point.{at}
 use Rattle.sums.proofs.extent.turning.Given as goal
 
+abbrev pub GoesOn : List Point → Point → ℕ → Type 0
+GoesOn ps d i = value d (corner ps i) ≤ℤ value d (corner ps (next (length ps) i))
+
+abbrev pub Stops : List Point → Point → ℕ → Type 0
+Stops ps d i = value d (corner ps (next (length ps) i)) <ℤ value d (corner ps i)
+
+pub record Halved (ps : List Point) (d : Point) (from to low high : ℕ) : Type 0 where
+  after : from ≤ low
+  order : low ≤ high
+  within : high ≤ to
+  goes : (k : ℕ) → from ≤ k → suc k ≡ low → GoesOn ps d k
+  stops : high < to → Stops ps d high
+
 abbrev pub invariant-loop-low : goal.invariant-loop-low
 invariant-loop-low l = Halved (points l.list) (at l.d) l.from l.to l.low l.high
 

@@ -16,7 +16,13 @@ use Rattle.sums.specs.theory.Summed.{next-few}
 use Rattle.sums.proofs.Walked.{edges-sum, all_edges, walked-with, walked_at, walked-below, walked_more, walked-spent, walked-over}
 use Rattle.sums.proofs.size.count_on.Goals as goal
 use Rattle.sums.proofs.size.count_on.Goals.{After-struct_known-2-1}
-use Rattle.sums.proofs.size.count_on.Invariants.{all}
+
+-- all edges of both
+all : (c : After-struct_known-2-1) →
+    let args = c.args in
+    c.side_at-s.result.end + c.side_at-t.result.end
+    ≡ length (edges (points args.a.now)) + length (edges (points args.b.now))
+all c = all_edges c.side_at-s.ensures.1 c.side_at-t.ensures.1
 
 pub overflow_add-all : goal.overflow_add-all
 overflow_add-all c =

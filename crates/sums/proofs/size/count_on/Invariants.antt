@@ -14,13 +14,6 @@ use Rattle.sums.specs.theory.Summed.{next-few}
 use Rattle.sums.proofs.Walked.{edges-sum, all_edges, walked-with, walked_at, walked-below, walked_more, walked-spent, walked-over}
 use Rattle.sums.proofs.size.count_on.Given as goal
 
--- all edges of both
-pub all : (c : After-struct_known-2-1 invariant-loop-s decreases-loop-s) → let second = c.before.before in
-    let args = second.before.before.before.args in
-    second.before.side-at.result.end + second.side-at2.result.end
-    ≡ length (edges (points args.a.now)) + length (edges (points args.b.now))
-all c = let second = c.before.before in all_edges second.before.side-at.ensures.1 second.side-at2.ensures.1
-
 abbrev pub invariant-loop-s : goal.invariant-loop-s
 invariant-loop-s l = Walked l.a l.b (state l.i l.j false) l.k l.count l.s l.t
 

@@ -25,7 +25,7 @@ use Rattle.sums.specs.Advance.{state, side_of, next_corners, Walked}
 use Rattle.sums.specs.theory.Summed.{next-few}
 use Rattle.sums.proofs.Walked.{side_of-carried, walked_start, walked-below, walked-inside}
 use Rattle.sums.proofs.size.skim.Goals as goal
-use Rattle.sums.proofs.size.skim.Goals.{At-loop-c, In-loop-c, Start}
+use Rattle.sums.proofs.size.skim.Goals.{At-loop-c, In-loop-c}
 
 pub sides-m-requires : goal.sides-m-requires
 sides-m-requires c = tt
@@ -43,31 +43,29 @@ loop-c-init c =
 
 -- no number is too large
 module _ (c : At-loop-c) where
-  abbrev start : Start
-  start = c.before.before.before
 
   first_small : c.loop-c.first < 9223372036854775808
   first_small =
-      let a = start.args.a.now in
-      omega (arith, c.loop-c.invariant.first-side.at_in, edges-at-most (points a), points-length a, start.good.0)
+      let a = c.args.a.now in
+      omega (arith, c.loop-c.invariant.first-side.at_in, edges-at-most (points a), points-length a, c.well_formed.0)
 
   second-small : c.loop-c.second < 9223372036854775808
   second-small =
-      let b = start.args.b.now in
-      omega (arith, c.loop-c.invariant.second-side.at_in, edges-at-most (points b), points-length b, start.good.1.0)
+      let b = c.args.b.now in
+      omega (arith, c.loop-c.invariant.second-side.at_in, edges-at-most (points b), points-length b, c.well_formed.1.0)
 
   count_small : c.loop-c.count < 9223372036854775808
   count_small =
-      let a = start.args.a.now in
-      let b = start.args.b.now in
+      let a = c.args.a.now in
+      let b = c.args.b.now in
       omega (
         arith,
         walked-below c.loop-c.invariant,
-        next-few a b (state start.args.i start.args.j false) start.args.k start.pre.0,
+        next-few a b (state c.args.i c.args.j false) c.args.k c.requires.0,
         points-length a,
         points-length b,
-        start.good.0,
-        start.good.1.0,
+        c.well_formed.0,
+        c.well_formed.1.0,
       )
 
 pub inside-requires : goal.inside-requires

@@ -21,7 +21,13 @@ use Rattle.sums.proofs.Progress.{Progress, part-progress, progress-room, progres
 use Rattle.sums.proofs.Progress.{progress-kept, progress-more, progress-done}
 use Rattle.sums.proofs.walk.walk_on.Goals as goal
 use Rattle.sums.proofs.walk.walk_on.Goals.{After-side_at-second, After-stride-far, After-struct_known-2-1, At-loop-s}
-use Rattle.sums.proofs.walk.walk_on.Invariants.{all}
+
+-- all edges of both
+all : (c : After-struct_known-2-1) →
+    let args = c.args in
+    c.side_at-first.result.end + c.side_at-second.result.end
+    ≡ length (edges (points args.a.now)) + length (edges (points args.b.now))
+all c = all_edges c.side_at-first.ensures.1 c.side_at-second.ensures.1
 
 -- the sides are at the place
 same : (c : After-side_at-second) → let args = c.args in

@@ -19,13 +19,6 @@ use Rattle.sums.proofs.Progress.{Progress, part-progress, progress-room, progres
 use Rattle.sums.proofs.Progress.{progress-kept, progress-more, progress-done}
 use Rattle.sums.proofs.walk.walk_on.Given as goal
 
--- all edges of both
-pub all : (c : After-struct_known-2-1 invariant-loop-s decreases-loop-s) → let second = c.before.before in
-    let args = second.before.before.args in
-    second.before.side-at.result.end + second.side-at2.result.end
-    ≡ length (edges (points args.a.now)) + length (edges (points args.b.now))
-all c = let second = c.before.before in all_edges second.before.side-at.ensures.1 second.side-at2.ensures.1
-
 abbrev pub invariant-loop-s : goal.invariant-loop-s
 invariant-loop-s l =
     (old : List ℤ) → Progress l.a l.b old (state l.i l.j false) l.k l.initial.count l.initial.s l.initial.t l.initial.out → Progress l.a l.b old (state l.i l.j false) l.k l.count l.s l.t l.out

@@ -15,8 +15,7 @@ use Rattle.calipers.proofs.side.Side.is_up.Goals.{After-struct_told-1}
 readback : (c : After-struct_told-1) → let s = c.args.self in
     point (to_z w64 (of_z w64 s.run)) (to_z w64 (of_z w64 s.rise)) ≡ next_of s
 readback c =
-    let g = c.struct_told-1.given in
-    ap₂ point (result-is w64 g.1.1.1.1.0.1 refl) (result-is w64 g.1.1.1.1.1.0.1 refl)
+    ap₂ point (result-is w64 c.struct_told-1.given.1.1.1.1.0.1 refl) (result-is w64 c.struct_told-1.given.1.1.1.1.1.0.1 refl)
 
 pub returns-then-self-gt0 : goal.returns-then-self-gt0
 returns-then-self-gt0 c = sym (precedes-below origin _ (lt_z-true c.if-self-gt0.true)) ∙ ap up (readback (goal.at.returns-then-self-gt0 c).After-struct_told-1)

@@ -38,7 +38,7 @@ is_place-requires c = let both = shapes c in (both.first-valid, both.second-vali
 
 pub returns-then-not-is_place : goal.returns-then-not-is_place
 returns-then-not-is_place c =
-    part-off-place (one c.before.before.before.before.before) (other c.before.before.before.before.before) (state_of c.args.self) c.args.k c.args.out.now
+    part-off-place (one (goal.at.returns-then-not-is_place c).Start) (other (goal.at.returns-then-not-is_place c).Start) (state_of c.args.self) c.args.k c.args.out.now
     (shapes (goal.at.returns-then-not-is_place c).In_default) (told c.before (c.if-not-is_place.true))
 
 pub survey-requires : goal.survey-requires
@@ -54,7 +54,7 @@ pub write-requires : goal.write-requires
 write-requires c =
     (
       shapes (goal.at.write-requires c).In_default,
-      told c.before.before.before.before.before (c.if-not-is_place.false),
+      told (goal.at.write-requires c).After-is_place (c.if-not-is_place.false),
       c.survey.ensures.valid c.in_default-survey.is,
     )
 
