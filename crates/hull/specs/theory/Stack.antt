@@ -87,7 +87,7 @@ module _ {ps : List Point} {k : ℕ} {p : Point} {kept : ℕ} (c : Settling ps k
 pub settled-scanned : {l now : List ℤ} {k r : ℕ} {p : Point} → k < length (points l) → SmallTo l k → Small (2 ^ 21) p
     → Settled (points l) k p r → now ≡ stored l r p → Scanned l k (p ∷ []) now (r + 1)
 settled-scanned {l} {now} {k} {r} {p} room low own s is = subst (λ m. Scanned l k (p ∷ []) m (r + 1)) (sym is) (record {
-  kept = rw (add-one r, written) (pile ∙ sym s.pushed);
+  kept = ap (λ (q : List Point). stack q (r + 1)) written ∙ ap (stack (set (points l) r p)) (add-one r) ∙ pile ∙ sym s.pushed;
   few = omega (arith, s.few);
   small = record { small = λ i h. rw written (go i h (ℕ_discrete i r)) };
   same = stored-length l r p;

@@ -63,6 +63,7 @@ module _ {call : Call} {c : ℤ → ℤ → ℤ} (k : Combines call c) where
   pub result-floor : {L : List Floored} (g : Grouping L) (l : Floored) → Result call g l
       → (a : Floored) → Memᴰ a L → a.floor ≡ l.floor
   result-floor (alone x) l r a (Memᴰ.head e) = ap (λ (s : Floored). s.floor) (e ∙ sym r)
+  result-floor (alone x) l r a (Memᴰ.tail m) = elim m [ ]
   result-floor (split {A = A} order g h out) l r a m =
       let w = k.gives→reaches r.0 r.1 out l r.4 in
       go (result-floor g r.0 r.2 a) (result-floor h r.1 r.3 a) w (Memᴰ.append_cases A (order-member order a m))

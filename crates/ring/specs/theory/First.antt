@@ -63,6 +63,7 @@ least-least g (suc n) i h = go (precedes (g n) (g (least_place g n))) refl (ℕ_
     go false e (no o) before = before (omega (arith, o))
 
 pub under-member : (b : ℕ) (xs : List ℕ) → Under b xs → {x : ℕ} → Memᴰ x xs → x < b
+under-member b [] u m = elim m [ ]
 under-member b (y ∷ ys) u (Memᴰ.head e) = subst (λ (k : ℕ). k < b) (sym e) u.0
 under-member b (y ∷ ys) u (Memᴰ.tail m) = under-member b ys u.1 m
 

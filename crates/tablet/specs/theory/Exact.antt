@@ -48,6 +48,10 @@ pub record Digits (m : ℕ) (e : ℤ) : Type 0 where
 
 parted : (a b c d : Bool) → T (a && b && c && d) → T b × T c × T d
 parted true true true true t = (tt, tt, tt)
+parted false b c d t = elim t [ ]
+parted true false c d t = elim t [ ]
+parted true true false d t = elim t [ ]
+parted true true true false t = elim t [ ]
 
 pub fits-digits : (s : Bool) (m : ℕ) (e : ℤ) → T (fits binary64 (fin s (suc m) e)) → Digits (suc m) e
 unfolding fits

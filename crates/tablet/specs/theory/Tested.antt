@@ -263,6 +263,8 @@ digits-not-zero (suc m) e h = ne_eqb (suc m) 0 (λ e. let k : ⊥ = omega arith 
 and-not : (a b s c : Bool) → T a → T b → c ≡ false → T (a && b && not (s && c))
 and-not true true true false x y h = tt
 and-not true true false c x y h = tt
+and-not false b s c x y h = elim x [ ]
+and-not true false s c x y h = elim y [ ]
 and-not true true true true x y h = absurd (clash (sym h))
 
 either : (s : Bool) (q : ℕ) → q < 2 ^ 31 → T (cond s (nat_le q (2 ^ 31)) (nat_lt q (2 ^ 31)))
