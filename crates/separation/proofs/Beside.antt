@@ -5,7 +5,7 @@
 --     beside-right          it is to the right of an edge of b: a is not inside
 --     beside-more           it is not, or that edge is not passed: the walk goes on; `beside-less`: with less to pass
 --     beside-all            all edges of b are passed: a is inside
-use mathlib.Core.Path.{◌≡◌, refl, sym, ◌∙◌, ap, subst}
+use mathlib.Core.Path.{◌≡◌, refl, sym, ◌∙◌, ap, ap₂, subst}
 use mathlib.Core.Bool.{Bool, true, false, cond}
 use mathlib.Core.List.{List}
 use Prim.Native.Nat.{ℕ, ◌+◌, ◌-◌, ◌≤◌, ◌<◌}
@@ -78,8 +78,9 @@ module _ {a b : List ℤ} {s t : Side} (p : Beside a b s t) where
   module _ (there : t.at < length B) where
     -- the turn of the corner at hand against the next edge of b
     turned : is_right s t ≡ lt_z (turn (corner B t.at) (corner B (next (length B) t.at)) (corner_round A s.at)) (pos 0)
-    turned = rw (p.second-side.edge-is, p.second-side.corner-is, p.first-side.corner-is)
-        (ap (λ (z : ℤ). lt_z z (pos 0)) (cross-edge B t.at (corner_round A s.at) (omega (arith, sides))))
+    turned = ap₂ (λ (e d : Point). lt_z (cross e d) (pos 0)) p.second-side.edge-is
+        (ap₂ (λ (u v : Point). u ⊖ v) p.first-side.corner-is p.second-side.corner-is)
+        ∙ ap (λ (z : ℤ). lt_z z (pos 0)) (cross-edge B t.at (corner_round A s.at) (omega (arith, sides)))
 
     pub beside-right : is_right s t ≡ true → inside A B ≡ false
     beside-right h = right-outside A B p.place.first-shape p.place.second-shape s.at t.at

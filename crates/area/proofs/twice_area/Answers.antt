@@ -57,7 +57,6 @@ module _ (s r v u : ℤ) (e : s ≡ v) (h : Within (2 ^ 60) v) (f : r ≡ u) (k 
   sum_is = let p = known e h in let q = known f k in machine-is (search machine depth 40) tt
 
 module _ (c : After-cross_at-sum-in-loop-i) where
-
   abbrev ps : List Point
   ps = points c.args.list.now
 
@@ -85,13 +84,13 @@ pub loop-i-preserved : goal.loop-i-preserved
 loop-i-preserved c =
     let n = c.count-n.ensures in (
       sum_is _ _ _ _ c.loop-i.invariant.0 (sum-within c) c.cross_at-sum-in-loop-i.ensures (product-within c)
-          ∙ partial-more (points (start c).args.list.now) c.loop-i.i,
+          ∙ partial-more (points c.args.list.now) c.loop-i.i,
       omega (arith, n, c.loop-i-test.true),
     )
 
 -- at the last corner the sum is all of it
 whole : (c : After-loop-i)
-    → twice_area (points c.args.list.now) ≡ to_z w64 c.loop-i.sum
+    → twice_area (points c.args.list.now) ≡ to_z w64 c.loop-i.sum-bits
 whole c =
     let n = c.count-n.ensures in
     let inv = c.loop-i.invariant in

@@ -32,11 +32,10 @@ pub precedes_at-requires : goal.precedes_at-requires
 precedes_at-requires c = (omega (arith, two c), omega (arith, two c))
 
 pub returns-then-not-precedes_at : goal.returns-then-not-precedes_at
-returns-then-not-precedes_at c =
-    (
-      (λ t. absurd (false≢true t)),
-      (λ s. sym (c.if-not-precedes_at.true) ∙ c.precedes_at.ensures ∙ shape-begins _ s (two c.before.before)),
-    )
+returns-then-not-precedes_at c = (
+  (λ t. absurd (false≢true t)),
+  (λ s. sym (c.if-not-precedes_at.true) ∙ c.precedes_at.ensures ∙ shape-begins _ s (two c.before.before)),
+)
 
 pub returns-then-n-eq2 : goal.returns-then-n-eq2
 returns-then-n-eq2 c =

@@ -23,29 +23,25 @@ pub returns-then-bad_count : goal.returns-then-bad_count
 returns-then-bad_count c = (
   (λ t. absurd (false≢true t)),
   (λ v. sym (valid→accepted _ 1 v).0 ∙ sym c.bad_count.ensures ∙ c.if-bad_count.true),
-
 )
 
 pub returns-then-too_many : goal.returns-then-too_many
 returns-then-too_many c = (
   (λ t. absurd (false≢true t)),
   (λ v. sym (valid→accepted _ 1 v).1.0 ∙ sym c.too_many.ensures ∙ c.if-too_many.true),
-
 )
 
 pub returns-then-some_outside : goal.returns-then-some_outside
 returns-then-some_outside c = (
   (λ t. absurd (false≢true t)),
   (λ v. sym (valid→accepted _ 1 v).1.1.0 ∙ sym c.some_outside.ensures ∙ c.if-some_outside.true),
-
 )
 
 pub is_shape-requires : goal.is_shape-requires
 is_shape-requires c = (near→in_range _ (row-3 c), (counted _ (row-1 c.before.before.before.before)).0)
 
 pub returns : goal.returns
-returns c =
-    (
-      (λ t. shape→valid _ (row-1 c.before.before.before.before.before) (row-2 c.before.before.before) (row-3 c.before) (c.is_shape.ensures.0 t)),
-      (λ v. c.is_shape.ensures.1 v.shape),
-    )
+returns c = (
+  (λ t. shape→valid _ (row-1 c.before.before.before.before.before) (row-2 c.before.before.before) (row-3 c.before) (c.is_shape.ensures.0 t)),
+  (λ v. c.is_shape.ensures.1 v.shape),
+)

@@ -1,8 +1,8 @@
 -- `face_towards` meets its contract, a case each: by what the first furthest corner's neighbours have.
 use mathlib.Core.Path.{◌≡◌, sym, ◌∙◌, ap}
 use mathlib.Core.Bool.{Bool, false}
-use mathlib.Core.Logic.{inl, inr}
 use Prim.Native.Nat.{ℕ, ◌-◌, ◌≤◌, ◌<◌}
+use mathlib.Core.Logic.{inl, inr}
 use native.Mathlib.Omega.{arith}
 use borrow.Author.Rules.{rules}
 use borrow.Author.Tests.{ltb-true, ltb-false}
@@ -19,6 +19,7 @@ use Rattle.plane.specs.theory.face.FirstFurthest.{furthest-greatest}
 use Rattle.polygon.specs.Point.{at}
 use Rattle.direction.specs.theory.Face.{face-over-end, face-onward, face-alone}
 use Rattle.direction.proofs.face_towards.Goals as goal
+use Rattle.direction.proofs.face_towards.Goals.{then-here-eq0+then-n-gt2+else-reaches, else-here-eq0}
 use Rattle.direction.proofs.face_towards.Goals.{After-count-n, After-first_furthest-here, After-value_at-value, Joined-here-eq0}
 
 pub first_furthest-here-requires : goal.first_furthest-here-requires
@@ -67,9 +68,9 @@ test-is c i e =
 pub returns-then-reaches : goal.returns-then-reaches
 returns-then-reaches c =
     let face = face-over-end c.requires.1 c.requires.3 c.first_furthest-here.ensures c.count-n.ensures
-    c.if-here-eq0.true (ltb-true 2 _ c.if-n-gt2.true)
+    c.if-here-eq0.true c.if-n-gt2.true
     (sym (test-is c.before.before.before.before _ c.reaches.ensures) ∙ c.if-reaches.true) in
-    (face.0, (face.1, value-is c.before.before.before.before.before))
+    record { first_value = face.0; last_value = face.1; value_value = value-is c.before.before.before.before.before }
 
 pub reaches-requires-then-next-n : goal.reaches-requires-then-next-n
 reaches-requires-then-next-n c =
@@ -80,29 +81,25 @@ pub returns-then-reaches-2 : goal.returns-then-reaches-2
 returns-then-reaches-2 c =
     let face = face-onward c.requires.1 c.requires.3 c.first_furthest-here.ensures c.count-n.ensures
     c.if-next-n.true (sym (test-is c.before.before.before.before _ c.reaches-then-next-n.ensures) ∙ c.if-reaches-2.true) in
-    (face.0, (face.1, value-is c.before.before.before.before.before))
+    record { first_value = face.0; last_value = face.1; value_value = value-is c.before.before.before.before.before }
 
 -- past the first test the last corner of the list is not furthest, where it would be the first of the face
 not-over-end : (c : Joined-here-eq0) → let args = c.args in
     c.first_furthest-here.result ≡ 0 → 2 < c.count-n.result
     → is_furthest (at args.d) (points args.list.now) (c.count-n.result - 1) ≡ false
 not-over-end c e h = elim c.if-here-eq0.branch [
-  | inl q ↦ sym (test-is c.before _ q.2.ensures) ∙ q.3.left
-  | inr q ↦ elim q.came [ inl r ↦ absurd (few (ltb-false 2 c.count-n.result r.1.left)) | inr r ↦ absurd (r.left e) ]
-
+  | then-here-eq0+then-n-gt2+else-reaches w ↦ sym (test-is c.before _ w.reaches.ensures) ∙ w.if-reaches.false
+  | else-here-eq0 w ↦ elim w.else-here-eq0.either [ inl r ↦ absurd (omega (arith, h, r.1)) | inr r ↦ absurd (r e) ]
 ]
-  where
-    few : c.before.count.result ≤ 2 → ⊥
-    few k = omega arith
 
 pub returns-else-reaches-2 : goal.returns-else-reaches-2
 returns-else-reaches-2 c =
     let face = face-alone c.requires.1 c.requires.3 c.first_furthest-here.ensures c.count-n.ensures
     (not-over-end c.before.before.before) (λ h. sym (test-is c.before.before.before.before _ c.reaches-then-next-n.ensures) ∙ c.if-reaches-2.false) in
-    (face.0, (face.1, value-is c.before.before.before.before.before))
+    record { first_value = face.0; last_value = face.1; value_value = value-is c.before.before.before.before.before }
 
 pub returns-else-next-n : goal.returns-else-next-n
 returns-else-next-n c =
     let face = face-alone c.requires.1 c.requires.3 c.first_furthest-here.ensures c.count-n.ensures
     (not-over-end c.before) (λ h. absurd (omega (arith, c.if-next-n.false))) in
-    (face.0, (face.1, value-is c.before.before.before))
+    record { first_value = face.0; last_value = face.1; value_value = value-is c.before.before.before }

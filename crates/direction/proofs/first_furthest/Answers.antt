@@ -1,7 +1,6 @@
 -- `first_furthest` meets its contract. The invariant: of the values before i the greatest, at its smallest position; the measure is what
 -- is left.
 use mathlib.Core.Path.{◌≡◌, sym, ◌∙◌, ap}
-use mathlib.Core.Logic.{⊎_elim}
 use Prim.Native.Nat.{◌-◌, ◌≤◌}
 use native.Mathlib.Omega.{arith}
 use lib.ListN.{length}
@@ -16,6 +15,7 @@ use Rattle.polygon.specs.Point.{at}
 use Rattle.plane.specs.theory.face.FirstFurthest.{Greatest}
 use Rattle.direction.specs.theory.Furthest.{greatest-start, greatest-keep, greatest-rise, greatest-furthest}
 use Rattle.direction.proofs.first_furthest.Goals as goal
+use Rattle.direction.proofs.first_furthest.Goals.{then-value-next, else-value-next}
 
 pub count-n-requires : goal.count-n-requires
 count-n-requires c = tt
@@ -27,7 +27,6 @@ pub loop-i-init : goal.loop-i-init
 loop-i-init c = (
   greatest-start _ _ (result-is w64 c.value_at-value.type_inv c.value_at-value.ensures),
   omega (arith, c.count-n.ensures, c.requires.0),
-
 )
 
 pub value_at-next-requires : goal.value_at-next-requires
@@ -43,9 +42,11 @@ loop-i-smaller c = omega arith
 pub loop-i-preserved : goal.loop-i-preserved
 loop-i-preserved c =
     let is = result-is w64 c.value_at-next.type_inv c.value_at-next.ensures in
-    let test = ap (lt_z (to_z w64 c.loop-i.value)) is in (
-      ⊎_elim (λ t. greatest-rise _ c.loop-i.invariant.0 (lt_z-true (sym test ∙ t.0.taken)) t.1 (ap (to_z w64) t.2 ∙ is))
-          (λ t. greatest-keep _ c.loop-i.invariant.0 (lt_z-false (sym test ∙ t.0.left)) t.1 (ap (to_z w64) t.2)) c.if-value-next.branch,
+    let test = ap (lt_z (to_z w64 c.loop-i.value-bits)) is in (
+      elim c.if-value-next.branch [
+        | then-value-next w ↦ greatest-rise _ c.loop-i.invariant.0 (lt_z-true (sym test ∙ w.if-value-next.true)) w.position-is (w.value-is ∙ is)
+        | else-value-next w ↦ greatest-keep _ c.loop-i.invariant.0 (lt_z-false (sym test ∙ w.if-value-next.false)) w.position-is w.value-is
+      ],
       omega arith,
     )
 

@@ -1,6 +1,5 @@
 -- `reach` meets its contract. The invariant: the greatest of the values before i, at some position; the measure is what is left.
 use mathlib.Core.Path.{◌≡◌, refl, sym, ◌∙◌, ap}
-use mathlib.Core.Logic.{⊎_elim}
 use Prim.Native.Nat.{ℕ, ◌-◌, ◌≤◌}
 use native.Mathlib.Omega.{arith}
 use lib.ListN.{length}
@@ -15,6 +14,7 @@ use Rattle.polygon.specs.Point.{at}
 use Rattle.plane.specs.theory.face.FirstFurthest.{Greatest}
 use Rattle.direction.specs.theory.Furthest.{greatest-start, greatest-keep, greatest-rise, greatest-support}
 use Rattle.direction.proofs.reach.Goals as goal
+use Rattle.direction.proofs.reach.Goals.{then-greatest-next, else-greatest-next}
 
 pub count-n-requires : goal.count-n-requires
 count-n-requires c = tt
@@ -26,7 +26,6 @@ pub loop-i-init : goal.loop-i-init
 loop-i-init c = (
   (0, greatest-start _ _ (result-is w64 c.value_at-greatest.type_inv c.value_at-greatest.ensures)),
   omega (arith, c.count-n.ensures, c.requires.0),
-
 )
 
 pub value_at-next-requires : goal.value_at-next-requires
@@ -43,9 +42,11 @@ pub loop-i-preserved : goal.loop-i-preserved
 loop-i-preserved c =
     let (k, found) = c.loop-i.invariant.0 in
     let is = result-is w64 c.value_at-next.type_inv c.value_at-next.ensures in
-    let test = ap (lt_z (to_z w64 c.loop-i.greatest)) is in (
-      ⊎_elim (λ t. (c.loop-i.i, greatest-rise _ found (lt_z-true (sym test ∙ t.0.taken)) refl (ap (to_z w64) t.1 ∙ is)))
-          (λ t. (k, greatest-keep _ found (lt_z-false (sym test ∙ t.0.left)) refl (ap (to_z w64) t.1))) c.if-greatest-next.branch,
+    let test = ap (lt_z (to_z w64 c.loop-i.greatest-bits)) is in (
+      elim c.if-greatest-next.branch [
+        | then-greatest-next w ↦ (c.loop-i.i, greatest-rise _ found (lt_z-true (sym test ∙ w.if-greatest-next.true)) refl (w.greatest-is ∙ is))
+        | else-greatest-next w ↦ (k, greatest-keep _ found (lt_z-false (sym test ∙ w.if-greatest-next.false)) refl w.greatest-is)
+      ],
       omega arith,
     )
 

@@ -12,7 +12,6 @@ loop-x-init c = record {
   left-fits = c.ranges.a.fits;
   right-fits = c.ranges.b.fits;
   same = λ g p. p;
-
 }
 
 pub strip-y-requires : goal.strip-y-requires

@@ -91,13 +91,12 @@ sized : (c : In_default-admit_sizes)
 sized c = c.admit_sizes.ensures.valid c.in_default-admit_sizes.is
 
 pub first-requires : goal.first-requires
-first-requires c =
-    (
-      sound (goal.at.first-requires c).In_default-survey,
-      valid (goal.at.first-requires c).In_default,
-      record { from-near = in-range _ (from-near (goal.at.first-requires c).In_default-admit_place); to-near = in-range _ (to-near (goal.at.first-requires c).In_default-admit_place-2) },
-      sized c,
-    )
+first-requires c = (
+  sound (goal.at.first-requires c).In_default-survey,
+  valid (goal.at.first-requires c).In_default,
+  record { from-near = in-range _ (from-near (goal.at.first-requires c).In_default-admit_place); to-near = in-range _ (to-near (goal.at.first-requires c).In_default-admit_place-2) },
+  sized c,
+)
 
 pub returns : goal.returns
 returns c =

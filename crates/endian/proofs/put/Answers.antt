@@ -14,13 +14,13 @@ use Rattle.endian.proofs.put.Goals.{After-bits-n}
 
 -- the output after one store, two and three is as long as it was
 abbrev old : After-bits-n → List ℕ
-old c = c.before.before.args.out.now
+old c = c.args.out.now
 
 abbrev one : After-bits-n → List ℕ
-one c = set (old c) c.before.before.args.p (c.bits.result % 256)
+one c = set (old c) c.args.p (c.bits-n.result % 256)
 
 abbrev two : After-bits-n → List ℕ
-two c = set (one c) (c.before.before.args.p + 1) (c.bits.result / 256 % 256)
+two c = set (one c) (c.args.p + 1) (c.bits-n.result / 256 % 256)
 
 same-1 : (c : After-bits-n) → length (one c) ≡ length (old c)
 same-1 c = length-set (old c) _ _

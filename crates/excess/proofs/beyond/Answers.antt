@@ -48,11 +48,10 @@ clear c =
     outermost-apart _ _ pre.0.shape.some pre.1.shape (sym c.inside.ensures ∙ c.if-inside.false)
 
 pub spacing-requires : goal.spacing-requires
-spacing-requires c =
-    (
-      corner-valid _ c.requires.0 _ (outermost-among _ _ c.requires.0.shape.some c.requires.1.shape) (place c),
-      c.requires.1,
-    )
+spacing-requires c = (
+  corner-valid _ c.requires.0 _ (outermost-among _ _ c.requires.0.shape.some c.requires.1.shape) (place c),
+  c.requires.1,
+)
 
 -- what is known of its spacing, where it is told
 known : (c : After-spacing) {s : Spacing} → c.spacing.result ≡ s → let args = c.args in

@@ -37,6 +37,6 @@ turned h k = machine-is (search (machine, bounded) depth 40) tt ∙ +ℤ_idl _
 pub returns : goal.returns
 returns c =
     let pre = c.requires in
-    result-is w64 c.greater-2.type_inv (c.greater-2.ensures ∙ ap₂ greater (to_z-of_z {w = w32} c.ranges.least)
+    result-is w64 c.greater-2.type_inv (c.greater-2.ensures ∙ ap₂ greater (to_z-of_z {w = w64} c.ranges.least)
     (result-is w64 c.greater.type_inv (c.greater.ensures ∙ ap₂ greater (turned pre.0.small-x pre.1.small-x)
     (turned pre.0.small-y pre.1.small-y))))

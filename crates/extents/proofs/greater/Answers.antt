@@ -1,5 +1,5 @@
 -- `greater` meets its contract.
-use mir.Syntax.{w32}
+use mir.Syntax.{w64}
 use mathlib.Core.Path.{◌≡◌, sym, ◌∙◌, ap, ap₂}
 use mathlib.Core.Bool.{Bool, true, false}
 use mir.Facts.{to_z-of_z}
@@ -15,8 +15,8 @@ chosen x y h = ap (λ (b : Bool). elim b [ true ↦ y | false ↦ x ]) (sym h)
 
 pub returns-then-x-y : goal.returns-then-x-y
 returns-then-x-y c =
-    to_z-of_z {w = w32} c.ranges.y ∙ chosen _ _ (sym (ap₂ le_z (to_z-of_z {w = w32} c.ranges.x) (to_z-of_z {w = w32} c.ranges.y)) ∙ c.if-x-y.true)
+    to_z-of_z {w = w64} c.ranges.y ∙ chosen _ _ (sym (ap₂ le_z (to_z-of_z {w = w64} c.ranges.x) (to_z-of_z {w = w64} c.ranges.y)) ∙ c.if-x-y.true)
 
 pub returns-else-x-y : goal.returns-else-x-y
 returns-else-x-y c =
-    to_z-of_z {w = w32} c.ranges.x ∙ chosen _ _ (sym (ap₂ le_z (to_z-of_z {w = w32} c.ranges.x) (to_z-of_z {w = w32} c.ranges.y)) ∙ c.if-x-y.false)
+    to_z-of_z {w = w64} c.ranges.x ∙ chosen _ _ (sym (ap₂ le_z (to_z-of_z {w = w64} c.ranges.x) (to_z-of_z {w = w64} c.ranges.y)) ∙ c.if-x-y.false)

@@ -11,7 +11,6 @@ use Rattle.extents.proofs.reach.Goals.{After-extent_of-f}
 
 -- the points of both boxes may be added
 module _ (c : After-extent_of-f) where
-
   first_small : Small (2 ^ 21) (at c.extent_of-e.result.high) × Small (2 ^ 21) (at c.extent_of-e.result.low)
   first_small = extends-small _ c.requires.0.in_range c.requires.0.shape.some c.extent_of-e.ensures
 
@@ -23,10 +22,10 @@ sum-small e h k = subst (Small (2 ^ 22)) (sym e)
     (record { small-x = within-add h.small-x k.small-x; small-y = within-add h.small-y k.small-y })
 
 pub sum-requires : goal.sum-requires
-sum-requires c = ((first_small c).0, (second-small c).0)
+sum-requires c = ((first_small (goal.at.sum-requires c).After-extent_of-f).0, (second-small (goal.at.sum-requires c).After-extent_of-f).0)
 
 pub sum-requires-2 : goal.sum-requires-2
-sum-requires-2 c = ((first_small c.before).1, (second-small c.before).1)
+sum-requires-2 c = ((first_small (goal.at.sum-requires-2 c).After-extent_of-f).1, (second-small (goal.at.sum-requires-2 c).After-extent_of-f).1)
 
 pub returns : goal.returns
 returns c =
@@ -37,7 +36,7 @@ returns c =
         low-is = c.sum-2.ensures ∙ ap₂ ◌⊕◌ one.low-is other.low-is;
       },
       record {
-        high = sum-small c.sum.ensures (first_small c.before.before).0 (second-small c.before.before).0;
-        low = sum-small c.sum-2.ensures (first_small c.before.before).1 (second-small c.before.before).1;
+        high = sum-small c.sum.ensures (first_small (goal.at.returns c).After-extent_of-f).0 (second-small (goal.at.returns c).After-extent_of-f).0;
+        low = sum-small c.sum-2.ensures (first_small (goal.at.returns c).After-extent_of-f).1 (second-small (goal.at.returns c).After-extent_of-f).1;
       },
     )

@@ -46,7 +46,6 @@ decode-requires c =
 
 -- the buffer is as long as it was, and begins with the record's numbers
 module _ (c : After-buffer-1) where
-
   abbrev numbers : List ℤ
   numbers = words_at c.head_at-head.result.count c.args.log.now c.head_at-head.result.place
 

@@ -75,12 +75,11 @@ loop-next-smaller-then-is_kept c =
     omega (arith, c.next_at-next.ensures, inside (goal.at.loop-next-smaller-then-is_kept c).After-next_at-next)
 
 pub loop-next-preserved-then-is_kept : goal.loop-next-preserved-then-is_kept
-loop-next-preserved-then-is_kept c =
-    (
-      packs-copy c.loop-next.invariant.0 (here (goal.at.loop-next-preserved-then-is_kept c).In-loop-next) (sym c.is_kept.ensures ∙ c.if-is_kept.true)
-          c.next_at-next.ensures c.copy-need.ensures,
-      subst (Marked _ _) (sym c.next_at-next.ensures) (marked_next c.loop-next.invariant.1 (here (goal.at.loop-next-preserved-then-is_kept c).In-loop-next)),
-    )
+loop-next-preserved-then-is_kept c = (
+  packs-copy c.loop-next.invariant.0 (here (goal.at.loop-next-preserved-then-is_kept c).In-loop-next) (sym c.is_kept.ensures ∙ c.if-is_kept.true)
+      c.next_at-next.ensures c.copy-need.ensures,
+  subst (Marked _ _) (sym c.next_at-next.ensures) (marked_next c.loop-next.invariant.1 (here (goal.at.loop-next-preserved-then-is_kept c).In-loop-next)),
+)
 
 pub loop-next-smaller : goal.loop-next-smaller
 loop-next-smaller c = omega (arith, c.next_at-next.ensures, inside (goal.at.loop-next-smaller c).After-next_at-next)

@@ -75,11 +75,10 @@ pub slice_bounds-corridor-end-2 : goal.slice_bounds-corridor-end-2
 slice_bounds-corridor-end-2 c = sym (front_length (below c.before.before.before))
 
 pub corridor-requires : goal.corridor-requires
-corridor-requires c =
-    (
-      subst Valid (sym (above c.before.before.before.before.before.before).front) c.requires.3,
-      subst Valid (sym (below c.before.before.before).front) c.requires.4,
-    )
+corridor-requires c = (
+  subst Valid (sym (above c.before.before.before.before.before.before).front) c.requires.3,
+  subst Valid (sym (below c.before.before.before).front) c.requires.4,
+)
 
 pub returns : goal.returns
 returns c =

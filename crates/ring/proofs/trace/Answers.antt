@@ -16,7 +16,6 @@ use Rattle.ring.proofs.trace.Goals.{After-distinct-m}
 
 -- the positions that were found
 module _ (c : After-distinct-m) where
-
   abbrev ps : List Point
   ps = points c.args.list.now
 

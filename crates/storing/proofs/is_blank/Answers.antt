@@ -1,6 +1,5 @@
 -- `is_blank` meets its contract. The invariant: if the most is 0, all bytes up to p are; the measure is what is left.
 use mathlib.Core.Path.{◌≡◌, ap}
-use mathlib.Core.Logic.{inl, inr}
 use mathlib.Core.List.{List}
 use Prim.Native.Nat.{ℕ, ◌+◌, ◌-◌, ◌≤◌, ◌<◌}
 use native.Mathlib.Decide.{ℕ_discrete}
@@ -8,6 +7,7 @@ use native.Mathlib.Omega.{arith}
 use borrow.Author.Tests.{eqb-true}
 use lib.ListN.{length, get_or}
 use Rattle.storing.proofs.is_blank.Goals as goal
+use Rattle.storing.proofs.is_blank.Goals.{then-most-log, else-most-log}
 
 -- one byte more
 most-next : (b : List ℕ) (from p m n : ℕ) → ((i : ℕ) → from ≤ i → i < p → get_or b i 0 ≤ m) → get_or b p 0 ≤ n → m ≤ n → (i : ℕ)
@@ -38,8 +38,8 @@ loop-p-preserved c =
     let log = c.args.log.now in
     let both : (get_or log c.loop-p.p 0 ≤ c.if-most-log.most) × (c.loop-p.most ≤ c.if-most-log.most) =
     elim c.if-most-log.branch [
-      | inl q ↦ (omega (arith, q.2), omega (arith, q.0.taken, q.2))
-      | inr q ↦ (omega (arith, q.0.left, q.1), omega (arith, q.1))
+      | then-most-log w ↦ (omega (arith, w.most-is), omega (arith, w.if-most-log.true, w.most-is))
+      | else-most-log w ↦ (omega (arith, w.if-most-log.false, w.most-is), omega (arith, w.most-is))
     ] in
     most-next log _ c.loop-p.p _ _ c.loop-p.invariant both.0 both.1
 

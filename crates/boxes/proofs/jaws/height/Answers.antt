@@ -51,9 +51,8 @@ pub magnitude-requires : goal.magnitude-requires
 magnitude-requires c = rw (turn_is c) (not_right c)
 
 pub returns : goal.returns
-returns c =
-    (
-      sym (furthest-height _ _ c.requires.valid.shape.some _ c.requires.holds.high-furthest.has) ∙ sym (turn_is c.before)
-          ∙ c.magnitude.ensures,
-      below_half c.turn_at.result c.turn_at.type_inv c.magnitude.ensures,
-    )
+returns c = (
+  sym (furthest-height _ _ c.requires.valid.shape.some _ c.requires.holds.high-furthest.has) ∙ sym (turn_is c.before)
+      ∙ c.magnitude.ensures,
+  below_half c.turn_at.result c.turn_at.type_inv c.magnitude.ensures,
+)

@@ -12,7 +12,6 @@ returns-then-n-lt-NUMBERS c = record {
   few = omega (arith, c.if-n-lt-NUMBERS.true);
   whole = λ h. refl;
   parity = refl;
-
 }
 
 pub returns : goal.returns
@@ -22,5 +21,4 @@ returns c = record {
   few = omega arith;
   whole = λ h. omega (arith, h);
   parity = omega arith;
-
 }

@@ -9,13 +9,13 @@ use Rattle.bytewise.proofs.packing.packed_reply.Goals as goal
 use Rattle.bytewise.proofs.packing.packed_reply.Goals.{Start}
 
 -- an array of three
-three : (c : Start) → length c.args.t1.carried ≡ 3
+three : (c : Start) → length c.args.reply.carried ≡ 3
 three c = search rules
 
-bounds : (c : Start) → let r = c.args.t1 in
+bounds : (c : Start) → let r = c.args.reply in
     (r.number < 256) × (get_or r.carried 0 0 < 256)
     × (get_or r.carried 1 0 + get_or r.values 0 0 < 65536) × (get_or r.carried 2 0 + get_or r.values 1 0 < 65536)
-bounds c = let r = c.args.t1 in bounded r.number r.count r.values r.carried (three c) c.requires
+bounds c = let r = c.args.reply in bounded r.number r.count r.values r.carried (three c) c.requires
 
 pub overflow_add-first : goal.overflow_add-first
 overflow_add-first c = let b = bounds c.before.before in record { fits = omega (arith, b.0, b.1, b.2, b.3) }
@@ -42,5 +42,5 @@ pub overflow_add-result-3 : goal.overflow_add-result-3
 overflow_add-result-3 c = let b = bounds c.before.before.before.before.before in record { fits = omega (arith, b.0, b.1, b.2, b.3) }
 
 pub returns : goal.returns
-returns c = let r = c.args.t1 in
+returns c = let r = c.args.reply in
     packed-parts r.number r.count r.values r.carried (three c.before.before.before.before.before)

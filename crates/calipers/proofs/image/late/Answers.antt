@@ -51,9 +51,8 @@ onto-requires c =
     )
 
 pub returns : goal.returns
-returns c =
-    (
-      c.onto.ensures.0 ∙ c.arrived.ensures.0
-          ∙ sym (onward-inner (points (image c.args.list.now)) c.args.s.at (left c.before.before)),
-      c.onto.ensures.1,
-    )
+returns c = (
+  c.onto.ensures.0 ∙ c.arrived.ensures.0
+      ∙ sym (onward-inner (points (image c.args.list.now)) c.args.s.at (left c.before.before)),
+  c.onto.ensures.1,
+)

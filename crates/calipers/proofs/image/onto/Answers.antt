@@ -52,9 +52,8 @@ facing-requires c =
     )
 
 pub returns : goal.returns
-returns c =
-    (
-      c.facing.ensures.0,
-      carried-to (at c.corner_at.result) c.requires.2 c.facing.ensures
-          (image-edge (points (image c.args.list.now)) _ (left c.before.before.before).0 c.corner_at.ensures),
-    )
+returns c = (
+  c.facing.ensures.0,
+  carried-to (at c.corner_at.result) c.requires.2 c.facing.ensures
+      (image-edge (points (image c.args.list.now)) _ (left c.before.before.before).0 c.corner_at.ensures),
+)

@@ -49,9 +49,8 @@ onto-requires c =
     )
 
 pub returns : goal.returns
-returns c =
-    (
-      rw c.if-waits.false (c.onto.ensures.0 ∙ c.arrived.ensures.0
-          ∙ sym (onward-inner (points c.args.list.now) c.args.s.at (left c.before.before))),
-      c.onto.ensures.1,
-    )
+returns c = (
+  rw c.if-waits.false (c.onto.ensures.0 ∙ c.arrived.ensures.0
+      ∙ sym (onward-inner (points c.args.list.now) c.args.s.at (left c.before.before))),
+  c.onto.ensures.1,
+)

@@ -75,13 +75,12 @@ here-first-requires c =
     corners-fit (standing c) c.side_at-s.ensures.1 c.side_at-t.ensures.1
 
 pub loop-first-init : goal.loop-first-init
-loop-first-init c =
-    (
-      λ k below moved. looking-start (starts c.before.before.before.before.before) below (begins c.before ∙ moved),
-      c.side_at-s.ensures.1,
-      c.side_at-t.ensures.1,
-      record { small-x = record { size = zero-le }; small-y = record { size = zero-le } },
-    )
+loop-first-init c = (
+  λ k below moved. looking-start (starts c.before.before.before.before.before) below (begins c.before ∙ moved),
+  c.side_at-s.ensures.1,
+  c.side_at-t.ensures.1,
+  record { small-x = record { size = zero-le }; small-y = record { size = zero-le } },
+)
 
 -- the walk in the loop, from where it is known to begin
 abbrev start : At-loop-first → Start
@@ -220,11 +219,10 @@ fails : (c : After-struct_known-in-loop-first-2-1) →
     let back = at c.loop-first.back in
     (rests back (at c.here-here.result) (at c.here-there.result) ≡ false)
     × (crosses (at c.here-here.result) (at c.here-there.result) ≡ false)
-fails c =
-    (
-      sym c.rests.ensures ∙ c.if-rests.false,
-      sym c.crosses.ensures ∙ c.if-crosses.false,
-    )
+fails c = (
+  sym c.rests.ensures ∙ c.if-rests.false,
+  sym c.crosses.ensures ∙ c.if-crosses.false,
+)
 
 pub seen-requires-then-m-n : goal.seen-requires-then-m-n
 seen-requires-then-m-n c = tt

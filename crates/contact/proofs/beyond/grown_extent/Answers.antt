@@ -33,12 +33,15 @@ returns c = let pre = c.requires in
     let e = c.extent_of-e.result in
     let f = c.extent_of-f.result in
     let low = c.opposite.ensures in
-    let high = c.opposite-2.ensures in record { extends = grown-extends _ _ pre.0.shape.some pre.1.shape.some c.extent_of-e.ensures c.extent_of-f.ensures
+    let high = c.opposite-2.ensures in record {
+      extends = grown-extends _ _ pre.0.shape.some pre.1.shape.some c.extent_of-e.ensures c.extent_of-f.ensures
           (step-opposite (at f.low) (at e.high) low c.step.ensures)
-          (step-opposite (at f.high) (at e.low) high c.step-2.ensures); small = (
+          (step-opposite (at f.high) (at e.low) high c.step-2.ensures);
+      small = (
         small-step (opposite-small low (cart-small c.before.before.before.before.before.before.before.before).1) (obstacle-small c.before.before.before.before.before.before.before.before.before).0 c.step.ensures,
         small-step (opposite-small high (cart-small c.before.before.before.before.before.before.before.before).0) (obstacle-small c.before.before.before.before.before.before.before.before.before).1 c.step-2.ensures,
-      ) }
+      );
+    }
 
 pub extent_of-e-requires : goal.extent_of-e-requires
 extent_of-e-requires c = c.requires.0

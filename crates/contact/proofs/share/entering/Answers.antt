@@ -29,7 +29,6 @@ ends : (c : Then-b-le0) → (pos 0 <ℤ c.args.a) × (c.args.b ≤ℤ pos 0)
 ends c = (
   le_z-false {x = c.args.a} (rw (to_z-of_z {w = w64} c.ranges.a) at c.if-a-le0.false),
   le_z-true {x = c.args.b} (rw (to_z-of_z {w = w64} c.ranges.b) at c.if-b-le0.true),
-
 )
 
 -- the difference, as the machine reads it back

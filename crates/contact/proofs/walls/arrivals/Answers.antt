@@ -30,7 +30,6 @@ loop-i-init c = (
   omega arith,
   c.count-n.ensures,
   record { there-is = c.start-there.ensures; back_is = c.start-back.ensures },
-
 )
 
 pub edge_past-a-requires : goal.edge_past-a-requires

@@ -32,13 +32,12 @@ pub loop-i-smaller : goal.loop-i-smaller
 loop-i-smaller c = omega (arith, c.loop-i-test.true)
 
 pub loop-i-preserved : goal.loop-i-preserved
-loop-i-preserved c =
-    (
-      omega (arith, c.loop-i-test.true),
-      subst (λ (k : ℕ). Searched (points c.args.new.now) (points c.args.old.now) k c.further-best.result)
-          (sym (add-one c.loop-i.i))
-          (searched-next c.requires.1.shape c.loop-i.invariant.1 c.distance_of.ensures c.further-best.ensures),
-    )
+loop-i-preserved c = (
+  omega (arith, c.loop-i-test.true),
+  subst (λ (k : ℕ). Searched (points c.args.new.now) (points c.args.old.now) k c.further-best.result)
+      (sym (add-one c.loop-i.i))
+      (searched-next c.requires.1.shape c.loop-i.invariant.1 c.distance_of.ensures c.further-best.ensures),
+)
 
 pub returns : goal.returns
 returns c =

@@ -88,9 +88,8 @@ returns-then-not-is_current c =
     (judged-by (rows_are (goal.at.returns-then-not-is_current c).Start (on-as (goal.at.returns-then-not-is_current c).After-is_current (c.if-not-is_current.true))) (passes tt), c.read_at-n.ensures.1)
 
 pub returns : goal.returns
-returns c =
-    (
-      judged-by (rows_are (goal.at.returns c).Start (on-as (goal.at.returns c).After-is_current (c.if-not-is_current.false)))
-          (turns-away ((judged (goal.at.returns c).After-admit_grown).no _ c.in-No.is)),
-      c.read_at-n.ensures.1,
-    )
+returns c = (
+  judged-by (rows_are (goal.at.returns c).Start (on-as (goal.at.returns c).After-is_current (c.if-not-is_current.false)))
+      (turns-away ((judged (goal.at.returns c).After-admit_grown).no _ c.in-No.is)),
+  c.read_at-n.ensures.1,
+)

@@ -18,7 +18,6 @@ loop-i-init c = (
   c.requires.0,
   scanning-start (record { small = λ i h. absurd (omega arith) })
       (omega (arith, c.requires.2, route-length c.args.up (points c.args.list.now) c.args.n 0)),
-
 )
 
 pub overflow_sub-n : goal.overflow_sub-n

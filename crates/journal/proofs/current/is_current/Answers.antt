@@ -33,6 +33,6 @@ is_held-requires c =
 
 pub returns : goal.returns
 returns c =
-    ap not (c.is_held_lem.ensures
+    ap not (c.is_held.ensures
     ∙ ap₂ (λ (q n : ℕ). held n (records (drop q c.args.log.now))) c.next_at.ensures
     (name-read (goal.at.returns c).After-pair_at))

@@ -2,7 +2,6 @@
 -- is left of the log.
 use mathlib.Core.Path.{◌≡◌, sym, ◌∙◌, subst}
 use mathlib.Core.Bool.{true}
-use mathlib.Core.Logic.{inl, inr}
 use Prim.Native.Nat.{ℕ, ◌-◌}
 use native.Mathlib.Omega.{arith}
 use lib.ListN.{length, drop}
@@ -14,7 +13,7 @@ use Rattle.journal.specs.theory.Stepping.{reached-sound}
 use Rattle.journal.specs.theory.Marks.{marked_next}
 use Rattle.journal.specs.theory.Nth.{Nth, nth-start, nth-passed, nth-counted, nth-found, nth_end}
 use Rattle.journal.proofs.current.nth.Goals as goal
-use Rattle.journal.proofs.current.nth.Goals.{In-loop-k, Joined-is_latest}
+use Rattle.journal.proofs.current.nth.Goals.{In-loop-k, Joined-is_latest, then-is_latest+else-left-eq0, else-is_latest}
 
 -- a whole record is here
 here : (c : In-loop-k)
@@ -31,8 +30,9 @@ counted c =
     let test = sym c.is_latest.ensures in
     let Next : ℕ → Type 0 = λ (n : ℕ). Nth args.k args.log.now (next_at args.log.now c.loop-k.p) n in
     elim c.if-is_latest.branch [
-      | inl q ↦ subst Next (sym q.2) (nth-counted inv (here (goal.at.Joined-is_latest c).In-loop-k) (test ∙ q.0.taken) q.1.left)
-      | inr q ↦ subst Next (sym q.1) (nth-passed inv (here (goal.at.Joined-is_latest c).In-loop-k) (test ∙ q.0.left))
+      | then-is_latest+else-left-eq0 w ↦
+          subst Next (sym w.left-is) (nth-counted inv (here (goal.at.Joined-is_latest c).In-loop-k) (test ∙ w.if-is_latest.true) w.if-left-eq0.false)
+      | else-is_latest w ↦ subst Next (sym w.left-is) (nth-passed inv (here (goal.at.Joined-is_latest c).In-loop-k) (test ∙ w.if-is_latest.false))
     ]
 
 pub loop-k-init : goal.loop-k-init
@@ -68,7 +68,7 @@ loop-k-smaller c =
 pub loop-k-preserved : goal.loop-k-preserved
 loop-k-preserved c =
     let args = c.args in
-    subst (λ (q : ℕ). Nth args.k args.log.now q c.if-is_latest.false × Marked args.log.now args.table.now q)
+    subst (λ (q : ℕ). Nth args.k args.log.now q c.if-is_latest.left × Marked args.log.now args.table.now q)
     (sym c.next_at-p.ensures) (counted (goal.at.loop-k-preserved c).Joined-is_latest, marked_next c.loop-k.invariant.1 (here (goal.at.loop-k-preserved c).In-loop-k))
 
 pub returns : goal.returns

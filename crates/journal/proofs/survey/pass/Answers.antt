@@ -40,12 +40,11 @@ loop-buffer-smaller c =
     omega (arith, c.next_at-p.ensures, next-inside _ c.loop-buffer.p (here (goal.at.loop-buffer-smaller c).In-loop-buffer))
 
 pub loop-buffer-preserved : goal.loop-buffer-preserved
-loop-buffer-preserved c =
-    (
-      subst (Along c.args.log.now) (sym c.next_at-p.ensures)
-          (along-good c.loop-buffer.invariant.0 (here (goal.at.loop-buffer-preserved c).In-loop-buffer) (sym c.bad_at.ensures.0 ∙ c.if-bad_at.false)),
-      c.bad_at.ensures.1 ∙ c.loop-buffer.invariant.1,
-    )
+loop-buffer-preserved c = (
+  subst (Along c.args.log.now) (sym c.next_at-p.ensures)
+      (along-good c.loop-buffer.invariant.0 (here (goal.at.loop-buffer-preserved c).In-loop-buffer) (sym c.bad_at.ensures.0 ∙ c.if-bad_at.false)),
+  c.bad_at.ensures.1 ∙ c.loop-buffer.invariant.1,
+)
 
 pub shape_of-buffer : goal.shape_of-buffer
 shape_of-buffer c = c.loop-buffer.invariant.1

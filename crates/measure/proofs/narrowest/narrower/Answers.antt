@@ -15,7 +15,6 @@ narrower-better : (a b : Across) → is_narrower a b ≡ true → NoNarrower b a
 narrower-better a b e = let less = ltb-true (a.turn * a.turn * b.squared) (b.turn * b.turn * a.squared) e in record {
   no-narrower = le-ltb (b.turn * b.turn * a.squared) (a.turn * a.turn * b.squared) (omega arith);
   no-earlier = λ f. true-not-false e f;
-
 }
 
 pub returns-then-fraction_less : goal.returns-then-fraction_less

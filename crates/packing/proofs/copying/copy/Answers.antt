@@ -40,11 +40,10 @@ bounds-old-p c =
     omega (arith, c.loop-i-test.true, c.requires.0)
 
 pub mend-count-requires : goal.mend-count-requires
-mend-count-requires c =
-    (
-      omega (arith, c.loop-i-test.true, c.requires.1, room (goal.at.mend-count-requires c).At-loop-i),
-      omega (arith, few (goal.at.mend-count-requires c).At-loop-i, c.requires.2),
-    )
+mend-count-requires c = (
+  omega (arith, c.loop-i-test.true, c.requires.1, room (goal.at.mend-count-requires c).At-loop-i),
+  omega (arith, few (goal.at.mend-count-requires c).At-loop-i, c.requires.2),
+)
 
 pub overflow_add-i : goal.overflow_add-i
 overflow_add-i c =

@@ -1,13 +1,12 @@
 -- `mend` meets its contract: the byte is right, or a store is needed, and made if it is allowed.
 use mathlib.Core.Path.{sym, subst}
-use mathlib.Core.Logic.{inl, inr}
 use mathlib.Core.List.{List, [], ◌∷◌}
 use Prim.Native.Nat.{ℕ, ◌+◌}
 use borrow.Author.Rules.{rules}
 use Rattle.packing.specs.Copying.{Copied}
 use Rattle.packing.specs.theory.Copying.{copied-same, copied-made, copied-past, copied-length}
 use Rattle.packing.proofs.copying.mend.Goals as goal
-use Rattle.packing.proofs.copying.mend.Goals.{Joined-need-allowed}
+use Rattle.packing.proofs.copying.mend.Goals.{Joined-need-allowed, then-need-allowed, else-need-allowed}
 
 pub returns-then-new-at : goal.returns-then-new-at
 returns-then-new-at c =
@@ -21,12 +20,12 @@ both c =
     let args = c.args in
     let b = args.new.now in
     elim c.if-need-allowed.branch [
-      | inl q ↦
-          subst (λ (d : List ℕ). Copied args.allowed args.need b args.at (args.x ∷ []) (args.need + 1) d) (sym q.1)
-          (copied-made args.allowed args.need b args.at args.x c.requires.0 c.if-new-at.false q.0.taken)
-      | inr q ↦
-          subst (λ (d : List ℕ). Copied args.allowed args.need b args.at (args.x ∷ []) (args.need + 1) d) (sym q.1)
-          (copied-past args.allowed args.need b args.at args.x c.requires.0 c.if-new-at.false q.0.left)
+      | then-need-allowed w ↦
+          subst (λ (d : List ℕ). Copied args.allowed args.need b args.at (args.x ∷ []) (args.need + 1) d) (sym w.new-is)
+          (copied-made args.allowed args.need b args.at args.x c.requires.0 c.if-new-at.false w.if-need-allowed.true)
+      | else-need-allowed w ↦
+          subst (λ (d : List ℕ). Copied args.allowed args.need b args.at (args.x ∷ []) (args.need + 1) d) (sym w.new-is)
+          (copied-past args.allowed args.need b args.at args.x c.requires.0 c.if-new-at.false w.if-need-allowed.false)
     ]
 
 pub shape_of-new : goal.shape_of-new

@@ -42,12 +42,11 @@ pub loop-corner-smaller : goal.loop-corner-smaller
 loop-corner-smaller c = omega arith
 
 pub loop-corner-preserved : goal.loop-corner-preserved
-loop-corner-preserved c =
-    (
-      c.loop-corner.invariant.0,
-      sought-more _ _ c.loop-corner.corner c.loop-corner.invariant.1 (corner-below c.before.before)
-          (sym c.breaks_at.ensures ∙ c.if-breaks_at.false),
-    )
+loop-corner-preserved c = (
+  c.loop-corner.invariant.0,
+  sought-more _ _ c.loop-corner.corner c.loop-corner.invariant.1 (corner-below c.before.before)
+      (sym c.breaks_at.ensures ∙ c.if-breaks_at.false),
+)
 
 pub overflow_step-edge : goal.overflow_step-edge
 overflow_step-edge c = omega arith
@@ -56,12 +55,11 @@ pub edges-smaller : goal.edges-smaller
 edges-smaller c = omega arith
 
 pub edges-preserved : goal.edges-preserved
-edges-preserved c =
-    (
-      c.loop-corner.invariant.0,
-      sought-more _ _ c.edges.edge c.edges.invariant.1 (edge-below c.before.before)
-          (sought-no _ _ c.loop-corner.corner c.loop-corner.invariant.1 (omega (arith, c.count-n.ensures))),
-    )
+edges-preserved c = (
+  c.loop-corner.invariant.0,
+  sought-more _ _ c.edges.edge c.edges.invariant.1 (edge-below c.before.before)
+      (sought-no _ _ c.loop-corner.corner c.loop-corner.invariant.1 (omega (arith, c.count-n.ensures))),
+)
 
 pub returns-after-edges : goal.returns-after-edges
 unfolding left_broken

@@ -34,7 +34,6 @@ turn_at-requires c =
 
 -- past the first test there are three, and the turn is that of the corner
 module _ (c : After-turn_at) where
-
   abbrev all : ℕ
   all = length c.args.places.now
 

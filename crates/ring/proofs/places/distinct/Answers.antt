@@ -21,7 +21,6 @@ use Rattle.ring.proofs.places.distinct.Goals.{After-gather-count}
 
 -- what was gathered
 module _ (c : After-gather-count) where
-
   abbrev f : ℕ → Point
   f = corner (points c.args.list.now)
 

@@ -18,7 +18,6 @@ place-a-requires c = c.previous.ensures.upper_bound
 
 -- the three places, said of the list
 module _ (c : After-place) where
-
   abbrev sense : ℕ → ℕ
   sense j = get_or (in_sense c.args.back c.args.kept.now) j 0
 

@@ -174,13 +174,16 @@ turn_is c end = result-is w64 c.cross-turn.type_inv (c.cross-turn.ensures ∙ ap
 
 pub returns-then-either : goal.returns-then-either
 returns-then-either c = let strode = (after-stride c.before.before.before.before.before.before.before.before.before.before.before.before.before).stride.ensures in
-    let inv = c.loop-m.invariant in record { passed = passing-stop inv.0 refl (advances c.before.before.before.before.before.before.before.before) (turn_is c.before.before.before.before.before.before _) c.either-rim.ensures c.passed_normal.result
+    let inv = c.loop-m.invariant in record {
+      passed = passing-stop inv.0 refl (advances c.before.before.before.before.before.before.before.before) (turn_is c.before.before.before.before.before.before _) c.either-rim.ensures c.passed_normal.result
           (c.passed_normal.ensures ∙ ap₂ (cond (ltb c.loop-m.s.at c.next-m.result.at))
           (ap₂ outward inv.1.corner-is c.next-m.ensures.1.corner-is)
           (ap₂ outward inv.2.corner-is c.next-n.ensures.1.corner-is))
           (λ o. all-passed _ _ _ _ c.next-m.ensures.1.at_in c.next-n.ensures.1.at_in
           (eqb-true _ _ (other-is o (sym c.either.ensures ∙ c.if-either.true))
-          ∙ image-sides strode.first-side strode.second-side)) _ _; stood = record { count = c.loop-m.count; below = passing-below inv.0 refl; moved = inv.0.moved } }
+          ∙ image-sides strode.first-side strode.second-side)) _ _;
+      stood = record { count = c.loop-m.count; below = passing-below inv.0 refl; moved = inv.0.moved };
+    }
 
 pub loop-m-smaller : goal.loop-m-smaller
 loop-m-smaller c =

@@ -50,7 +50,6 @@ bound c p = omega (
   image-few _ _ c.requires.0 c.requires.1,
   c.well_formed.0,
   c.well_formed.1.0,
-
 )
 
 pub are_inside-requires : goal.are_inside-requires

@@ -1,7 +1,6 @@
 -- `in_polygon` meets its contract. The invariant: no corner of a is to the right of an edge of b that is passed; the measure: the edges
 -- that are left.
 use mathlib.Core.Bool.{Bool, true, false}
-use mathlib.Core.Logic.{inl, inr}
 use mathlib.Core.Path.{◌≡◌, sym, ◌∙◌, ap}
 use Prim.Native.Nat.{◌+◌, ◌-◌, ◌^◌, ◌<◌}
 use native.Mathlib.Omega.{arith}
@@ -17,7 +16,7 @@ use Rattle.plane.specs.theory.lists.Sought.{true-not-false}
 use Rattle.calipers.specs.theory.Carry.{first_next, second-next, corners-fit, edges_fit}
 use Rattle.separation.proofs.Beside.{Beside, beside-start, is_right, beside-right, beside-more, beside-less, beside-all}
 use Rattle.separation.proofs.within.in_polygon.Goals as goal
-use Rattle.separation.proofs.within.in_polygon.Goals.{In-loop-t, Joined-c-le0}
+use Rattle.separation.proofs.within.in_polygon.Goals.{In-loop-t, Joined-c-le0, then-c-le0+else-turn-lt0, else-c-le0}
 
 pub count-n-requires : goal.count-n-requires
 count-n-requires c = tt
@@ -77,7 +76,10 @@ loop-t-smaller c =
 -- where the edge is passed, the corner at hand is not to its right
 asked : (c : Joined-c-le0) →
     le_z (to_z w64 (of_z w64 c.order-c.result)) (pos 0) ≡ true → is_right c.loop-t.s c.loop-t.t ≡ false
-asked c e = elim c.if-c-le0.branch [ inl q ↦ told q.1.ok q.1.ensures q.2.left | inr q ↦ true-not-false e q.left ]
+asked c e = elim c.if-c-le0.branch [
+  | then-c-le0+else-turn-lt0 w ↦ told w.turn.type_inv w.turn.ensures w.if-turn-lt0.false
+  | else-c-le0 w ↦ true-not-false e w.if-c-le0.false
+]
 
 pub loop-t-preserved : goal.loop-t-preserved
 loop-t-preserved c =

@@ -54,11 +54,10 @@ pub loop-i-smaller : goal.loop-i-smaller
 loop-i-smaller c = omega (arith, c.loop-i-test.true)
 
 pub loop-i-preserved : goal.loop-i-preserved
-loop-i-preserved c =
-    (
-      omega (arith, c.loop-i-test.true),
-      below_more _ _ c.loop-i.invariant.1 (sym (asked c.before) ∙ c.if-not-on_segment.false),
-    )
+loop-i-preserved c = (
+  omega (arith, c.loop-i-test.true),
+  below_more _ _ c.loop-i.invariant.1 (sym (asked c.before) ∙ c.if-not-on_segment.false),
+)
 
 pub returns : goal.returns
 returns c =

@@ -22,7 +22,6 @@ loop-low-init c = record {
   within = omega arith;
   goes = λ k h e. absurd (omega (arith, h, e));
   stops = λ h. absurd (omega (arith, h));
-
 }
 
 pub overflow_sub-middle : goal.overflow_sub-middle

@@ -43,7 +43,6 @@ loop-c-init c =
 
 -- no number is too large
 module _ (c : At-loop-c) where
-
   first_small : c.loop-c.first < 9223372036854775808
   first_small =
       let a = c.args.a.now in

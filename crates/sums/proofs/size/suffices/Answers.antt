@@ -15,5 +15,4 @@ pub returns : goal.returns
 returns c = λ e. (
   ltb-false max_corners _ (sym c.exceeds_corners.ensures ∙ c.if-exceeds_corners.false),
   omega (arith, leb-true c.args.most (c.args.room / 2) e),
-
 )

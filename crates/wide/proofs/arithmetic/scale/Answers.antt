@@ -9,7 +9,7 @@ loop-i-init c = scaling-start c.requires.room
 
 pub loop-i-preserved : goal.loop-i-preserved
 loop-i-preserved c =
-    scaling-more c.loop-i.invariant c.loop-i-test.true c.low_word.ensures c.high_word_lem.ensures
+    scaling-more c.loop-i.invariant c.loop-i-test.true c.low_word.ensures c.high_word-carry.ensures
 
 pub shape_of-out : goal.shape_of-out
 shape_of-out c = rw length-set (omega (arith, c.loop-i.invariant.long))

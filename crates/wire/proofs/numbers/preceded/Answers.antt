@@ -7,10 +7,10 @@ use Rattle.wire.proofs.numbers.preceded.Goals as goal
 use Rattle.wire.proofs.numbers.preceded.Goals.{Start}
 
 -- an array of three
-three : (c : Start) → length c.args.t2.carried ≡ 3
+three : (c : Start) → length c.args.reply.carried ≡ 3
 three c = search rules
 
 pub returns : goal.returns
 returns c =
-    let r = c.args.t2 in
+    let r = c.args.reply in
     precede c.args.value r.number r.count r.carried r.values (three c.before.before.before.before.before.before.before.before.before)

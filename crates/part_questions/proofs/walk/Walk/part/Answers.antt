@@ -51,12 +51,11 @@ returns-in-No-survey c =
     (c.survey.ensures.no _ c.in-No-survey.is)
 
 pub write-requires : goal.write-requires
-write-requires c =
-    (
-      shapes (goal.at.write-requires c).In_default,
-      told (goal.at.write-requires c).After-is_place (c.if-not-is_place.false),
-      c.survey.ensures.valid c.in_default-survey.is,
-    )
+write-requires c = (
+  shapes (goal.at.write-requires c).In_default,
+  told (goal.at.write-requires c).After-is_place (c.if-not-is_place.false),
+  c.survey.ensures.valid c.in_default-survey.is,
+)
 
 pub returns : goal.returns
 returns c = c.write.ensures
